@@ -1,0 +1,8 @@
+pub mod AnswerLemmas
+pub mod BufferLemmas
+pub mod DigitLemmas
+pub mod LawLemmas
+pub mod PartialLemmas
+pub mod SpellingLemmas
+pub mod VarintLemmas
+pub mod ZigzagLemmas

@@ -1,0 +1,24 @@
+-- The two zigzag functions undo each other, and no two numbers have one form.
+use Rattle.std.proofs.Common.{◌≡◌, ℕ, ℤ, pos, negsuc, ◌+◌, ◌*◌, ◌/◌, ◌%◌, ◌<◌, zero, suc, refl, ap, arith}
+use Rattle.twkb_num.specs.Zigzag.{zigzag_of, unzigzag_of}
+
+-- a number is that of its form
+pub unzigzag_of-zigzag_of : (n : ℤ) → unzigzag_of (zigzag_of n) ≡ n
+unzigzag_of-zigzag_of (pos n) = let e : (2 * n) % 2 ≡ 0 = omega arith in let d : (2 * n) / 2 ≡ n = omega arith in rw (e, d)
+unzigzag_of-zigzag_of (negsuc n) = let e : (2 * n + 1) % 2 ≡ 1 = omega arith in let d : (2 * n + 1) / 2 ≡ n = omega arith in rw (e, d)
+
+-- a form is that of its number
+pub zigzag_of-unzigzag_of : (n : ℕ) → zigzag_of (unzigzag_of n) ≡ n
+zigzag_of-unzigzag_of n = go (n % 2) refl (omega arith)
+  where
+    go : (r : ℕ) → n % 2 ≡ r → r < 2 → zigzag_of (unzigzag_of n) ≡ n
+    go zero e h = rw e (omega arith)
+    go (suc zero) e h = rw e (omega arith)
+    go (suc (suc r)) e h = absurd (omega arith)
+
+-- numbers of one form are one
+pub zigzag_one : (m n : ℤ) → zigzag_of m ≡ zigzag_of n → m ≡ n
+zigzag_one (pos m) (pos n) e = let h : m ≡ n = omega arith in ap pos h
+zigzag_one (pos m) (negsuc n) e = absurd (omega arith)
+zigzag_one (negsuc m) (pos n) e = absurd (omega arith)
+zigzag_one (negsuc m) (negsuc n) e = let h : m ≡ n = omega arith in ap negsuc h

@@ -1,0 +1,107 @@
+//! Reading a spelling unit by unit.
+ghost use Rattle.std.specs.Prelude.{◌≡◌, ◌^◌, ◌<◌, [], length};
+ghost use Rattle.twkb_num.specs.Answer.{IsAnswer, held_after};
+ghost use Rattle.twkb_num.specs.Spelling.{IsOpen};
+
+use crate::groups::Groups;
+use std::marker::{Model, PhantomData};
+
+/// A spelling that is read unit by unit, so that the input may come in pieces. A contract sees the list of the units that
+/// it holds: those taken since the last spelling ended or was refused.
+#[derive(Drop)]
+pub struct Partial<G: Groups> {
+    value: u64,
+    len: usize,
+    alphabet: PhantomData<G>,
+}
+
+impl<G: Groups> Model for Partial<G> {
+    ghost use Rattle.std.specs.Prelude.{ℕ, ◌<◌, ◌^◌, List};
+    ghost use Rattle.twkb_num.specs.Digits.{low_digits};
+    ghost use Rattle.twkb_num.specs.Spelling.{open_units};
+
+    ghost Value = { List ℕ };
+
+    ghost view = { λ p. open_units G.unit_of (low_digits (2 ^ G.BITS) p.len p.value) };
+
+    ghost invariant = { λ p. (p.len < G.MAX_LEN) × (p.value < (2 ^ G.BITS) ^ p.len) };
+}
+
+impl<G: Groups> Partial<G> {
+    /// One that holds no unit. Takes no memory.
+    pub fn new() -> Self
+        ensures { result ≡ [] }
+    {
+        Partial {
+            value: 0,
+            len: 0,
+            alphabet: PhantomData,
+        }
+    }
+
+    /// How many units it holds, 0 to `G::MAX_LEN - 1`.
+    pub fn len(&self) -> usize
+        ensures count { result ≡ length self.now }
+        ensures short { result < G.MAX_LEN }
+        ensures held { IsOpen G.unit_of (2 ^ G.BITS) G.MAX_LEN self.now }
+    {
+        self.len
+    }
+
+    /// Takes the next unit of a spelling, of any byte. After any answer but `More` it is as new. Takes no memory.
+    pub fn step(&mut self, unit: u8) -> Step
+        ensures answer { IsAnswer G.unit_of G.group_of (2 ^ G.BITS) G.MAX_LEN self.old unit result }
+        ensures held { self.new ≡ held_after self.old unit result }
+    {
+        let Some((group, more)) = G::from_unit(unit) else {
+            self.clear();
+            return Step::BadUnit;
+        };
+        let group = group as u64;
+        let bits = G::BITS;
+        let shift = bits * self.len as u32;
+        if more {
+            if self.len + 1 == G::MAX_LEN {
+                self.clear();
+                return Step::TooLong;
+            }
+            self.value += group << shift;
+            self.len += 1;
+            return Step::More;
+        }
+        if group > u64::MAX >> shift {
+            self.clear();
+            return Step::TooLong;
+        }
+        let value = self.value + (group << shift);
+        let shortest = group != 0 || self.len == 0;
+        self.clear();
+        Step::Done { value, shortest }
+    }
+
+    /// Makes it as new.
+    fn clear(&mut self)
+        ensures { self.new ≡ [] }
+    {
+        self.value = 0;
+        self.len = 0;
+    }
+}
+
+/// What a `Partial` answers to a unit.
+#[derive(Clone, Copy, Debug, PartialEq, Eq)]
+pub enum Step {
+    /// The unit says that more follow, and more may.
+    More,
+    /// The unit ends a spelling.
+    Done {
+        /// The number that the spelling stands for.
+        value: u64,
+        /// Whether it is the shortest spelling of this number.
+        shortest: bool,
+    },
+    /// The unit is none of the alphabet.
+    BadUnit,
+    /// The unit is number `MAX_LEN` and says that more follow, or the number is 2^64 or above.
+    TooLong,
+}

@@ -1,0 +1,20 @@
+//! Signed numbers as unsigned ones.
+ghost use Rattle.std.specs.Prelude.{◌≡◌};
+ghost use Rattle.twkb_num.specs.Zigzag.{zigzag_of};
+
+/// The zigzag form of any number: `2n` from 0 up, `-2n - 1` below, so that numbers near 0 have small forms (TWKB
+/// specification; Encoded Polyline Algorithm Format).
+pub fn zigzag(number: i64) -> u64
+    ensures { result ≡ zigzag_of number }
+{
+    let doubled = number.cast_unsigned() << 1;
+    if number < 0 { !doubled } else { doubled }
+}
+
+/// The number whose zigzag form this is; there is one for each form.
+pub fn unzigzag(form: u64) -> i64
+    ensures { zigzag_of result ≡ form }
+{
+    let half = (form >> 1).cast_signed();
+    if form & 1 == 1 { !half } else { half }
+}

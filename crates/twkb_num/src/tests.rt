@@ -1,0 +1,34 @@
+//! Outside vectors, and each public call once.
+use crate::{Groups, Partial, Step};
+
+mod answers;
+mod forms;
+mod spellings;
+
+/// How many units were taken when the first answer other than `More` came, and that answer.
+fn read<G: Groups>(units: &[u8]) -> (usize, Step) {
+    let mut partial = Partial::<G>::new();
+    for (before, unit) in units.iter().enumerate() {
+        let answer = partial.step(*unit);
+        if answer != Step::More {
+            return (before + 1, answer);
+        }
+    }
+    (units.len(), Step::More)
+}
+
+/// The answer at the end of a shortest spelling.
+fn done(value: u64) -> Step {
+    Step::Done {
+        value,
+        shortest: true,
+    }
+}
+
+/// The answer at the end of a longer spelling.
+fn padded(value: u64) -> Step {
+    Step::Done {
+        value,
+        shortest: false,
+    }
+}

@@ -1,0 +1,3 @@
+pub mod DifferenceLemmas
+pub mod ExtentLemmas
+pub mod SpanLemmas

@@ -1,0 +1,5 @@
+use Rattle.twkb_points.proofs.SpanLemmas.{extent_is}
+use Rattle.twkb_points.proofs.laws.extent_by_bounds.Goals as goal
+
+pub returns : goal.returns
+returns c = extent_is

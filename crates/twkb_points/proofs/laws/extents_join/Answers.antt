@@ -1,0 +1,5 @@
+use Rattle.twkb_points.proofs.ExtentLemmas.{extent-append}
+use Rattle.twkb_points.proofs.laws.extents_join.Goals as goal
+
+pub returns : goal.returns
+returns c = extent-append

@@ -1,0 +1,5 @@
+use Rattle.twkb_points.proofs.DifferenceLemmas.{differences_one}
+use Rattle.twkb_points.proofs.laws.one_list.Goals as goal
+
+pub returns : goal.returns
+returns c = differences_one

@@ -1,0 +1,4 @@
+pub mod Differences
+pub mod Extent
+pub mod Point
+pub mod Spans

@@ -1,0 +1,38 @@
+//! Whole lists of points as differences, and back.
+ghost use Rattle.std.specs.Prelude.{◌≡◌, ◌≤◌, ◌++◌, ℤ, List, length, take, drop, slice_get};
+ghost use Rattle.twkb_points.specs.Point.{Point, IsInRange, AreInRange};
+ghost use Rattle.twkb_points.specs.Differences.{differences, points_of};
+
+use crate::cursor::Cursor;
+use crate::point::Pt;
+
+/// Writes the first point, and then each point less the one before it, x before y, in the points' unit (TWKB; Encoded
+/// Polyline Algorithm Format). Takes no memory.
+pub fn to_differences(points: &[Pt], deltas: &mut [(i64, i64)])
+    requires { length deltas.old ≡ length points.now }
+    ensures { deltas.new ≡ differences points.now }
+{
+    let mut cursor = Cursor::origin();
+    for (i, point) in points.iter().enumerate() {
+        deltas[i] = cursor.delta(*point);
+    }
+}
+
+/// Writes the points that the differences lead to from (0, 0), up to the first that leaves the range of a `Pt`, and
+/// tells how many those are. The places after them stay as they were. Takes no memory.
+pub fn to_points(deltas: &[(i64, i64)], points: &mut [Pt]) -> usize
+    requires { length points.old ≡ length deltas.now }
+    ensures within { result ≤ length deltas.now }
+    ensures written { points.new ≡ take result (points_of deltas.now) ++ drop result points.old }
+    ensures stopped { (p : Point) → slice_get (points_of deltas.now) result ≡ Some p → ¬ IsInRange p }
+    ensures back { (ps : List Point) → AreInRange ps → deltas.now ≡ differences ps → points.new ≡ ps }
+{
+    let mut cursor = Cursor::origin();
+    for (i, (dx, dy)) in deltas.iter().enumerate() {
+        let Some(point) = cursor.add(*dx, *dy) else {
+            return i;
+        };
+        points[i] = point;
+    }
+    deltas.len()
+}

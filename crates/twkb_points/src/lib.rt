@@ -1,0 +1,16 @@
+//! Points, the cursor that turns them into differences, and their bounds.
+#![tactic(auto)]
+
+mod bounds;
+mod cursor;
+mod differences;
+pub mod laws;
+mod point;
+
+pub use bounds::{Bounds, merged};
+pub use cursor::Cursor;
+pub use differences::{to_differences, to_points};
+pub use point::Pt;
+
+#[cfg(test)]
+mod tests;

@@ -1,0 +1,99 @@
+//! A point with coordinates in range.
+ghost use Rattle.std.specs.Prelude.{◌≡◌, ◌↔◌, ◌+ℤ◌, IsTrue, IsSome, IfSome};
+ghost use Rattle.twkb_points.specs.Point.{IsCoordinate, IsInRange, point_at, moved_by};
+
+use std::marker::Model;
+
+/// The least coordinate, -2^62.
+const LEAST: i64 = -(1 << 62);
+
+/// The greatest coordinate, 2^62 - 1.
+const GREATEST: i64 = (1 << 62) - 1;
+
+/// A point whose coordinates are from -2^62 to 2^62 - 1, so that the difference of any two fits 64 bits (a choice of
+/// this project). They are whole numbers, in a unit that the point does not know: TWKB and polylines keep the decimals
+/// beside the points.
+#[derive(Clone, Copy, Debug, PartialEq, Eq)]
+pub struct Pt {
+    x: i64,
+    y: i64,
+}
+
+impl Model for Pt {
+    ghost use Rattle.twkb_points.specs.Point.{Point, IsInRange};
+
+    ghost Value = { Point };
+
+    ghost view = { λ a. record { x = a.x; y = a.y } };
+
+    ghost invariant = { λ a. IsInRange (record { x = a.x; y = a.y }) };
+
+    ghost inverse = { λ p. record { x = p.x; y = p.y } };
+}
+
+impl Pt {
+    /// The point, or `None` where a coordinate is outside -2^62 to 2^62 - 1. Takes no memory.
+    pub fn try_new(x: i64, y: i64) -> Option<Pt>
+        ensures range { IsSome result ↔ (IsCoordinate x × IsCoordinate y) }
+        ensures value { IfSome result (λ p. p ≡ point_at x y) }
+    {
+        if is_coordinate(x) && is_coordinate(y) {
+            Some(Pt { x, y })
+        } else {
+            None
+        }
+    }
+
+    /// The point at coordinates that are in range.
+    pub(crate) fn at(x: i64, y: i64) -> Pt
+        requires x_in_range { IsCoordinate x }
+        requires y_in_range { IsCoordinate y }
+        ensures { result ≡ point_at x y }
+    {
+        Pt { x, y }
+    }
+
+    /// The point that lies `dx` and `dy` from this one, or `None` where a coordinate would leave its range.
+    pub(crate) fn moved(self, dx: i64, dy: i64) -> Option<Pt>
+        ensures range { IsSome result ↔ IsInRange (moved_by self dx dy) }
+        ensures value { IfSome result (λ p. p ≡ moved_by self dx dy) }
+    {
+        let Pt { x, y } = self;
+        let x = moved_coordinate(x, dx)?;
+        let y = moved_coordinate(y, dy)?;
+        Some(Pt { x, y })
+    }
+
+    /// The first coordinate, from -2^62 to 2^62 - 1: the longitude, where the points are on a globe. Takes no memory.
+    pub fn x(&self) -> i64
+        ensures value { result ≡ self.now.x }
+        ensures in_range { IsInRange self.now }
+    {
+        self.x
+    }
+
+    /// The second coordinate, from -2^62 to 2^62 - 1: the latitude, where the points are on a globe. Takes no memory.
+    pub fn y(&self) -> i64
+        ensures value { result ≡ self.now.y }
+        ensures in_range { IsInRange self.now }
+    {
+        self.y
+    }
+}
+
+/// Whether the number is in the range of a coordinate.
+pub(crate) fn is_coordinate(number: i64) -> bool
+    ensures { IsTrue result ↔ IsCoordinate number }
+{
+    LEAST <= number && number <= GREATEST
+}
+
+/// The sum, where it is in the range of a coordinate.
+pub(crate) fn moved_coordinate(from: i64, by: i64) -> Option<i64>
+    ensures range { IsSome result ↔ IsCoordinate (from +ℤ by) }
+    ensures in_range { IfSome result IsCoordinate }
+    ensures sum { IfSome result (λ to. to ≡ from +ℤ by) }
+{
+    let to = from.checked_add(by)?;
+    if is_coordinate(to) { Some(to) } else { None }
+}
