@@ -1,13 +1,16 @@
 # make test: the gate.  make build: the command into bin/.  make demo: the main job on an example.  make bench: times and memory.
 .PHONY: test build demo bench clean
 
+SOURCES := crates.txt $(shell find crates -name out -prune -o \( -name '*.rt' -o -name '*.antt' \) -print)
+
 test:
 	rt ci
 
 build: bin/polytwkb
 
-bin/polytwkb: $(shell find crates -name '*.rt' -o -name '*.antt' 2>/dev/null)
-	cd crates/polytwkb && rt check
+# `rt run` proves, links and runs a program, and leaves it in out/.
+bin/polytwkb: $(SOURCES)
+	cd crates/polytwkb && rt run -- --help > /dev/null
 	mkdir -p bin
 	cp crates/polytwkb/out/polytwkb bin/polytwkb
 

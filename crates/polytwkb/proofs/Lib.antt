@@ -1,0 +1,5 @@
+pub mod CommandLineLemmas
+pub mod NamedLemmas
+pub mod Asked
+pub mod PrintLemmas
+pub mod RefusalLemmas

@@ -1,0 +1,16 @@
+use Rattle.polytwkb.proofs.CommandLineLemmas.{kinds_line, matches_line, passes_line}
+use Rattle.polytwkb.proofs.NamedLemmas.{named_line}
+use Rattle.polytwkb.proofs.words.matches_of.Goals as goal
+
+pub returns : goal.returns
+returns c =
+    let line = c.in_ok-command.ensures in
+    let parse = c.try_get_matches_from in
+    let matches = matches_line parse.result _ _ line parse.ensures.matches in
+    let kinds = kinds_line parse.result _ _ line parse.ensures.kinds in
+    record {
+      ok = matches;
+      named = named_line parse.result _ kinds matches;
+      passes = passes_line parse.result _ _ line parse.ensures.passes;
+      kinds = kinds;
+    }

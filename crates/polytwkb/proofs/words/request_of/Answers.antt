@@ -1,0 +1,12 @@
+use Rattle.std.proofs.Common.{codes}
+use Rattle.clap.specs.Words.{found_of, rows_of}
+use Rattle.clap.proofs.WalkLemmas.{one_text-rows}
+use Rattle.polytwkb.proofs.Asked.{used_is}
+use Rattle.polytwkb.proofs.words.request_of.Goals as goal
+
+pub returns : goal.returns
+returns c =
+    let inner = c.in-Some.inner.now in
+    let used = used_is c.args.matches.now c.in-Some.name.now (rows_of (found_of inner)) c.in-Some.ensures.name c.in-Some.ensures.rows in
+    let text = one_text-rows (found_of inner) (codes "max-nest") in
+    rw used (c.conversion_of.ensures, rw (← text) c.limits_of.ensures)

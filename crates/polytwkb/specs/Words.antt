@@ -1,0 +1,58 @@
+-- What the words ask for.
+use Rattle.std.specs.Prelude.{◌≡◌, ◌≢◌, ◌≤◌, ⊤, List, Option, Some, None, codes}
+use Rattle.std.specs.Str.Parse.{IsNumeral, digits_value, without_leading_plus}
+use Rattle.clap.specs.Words.{IsAmong, Kinds, Row, Text, one_of, subcommand_of}
+use Rattle.clap.specs.declared.error.kind.ErrorKind.{ErrorKind}
+use Rattle.clap.specs.declared.error.kind.ErrorKind.TheVariants.{DisplayHelp}
+use Rattle.twkb_geom.specs.Limits.{Allowance, standard_limits}
+use Rattle.polytwkb.specs.declared.words.Conversion.{Conversion}
+use Rattle.polytwkb.specs.declared.words.Conversion.TheVariants as conversion
+use Rattle.polytwkb.specs.declared.words.Refusal.{Refusal}
+use Rattle.polytwkb.specs.declared.words.Refusal.TheVariants as refusal
+use Rattle.polytwkb.specs.declared.words.Request.{Request}
+use Rattle.polytwkb.specs.CommandLine.{command_line}
+
+-- the word of a conversion
+abbrev pub name_of : Conversion → Text
+name_of conversion.Pack = codes "pack"
+name_of conversion.Unpack = codes "unpack"
+
+-- the text is a number from 0 to 32, and the limits are the standard ones with that nesting
+abbrev pub HaveNest : Text → Allowance → Type 0
+HaveNest digits l = IsNumeral 10 (without_leading_plus digits) → digits_value 10 (without_leading_plus digits) ≤ 32
+    → l ≡ record standard_limits { nest = digits_value 10 (without_leading_plus digits) }
+
+-- the limits with the nesting that the option gives, the standard ones where it gives none
+abbrev pub AreLimits : Option Text → Allowance → Type 0
+AreLimits None l = l ≡ standard_limits
+AreLimits (Some digits) l = HaveNest digits l
+
+-- the rows of a subcommand name this conversion, with these limits
+abbrev pub IsAskedBy : Option (Text × List Row) → Request → Type 0
+IsAskedBy None request = ⊥
+IsAskedBy (Some (name, rows)) request = (name ≡ name_of request.conversion) × AreLimits (one_of (codes "max-nest") rows) request.limits
+
+-- a conversion has this name
+abbrev pub IsConversionName : Text → Type 0
+IsConversionName name = (c : Conversion) × (name ≡ name_of c)
+
+-- the rows of a subcommand are those of a conversion
+abbrev pub NamesConversion : Option (Text × List Row) → Type 0
+NamesConversion None = ⊥
+NamesConversion (Some (name, rows)) = IsConversionName name
+
+-- the words name this conversion, with these limits
+abbrev pub AsksFor : List Text → Request → Type 0
+AsksFor words request = IsAskedBy (subcommand_of command_line words) request
+
+-- the refusal that an error of this kind is, unless no memory was found
+abbrev pub IsRefusal : ErrorKind → Refusal → Type 0
+IsRefusal kind refusal.Memory = ⊤
+IsRefusal kind (refusal.Help text) = kind ≡ DisplayHelp
+IsRefusal kind (refusal.Usage text) = kind ≢ DisplayHelp
+
+-- the refusal of words that may have these kinds of error: help where it was asked for, unless no memory was found
+abbrev pub IsRefusalAmong : Kinds → Refusal → Type 0
+IsRefusalAmong kinds refusal.Memory = ⊤
+IsRefusalAmong kinds (refusal.Help text) = IsAmong DisplayHelp kinds
+IsRefusalAmong kinds (refusal.Usage text) = (kind : ErrorKind) × IsAmong kind kinds × (kind ≢ DisplayHelp)

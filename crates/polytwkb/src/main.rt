@@ -1,0 +1,32 @@
+//! The command `polytwkb`: tables of encoded polylines to streams of TWKB blobs, and back.
+#![tactic(auto)]
+
+mod lines;
+mod program;
+mod status;
+#[cfg(test)]
+mod tests;
+mod words;
+
+use crate::program::{lack_memory, lack_words, run};
+use std::env;
+use std::io::BufWriter;
+use std::process::ExitCode;
+use twkb_io::Tap;
+
+fn main(rt: HostRuntime) -> ExitCode {
+    let mut reader = Tap::new(rt.stdin());
+    let mut errors = Tap::new(rt.stderr());
+    let Ok(buffered) = BufWriter::new(rt.alloc(), rt.stdout()) else {
+        return ExitCode::from(lack_memory(&mut errors));
+    };
+    let mut writer = Tap::new(buffered);
+    let words = match env::args(&rt) {
+        Ok(words) => words,
+        Err(error) => return ExitCode::from(lack_words(&mut errors, error.kind())),
+    };
+    let Ok(words) = words.collect::<Vec<String>>(rt.alloc()) else {
+        return ExitCode::from(lack_memory(&mut errors));
+    };
+    ExitCode::from(run(rt.alloc(), &words, &mut reader, &mut writer, &mut errors))
+}

@@ -1,0 +1,116 @@
+//! A run of the command, over any devices.
+ghost use Rattle.std.specs.Prelude.{◌≡◌, ◌≢◌, ◌⊎◌, ◌∷◌, true, [], map, string_bytes};
+ghost use Rattle.clap.specs.Words.{IsAmong, fault_of, takes};
+ghost use Rattle.clap.specs.declared.error.kind.ErrorKind.TheVariants.{DisplayHelp};
+ghost use Rattle.polytwkb.specs.CommandLine.{command_line};
+ghost use Rattle.polytwkb.specs.Runs.{Answers, CarriesOut, Converts, LacksMemory};
+ghost use Rattle.polytwkb.specs.Lines.{line_of};
+ghost use Rattle.polytwkb.specs.Printing.{IsPrinted};
+ghost use Rattle.polytwkb.specs.Words.{AsksFor};
+ghost use Rattle.polytwkb.specs.declared.words.Request.{Request as Asked};
+
+use crate::lines::print_line;
+use crate::status::{DONE, MEMORY, USAGE, status};
+use crate::words::{Conversion, Refusal, Request, read_words};
+use std::alloc::Global;
+use std::io::{ErrorKind, Read, Write};
+use twkb_convert::{Cause, ConvertFault, Report, pack, unpack};
+use twkb_io::Tap;
+
+// Converts what is asked for.
+fn convert<R: Read, W: Write>(
+    alloc: Global,
+    request: Request,
+    reader: &mut Tap<R>,
+    writer: &mut Tap<W>,
+) -> Result<Report, ConvertFault>
+    ensures { Converts request.conversion request.limits R.remaining W.contents reader.old writer.old reader.new writer.new result }
+{
+    match request.conversion {
+        Conversion::Pack => pack(alloc, reader, writer, request.limits),
+        Conversion::Unpack => unpack(alloc, reader, writer, request.limits),
+    }
+}
+
+// Carries out a request, and says on standard error what went wrong.
+fn carry_out<R: Read, W: Write, E: Write>(
+    alloc: Global,
+    request: Request,
+    reader: &mut Tap<R>,
+    writer: &mut Tap<W>,
+    errors: &mut Tap<E>,
+) -> u8
+    ensures { CarriesOut R.remaining W.contents E.contents request reader.old writer.old errors.old reader.new writer.new errors.new result }
+{
+    match convert(alloc, request, reader, writer) {
+        Ok(_) => DONE,
+        Err(stop) => {
+            print_line(errors, stop.cause);
+            status(&stop.cause)
+        }
+    }
+}
+
+// Writes a text, and flushes. A failure changes no status.
+fn print_text<W: Write>(device: &mut Tap<W>, text: &str) {
+    if device.write_all(text.as_bytes()).is_ok() {
+        let _ = device.flush();
+    }
+}
+
+/// Says that no memory was found, and answers the status. Takes no memory.
+pub fn lack_memory<E: Write>(errors: &mut Tap<E>) -> u8
+    ensures status { result ≡ 4 }
+    ensures line { IsPrinted E.contents errors.old (line_of Cause.Memory) errors.new }
+{
+    print_line(errors, Cause::Memory);
+    MEMORY
+}
+
+/// Says why the words were not read, and answers the status: a word that is no UTF-8 is refused as
+/// other words are. Takes no memory.
+pub fn lack_words<E: Write>(errors: &mut Tap<E>, kind: ErrorKind) -> u8
+    ensures memory { kind ≡ ErrorKind.OutOfMemory → (result ≡ 4) × IsPrinted E.contents errors.old (line_of Cause.Memory) errors.new }
+    ensures other { kind ≢ ErrorKind.OutOfMemory → result ≡ 2 }
+{
+    if kind == ErrorKind::OutOfMemory {
+        return lack_memory(errors);
+    }
+    print_text(errors, "polytwkb: a word is not UTF-8\n");
+    USAGE
+}
+
+/// Runs the command with its words, of which the first is the program's name, and answers its
+/// status: 0 where all was converted or help was asked for, 1 where the input is refused or a length
+/// passes its bound, 2 where the words are refused, 3 where a device failed, 4 for want of memory.
+/// A fault is told to `errors`; a failure there changes nothing else.
+pub fn run<R: Read, W: Write, E: Write>(
+    alloc: Global,
+    words: &[String],
+    reader: &mut Tap<R>,
+    writer: &mut Tap<W>,
+    errors: &mut Tap<E>,
+) -> u8
+    ensures accepted { takes command_line (map string_bytes words.now) ≡ true
+        → ((request : Asked) × AsksFor (map string_bytes words.now) request × CarriesOut R.remaining W.contents E.contents request reader.old writer.old errors.old reader.new writer.new errors.new result)
+        ⊎ LacksMemory E.contents reader.old writer.old errors.old reader.new writer.new errors.new result }
+    ensures help { fault_of command_line (map string_bytes words.now) ≡ DisplayHelp ∷ []
+        → (Answers 0 reader.old reader.new result × (errors.new ≡ errors.old))
+        ⊎ LacksMemory E.contents reader.old writer.old errors.old reader.new writer.new errors.new result }
+    ensures usage { fault_of command_line (map string_bytes words.now) ≢ [] → (IsAmong DisplayHelp (fault_of command_line (map string_bytes words.now)) → ⊥)
+        → (Answers 2 reader.old reader.new result × (writer.new ≡ writer.old))
+        ⊎ LacksMemory E.contents reader.old writer.old errors.old reader.new writer.new errors.new result }
+{
+    match read_words(alloc, words) {
+        Ok(request) => carry_out(alloc, request, reader, writer, errors),
+        Err(Refusal::Memory) => lack_memory(errors),
+        Err(Refusal::Help(text)) => {
+            print_text(writer, &text);
+            DONE
+        }
+        Err(Refusal::Usage(text)) => {
+            print_text(errors, &text);
+            USAGE
+        }
+    }
+}

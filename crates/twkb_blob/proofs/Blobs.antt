@@ -1,0 +1,105 @@
+-- Pieces of an input, one after another, make a blob or a fault.
+use Rattle.std.proofs.Common.{◌≡◌, ℕ, ◌+◌, ◌<◌, ◌≤◌, ◌^◌, List, [], ◌∷◌, ◌++◌, length, refl, sym, ap, ◌∙◌, subst, length-append, Option, Some, None, Ok, Err, true, false, arith}
+use Rattle.std.proofs.KnownBytes.{Consumes-trans}
+use Rattle.std.proofs.lemmas.List.{append-nil}
+use Rattle.std.specs.Prelude.{IfSome}
+use Rattle.std.specs.Io.KnownBytes.{Consumes, IsAtEnd, Keeps}
+use Rattle.std.specs.declared.io.traits.Read.{Ghosts}
+use Rattle.twkb_geom.specs.Tree.{Tree}
+use Rattle.twkb_geom.specs.Limits.{Allowance}
+use Rattle.twkb_grammar.specs.Blob.{Blob}
+use Rattle.twkb_grammar.specs.Fault.{FirstFault, Reason, Truncated}
+use Rattle.twkb_io.specs.declared.input.Input.{Input}
+use Rattle.twkb_io.specs.declared.input.InFault.{InFault}
+use Rattle.twkb_io.specs.declared.input.InFault.TheVariants.{Read, TooLong, Spent}
+use Rattle.twkb_io.specs.Inputs.{given, rest_of, is_spent}
+use Rattle.twkb_engine.specs.Standing.{StandsAt, IsEnd, offset_in}
+use Rattle.twkb_engine.specs.Frames.{reason_of}
+use Rattle.twkb_engine.specs.declared.engine.Engine.{Engine}
+use Rattle.twkb_engine.specs.declared.stop.Stop.{Stop}
+use Rattle.twkb_engine.specs.declared.stop.Stop.TheVariants.{Memory, Refused}
+use Rattle.twkb_engine.specs.declared.blob_reason.BlobReason.TheVariants as reason
+use Rattle.twkb_blob.specs.Faults.{fault_of}
+use Rattle.twkb_blob.specs.Readers.{Left, IsRead, IsNext, RefusedKnown, Stops, failed_by_read}
+use Rattle.twkb_blob.specs.declared.fault.BlobFault.TheVariants as fault
+use Rattle.twkb_blob.specs.declared.reader.Piece.TheVariants as piece
+use Rattle.twkb_blob.specs.declared.reader.Halt.TheVariants as halt
+
+-- what left, and then a refusal in what is left
+pub refused_after : (limits : Allowance) (a b : Option (List ℕ)) (bs : List ℕ) (before start within : ℕ) (reason : Reason) → start ≡ before → Consumes a b bs → IfSome b (λ rest. FirstFault limits (bs ++ rest) within reason)
+    → IfSome a (λ rest. RefusedKnown limits before rest (start + within) reason)
+refused_after limits None b bs before start within reason same loses h = tt
+refused_after limits (Some xs) None bs before start within reason same loses h = absurd loses
+refused_after limits (Some xs) (Some ys) bs before start within reason same loses h =
+    record { within = within; first = subst (λ l. FirstFault limits l within reason) (sym loses) h; place = ap (λ n. n + within) same }
+
+-- the bytes that left are all that there were
+pub cut_after : (limits : Allowance) (a b : Option (List ℕ)) (bs : List ℕ) (before start within : ℕ) (reason : Reason) → start ≡ before → Consumes a b bs → IsAtEnd b → FirstFault limits bs within reason
+    → IfSome a (λ rest. RefusedKnown limits before rest (start + within) reason)
+cut_after limits None b bs before start within reason same loses end h = tt
+cut_after limits (Some xs) None bs before start within reason same loses end h = absurd loses
+cut_after limits (Some xs) (Some ys) bs before start within reason same loses end h =
+    let all : bs ≡ xs = sym (loses ∙ (ap (λ l. bs ++ l) end ∙ append-nil bs)) in
+    record { within = within; first = subst (λ l. FirstFault limits l within reason) all h; place = ap (λ n. n + within) same }
+
+-- more than 2^62 bytes behind some are more with them
+long_after : (a b : Option (List ℕ)) (bs : List ℕ) (before given_now : ℕ) → Consumes a b bs → given_now ≡ before + length bs → IfSome b (λ rest. 2 ^ 62 < given_now + length rest) → IfSome a (λ rest. 2 ^ 62 < before + length rest)
+long_after None b bs before given_now loses e h = tt
+long_after (Some xs) None bs before given_now loses e h = absurd loses
+long_after (Some xs) (Some ys) bs before given_now loses e h = omega (arith, h, e, ap length loses, length-append bs ys)
+
+-- what lost nothing to its end is at its end
+pub end_after : (a b : Option (List ℕ)) (bs : List ℕ) → bs ≡ [] → Consumes a b bs → IsAtEnd b → IsAtEnd a
+end_after None b bs none loses end = tt
+end_after (Some xs) None bs none loses end = absurd loses
+end_after (Some xs) (Some ys) bs none loses end = loses ∙ (ap (λ l. bs ++ l) end ∙ (append-nil bs ∙ none))
+
+module _ {R : Type 0} {read : Ghosts R} where
+  -- nothing has left yet
+  pub nothing_left : (a : Input R read) → Left a a []
+  nothing_left a = record { consumed = go (rest_of a); counted = omega arith }
+    where
+      go : (o : Option (List ℕ)) → Consumes o o []
+      go None = tt
+      go (Some xs) = refl
+
+  -- bytes that leave one after another
+  pub left_join : (a b c : Input R read) (xs ys : List ℕ) → Left a b xs → Left b c ys → Left a c (xs ++ ys)
+  left_join a b c xs ys first second = record {
+    consumed = Consumes-trans (rest_of a) (rest_of b) (rest_of c) xs ys first.consumed second.consumed;
+    counted = omega (arith, first.counted, second.counted, length-append xs ys);
+  }
+
+  -- a geometry was made
+  pub made_next : (limits own : Allowance) (bs : List ℕ) (a b c : Input R read) (g : Tree) (d : Engine) → own ≡ limits → Left a b bs → IsRead own bs b c (Ok (piece.Made g)) d → IsNext limits a c (Ok (Some g))
+  made_next limits own bs a b c g d same left (bytes, more, blob) = (bs ++ bytes, subst (λ l. Blob l (bs ++ bytes) g) same blob, left_join a b c bs bytes left more)
+
+  -- the input ended between two blobs
+  pub end_next : (limits own : Allowance) (bs : List ℕ) (a b c : Input R read) (d : Engine) → Left a b bs → IsRead own bs b c (Ok piece.End) d → bs ≡ [] → IsNext limits a c (Ok None)
+  end_next limits own bs a b c d left (end, more, stands) none =
+      (end_after (rest_of a) (rest_of b) bs none left.consumed end, subst (λ l. Left a c l) (append-nil bs ∙ none) (left_join a b c bs [] left more))
+
+  -- the input ended inside a blob
+  pub cut_next : (limits own : Allowance) (bs : List ℕ) (a b c : Input R read) (start within : ℕ) (d : Engine) → own ≡ limits → start ≡ given a → Left a b bs → IsRead own bs b c (Ok piece.End) d → FirstFault own bs within Truncated
+      → IsNext limits a c (Err (fault.At (start + within) reason.Truncated))
+  cut_next limits own bs a b c start within d same begun left (end, more, stands) h =
+      cut_after limits (rest_of a) (rest_of b) bs (given a) start within Truncated begun left.consumed end (subst (λ l. FirstFault l bs within Truncated) same h)
+
+  -- the input gave no byte
+  pub halted_next : (why : InFault) (bs : List ℕ) (a b c : Input R read) → Left a b bs → (is_spent b ≡ true → is_spent a ≡ true) → Stops why b c → Stops why a c
+  halted_next Read bs a b c left spent h = tt
+  halted_next TooLong bs a b c left spent h = (h.0, long_after (rest_of a) (rest_of b) bs (given a) (given b) left.consumed left.counted h.1)
+  halted_next Spent bs a b c left spent h = spent h
+
+  -- the engine stopped
+  pub stopped_next : (limits own : Allowance) (bs : List ℕ) (a b c : Input R read) (start offset : ℕ) (stop : Stop) (d : Engine) → own ≡ limits → start ≡ given a → offset ≡ offset_in d → Left a b bs → IsRead own bs b c (Err (halt.Engine stop)) d
+      → IsNext limits a c (Err (fault_of (start + offset) stop))
+  stopped_next limits own bs a b c start offset Memory d same begun at left h = tt
+  stopped_next limits own bs a b c start offset (Refused r) d same begun at left h =
+      refused_after limits (rest_of a) (rest_of b) bs (given a) start offset (reason_of r) begun left.consumed
+      (subst (λ n. IfSome (rest_of b) (λ rest. FirstFault limits (bs ++ rest) n (reason_of r))) (sym at) (subst (λ l. IfSome (rest_of b) (λ rest. FirstFault l (bs ++ rest) (offset_in d) (reason_of r))) same h))
+
+-- an engine that stopped is no failed read
+pub no_device : (A : Type 0) (offset : ℕ) (stop : Stop) → failed_by_read {A = A} (Err (fault_of offset stop)) ≡ false
+no_device A offset Memory = refl
+no_device A offset (Refused r) = refl

@@ -1,0 +1,99 @@
+-- A piece of an input goes to an engine.
+use Rattle.std.proofs.Common.{◌≡◌, ◌≢◌, ℕ, ◌+◌, ◌-◌, ◌<◌, ◌≤◌, ◌^◌, min, List, [], ◌∷◌, ◌++◌, length, take, drop, refl, sym, ap, ◌∙◌, subst, append_assoc, Bool, true, false, Option, Some, None, Result, Ok, Err, arith}
+use Rattle.std.proofs.Math.Seq.{take-length}
+use Rattle.std.proofs.lemmas.List.{length-take, length-take-le, take-append-drop}
+use Rattle.std.specs.Prelude.{IfSome}
+use Rattle.std.specs.Io.{StartsWith}
+use Rattle.std.specs.Io.KnownBytes.{Consumes, IsAtEnd, Keeps}
+use Rattle.std.specs.declared.io.traits.Read.{Ghosts}
+use Rattle.twkb_geom.specs.Tree.{Tree}
+use Rattle.twkb_geom.specs.Limits.{Allowance}
+use Rattle.twkb_grammar.specs.Blob.{Blob}
+use Rattle.twkb_grammar.specs.Fault.{FirstFault, Reason}
+use Rattle.twkb_io.proofs.CopyLemmas.{kept_consumes}
+use Rattle.twkb_io.specs.declared.input.Input.{Input}
+use Rattle.twkb_io.specs.declared.input.InFault.{InFault}
+use Rattle.twkb_io.specs.declared.input.InFault.TheVariants.{Read, TooLong, Spent}
+use Rattle.twkb_io.specs.Inputs.{given, rest_of, held_of, is_spent}
+use Rattle.twkb_engine.specs.Standing.{StandsAt, IsFed, MadeIn, RefusedIn, offset_in}
+use Rattle.twkb_engine.specs.Frames.{reason_of}
+use Rattle.twkb_engine.specs.declared.engine.Engine.{Engine}
+use Rattle.twkb_engine.specs.declared.stop.Stop.{Stop}
+use Rattle.twkb_engine.specs.declared.stop.Stop.TheVariants.{Memory, Refused}
+use Rattle.twkb_blob.specs.Readers.{Left, IsRead, Stops}
+use Rattle.twkb_blob.specs.declared.reader.Piece.TheVariants as piece
+use Rattle.twkb_blob.specs.declared.reader.Halt.TheVariants as halt
+
+-- a rest that was kept is at its end where it was
+pub kept_end : (a b : Option (List ℕ)) → Keeps a b → IsAtEnd b → IsAtEnd a
+kept_end None b keeps end = tt
+kept_end (Some xs) None keeps end = absurd keeps
+kept_end (Some xs) (Some ys) keeps end = sym keeps ∙ end
+
+-- a rest that was kept lost nothing
+pub kept_all : (a b : Option (List ℕ)) → Keeps a b → Consumes a b []
+kept_all None b keeps = tt
+kept_all (Some xs) None keeps = absurd keeps
+kept_all (Some xs) (Some ys) keeps = sym keeps
+
+-- a refusal in the held bytes is one of all that is known
+pub refused_known : (limits : Allowance) (a b : Option (List ℕ)) (bs held : List ℕ) (offset : ℕ) (reason : Reason) → Keeps a b → IfSome b (λ rest. StartsWith rest held) → RefusedIn limits bs held offset reason
+    → IfSome a (λ rest. FirstFault limits (bs ++ rest) offset reason)
+refused_known limits None b bs held offset reason keeps starts h = tt
+refused_known limits (Some xs) None bs held offset reason keeps starts h = absurd keeps
+refused_known limits (Some xs) (Some ys) bs held offset reason keeps starts h =
+    let left : List ℕ = drop (length held) ys in
+    let parts : held ++ left ≡ ys = ap (λ l. l ++ left) (sym starts) ∙ take-append-drop (length held) ys in
+    let whole : (bs ++ take h.used held) ++ (drop h.used held ++ left) ≡ bs ++ xs =
+    append_assoc bs (take h.used held) (drop h.used held ++ left)
+    ∙ ap (λ l. bs ++ l) (sym (append_assoc (take h.used held) (drop h.used held) left) ∙ (ap (λ l. l ++ left) (take-append-drop h.used held) ∙ (parts ∙ keeps))) in
+    subst (λ l. FirstFault limits l offset reason) whole (h.fault (drop h.used held ++ left))
+
+-- what is held is no more than there is room for
+pub room_left : (most given : ℕ) (xs held : List ℕ) → held ≡ take (most - given) xs → length held ≤ most
+room_left most given xs held e = omega (arith, ap length e, length-take (most - given) xs)
+
+-- some bytes behind 2^62 are more than 2^62
+longer : (rest : Option (List ℕ)) (before : ℕ) → before ≡ 2 ^ 62 → IfSome rest (λ xs. xs ≢ []) → IfSome rest (λ xs. 2 ^ 62 < before + length xs)
+longer None before e some = tt
+longer (Some []) before e some = absurd (some refl)
+longer (Some (x ∷ xs)) before e some = omega arith
+
+module _ {R : Type 0} {read : Ghosts R} where
+  -- bytes that leave after a fill
+  pub left_after : (a b c : Input R read) (bytes : List ℕ) → Keeps (rest_of a) (rest_of b) → given b ≡ given a → Consumes (rest_of b) (rest_of c) bytes → given c ≡ given b + length bytes → Left a c bytes
+  left_after a b c bytes keeps same loses counted = record { consumed = kept_consumes (rest_of a) (rest_of b) (rest_of c) bytes keeps loses; counted = omega (arith, same, counted) }
+
+  -- all held bytes were used
+  pub more_read : (limits : Allowance) (bs held : List ℕ) (a b c : Input R read) (used : ℕ) (d : Engine) → Keeps (rest_of a) (rest_of b) → given b ≡ given a → held ≡ held_of b → 0 < length held
+      → Consumes (rest_of b) (rest_of c) (take used (held_of b)) → given c ≡ given b + used → is_spent c ≡ false → (used ≡ length held) × StandsAt (bs ++ held) d → IsRead limits bs a c (Ok piece.More) d
+  more_read limits bs held a b c used d keeps same is some loses counted live h =
+      let whole : take used (held_of b) ≡ held = ap (λ l. take used l) (sym is) ∙ (ap (λ n. take n held) h.0 ∙ take-length held) in
+      (held, some, left_after a b c held keeps same (subst (λ l. Consumes (rest_of b) (rest_of c) l) whole loses) (counted ∙ ap (λ n. given b + n) h.0), h.1, live)
+
+  -- a geometry ends in the held bytes
+  pub made_read : (limits : Allowance) (bs held : List ℕ) (a b c : Input R read) (used : ℕ) (g : Tree) (d : Engine) → Keeps (rest_of a) (rest_of b) → given b ≡ given a → held ≡ held_of b
+      → Consumes (rest_of b) (rest_of c) (take used (held_of b)) → given c ≡ given b + used → MadeIn limits bs held used g × StandsAt [] d → IsRead limits bs a c (Ok (piece.Made g)) d
+  made_read limits bs held a b c used g d keeps same is loses counted h = (
+    take used held,
+    left_after a b c (take used held) keeps same (subst (λ l. Consumes (rest_of b) (rest_of c) (take used l)) (sym is) loses) (omega (arith, counted, length-take-le used held h.0.within)),
+    h.0.blob,
+  )
+
+  -- nothing is left
+  pub end_read : (limits : Allowance) (bs : List ℕ) (a b : Input R read) (d : Engine) → Keeps (rest_of a) (rest_of b) → given b ≡ given a → IsAtEnd (rest_of b) → StandsAt bs d → IsRead limits bs a b (Ok piece.End) d
+  end_read limits bs a b d keeps same end s =
+      (kept_end (rest_of a) (rest_of b) keeps end, record { consumed = kept_all (rest_of a) (rest_of b) keeps; counted = omega (arith, same) }, s)
+
+  -- the engine stopped in the held bytes
+  pub stopped_read : (limits : Allowance) (bs held : List ℕ) (a b : Input R read) (stop : Stop) (d : Engine) → Keeps (rest_of a) (rest_of b) → IfSome (rest_of b) (λ rest. StartsWith rest held)
+      → IsFed limits bs held (Err stop) d → IsRead limits bs a b (Err (halt.Engine stop)) d
+  stopped_read limits bs held a b Memory d keeps starts h = tt
+  stopped_read limits bs held a b (Refused r) d keeps starts h = refused_known limits (rest_of a) (rest_of b) bs held (offset_in d) (reason_of r) keeps starts h
+
+  -- the input gave no byte
+  pub halted : (r : Result (Unit {0}) InFault) (why : InFault) (a b : Input R read) → r ≡ Err why → given b ≡ given a → (r ≡ Err TooLong → (given a ≡ 2 ^ 62) × IfSome (rest_of a) (λ rest. rest ≢ []))
+      → (r ≡ Err Spent → is_spent a ≡ true) → Stops why a b
+  halted r Read a b is same long spent = tt
+  halted r TooLong a b is same long spent = let h = long is in (same ∙ h.0, longer (rest_of a) (given a) h.0 h.1)
+  halted r Spent a b is same long spent = spent is

@@ -1,0 +1,99 @@
+-- What a reader of an input answers.
+use Rattle.std.specs.Prelude.{ℕ, ◌≡◌, ◌+◌, ◌<◌, ◌≤◌, ◌^◌, List, [], ◌∷◌, ◌++◌, length, Bool, true, false, Option, Some, None, IfSome, Result, Ok, Err, ⊤}
+use Rattle.std.specs.Io.KnownBytes.{Consumes, IsAtEnd, Keeps}
+use Rattle.std.specs.declared.io.traits.Read.{Ghosts}
+use Rattle.twkb_geom.specs.Tree.{Tree}
+use Rattle.twkb_geom.specs.Limits.{Allowance}
+use Rattle.twkb_grammar.specs.Blob.{Blob}
+use Rattle.twkb_grammar.specs.Fault.{FirstFault, Reason}
+use Rattle.twkb_io.specs.declared.input.Input.{Input}
+use Rattle.twkb_io.specs.declared.input.InFault.TheVariants as stopped
+use Rattle.twkb_io.specs.declared.input.InFault.{InFault}
+use Rattle.twkb_io.specs.Inputs.{given, rest_of, is_spent as input_spent}
+use Rattle.twkb_engine.specs.Standing.{StandsAt, offset_in}
+use Rattle.twkb_engine.specs.Frames.{reason_of}
+use Rattle.twkb_engine.specs.declared.engine.Engine.{Engine}
+use Rattle.twkb_engine.specs.declared.stop.Stop.TheVariants.{Memory, Refused}
+use Rattle.twkb_blob.specs.declared.fault.BlobFault.{BlobFault}
+use Rattle.twkb_blob.specs.declared.fault.BlobFault.TheVariants as fault
+use Rattle.twkb_blob.specs.declared.reader.Reader.{Reader}
+use Rattle.twkb_blob.specs.declared.reader.State.{State}
+use Rattle.twkb_blob.specs.declared.reader.State.TheVariants as state
+use Rattle.twkb_blob.specs.declared.reader.Piece.{Piece}
+use Rattle.twkb_blob.specs.declared.reader.Piece.TheVariants as piece
+use Rattle.twkb_blob.specs.declared.reader.Halt.{Halt}
+use Rattle.twkb_blob.specs.declared.reader.Halt.TheVariants as halt
+
+-- its input
+abbrev pub reader_input : {R : Type 0} {read : Ghosts R} → Reader R read → Input R read
+reader_input r = r.input
+
+-- its limits
+abbrev pub reader_limits : {R : Type 0} {read : Ghosts R} → Reader R read → Allowance
+reader_limits r = r.limits
+
+-- this state is that behind an error
+abbrev pub spent_at : State → Bool
+spent_at state.Ready = false
+spent_at state.Ended = false
+spent_at state.Spent = true
+
+-- this state is that behind the end
+abbrev pub ended_at : State → Bool
+ended_at state.Ready = false
+ended_at state.Ended = true
+ended_at state.Spent = false
+
+-- whether a call answered an error
+abbrev pub is_spent : {R : Type 0} {read : Ghosts R} → Reader R read → Bool
+is_spent r = spent_at r.state
+
+-- whether a call answered the end
+abbrev pub has_ended : {R : Type 0} {read : Ghosts R} → Reader R read → Bool
+has_ended r = ended_at r.state
+
+-- these bytes left the input, which counted them
+pub record Left {R : Type 0} {read : Ghosts R} (old new : Input R read) (bytes : List ℕ) : Type 0 where
+  pub consumed : Consumes (rest_of old) (rest_of new) bytes
+  pub counted : given new ≡ given old + length bytes
+
+-- Why an input gave no byte: its reader failed, which its tap counts; it has more than 2^62 bytes; or it was refused before.
+abbrev pub Stops : {R : Type 0} {read : Ghosts R} → InFault → Input R read → Input R read → Type 0
+Stops stopped.Read old new = ⊤
+Stops stopped.TooLong old new = (given new ≡ 2 ^ 62) × IfSome (rest_of old) (λ rest. 2 ^ 62 < given old + length rest)
+Stops stopped.Spent old new = input_spent old ≡ true
+
+-- Some bytes left the input, and make a blob so far, or a blob; or there are none; or with what is known of the rest they
+-- have a first fault.
+abbrev pub IsRead : {R : Type 0} {read : Ghosts R} → Allowance → List ℕ → Input R read → Input R read → Result Piece Halt → Engine → Type 0
+IsRead limits bs old new (Ok piece.More) d = (bytes : List ℕ) × (0 < length bytes) × Left old new bytes × StandsAt (bs ++ bytes) d × (input_spent new ≡ false)
+IsRead limits bs old new (Ok (piece.Made g)) d = (bytes : List ℕ) × Left old new bytes × Blob limits (bs ++ bytes) g
+IsRead limits bs old new (Ok piece.End) d = IsAtEnd (rest_of old) × Left old new [] × StandsAt bs d
+IsRead limits bs old new (Err (halt.Device why)) d = Stops why old new
+IsRead limits bs old new (Err (halt.Engine Memory)) d = ⊤
+IsRead limits bs old new (Err (halt.Engine (Refused r))) d = IfSome (rest_of old) (λ rest. FirstFault limits (bs ++ rest) (offset_in d) (reason_of r))
+
+-- The known bytes have this first fault; the offset counts from where the input began to give out bytes.
+pub record RefusedKnown (limits : Allowance) (before : ℕ) (rest : List ℕ) (offset : ℕ) (reason : Reason) : Type 0 where
+  pub within : ℕ
+  pub first : FirstFault limits rest within reason
+  pub place : offset ≡ before + within
+
+-- A geometry whose blob left the input; none at the input's end; the first fault of what the input has left; or that the input gave no byte.
+abbrev pub IsNext : {R : Type 0} {read : Ghosts R} → Allowance → Input R read → Input R read → Result (Option Tree) BlobFault → Type 0
+IsNext limits old new (Ok (Some g)) = (blob : List ℕ) × Blob limits blob g × Left old new blob
+IsNext limits old new (Ok None) = IsAtEnd (rest_of old) × Left old new []
+IsNext limits old new (Err fault.Memory) = ⊤
+IsNext limits old new (Err (fault.Device why)) = Stops why old new
+IsNext limits old new (Err fault.Spent) = ⊥
+IsNext limits old new (Err (fault.At offset reason)) = IfSome (rest_of old) (λ rest. RefusedKnown limits (given old) rest offset (reason_of reason))
+
+-- whether a piece was missing because the reader failed
+abbrev pub halted_by_read : Result Piece Halt → Bool
+halted_by_read (Err (halt.Device stopped.Read)) = true
+halted_by_read _ = false
+
+-- whether a call was answered by a failed read
+abbrev pub failed_by_read : {A : Type 0} → Result A BlobFault → Bool
+failed_by_read (Err (fault.Device stopped.Read)) = true
+failed_by_read _ = false

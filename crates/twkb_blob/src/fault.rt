@@ -1,0 +1,39 @@
+//! Why a reader of blobs gave no geometry.
+ghost use Rattle.std.specs.Prelude.{◌≡◌};
+ghost use Rattle.twkb_blob.specs.Faults.{fault_of};
+
+use thiserror::Error;
+use twkb_engine::{BlobReason, Stop};
+use twkb_io::InFault;
+
+/// Why a reader of blobs gave no geometry.
+#[derive(Clone, Copy, Debug, PartialEq, Eq, Error)]
+pub enum BlobFault {
+    /// A growth was refused.
+    #[error("out of memory")]
+    Memory,
+    /// The input gave no byte.
+    #[error("{0}")]
+    Device(InFault),
+    /// An earlier call answered an error.
+    #[error("reader was refused before")]
+    Spent,
+    /// The item at this offset, in bytes from the stream's start, is refused.
+    #[error("byte {offset}: {reason}")]
+    At {
+        /// Where the item begins.
+        offset: u64,
+        /// Why it is refused.
+        reason: BlobReason,
+    },
+}
+
+/// The fault of an engine that stopped at this offset.
+pub(crate) fn fault_at(offset: u64, stop: Stop) -> BlobFault
+    ensures { result ≡ fault_of offset stop }
+{
+    match stop {
+        Stop::Memory => BlobFault::Memory,
+        Stop::Refused(reason) => BlobFault::At { offset, reason },
+    }
+}

@@ -1,0 +1,190 @@
+-- Blobs whose rows were sent, one after another.
+use Rattle.std.proofs.Common.{◌≡◌, ◌∙◌, ◌+◌, ◌≤◌, ◌<◌, ◌^◌, ℕ, List, [], ◌∷◌, ◌++◌, Option, Some, None, Result, Ok, Err, length, ap, arith, refl, sym, subst, inl, inr, length-append, append_assoc, false}
+use Rattle.std.specs.Prelude.{IfSome}
+use Rattle.std.proofs.lemmas.List.{append-nil}
+use Rattle.std.proofs.KnownBytes.{Consumes-nil, Consumes-trans, Consumes-whole}
+use Rattle.std.specs.Io.KnownBytes.{Consumes, IsAtEnd}
+use Rattle.std.specs.declared.io.traits.Read.{Ghosts}
+use Rattle.twkb_io.specs.Copies.{BeginsWith}
+use Rattle.twkb_io.specs.Taps.{count_failure}
+use Rattle.twkb_io.specs.Outputs.{Refused, Sent, Took, is_spent, output_failures, sent_of}
+use Rattle.twkb_io.specs.OutputLaws.{refused_join, took_join, took_nothing}
+use Rattle.twkb_io.specs.declared.output.Output.{Output}
+use Rattle.twkb_io.specs.declared.output.OutFault.{OutFault}
+use Rattle.twkb_geom.specs.Tree.{Tree}
+use Rattle.twkb_geom.specs.Limits.{Allowance}
+use Rattle.twkb_grammar.specs.Blob.{Blob, Stream}
+use Rattle.twkb_grammar.specs.Fault.{FirstFault, Reason}
+use Rattle.twkb_grammar.proofs.Streams.{blob_some, stream-append}
+use Rattle.twkb_convert.specs.BlobReading.{GivesBlob, Misses, RefusesBlob, Used, given, limits_of, rest_of}
+use Rattle.twkb_blob.specs.declared.reader.Reader.{Reader}
+use Rattle.twkb_blob.specs.declared.fault.BlobFault.{BlobFault}
+use Rattle.twkb_blob.specs.declared.fault.BlobFault.TheVariants as blob
+use Rattle.twkb_io.specs.declared.input.InFault.TheVariants as input
+use Rattle.twkb_convert.specs.Outputs.{rows_text}
+use Rattle.twkb_convert.specs.RowSending.{CutBlob, CutBlobs, EndsBlobs, Explains, ExplainsStream, Follows, SentAll, SentBlob, SentBlobs, StopsBlob, StopsRead, UnlessOutput, is_write}
+use Rattle.twkb_convert.specs.declared.row_sending.Obstacle.{Obstacle}
+use Rattle.twkb_convert.specs.declared.row_sending.Obstacle.TheVariants as obstacle
+use Rattle.twkb_convert.specs.declared.row_sending.Halt.{Halt}
+use Rattle.twkb_convert.proofs.RowTexts.{rows_text-append}
+
+-- ---- bytes
+
+pub blob_long : (l : Allowance) (bytes : List ℕ) (g : Tree) → Blob l bytes g → 1 ≤ length bytes
+blob_long l [] g b = absurd (blob_some l g [] b refl)
+blob_long l (x ∷ bytes) g b = omega arith
+
+-- a stream has a byte at least for each geometry
+pub stream_long : (l : Allowance) (bytes : List ℕ) (gs : List Tree) → Stream l bytes gs → length gs ≤ length bytes
+stream_long l bytes [] s = omega arith
+stream_long l bytes (g ∷ gs) s =
+    omega (arith, blob_long l s.0 g s.3, stream_long l s.1 gs s.4, ap length s.2, length-append s.0 s.1)
+
+pub consumes_begins : (old new : Option (List ℕ)) (bytes : List ℕ) → Consumes old new bytes → BeginsWith old bytes
+consumes_begins None new bytes c = tt
+consumes_begins (Some xs) None bytes c = absurd c
+consumes_begins (Some xs) (Some ys) bytes c = (ys, c)
+
+pub used_join : (a b c : Option (List ℕ)) (m n o : ℕ) (xs ys : List ℕ) → Used a m xs b n → Used b n ys c o → Used a m (xs ++ ys) c o
+used_join a b c m n o xs ys first second = record {
+  consumed = Consumes-trans a b c xs ys first.consumed second.consumed;
+  counted = omega (arith, first.counted, second.counted, length-append xs ys);
+}
+
+-- the reader's answer where no blob came
+explained : (l : Allowance) (old mid : Option (List ℕ)) (before middle : ℕ) (bytes : List ℕ) (why : BlobFault) → Used old before bytes mid middle → Misses l mid middle why
+    → ExplainsStream l old before bytes why
+explained l old mid before middle bytes blob.Memory used misses = tt
+explained l old mid before middle bytes blob.Spent used misses = misses
+explained l old mid before middle bytes (blob.Device input.Read) used misses = tt
+explained l old mid before middle bytes (blob.Device input.Spent) used misses = tt
+explained l None mid before middle bytes (blob.Device input.TooLong) used misses = tt
+explained l (Some all) None before middle bytes (blob.Device input.TooLong) used misses = absurd used.consumed
+explained l (Some all) (Some left) before middle bytes (blob.Device input.TooLong) used misses =
+    omega (arith, misses, used.counted, ap length used.consumed, length-append bytes left)
+explained l None mid before middle bytes (blob.At offset reason) used misses = tt
+explained l (Some all) None before middle bytes (blob.At offset reason) used misses = absurd used.consumed
+explained l (Some all) (Some left) before middle bytes (blob.At offset reason) used misses =
+    (left, used.consumed, subst (λ n. RefusesBlob l left n offset reason) used.counted misses)
+
+-- the end of what was known
+pub ended_later : (old mid : Option (List ℕ)) (bytes : List ℕ) (P : Type 0) → Consumes old mid bytes → IfSome mid (λ left. P) → IfSome old (λ all. P)
+ended_later None mid bytes P used ended = tt
+ended_later (Some all) None bytes P used ended = absurd used
+ended_later (Some all) (Some left) bytes P used ended = ended
+
+-- ---- the reader
+
+module _ {R : Type 0} {read : Ghosts R} where
+  pub follows_trans : (a b c : Reader R read) (failed : _) → Follows a b false → Follows b c failed → Follows a c failed
+  follows_trans a b c failed first second = record {
+    same_tap = second.same_tap ∙ first.same_tap;
+    limits = second.limits ∙ first.limits;
+    failures = rw first.failures at second.failures;
+    within = second.within;
+  }
+
+  pub stops_later : (a b c : Reader R read) (why : Obstacle) → Follows a b false → StopsRead b why c → StopsRead a why c
+  stops_later a b c why first stops = record {
+    has_failed = stops.has_failed;
+    follows = follows_trans a b c stops.has_failed first stops.follows;
+    told = stops.told;
+  }
+
+-- ---- rows sent
+
+module _ {R W : Type 0} {read : Ghosts R} (contents : W → Option (List ℕ)) where
+  pub sent_none : (from : Reader R read) (old : Output W) → SentBlobs contents from old from old 0
+  sent_none from old = record {
+    trees = [];
+    bytes = [];
+    blobs = refl;
+    used = record { consumed = Consumes-nil (rest_of from); counted = omega arith };
+    took = took_nothing contents old;
+    count = refl;
+  }
+
+  pub sent_more : (from mid to : Reader R read) (old out new : Output W) (done : ℕ) → SentBlobs contents from old mid out done → limits_of mid ≡ limits_of from
+      → SentBlob contents mid out to new → SentBlobs contents from old to new (done + 1)
+  sent_more from mid to old out new done sent same one =
+      let here : Blob (limits_of from) one.gives.front one.tree = subst (λ l. Blob l one.gives.front one.tree) same one.gives.blob in
+      record {
+        trees = sent.trees ++ one.tree ∷ [];
+        bytes = sent.bytes ++ one.gives.front;
+        blobs = stream-append (limits_of from) sent.bytes one.gives.front sent.trees (one.tree ∷ []) sent.blobs
+            (one.gives.front, [], sym (append-nil one.gives.front), here, refl);
+        used = used_join (rest_of from) (rest_of mid) (rest_of to) (given from) (given mid) (given to) sent.bytes one.gives.front sent.used one.gives.used;
+        took = subst (λ text. Took contents old text new) (sym (rows_text-append sent.trees (one.tree ∷ [])))
+            (took_join contents old out new (rows_text sent.trees) (rows_text (one.tree ∷ [])) sent.took one.took);
+        count = omega (arith, sent.count, length-append sent.trees (one.tree ∷ []));
+      }
+
+  pub sent_all : (remaining : R → Option (List ℕ)) (from mid to : Reader R read) (old out : Output W) (done : ℕ) → SentBlobs contents from old mid out done
+      → EndsBlobs remaining mid to → SentAll contents from old out done
+  sent_all remaining from mid to old out done sent ends = record {
+    trees = sent.trees;
+    bytes = sent.bytes;
+    blobs = sent.blobs;
+    all = Consumes-whole (rest_of from) (rest_of mid) sent.bytes (λ bytes. bytes ≡ sent.bytes) sent.used.consumed ends.empty refl;
+    took = sent.took;
+    count = sent.count;
+  }
+
+  -- no rows were sent behind those of whole blobs
+  cut_none : (from mid to : Reader R read) (old out new : Output W) (done : ℕ) (why : Obstacle) (sent : SentBlobs contents from old mid out done) → new ≡ out → is_spent out ≡ false
+      → is_write why ≡ false → ((fact : Type 0) → fact → UnlessOutput why fact)
+      → Explains (limits_of from) (rest_of from) (given from) sent.bytes why (sent_of old) (rows_text (sent.trees ++ [])) [] []
+      → CutBlobs contents from old to new (record { done = done; obstacle = why })
+  cut_none from mid to old out new done why sent same fresh no_write unless explains = record {
+    whole = sent.trees;
+    later = [];
+    bytes = sent.bytes;
+    blobs = subst (λ gs. Stream (limits_of from) sent.bytes gs) (sym (append-nil sent.trees)) sent.blobs;
+    begins = consumes_begins (rest_of from) (rest_of mid) sent.bytes sent.used.consumed;
+    front = [];
+    left = [];
+    cut = refl;
+    sends = subst (λ o. Sent contents old (rows_text sent.trees ++ []) o) (sym same) (subst (λ text. Sent contents old text out) (sym (append-nil (rows_text sent.trees))) sent.took.sends);
+    count = sent.count;
+    explains = explains;
+    failures = ap output_failures same ∙ (sent.took.failures ∙ ap (λ b. count_failure b (output_failures old)) (sym no_write));
+    unspent = unless (is_spent new ≡ false) (ap is_spent same ∙ fresh);
+  }
+
+  -- a front of the rows of one more blob was sent
+  cut_one : (from mid to : Reader R read) (old out new : Output W) (done : ℕ) (why : OutFault) (sent : SentBlobs contents from old mid out done) → limits_of mid ≡ limits_of from
+      → CutBlob contents mid out to why new → CutBlobs contents from old to new (record { done = done; obstacle = obstacle.Output why })
+  cut_one from mid to old out new done why sent same one =
+      let here : Blob (limits_of from) one.gives.front one.tree = subst (λ l. Blob l one.gives.front one.tree) same one.gives.blob in
+      let all = used_join (rest_of from) (rest_of mid) (rest_of to) (given from) (given mid) (given to) sent.bytes one.gives.front sent.used one.gives.used in
+      let refused = refused_join contents old out new (rows_text sent.trees) one.front why sent.took one.refused in
+      let text : rows_text (sent.trees ++ one.tree ∷ []) ≡ rows_text sent.trees ++ rows_text (one.tree ∷ []) = rows_text-append sent.trees (one.tree ∷ []) in
+      record {
+        whole = sent.trees;
+        later = one.tree ∷ [];
+        bytes = sent.bytes ++ one.gives.front;
+        blobs = stream-append (limits_of from) sent.bytes one.gives.front sent.trees (one.tree ∷ []) sent.blobs
+            (one.gives.front, [], sym (append-nil one.gives.front), here, refl);
+        begins = consumes_begins (rest_of from) (rest_of to) (sent.bytes ++ one.gives.front) all.consumed;
+        front = one.front;
+        left = one.left;
+        cut = one.cut;
+        sends = refused.sends;
+        count = sent.count;
+        explains = (
+          λ long. let far = one.too_long long in omega (arith, far, sent.took.sends.sent, ap length text, length-append (rows_text sent.trees) (rows_text (one.tree ∷ []))),
+          one.unspent,
+        );
+        failures = refused.failures;
+        unspent = tt;
+      }
+
+  pub cut_blobs : (from mid to : Reader R read) (old out new : Output W) (done : ℕ) (why : Obstacle) → SentBlobs contents from old mid out done → limits_of mid ≡ limits_of from
+      → is_spent out ≡ false → StopsBlob contents mid out why to new → CutBlobs contents from old to new (record { done = done; obstacle = why })
+  cut_blobs from mid to old out new done (obstacle.Stream why) sent same fresh stops =
+      let misses : Misses (limits_of from) (rest_of mid) (given mid) why = subst (λ l. Misses l (rest_of mid) (given mid) why) same stops.1 in
+      cut_none from mid to old out new done (obstacle.Stream why) sent stops.0 fresh refl (λ fact held. held)
+      (refl, refl, explained (limits_of from) (rest_of from) (rest_of mid) (given from) (given mid) sent.bytes why sent.used misses)
+  cut_blobs from mid to old out new done obstacle.Memory sent same fresh stops =
+      cut_none from mid to old out new done obstacle.Memory sent stops fresh refl (λ fact held. held) (refl, refl)
+  cut_blobs from mid to old out new done (obstacle.Output why) sent same fresh stops = cut_one from mid to old out new done why sent same stops

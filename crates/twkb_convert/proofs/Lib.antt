@@ -1,0 +1,13 @@
+pub mod RecordFacts
+pub mod FieldFacts
+pub mod RootLemmas
+pub mod BlobLemmas
+pub mod NamedLemmas
+pub mod StopLemmas
+pub mod RoundTrips
+pub mod RowTexts
+pub mod BlobsSent
+pub mod TableSent
+pub mod UnpackStops
+pub mod PackedLemmas
+pub mod OutputLemmas

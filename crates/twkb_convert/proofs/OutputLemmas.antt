@@ -1,0 +1,36 @@
+-- Any records are packed to one output.
+use Rattle.std.specs.Prelude.{◌⊎◌}
+use Rattle.std.proofs.Common.{◌≡◌, ◌∙◌, ℕ, List, ap, refl, sym, inl, inr}
+use Rattle.twkb_geom.specs.Tree.{Tree}
+use Rattle.twkb_geom.specs.Limits.{Allowance, IsAllowance}
+use Rattle.twkb_grammar.specs.Written.{canonical_stream}
+use Rattle.twkb_grammar.specs.declared.style.Style.TheVariants.{Full}
+use Rattle.twkb_table.specs.Record.{Record}
+use Rattle.twkb_table.specs.Named.{Named, NamesNone}
+use Rattle.twkb_table.specs.RowFault.{AreComplete, RowFault}
+use Rattle.twkb_table.specs.declared.reason.RowReason.{RowReason}
+use Rattle.twkb_table.proofs.Complete.{one_complete, some_complete}
+use Rattle.twkb_table.proofs.Deciding.{named_or_fault}
+use Rattle.twkb_table.proofs.FaultLaws.{fault_none}
+use Rattle.twkb_convert.specs.Outputs.{PackTo}
+use Rattle.twkb_convert.proofs.RoundTrips.{packed_records}
+
+-- records with a fault name nothing
+complete_none : (l : Allowance) (records : List Record) (number : ℕ) (reason : RowReason) (gs : List Tree) → AreComplete l records number reason gs → NamesNone l records
+complete_none l records number reason gs (inl f) = fault_none l records number reason (inl (f.0, f.1, f.2))
+complete_none l records number reason gs (inr f) = fault_none l records number reason (inr f.0)
+
+some_of : (l : Allowance) (records : List Record) → ((gs : List Tree) × Named l records gs) ⊎ ((number : ℕ) × (reason : RowReason) × RowFault l records number reason) → (bytes : List ℕ) × PackTo l records bytes
+some_of l records (inl (gs, named)) = (canonical_stream Full gs, inl (gs, named, refl))
+some_of l records (inr (number, reason, fault)) =
+    let complete = some_complete l records number reason fault in
+    (canonical_stream Full complete.0, inr (number, reason, complete.0, complete.1, refl))
+
+pub some_output : (l : Allowance) (records : List Record) → IsAllowance l → (bytes : List ℕ) × PackTo l records bytes
+some_output l records cap = some_of l records (named_or_fault l records cap)
+
+pub one_output : (l : Allowance) (records : List Record) (a b : List ℕ) → IsAllowance l → PackTo l records a → PackTo l records b → a ≡ b
+one_output l records a b cap (inl (gs, named, out)) packed = out ∙ sym (packed_records l records b gs cap named packed)
+one_output l records a b cap (inr (m, why, gs, complete, out)) (inl (hs, named, other)) = absurd (complete_none l records m why gs complete hs named)
+one_output l records a b cap (inr (m, why, gs, complete, out)) (inr (n, reason, hs, others, other)) =
+    out ∙ ap (canonical_stream Full) (one_complete l records m n why reason gs hs cap complete others) ∙ sym other

@@ -1,0 +1,24 @@
+-- Texts of rows, joined.
+use Rattle.std.proofs.Common.{◌≡◌, ◌∙◌, ℕ, List, [], ◌∷◌, ◌++◌, ap, refl, sym, append_assoc}
+use Rattle.std.specs.Prelude.{map, flat_map}
+use Rattle.std.proofs.lemmas.List.{append-nil, map-append}
+use Rattle.std.proofs.lemmas.Grind.{flat_map-append}
+use Rattle.twkb_geom.specs.Tree.{Tree}
+use Rattle.twkb_geom.specs.Rows.{rows, rows_of}
+use Rattle.twkb_table.specs.Record.{header, record_of}
+use Rattle.twkb_table.specs.Text.{csvtext, joined}
+use Rattle.twkb_convert.specs.Outputs.{rows_text, table_text}
+
+-- the rows of one geometry
+pub rows_text-one : (g : Tree) → csvtext (map record_of (rows 0 g)) ≡ rows_text (g ∷ [])
+rows_text-one g = ap (λ l. csvtext (map record_of l)) (sym (append-nil (rows 0 g)))
+
+-- the rows of geometries, and of others behind them
+pub rows_text-append : (gs hs : List Tree) → rows_text (gs ++ hs) ≡ rows_text gs ++ rows_text hs
+rows_text-append gs hs =
+    ap (λ rs. csvtext (map record_of rs)) (flat_map-append (rows 0) gs hs)
+    ∙ ap csvtext (map-append record_of (rows_of gs) (rows_of hs)) ∙ flat_map-append _ (map record_of (rows_of gs)) (map record_of (rows_of hs))
+
+-- the header's line, and the rows
+pub table_text-rows : (gs : List Tree) → csvtext (header ∷ []) ++ rows_text gs ≡ table_text gs
+table_text-rows gs = ap (λ l. l ++ rows_text gs) (append-nil (joined header ++ 10 ∷ []))

@@ -1,0 +1,21 @@
+use Rattle.std.proofs.Common.{◌≡◌, ◌-◌, ◌^◌, false}
+use Rattle.twkb_io.specs.Outputs as Outputs
+use Rattle.twkb_blob.specs.Readers.{has_ended, is_spent}
+use Rattle.twkb_convert.specs.BlobReading.{given}
+use Rattle.twkb_convert.specs.RowSending.{Follows, SentBlobs}
+use Rattle.twkb_convert.proofs.row_sending.send_blobs.Given as goal
+
+-- the rows of the blobs so far were sent, and nothing was refused
+abbrev pub invariant-loop-done : goal.invariant-loop-done
+invariant-loop-done g l =
+    record {
+      sent : SentBlobs g.W.Write.contents l.fn.reader l.fn.output l.reader l.output l.done;
+      follows : Follows l.fn.reader l.reader false;
+      reader : is_spent l.reader ≡ false;
+      going_on : has_ended l.reader ≡ false;
+      output : Outputs.is_spent l.output ≡ false;
+    }
+
+-- the bytes that may still be given out
+abbrev pub decreases-loop-done : goal.decreases-loop-done
+decreases-loop-done g l = 2 ^ 62 - given l.reader

@@ -1,0 +1,12 @@
+pub mod CsvRecords
+pub mod SourceStanding
+pub mod Draining
+pub mod PointRows
+pub mod PointBlobs
+pub mod RefusedRows
+pub mod Outputs
+pub mod Sending
+pub mod BlobReading
+pub mod RowSending
+pub mod Unpacked
+pub mod Packed

@@ -1,0 +1,36 @@
+-- What the conversions write.
+use Rattle.std.specs.Prelude.{◌≡◌, ℕ, ◌⊎◌, List, map}
+use Rattle.twkb_geom.specs.Tree.{Tree}
+use Rattle.twkb_geom.specs.Limits.{Allowance}
+use Rattle.twkb_geom.specs.Rows.{rows_of}
+use Rattle.twkb_grammar.specs.Blob.{Stream}
+use Rattle.twkb_grammar.specs.Fault.{Reason, StreamFault}
+use Rattle.twkb_grammar.specs.Written.{canonical_stream}
+use Rattle.twkb_grammar.specs.declared.style.Style.TheVariants.{Full}
+use Rattle.twkb_table.specs.Record.{Record, record_of, table}
+use Rattle.twkb_table.specs.Text.{csvtext}
+use Rattle.twkb_table.specs.Named.{Named}
+use Rattle.twkb_table.specs.RowFault.{AreComplete}
+use Rattle.twkb_table.specs.declared.reason.RowReason.{RowReason}
+
+-- The records of a table are packed to these bytes: the canonical stream of the geometries that they name or, where they are refused at
+-- a record, of those that the refusal leaves complete (profile).
+abbrev pub PackTo : Allowance → List Record → List ℕ → Type 0
+PackTo l records bytes =
+    ((gs : List Tree) × Named l records gs × (bytes ≡ canonical_stream Full gs))
+    ⊎ ((number : ℕ) × (reason : RowReason) × (gs : List Tree) × AreComplete l records number reason gs × (bytes ≡ canonical_stream Full gs))
+
+-- the lines of the rows of geometries, without the header (profile)
+abbrev pub rows_text : List Tree → List ℕ
+rows_text gs = csvtext (map record_of (rows_of gs))
+
+-- the text of the table of geometries (profile)
+abbrev pub table_text : List Tree → List ℕ
+table_text gs = csvtext (table gs)
+
+-- A stream is unpacked to this text: that of the table of its geometries or, where an item is refused, of those of the blobs before the
+-- refused one (profile).
+abbrev pub UnpackTo : Allowance → List ℕ → List ℕ → Type 0
+UnpackTo l bytes text =
+    ((gs : List Tree) × Stream l bytes gs × (text ≡ table_text gs))
+    ⊎ ((offset : ℕ) × (reason : Reason) × (gs : List Tree) × StreamFault l bytes gs offset reason × (text ≡ table_text gs))

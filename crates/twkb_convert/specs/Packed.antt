@@ -1,0 +1,49 @@
+-- What a table is packed to.
+use Rattle.std.specs.Prelude.{◌≡◌, ℕ, ◌^◌, ◌≤◌, List, [], ◌++◌, length, Option, IfSome, ⊤}
+use Rattle.std.specs.Io.KnownBytes.{Appends}
+use Rattle.twkb_geom.specs.Tree.{Tree}
+use Rattle.twkb_geom.specs.Limits.{Allowance}
+use Rattle.twkb_grammar.specs.Written.{canonical_stream}
+use Rattle.twkb_grammar.specs.declared.style.Style.TheVariants.{Full}
+use Rattle.twkb_table.specs.Record.{Record}
+use Rattle.twkb_table.specs.Named.{Named}
+use Rattle.twkb_convert.specs.CsvRecords.{AreRecordsOf, BeginWith}
+use Rattle.twkb_convert.specs.RefusedRows.{IsRefusedTable, MayBeWritten}
+use Rattle.twkb_convert.specs.declared.report.Cause.{Cause}
+use Rattle.twkb_convert.specs.declared.report.Cause.TheVariants as cause
+use Rattle.twkb_convert.specs.declared.report.ConvertFault.{ConvertFault}
+use Rattle.twkb_convert.specs.declared.report.Report.{Report}
+
+-- The records of the text name geometries, and the canonical stream of these was written behind what the writer held.
+pub record Packed (l : Allowance) (told before after : Option (List ℕ)) (report : Report) : Type 0 where
+  pub records : List Record
+  pub geometries : List Tree
+  pub all : IfSome told (λ text. AreRecordsOf text records)
+  pub named : Named l records geometries
+  pub appends : Appends before after (canonical_stream Full geometries)
+  pub count : report.geometries ≡ length geometries
+  pub bytes : report.bytes ≡ length (canonical_stream Full geometries)
+
+-- what a cause says of the table and of what was written: a refused record comes after the whole output that it leaves complete
+abbrev pub ExplainsCause : Allowance → Option (List ℕ) → Cause → List Tree → List Tree → List ℕ → Type 0
+ExplainsCause l told (cause.Row number reason) whole later front = (later ≡ []) × (front ≡ []) × IsRefusedTable l told number reason whole
+ExplainsCause l told cause.TooManyRecords whole later front = (seen : List Record) × IfSome told (λ text. BeginWith text seen) × (length seen ≡ 2 ^ 32)
+ExplainsCause l told (cause.Blob offset reason) whole later front = ⊥
+ExplainsCause l told cause.ReadDevice whole later front = ⊤
+ExplainsCause l told cause.WriteDevice whole later front = ⊤
+ExplainsCause l told cause.Memory whole later front = ⊤
+ExplainsCause l told cause.TooLong whole later front = ⊤
+
+-- Geometries of the text may be written: the canonical blobs of the first ones were, and a front of the next one's.
+pub record StoppedIn (l : Allowance) (told before after : Option (List ℕ)) (fault : ConvertFault) : Type 0 where
+  pub whole : List Tree
+  pub later : List Tree
+  pub front : List ℕ
+  pub rest : List ℕ
+  pub ready : MayBeWritten l told (whole ++ later)
+  pub next : length later ≤ 1
+  pub cut : canonical_stream Full later ≡ front ++ rest
+  pub appends : Appends before after (canonical_stream Full whole ++ front)
+  pub sent : fault.sent ≡ length (canonical_stream Full whole ++ front)
+  pub done : fault.done ≡ length whole
+  pub explains : ExplainsCause l told fault.cause whole later front

@@ -1,0 +1,49 @@
+-- Where and why a table is refused while points alone are converted.
+use Rattle.std.specs.Prelude.{◌≡◌, ℕ, ◌+◌, ◌⊎◌, List, [], ◌∷◌, ◌++◌, length, Option, IfSome}
+use Rattle.twkb_geom.specs.Tree.{Tree}
+use Rattle.twkb_geom.specs.Limits.{Allowance}
+use Rattle.twkb_table.specs.Record.{Record}
+use Rattle.twkb_table.specs.Named.{Named}
+use Rattle.twkb_table.specs.RowFault.{AreComplete, all_but_last}
+use Rattle.twkb_table.specs.declared.reason.RowReason.{RowReason}
+use Rattle.twkb_table.specs.declared.reason.RowReason.TheVariants.{Unsupported}
+use Rattle.twkb_convert.specs.CsvRecords.{AreRecordsOf, BeginWith}
+use Rattle.twkb_convert.specs.PointRows.{NamesOtherKind}
+
+-- The records of the text begin with some that are refused at the record of this number, for this reason, and these geometries are
+-- complete. Where there is no record, the text has none.
+pub record IsRefusedAt (l : Allowance) (told : Option (List ℕ)) (number : ℕ) (reason : RowReason) (gs : List Tree) : Type 0 where
+  pub seen : List Record
+  pub begins : IfSome told (λ text. BeginWith text seen)
+  pub none : seen ≡ [] → IfSome told (λ text. AreRecordsOf text [])
+  pub fault : AreComplete l seen number reason gs
+
+-- The records of the text begin with some that name geometries, and a row of another kind; these geometries are complete.
+pub record IsUnsupportedAt (l : Allowance) (told : Option (List ℕ)) (number : ℕ) (gs : List Tree) : Type 0 where
+  pub before : List Record
+  pub here : Record
+  pub begins : IfSome told (λ text. BeginWith text (before ++ here ∷ []))
+  pub place : number ≡ length before + 1
+  pub geometries : List Tree
+  pub named : Named l before geometries
+  pub other : NamesOtherKind here
+  pub complete : gs ≡ all_but_last geometries
+
+-- a table is refused at a record, and these geometries are complete
+abbrev pub IsRefusedTable : Allowance → Option (List ℕ) → ℕ → RowReason → List Tree → Type 0
+IsRefusedTable l told number reason gs =
+    IsRefusedAt l told number reason gs ⊎ ((reason ≡ Unsupported) × IsUnsupportedAt l told number gs)
+
+-- these records, as far as they were read, name these geometries: before the header none
+abbrev pub NameSoFar : Allowance → List Record → List Tree → Type 0
+NameSoFar l [] gs = gs ≡ []
+NameSoFar l (first ∷ records) gs = Named l (first ∷ records) gs
+
+-- After these records, the first of a text, these geometries may be written: all but the last of those that they name, and the last where
+-- the text has no more records.
+pub record MayBeWritten (l : Allowance) (told : Option (List ℕ)) (gs : List Tree) : Type 0 where
+  pub records : List Record
+  pub geometries : List Tree
+  pub begins : IfSome told (λ text. BeginWith text records)
+  pub named : NameSoFar l records geometries
+  pub ready : (gs ≡ all_but_last geometries) ⊎ (IfSome told (λ text. AreRecordsOf text records) × (gs ≡ geometries))

@@ -1,0 +1,36 @@
+//! The end of a reader.
+ghost use Rattle.std.specs.Prelude.{◌≡◌, ◌<◌, ◌≤◌, OnOk, OnErr, IfOk, IfErr};
+ghost use Rattle.std.specs.Io.KnownBytes.{IsAtEnd};
+ghost use Rattle.twkb_io.specs.Taps.{device_of, failures_of};
+ghost use Rattle.twkb_convert.specs.Draining.{Drains};
+
+use std::io::Read;
+use twkb_io::Tap;
+
+/// How many bytes one read asks for.
+const PIECE: usize = 64;
+
+/// Why a reader was not read to its end.
+#[derive(Clone, Copy, PartialEq, Eq, Debug)]
+pub(crate) enum DrainFault {
+    /// A read failed.
+    Read,
+    /// As many reads as can be counted gave bytes.
+    TooLong,
+}
+
+/// Reads a reader to its end, and drops what it gives. Takes no memory.
+pub(crate) fn drain<R: Read>(tap: &mut Tap<R>) -> Result<(), DrainFault>
+    ensures end { OnOk result (IsAtEnd (R.remaining (device_of tap.new))) }
+    ensures failures { Drains (failures_of tap.old) result (failures_of tap.new) }
+{
+    let mut dropped = [0; PIECE];
+    for _ in 0..u64::MAX {
+        match tap.read(&mut dropped) {
+            Ok(0) => return Ok(()),
+            Ok(_) => {}
+            Err(_) => return Err(DrainFault::Read),
+        }
+    }
+    Err(DrainFault::TooLong)
+}

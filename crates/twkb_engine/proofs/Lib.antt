@@ -1,0 +1,10 @@
+pub mod Closing
+pub mod Collecting
+pub mod Numbers
+pub mod Ranges
+pub mod Keeping
+pub mod Depth
+pub mod Advancing
+pub mod Stepping
+pub mod Feeding
+pub mod Opening

@@ -1,0 +1,19 @@
+-- A coordinate is in range just where the test says so.
+use Rattle.std.proofs.Common.{◌≡◌, ℕ, ◌<◌, ◌≤◌, ◌^◌, ◌-◌, true, ℤ, pos, negsuc, arith}
+use Rattle.std.proofs.lemmas.Bool.Decides.{nat_tests}
+use Rattle.std.proofs.lemmas.Int.{ints}
+use Rattle.std.specs.Prelude.{◌≤ℤ◌}
+use Rattle.twkb_points.specs.Point.{IsCoordinate}
+use Rattle.twkb_grammar.specs.PlainReader.{in_range}
+
+-- a number that passes is a coordinate
+pub coordinate : (z : ℤ) → in_range z ≡ true → IsCoordinate z
+coordinate (pos n) h = grind (arith, nat_tests, ints)
+coordinate (negsuc n) h = grind (arith, nat_tests, ints)
+
+-- a coordinate passes
+pub passes : (z : ℤ) → IsCoordinate z → in_range z ≡ true
+passes (pos n) h = let low : n < 2 ^ 62 = omega (arith, ints, h.1) in grind (arith, nat_tests)
+passes (negsuc n) h = let low : n < 2 ^ 62 = omega (arith, ints, h.0) in grind (arith, nat_tests)
+
+pub ruleset ranges = (coordinate, passes)

@@ -1,0 +1,315 @@
+//! A geometry that is read item by item.
+ghost use Rattle.std.specs.Prelude.{true, false, [], ◌⊎◌, ◌≡◌, ◌≤◌, ◌<◌, ◌^◌, ◌+◌, ◌-◌, IfOk, IfSome, IsSome, length as length_of, nat_lt, None, Some};
+ghost use Rattle.std.specs.List.{AllByRecursion};
+ghost use Rattle.twkb_geom.specs.Limits.{IsAllowance};
+ghost use Rattle.twkb_grammar.specs.PlainReader.{unless};
+ghost use Rattle.twkb_grammar.specs.Fault as fault;
+ghost use Rattle.twkb_grammar.specs.Fault.{nodes_by, points_by, moved as moved_by};
+ghost use Rattle.twkb_grammar.specs.Roles.{Role, Item};
+ghost use Rattle.twkb_grammar.specs.Machine.{role_at, added, stack_after, nothing, started};
+ghost use Rattle.twkb_grammar.specs.PlainReader.{is_exact as exact};
+ghost use Rattle.twkb_grammar.specs.Reading.{past_end, ends};
+ghost use Rattle.twkb_engine.specs.State.{next_of, IsSpelled, IsByte};
+ghost use Rattle.twkb_engine.specs.Frames.{frames_of};
+ghost use Rattle.twkb_engine.specs.Open.{open_of};
+ghost use Rattle.twkb_engine.specs.Fitting.{FrameFits, PhaseFits, NextFits};
+ghost use Rattle.twkb_engine.specs.FittingProps.{phase_prop, frames_prop, allowance_prop};
+
+use crate::blob_reason::BlobReason;
+use crate::frames::{Frame, Frames, finish};
+use crate::header::{EMPTY, has_bit};
+use crate::motion::{moved_x, moved_y, origin};
+use crate::phase::{Kind, Many, Next, Optional, Phase};
+use crate::place::Head;
+use crate::steps::next;
+use crate::stop::Stop;
+use smallvec::SmallVec;
+use std::alloc::{AllocError, Global};
+use std::mem;
+use twkb_geom::{Geometry, Limits};
+use twkb_num::unzigzag;
+use twkb_points::Pt;
+
+/// A geometry that is read item by item: the sums of its items, the collections that are open, and what comes next.
+#[derive(Debug, Drop)]
+pub struct Builder {
+    alloc: Global,
+    limits: Limits,
+    bytes: u64,
+    position: Pt,
+    nodes: u64,
+    points: u64,
+    frames: Frames,
+    phase: Phase,
+    ghost sound: { IsAllowance limits } by { allowance_prop limits },
+    ghost nodes_kept: { nodes ≤ limits.nodes },
+    ghost points_kept: { points ≤ limits.points },
+    ghost frames_fit: { AllByRecursion FrameFits frames.items } by { frames_prop frames.items },
+    ghost bytes_few: { bytes + 1 < 2 ^ 64 },
+    ghost frames_few: { length_of frames.items ≤ bytes },
+    ghost phase_fits: { PhaseFits phase } by { phase_prop phase },
+}
+
+impl Builder {
+    ghost use Rattle.twkb_engine.specs.Taking.{IsTaken, IsLanded};
+    ghost use Rattle.twkb_engine.specs.Decoding.{objection_to_header, sums_of, stack_of, refusal, objection_of};
+
+    /// One that has read nothing. Takes no memory.
+    pub fn new(alloc: Global, limits: Limits) -> Builder
+        ensures sums { sums_of result ≡ nothing }
+        ensures stack { stack_of result ≡ started }
+        ensures limits { result.limits ≡ limits }
+    {
+        limits.nest();
+        Builder {
+            alloc,
+            limits,
+            bytes: 0,
+            position: origin(),
+            nodes: 1,
+            points: 0,
+            frames: SmallVec::new(alloc),
+            phase: Phase::Header,
+        }
+    }
+
+    /// Bytes of the items that it took since the blob's start.
+    pub fn bytes(&self) -> u64
+        ensures { result ≡ self.now.bytes }
+    {
+        self.bytes
+    }
+
+    /// How many geometries are begun and not finished.
+    pub fn open_geometries(&self) -> usize
+        ensures { result ≡ open_of (stack_of self.now) }
+    {
+        let frames = self.frames.len();
+        match &self.phase {
+            Phase::Header => frames,
+            _ => frames + 1,
+        }
+    }
+
+    /// Why a count may not be this large.
+    fn too_many(&self, nodes: u64, points: u64) -> Option<BlobReason>
+        ensures { objection_of result ≡ unless (nat_lt self.now.limits.nodes (self.now.nodes + nodes)) fault.TooManyNodes (unless (nat_lt self.now.limits.points (self.now.points + points)) fault.TooManyPoints None) }
+    {
+        if nodes > u64::from(self.limits.nodes()) - self.nodes {
+            Some(BlobReason::TooManyNodes)
+        } else if points > u64::from(self.limits.points()) - self.points {
+            Some(BlobReason::TooManyPoints)
+        } else {
+            None
+        }
+    }
+
+    fn bad_type(number: u64) -> Option<BlobReason>
+        ensures { objection_of result ≡ objection_to_header number }
+    {
+        let kind = number % 16;
+        if kind == 0 || kind > 7 {
+            Some(BlobReason::BadType)
+        } else {
+            None
+        }
+    }
+
+    /// Why the next item may not have this number.
+    fn objection(&self, number: u64) -> Option<BlobReason>
+        ensures { objection_of result ≡ refusal self.now.limits (sums_of self.now) (stack_of self.now) number }
+    {
+        match &self.phase {
+            Phase::Header => Self::bad_type(number),
+            Phase::Metadata { kind, .. } => {
+                if *kind == Kind::Point
+                    && !has_bit(number, EMPTY)
+                    && u64::from(self.limits.points()) <= self.points
+                {
+                    Some(BlobReason::TooManyPoints)
+                } else {
+                    None
+                }
+            }
+            Phase::Optional { part, .. } => {
+                if *part == Optional::Extended && number % 4 != 0 {
+                    Some(BlobReason::ExtraDimensions)
+                } else {
+                    None
+                }
+            }
+            Phase::Count { many, .. } => match many {
+                Many::Points => self.too_many(number, number),
+                Many::Lines | Many::Areas => self.too_many(number, 0),
+                Many::Geometries => {
+                    if self.frames.len() >= self.limits.nest() as usize && number > 0 {
+                        Some(BlobReason::TooDeep)
+                    } else {
+                        self.too_many(number, 0)
+                    }
+                }
+            },
+            Phase::Id { .. } => None,
+            Phase::LineCount(_) => self.too_many(0, number),
+            Phase::AreaCount(_) => self.too_many(number, 0),
+            Phase::X(_) => {
+                if moved_x(self.position, unzigzag(number)).is_none() {
+                    Some(BlobReason::CoordinateRange)
+                } else {
+                    None
+                }
+            }
+            Phase::Y(_) => {
+                if moved_y(self.position, unzigzag(number)).is_none() {
+                    Some(BlobReason::CoordinateRange)
+                } else {
+                    None
+                }
+            }
+        }
+    }
+
+    /// The nodes and the points that the next item announces by this number.
+    fn announced(&self, number: u64) -> (u64, u64)
+        ensures nodes { (r : Role) → role_at (sums_of self.now) (stack_of self.now) ≡ Some r → result.0 ≡ nodes_by r number }
+        ensures points { (r : Role) → role_at (sums_of self.now) (stack_of self.now) ≡ Some r → result.1 ≡ points_by r number }
+    {
+        match &self.phase {
+            Phase::Metadata { kind, .. } => {
+                if *kind == Kind::Point && !has_bit(number, EMPTY) {
+                    (0, 1)
+                } else {
+                    (0, 0)
+                }
+            }
+            Phase::Count { many, .. } => match many {
+                Many::Points => (number, number),
+                Many::Lines | Many::Areas | Many::Geometries => (number, 0),
+            },
+            Phase::LineCount(_) => (0, number),
+            Phase::AreaCount(_) => (number, 0),
+            Phase::Header | Phase::Optional { .. } | Phase::Id { .. } | Phase::X(_) | Phase::Y(_) =>
+                (0, 0),
+        }
+    }
+
+    /// The place behind the next item, where that is in range.
+    fn moved(&self, number: u64) -> Option<Pt>
+        ensures place { (r : Role) → role_at (sums_of self.now) (stack_of self.now) ≡ Some r → IfSome result (λ p. p ≡ moved_by (sums_of self.now).position r number) }
+        ensures found { refusal self.now.limits (sums_of self.now) (stack_of self.now) number ≡ None → IsSome result }
+    {
+        match &self.phase {
+            Phase::Header => Some(origin()),
+            Phase::X(_) => moved_x(self.position, unzigzag(number)),
+            Phase::Y(_) => moved_y(self.position, unzigzag(number)),
+            _ => Some(self.position),
+        }
+    }
+
+    /// What the next item leads to, with its number added to the sums.
+    fn advance(&mut self, number: u64, length: u64) -> Result<Next, AllocError>
+        requires byte { number < 256 ⊎ IsSpelled self.old.phase }
+        requires some { 0 < length }
+        requires room { self.old.bytes + length + 1 < 2 ^ 64 }
+        requires allowed { refusal self.old.limits (sums_of self.old) (stack_of self.old) number ≡ None }
+        ensures limits { self.new.limits ≡ self.old.limits }
+        ensures bytes { self.new.bytes ≡ self.old.bytes + length }
+        ensures fits { IfOk result NextFits }
+        ensures added { (i : Item) → role_at (sums_of self.old) (stack_of self.old) ≡ Some i.role → i.number ≡ number → length_of i.bytes ≡ length → IfOk result (λ next.
+            (sums_of self.new ≡ added (sums_of self.old) i) × ((frames_of self.new.frames.items, next_of next) ≡ stack_after (sums_of self.old) i (stack_of self.old))) }
+    {
+        let _most_nodes = self.limits.nodes();
+        let _most_points = self.limits.points();
+        let (nodes, points) = self.announced(number);
+        let position = self.moved(number).unwrap();
+        self.bytes += length;
+        self.nodes += nodes;
+        self.points += points;
+        self.position = position;
+        let phase = mem::replace(&mut self.phase, Phase::Header);
+        next(
+            self.alloc,
+            &mut self.frames,
+            phase,
+            position,
+            self.bytes,
+            number,
+        )
+    }
+
+    fn restart(&mut self)
+        requires { self.old.frames.items ≡ [] }
+        ensures sums { sums_of self.new ≡ nothing }
+        ensures stack { stack_of self.new ≡ started }
+        ensures limits { self.new.limits ≡ self.old.limits }
+    {
+        self.bytes = 0;
+        self.position = origin();
+        self.nodes = 1;
+        self.points = 0;
+        self.phase = Phase::Header;
+    }
+
+    /// A geometry ends.
+    fn land_end(&mut self, head: Head, geometry: Geometry) -> Result<Option<Geometry>, Stop>
+        ensures limits { self.new.limits ≡ self.old.limits }
+        ensures bytes { self.new.bytes ≤ self.old.bytes }
+        ensures landed { IsLanded (past_end (exact head.size (self.old.bytes - head.from)) self.old.bytes geometry (frames_of self.old.frames.items)) (sums_of self.old) result self.new }
+    {
+        match finish(&mut self.frames, self.bytes, head, geometry)? {
+            None => {
+                self.phase = Phase::Header;
+                Ok(None)
+            }
+            Some(geometry) => {
+                self.restart();
+                Ok(Some(geometry))
+            }
+        }
+    }
+
+    /// Goes to what an item leads to.
+    fn land(&mut self, next: Next) -> Result<Option<Geometry>, Stop>
+        requires { NextFits next }
+        ensures limits { self.new.limits ≡ self.old.limits }
+        ensures bytes { self.new.bytes ≤ self.old.bytes }
+        ensures landed { IsLanded (ends self.old.bytes (frames_of self.old.frames.items) (next_of next)) (sums_of self.old) result self.new }
+    {
+        match next {
+            Next::Read(phase) => {
+                self.phase = phase;
+                Ok(None)
+            }
+            Next::End(head, geometry) => self.land_end(head, geometry),
+        }
+    }
+
+    /// Whether the next item is a byte, and no number.
+    pub fn wants_byte(&self) -> bool
+        ensures spelled { (result ≡ false) → IsSpelled self.now.phase }
+        ensures byte { (result ≡ true) → IsByte self.now.phase }
+    {
+        match &self.phase {
+            Phase::Header | Phase::Metadata { .. } => true,
+            Phase::Optional { part, .. } => *part == Optional::Extended,
+            _ => false,
+        }
+    }
+
+    /// Takes an item with this number, which has so many bytes, and the ends behind it. A value that is kept takes memory.
+    pub fn take(&mut self, number: u64, length: u64) -> Result<Option<Geometry>, Stop>
+        requires byte { number < 256 ⊎ IsSpelled self.old.phase }
+        requires some { 0 < length }
+        requires room { self.old.bytes + length + 1 < 2 ^ 64 }
+        ensures limits { self.new.limits ≡ self.old.limits }
+        ensures bytes { self.new.bytes ≤ self.old.bytes + length }
+        ensures taken { (i : Item) → role_at (sums_of self.old) (stack_of self.old) ≡ Some i.role → i.number ≡ number → length_of i.bytes ≡ length
+            → IsTaken self.old.limits (sums_of self.old) (stack_of self.old) i result self.new }
+    {
+        if let Some(reason) = self.objection(number) {
+            return Err(Stop::Refused(reason));
+        }
+        let next = self.advance(number, length)?;
+        self.land(next)
+    }
+}

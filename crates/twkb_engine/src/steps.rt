@@ -1,0 +1,63 @@
+//! What follows an item.
+ghost use Rattle.std.specs.Prelude.{◌≡◌, ◌<◌, ◌≤◌, ◌+◌, ◌⊎◌, IfOk, length};
+ghost use Rattle.std.specs.List.{AllByRecursion};
+ghost use Rattle.twkb_grammar.specs.Machine.{advanced};
+ghost use Rattle.twkb_engine.specs.State.{next_of, phase_of, IsSpelled};
+ghost use Rattle.twkb_engine.specs.Frames.{frames_of};
+ghost use Rattle.twkb_engine.specs.Fitting.{FrameFits, PhaseFits, NextFits};
+
+use crate::frames::{Frames, after_count, after_id};
+use crate::header::{after_metadata, after_part, kind_at, precision_at};
+use crate::phase::{Next, Phase, close_point, open_area, open_line};
+use crate::place::Head;
+use std::alloc::{AllocError, Global};
+use twkb_points::Pt;
+
+/// What follows the item of this number, with this place and so many bytes behind it. It takes memory for a list's next value.
+pub fn next(
+    alloc: Global,
+    frames: &mut Frames,
+    phase: Phase,
+    position: Pt,
+    bytes: u64,
+    number: u64,
+) -> Result<Next, AllocError>
+    requires byte { number < 256 ⊎ IsSpelled phase }
+    requires phase { PhaseFits phase }
+    requires frames { AllByRecursion FrameFits frames.old.items }
+    ensures next { IfOk result (λ next. (frames_of frames.new.items, next_of next) ≡ advanced position bytes number (frames_of frames.old.items) (phase_of phase)) }
+    ensures fits { IfOk result NextFits }
+    ensures frames { AllByRecursion FrameFits frames.new.items }
+    ensures depth { length frames.new.items ≤ length frames.old.items + 1 }
+{
+    match phase {
+        Phase::Header => Ok(Next::Read(Phase::Metadata {
+            kind: kind_at(number % 16),
+            precision: precision_at(number / 16),
+        })),
+        Phase::Metadata { kind, precision } => {
+            let head = Head {
+                precision,
+                metadata: number as u8,
+                size: None,
+                from: bytes,
+            };
+            Ok(after_metadata(alloc, kind, head))
+        }
+        Phase::Optional { kind, head, part } => {
+            Ok(after_part(alloc, kind, head, part, bytes, number))
+        }
+        Phase::Count { many, head } => after_count(alloc, frames, many, head, number),
+        Phase::Id {
+            many,
+            head,
+            members,
+            ids,
+            left,
+        } => after_id(alloc, frames, many, head, members, ids, left, number),
+        Phase::LineCount(place) => open_line(alloc, place, number),
+        Phase::AreaCount(place) => open_area(alloc, place, number),
+        Phase::X(place) => Ok(Next::Read(Phase::Y(place))),
+        Phase::Y(place) => close_point(place, position),
+    }
+}

@@ -1,0 +1,69 @@
+//! A second geometry that equals a first.
+ghost use Rattle.std.specs.Prelude.{◌≡◌, IfOk};
+
+use crate::geometry::{Geometry, Members, Shape};
+use crate::lists::{Ids, Item};
+use std::alloc::{AllocError, Global};
+
+impl Members {
+    #[cycle(copy)]
+    #[tactic(auto, using(crate::specs::Size::member_smaller))]
+    fn copy(&self, alloc: Global) -> Result<Members, AllocError>
+        ensures { IfOk result (λ copy. copy ≡ self.now) }
+    {
+        let mut items = Vec::with_capacity(alloc, self.as_slice().len())?;
+        for member in self.as_slice() {
+            items.push(member.copy(alloc)?)?;
+        }
+        Ok(Members { items })
+    }
+}
+
+fn copy_ids(alloc: Global, ids: &Ids) -> Result<Ids, AllocError>
+    ensures { IfOk result (λ copy. copy ≡ ids.now) }
+{
+    match ids {
+        None => Ok(None),
+        Some(ids) => Ok(Some(ids.copy(alloc)?)),
+    }
+}
+
+impl Shape {
+    #[cycle(copy)]
+    fn copy(&self, alloc: Global) -> Result<Shape, AllocError>
+        ensures { IfOk result (λ copy. copy ≡ self.now) }
+    {
+        match self {
+            Shape::Point(point) => Ok(Shape::Point(*point)),
+            Shape::Line(points) => Ok(Shape::Line(points.copy(alloc)?)),
+            Shape::Polygon(rings) => Ok(Shape::Polygon(rings.copy(alloc)?)),
+            Shape::MultiPoint(points, ids) => {
+                Ok(Shape::MultiPoint(points.copy(alloc)?, copy_ids(alloc, ids)?))
+            }
+            Shape::MultiLine(lines, ids) => {
+                Ok(Shape::MultiLine(lines.copy(alloc)?, copy_ids(alloc, ids)?))
+            }
+            Shape::MultiPolygon(areas, ids) => {
+                Ok(Shape::MultiPolygon(areas.copy(alloc)?, copy_ids(alloc, ids)?))
+            }
+            Shape::Collection(members, ids) => {
+                Ok(Shape::Collection(members.copy(alloc)?, copy_ids(alloc, ids)?))
+            }
+        }
+    }
+}
+
+impl Geometry {
+    /// A geometry equal to this one. Takes memory for each list in it, and answers `AllocError` only where a growth was
+    /// refused.
+    #[cycle(copy)]
+    pub fn copy(&self, alloc: Global) -> Result<Geometry, AllocError>
+        ensures { IfOk result (λ copy. copy ≡ self.now) }
+    {
+        let shape = self.shape().copy(alloc)?;
+        Ok(Geometry {
+            precision: self.precision,
+            shape,
+        })
+    }
+}

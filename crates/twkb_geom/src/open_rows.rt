@@ -1,0 +1,25 @@
+//! Open rows: what a reader of rows keeps at each depth.
+ghost use Rattle.std.specs.Prelude.{◌≡◌, None};
+
+use crate::kind::Kind;
+
+/// A row that may still have children. A reader keeps one at each depth, the root first.
+#[derive(Clone, Copy, Debug, PartialEq, Eq)]
+pub struct OpenRow {
+    /// The row's kind.
+    pub kind: Kind,
+    /// Whether the first child has an id; None before the first child.
+    pub child_ids: Option<bool>,
+}
+
+impl Default for OpenRow {
+    /// A point's row, which stands in unused places of a list.
+    fn default() -> OpenRow
+        ensures { result ≡ record { kind = Kind.Point; child_ids = None } }
+    {
+        OpenRow {
+            kind: Kind::Point,
+            child_ids: None,
+        }
+    }
+}

@@ -1,0 +1,34 @@
+use Rattle.twkb_grammar.proofs.Reaching.{reached_nothing, reached_bytes, leads, reached_blob, reached_cut, reached_long, reached_end}
+use Rattle.twkb_grammar.proofs.Depths.{reached_depth}
+use Rattle.twkb_grammar.proofs.Frames.{reached_frames, reached_few}
+use Rattle.twkb_grammar.proofs.laws.reading.Goals as goal
+
+pub returns-clause-starts : goal.returns-clause-starts
+returns-clause-starts c = reached_nothing
+
+pub returns-clause-offset : goal.returns-clause-offset
+returns-clause-offset c = reached_bytes
+
+pub returns-clause-leads : goal.returns-clause-leads
+returns-clause-leads c = leads
+
+pub returns-clause-blob : goal.returns-clause-blob
+returns-clause-blob c = reached_blob
+
+pub returns-clause-cut : goal.returns-clause-cut
+returns-clause-cut c = reached_cut
+
+pub returns-clause-long : goal.returns-clause-long
+returns-clause-long c = reached_long
+
+pub returns-clause-missing : goal.returns-clause-missing
+returns-clause-missing c = reached_end
+
+pub returns-clause-depth : goal.returns-clause-depth
+returns-clause-depth c = reached_depth
+
+pub returns-clause-frames : goal.returns-clause-frames
+returns-clause-frames c = reached_frames
+
+pub returns-clause-few_frames : goal.returns-clause-few_frames
+returns-clause-few_frames c = reached_few

@@ -1,0 +1,10 @@
+pub mod Bits
+pub mod Roles
+pub mod Items
+pub mod Blob
+pub mod Written
+pub mod Fault
+pub mod Machine
+pub mod PlainReader
+pub mod Reading
+pub mod Samples

@@ -1,0 +1,109 @@
+-- A reader that takes items one by one: where it stands, and what a number leads to.
+-- It is what the code of a reader is proved against, and no part of the format; the law `reading` joins it to blobs and first faults.
+use Rattle.std.specs.Prelude.{⊤, ◌+ℤ◌, ◌≡◌, ℕ, zero, suc, ◌-◌, ◌<◌, ◌≤◌, ◌⊎◌, Bool, true, false, List, [], ◌∷◌, ◌++◌, length, Option, Some, None, Result, Ok, Err}
+use Rattle.twkb_num.specs.Zigzag.{unzigzag_of}
+use Rattle.twkb_num.specs.Varint.{IsVarint}
+use Rattle.twkb_points.specs.Point.{Point, IsCoordinate}
+use Rattle.twkb_geom.specs.Tree.{Tree, collection}
+use Rattle.twkb_geom.specs.Limits.{Allowance}
+use Rattle.twkb_grammar.specs.Roles.{Role, Header, Metadata, Extended, Size, Box, Count, Id, X, Y, End, IsNumber, Item, join}
+use Rattle.twkb_grammar.specs.Blob.{AreExact, Stream}
+use Rattle.twkb_grammar.specs.Fault.{Reason, SizeMismatch, FirstFault, GoOn, IsDeep, announced_nodes, announced_points}
+use Rattle.twkb_grammar.specs.Machine.{Sums, nothing, added, sums_after, Frame, Phase, AtHeader, AtEnd, Finished, Stack, started, snoc, role_at, stack_after, Runs}
+use Rattle.twkb_grammar.specs.PlainReader.{is_exact}
+
+-- Depth and range, which each item has to keep behind position p.
+abbrev pub Here : ℕ → Point → Role → ℕ → Type 0
+Here nest p (Count c) n = IsDeep c nest → n ≡ 0
+Here nest p X n = IsCoordinate (p.x +ℤ unzigzag_of n)
+Here nest p Y n = IsCoordinate (p.y +ℤ unzigzag_of n)
+Here nest p _ n = ⊤
+
+-- Each of the items keeps depth and range.
+abbrev pub Kept : ℕ → Sums → List Item → Type 0
+Kept nest e [] = ⊤
+Kept nest e (i ∷ is) = Here nest e.position i.role i.number × Kept nest (added e i) is
+
+-- The machine ran through these items to this stack, and they kept the limits, with exact sizes.
+pub record Ran (limits : Allowance) (items : List Item) (st : Stack) : Type 0 where
+  pub runs : Runs nothing started items st
+  pub kept : Kept limits.nest nothing items
+  pub nodes_kept : announced_nodes items ≤ limits.nodes
+  pub points_kept : announced_points items ≤ limits.points
+  pub exact : AreExact items
+
+-- The bytes are whole items that the machine ran through within the limits, and these are the sums and the stack behind them.
+pub record Reached (limits : Allowance) (bytes : List ℕ) (e : Sums) (st : Stack) : Type 0 where
+  pub items : List Item
+  pub ran : Ran limits items st
+  pub sums : sums_after nothing items ≡ e
+  pub spelled : join items ≡ bytes
+
+-- The bytes give this number at a place with this role, whether or not it may stand there.
+abbrev pub Gives : Role → ℕ → List ℕ → Type 0
+Gives Header n bytes = (n < 256) × (bytes ≡ n ∷ [])
+Gives (Metadata kind) n bytes = (n < 256) × (bytes ≡ n ∷ [])
+Gives Extended n bytes = (n < 256) × (bytes ≡ n ∷ [])
+Gives Size n bytes = IsVarint bytes n
+Gives Box n bytes = IsVarint bytes n
+Gives (Count c) n bytes = IsVarint bytes n
+Gives Id n bytes = IsVarint bytes n
+Gives X n bytes = IsVarint bytes n
+Gives Y n bytes = IsVarint bytes n
+Gives (End declared came) n bytes = (n ≡ 0) × (bytes ≡ [])
+
+-- A geometry ends behind so many bytes, its size being exact or not, and with it each collection whose last member it is, while their sizes are exact.
+abbrev pub past_end : Bool → ℕ → Tree → List Frame → Result Stack Reason
+past_end false bytes g fs = Err SizeMismatch
+past_end true bytes g [] = Ok ([], Finished g)
+past_end true bytes g (f ∷ fs) = elim f.left [
+  | zero ↦ past_end (is_exact f.head.size (bytes - f.head.from)) bytes (collection f.head.precision f.ids (snoc f.done g)) fs
+  | suc n ↦ Ok (record { head = f.head; ids = f.ids; done = snoc f.done g; left = n } ∷ fs, AtHeader)
+]
+
+-- The ends behind an item, which have no bytes and so are taken with it: the stack behind them, or that a size is wrong.
+abbrev pub ends : ℕ → List Frame → Phase → Result Stack Reason
+ends bytes fs (AtEnd h g) = past_end (is_exact h.size (bytes - h.from)) bytes g fs
+ends bytes fs p = Ok (fs, p)
+
+-- Where a reader stands behind the ends; or the first fault, whatever bytes follow.
+abbrev pub Landed : Allowance → List ℕ → Sums → Result Stack Reason → Type 0
+Landed limits bytes e (Ok st) = Reached limits bytes e st
+Landed limits bytes e (Err reason) = (rest : List ℕ) → FirstFault limits (bytes ++ rest) e.bytes reason
+
+-- What an item leads to, against which there is this objection or none: a further place, or the first fault, whatever bytes follow.
+abbrev pub Leads : Allowance → List ℕ → Sums → Stack → Item → Option Reason → Type 0
+Leads limits bytes e st i (Some reason) = (more : List ℕ) → FirstFault limits (bytes ++ (i.bytes ++ more)) e.bytes reason
+Leads limits bytes e st i None = Landed limits (bytes ++ i.bytes) (added e i) (ends (added e i).bytes (stack_after e i st).0 (stack_after e i st).1)
+
+-- The bytes are blobs of these geometries, then whole items of a further one or none, and then the first bytes of a number, which are held.
+pub record Stands (limits : Allowance) (bytes : List ℕ) (gs : List Tree) (e : Sums) (st : Stack) (held : List ℕ) : Type 0 where
+  pub front : List ℕ
+  pub middle : List ℕ
+  pub whole : bytes ≡ front ++ (middle ++ held)
+  pub blobs : Stream limits front gs
+  pub reached : Reached limits middle e st
+  -- the next item is wanted, and it has bytes
+  pub role : Role
+  pub wants : role_at e st ≡ Some role
+  pub spelled : (d : Option ℕ) (came : ℕ) → role ≡ End d came → ⊥
+  pub go_on : GoOn held
+  pub few : length held < 10
+  pub number : (held ≡ []) ⊎ IsNumber role
+
+-- How many geometries are begun and not ended behind an item with this role.
+abbrev pub open_by : ℕ → Role → ℕ
+open_by open_now Header = suc open_now
+open_by (suc open_now) (End declared came) = open_now
+open_by open_now _ = open_now
+
+-- And behind some items.
+abbrev pub open_after : ℕ → List Item → ℕ
+open_after open_now [] = open_now
+open_after open_now (i ∷ is) = open_after (open_by open_now i.role) is
+
+-- The frames of a stack: its open collections, and the geometry that stands in them, if one is begun.
+abbrev pub frame_count : Stack → ℕ
+frame_count (fs, AtHeader) = length fs
+frame_count (fs, Finished g) = length fs
+frame_count (fs, _) = suc (length fs)

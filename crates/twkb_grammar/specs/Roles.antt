@@ -1,0 +1,93 @@
+-- Items: what a blob is made of, each a single byte, or a number with one of its spellings.
+use Rattle.std.specs.Prelude.{◌≡◌, ℕ, ◌<◌, ◌%◌, Bool, if◌then◌else◌, List, [], ◌∷◌, Option, flat_map, ⊤}
+use Rattle.twkb_num.specs.Varint.{IsVarint}
+
+-- What a count counts (TWKB, description of types: npoints, nrings, and the counts of multi types and collections).
+pub data Counted : Type 0 where
+  Vertices : Counted  -- the points of a linestring or ring
+  Rings : Counted  -- the rings of a polygon
+  Points : Counted  -- the members of a multipoint
+  Parts : Counted  -- the members of a multilinestring or multipolygon
+  Geometries : (level : ℕ) → Counted  -- the members of a collection that stands inside `level` collections
+
+-- What stands at a place of a blob (TWKB, structure).
+pub data Role : Type 0 where
+  Header : Role  -- the type byte: type and precision
+  Metadata : (kind : ℕ) → Role  -- the metadata byte of a geometry of this type
+  Extended : Role  -- the extended dimensions byte
+  Size : Role
+  Box : Role  -- one of the four numbers of the bounding box
+  Count : Counted → Role
+  Id : Role
+  X : Role
+  Y : Role
+  -- the end of a geometry, which has no bytes: the size that was declared, if any, and the bytes that came
+  -- (profile: so that a size is judged at a place of its own)
+  End : (declared : Option ℕ) → (came : ℕ) → Role
+
+-- One item: its role, its number and its bytes.
+pub record Item : Type 0 where
+  pub role : Role
+  pub number : ℕ
+  pub bytes : List ℕ
+
+-- The bytes of items, one item after another.
+abbrev pub join : List Item → List ℕ
+join is = flat_map (λ i. i.bytes) is
+
+-- The bytes say this number in this role: one byte in a header, a varint of at most ten bytes elsewhere, nothing at an end.
+-- The type is 1 to 7 (TWKB, type and precision), and no geometry has Z or M (profile: bits 0 and 1 of the extended byte are clear).
+abbrev pub Spells : Role → ℕ → List ℕ → Type 0
+Spells Header n bytes = (n < 256) × (0 < n % 16) × (n % 16 < 8) × (bytes ≡ n ∷ [])
+Spells (Metadata kind) n bytes = (n < 256) × (bytes ≡ n ∷ [])
+Spells Extended n bytes = (n < 256) × (n % 4 ≡ 0) × (bytes ≡ n ∷ [])
+Spells Size n bytes = IsVarint bytes n
+Spells Box n bytes = IsVarint bytes n
+Spells (Count c) n bytes = IsVarint bytes n
+Spells Id n bytes = IsVarint bytes n
+Spells X n bytes = IsVarint bytes n
+Spells Y n bytes = IsVarint bytes n
+Spells (End declared came) n bytes = (n ≡ 0) × (bytes ≡ [])
+
+-- A varint stands in this role, and neither a single byte nor nothing (TWKB, structure).
+abbrev pub IsNumber : Role → Type 0
+IsNumber Header = ⊥
+IsNumber (Metadata kind) = ⊥
+IsNumber Extended = ⊥
+IsNumber Size = ⊤
+IsNumber Box = ⊤
+IsNumber (Count c) = ⊤
+IsNumber Id = ⊤
+IsNumber X = ⊤
+IsNumber Y = ⊤
+IsNumber (End declared came) = ⊥
+
+-- The bytes of the item say its number in its role.
+abbrev pub IsItem : Item → Type 0
+IsItem i = Spells i.role i.number i.bytes
+
+-- A role, and the number that stands there.
+abbrev pub Field : Type 0
+Field = Role × ℕ
+
+-- The items have these roles and numbers, each in a spelling of its own.
+abbrev pub AreFields : List Field → List Item → Type 0
+AreFields [] [] = ⊤
+AreFields (f ∷ fs) (i ∷ is) = (i.role ≡ f.0) × (i.number ≡ f.1) × IsItem i × AreFields fs is
+AreFields [] (i ∷ is) = ⊥
+AreFields (f ∷ fs) [] = ⊥
+
+-- The items have these roles, whatever their numbers.
+abbrev pub HaveRoles : List Role → List Item → Type 0
+HaveRoles [] [] = ⊤
+HaveRoles (r ∷ rs) (i ∷ is) = (i.role ≡ r) × IsItem i × HaveRoles rs is
+HaveRoles [] (i ∷ is) = ⊥
+HaveRoles (r ∷ rs) [] = ⊥
+
+-- The roles, where the bit that asks for them is set, and none elsewhere (TWKB, metadata header).
+abbrev pub where_set : Bool → List Role → List Role
+where_set b roles = if b then roles else []
+
+-- The item of one byte.
+abbrev pub item : Role → ℕ → Item
+item role n = record { role = role; number = n; bytes = n ∷ [] }

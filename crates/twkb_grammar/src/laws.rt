@@ -1,0 +1,117 @@
+//! Laws of blobs, each the contract of a function that does nothing.
+ghost use Rattle.std.specs.Prelude.{◌≡◌, ◌≢◌, ◌↔◌, ◌⊎◌, ◌<◌, ◌≤◌, ◌+◌, ◌*◌, ℕ, List, [], ◌∷◌, ◌++◌, length, Option, Some};
+ghost use Rattle.std.specs.List.{AllByRecursion};
+ghost use Rattle.twkb_geom.specs.Tree.{Tree, IsTree, nodes, flat};
+ghost use Rattle.twkb_geom.specs.Limits.{Allowance, IsAllowance, IsValid};
+ghost use Rattle.twkb_grammar.specs.declared.style.Style.{Style};
+ghost use Rattle.twkb_grammar.specs.Bits.{AreBytes};
+ghost use Rattle.twkb_grammar.specs.Roles.{Item, Role, End, IsNumber, join};
+ghost use Rattle.twkb_grammar.specs.Items.{Items};
+ghost use Rattle.twkb_grammar.specs.Blob.{Blob, BlobInFront, Stream};
+ghost use Rattle.twkb_grammar.specs.Written.{canonical_blob, canonical_stream};
+ghost use Rattle.twkb_grammar.specs.Fault.{Refused, Fault, FirstFault, StreamFault, Reason, Truncated, BadVarint, Part, IsCut, IsTooLong};
+ghost use Rattle.twkb_grammar.specs.Machine.{Runs, Sums, nothing, started, Finished, Stack, role_at, sums_after};
+ghost use Rattle.twkb_grammar.specs.PlainReader.{decode, objection, Made, RefusedAt, GoesOn};
+ghost use Rattle.twkb_grammar.specs.Reading.{Ran, Reached, Gives, Leads, Stands, frame_count, open_after};
+
+/// The canonical blob of a valid geometry, in either style, is a blob of it, and its length is bounded by nodes and points;
+/// and the canonical stream of valid geometries is a stream of them.
+pub fn written_is_blob()
+    ensures blob { (limits : Allowance) (style : Style) (g : Tree) → IsAllowance limits → IsValid limits g → Blob limits (canonical_blob style g) g }
+    ensures short { (limits : Allowance) (style : Style) (g : Tree) → IsAllowance limits → IsValid limits g → length (canonical_blob style g) ≤ 100 * nodes g + 20 * length (flat g) }
+    ensures stream { (limits : Allowance) (style : Style) (gs : List Tree) → IsAllowance limits → AllByRecursion (λ g. IsValid limits g) gs → Stream limits (canonical_stream style gs) gs }
+{}
+
+/// Bytes are a blob of at most one geometry, and no blob is a proper front of another: whatever follows two blobs, where the whole is one, they are one.
+pub fn one_blob()
+    ensures { (limits : Allowance) (a b x y : List ℕ) (g h : Tree) → Blob limits a g → Blob limits b h → a ++ x ≡ b ++ y → (g ≡ h) × (a ≡ b) }
+{}
+
+/// A stream has one reading, and is cut into blobs in one way: where a stream begins with a stream, its geometries begin with those, and a stream follows.
+pub fn one_stream()
+    ensures one_reading { (limits : Allowance) (bytes : List ℕ) (gs hs : List Tree) → Stream limits bytes gs → Stream limits bytes hs → gs ≡ hs }
+    ensures one_cut { (limits : Allowance) (bytes rest : List ℕ) (gs hs : List Tree) → Stream limits bytes gs → Stream limits (bytes ++ rest) hs → (ks : List Tree) × (hs ≡ gs ++ ks) × Stream limits rest ks }
+    ensures joined { (limits : Allowance) (a b : List ℕ) (gs hs : List Tree) → Stream limits a gs → Stream limits b hs → Stream limits (a ++ b) (gs ++ hs) }
+{}
+
+/// No bytes have a blob in front and a fault, and no stream has a fault at a blob's start.
+pub fn blob_or_fault()
+    ensures no_blob { (limits : Allowance) (bytes rest : List ℕ) (g : Tree) (offset : ℕ) (reason : Reason) → BlobInFront limits bytes g rest → Fault limits bytes offset reason → ⊥ }
+    ensures no_stream { (limits : Allowance) (bytes rest : List ℕ) (gs hs : List Tree) (offset : ℕ) (reason : Reason) → Stream limits bytes gs → Fault limits rest offset reason → Stream limits (bytes ++ rest) hs → ⊥ }
+{}
+
+/// A first fault is one: one offset and one reason, and in a stream the same geometries before it.
+pub fn one_fault()
+    ensures blob { (limits : Allowance) (bytes : List ℕ) (o p : ℕ) (r s : Reason) → FirstFault limits bytes o r → FirstFault limits bytes p s → (o ≡ p) × (r ≡ s) }
+    ensures stream { (limits : Allowance) (bytes : List ℕ) (gs hs : List Tree) (o p : ℕ) (r s : Reason) → StreamFault limits bytes gs o r → StreamFault limits bytes hs p s → (gs ≡ hs) × (o ≡ p) × (r ≡ s) }
+{}
+
+/// Any bytes are a stream, or blobs and then a first fault.
+pub fn stream_or_fault()
+    ensures { (limits : Allowance) (bytes : List ℕ) → IsAllowance limits → AreBytes bytes
+        → ((gs : List Tree) × Stream limits bytes gs) ⊎ ((gs : List Tree) × (offset : ℕ) × (reason : Reason) × StreamFault limits bytes gs offset reason) }
+{}
+
+/// The plain reader, on some bytes, makes a geometry exactly where its blob stands in front, refuses exactly the first fault, and always answers.
+pub fn plain_reader()
+    ensures made { (limits : Allowance) (bytes rest : List ℕ) (g : Tree) → IsAllowance limits → AreBytes bytes → bytes ≢ [] → decode limits bytes ≡ Made g rest ↔ BlobInFront limits bytes g rest }
+    ensures refused { (limits : Allowance) (bytes : List ℕ) (offset : ℕ) (reason : Reason) → IsAllowance limits → AreBytes bytes → bytes ≢ [] → decode limits bytes ≡ RefusedAt offset reason ↔ FirstFault limits bytes offset reason }
+    ensures answers { (limits : Allowance) (bytes : List ℕ) → IsAllowance limits → AreBytes bytes → bytes ≢ [] → decode limits bytes ≢ GoesOn }
+{}
+
+/// The machine runs through some items to a geometry exactly where they are its items.
+pub fn machine()
+    ensures { (g : Tree) (is : List Item) → (IsTree g × Items 0 g is) ↔ Runs nothing started is ([], Finished g) }
+{}
+
+/// The machine runs through some items exactly where they are a front of the items of a geometry.
+pub fn fronts()
+    ensures { (before : List Item) → ((st : Stack) × Runs nothing started before st) ↔ ((g : Tree) × (more : List Item) × IsTree g × Items 0 g (before ++ more)) }
+{}
+
+/// From each state that the machine reaches it can run on to a geometry.
+pub fn completions()
+    ensures { (before : List Item) (st : Stack) → Runs nothing started before st → (more : List Item) × (g : Tree) × Runs (sums_after nothing before) st more ([], Finished g) }
+{}
+
+/// The parts are exactly what the machine runs through within the limits, with exact sizes.
+pub fn parts()
+    ensures { (limits : Allowance) (before : List Item) → Part limits before ↔ ((st : Stack) × Ran limits before st) }
+{}
+
+/// Where the machine waits for an item, and a reason holds first of the bytes that are left, the bytes are refused there for it;
+/// and within the limits, with exact sizes, that is the first fault.
+pub fn refusals()
+    ensures fault { (limits : Allowance) (before : List Item) (rest : List ℕ) (st : Stack) (role : Role) (reason : Reason) → Runs nothing started before st
+        → role_at (sums_after nothing before) st ≡ Some role → Refused limits before rest role reason → Fault limits (join before ++ rest) (length (join before)) reason }
+    ensures first { (limits : Allowance) (before : List Item) (rest : List ℕ) (st : Stack) (role : Role) (reason : Reason) → Ran limits before st
+        → role_at (sums_after nothing before) st ≡ Some role → Refused limits before rest role reason → FirstFault limits (join before ++ rest) (length (join before)) reason }
+{}
+
+/// Where a reader that takes items one by one stands: at the start, behind an item, at a blob's end, and where bytes are missing or a number is too long.
+pub fn reading()
+    ensures starts { (limits : Allowance) → IsAllowance limits → Reached limits [] nothing started }
+    ensures offset { (limits : Allowance) (bytes : List ℕ) (e : Sums) (st : Stack) → Reached limits bytes e st → length bytes ≡ e.bytes }
+    ensures depth { (limits : Allowance) (bytes : List ℕ) (e : Sums) (st : Stack) → Reached limits bytes e st → length st.0 ≤ limits.nest }
+    ensures frames { (limits : Allowance) (bytes : List ℕ) (e : Sums) (st : Stack) (r : Reached limits bytes e st) → frame_count st ≡ open_after 0 r.items }
+    ensures few_frames { (limits : Allowance) (bytes : List ℕ) (e : Sums) (st : Stack) → Reached limits bytes e st → frame_count st ≤ limits.nest + 1 }
+    ensures leads { (limits : Allowance) (bytes : List ℕ) (e : Sums) (st : Stack) (i : Item) → Reached limits bytes e st → role_at e st ≡ Some i.role → Gives i.role i.number i.bytes
+        → Leads limits bytes e st i (objection limits e i.role i.number) }
+    ensures blob { (limits : Allowance) (bytes : List ℕ) (e : Sums) (g : Tree) → Reached limits bytes e ([], Finished g) → Blob limits bytes g }
+    ensures cut { (limits : Allowance) (bytes : List ℕ) (e : Sums) (st : Stack) (rest : List ℕ) (role : Role) → Reached limits bytes e st → role_at e st ≡ Some role
+        → IsNumber role → IsCut rest → FirstFault limits (bytes ++ rest) e.bytes Truncated }
+    ensures long { (limits : Allowance) (bytes : List ℕ) (e : Sums) (st : Stack) (rest : List ℕ) (role : Role) → Reached limits bytes e st → role_at e st ≡ Some role
+        → IsNumber role → IsTooLong rest → FirstFault limits (bytes ++ rest) e.bytes BadVarint }
+    ensures missing { (limits : Allowance) (bytes : List ℕ) (e : Sums) (st : Stack) (role : Role) → Reached limits bytes e st → role_at e st ≡ Some role
+        → bytes ≢ [] → ((d : Option ℕ) (came : ℕ) → role ≡ End d came → ⊥) → FirstFault limits bytes e.bytes Truncated }
+{}
+
+/// Where a reader of a stream stands: behind blobs, before a further one or within it. The bytes alone tell it; at a blob's end they are a stream, and elsewhere they are cut.
+pub fn standing()
+    ensures starts { (limits : Allowance) (bytes : List ℕ) (gs : List Tree) → IsAllowance limits → Stream limits bytes gs → Stands limits bytes gs nothing started [] }
+    ensures one_place { (limits : Allowance) (bytes : List ℕ) (gs hs : List Tree) (e f : Sums) (st su : Stack) (held kept : List ℕ) → Stands limits bytes gs e st held → Stands limits bytes hs f su kept
+        → (gs ≡ hs) × (e ≡ f) × (st ≡ su) × (held ≡ kept) }
+    ensures whole { (limits : Allowance) (bytes : List ℕ) (gs : List Tree) (e : Sums) (st : Stack) (held : List ℕ) → Stands limits bytes gs e st held → e.bytes ≡ 0 → Stream limits bytes gs }
+    ensures cut { (limits : Allowance) (bytes : List ℕ) (gs : List Tree) (e : Sums) (st : Stack) (held : List ℕ) (s : Stands limits bytes gs e st held) → 0 < e.bytes
+        → StreamFault limits bytes gs (length s.front + e.bytes) Truncated }
+{}

@@ -1,0 +1,10 @@
+//! The grammar of TWKB blobs: definitions, laws and samples. But for a test of a style, nothing here runs.
+#![tactic(auto)]
+
+pub mod laws;
+pub mod samples;
+mod style;
+#[cfg(test)]
+mod tests;
+
+pub use style::Style;

@@ -1,0 +1,22 @@
+//! The two styles of a written blob.
+ghost use Rattle.std.specs.Prelude.{◌≡◌, ◌↔◌, true};
+
+/// What a written blob has beside type byte, metadata byte and body (TWKB leaves it free; profile).
+#[derive(Clone, Copy, Debug, PartialEq, Eq)]
+pub enum Style {
+    /// Each geometry has its exact size, and a tight box where it may have one.
+    Full,
+    /// No geometry has a size or a box.
+    Plain,
+}
+
+impl Style {
+    ghost use Rattle.twkb_grammar.specs.declared.style.Style.TheVariants.{Full};
+
+    /// Whether blobs of this style have sizes, and boxes where they may.
+    pub fn is_full(self) -> bool
+        ensures { (result ≡ true) ↔ (self ≡ Full) }
+    {
+        matches!(self, Style::Full)
+    }
+}

@@ -1,0 +1,64 @@
+-- What is held of an array: the part from `at` to `filled` that is unused, as far as there is room.
+use Rattle.std.proofs.Common.{◌≡◌, ◌≢◌, ◌≤◌, ◌<◌, ◌+◌, ◌-◌, min, ℕ, List, [], ◌++◌, take, drop, length, Option, Some, None, arith, ap, sym, ◌∙◌, refl, inl, inr, Bool, true, false, append_assoc, length-append, length-drop}
+use Rattle.std.proofs.Math.Nat.{eq-or-lt_of_le}
+use Rattle.std.proofs.lemmas.List.{length-take, take-take, drop-take, drop-drop, take-append-drop, take_at}
+use Rattle.std.specs.Prelude.{IfSome, slice_range}
+use Rattle.std.specs.Io.{StartsWith}
+use Rattle.std.specs.Io.KnownBytes.{Consumes, Keeps, prepend_known}
+
+-- n bytes further, the unused part has lost its first n
+pub unused_advanced : (held : List ℕ) (at filled n : ℕ) → at + n ≤ filled → slice_range held (at + n) filled ≡ drop n (slice_range held at filled)
+unused_advanced held at filled n fits =
+    let parts : filled - at ≡ n + (filled - (at + n)) = omega arith in
+    sym (ap (λ k. drop n (take k (drop at held))) parts ∙ drop-take n (filled - (at + n)) (drop at held) ∙ ap (take (filled - (at + n))) (drop-drop n at held))
+
+-- and so has what is held
+pub held_advanced : (unused : List ℕ) (most given n : ℕ) → given + n ≤ most → take (most - (given + n)) (drop n unused) ≡ drop n (take (most - given) unused)
+held_advanced unused most given n fits =
+    let parts : most - given ≡ n + (most - (given + n)) = omega arith in
+    sym (ap (λ k. drop n (take k unused)) parts ∙ drop-take n (most - (given + n)) unused)
+
+-- a front of the unused part is the front of the rest, and is consumed where it is dropped
+pub consumed_front : (unused : List ℕ) (known : Option (List ℕ)) (n room : ℕ) → n ≤ room
+    → Consumes (prepend_known unused known) (prepend_known (drop n unused) known) (take n (take room unused))
+consumed_front unused None n room fits = tt
+consumed_front unused (Some more) n room fits =
+    ap (λ l. l ++ more) (sym (take-append-drop n unused)) ∙ append_assoc (take n unused) (drop n unused) more
+    ∙ ap (λ l. l ++ (drop n unused ++ more)) (sym (take-take n room unused fits))
+
+pub shown_front : (unused : List ℕ) (known : Option (List ℕ)) (room : ℕ) → IfSome (prepend_known unused known) (λ rest. StartsWith rest (take room unused))
+shown_front unused None room = tt
+shown_front unused (Some more) room =
+    ap (λ l. take (length (take room unused)) (l ++ more)) (sym (take-append-drop room unused))
+    ∙ ap (take (length (take room unused))) (append_assoc (take room unused) (drop room unused) more)
+    ∙ take_at (take room unused) (drop room unused ++ more) (length (take room unused)) refl
+
+-- an array that is not used up, since it is used up at the end alone
+pub not_used_up : (at filled : ℕ) (ended : Bool) → at ≤ filled → (at ≡ filled → ended ≡ true) → ended ≡ false → at < filled
+not_used_up at filled ended ordered end more = elim (eq-or-lt_of_le ordered) [ inl same ↦ absurd (cc (end same, more)) | inr less ↦ less ]
+
+-- where the array is not used up and there is room, a byte is held
+pub some_held : (held : List ℕ) (at filled room : ℕ) → at < filled → filled ≤ length held → 0 < room → take room (slice_range held at filled) ≢ []
+some_held held at filled room less within roomy none =
+    omega (arith, ap length none, length-take room (slice_range held at filled), length-take (filled - at) (drop at held), length-drop at held)
+
+-- an array with an unused byte is no empty rest
+pub held_rest : (held : List ℕ) (known : Option (List ℕ)) (at filled : ℕ) → at < filled → filled ≤ length held
+    → IfSome (prepend_known (slice_range held at filled) known) (λ rest. rest ≢ [])
+held_rest held None at filled less within = tt
+held_rest held (Some more) at filled less within = λ none.
+    omega (arith, ap length none, length-append (slice_range held at filled) more, length-take (filled - at) (drop at held), length-drop at held)
+
+-- a rest that was kept was no empty one before
+pub kept_rest : (old new : Option (List ℕ)) → Keeps old new → IfSome new (λ rest. rest ≢ []) → IfSome old (λ rest. rest ≢ [])
+kept_rest None new keeps some = tt
+kept_rest (Some rest) None keeps some = absurd keeps
+kept_rest (Some rest) (Some same) keeps some = λ none. some (keeps ∙ none)
+
+-- a count of held bytes stays within the array and the room
+pub count_fits : (held : List ℕ) (at filled room n : ℕ) → at ≤ filled → n ≤ length (take room (slice_range held at filled)) → (at + n ≤ filled) × (n ≤ room)
+count_fits held at filled room n ordered fits =
+    let unused = slice_range held at filled in
+    let cut : length (take room unused) ≡ min room (length unused) = length-take room unused in
+    let part : length unused ≡ min (filled - at) (length (drop at held)) = length-take (filled - at) (drop at held) in
+    (omega arith, omega arith)

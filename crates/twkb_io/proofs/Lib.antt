@@ -1,0 +1,5 @@
+-- Lemmas of the crate, by their topic.
+pub mod CopyLemmas
+pub mod FrontLemmas
+pub mod HeldLemmas
+pub mod PassingLemmas

@@ -1,0 +1,23 @@
+use Rattle.std.proofs.Common.{◌≡◌, ◌+◌, ◌≤◌, ◌-◌, ◌∙◌, ◌++◌, List, ℕ, take, drop, length, arith, append_assoc}
+use Rattle.std.proofs.lemmas.Grind.{common_steps}
+use Rattle.twkb_io.specs.OutputLaws.{took_join}
+use Rattle.twkb_io.proofs.output.OutputSink.put.Goals as goal
+
+regroup : (whole front rest : List ℕ) (n : ℕ) → whole ≡ front ++ rest → whole ≡ (front ++ take n rest) ++ take (length rest - n) (drop n rest)
+regroup whole front rest n e = grind (arith, common_steps, append_assoc)
+
+room_left : (before after n most : ℕ) (rest : List ℕ) → before + length rest ≤ most → n ≤ length rest → after ≡ before + length (take n rest)
+    → after + length (take (length rest - n) (drop n rest)) ≤ most
+room_left before after n most rest room within e = grind (arith, common_steps)
+
+pub loop-rest-preserved : goal.loop-rest-preserved
+loop-rest-preserved g c =
+    let n = c.in_ok-taken.taken in
+    let rest = c.loop-rest.rest.now in
+    let (front, whole, took) = c.loop-rest.invariant.front in
+    let next = c.in_ok-taken.ensures.ok in
+    record {
+      fresh = next.spent ∙ c.loop-rest.invariant.fresh;
+      room = room_left _ _ n _ rest c.loop-rest.invariant.room c.in_ok-taken.ensures.count.1 next.sends.sent;
+      front = (front ++ take n rest, regroup _ front rest n whole, took_join g.W.Write.contents _ _ _ front (take n rest) took next);
+    }

@@ -1,0 +1,15 @@
+use Rattle.std.proofs.Common.{◌≡◌, ◌+◌, ◌≤◌, ◌^◌, ◌++◌, List, ℕ, false, length}
+use Rattle.twkb_io.specs.Outputs.{Took, is_spent, sent_of}
+use Rattle.twkb_io.proofs.output.OutputSink.put.Given as goal
+
+-- the writer took a front of the bytes, and the rest still fits
+abbrev pub invariant-loop-rest : goal.invariant-loop-rest
+invariant-loop-rest g l =
+    record {
+      fresh : is_spent l.self ≡ false;
+      room : sent_of l.self + length l.rest ≤ 2 ^ 62;
+      front : (front : List ℕ) × (l.fn.bytes ≡ front ++ l.rest) × Took g.W.Write.contents l.fn.self front l.self;
+    }
+
+abbrev pub decreases-loop-rest : goal.decreases-loop-rest
+decreases-loop-rest g l = length l.rest

@@ -1,0 +1,46 @@
+-- What goes from an input to a sink.
+use Rattle.std.specs.Prelude.{ℕ, ◌≡◌, ◌+◌, List, ◌++◌, length, Option, IfSome, Bool, true, false, Result, Ok, Err}
+use Rattle.std.specs.Io.KnownBytes.{Consumes}
+use Rattle.std.specs.declared.io.traits.Read.{Ghosts}
+use Rattle.twkb_io.specs.declared.input.Input.{Input}
+use Rattle.twkb_io.specs.declared.input.InFault.TheVariants as fault
+use Rattle.twkb_io.specs.declared.copying.CopyFault.{CopyFault}
+use Rattle.twkb_io.specs.declared.copying.CopyFault.TheVariants as stop
+use Rattle.twkb_io.specs.declared.output.OutFault.{OutFault}
+use Rattle.twkb_io.specs.Inputs.{given, input_tap, rest_of}
+use Rattle.twkb_io.specs.Outputs.{is_device}
+
+-- these bytes left the input, which counted them, and the sink took them
+pub record Copied {R S : Type 0} {read : Ghosts R} (took : S → List ℕ → S → Type 0) (old : Input R read) (from : S) (bytes : List ℕ) (new : Input R read) (to : S) : Type 0 where
+  pub same_tap : (input_tap new).ghost_name ≡ (input_tap old).ghost_name
+  pub consumed : Consumes (rest_of old) (rest_of new) bytes
+  pub taken : took from bytes to
+  pub counted : given new ≡ given old + length bytes
+
+-- the known bytes begin with these
+abbrev pub BeginsWith : Option (List ℕ) → List ℕ → Type 0
+BeginsWith rest front = IfSome rest (λ bytes. (left : List ℕ) × (bytes ≡ front ++ left))
+
+-- a front of the rest left the input and was taken, or a front of the rest was taken and the put refused
+abbrev pub StopsCopy : {S F : Type 0} → (S → List ℕ → S → Type 0) → (S → List ℕ → F → S → Type 0) → Option (List ℕ) → S → CopyFault F → Option (List ℕ) → S → Type 0
+StopsCopy took refused rest from (stop.Source why) left to = (front : List ℕ) × Consumes rest left front × took from front to
+StopsCopy took refused rest from (stop.Sink why) left to = (front : List ℕ) × BeginsWith rest front × refused from front why to
+
+-- the same for one piece, of which no byte leaves the input
+abbrev pub StopsPiece : {S F : Type 0} → (S → List ℕ → F → S → Type 0) → Option (List ℕ) → S → CopyFault F → S → Type 0
+StopsPiece refused rest from (stop.Source why) to = to ≡ from
+StopsPiece refused rest from (stop.Sink why) to = (front : List ℕ) × BeginsWith rest front × refused from front why to
+
+-- whether a copy was stopped by a failed read
+abbrev pub is_read_stop : {A F : Type 0} → Result A (CopyFault F) → Bool
+is_read_stop (Ok done) = false
+is_read_stop (Err (stop.Source fault.Read)) = true
+is_read_stop (Err (stop.Source fault.TooLong)) = false
+is_read_stop (Err (stop.Source fault.Spent)) = false
+is_read_stop (Err (stop.Sink why)) = false
+
+-- whether a copy was stopped by a writer that failed
+abbrev pub is_write_stop : {A : Type 0} → Result A (CopyFault OutFault) → Bool
+is_write_stop (Ok done) = false
+is_write_stop (Err (stop.Source why)) = false
+is_write_stop (Err (stop.Sink why)) = is_device why

@@ -1,0 +1,7 @@
+-- What a count has seen.
+use Rattle.std.specs.Prelude.{ℕ}
+use Rattle.twkb_io.specs.declared.count.Count.{Count}
+
+-- the length of all puts that were taken
+abbrev pub total_of : Count → ℕ
+total_of count = count.total

@@ -1,0 +1,61 @@
+-- What an input has left, and what one step does to it.
+use Rattle.std.specs.Prelude.{ℕ, ◌+◌, ◌^◌, List, [], ◌∷◌, ◌-◌, Option, Some, None, Bool, true, false, take, slice_range, Result, Ok, Err}
+use Rattle.std.specs.Io.KnownBytes.{Consumes, IsAtEnd, Keeps, prepend_known}
+use Rattle.std.specs.Borrow.{MutBor}
+use Rattle.std.specs.declared.io.traits.Read.{Ghosts}
+use Rattle.twkb_io.specs.declared.tap.Tap.{Tap}
+use Rattle.twkb_io.specs.declared.input.Input.{Input}
+use Rattle.twkb_io.specs.declared.input.InFault.{InFault}
+use Rattle.twkb_io.specs.declared.input.InFault.TheVariants as fault
+use Rattle.twkb_io.specs.Taps.{device_of, failures_of}
+
+-- the tap that was lent
+abbrev pub input_tap : {R : Type 0} {read : Ghosts R} → Input R read → MutBor (Tap R)
+input_tap input = input.tap
+
+-- the failures of that tap
+abbrev pub input_failures : {R : Type 0} {read : Ghosts R} → Input R read → ℕ
+input_failures input = failures_of input.tap.now
+
+-- the bytes that were given out
+abbrev pub given : {R : Type 0} {read : Ghosts R} → Input R read → ℕ
+given input = input.offset
+
+-- whether a call answered an error
+abbrev pub is_spent : {R : Type 0} {read : Ghosts R} → Input R read → Bool
+is_spent input = input.spent
+
+-- whether the reader's end was met
+abbrev pub has_ended : {R : Type 0} {read : Ghosts R} → Input R read → Bool
+has_ended input = input.ended
+
+-- the unused part of the array
+abbrev pub unused : {R : Type 0} {read : Ghosts R} → Input R read → List ℕ
+unused input = slice_range input.held input.at input.filled
+
+-- the bytes that can be given out without a read: the unused ones, as far as 2^62 bytes in all
+abbrev pub held_of : {R : Type 0} {read : Ghosts R} → Input R read → List ℕ
+held_of input = take (2 ^ 62 - given input) (unused input)
+
+-- the unused part of the array, and then what the reader still tells
+abbrev pub rest_of : {R : Type 0} {read : Ghosts R} → Input R read → Option (List ℕ)
+rest_of {R} {read} input = prepend_known (unused input) (read.remaining (device_of input.tap.now))
+
+-- One call gives the first byte of the rest, none only where the rest is empty, and loses no byte.
+abbrev pub GivesNext : Option (List ℕ) → Result (Option ℕ) InFault → Option (List ℕ) → Type 0
+GivesNext old (Ok (Some byte)) new = Consumes old new (byte ∷ [])
+GivesNext old (Ok None) new = IsAtEnd old × Keeps old new
+GivesNext old (Err e) new = Keeps old new
+
+-- how the bytes given out are counted
+abbrev pub given_after : ℕ → Result (Option ℕ) InFault → ℕ
+given_after n (Ok (Some byte)) = n + 1
+given_after n (Ok None) = n
+given_after n (Err e) = n
+
+-- whether a call was answered by a failed read
+abbrev pub is_read_fault : {A : Type 0} → Result A InFault → Bool
+is_read_fault (Ok found) = false
+is_read_fault (Err fault.Read) = true
+is_read_fault (Err fault.TooLong) = false
+is_read_fault (Err fault.Spent) = false

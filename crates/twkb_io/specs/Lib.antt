@@ -1,0 +1,11 @@
+-- What the contracts say, by the type that it is said of.
+pub mod Taps
+pub mod Inputs
+pub mod Sinks
+pub mod SinkLaws
+pub mod Counts
+pub mod Bytes
+pub mod Outputs
+pub mod OutputLaws
+pub mod Fuses
+pub mod Copies

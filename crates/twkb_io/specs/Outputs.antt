@@ -1,0 +1,53 @@
+-- What an output sent, and what a put did to it.
+use Rattle.std.specs.Prelude.{ℕ, ◌≡◌, ◌+◌, List, length, Option, Bool, true, false}
+use Rattle.std.specs.Io.KnownBytes.{Appends}
+use Rattle.std.specs.Borrow.{MutBor}
+use Rattle.twkb_io.specs.declared.tap.Tap.{Tap}
+use Rattle.twkb_io.specs.declared.output.Output.{Output}
+use Rattle.twkb_io.specs.declared.output.OutFault.{OutFault}
+use Rattle.twkb_io.specs.declared.output.OutFault.TheVariants as fault
+use Rattle.twkb_io.specs.Taps.{count_failure, device_of, failures_of}
+
+-- the tap that was lent
+abbrev pub output_tap : {W : Type 0} → Output W → MutBor (Tap W)
+output_tap output = output.tap
+
+abbrev pub output_failures : {W : Type 0} → Output W → ℕ
+output_failures output = failures_of output.tap.now
+
+-- how many bytes the writer took
+abbrev pub sent_of : {W : Type 0} → Output W → ℕ
+sent_of output = output.sent
+
+-- whether a call answered an error
+abbrev pub is_spent : {W : Type 0} → Output W → Bool
+is_spent output = output.spent
+
+-- the bytes of the writer, where they are known
+abbrev pub written : {W : Type 0} → (W → Option (List ℕ)) → Output W → Option (List ℕ)
+written contents output = contents (device_of output.tap.now)
+
+-- a fault that a failed device is
+abbrev pub is_device : OutFault → Bool
+is_device fault.Write = true
+is_device fault.Stuck = true
+is_device fault.TooLong = false
+is_device fault.Spent = false
+
+-- The writer took these bytes, and the output counted them.
+pub record Sent {W : Type 0} (contents : W → Option (List ℕ)) (old : Output W) (bytes : List ℕ) (new : Output W) : Type 0 where
+  pub same_tap : (output_tap new).ghost_name ≡ (output_tap old).ghost_name
+  pub appends : Appends (written contents old) (written contents new) bytes
+  pub sent : sent_of new ≡ sent_of old + length bytes
+
+-- no put was refused on the way
+pub record Took {W : Type 0} (contents : W → Option (List ℕ)) (old : Output W) (bytes : List ℕ) (new : Output W) : Type 0 where
+  pub sends : Sent contents old bytes new
+  pub failures : output_failures new ≡ output_failures old
+  pub spent : is_spent new ≡ is_spent old
+
+-- the last put was refused with this fault, and these bytes were taken before
+pub record Refused {W : Type 0} (contents : W → Option (List ℕ)) (old : Output W) (bytes : List ℕ) (e : OutFault) (new : Output W) : Type 0 where
+  pub sends : Sent contents old bytes new
+  pub failures : output_failures new ≡ count_failure (is_device e) (output_failures old)
+  pub spent : is_spent new ≡ true

@@ -1,0 +1,65 @@
+//! A sink that keeps its bytes.
+ghost use Rattle.std.specs.Prelude.{◌≡◌, ◌++◌, [], length, OnOk, OnErr, IfErr};
+ghost use Rattle.twkb_io.specs.Sinks.{TookFront};
+
+use crate::sink::Sink;
+use std::alloc::{AllocError, Global};
+
+/// A sink that keeps the bytes in a vector. A put takes memory, and is refused where there is none.
+#[derive(Drop)]
+pub struct Bytes {
+    kept: Vec<u8>,
+}
+
+impl Bytes {
+    ghost use Rattle.twkb_io.specs.Bytes.{bytes_of};
+
+    /// A sink that keeps nothing yet. Takes no memory.
+    pub fn new(alloc: Global) -> Bytes
+        ensures { bytes_of result ≡ [] }
+    {
+        Bytes {
+            kept: Vec::new(alloc),
+        }
+    }
+
+    /// The bytes of all puts that were taken. Takes no memory.
+    pub fn into_vec(self) -> Vec<u8>
+        ensures { result.items ≡ bytes_of self }
+    {
+        self.kept
+    }
+}
+
+impl Sink for Bytes {
+    ghost use Rattle.twkb_io.specs.Bytes.{bytes_of};
+    ghost use Rattle.twkb_io.specs.SinkLaws.{lists_join};
+    ghost use Rattle.std.proofs.Common.{sym, ap, ◌∙◌, length-append};
+    ghost use Rattle.std.proofs.lemmas.List.{append-nil};
+
+    type Fault = AllocError;
+
+    ghost took = { λ a xs b. bytes_of b ≡ bytes_of a ++ xs };
+
+    ghost refused = { λ a xs fault b. bytes_of b ≡ bytes_of a ++ xs };
+
+    ghost taken = { λ s. length (bytes_of s) };
+
+    ghost takes_nothing = { λ s. sym (append-nil (bytes_of s)) };
+
+    ghost takes_join = { λ a b c xs ys first second. lists_join (bytes_of a) (bytes_of b) (bytes_of c) xs ys first second };
+
+    ghost refuses_join = { λ a b c xs ys fault first second. lists_join (bytes_of a) (bytes_of b) (bytes_of c) xs ys first second };
+
+    ghost adds_up = { λ a b xs took. ap length took ∙ length-append (bytes_of a) xs };
+
+    ghost adds_up_refused = { λ a b xs fault refused. ap length refused ∙ length-append (bytes_of a) xs };
+
+    fn put(&mut self, bytes: &[u8]) -> Result<(), AllocError>
+        ensures ok { OnOk result (bytes_of self.new ≡ bytes_of self.old ++ bytes.now) }
+        ensures err { IfErr result (λ fault. TookFront (λ a xs _ b. bytes_of b ≡ bytes_of a ++ xs) self.old bytes.now fault self.new) }
+        ensures unchanged { OnErr result (bytes_of self.new ≡ bytes_of self.old) }
+    {
+        self.kept.extend_from_slice(bytes)
+    }
+}

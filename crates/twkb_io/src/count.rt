@@ -1,0 +1,76 @@
+//! A sink that counts.
+ghost use Rattle.std.specs.Prelude.{◌≡◌, ◌+◌, ◌≤◌, ◌<◌, ◌^◌, ◌↔◌, length, Err, OnOk, OnErr, IfErr, IsErr, refl};
+ghost use Rattle.twkb_io.specs.Sinks.{TookFront};
+
+use crate::MAX_BYTES;
+use crate::sink::Sink;
+use thiserror::Error;
+
+/// A sink that keeps the length of what it took, at most 2^62, and no byte of it. Takes no memory.
+#[derive(Clone, Copy, Debug)]
+pub struct Count {
+    total: u64,
+    ghost within: { total ≤ 2 ^ 62 },
+}
+
+/// The length would pass 2^62.
+#[derive(Clone, Copy, PartialEq, Eq, Debug, Error)]
+#[error("too many bytes to count")]
+pub struct CountFull;
+
+impl Count {
+    ghost use Rattle.twkb_io.specs.Counts.{total_of};
+
+    /// A count of nothing.
+    pub fn new() -> Count
+        ensures { total_of result ≡ 0 }
+    {
+        Count { total: 0 }
+    }
+
+    /// How many bytes were taken.
+    pub fn total(&self) -> u64
+        ensures total { result ≡ total_of self.now }
+        ensures within { result ≤ 2 ^ 62 }
+    {
+        self.total
+    }
+}
+
+impl Sink for Count {
+    ghost use Rattle.twkb_io.specs.Counts.{total_of};
+    ghost use Rattle.twkb_io.specs.SinkLaws.{lengths_join};
+    ghost use Rattle.std.proofs.Common.{sym, add-zero};
+
+    type Fault = CountFull;
+
+    ghost took = { λ a xs b. total_of b ≡ total_of a + length xs };
+
+    ghost refused = { λ a xs fault b. total_of b ≡ total_of a + length xs };
+
+    ghost taken = { total_of };
+
+    ghost takes_nothing = { λ s. sym (add-zero (total_of s)) };
+
+    ghost takes_join = { λ a b c xs ys first second. lengths_join (total_of a) (total_of b) (total_of c) xs ys first second };
+
+    ghost refuses_join = { λ a b c xs ys fault first second. lengths_join (total_of a) (total_of b) (total_of c) xs ys first second };
+
+    ghost adds_up = { λ a b xs took. took };
+
+    ghost adds_up_refused = { λ a b xs fault refused. refused };
+
+    fn put(&mut self, bytes: &[u8]) -> Result<(), CountFull>
+        ensures ok { OnOk result (total_of self.new ≡ total_of self.old + length bytes.now) }
+        ensures err { IfErr result (λ fault. TookFront (λ a xs _ b. total_of b ≡ total_of a + length xs) self.old bytes.now fault self.new) }
+        ensures full { IsErr result ↔ (2 ^ 62 < total_of self.old + length bytes.now) }
+        ensures unchanged { OnErr result (self.new ≡ self.old) }
+    {
+        let length = bytes.len() as u64;
+        if length > MAX_BYTES - self.total {
+            return Err(CountFull);
+        }
+        self.total += length;
+        Ok(())
+    }
+}

@@ -1,0 +1,165 @@
+//! Bytes to a writer, with an exact count of what it took.
+ghost use Rattle.std.specs.Prelude.{false, ◌≡◌, ◌≢◌, ◌+◌, ◌≤◌, ◌<◌, ◌^◌, ◌++◌, ◌↔◌, ℕ, List, [], true, false, length, take, is_err, Err, Ok, IfOk, OnOk, OnErr, IfErr};
+ghost use Rattle.twkb_io.specs.Sinks.{TookFront};
+
+use crate::MAX_BYTES;
+use crate::sink::Sink;
+use crate::tap::Tap;
+use std::io::Write;
+use thiserror::Error;
+
+/// Why an output did not take all of a put, or a flush failed.
+#[derive(Clone, Copy, PartialEq, Eq, Debug, Error)]
+pub enum OutFault {
+    /// A write or a flush failed in this very call.
+    #[error("write failed")]
+    Write,
+    /// A write of at least one byte took none, in this very call.
+    #[error("the writer takes no more")]
+    Stuck,
+    /// More than 2^62 bytes would be sent.
+    #[error("output too long")]
+    TooLong,
+    /// An earlier call answered an error.
+    #[error("output was refused before")]
+    Spent,
+}
+
+/// A sink that sends each put to a writer at once, and counts the bytes that the writer took. It
+/// holds no byte back, tries no write again, and takes no memory.
+#[derive(Drop)]
+pub struct Output<'a, W> {
+    tap: &'a mut Tap<W>,
+    sent: u64,
+    spent: bool,
+    ghost within: { sent ≤ 2 ^ 62 },
+}
+
+impl<'a, W> Output<'a, W> {
+    ghost use Rattle.twkb_io.specs.Outputs.{is_spent, output_failures, output_tap, sent_of};
+
+    /// An output that sent nothing yet.
+    pub fn new(tap: &'a mut Tap<W>) -> Output<'a, W>
+        ensures same_tap { (output_tap result).ghost_name ≡ tap.entry.ghost_name }
+        ensures untouched { (output_tap result).now ≡ tap.old }
+        ensures sent { sent_of result ≡ 0 }
+        ensures fresh { is_spent result ≡ false }
+    {
+        Output {
+            tap,
+            sent: 0,
+            spent: false,
+        }
+    }
+
+    /// How many bytes the writer took.
+    pub fn sent(&self) -> u64
+        ensures sent { result ≡ sent_of self.now }
+        ensures within { result ≤ 2 ^ 62 }
+    {
+        self.sent
+    }
+
+    /// The failures of the tap that was lent.
+    pub fn failures(&self) -> u64
+        ensures { result ≡ output_failures self.now }
+    {
+        self.tap.failures()
+    }
+}
+
+impl<'a, W: Write> Output<'a, W> {
+    ghost use Rattle.twkb_io.specs.Taps.{count_failure};
+    ghost use Rattle.twkb_io.specs.Outputs.{Refused, Took, is_device, is_spent, output_failures, output_tap, sent_of, written};
+
+    /// Flushes the writer. After an `Err` each call answers `Spent`.
+    pub fn flush(&mut self) -> Result<(), OutFault>
+        ensures ok { OnOk result (Took W.contents self.old [] self.new) }
+        ensures err { IfErr result (λ fault. Refused W.contents self.old [] fault self.new) }
+        ensures spent { (result ≡ Err OutFault.Spent) ↔ (is_spent self.old ≡ true) }
+        ensures kinds { (result ≢ Err OutFault.Stuck) × (result ≢ Err OutFault.TooLong) }
+        ensures unchanged { is_spent self.old ≡ true → self.new ≡ self.old }
+    {
+        if self.spent {
+            return Err(OutFault::Spent);
+        }
+        if self.tap.flush().is_err() {
+            self.spent = true;
+            return Err(OutFault::Write);
+        }
+        Ok(())
+    }
+
+    // One write of at least one byte.
+    fn send(&mut self, bytes: &[u8]) -> Result<usize, OutFault>
+        requires fresh { is_spent self.old ≡ false }
+        requires some { 0 < length bytes.now }
+        requires room { sent_of self.old + length bytes.now ≤ 2 ^ 62 }
+        ensures count { IfOk result (λ n. (0 < n) × (n ≤ length bytes.now)) }
+        ensures ok { IfOk result (λ n. Took W.contents self.old (take n bytes.now) self.new) }
+        ensures err { IfErr result (λ fault. Refused W.contents self.old [] fault self.new × (is_device fault ≡ true)) }
+    {
+        match self.tap.write(bytes) {
+            Ok(0) => {
+                self.spent = true;
+                Err(OutFault::Stuck)
+            }
+            Ok(taken) => {
+                self.sent += taken as u64;
+                Ok(taken)
+            }
+            Err(_) => {
+                self.spent = true;
+                Err(OutFault::Write)
+            }
+        }
+    }
+}
+
+impl<'a, W: Write> Sink for Output<'a, W> {
+    ghost use Rattle.twkb_io.specs.Outputs.{Refused, Took, is_device, is_spent, output_failures, output_tap, sent_of, written};
+    ghost use Rattle.twkb_io.specs.OutputLaws.{refused_join, took_join, took_nothing};
+
+    type Fault = OutFault;
+
+    ghost took = { Took W.contents };
+
+    ghost refused = { Refused W.contents };
+
+    ghost taken = { sent_of };
+
+    ghost takes_nothing = { took_nothing W.contents };
+
+    ghost takes_join = { took_join W.contents };
+
+    ghost refuses_join = { refused_join W.contents };
+
+    ghost adds_up = { λ a b xs took. took.sends.sent };
+
+    ghost adds_up_refused = { λ a b xs fault refused. refused.sends.sent };
+
+    /// Sends the bytes, with as many writes as the writer needs. After an `Err` each call answers
+    /// `Spent`.
+    fn put(&mut self, bytes: &[u8]) -> Result<(), OutFault>
+        ensures ok { OnOk result (Took W.contents self.old bytes.now self.new) }
+        ensures err { IfErr result (λ fault. TookFront (Refused W.contents) self.old bytes.now fault self.new) }
+        ensures spent { (result ≡ Err OutFault.Spent) ↔ (is_spent self.old ≡ true) }
+        ensures too_long { (result ≡ Err OutFault.TooLong) ↔ ((is_spent self.old ≡ false) × (2 ^ 62 < sent_of self.old + length bytes.now)) }
+        ensures untouched { result ≡ Err OutFault.TooLong → (output_tap self.new ≡ output_tap self.old) × (sent_of self.new ≡ sent_of self.old) }
+        ensures unchanged { is_spent self.old ≡ true → self.new ≡ self.old }
+    {
+        if self.spent {
+            return Err(OutFault::Spent);
+        }
+        if bytes.len() as u64 > MAX_BYTES - self.sent {
+            self.spent = true;
+            return Err(OutFault::TooLong);
+        }
+        let mut rest = bytes;
+        while !rest.is_empty() {
+            let taken = self.send(rest)?;
+            rest = &rest[taken..];
+        }
+        Ok(())
+    }
+}

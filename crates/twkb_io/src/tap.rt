@@ -1,0 +1,100 @@
+//! A device under a count of its failures.
+ghost use Rattle.std.specs.Prelude.{◌≡◌, is_err};
+ghost use Rattle.std.specs.Io.{ReadsAtMost, WritesAtMost};
+ghost use Rattle.std.specs.Io.KnownBytes.{Keeps, ReadConsumes, WriteAppends};
+
+use std::io;
+use std::io::{Read, Write};
+
+/// A reader or a writer, with a count of its calls that failed. Each read, write and flush is
+/// passed through once, and answered as the device answers it. Takes no memory of its own.
+#[derive(Drop)]
+pub struct Tap<D> {
+    device: D,
+    failures: u64,
+}
+
+impl<D> Tap<D> {
+    ghost use Rattle.twkb_io.specs.Taps.{count_failure, device_of, failures_of};
+
+    /// A device of which no call has failed yet.
+    pub fn new(device: D) -> Tap<D>
+        ensures device { device_of result ≡ device }
+        ensures failures { failures_of result ≡ 0 }
+    {
+        Tap {
+            device,
+            failures: 0,
+        }
+    }
+
+    /// How many calls failed. A count of `u64::MAX` stays there.
+    pub fn failures(&self) -> u64
+        ensures { result ≡ failures_of self.now }
+    {
+        self.failures
+    }
+
+    /// The device, as the calls left it.
+    pub fn into_inner(self) -> D
+        ensures { result ≡ device_of self }
+    {
+        self.device
+    }
+
+    // Counts a call, where it failed.
+    fn count(&mut self, has_failed: bool)
+        ensures failures { failures_of self.new ≡ count_failure has_failed (failures_of self.old) }
+        ensures device { device_of self.new ≡ device_of self.old }
+    {
+        if has_failed {
+            let Tap { failures, .. } = self;
+            *failures = failures.saturating_add(1);
+        }
+    }
+}
+
+impl<D: Read> Read for Tap<D> {
+    ghost use Rattle.twkb_io.specs.Taps.{count_failure, device_of, failures_of};
+
+    ghost remaining = { λ tap. D.remaining (device_of tap) };
+
+    fn read(&mut self, buf: &mut [u8]) -> io::Result<usize>
+        ensures bound { ReadsAtMost result buf.new }
+        ensures bytes { ReadConsumes (D.remaining (device_of self.old)) (D.remaining (device_of self.new)) result buf.new }
+        ensures failures { failures_of self.new ≡ count_failure (is_err result) (failures_of self.old) }
+    {
+        let read = self.device.read(buf);
+        self.count(read.is_err());
+        read
+    }
+}
+
+impl<D: Write> Write for Tap<D> {
+    ghost use Rattle.twkb_io.specs.Taps.{count_failure, device_of, failures_of, write_failed};
+
+    ghost contents = { λ tap. D.contents (device_of tap) };
+
+    fn write(&mut self, buf: &[u8]) -> io::Result<usize>
+        ensures bound { WritesAtMost result buf.now }
+        ensures bytes { WriteAppends (D.contents (device_of self.old)) (D.contents (device_of self.new)) result buf.now }
+        ensures failures { failures_of self.new ≡ count_failure (write_failed result buf.now) (failures_of self.old) }
+    {
+        let written = self.device.write(buf);
+        let has_failed = match &written {
+            Ok(taken) => *taken == 0 && !buf.is_empty(),
+            Err(_) => true,
+        };
+        self.count(has_failed);
+        written
+    }
+
+    fn flush(&mut self) -> io::Result<()>
+        ensures bytes { Keeps (D.contents (device_of self.old)) (D.contents (device_of self.new)) }
+        ensures failures { failures_of self.new ≡ count_failure (is_err result) (failures_of self.old) }
+    {
+        let flushed = self.device.flush();
+        self.count(flushed.is_err());
+        flushed
+    }
+}

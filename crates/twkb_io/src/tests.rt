@@ -1,0 +1,7 @@
+//! What no clause says: that calls succeed, which fault is answered, and how often a device is asked.
+mod callers;
+mod devices;
+mod inputs;
+mod outputs;
+mod sinks;
+mod taps;

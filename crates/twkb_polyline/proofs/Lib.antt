@@ -1,0 +1,10 @@
+pub mod CharacterLemmas
+pub mod DecodeLemmas
+pub mod EncodeLemmas
+pub mod GroupLemmas
+pub mod NumberLemmas
+pub mod PointLemmas
+pub mod ScanLemmas
+pub mod StopLemmas
+pub mod OneFault
+pub mod TextOrFault

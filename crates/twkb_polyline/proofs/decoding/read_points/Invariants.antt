@@ -1,0 +1,14 @@
+-- The points so far were put behind the others, and the cursor stands at the last of them.
+use Rattle.std.proofs.Common.{length, ◌-◌, ◌≡◌}
+use Rattle.twkb_polyline.proofs.DecodeLemmas.{HasRead}
+use Rattle.twkb_polyline.proofs.decoding.read_points.Given as goal
+
+abbrev pub invariant-loop-at : goal.invariant-loop-at
+invariant-loop-at l =
+    record {
+      read : HasRead l.text l.max l.at l.cursor l.fn.points.items l.points.items;
+      held : l.held ≡ length l.fn.points.items;
+    }
+
+abbrev pub decreases-loop-at : goal.decreases-loop-at
+decreases-loop-at l = length l.text - l.at

@@ -1,0 +1,5 @@
+use Rattle.twkb_polyline.proofs.OneFault.{one_polyline}
+use Rattle.twkb_polyline.proofs.laws.distinct_lists.Goals as goal
+
+pub returns : goal.returns
+returns c = one_polyline

@@ -1,0 +1,5 @@
+use Rattle.twkb_polyline.proofs.OneFault.{text_fault_none}
+use Rattle.twkb_polyline.proofs.laws.no_polyline.Goals as goal
+
+pub returns : goal.returns
+returns c = text_fault_none

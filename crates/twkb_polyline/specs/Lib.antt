@@ -1,0 +1,3 @@
+pub mod Polyline
+pub mod Fault
+pub mod Reading

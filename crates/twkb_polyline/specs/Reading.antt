@@ -1,0 +1,26 @@
+-- What stands at a place in a text, for the steps of a reader.
+use Rattle.std.specs.Prelude.{◌≡◌, ℕ, ℤ, ◌+◌, ◌<◌, ◌≤◌, ◌-ℤ◌, drop, length, List, ◌++◌}
+use Rattle.twkb_points.specs.Point.{Point}
+use Rattle.twkb_polyline.specs.Polyline.{number_text}
+use Rattle.twkb_polyline.specs.Fault.{StartsWithNumber}
+use Rattle.twkb_polyline.specs.declared.fault.PolyReason.{PolyReason}
+use Rattle.twkb_polyline.specs.declared.fault.PolyFault.{PolyFault}
+use Rattle.twkb_polyline.specs.declared.fault.PolyFault.TheVariants.{Memory, At}
+
+-- A number stands from `start` on, and the text goes on at `end`.
+pub record IsNumberAt (text : List ℕ) (start : ℕ) (n : ℤ) (end : ℕ) : Type 0 where
+  pub number : StartsWithNumber (drop start text) n (drop end text)
+  pub further : start + length (number_text n) ≡ end
+  pub some : start < end
+  pub within : end ≤ length text
+
+-- The differences of q from p stand from `start` on, and the text goes on at `end`.
+pub record IsPointAt (text : List ℕ) (start : ℕ) (p q : Point) (end : ℕ) : Type 0 where
+  pub split : drop start text ≡ number_text (q.y -ℤ p.y) ++ (number_text (q.x -ℤ p.x) ++ drop end text)
+  pub further : start < end
+  pub within : end ≤ length text
+
+-- the fault of what stands from `start` on, with its offset in the text
+abbrev pub IsRefusedFrom : ℕ → (ℕ → PolyReason → Type 0) → PolyFault → Type 0
+IsRefusedFrom start is_fault Memory = ⊥
+IsRefusedFrom start is_fault (At offset reason) = (k : ℕ) × (offset ≡ start + k) × is_fault k reason

@@ -1,0 +1,108 @@
+//! Text to points.
+ghost use Rattle.std.specs.Prelude.{◌≡◌, ℕ, ◌+◌, ◌<◌, ◌≤◌, List, ◌++◌, length, drop, ◌⊎◌, IfOk, IfErr, OnOk, OnErr, MatchResult};
+ghost use Rattle.twkb_points.specs.Point.{Point, IsInRange};
+ghost use Rattle.twkb_polyline.specs.Polyline.{AppendsDecoded, DecodesTo};
+ghost use Rattle.twkb_polyline.specs.Fault.{IsNumberFault, IsPointFault, IsTextFault, IsRefused};
+ghost use Rattle.twkb_polyline.specs.Reading.{IsNumberAt, IsPointAt, IsRefusedFrom};
+
+use crate::fault::{PolyFault, PolyReason};
+use std::alloc::Global;
+use twkb_num::{Five, Partial, Step, unzigzag};
+use twkb_points::{Cursor, Pt};
+
+/// The points whose polyline the text is, at most `max` of them (Encoded Polyline Algorithm
+/// Format). Any other text is refused at its first fault. Takes memory for the points alone.
+pub fn decode(alloc: Global, text: &[u8], max: u32) -> Result<Vec<Pt>, PolyFault>
+    ensures decodes { IfOk result (λ points. DecodesTo text.now max points.items) }
+    ensures refuses { IfErr result (IsRefused text.now max) }
+
+    // so each polyline gives its points, and each other text its fault, unless memory is refused
+    ensures each_polyline { (ps : List Point) → DecodesTo text.now max ps →
+        MatchResult result (λ points. points.items ≡ ps) (λ fault. fault ≡ PolyFault.Memory) }
+    ensures each_fault { (offset : ℕ) (reason : PolyReason) → IsTextFault text.now max offset reason →
+        MatchResult result (λ _. ⊥)
+        (λ fault. (fault ≡ PolyFault.Memory) ⊎ (fault ≡ PolyFault.At offset reason)) }
+{
+    let mut points = Vec::new(alloc);
+    decode_into(text, max, &mut points)?;
+    Ok(points)
+}
+
+/// Appends the points whose polyline the text is, at most `max` of them. After a refusal the
+/// points are as they were.
+pub fn decode_into(text: &[u8], max: u32, points: &mut Vec<Pt>) -> Result<(), PolyFault>
+    ensures decodes { OnOk result (AppendsDecoded text.now max points.old.items points.new.items) }
+    ensures refuses { IfErr result (IsRefused text.now max) }
+    ensures same { OnErr result (points.new.items ≡ points.old.items) }
+{
+    let held = points.len();
+    let result = read_points(text, max, points);
+    if result.is_err() {
+        points.truncate(held);
+    }
+    result
+}
+
+/// Appends the points of the text, or those before its first fault.
+fn read_points(text: &[u8], max: u32, points: &mut Vec<Pt>) -> Result<(), PolyFault>
+    ensures decodes { OnOk result (AppendsDecoded text.now max points.old.items points.new.items) }
+    ensures refuses { IfErr result (IsRefused text.now max) }
+    ensures grown { (more : List Point) × (points.new.items ≡ points.old.items ++ more) }
+{
+    let held = points.len();
+    let mut cursor = Cursor::origin();
+    let mut at = 0;
+    while at < text.len() {
+        if points.len() - held == max as usize {
+            return Err(PolyReason::TooMany.at(at));
+        }
+        let (point, end) = point_at(text, at, &mut cursor)?;
+        points.push(point)?;
+        at = end;
+    }
+    Ok(())
+}
+
+/// The point whose latitude begins at `start`, and where the text goes on.
+fn point_at(text: &[u8], start: usize, cursor: &mut Cursor) -> Result<(Pt, usize), PolyFault>
+    requires { start < length text.now }
+    ensures read { IfOk result (λ r. IsPointAt text.now start cursor.old r.0 r.1) }
+    ensures in_range { IfOk result (λ r. IsInRange r.0) }
+    ensures moved { IfOk result (λ r. cursor.new ≡ r.0) }
+    ensures refused { IfErr result (IsRefusedFrom start (IsPointFault cursor.old (drop start text.now))) }
+{
+    let (dy, middle) = number_at(text, start)?;
+    if !cursor.y_in_range(dy) {
+        return Err(PolyReason::Range.at(start));
+    }
+    if middle == text.len() {
+        return Err(PolyReason::Half.at(middle));
+    }
+    let (dx, end) = number_at(text, middle)?;
+    match cursor.add(dx, dy) {
+        Some(point) => Ok((point, end)),
+        None => Err(PolyReason::Range.at(middle)),
+    }
+}
+
+/// The number that begins at `start`, and where the text goes on.
+fn number_at(text: &[u8], start: usize) -> Result<(i64, usize), PolyFault>
+    requires { start < length text.now }
+    ensures read { IfOk result (λ r. IsNumberAt text.now start r.0 r.1) }
+    ensures refused { IfErr result (IsRefusedFrom start (IsNumberFault (drop start text.now))) }
+{
+    let mut partial = Partial::<Five>::new();
+    for at in start..text.len() {
+        match partial.step(text[at]) {
+            Step::More => {}
+            Step::Done {
+                value,
+                shortest: true,
+            } => return Ok((unzigzag(value), at + 1)),
+            Step::Done { .. } => return Err(PolyReason::Padded.at(start)),
+            Step::BadUnit => return Err(PolyReason::BadChar.at(at)),
+            Step::TooLong => return Err(PolyReason::TooLong.at(start)),
+        }
+    }
+    Err(PolyReason::Cut.at(start))
+}

@@ -1,0 +1,14 @@
+//! Encoded polylines: lists of points as text, and back.
+#![tactic(auto)]
+
+mod decoding;
+mod encoding;
+mod fault;
+pub mod laws;
+
+pub use decoding::{decode, decode_into};
+pub use encoding::{encode, encode_into};
+pub use fault::{PolyFault, PolyReason};
+
+#[cfg(test)]
+mod tests;

@@ -1,0 +1,58 @@
+-- Canonical decimals, as std reads and prints them.
+use Rattle.std.proofs.Common.{◌≡◌, ℕ, ◌<◌, ◌≤◌, ◌^◌, List, Result, Ok, Err, sym, ◌∙◌, ap, subst, arith, ℤ, pos, negsuc, FitsSigned, w64}
+use Rattle.std.proofs.lemmas.Int.{ints}
+use Rattle.std.specs.Fmt.{signed_decimal}
+use Rattle.std.specs.Int.Signed.{mag}
+use Rattle.std.specs.Str.{IsUtf8}
+use Rattle.std.specs.Str.Parse.{ParsesSigned}
+use Rattle.std.proofs.lemmas.Fmt.{IsAscii-signed, parse-signed_decimal, signed_decimal_injective}
+use Rattle.std.proofs.lemmas.Str.{IsUtf8-from_ascii}
+use Rattle.twkb_geom.specs.Tree.{IsId, IsPrecision}
+use Rattle.twkb_table.specs.Fields.{IsDepthField, IsIdField, IsPrecisionField}
+
+-- an i64 without its sign, and less one where it is negative
+pub mag-id : (id : ℤ) → IsId id → mag id < 2 ^ 63
+mag-id (pos n) h = let most = h.1 in omega (arith, ints)
+mag-id (negsuc n) h = let least = h.0 in omega (arith, ints)
+
+fits_id : (id : ℤ) → IsId id → FitsSigned w64 id
+fits_id id h = let least = h.0 in let most = h.1 in omega (arith, ints)
+
+-- bytes that are no text spell no number
+pub no_text : (field : List ℕ) → (IsUtf8 field → ⊥) → (id : ℤ) → IsIdField field id → ⊥
+no_text field bad id h = bad (subst IsUtf8 (sym h.0) (IsUtf8-from_ascii (signed_decimal id) (IsAscii-signed id (mag-id id h.1))))
+
+-- std reads the number that a field spells
+pub parsed : {E : Type 0} (field : List ℕ) (r : Result ℤ E) (id : ℤ) → ParsesSigned w64 10 field r → IsIdField field id → r ≡ Ok id
+parsed field r id p h = parse-signed_decimal w64 id field r (fits_id id h.1) (mag-id id h.1) h.0 p
+
+-- what std does not read is spelled by no number
+pub no_number : {E : Type 0} (text field : List ℕ) (r : Result ℤ E) (e : E) → ParsesSigned w64 10 text r → r ≡ Err e → text ≡ field → (id : ℤ) → IsIdField field id → ⊥
+no_number text field r e p is whole id h = let same : r ≡ Ok id = parsed text r id p (whole ∙ h.0, h.1) in cc (is, same)
+
+-- what is not the text of the number that std reads is spelled by no number
+pub other_spelling : {E : Type 0} (text field : List ℕ) (r : Result ℤ E) (number : ℤ) → ParsesSigned w64 10 text r → r ≡ Ok number → text ≡ field → (signed_decimal number ≡ field → ⊥) → (id : ℤ) → IsIdField field id → ⊥
+other_spelling text field r number p is whole differs id h =
+    let same : r ≡ Ok id = parsed text r id p (whole ∙ h.0, h.1) in
+    let one : number ≡ id = cc (is, same) in
+    differs (ap (λ n. signed_decimal n) one ∙ sym h.0)
+
+-- two i64s of one spelling are one
+pub one_id : (a b : ℤ) → IsId a → IsId b → signed_decimal a ≡ signed_decimal b → a ≡ b
+one_id a b p q e = signed_decimal_injective a b (mag-id a p) (mag-id b q) e
+
+-- a precision is an i64
+pub precision-id : (precision : ℤ) → IsPrecision precision → IsId precision
+precision-id precision h = let least = h.0 in let most = h.1 in (omega (arith, ints), omega (arith, ints))
+
+-- a depth is an i64
+pub depth-id : (depth : ℕ) → depth ≤ 999 → IsId (pos depth)
+depth-id depth few = (omega (arith, ints), omega (arith, ints))
+
+-- the depth that a field spells is the number that it spells
+pub depth_number : (field : List ℕ) (number : ℤ) (depth : ℕ) → IsIdField field number → IsDepthField field depth → number ≡ pos depth
+depth_number field number depth n d = one_id number (pos depth) n.1 (depth-id depth d.1) (sym n.0 ∙ d.0)
+
+-- so is the precision
+pub precision_number : (field : List ℕ) (number precision : ℤ) → IsIdField field number → IsPrecisionField field precision → number ≡ precision
+precision_number field number precision n p = one_id number precision n.1 (precision-id precision p.1) (sym n.0 ∙ p.0)

@@ -1,0 +1,124 @@
+-- The lines of rows, put one after the other.
+use Rattle.std.proofs.Common.{◌≡◌, ℕ, zero, suc, ◌+◌, ◌<◌, ◌≤◌, List, [], ◌∷◌, ◌++◌, length, drop, get_or, Option, None, Some, refl, sym, ◌∙◌, ap, subst, append_assoc, append-nil, add-one, arith}
+use Rattle.std.specs.Prelude.{ℤ, map, Result, OnOk}
+use Rattle.std.proofs.lemmas.List.{drop_all, map-append}
+use Rattle.std.proofs.lemmas.Grind.{flat_map-append}
+use Rattle.twkb_polyline.proofs.EncodeLemmas.{drop_next}
+use Rattle.twkb_geom.specs.Tree.{Ids, Tree, simple, collection, trees, nest, nest_all}
+use Rattle.twkb_geom.specs.Rows.{Row, plain_row, polygon_rows, ring_rows, first_id, other_ids, rows_of_each, rows_with, own_row, member_rows}
+use Rattle.twkb_geom.specs.declared.kind.Kind.{Kind}
+use Rattle.twkb_points.specs.Point.{Point}
+use Rattle.twkb_geom.specs.Shape.{tree_of}
+use Rattle.twkb_geom.specs.declared.geometry.Shape.{Shape}
+use Rattle.twkb_table.specs.Record.{Record, record_of}
+use Rattle.twkb_table.specs.Text.{csvtext, joined}
+use Rattle.twkb_table.specs.Printing.{row_lines, ids_from, rows_under}
+
+-- the lines of two lists of rows
+pub row_lines-append : (rs ss : List Row) → row_lines (rs ++ ss) ≡ row_lines rs ++ row_lines ss
+unfolding row_lines
+row_lines-append rs ss = ap csvtext (map-append record_of rs ss) ∙ flat_map-append (λ (fields : Record). joined fields ++ 10 ∷ []) (map record_of rs) (map record_of ss)
+
+-- no rows have no lines
+pub no_lines : row_lines [] ≡ []
+unfolding row_lines
+no_lines = refl
+
+cons_append : (x : ℕ) (xs ys : List ℕ) → (x ∷ xs) ++ ys ≡ x ∷ (xs ++ ys)
+cons_append x xs ys = refl
+
+-- five fields, each put behind the other
+pub five_put : (old depth kind id precision line a b c d e f g : List ℕ) → a ≡ old ++ depth → b ≡ a ++ (44 ∷ kind) → c ≡ b ++ (44 ∷ id) → d ≡ c ++ (44 ∷ precision) → e ≡ d ++ (44 ∷ []) → f ≡ e ++ line → g ≡ f ++ (10 ∷ [])
+    → g ≡ old ++ csvtext ((depth ∷ kind ∷ id ∷ precision ∷ line ∷ []) ∷ [])
+five_put old depth kind id precision line a b c d e f g ea eb ec ed ee ef eg =
+    let whole : g ≡ ((((((old ++ depth) ++ (44 ∷ kind)) ++ (44 ∷ id)) ++ (44 ∷ precision)) ++ (44 ∷ [])) ++ line) ++ (10 ∷ []) = cc in
+    whole ∙ simp (append_assoc, append-nil, cons_append)
+
+-- one row before others
+pub row_before : (r : Row) (rs : List Row) (old : List ℕ) → (old ++ row_lines (r ∷ [])) ++ row_lines rs ≡ old ++ row_lines (r ∷ rs)
+row_before r rs old = append_assoc old (row_lines (r ∷ [])) (row_lines rs) ∙ ap (λ t. old ++ t) (sym (row_lines-append (r ∷ []) rs))
+
+-- a row, and the rows below it, put behind
+pub rows_put : (r : Row) (rs : List Row) (old a t : List ℕ) → a ≡ old ++ row_lines (r ∷ []) → t ≡ a ++ row_lines rs → t ≡ old ++ row_lines (r ∷ rs)
+rows_put r rs old a t ea et = et ∙ ap (λ u. u ++ row_lines rs) ea ∙ row_before r rs old
+
+-- the ids of the members after one
+pub other_from : (i : ℕ) (ids : Ids) → other_ids (ids_from i ids) ≡ ids_from (suc i) ids
+other_from i None = refl
+other_from zero (Some []) = refl
+other_from zero (Some (id ∷ ids)) = refl
+other_from (suc i) (Some []) = refl
+other_from (suc i) (Some (id ∷ ids)) = other_from i (Some ids)
+
+pub ids_from_start : (ids : Ids) → ids_from 0 ids ≡ ids
+ids_from_start None = refl
+ids_from_start (Some ids) = refl
+
+-- the lines of the members before the place i were put behind `old`
+pub record HasLines {A : Type 0} (f : Option ℤ → A → List Row) (ids : Ids) (xs : List A) (i index : ℕ) (old text : List ℕ) : Type 0 where
+  pub place : index ≡ i
+  pub lines : text ++ row_lines (rows_of_each f (ids_from i ids) (drop i xs)) ≡ old ++ row_lines (rows_of_each f ids xs)
+
+pub has_lines_none : {A : Type 0} (f : Option ℤ → A → List Row) (ids : Ids) (xs : List A) (old : List ℕ) → HasLines f ids xs 0 0 old old
+has_lines_none f ids xs old = record {
+  place = refl;
+  lines = ap (λ (js : Ids). old ++ row_lines (rows_of_each f js xs)) (ids_from_start ids);
+}
+
+pub has_lines_more : {A : Type 0} (f : Option ℤ → A → List Row) (ids : Ids) (xs : List A) (i index : ℕ) (x : A) (id : Option ℤ) (old text after : List ℕ) → HasLines f ids xs i index old text → i < length xs → x ≡ get_or xs i x
+    → id ≡ first_id (ids_from index ids) → after ≡ text ++ row_lines (f id x) → HasLines f ids xs (i + 1) (index + 1) old after
+has_lines_more f ids xs i index x id old text after has within read eid put =
+    let rest : List Row = rows_of_each f (ids_from (i + 1) ids) (drop (i + 1) xs) in
+    let others : ids_from (i + 1) ids ≡ other_ids (ids_from i ids) = ap (λ j. ids_from j ids) (add-one i) ∙ sym (other_from i ids) in
+    let first : id ≡ first_id (ids_from i ids) = eid ∙ ap (λ j. first_id (ids_from j ids)) has.place in
+    let whole : f id x ++ rest ≡ rows_of_each f (ids_from i ids) (drop i xs) =
+    ap (λ j. f j x ++ rest) first
+    ∙ ap (λ (js : Ids). f (first_id (ids_from i ids)) x ++ rows_of_each f js (drop (i + 1) xs)) others
+    ∙ ap (rows_of_each f (ids_from i ids)) (sym (drop_next xs i x within read)) in
+    record {
+      place = ap (λ j. j + 1) has.place;
+      lines =
+          ap (λ t. t ++ row_lines rest) put
+          ∙ append_assoc text (row_lines (f id x)) (row_lines rest)
+          ∙ ap (λ t. text ++ t) (sym (row_lines-append (f id x) rest))
+          ∙ ap (λ rs. text ++ row_lines rs) whole
+          ∙ has.lines;
+    }
+
+pub has_lines_all : {A : Type 0} (f : Option ℤ → A → List Row) (ids : Ids) (xs : List A) (i index : ℕ) (old text : List ℕ) → HasLines f ids xs i index old text → length xs ≤ i → text ≡ old ++ row_lines (rows_of_each f ids xs)
+has_lines_all f ids xs i index old text has done =
+    sym (append-nil text) ∙ ap (λ t. text ++ t) (sym no_lines) ∙ ap (λ ys. text ++ row_lines (rows_of_each f (ids_from i ids) ys)) (sym (drop_all i xs done)) ∙ has.lines
+
+-- the rows of members, each by its own
+pub member_rows_each : (d : ℕ) (ids : Ids) (gs : List Tree) → rows_of_each (λ id g. rows_with id d g) ids gs ≡ member_rows d ids (trees gs)
+member_rows_each d ids [] = refl
+member_rows_each d ids (g ∷ gs) = ap (λ rs. rows_with (first_id ids) d g ++ rs) (member_rows_each d (other_ids ids) gs)
+
+-- a geometry's own row is before the others
+pub own_row_first : (id : Option ℤ) (d : ℕ) (g : Tree) → rows_with id d g ≡ own_row id d g ∷ rows_under (suc d) g
+own_row_first id d (simple p s) = refl
+own_row_first id d (collection p ids gs) = refl
+
+-- the rows of a geometry told, whether all were put
+pub rows_told : {T E : Type 0} (result : Result T E) (id : Option ℤ) (d : ℕ) (g : Tree) (r : Row) (rs : List Row) (old a t : List ℕ) → r ≡ own_row id d g → rs ≡ rows_under (d + 1) g → a ≡ old ++ row_lines (r ∷ []) → OnOk result (t ≡ a ++ row_lines rs)
+    → OnOk result (t ≡ old ++ row_lines (rows_with id d g))
+rows_told result id d g r rs old a t er ers ea told =
+    let whole : r ∷ rs ≡ rows_with id d g = ap (λ q. q ∷ rs) er ∙ ap (λ qs. own_row id d g ∷ qs) (ers ∙ ap (λ k. rows_under k g) (add-one d)) ∙ sym (own_row_first id d g) in
+    subst (λ u. OnOk result (t ≡ u)) (ap (λ u. u ++ row_lines rs) ea ∙ row_before r rs old ∙ ap (λ qs. old ++ row_lines qs) whole) told
+
+-- a polygon's row, and those of its rings, put behind
+pub area_put : (d : ℕ) (id : Option ℤ) (rings given : List (List Point)) (old a t : List ℕ) → a ≡ old ++ row_lines (plain_row d Kind.Polygon id [] ∷ []) → given ≡ rings → t ≡ a ++ row_lines (ring_rows (d + 1) given) → t ≡ old ++ row_lines (polygon_rows d id rings)
+area_put d id rings given old a t ea eg et =
+    rows_put (plain_row d Kind.Polygon id []) (ring_rows (d + 1) given) old a t ea et
+    ∙ ap (λ (rs : List (List Point)). old ++ row_lines (plain_row d Kind.Polygon id [] ∷ ring_rows (d + 1) rs)) eg
+    ∙ ap (λ (k : ℕ). old ++ row_lines (plain_row d Kind.Polygon id [] ∷ ring_rows k rings)) (add-one d)
+
+-- a member stands in one collection more
+pub nest_member : (gs : List Tree) (i : ℕ) (g : Tree) → i < length gs → g ≡ get_or gs i g → nest g < nest_all (trees gs)
+nest_member [] i g within read = absurd (omega arith)
+nest_member (u ∷ us) zero g within read = rw read (omega arith)
+nest_member (u ∷ us) (suc i) g within read = omega (arith, nest_member us i g (omega arith) read)
+
+-- the rows below a geometry's own, by its shape
+pub under_shape : (d : ℕ) (p : ℤ) (shape told : Shape) (g : Tree) → tree_of p shape ≡ g → shape ≡ told → rows_under d (tree_of p told) ≡ rows_under d g
+under_shape d p shape told g whole is = ap (λ (s : Shape). rows_under d (tree_of p s)) (sym is) ∙ ap (rows_under d) whole

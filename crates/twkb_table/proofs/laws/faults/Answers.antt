@@ -1,0 +1,6 @@
+use Rattle.twkb_table.proofs.Deciding.{named_or_fault}
+use Rattle.twkb_table.proofs.FaultLaws.{fault_none, one_fault}
+use Rattle.twkb_table.proofs.laws.faults.Goals as goal
+
+pub returns : goal.returns
+returns c = record { decided = named_or_fault; none = fault_none; one = one_fault }

@@ -1,0 +1,8 @@
+use Rattle.twkb_table.proofs.Growing.{grows, refused_none}
+use Rattle.twkb_table.proofs.laws.judged.Goals as goal
+
+pub returns : goal.returns
+returns c = record {
+  grows = λ l records here gs r n j. (let g = grows l records here gs r n j in (g.geometries, g.named, g.rows));
+  refused = refused_none;
+}

@@ -1,0 +1,99 @@
+-- What a record after the first is, after the rows so far: a row, or refused for the first reason that holds (profile).
+use Rattle.std.specs.Prelude.{◌≡◌, ◌≢◌, ℕ, ◌-◌, ◌≤◌, ◌⊎◌, ◌&&◌, ℤ, List, [], ◌∷◌, length, Option, Bool, true, false, is_some}
+use Rattle.twkb_points.specs.Point.{Point}
+use Rattle.twkb_polyline.specs.Polyline.{DecodesTo}
+use Rattle.twkb_polyline.specs.Fault.{IsTextFault}
+use Rattle.twkb_polyline.specs.declared.fault.PolyReason.{PolyReason}
+use Rattle.twkb_geom.specs.declared.kind.Kind.{Kind}
+use Rattle.twkb_geom.specs.Rows.{Row}
+use Rattle.twkb_geom.specs.Limits.{Allowance}
+use Rattle.twkb_geom.specs.Admits.{parent, first_child, steps_to, has_place, id_allowed, has_same_ids, is_whole, points_fit, has_points}
+use Rattle.twkb_geom.specs.Accepted.{nest_kept, geometry_rows, point_count}
+use Rattle.twkb_table.specs.Fields.{IsDepthField, IsOptionalId, IsOptionalPrecision}
+use Rattle.twkb_geom.specs.Kind.{word_of}
+use Rattle.twkb_table.specs.Record.{Record}
+use Rattle.twkb_table.specs.declared.reason.RowReason.{RowReason}
+use Rattle.twkb_table.specs.declared.reason.RowReason.TheVariants.{FieldCount, BadDepth, BadKind, BadPlace, TooDeep, TooManyNodes, BadId, IdNotAllowed, MixedIds, BadPrecision, PrecisionMissing, PrecisionNotAllowed, PolylineNotAllowed, Polyline, PointCount}
+
+-- a record is a row, or is refused for a reason
+pub data Verdict : Type 0 where
+  Accepted : Row → Verdict
+  Refused : RowReason → Verdict
+
+-- the verdict is this reason where P holds, and else what the others say
+abbrev pub When : Verdict → Type 0 → RowReason → Type 0 → Type 0
+When v P reason Others = (P × (v ≡ Refused reason)) ⊎ ((P → ⊥) × Others)
+
+-- the verdict is this reason where no value has P, and else what the others say of a value that has P
+abbrev pub Unless : {A : Type 0} → Verdict → (A → Type 0) → RowReason → (A → Type 0) → Type 0
+Unless {A} v P reason Others = (((a : A) → P a → ⊥) × (v ≡ Refused reason)) ⊎ ((a : A) × P a × Others a)
+
+-- the verdict is the text's fault with its place, and else what the others say of the points that it decodes to
+abbrev pub UnlessFaulty : List ℕ → ℕ → Verdict → (List Point → Type 0) → Type 0
+UnlessFaulty text most v Others =
+    ((offset : ℕ) × (why : PolyReason) × IsTextFault text most offset why × (v ≡ Refused (Polyline offset why)))
+    ⊎ ((ps : List Point) × DecodesTo text most ps × Others ps)
+
+-- Where a row stands: its depth, whether a row may stand so deep here, its parent, the first child of that parent, and how many rows and points its geometry has so far.
+pub record Place : Type 0 where
+  pub depth : ℕ
+  pub steps : Bool
+  pub parent : Option Row
+  pub first : Option Row
+  pub nodes : ℕ
+  pub points : ℕ
+
+-- the place of a row at this depth after the rows so far, the last of which stands first
+abbrev pub place_of : ℕ → List Row → Place
+place_of d before = record {
+  depth = d;
+  steps = steps_to d before;
+  parent = parent d before;
+  first = first_child d before;
+  nodes = length (geometry_rows d before);
+  points = point_count (geometry_rows d before);
+}
+
+-- how many points the limit leaves to the geometry
+abbrev pub points_left : Allowance → Place → ℕ
+points_left l here = l.points - here.points
+
+-- the reasons PolylineNotAllowed, Polyline and PointCount, in this order
+abbrev pub JudgedByPoints : Allowance → Place → Kind → Option ℤ → Option ℤ → List ℕ → Verdict → Type 0
+JudgedByPoints l here k id precision text v =
+    When v ((text ≢ []) × (has_points k ≡ false)) PolylineNotAllowed
+    (UnlessFaulty text (points_left l here) v (λ ps.
+    When v (points_fit k (is_whole here.parent) ps ≡ false) PointCount
+    (v ≡ Accepted (record { depth = here.depth; kind = k; id = id; precision = precision; points = ps }))))
+
+-- the reasons BadPrecision, PrecisionMissing and PrecisionNotAllowed, and then those of the points
+abbrev pub JudgedByPrecision : Allowance → Place → Kind → Option ℤ → List ℕ → List ℕ → Verdict → Type 0
+JudgedByPrecision l here k id precision_field text v =
+    Unless v (IsOptionalPrecision precision_field) BadPrecision (λ precision.
+    When v ((is_whole here.parent ≡ true) × (is_some precision ≡ false)) PrecisionMissing
+    (When v ((is_whole here.parent ≡ false) × (is_some precision ≡ true)) PrecisionNotAllowed
+    (JudgedByPoints l here k id precision text v)))
+
+-- the reasons BadId, IdNotAllowed and MixedIds, and then those of the precision
+abbrev pub JudgedById : Allowance → Place → Kind → List ℕ → List ℕ → List ℕ → Verdict → Type 0
+JudgedById l here k id_field precision_field text v =
+    Unless v (IsOptionalId id_field) BadId (λ id.
+    When v (id_allowed here.parent k id ≡ false) IdNotAllowed
+    (When v (has_same_ids here.first id ≡ false) MixedIds
+    (JudgedByPrecision l here k id precision_field text v)))
+
+-- the reasons BadPlace, TooDeep and TooManyNodes, and then those of the id
+abbrev pub JudgedByPlace : Allowance → Place → Kind → List ℕ → List ℕ → List ℕ → Verdict → Type 0
+JudgedByPlace l here k id_field precision_field text v =
+    When v ((here.steps && has_place here.parent k) ≡ false) BadPlace
+    (When v (nest_kept l here.parent here.depth ≡ false) TooDeep
+    (When v (l.nodes ≤ here.nodes) TooManyNodes
+    (JudgedById l here k id_field precision_field text v)))
+
+-- what a record is after these rows, the last of which stands first: FieldCount, BadDepth and BadKind, and then the reasons of its place
+abbrev pub Judged : Allowance → List Row → Record → Verdict → Type 0
+Judged l before (depth_field ∷ kind_field ∷ id_field ∷ precision_field ∷ text ∷ []) v =
+    Unless v (IsDepthField depth_field) BadDepth (λ d.
+    Unless v (λ k. kind_field ≡ word_of k) BadKind (λ k.
+    JudgedByPlace l (place_of d before) k id_field precision_field text v))
+Judged l before _ v = v ≡ Refused FieldCount

@@ -1,0 +1,11 @@
+pub mod Fields
+pub mod FiveFields
+pub mod Judged
+pub mod Named
+pub mod Printing
+pub mod Reading
+pub mod Record
+pub mod RowFault
+pub mod Samples
+pub mod Standing
+pub mod Text

@@ -1,0 +1,15 @@
+-- What geometries records name.
+use Rattle.std.specs.Prelude.{◌≡◌, List}
+use Rattle.twkb_geom.specs.Tree.{Tree}
+use Rattle.twkb_geom.specs.Limits.{Allowance}
+use Rattle.twkb_geom.specs.RowLists.{AreValid}
+use Rattle.twkb_table.specs.Record.{Record, table}
+
+-- The records are the table of these geometries, each of them valid.
+pub record Named (l : Allowance) (records : List Record) (gs : List Tree) : Type 0 where
+  pub table_of : records ≡ table gs
+  pub valid : AreValid l gs
+
+-- the records name no list of geometries
+abbrev pub NamesNone : Allowance → List Record → Type 0
+NamesNone l records = (gs : List Tree) → Named l records gs → ⊥

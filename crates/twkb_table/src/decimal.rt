@@ -1,0 +1,87 @@
+//! Canonical decimals: digits without a leading zero, after a minus sign where the number is negative.
+ghost use Rattle.std.specs.Prelude.{◌≡◌, ◌++◌, OnOk};
+ghost use Rattle.std.specs.Fmt.{signed_decimal};
+ghost use Rattle.twkb_table.specs.Fields.{Reads, IsDepthField, IsIdField, IsPrecisionField, IsOptionalId, IsOptionalPrecision};
+
+use itoa::Buffer;
+use std::alloc::AllocError;
+
+const GREATEST_DEPTH: i64 = 999;
+
+const LEAST_PRECISION: i64 = -8;
+
+const GREATEST_PRECISION: i64 = 7;
+
+/// The depth from 0 to 999 whose canonical decimal the field is (profile). Takes no memory.
+pub fn parse_depth(field: &[u8]) -> Option<u32>
+    ensures reads { Reads (IsDepthField field.now) result }
+{
+    match parse_id(field) {
+        Some(depth) if 0 <= depth && depth <= GREATEST_DEPTH => Some(depth as u32),
+        _ => None,
+    }
+}
+
+/// The id, any i64, whose canonical decimal the field is (profile). Takes no memory.
+pub fn parse_id(field: &[u8]) -> Option<i64>
+    ensures reads { Reads (IsIdField field.now) result }
+{
+    let Ok(text) = str::from_utf8(field) else {
+        return None;
+    };
+    let Ok(number) = text.parse::<i64>() else {
+        return None;
+    };
+    let mut buffer = Buffer::new();
+    if buffer.format(number).as_bytes() == field {
+        Some(number)
+    } else {
+        None
+    }
+}
+
+/// The precision from -8 to 7 whose canonical decimal the field is (profile). Takes no memory.
+pub fn parse_precision(field: &[u8]) -> Option<i8>
+    ensures reads { Reads (IsPrecisionField field.now) result }
+{
+    match parse_id(field) {
+        Some(precision) if LEAST_PRECISION <= precision && precision <= GREATEST_PRECISION => {
+            Some(precision as i8)
+        }
+        _ => None,
+    }
+}
+
+/// The id that the field spells, and no id where the field is empty (profile). Takes no memory.
+pub fn parse_optional_id(field: &[u8]) -> Option<Option<i64>>
+    ensures reads { Reads (IsOptionalId field.now) result }
+{
+    if field.is_empty() {
+        return Some(None);
+    }
+    match parse_id(field) {
+        Some(id) => Some(Some(id)),
+        None => None,
+    }
+}
+
+/// The precision that the field spells, and none where the field is empty (profile). Takes no memory.
+pub fn parse_optional_precision(field: &[u8]) -> Option<Option<i8>>
+    ensures reads { Reads (IsOptionalPrecision field.now) result }
+{
+    if field.is_empty() {
+        return Some(None);
+    }
+    match parse_precision(field) {
+        Some(precision) => Some(Some(precision)),
+        None => None,
+    }
+}
+
+/// Appends the canonical decimal of a number (profile).
+pub fn push_decimal(text: &mut Vec<u8>, number: i64) -> Result<(), AllocError>
+    ensures appended { OnOk result (text.new.items ≡ text.old.items ++ signed_decimal number) }
+{
+    let mut buffer = Buffer::new();
+    text.extend_from_slice(buffer.format(number).as_bytes())
+}

@@ -1,0 +1,38 @@
+//! The five fields of a record that was read.
+ghost use Rattle.std.specs.Prelude.{◌≡◌, ◌<◌, length, Some};
+ghost use Rattle.csv.specs.Records.{fields_of, field_at};
+ghost use Rattle.twkb_table.specs.FiveFields.{record_seen};
+
+use csv::ByteRecord;
+
+/// The fields of a row's record, as they stand.
+#[derive(Clone, Copy)]
+pub(crate) struct Fields<'a> {
+    pub depth: &'a [u8],
+    pub kind: &'a [u8],
+    pub id: &'a [u8],
+    pub precision: &'a [u8],
+    pub polyline: &'a [u8],
+}
+
+/// The field at this place, counted from 0, of a record that has it.
+fn field(row: &ByteRecord, place: usize) -> &[u8]
+    requires { place < length (fields_of row.now) }
+    ensures value { field_at (fields_of row.now) place ≡ Some result.now }
+{
+    row.get(place).unwrap()
+}
+
+/// The fields of a record of five.
+pub(crate) fn five_fields(row: &ByteRecord) -> Fields<'_>
+    requires { length (fields_of row.now) ≡ 5 }
+    ensures value { record_seen result ≡ fields_of row.now }
+{
+    Fields {
+        depth: field(row, 0),
+        kind: field(row, 1),
+        id: field(row, 2),
+        precision: field(row, 3),
+        polyline: field(row, 4),
+    }
+}

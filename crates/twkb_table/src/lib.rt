@@ -1,0 +1,30 @@
+//! Tables of geometries: their fields, definitions and laws.
+#![tactic(auto)]
+
+mod decimal;
+mod fields;
+mod header;
+mod judging;
+mod kind_word;
+pub mod laws;
+mod open_rows;
+mod places;
+mod printing;
+mod reason;
+mod row_line;
+mod standing;
+
+pub use decimal::{
+    parse_depth, parse_id, parse_optional_id, parse_optional_precision, parse_precision,
+    push_decimal,
+};
+pub use header::header_text;
+pub use judging::{JudgeFault, ReadRow, judge};
+pub use kind_word::parse_kind;
+pub use open_rows::open_row;
+pub use printing::{put_rows, rows_text};
+pub use reason::RowReason;
+pub use standing::Standing;
+
+#[cfg(test)]
+mod tests;

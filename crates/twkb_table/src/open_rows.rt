@@ -1,0 +1,32 @@
+//! The open rows of a table that is being read.
+ghost use Rattle.std.specs.Prelude.{◌≡◌, ◌≤◌, length, OnOk, OnErr};
+ghost use Rattle.twkb_geom.specs.Open.{opened};
+ghost use Rattle.twkb_table.specs.Standing.{row_seen};
+
+use crate::judging::ReadRow;
+use smallvec::SmallVec;
+use std::alloc::AllocError;
+use twkb_geom::OpenRow;
+
+/// Opens a row that was read: the open rows below its depth go, its parent has had a child, and
+/// the row stands last. Takes memory where more than eight rows are open; an `Err` changes nothing.
+pub fn open_row(rows: &mut SmallVec<OpenRow, 8>, row: &ReadRow) -> Result<(), AllocError>
+    requires { row.now.depth ≤ length rows.old.items }
+    ensures opened { OnOk result (rows.new.items ≡ opened row.now.depth rows.old.items (row_seen row.now)) }
+    ensures same { OnErr result (rows.new.items ≡ rows.old.items) }
+{
+    rows.reserve(1)?;
+    rows.truncate(row.depth as usize);
+    let has_id = row.id.is_some();
+    if let Some(parent) = rows.pop() {
+        rows.push_reserved(OpenRow {
+            kind: parent.kind,
+            child_ids: Some(parent.child_ids.unwrap_or(has_id)),
+        });
+    }
+    rows.push_reserved(OpenRow {
+        kind: row.kind,
+        child_ids: None,
+    });
+    Ok(())
+}

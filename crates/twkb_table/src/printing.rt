@@ -1,0 +1,212 @@
+//! The rows of a geometry as text.
+ghost use Rattle.std.specs.Prelude.{◌≡◌, ◌≤◌, ◌<◌, ◌+◌, ◌^◌, ℕ, ℤ, Option, ◌∷◌, [], ◌++◌, map, OnOk, IfOk};
+ghost use Rattle.twkb_geom.specs.Limits.{largest_limits};
+ghost use Rattle.twkb_geom.specs.Tree.{nest, nest_all, trees};
+ghost use Rattle.twkb_geom.specs.Rows.{first_id, own_row, rows, rows_with, member_rows, rows_of_each, plain_row, ring_rows, polygon_rows};
+ghost use Rattle.twkb_geom.specs.declared.kind.Kind.{Kind};
+ghost use Rattle.twkb_geom.specs.Shape.{tree_of};
+ghost use Rattle.twkb_table.specs.Record.{record_of};
+ghost use Rattle.twkb_table.specs.Text.{csvtext};
+ghost use Rattle.twkb_table.specs.Printing.{row_lines, line_row, line_of, ids_from};
+
+use crate::row_line::{RowLine, put_row};
+use std::alloc::{AllocError, Global};
+use std::slice::from_ref;
+use twkb_geom::{Geometry, Ids, Kind, Lines, Members, Pts, Shape};
+use twkb_points::Pt;
+
+/// The lines of the geometry's rows, each ended by LF and none of them the header (profile). Takes
+/// memory for the text alone.
+pub fn rows_text(alloc: Global, geometry: &Geometry) -> Result<Vec<u8>, AllocError>
+    requires nest { nest geometry.now ≤ largest_limits.nest }
+    ensures { IfOk result (λ text. text.items ≡ csvtext (map record_of (rows 0 geometry.now))) }
+{
+    let mut text = Vec::new(alloc);
+    put_rows(geometry, &mut text)?;
+    Ok(text)
+}
+
+/// Appends the lines of the geometry's rows, each ended by LF (profile). Takes memory for the text alone; where that
+/// is refused, a front of the lines may stand behind what was there.
+#[tactic(auto, unfolding(crate::specs::Printing::row_lines))]
+pub fn put_rows(geometry: &Geometry, text: &mut Vec<u8>) -> Result<(), AllocError>
+    requires nest { nest geometry.now ≤ largest_limits.nest }
+    ensures appended { OnOk result (text.new.items ≡ text.old.items ++ csvtext (map record_of (rows 0 geometry.now))) }
+{
+    put_geometry(geometry, 0, None, text)
+}
+
+/// Appends the lines of a geometry's rows, which has this id and stands at this depth.
+#[cycle(lines)]
+fn put_geometry(
+    geometry: &Geometry,
+    depth: u32,
+    id: Option<i64>,
+    text: &mut Vec<u8>,
+) -> Result<(), AllocError>
+    requires nest { depth + nest geometry.now < 2 ^ 31 }
+    ensures { OnOk result (text.new.items ≡ text.old.items ++ row_lines (rows_with id depth geometry.now)) }
+{
+    put_row(&own_line(geometry, depth, id), text)?;
+    let below = depth + 1;
+    match geometry.shape() {
+        Shape::Point(_) | Shape::Line(_) => Ok(()),
+        Shape::Polygon(rings) => put_rings(below, rings.as_slice(), text),
+        Shape::MultiPoint(points, ids) => put_points(below, points.as_slice(), ids, text),
+        Shape::MultiLine(lines, ids) => put_lines(below, lines.as_slice(), ids, text),
+        Shape::MultiPolygon(areas, ids) => put_areas(below, areas.as_slice(), ids, text),
+        Shape::Collection(members, ids) => put_members(below, members, ids, text),
+    }
+}
+
+/// The row of the geometry itself.
+fn own_line(geometry: &Geometry, depth: u32, id: Option<i64>) -> RowLine<'_>
+    ensures { line_row result ≡ own_row id depth geometry.now }
+{
+    let (kind, points) = own_parts(geometry.shape());
+    let precision = Some(geometry.precision());
+    RowLine {
+        depth,
+        kind,
+        id,
+        precision,
+        points,
+    }
+}
+
+/// The kind of a shape, and the points of its own row.
+fn own_parts(shape: &Shape) -> (Kind, &[Pt])
+    ensures { (p : ℤ) (id : Option ℤ) (depth : ℕ) → own_row id depth (tree_of p shape.now) ≡ line_of depth result.0 id p result.1.now }
+{
+    match shape {
+        Shape::Point(None) => (Kind::Point, &[]),
+        Shape::Point(Some(point)) => (Kind::Point, from_ref(point)),
+        Shape::Line(points) => (Kind::Linestring, points.as_slice()),
+        Shape::Polygon(_) => (Kind::Polygon, &[]),
+        Shape::MultiPoint(_, _) => (Kind::MultiPoint, &[]),
+        Shape::MultiLine(_, _) => (Kind::MultiLinestring, &[]),
+        Shape::MultiPolygon(_, _) => (Kind::MultiPolygon, &[]),
+        Shape::Collection(_, _) => (Kind::Collection, &[]),
+    }
+}
+
+/// Appends the lines of the members of a collection.
+#[cycle(lines)]
+#[tactic(auto, using(twkb_geom::specs::Size::member_smaller))]
+fn put_members(
+    depth: u32,
+    members: &Members,
+    ids: &Ids,
+    text: &mut Vec<u8>,
+) -> Result<(), AllocError>
+    requires nest { depth + nest_all (trees members.now) ≤ 2 ^ 31 }
+    ensures { OnOk result (text.new.items ≡ text.old.items ++ row_lines (member_rows depth ids.now (trees members.now))) }
+{
+    let mut index = 0;
+    for member in members.as_slice() {
+        let id = id_at(ids, index);
+        put_geometry(member, depth, id, text)?;
+        index += 1;
+    }
+    Ok(())
+}
+
+/// The id of the member at a place, if the members have ids.
+fn id_at(ids: &Ids, index: usize) -> Option<i64>
+    ensures { result ≡ first_id (ids_from index ids.now) }
+{
+    match ids {
+        None => None,
+        Some(ids) => ids.as_slice().get(index).copied(),
+    }
+}
+
+/// Appends the lines of the polygons of a multipolygon.
+fn put_areas(depth: u32, areas: &[Lines], ids: &Ids, text: &mut Vec<u8>) -> Result<(), AllocError>
+    requires { depth + 1 < 2 ^ 32 }
+    ensures { OnOk result (text.new.items ≡ text.old.items ++ row_lines (rows_of_each (polygon_rows depth) ids.now areas.now)) }
+{
+    let mut index = 0;
+    for rings in areas {
+        let id = id_at(ids, index);
+        put_row(
+            &RowLine {
+                depth,
+                kind: Kind::Polygon,
+                id,
+                precision: None,
+                points: &[],
+            },
+            text,
+        )?;
+        put_rings(depth + 1, rings.as_slice(), text)?;
+        index += 1;
+    }
+    Ok(())
+}
+
+/// Appends the lines of the linestrings of a multilinestring.
+fn put_lines(depth: u32, lines: &[Pts], ids: &Ids, text: &mut Vec<u8>) -> Result<(), AllocError>
+    ensures { OnOk result (text.new.items ≡ text.old.items ++ row_lines (rows_of_each (λ id ps. plain_row depth Kind.Linestring id ps ∷ []) ids.now lines.now)) }
+{
+    let mut index = 0;
+    for line in lines {
+        let id = id_at(ids, index);
+        let points = line.as_slice();
+        put_row(
+            &RowLine {
+                depth,
+                kind: Kind::Linestring,
+                id,
+                precision: None,
+                points,
+            },
+            text,
+        )?;
+        index += 1;
+    }
+    Ok(())
+}
+
+/// Appends the lines of the points of a multipoint.
+fn put_points(depth: u32, points: &[Pt], ids: &Ids, text: &mut Vec<u8>) -> Result<(), AllocError>
+    ensures { OnOk result (text.new.items ≡ text.old.items ++ row_lines (rows_of_each (λ id p. plain_row depth Kind.Point id (p ∷ []) ∷ []) ids.now points.now)) }
+{
+    let mut index = 0;
+    for point in points {
+        let id = id_at(ids, index);
+        let points = from_ref(point);
+        put_row(
+            &RowLine {
+                depth,
+                kind: Kind::Point,
+                id,
+                precision: None,
+                points,
+            },
+            text,
+        )?;
+        index += 1;
+    }
+    Ok(())
+}
+
+/// Appends the lines of the rings of a polygon.
+fn put_rings(depth: u32, rings: &[Pts], text: &mut Vec<u8>) -> Result<(), AllocError>
+    ensures { OnOk result (text.new.items ≡ text.old.items ++ row_lines (ring_rows depth rings.now)) }
+{
+    for ring in rings {
+        let points = ring.as_slice();
+        put_row(
+            &RowLine {
+                depth,
+                kind: Kind::Ring,
+                id: None,
+                precision: None,
+                points,
+            },
+            text,
+        )?;
+    }
+    Ok(())
+}
