@@ -11,6 +11,7 @@ use Rattle.polytwkb.specs.Words.{IsRefusal, IsRefusalAmong}
 
 among : (kinds : Kinds) (kind : ErrorKind) (r : Refusal) → IsAmong kind kinds → IsRefusal kind r → IsRefusalAmong kinds r
 among kinds kind refusal.Memory listed is = tt
+among kinds kind refusal.Nest listed is = absurd is
 among kinds kind (refusal.Help text) listed is = subst (λ k. IsAmong k kinds) is listed
 among kinds kind (refusal.Usage text) listed is = (kind, listed, is)
 

@@ -1,5 +1,5 @@
 -- What the words ask for.
-use Rattle.std.specs.Prelude.{◌≡◌, ◌≢◌, ◌≤◌, ⊤, List, Option, Some, None, codes}
+use Rattle.std.specs.Prelude.{◌≡◌, ◌≢◌, ◌≤◌, ⊤, List, [], Option, Some, None, codes}
 use Rattle.std.specs.Str.Parse.{IsNumeral, digits_value, without_leading_plus}
 use Rattle.clap.specs.Words.{IsAmong, Kinds, Row, Text, one_of, subcommand_of}
 use Rattle.clap.specs.declared.error.kind.ErrorKind.{ErrorKind}
@@ -17,20 +17,29 @@ abbrev pub name_of : Conversion → Text
 name_of conversion.Pack = codes "pack"
 name_of conversion.Unpack = codes "unpack"
 
--- the text is a number from 0 to 32, and the limits are the standard ones with that nesting
-abbrev pub HaveNest : Text → Allowance → Type 0
-HaveNest digits l = IsNumeral 10 (without_leading_plus digits) → digits_value 10 (without_leading_plus digits) ≤ 32
-    → l ≡ record standard_limits { nest = digits_value 10 (without_leading_plus digits) }
+-- the text is a number from 0 to 32
+abbrev pub IsNest : Text → Type 0
+IsNest digits = IsNumeral 10 (without_leading_plus digits) × (digits_value 10 (without_leading_plus digits) ≤ 32)
 
--- the limits with the nesting that the option gives, the standard ones where it gives none
+-- the limits with the nesting that the option gives, a number from 0 to 32, the standard ones where it gives none
 abbrev pub AreLimits : Option Text → Allowance → Type 0
 AreLimits None l = l ≡ standard_limits
-AreLimits (Some digits) l = HaveNest digits l
+AreLimits (Some digits) l = IsNest digits × (l ≡ record standard_limits { nest = digits_value 10 (without_leading_plus digits) })
+
+-- the option gives a text that is no number from 0 to 32
+abbrev pub GivesNoNest : Option Text → Type 0
+GivesNoNest None = ⊥
+GivesNoNest (Some digits) = IsNest digits → ⊥
 
 -- the rows of a subcommand name this conversion, with these limits
 abbrev pub IsAskedBy : Option (Text × List Row) → Request → Type 0
 IsAskedBy None request = ⊥
 IsAskedBy (Some (name, rows)) request = (name ≡ name_of request.conversion) × AreLimits (one_of (codes "max-nest") rows) request.limits
+
+-- the option of a subcommand gives a text that is no number from 0 to 32
+abbrev pub HasNoNest : Option (Text × List Row) → Type 0
+HasNoNest None = ⊥
+HasNoNest (Some (name, rows)) = GivesNoNest (one_of (codes "max-nest") rows)
 
 -- a conversion has this name
 abbrev pub IsConversionName : Text → Type 0
@@ -45,14 +54,27 @@ NamesConversion (Some (name, rows)) = IsConversionName name
 abbrev pub AsksFor : List Text → Request → Type 0
 AsksFor words request = IsAskedBy (subcommand_of command_line words) request
 
+-- `clap` takes the words, and yet the number of the option is none from 0 to 32
+abbrev pub NamesNoNest : List Text → Type 0
+NamesNoNest words = HasNoNest (subcommand_of command_line words)
+
+-- why words that `clap` takes are refused: no memory was found, or the option's number is none from 0 to 32
+abbrev pub IsLateRefusal : List Text → Refusal → Type 0
+IsLateRefusal words refusal.Memory = ⊤
+IsLateRefusal words refusal.Nest = NamesNoNest words
+IsLateRefusal words (refusal.Help text) = ⊥
+IsLateRefusal words (refusal.Usage text) = ⊥
+
 -- the refusal that an error of this kind is, unless no memory was found
 abbrev pub IsRefusal : ErrorKind → Refusal → Type 0
 IsRefusal kind refusal.Memory = ⊤
+IsRefusal kind refusal.Nest = ⊥
 IsRefusal kind (refusal.Help text) = kind ≡ DisplayHelp
 IsRefusal kind (refusal.Usage text) = kind ≢ DisplayHelp
 
 -- the refusal of words that may have these kinds of error: help where it was asked for, unless no memory was found
 abbrev pub IsRefusalAmong : Kinds → Refusal → Type 0
 IsRefusalAmong kinds refusal.Memory = ⊤
+IsRefusalAmong kinds refusal.Nest = kinds ≡ []
 IsRefusalAmong kinds (refusal.Help text) = IsAmong DisplayHelp kinds
 IsRefusalAmong kinds (refusal.Usage text) = (kind : ErrorKind) × IsAmong kind kinds × (kind ≢ DisplayHelp)

@@ -6,7 +6,7 @@ ghost use Rattle.polytwkb.specs.CommandLine.{command_line};
 ghost use Rattle.polytwkb.specs.Runs.{Answers, CarriesOut, Converts, LacksMemory};
 ghost use Rattle.polytwkb.specs.Lines.{line_of};
 ghost use Rattle.polytwkb.specs.Printing.{IsPrinted};
-ghost use Rattle.polytwkb.specs.Words.{AsksFor};
+ghost use Rattle.polytwkb.specs.Words.{AsksFor, NamesNoNest};
 ghost use Rattle.polytwkb.specs.declared.words.Request.{Request as Asked};
 
 use crate::lines::print_line;
@@ -93,7 +93,8 @@ pub fn run<R: Read, W: Write, E: Write>(
 ) -> u8
     ensures accepted { takes command_line (map string_bytes words.now) ≡ true
         → ((request : Asked) × AsksFor (map string_bytes words.now) request × CarriesOut R.remaining W.contents E.contents request reader.old writer.old errors.old reader.new writer.new errors.new result)
-        ⊎ LacksMemory E.contents reader.old writer.old errors.old reader.new writer.new errors.new result }
+        ⊎ LacksMemory E.contents reader.old writer.old errors.old reader.new writer.new errors.new result
+        ⊎ (NamesNoNest (map string_bytes words.now) × Answers 2 reader.old reader.new result × (writer.new ≡ writer.old)) }
     ensures help { fault_of command_line (map string_bytes words.now) ≡ DisplayHelp ∷ []
         → (Answers 0 reader.old reader.new result × (errors.new ≡ errors.old))
         ⊎ LacksMemory E.contents reader.old writer.old errors.old reader.new writer.new errors.new result }
@@ -104,6 +105,10 @@ pub fn run<R: Read, W: Write, E: Write>(
     match read_words(alloc, words) {
         Ok(request) => carry_out(alloc, request, reader, writer, errors),
         Err(Refusal::Memory) => lack_memory(errors),
+        Err(Refusal::Nest) => {
+            print_text(errors, "polytwkb: --max-nest takes a number from 0 to 32\n");
+            USAGE
+        }
         Err(Refusal::Help(text)) => {
             print_text(writer, &text);
             DONE

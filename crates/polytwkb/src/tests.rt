@@ -1,6 +1,7 @@
 //! Runs of the command, and its texts.
 mod causes;
 mod devices;
+mod memory;
 mod runs;
 mod unpacking;
 mod words;

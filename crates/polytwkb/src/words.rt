@@ -1,9 +1,9 @@
 //! From the words of a command line to a request.
-ghost use Rattle.std.specs.Prelude.{◌≡◌, true, false, [], map, string_bytes, codes, IfOk, IfErr, OnOk};
+ghost use Rattle.std.specs.Prelude.{◌≡◌, true, false, [], map, string_bytes, codes, IfNone, IfOk, IfErr, IfSome, OnOk};
 ghost use Rattle.clap.specs.Words.{FailsBy, app_of, fault_of, found_of, kind_of, new_app, one_text, rule_of, shape_of, subcommand_of, subcommand_rows_of, takes};
 ghost use Rattle.clap.specs.declared.builder.command.Command.TheViews.{out-Command};
 ghost use Rattle.polytwkb.specs.CommandLine.{command_line, conversion_shape, max_nest};
-ghost use Rattle.polytwkb.specs.Words.{AreLimits, AsksFor, IsAskedBy, IsConversionName, IsRefusal, IsRefusalAmong, NamesConversion, name_of};
+ghost use Rattle.polytwkb.specs.Words.{AreLimits, AsksFor, GivesNoNest, HasNoNest, IsAskedBy, IsConversionName, IsLateRefusal, IsRefusal, IsRefusalAmong, NamesConversion, name_of};
 
 use clap::error::ErrorKind;
 use clap::{Arg, ArgMatches, Command, Error, value_parser};
@@ -31,6 +31,8 @@ pub struct Request {
 pub enum Refusal {
     /// No memory to read the words, or for the text that would say what is wrong.
     Memory,
+    /// The number of `--max-nest` is none from 0 to 32. `clap` refuses such a number before.
+    Nest,
     /// Help was asked for: this is it.
     Help(String),
     /// The words are refused, with this text.
@@ -124,28 +126,32 @@ fn conversion_of(name: &str) -> Conversion
 }
 
 /// The standard limits, with the nesting that the matches of a subcommand give.
-fn limits_of(matches: &ArgMatches<'_>) -> Limits
-    ensures { AreLimits (one_text (found_of matches.now) (codes "max-nest")) result }
+fn limits_of(matches: &ArgMatches<'_>) -> Option<Limits>
+    ensures some { IfSome result (AreLimits (one_text (found_of matches.now) (codes "max-nest"))) }
+    ensures none { IfNone result (GivesNoNest (one_text (found_of matches.now) (codes "max-nest"))) }
 {
     let standard = Limits::standard();
     match matches.try_get_one::<u32>("max-nest") {
-        Ok(Some(nest)) => {
-            Limits::try_new(nest, standard.nodes(), standard.points()).unwrap_or(standard)
-        }
-        _ => standard,
+        Ok(Some(nest)) => Limits::try_new(nest, standard.nodes(), standard.points()),
+        Ok(None) => Some(standard),
+        Err(_) => None,
     }
 }
 
 /// What the matches of the words ask for.
-fn request_of(matches: &ArgMatches<'_>) -> Request
+fn request_of(matches: &ArgMatches<'_>) -> Option<Request>
     requires { NamesConversion (subcommand_rows_of matches.now) }
-    ensures { IsAskedBy (subcommand_rows_of matches.now) result }
+    ensures some { IfSome result (IsAskedBy (subcommand_rows_of matches.now)) }
+    ensures none { IfNone result (HasNoNest (subcommand_rows_of matches.now)) }
 {
     match matches.subcommand() {
-        Some((name, inner)) => Request {
-            conversion: conversion_of(name),
-            limits: limits_of(inner),
-        },
+        Some((name, inner)) => {
+            let conversion = conversion_of(name);
+            let Some(limits) = limits_of(inner) else {
+                return None;
+            };
+            Some(Request { conversion, limits })
+        }
         None => unreachable!(),
     }
 }
@@ -174,11 +180,14 @@ pub fn read_words(alloc: Global, words: &[String]) -> Result<Request, Refusal>
     ensures ok { IfOk result (AsksFor (map string_bytes words.now)) }
     ensures refused { IfErr result (IsRefusalAmong (fault_of command_line (map string_bytes words.now))) }
     ensures fits { OnOk result (fault_of command_line (map string_bytes words.now) ≡ []) }
-    ensures accepted { takes command_line (map string_bytes words.now) ≡ true → IfErr result (λ refusal. refusal ≡ Refusal.Memory) }
+    ensures accepted { takes command_line (map string_bytes words.now) ≡ true → IfErr result (IsLateRefusal (map string_bytes words.now)) }
 {
     let matches = match matches_of(alloc, words) {
         Ok(matches) => matches,
         Err(error) => return Err(refusal_of(alloc, &error)),
     };
-    Ok(request_of(&matches))
+    match request_of(&matches) {
+        Some(request) => Ok(request),
+        None => Err(Refusal::Nest),
+    }
 }

@@ -1,9 +1,9 @@
 -- Pieces of an input, one after another, make a blob or a fault.
-use Rattle.std.proofs.Common.{◌≡◌, ℕ, ◌+◌, ◌<◌, ◌≤◌, ◌^◌, List, [], ◌∷◌, ◌++◌, length, refl, sym, ap, ◌∙◌, subst, length-append, Option, Some, None, Ok, Err, true, false, arith}
+use Rattle.std.proofs.Common.{◌≡◌, ℕ, ◌+◌, ◌<◌, ◌^◌, List, [], ◌++◌, length, refl, sym, ap, ◌∙◌, subst, length-append, Option, Some, None, Ok, Err, true, false, Bool, arith, inl, inr}
 use Rattle.std.proofs.KnownBytes.{Consumes-trans}
 use Rattle.std.proofs.lemmas.List.{append-nil}
 use Rattle.std.specs.Prelude.{IfSome}
-use Rattle.std.specs.Io.KnownBytes.{Consumes, IsAtEnd, Keeps}
+use Rattle.std.specs.Io.KnownBytes.{Consumes, IsAtEnd}
 use Rattle.std.specs.declared.io.traits.Read.{Ghosts}
 use Rattle.twkb_geom.specs.Tree.{Tree}
 use Rattle.twkb_geom.specs.Limits.{Allowance}
@@ -13,14 +13,14 @@ use Rattle.twkb_io.specs.declared.input.Input.{Input}
 use Rattle.twkb_io.specs.declared.input.InFault.{InFault}
 use Rattle.twkb_io.specs.declared.input.InFault.TheVariants.{Read, TooLong, Spent}
 use Rattle.twkb_io.specs.Inputs.{given, rest_of, is_spent}
-use Rattle.twkb_engine.specs.Standing.{StandsAt, IsEnd, offset_in}
+use Rattle.twkb_engine.specs.Standing.{IsEnd, offset_in}
 use Rattle.twkb_engine.specs.Frames.{reason_of}
 use Rattle.twkb_engine.specs.declared.engine.Engine.{Engine}
 use Rattle.twkb_engine.specs.declared.stop.Stop.{Stop}
 use Rattle.twkb_engine.specs.declared.stop.Stop.TheVariants.{Memory, Refused}
 use Rattle.twkb_engine.specs.declared.blob_reason.BlobReason.TheVariants as reason
 use Rattle.twkb_blob.specs.Faults.{fault_of}
-use Rattle.twkb_blob.specs.Readers.{Left, IsRead, IsNext, RefusedKnown, Stops, failed_by_read}
+use Rattle.twkb_blob.specs.Readers.{AreCutOff, Left, IsRead, IsNext, RefusedKnown, failed_by_read}
 use Rattle.twkb_blob.specs.declared.fault.BlobFault.TheVariants as fault
 use Rattle.twkb_blob.specs.declared.reader.Piece.TheVariants as piece
 use Rattle.twkb_blob.specs.declared.reader.Halt.TheVariants as halt
@@ -54,6 +54,11 @@ end_after None b bs none loses end = tt
 end_after (Some xs) None bs none loses end = absurd loses
 end_after (Some xs) (Some ys) bs none loses end = loses ∙ (ap (λ l. bs ++ l) end ∙ (append-nil bs ∙ none))
 
+-- where an engine stands there are no bytes, or they end inside a blob
+are_cut_off : (limits : Allowance) (bs : List ℕ) (offset : ℕ) (between : Bool) → IsEnd limits bs offset between → AreCutOff limits bs
+are_cut_off limits bs offset true none = inl none
+are_cut_off limits bs offset false cut = inr (offset, cut)
+
 module _ {R : Type 0} {read : Ghosts R} where
   -- nothing has left yet
   pub nothing_left : (a : Input R read) → Left a a []
@@ -72,7 +77,12 @@ module _ {R : Type 0} {read : Ghosts R} where
 
   -- a geometry was made
   pub made_next : (limits own : Allowance) (bs : List ℕ) (a b c : Input R read) (g : Tree) (d : Engine) → own ≡ limits → Left a b bs → IsRead own bs b c (Ok (piece.Made g)) d → IsNext limits a c (Ok (Some g))
-  made_next limits own bs a b c g d same left (bytes, more, blob) = (bs ++ bytes, subst (λ l. Blob l (bs ++ bytes) g) same blob, left_join a b c bs bytes left more)
+  made_next limits own bs a b c g d same left made = record {
+    bytes = bs ++ made.bytes;
+    left = left_join a b c bs made.bytes left made.left;
+    blob = subst (λ l. Blob l (bs ++ made.bytes) g) same made.blob;
+    unspent = made.unspent;
+  }
 
   -- the input ended between two blobs
   pub end_next : (limits own : Allowance) (bs : List ℕ) (a b c : Input R read) (d : Engine) → Left a b bs → IsRead own bs b c (Ok piece.End) d → bs ≡ [] → IsNext limits a c (Ok None)
@@ -85,11 +95,17 @@ module _ {R : Type 0} {read : Ghosts R} where
   cut_next limits own bs a b c start within d same begun left (end, more, stands) h =
       cut_after limits (rest_of a) (rest_of b) bs (given a) start within Truncated begun left.consumed end (subst (λ l. FirstFault l bs within Truncated) same h)
 
-  -- the input gave no byte
-  pub halted_next : (why : InFault) (bs : List ℕ) (a b c : Input R read) → Left a b bs → (is_spent b ≡ true → is_spent a ≡ true) → Stops why b c → Stops why a c
-  halted_next Read bs a b c left spent h = tt
-  halted_next TooLong bs a b c left spent h = (h.0, long_after (rest_of a) (rest_of b) bs (given a) (given b) left.consumed left.counted h.1)
-  halted_next Spent bs a b c left spent h = spent h
+  -- the input gave no byte behind these, which are no blob
+  pub halted_next : (limits own : Allowance) (why : InFault) (bs : List ℕ) (a b c : Input R read) (d : Engine) (within : ℕ) (between : Bool) → own ≡ limits → Left a b bs → (is_spent b ≡ true → is_spent a ≡ true)
+      → IsEnd own bs within between → IsRead own bs b c (Err (halt.Device why)) d → IsNext limits a c (Err (fault.Device why))
+  halted_next limits own Read bs a b c d within between same left spent end (stops, stands) = record {
+    bytes = bs;
+    left = subst (λ l. Left a c l) (append-nil bs) (left_join a b c bs [] left stops.0);
+    cut_off = subst (λ l. AreCutOff l bs) same (are_cut_off own bs within between end);
+    none_held = stops.1;
+  }
+  halted_next limits own TooLong bs a b c d within between same left spent end (stops, stands) = (stops.0, long_after (rest_of a) (rest_of b) bs (given a) (given b) left.consumed left.counted stops.1)
+  halted_next limits own Spent bs a b c d within between same left spent end (stops, stands) = spent stops
 
   -- the engine stopped
   pub stopped_next : (limits own : Allowance) (bs : List ℕ) (a b c : Input R read) (start offset : ℕ) (stop : Stop) (d : Engine) → own ≡ limits → start ≡ given a → offset ≡ offset_in d → Left a b bs → IsRead own bs b c (Err (halt.Engine stop)) d

@@ -1,3 +1,6 @@
 pub mod Standing
 pub mod Pieces
 pub mod Blobs
+pub mod Changing
+pub mod Noted
+pub mod Bytes

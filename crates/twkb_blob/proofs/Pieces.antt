@@ -1,5 +1,5 @@
 -- A piece of an input goes to an engine.
-use Rattle.std.proofs.Common.{◌≡◌, ◌≢◌, ℕ, ◌+◌, ◌-◌, ◌<◌, ◌≤◌, ◌^◌, min, List, [], ◌∷◌, ◌++◌, length, take, drop, refl, sym, ap, ◌∙◌, subst, append_assoc, Bool, true, false, Option, Some, None, Result, Ok, Err, arith}
+use Rattle.std.proofs.Common.{◌≡◌, ◌≢◌, ℕ, ◌+◌, ◌-◌, ◌<◌, ◌≤◌, ◌^◌, List, [], ◌∷◌, ◌++◌, length, take, drop, refl, sym, ap, ◌∙◌, subst, append_assoc, true, false, Option, Some, None, Result, Ok, Err, arith}
 use Rattle.std.proofs.Math.Seq.{take-length}
 use Rattle.std.proofs.lemmas.List.{length-take, length-take-le, take-append-drop}
 use Rattle.std.specs.Prelude.{IfSome}
@@ -8,7 +8,6 @@ use Rattle.std.specs.Io.KnownBytes.{Consumes, IsAtEnd, Keeps}
 use Rattle.std.specs.declared.io.traits.Read.{Ghosts}
 use Rattle.twkb_geom.specs.Tree.{Tree}
 use Rattle.twkb_geom.specs.Limits.{Allowance}
-use Rattle.twkb_grammar.specs.Blob.{Blob}
 use Rattle.twkb_grammar.specs.Fault.{FirstFault, Reason}
 use Rattle.twkb_io.proofs.CopyLemmas.{kept_consumes}
 use Rattle.twkb_io.specs.declared.input.Input.{Input}
@@ -20,7 +19,7 @@ use Rattle.twkb_engine.specs.Frames.{reason_of}
 use Rattle.twkb_engine.specs.declared.engine.Engine.{Engine}
 use Rattle.twkb_engine.specs.declared.stop.Stop.{Stop}
 use Rattle.twkb_engine.specs.declared.stop.Stop.TheVariants.{Memory, Refused}
-use Rattle.twkb_blob.specs.Readers.{Left, IsRead, Stops}
+use Rattle.twkb_blob.specs.Readers.{Left, IsRead, Stops, told_by}
 use Rattle.twkb_blob.specs.declared.reader.Piece.TheVariants as piece
 use Rattle.twkb_blob.specs.declared.reader.Halt.TheVariants as halt
 
@@ -73,17 +72,22 @@ module _ {R : Type 0} {read : Ghosts R} where
 
   -- a geometry ends in the held bytes
   pub made_read : (limits : Allowance) (bs held : List ℕ) (a b c : Input R read) (used : ℕ) (g : Tree) (d : Engine) → Keeps (rest_of a) (rest_of b) → given b ≡ given a → held ≡ held_of b
-      → Consumes (rest_of b) (rest_of c) (take used (held_of b)) → given c ≡ given b + used → MadeIn limits bs held used g × StandsAt [] d → IsRead limits bs a c (Ok (piece.Made g)) d
-  made_read limits bs held a b c used g d keeps same is loses counted h = (
-    take used held,
-    left_after a b c (take used held) keeps same (subst (λ l. Consumes (rest_of b) (rest_of c) (take used l)) (sym is) loses) (omega (arith, counted, length-take-le used held h.0.within)),
-    h.0.blob,
-  )
+      → Consumes (rest_of b) (rest_of c) (take used (held_of b)) → given c ≡ given b + used → is_spent c ≡ false → MadeIn limits bs held used g × StandsAt [] d → IsRead limits bs a c (Ok (piece.Made g)) d
+  made_read limits bs held a b c used g d keeps same is loses counted live h = record {
+    bytes = take used held;
+    left = left_after a b c (take used held) keeps same (subst (λ l. Consumes (rest_of b) (rest_of c) (take used l)) (sym is) loses) (omega (arith, counted, length-take-le used held h.0.within));
+    blob = h.0.blob;
+    unspent = live;
+  }
+
+  -- a fill loses nothing
+  left_none : (a b : Input R read) → Keeps (rest_of a) (rest_of b) → given b ≡ given a → Left a b []
+  left_none a b keeps same = record { consumed = kept_all (rest_of a) (rest_of b) keeps; counted = omega (arith, same) }
 
   -- nothing is left
   pub end_read : (limits : Allowance) (bs : List ℕ) (a b : Input R read) (d : Engine) → Keeps (rest_of a) (rest_of b) → given b ≡ given a → IsAtEnd (rest_of b) → StandsAt bs d → IsRead limits bs a b (Ok piece.End) d
   end_read limits bs a b d keeps same end s =
-      (kept_end (rest_of a) (rest_of b) keeps end, record { consumed = kept_all (rest_of a) (rest_of b) keeps; counted = omega (arith, same) }, s)
+      (kept_end (rest_of a) (rest_of b) keeps end, left_none a b keeps same, s)
 
   -- the engine stopped in the held bytes
   pub stopped_read : (limits : Allowance) (bs held : List ℕ) (a b : Input R read) (stop : Stop) (d : Engine) → Keeps (rest_of a) (rest_of b) → IfSome (rest_of b) (λ rest. StartsWith rest held)
@@ -92,8 +96,8 @@ module _ {R : Type 0} {read : Ghosts R} where
   stopped_read limits bs held a b (Refused r) d keeps starts h = refused_known limits (rest_of a) (rest_of b) bs held (offset_in d) (reason_of r) keeps starts h
 
   -- the input gave no byte
-  pub halted : (r : Result (Unit {0}) InFault) (why : InFault) (a b : Input R read) → r ≡ Err why → given b ≡ given a → (r ≡ Err TooLong → (given a ≡ 2 ^ 62) × IfSome (rest_of a) (λ rest. rest ≢ []))
-      → (r ≡ Err Spent → is_spent a ≡ true) → Stops why a b
-  halted r Read a b is same long spent = tt
-  halted r TooLong a b is same long spent = let h = long is in (same ∙ h.0, longer (rest_of a) (given a) h.0 h.1)
-  halted r Spent a b is same long spent = spent is
+  pub halted : {A : Type 0} (r : Result A InFault) (why : InFault) (a b : Input R read) → r ≡ Err why → Keeps (rest_of a) (rest_of b) → given b ≡ given a → (r ≡ Err TooLong → (given a ≡ 2 ^ 62) × IfSome (rest_of a) (λ rest. rest ≢ []))
+      → (r ≡ Err Read → rest_of b ≡ told_by b) → (r ≡ Err Spent → is_spent a ≡ true) → Stops why a b
+  halted r Read a b is keeps same long none spent = (left_none a b keeps same, none is)
+  halted r TooLong a b is keeps same long none spent = let h = long is in (same ∙ h.0, longer (rest_of a) (given a) h.0 h.1)
+  halted r Spent a b is keeps same long none spent = spent is

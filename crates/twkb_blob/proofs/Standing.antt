@@ -1,5 +1,5 @@
 -- A session goes on, gives a geometry, refuses or ends.
-use Rattle.std.proofs.Common.{◌≡◌, ℕ, ◌+◌, ◌<◌, ◌≤◌, ◌^◌, List, [], ◌∷◌, ◌++◌, length, take, refl, sym, ap, ◌∙◌, subst, append_assoc, length-append, true, false, Bool, Some, None, Ok, Err, arith}
+use Rattle.std.proofs.Common.{◌≡◌, ℕ, ◌+◌, List, [], ◌∷◌, ◌++◌, length, take, refl, sym, ap, ◌∙◌, subst, append_assoc, length-append, false, Some, None, Ok, Err, arith}
 use Rattle.std.proofs.lemmas.List.{append-nil, length-take-le}
 use Rattle.twkb_geom.specs.Tree.{Tree}
 use Rattle.twkb_geom.specs.Limits.{Allowance}
@@ -12,12 +12,11 @@ use Rattle.twkb_engine.specs.Frames.{reason_of}
 use Rattle.twkb_engine.specs.declared.stop.Stop.{Stop}
 use Rattle.twkb_engine.specs.declared.stop.Stop.TheVariants.{Memory, Refused}
 use Rattle.twkb_blob.specs.Faults.{fault_of}
-use Rattle.twkb_engine.specs.Standing.{StandsAt, IsFed, MadeIn, RefusedIn, IsEnd, allowance_of, count_of, held_in, offset_in}
+use Rattle.twkb_engine.specs.Standing.{StandsAt, IsFed, MadeIn, RefusedIn, allowance_of, count_of, held_in, offset_in}
 use Rattle.twkb_engine.specs.declared.engine.Engine.{Engine}
 use Rattle.twkb_engine.specs.declared.blob_reason.BlobReason.{BlobReason}
-use Rattle.twkb_blob.specs.Sessions.{Stands, FedSession, Finished, session_limits}
+use Rattle.twkb_blob.specs.Sessions.{Stands, FedSession, session_limits}
 use Rattle.twkb_blob.specs.declared.session.Session.{Session}
-use Rattle.twkb_blob.specs.declared.fault.BlobFault.{BlobFault}
 use Rattle.twkb_blob.specs.declared.fault.BlobFault.TheVariants as fault
 
 -- the law that says how many bytes were taken

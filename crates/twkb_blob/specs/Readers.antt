@@ -1,15 +1,16 @@
 -- What a reader of an input answers.
-use Rattle.std.specs.Prelude.{ℕ, ◌≡◌, ◌+◌, ◌<◌, ◌≤◌, ◌^◌, List, [], ◌∷◌, ◌++◌, length, Bool, true, false, Option, Some, None, IfSome, Result, Ok, Err, ⊤}
-use Rattle.std.specs.Io.KnownBytes.{Consumes, IsAtEnd, Keeps}
+use Rattle.std.specs.Prelude.{ℕ, ◌≡◌, ◌+◌, ◌<◌, ◌^◌, ◌⊎◌, List, [], ◌++◌, length, Bool, true, false, Option, Some, None, IfSome, Result, Ok, Err, ⊤}
+use Rattle.std.specs.Io.KnownBytes.{Consumes, IsAtEnd}
 use Rattle.std.specs.declared.io.traits.Read.{Ghosts}
 use Rattle.twkb_geom.specs.Tree.{Tree}
 use Rattle.twkb_geom.specs.Limits.{Allowance}
 use Rattle.twkb_grammar.specs.Blob.{Blob}
-use Rattle.twkb_grammar.specs.Fault.{FirstFault, Reason}
+use Rattle.twkb_grammar.specs.Fault.{FirstFault, Reason, Truncated}
+use Rattle.twkb_io.specs.Taps.{device_of}
 use Rattle.twkb_io.specs.declared.input.Input.{Input}
 use Rattle.twkb_io.specs.declared.input.InFault.TheVariants as stopped
 use Rattle.twkb_io.specs.declared.input.InFault.{InFault}
-use Rattle.twkb_io.specs.Inputs.{given, rest_of, is_spent as input_spent}
+use Rattle.twkb_io.specs.Inputs.{given, input_tap, rest_of, is_spent as input_spent}
 use Rattle.twkb_engine.specs.Standing.{StandsAt, offset_in}
 use Rattle.twkb_engine.specs.Frames.{reason_of}
 use Rattle.twkb_engine.specs.declared.engine.Engine.{Engine}
@@ -57,19 +58,47 @@ pub record Left {R : Type 0} {read : Ghosts R} (old new : Input R read) (bytes :
   pub consumed : Consumes (rest_of old) (rest_of new) bytes
   pub counted : given new ≡ given old + length bytes
 
--- Why an input gave no byte: its reader failed, which its tap counts; it has more than 2^62 bytes; or it was refused before.
+-- what the device under an input still tells
+abbrev pub told_by : {R : Type 0} {read : Ghosts R} → Input R read → Option (List ℕ)
+told_by {R} {read} input = read.remaining (device_of (input_tap input).now)
+
+-- Why an input gave no byte: its reader failed, which its tap counts, and no byte was held; it has more than 2^62 bytes; or it was refused before.
 abbrev pub Stops : {R : Type 0} {read : Ghosts R} → InFault → Input R read → Input R read → Type 0
-Stops stopped.Read old new = ⊤
+Stops stopped.Read old new = Left old new [] × (rest_of new ≡ told_by new)
 Stops stopped.TooLong old new = (given new ≡ 2 ^ 62) × IfSome (rest_of old) (λ rest. 2 ^ 62 < given old + length rest)
 Stops stopped.Spent old new = input_spent old ≡ true
+
+-- There are no bytes, or they are cut inside a blob.
+abbrev pub AreCutOff : Allowance → List ℕ → Type 0
+AreCutOff limits bytes = (bytes ≡ []) ⊎ ((offset : ℕ) × FirstFault limits bytes offset Truncated)
+
+-- The reader failed behind these bytes, of which no front is a blob, and no further byte was held.
+pub record FailsRead {R : Type 0} {read : Ghosts R} (limits : Allowance) (old new : Input R read) : Type 0 where
+  pub bytes : List ℕ
+  pub left : Left old new bytes
+  pub cut_off : AreCutOff limits bytes
+  pub none_held : rest_of new ≡ told_by new
+
+-- why an input gave no byte behind some that are no blob
+abbrev pub StopsWithin : {R : Type 0} {read : Ghosts R} → Allowance → InFault → Input R read → Input R read → Type 0
+StopsWithin limits stopped.Read old new = FailsRead limits old new
+StopsWithin limits stopped.TooLong old new = Stops stopped.TooLong old new
+StopsWithin limits stopped.Spent old new = Stops stopped.Spent old new
+
+-- These bytes and some that left are a blob of this geometry, and the input refuses no call.
+pub record Makes {R : Type 0} {read : Ghosts R} (limits : Allowance) (bs : List ℕ) (old new : Input R read) (g : Tree) : Type 0 where
+  pub bytes : List ℕ
+  pub left : Left old new bytes
+  pub blob : Blob limits (bs ++ bytes) g
+  pub unspent : input_spent new ≡ false
 
 -- Some bytes left the input, and make a blob so far, or a blob; or there are none; or with what is known of the rest they
 -- have a first fault.
 abbrev pub IsRead : {R : Type 0} {read : Ghosts R} → Allowance → List ℕ → Input R read → Input R read → Result Piece Halt → Engine → Type 0
 IsRead limits bs old new (Ok piece.More) d = (bytes : List ℕ) × (0 < length bytes) × Left old new bytes × StandsAt (bs ++ bytes) d × (input_spent new ≡ false)
-IsRead limits bs old new (Ok (piece.Made g)) d = (bytes : List ℕ) × Left old new bytes × Blob limits (bs ++ bytes) g
+IsRead limits bs old new (Ok (piece.Made g)) d = Makes limits bs old new g
 IsRead limits bs old new (Ok piece.End) d = IsAtEnd (rest_of old) × Left old new [] × StandsAt bs d
-IsRead limits bs old new (Err (halt.Device why)) d = Stops why old new
+IsRead limits bs old new (Err (halt.Device why)) d = Stops why old new × StandsAt bs d
 IsRead limits bs old new (Err (halt.Engine Memory)) d = ⊤
 IsRead limits bs old new (Err (halt.Engine (Refused r))) d = IfSome (rest_of old) (λ rest. FirstFault limits (bs ++ rest) (offset_in d) (reason_of r))
 
@@ -81,10 +110,10 @@ pub record RefusedKnown (limits : Allowance) (before : ℕ) (rest : List ℕ) (o
 
 -- A geometry whose blob left the input; none at the input's end; the first fault of what the input has left; or that the input gave no byte.
 abbrev pub IsNext : {R : Type 0} {read : Ghosts R} → Allowance → Input R read → Input R read → Result (Option Tree) BlobFault → Type 0
-IsNext limits old new (Ok (Some g)) = (blob : List ℕ) × Blob limits blob g × Left old new blob
+IsNext limits old new (Ok (Some g)) = Makes limits [] old new g
 IsNext limits old new (Ok None) = IsAtEnd (rest_of old) × Left old new []
 IsNext limits old new (Err fault.Memory) = ⊤
-IsNext limits old new (Err (fault.Device why)) = Stops why old new
+IsNext limits old new (Err (fault.Device why)) = StopsWithin limits why old new
 IsNext limits old new (Err fault.Spent) = ⊥
 IsNext limits old new (Err (fault.At offset reason)) = IfSome (rest_of old) (λ rest. RefusedKnown limits (given old) rest offset (reason_of reason))
 

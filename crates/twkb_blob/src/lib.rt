@@ -1,14 +1,23 @@
-//! TWKB blobs: readers that take bytes from a device, or in pieces.
+//! TWKB blobs: readers that take bytes from a device, or in pieces; canonical blobs of geometries and of flat forms.
 #![tactic(auto)]
 
 mod fault;
+pub mod laws;
+mod located;
+mod notes;
 mod reader;
 mod session;
+mod spans;
 
 pub use fault::BlobFault;
 pub use reader::Reader;
 pub use session::Session;
+pub use spans::{Located, Spans};
 pub use twkb_engine::BlobReason;
+pub use twkb_grammar::{Span, Style};
+pub use twkb_writer::{
+    EncodeFault, Sizes, encode, encode_styled, measure, measure_flat, write_flat,
+};
 
 #[cfg(test)]
 mod tests;

@@ -5,9 +5,13 @@ ghost use Rattle.twkb_geom.specs.Limits.{Allowance};
 ghost use Rattle.twkb_io.specs.Taps.{count_failure};
 ghost use Rattle.twkb_io.specs.Inputs.{input_failures, input_tap};
 ghost use Rattle.twkb_engine.specs.Standing.{StandsAt, allowance_of, count_of, offset_in};
-ghost use Rattle.twkb_blob.specs.Readers.{IsRead, IsNext, halted_by_read, failed_by_read};
+ghost use Rattle.twkb_blob.specs.Readers.{IsRead, IsNext, halted_by_read, failed_by_read, spent_at, ended_at};
+ghost use Rattle.twkb_blob.specs.Located.{IsLocated};
 
 use crate::fault::{BlobFault, fault_at};
+use crate::located::read_located;
+use crate::notes::SpanNotes;
+use crate::spans::Located;
 use std::alloc::Global;
 use std::io::Read;
 use twkb_engine::{BlobReason, Engine, Stop};
@@ -16,7 +20,7 @@ use twkb_io::{InFault, Input};
 
 /// What the held bytes of an input made.
 #[derive(Drop)]
-enum Piece {
+pub(crate) enum Piece {
     /// They were used, and more have to follow.
     More,
     /// The geometry that ends in them.
@@ -27,7 +31,7 @@ enum Piece {
 
 /// Why the held bytes of an input made nothing.
 #[derive(Clone, Copy, Debug, PartialEq, Eq)]
-enum Halt {
+pub(crate) enum Halt {
     /// The input gave none.
     Device(InFault),
     /// The engine stopped.
@@ -106,9 +110,25 @@ fn read_blob<R: Read>(
                 let reason = BlobReason::Truncated;
                 return Err(BlobFault::At { offset, reason });
             }
-            Err(Halt::Device(fault)) => return Err(BlobFault::Device(fault)),
+            Err(Halt::Device(fault)) => {
+                let _between = engine.is_between();
+                return Err(BlobFault::Device(fault));
+            }
             Err(Halt::Engine(stop)) => return Err(fault_at(start + engine.offset(), stop)),
         }
+    }
+}
+
+/// What a reader does next that answered so.
+fn state_behind<T>(found: &Result<Option<T>, BlobFault>) -> State
+    ensures spent { spent_at result ≡ is_err found.now }
+    ensures ended { found.now ≡ Ok None → ended_at result ≡ true }
+    ensures going_on { IfOk found.now (λ some. IfSome some (λ geometry. ended_at result ≡ false)) }
+{
+    match found {
+        Ok(Some(_)) => State::Ready,
+        Ok(None) => State::Ended,
+        Err(_) => State::Spent,
     }
 }
 
@@ -152,11 +172,33 @@ impl<'a, R: Read> Reader<'a, R> {
         }
         let mut engine = Engine::new(alloc, self.limits);
         let found = read_blob(&mut self.input, &mut engine);
-        self.state = match &found {
-            Ok(Some(_)) => State::Ready,
-            Ok(None) => State::Ended,
-            Err(_) => State::Spent,
-        };
+        self.state = state_behind(&found);
+        found
+    }
+
+    /// The next geometry, as `next` gives it, with the spans of its headers, whose offsets count from where the input began. It takes the
+    /// bytes one by one, and memory for a span a header besides.
+    pub fn next_located(&mut self, alloc: Global) -> Result<Option<Located>, BlobFault>
+        ensures same_tap { (input_tap (reader_input self.new)).ghost_name ≡ (input_tap (reader_input self.old)).ghost_name }
+        ensures limits { reader_limits self.new ≡ reader_limits self.old }
+        ensures next { is_spent self.old ≡ false → has_ended self.old ≡ false → IsLocated (reader_limits self.old) (reader_input self.old) (reader_input self.new) result }
+        ensures failures { input_failures (reader_input self.new) ≡ count_failure (failed_by_read result) (input_failures (reader_input self.old)) }
+
+        ensures spent { (result ≡ Err BlobFault.Spent) ↔ (is_spent self.old ≡ true) }
+        ensures stays { is_spent self.new ≡ is_err result }
+        ensures unchanged { is_spent self.old ≡ true → self.new ≡ self.old }
+        ensures end { result ≡ Ok None → has_ended self.new ≡ true }
+        ensures going_on { IfOk result (λ found. IfSome found (λ located. has_ended self.new ≡ false)) }
+        ensures for_good { has_ended self.old ≡ true → (result ≡ Ok None) × (self.new ≡ self.old) }
+    {
+        match self.state {
+            State::Ready => {}
+            State::Ended => return Ok(None),
+            State::Spent => return Err(BlobFault::Spent),
+        }
+        let mut engine = Engine::new(alloc, self.limits);
+        let found = read_located(&mut self.input, &mut engine, SpanNotes::new(alloc));
+        self.state = state_behind(&found);
         found
     }
 }

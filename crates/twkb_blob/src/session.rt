@@ -99,7 +99,8 @@ impl Session {
 
     /// Geometries that are begun and not finished. Takes no memory.
     pub fn frames(&self) -> usize
-        ensures { result ≡ session_open self.now }
+        ensures open { result ≡ session_open self.now }
+        ensures few { (bytes : List ℕ) (gs : List Tree) → Stands bytes gs self.now → result ≤ (session_limits self.now).nest + 1 }
     {
         self.engine.open_geometries()
     }

@@ -1,5 +1,5 @@
 -- The bytes of a point's blob.
-use Rattle.std.proofs.Common.{◌≡◌, ◌∙◌, ◌+◌, ◌<◌, ◌≤◌, ℕ, ℤ, pos, List, [], ◌∷◌, ◌++◌, take, length, ap, arith, refl, length-append, ◌-ℤ◌, Some, None}
+use Rattle.std.proofs.Common.{◌≡◌, ◌∙◌, ◌+◌, ◌<◌, ◌≤◌, ℕ, ℤ, pos, List, [], ◌∷◌, ◌++◌, take, length, ap, arith, refl, length-append, ◌-ℤ◌, Option, Some, None}
 use Rattle.std.proofs.lemmas.Int.{ints}
 use Rattle.std.proofs.lemmas.List.{append-nil, take_at}
 use Rattle.std.proofs.lemmas.Slice.{take-put_mid}
@@ -13,6 +13,8 @@ use Rattle.twkb_grammar.specs.Items.{header_byte}
 use Rattle.twkb_grammar.specs.Written.{canonical_blob}
 use Rattle.twkb_grammar.specs.declared.style.Style.TheVariants.{Full}
 use Rattle.twkb_convert.specs.PointBlobs.{point_body}
+use Rattle.twkb_convert.specs.PointRows.{point_tree}
+use Rattle.twkb_convert.specs.declared.point_row.PointRow.{PointRow}
 
 -- the varint of a number below 128 is the number
 small_varint : (n : ℕ) → n < 128 → varint_of n ≡ n ∷ []
@@ -43,3 +45,11 @@ filled_array h p x y xs ys rest k x_is y_is xs_is ys_is =
 -- both numbers are short
 pub short_body : (p : Point) (x y : List ℕ) → x ≡ varint_of (zigzag_of p.x) → y ≡ varint_of (zigzag_of p.y) → length x ≤ 13 → length y ≤ 13 → length (point_body p) < 128
 short_body p x y x_is y_is a b = rw (← x_is, ← y_is) (omega (arith, length-append x y))
+
+-- a point's blob has a byte
+some_blob : (p : ℤ) (o : Option Point) → 0 < length (canonical_blob Full (simple p (point o)))
+some_blob p None = omega (arith, ap length (empty_point p))
+some_blob p (Some q) = omega arith
+
+pub point_blob_some : (row : PointRow) → 0 < length (canonical_blob Full (point_tree row))
+point_blob_some row = some_blob row.precision row.point

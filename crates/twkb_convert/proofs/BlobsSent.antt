@@ -1,22 +1,21 @@
 -- Blobs whose rows were sent, one after another.
-use Rattle.std.proofs.Common.{◌≡◌, ◌∙◌, ◌+◌, ◌≤◌, ◌<◌, ◌^◌, ℕ, List, [], ◌∷◌, ◌++◌, Option, Some, None, Result, Ok, Err, length, ap, arith, refl, sym, subst, inl, inr, length-append, append_assoc, false}
+use Rattle.std.proofs.Common.{◌≡◌, ◌∙◌, ◌+◌, ◌≤◌, ℕ, List, [], ◌∷◌, ◌++◌, Option, Some, None, length, ap, arith, refl, sym, subst, inl, inr, length-append, false}
 use Rattle.std.specs.Prelude.{IfSome}
 use Rattle.std.proofs.lemmas.List.{append-nil}
 use Rattle.std.proofs.KnownBytes.{Consumes-nil, Consumes-trans, Consumes-whole}
-use Rattle.std.specs.Io.KnownBytes.{Consumes, IsAtEnd}
+use Rattle.std.specs.Io.KnownBytes.{Consumes}
 use Rattle.std.specs.declared.io.traits.Read.{Ghosts}
 use Rattle.twkb_io.specs.Copies.{BeginsWith}
 use Rattle.twkb_io.specs.Taps.{count_failure}
-use Rattle.twkb_io.specs.Outputs.{Refused, Sent, Took, is_spent, output_failures, sent_of}
+use Rattle.twkb_io.specs.Outputs.{Sent, Took, is_spent, output_failures, sent_of}
 use Rattle.twkb_io.specs.OutputLaws.{refused_join, took_join, took_nothing}
 use Rattle.twkb_io.specs.declared.output.Output.{Output}
 use Rattle.twkb_io.specs.declared.output.OutFault.{OutFault}
 use Rattle.twkb_geom.specs.Tree.{Tree}
 use Rattle.twkb_geom.specs.Limits.{Allowance}
 use Rattle.twkb_grammar.specs.Blob.{Blob, Stream}
-use Rattle.twkb_grammar.specs.Fault.{FirstFault, Reason}
 use Rattle.twkb_grammar.proofs.Streams.{blob_some, stream-append}
-use Rattle.twkb_convert.specs.BlobReading.{GivesBlob, Misses, RefusesBlob, Used, given, limits_of, rest_of}
+use Rattle.twkb_convert.specs.BlobReading.{Misses, RefusesBlob, Used, given, limits_of, rest_of, told_of}
 use Rattle.twkb_blob.specs.declared.reader.Reader.{Reader}
 use Rattle.twkb_blob.specs.declared.fault.BlobFault.{BlobFault}
 use Rattle.twkb_blob.specs.declared.fault.BlobFault.TheVariants as blob
@@ -25,8 +24,7 @@ use Rattle.twkb_convert.specs.Outputs.{rows_text}
 use Rattle.twkb_convert.specs.RowSending.{CutBlob, CutBlobs, EndsBlobs, Explains, ExplainsStream, Follows, SentAll, SentBlob, SentBlobs, StopsBlob, StopsRead, UnlessOutput, is_write}
 use Rattle.twkb_convert.specs.declared.row_sending.Obstacle.{Obstacle}
 use Rattle.twkb_convert.specs.declared.row_sending.Obstacle.TheVariants as obstacle
-use Rattle.twkb_convert.specs.declared.row_sending.Halt.{Halt}
-use Rattle.twkb_convert.proofs.RowTexts.{rows_text-append}
+use Rattle.twkb_convert.proofs.RowTexts.{rows_text-append, rows_text_some}
 
 -- ---- bytes
 
@@ -52,19 +50,20 @@ used_join a b c m n o xs ys first second = record {
 }
 
 -- the reader's answer where no blob came
-explained : (l : Allowance) (old mid : Option (List ℕ)) (before middle : ℕ) (bytes : List ℕ) (why : BlobFault) → Used old before bytes mid middle → Misses l mid middle why
-    → ExplainsStream l old before bytes why
-explained l old mid before middle bytes blob.Memory used misses = tt
-explained l old mid before middle bytes blob.Spent used misses = misses
-explained l old mid before middle bytes (blob.Device input.Read) used misses = tt
-explained l old mid before middle bytes (blob.Device input.Spent) used misses = tt
-explained l None mid before middle bytes (blob.Device input.TooLong) used misses = tt
-explained l (Some all) None before middle bytes (blob.Device input.TooLong) used misses = absurd used.consumed
-explained l (Some all) (Some left) before middle bytes (blob.Device input.TooLong) used misses =
+explained : (l : Allowance) (old mid told : Option (List ℕ)) (before middle : ℕ) (bytes : List ℕ) (why : BlobFault) → Used old before bytes mid middle → Misses l mid middle told why
+    → ExplainsStream l old told before bytes why
+explained l old mid told before middle bytes blob.Memory used misses = tt
+explained l old mid told before middle bytes blob.Spent used misses = misses
+explained l old mid told before middle bytes (blob.Device input.Read) used misses =
+    record { cut = misses.cut; consumed = Consumes-trans old mid told bytes misses.cut used.consumed misses.consumed; cut_off = misses.cut_off }
+explained l old mid told before middle bytes (blob.Device input.Spent) used misses = misses
+explained l None mid told before middle bytes (blob.Device input.TooLong) used misses = tt
+explained l (Some all) None told before middle bytes (blob.Device input.TooLong) used misses = absurd used.consumed
+explained l (Some all) (Some left) told before middle bytes (blob.Device input.TooLong) used misses =
     omega (arith, misses, used.counted, ap length used.consumed, length-append bytes left)
-explained l None mid before middle bytes (blob.At offset reason) used misses = tt
-explained l (Some all) None before middle bytes (blob.At offset reason) used misses = absurd used.consumed
-explained l (Some all) (Some left) before middle bytes (blob.At offset reason) used misses =
+explained l None mid told before middle bytes (blob.At offset reason) used misses = tt
+explained l (Some all) None told before middle bytes (blob.At offset reason) used misses = absurd used.consumed
+explained l (Some all) (Some left) told before middle bytes (blob.At offset reason) used misses =
     (left, used.consumed, subst (λ n. RefusesBlob l left n offset reason) used.counted misses)
 
 -- the end of what was known
@@ -133,7 +132,7 @@ module _ {R W : Type 0} {read : Ghosts R} (contents : W → Option (List ℕ)) w
   -- no rows were sent behind those of whole blobs
   cut_none : (from mid to : Reader R read) (old out new : Output W) (done : ℕ) (why : Obstacle) (sent : SentBlobs contents from old mid out done) → new ≡ out → is_spent out ≡ false
       → is_write why ≡ false → ((fact : Type 0) → fact → UnlessOutput why fact)
-      → Explains (limits_of from) (rest_of from) (given from) sent.bytes why (sent_of old) (rows_text (sent.trees ++ [])) [] []
+      → Explains (limits_of from) (rest_of from) (told_of to) (given from) sent.bytes why (sent_of old) (rows_text (sent.trees ++ [])) [] []
       → CutBlobs contents from old to new (record { done = done; obstacle = why })
   cut_none from mid to old out new done why sent same fresh no_write unless explains = record {
     whole = sent.trees;
@@ -144,6 +143,7 @@ module _ {R W : Type 0} {read : Ghosts R} (contents : W → Option (List ℕ)) w
     front = [];
     left = [];
     cut = refl;
+    one = inl refl;
     sends = subst (λ o. Sent contents old (rows_text sent.trees ++ []) o) (sym same) (subst (λ text. Sent contents old text out) (sym (append-nil (rows_text sent.trees))) sent.took.sends);
     count = sent.count;
     explains = explains;
@@ -158,6 +158,8 @@ module _ {R W : Type 0} {read : Ghosts R} (contents : W → Option (List ℕ)) w
       let here : Blob (limits_of from) one.gives.front one.tree = subst (λ l. Blob l one.gives.front one.tree) same one.gives.blob in
       let all = used_join (rest_of from) (rest_of mid) (rest_of to) (given from) (given mid) (given to) sent.bytes one.gives.front sent.used one.gives.used in
       let refused = refused_join contents old out new (rows_text sent.trees) one.front why sent.took one.refused in
+      let not_all : one.left ≡ [] → ⊥ = λ none. (let less = one.short (rows_text_some one.tree) in
+      omega (arith, less, one.refused.sends.sent, ap length none, ap length one.cut, length-append one.front one.left)) in
       let text : rows_text (sent.trees ++ one.tree ∷ []) ≡ rows_text sent.trees ++ rows_text (one.tree ∷ []) = rows_text-append sent.trees (one.tree ∷ []) in
       record {
         whole = sent.trees;
@@ -169,6 +171,7 @@ module _ {R W : Type 0} {read : Ghosts R} (contents : W → Option (List ℕ)) w
         front = one.front;
         left = one.left;
         cut = one.cut;
+        one = inr (one.tree, refl, not_all);
         sends = refused.sends;
         count = sent.count;
         explains = (
@@ -182,9 +185,9 @@ module _ {R W : Type 0} {read : Ghosts R} (contents : W → Option (List ℕ)) w
   pub cut_blobs : (from mid to : Reader R read) (old out new : Output W) (done : ℕ) (why : Obstacle) → SentBlobs contents from old mid out done → limits_of mid ≡ limits_of from
       → is_spent out ≡ false → StopsBlob contents mid out why to new → CutBlobs contents from old to new (record { done = done; obstacle = why })
   cut_blobs from mid to old out new done (obstacle.Stream why) sent same fresh stops =
-      let misses : Misses (limits_of from) (rest_of mid) (given mid) why = subst (λ l. Misses l (rest_of mid) (given mid) why) same stops.1 in
+      let misses : Misses (limits_of from) (rest_of mid) (given mid) (told_of to) why = subst (λ l. Misses l (rest_of mid) (given mid) (told_of to) why) same stops.1 in
       cut_none from mid to old out new done (obstacle.Stream why) sent stops.0 fresh refl (λ fact held. held)
-      (refl, refl, explained (limits_of from) (rest_of from) (rest_of mid) (given from) (given mid) sent.bytes why sent.used misses)
+      (refl, refl, explained (limits_of from) (rest_of from) (rest_of mid) (told_of to) (given from) (given mid) sent.bytes why sent.used misses)
   cut_blobs from mid to old out new done obstacle.Memory sent same fresh stops =
       cut_none from mid to old out new done obstacle.Memory sent stops fresh refl (λ fact held. held) (refl, refl)
   cut_blobs from mid to old out new done (obstacle.Output why) sent same fresh stops = cut_one from mid to old out new done why sent same stops

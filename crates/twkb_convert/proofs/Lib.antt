@@ -1,4 +1,3 @@
-pub mod RecordFacts
 pub mod FieldFacts
 pub mod RootLemmas
 pub mod BlobLemmas
@@ -11,3 +10,4 @@ pub mod TableSent
 pub mod UnpackStops
 pub mod PackedLemmas
 pub mod OutputLemmas
+pub mod FrontLemmas

@@ -1,5 +1,5 @@
 -- From an output to what a caller of a conversion sees.
-use Rattle.std.proofs.Common.{◌≡◌, ℕ, List, [], Option, arith, refl}
+use Rattle.std.proofs.Common.{◌≡◌, ℕ, List, [], Option, arith, refl, inl}
 use Rattle.twkb_io.specs.Outputs.{sent_of, written}
 use Rattle.twkb_io.specs.declared.output.Output.{Output}
 use Rattle.twkb_geom.specs.Limits.{Allowance}
@@ -22,8 +22,8 @@ read_failed_in l contents told before after old new done start end none all =
       front = [];
       rest = [];
       ready = all_ready l contents told old new done all;
-      next = omega arith;
       cut = refl;
+      one = inl refl;
       appends = rw (start, end) at sends.appends;
       sent = (let sent = sends.sent in omega (arith, sent, none));
       done = all.count;

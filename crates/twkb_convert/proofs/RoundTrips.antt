@@ -1,5 +1,5 @@
 -- What is packed and unpacked comes back.
-use Rattle.std.proofs.Common.{◌≡◌, ◌∙◌, ℕ, List, [], ◌∷◌, ◌++◌, Option, Some, None, ap, refl, sym, subst, inl, inr}
+use Rattle.std.proofs.Common.{◌≡◌, ◌∙◌, ℕ, List, [], ◌∷◌, None, ap, refl, sym, subst, inl, inr}
 use Rattle.csv.specs.Reading.{AreRecords, Reached, default_config, strip_bom}
 use Rattle.csv.specs.Machine.{Read, next_record}
 use Rattle.csv.specs.declared.parser.Config.{Config}
@@ -9,7 +9,6 @@ use Rattle.twkb_geom.specs.Tree.{Tree}
 use Rattle.twkb_geom.specs.Limits.{Allowance, IsAllowance}
 use Rattle.twkb_geom.specs.RowLists.{AreValid}
 use Rattle.twkb_grammar.specs.Blob.{Stream}
-use Rattle.twkb_grammar.specs.Fault.{Reason, StreamFault}
 use Rattle.twkb_grammar.specs.Written.{canonical_stream}
 use Rattle.twkb_grammar.specs.declared.style.Style.TheVariants.{Full}
 use Rattle.twkb_grammar.proofs.Streams.{no_stream, one_stream, written_stream}
@@ -20,7 +19,7 @@ use Rattle.twkb_table.specs.declared.reason.RowReason.{RowReason}
 use Rattle.twkb_table.proofs.FaultLaws.{fault_none}
 use Rattle.twkb_table.proofs.ReadBack.{text_read}
 use Rattle.twkb_table.proofs.Tables.{one_table}
-use Rattle.twkb_convert.specs.CsvRecords.{AreRecordsOf}
+use Rattle.twkb_table.specs.CsvRecords.{AreRecordsOf}
 use Rattle.twkb_convert.specs.Outputs.{PackTo, UnpackTo, table_text}
 
 -- ---- a text has one list of records

@@ -1,11 +1,11 @@
 -- Texts of rows, joined.
-use Rattle.std.proofs.Common.{◌≡◌, ◌∙◌, ℕ, List, [], ◌∷◌, ◌++◌, ap, refl, sym, append_assoc}
-use Rattle.std.specs.Prelude.{map, flat_map}
+use Rattle.std.proofs.Common.{◌≡◌, ◌∙◌, ◌<◌, List, [], ◌∷◌, ◌++◌, ap, arith, sym, length, length-append, None}
+use Rattle.std.specs.Prelude.{map}
 use Rattle.std.proofs.lemmas.List.{append-nil, map-append}
 use Rattle.std.proofs.lemmas.Grind.{flat_map-append}
-use Rattle.twkb_geom.specs.Tree.{Tree}
-use Rattle.twkb_geom.specs.Rows.{rows, rows_of}
-use Rattle.twkb_table.specs.Record.{header, record_of}
+use Rattle.twkb_geom.specs.Tree.{Tree, simple, collection}
+use Rattle.twkb_geom.specs.Rows.{member_rows, own_row, rows, rows_below, rows_of}
+use Rattle.twkb_table.specs.Record.{Record, header, record_of}
 use Rattle.twkb_table.specs.Text.{csvtext, joined}
 use Rattle.twkb_convert.specs.Outputs.{rows_text, table_text}
 
@@ -22,3 +22,12 @@ rows_text-append gs hs =
 -- the header's line, and the rows
 pub table_text-rows : (gs : List Tree) → csvtext (header ∷ []) ++ rows_text gs ≡ table_text gs
 table_text-rows gs = ap (λ l. l ++ rows_text gs) (append-nil (joined header ++ 10 ∷ []))
+
+-- a line has its end
+line_some : (r : Record) (rs : List Record) → 0 < length (csvtext (r ∷ rs))
+line_some r rs = omega (arith, length-append (joined r ++ 10 ∷ []) (csvtext rs), length-append (joined r) (10 ∷ []))
+
+-- a geometry has a row
+pub rows_text_some : (g : Tree) → 0 < length (rows_text (g ∷ []))
+rows_text_some (simple p s) = line_some (record_of (own_row None 0 (simple p s))) (map record_of (rows_below 1 s ++ []))
+rows_text_some (collection p ids gs) = line_some (record_of (own_row None 0 (collection p ids gs))) (map record_of (member_rows 1 ids gs ++ []))

@@ -1,15 +1,16 @@
 -- Where the sending of a table stops.
-use Rattle.std.proofs.Common.{◌≡◌, ◌∙◌, ◌+◌, ℕ, List, [], ◌∷◌, ◌++◌, Option, Some, None, Ok, Err, length, ap, arith, refl, sym, inl, inr, length-append, false}
+use Rattle.std.proofs.Common.{◌≡◌, ◌∙◌, ◌+◌, ◌<◌, ◌^◌, ℕ, List, [], ◌∷◌, ◌++◌, Option, Some, None, Ok, Err, length, ap, arith, refl, sym, inl, inr, length-append, false}
 use Rattle.std.specs.Prelude.{IfSome, reverse}
 use Rattle.std.proofs.lemmas.List.{append-nil, map_push}
 use Rattle.std.proofs.lemmas.Grind.{flat_map-append}
 use Rattle.csv.specs.Reading.{Reached, strip_bom}
 use Rattle.csv.specs.declared.parser.State.TheVariants as st
-use Rattle.twkb_io.specs.Outputs.{Refused, Sent, Took, is_spent, output_failures}
+use Rattle.twkb_io.specs.Outputs.{Refused, Sent, Took, is_spent, output_failures, sent_of}
 use Rattle.twkb_io.specs.OutputLaws.{refused_join, took_join, took_nothing}
 use Rattle.twkb_io.specs.Taps.{count_failure}
 use Rattle.twkb_io.specs.declared.output.Output.{Output}
 use Rattle.twkb_io.specs.declared.output.OutFault.{OutFault}
+use Rattle.twkb_io.specs.declared.output.OutFault.TheVariants as out
 use Rattle.twkb_geom.specs.Tree.{Tree}
 use Rattle.twkb_geom.specs.Rows.{rows_of}
 use Rattle.twkb_geom.specs.Limits.{Allowance, IsAllowance}
@@ -21,14 +22,15 @@ use Rattle.twkb_table.specs.RowFault.{all_but_last}
 use Rattle.twkb_table.specs.declared.reason.RowReason.{RowReason}
 use Rattle.twkb_table.specs.declared.reason.RowReason.TheVariants.{BadHeader}
 use Rattle.twkb_table.proofs.Growing.{refused_none}
-use Rattle.twkb_convert.specs.CsvRecords.{AreRecordsOf, BeginWith}
+use Rattle.twkb_table.specs.CsvRecords.{AreRecordsOf, BeginWith}
 use Rattle.twkb_convert.specs.PointRows.{IsRefusedSoFar, point_tree}
 use Rattle.twkb_convert.specs.RefusedRows.{IsRefusedTable, MayBeWritten, NameSoFar}
 use Rattle.twkb_convert.specs.Sending.{Explains, GivesPoint, Pending, ReadsHeader, ReadsNext, SentAll, Stopped, UnlessOutput, is_write, trees_of}
-use Rattle.twkb_convert.specs.declared.record_source.RecordSource.{RecordSource}
+use Rattle.twkb_table.specs.declared.record_source.RecordSource.{RecordSource}
 use Rattle.twkb_convert.specs.declared.point_row.PointRow.{PointRow}
 use Rattle.twkb_convert.specs.declared.sending.Why.{Why}
 use Rattle.twkb_convert.specs.declared.sending.Why.TheVariants as why
+use Rattle.twkb_convert.proofs.BlobLemmas.{point_blob_some}
 use Rattle.twkb_convert.proofs.NamedLemmas.{all_but_pending, before_are_points, count_trees, named_more, named_none}
 
 -- ---- records
@@ -90,20 +92,20 @@ refused_row l told records rows here reason cap named begins (inr (handled, judg
 -- ---- stops before a put
 
 -- what a stop at a record says, where all but the last of the geometries so far were written
-explains_record : {R : Type 0} (l : Allowance) (remaining : R → Option (List ℕ)) (told : Option (List ℕ)) (records : List Record) (rows : List PointRow) (number : ℕ) (source : RecordSource R) (stop : Why)
+explains_record : {R : Type 0} (l : Allowance) (remaining : R → Option (List ℕ)) (told : Option (List ℕ)) (records : List Record) (rows : List PointRow) (number : ℕ) (source : RecordSource R) (stop : Why) (sent : ℕ)
     → IsAllowance l → Named l records (trees_of rows) → number ≡ length records + 1 → ReadsNext l remaining told records number source (Err stop)
-    → Explains l told stop (all_but_last (trees_of rows)) [] []
-explains_record l remaining told records rows number source (why.Row n reason) cap named place reads =
+    → Explains l told stop sent (all_but_last (trees_of rows)) [] []
+explains_record l remaining told records rows number source (why.Row n reason) sent cap named place reads =
     let (same, next) = reads in
     let refused = refused_row l told records rows next.here reason cap named next.begins (next.is_refused (reverse (rows_of (trees_of rows))) (before_are_points rows)) in
     rw (same, place) (refl, refl, refused)
-explains_record l remaining told records rows number source why.TooMany cap named place reads =
+explains_record l remaining told records rows number source why.TooMany sent cap named place reads =
     let (most, next) = reads in
-    (records ++ next.here ∷ [], next.begins, omega (arith, length-append records (next.here ∷ []), place, most))
-explains_record l remaining told records rows number source why.Source cap named place reads = tt
-explains_record l remaining told records rows number source why.Memory cap named place reads = tt
-explains_record l remaining told records rows number source why.Undrained cap named place reads = absurd reads
-explains_record l remaining told records rows number source (why.Output f) cap named place reads = absurd reads
+    (refl, refl, (records ++ next.here ∷ [], next.begins, omega (arith, length-append records (next.here ∷ []), place, most)))
+explains_record l remaining told records rows number source why.Source sent cap named place reads = (refl, refl)
+explains_record l remaining told records rows number source why.Memory sent cap named place reads = (refl, refl)
+explains_record l remaining told records rows number source why.Undrained sent cap named place reads = absurd reads
+explains_record l remaining told records rows number source (why.Output f) sent cap named place reads = absurd reads
 
 -- a stop at a record is no failed write
 no_write : {R W : Type 0} (l : Allowance) (remaining : R → Option (List ℕ)) (told : Option (List ℕ)) (records : List Record) (number : ℕ) (source : RecordSource R) (stop : Why) (old new : Output W)
@@ -134,11 +136,11 @@ stopped_at_record l remaining contents told records rows number source old new d
       front = [];
       rest = [];
       ready = record { records = records; geometries = trees_of rows; begins = begins; named = name_so_far l records (trees_of rows) named; ready = inl (append-nil ready) };
-      next = omega arith;
       cut = refl;
+      one = inl refl;
       sends = sent_whole contents old new (canonical_stream Full ready) took.sends;
       count = count;
-      explains = explains_record l remaining told records rows number source stop cap named place reads;
+      explains = explains_record l remaining told records rows number source stop (sent_of old) cap named place reads;
       failures = quiet.0;
       unspent = quiet.1;
     }
@@ -154,20 +156,20 @@ stopped_at_next l remaining contents told source after old new done row stop p c
     let place : done + 3 ≡ length p.records + 1 = (let c = p.place in omega (arith, c)) in
     stopped_at_record l remaining contents told p.records (p.rows ++ row ∷ []) (done + 3) after old new done stop cap p.named p.begins place reads took count
 
-header_stop : {R : Type 0} (l : Allowance) (remaining : R → Option (List ℕ)) (told : Option (List ℕ)) (source : RecordSource R) (stop : Why)
-    → ReadsHeader l remaining told source (Err stop) → Explains l told stop [] [] [] × (is_write stop ≡ false) × ((P : Type 0) → P → UnlessOutput stop P)
-header_stop l remaining told source (why.Row n reason) reads = ((refl, refl, reads), refl, λ P p. p)
-header_stop l remaining told source why.Source reads = (tt, refl, λ P p. p)
-header_stop l remaining told source why.Memory reads = absurd reads
-header_stop l remaining told source why.TooMany reads = absurd reads
-header_stop l remaining told source why.Undrained reads = absurd reads
-header_stop l remaining told source (why.Output f) reads = absurd reads
+header_stop : {R : Type 0} (l : Allowance) (remaining : R → Option (List ℕ)) (told : Option (List ℕ)) (source : RecordSource R) (stop : Why) (sent : ℕ)
+    → ReadsHeader l remaining told source (Err stop) → Explains l told stop sent [] [] [] × (is_write stop ≡ false) × ((P : Type 0) → P → UnlessOutput stop P)
+header_stop l remaining told source (why.Row n reason) sent reads = ((refl, refl, reads), refl, λ P p. p)
+header_stop l remaining told source why.Source sent reads = ((refl, refl), refl, λ P p. p)
+header_stop l remaining told source why.Memory sent reads = absurd reads
+header_stop l remaining told source why.TooMany sent reads = absurd reads
+header_stop l remaining told source why.Undrained sent reads = absurd reads
+header_stop l remaining told source (why.Output f) sent reads = absurd reads
 
 -- at the first record
 pub stopped_at_header : {R W : Type 0} (l : Allowance) (remaining : R → Option (List ℕ)) (contents : W → Option (List ℕ)) (told : Option (List ℕ)) (source : RecordSource R) (output : Output W) (stop : Why)
     → ReadsHeader l remaining told source (Err stop) → Stopped l contents told output output (record { done = 0; why = stop })
 stopped_at_header l remaining contents told source output stop reads =
-    let (explained, quiet, kept) = header_stop l remaining told source stop reads in
+    let (explained, quiet, kept) = header_stop l remaining told source stop (sent_of output) reads in
     let none = took_nothing contents output in
     record {
       whole = [];
@@ -175,8 +177,8 @@ stopped_at_header l remaining contents told source output stop reads =
       front = [];
       rest = [];
       ready = record { records = []; geometries = []; begins = begins_none told; named = refl; ready = inl refl };
-      next = omega arith;
       cut = refl;
+      one = inl refl;
       sends = none.sends;
       count = refl;
       explains = explained;
@@ -186,10 +188,12 @@ stopped_at_header l remaining contents told source output stop reads =
 
 -- ---- puts
 
+stream_one : (gs : List Tree) (g : Tree) → canonical_stream Full (gs ++ g ∷ []) ≡ canonical_stream Full gs ++ canonical_blob Full g
+stream_one gs g = flat_map-append (canonical_blob Full) gs (g ∷ []) ∙ ap (λ l. canonical_stream Full gs ++ l) (append-nil (canonical_blob Full g))
+
 stream_more : (rows : List PointRow) (row : PointRow) → canonical_stream Full (trees_of (rows ++ row ∷ [])) ≡ canonical_stream Full (trees_of rows) ++ canonical_blob Full (point_tree row)
 stream_more rows row =
-    rw (map_push point_tree rows row)
-    (flat_map-append (canonical_blob Full) (trees_of rows) (point_tree row ∷ []) ∙ ap (λ l. canonical_stream Full (trees_of rows) ++ l) (append-nil (canonical_blob Full (point_tree row))))
+    rw (map_push point_tree rows row) (stream_one (trees_of rows) (point_tree row))
 
 -- the pending point and those before it, once the next record is known
 pub may_be_written : {R W : Type 0} (l : Allowance) (remaining : R → Option (List ℕ)) (contents : W → Option (List ℕ)) (told : Option (List ℕ)) (source : RecordSource R) (old new : Output W) (done number : ℕ) (row : PointRow)
@@ -215,8 +219,13 @@ may_be_written l remaining contents told source old new done number row (Some la
 pub stopped_at_put : {R W : Type 0} (l : Allowance) (remaining : R → Option (List ℕ)) (contents : W → Option (List ℕ)) (told : Option (List ℕ)) (source : RecordSource R) (old mid new : Output W) (done : ℕ) (row : PointRow)
     (p : Pending l remaining contents told source old mid done row) (front rest : List ℕ) (f : OutFault)
     → MayBeWritten l told (trees_of p.rows ++ point_tree row ∷ []) → canonical_blob Full (point_tree row) ≡ front ++ rest → Refused contents mid front f new
+    → (f ≡ out.TooLong → 2 ^ 62 < sent_of mid + length (canonical_blob Full (point_tree row))) → (f ≡ out.Spent → ⊥)
+    → (0 < length (canonical_blob Full (point_tree row)) → sent_of new < sent_of mid + length (canonical_blob Full (point_tree row)))
     → Stopped l contents told old new (record { done = done; why = why.Output f })
-stopped_at_put l remaining contents told source old mid new done row p front rest f ready cut refused =
+stopped_at_put l remaining contents told source old mid new done row p front rest f ready cut refused long unspent short =
+    let not_all : rest ≡ [] → ⊥ = λ none. (let less = short (point_blob_some row) in
+    omega (arith, less, refused.sends.sent, ap length none, ap length cut, length-append front rest)) in
+    let all_text : canonical_stream Full (trees_of p.rows ++ point_tree row ∷ []) ≡ canonical_stream Full (trees_of p.rows) ++ canonical_blob Full (point_tree row) = stream_one (trees_of p.rows) (point_tree row) in
     let all = refused_join contents old mid new (canonical_stream Full (trees_of p.rows)) front f p.took refused in
     record {
       whole = trees_of p.rows;
@@ -224,11 +233,15 @@ stopped_at_put l remaining contents told source old mid new done row p front res
       front = front;
       rest = rest;
       ready = ready;
-      next = omega arith;
       cut = append-nil (canonical_blob Full (point_tree row)) ∙ cut;
+      one = inr (point_tree row, refl, not_all);
       sends = all.sends;
       count = p.count ∙ sym (count_trees p.rows);
-      explains = tt;
+      explains = (
+        λ far. (let most = long far in let before = p.took.sends.sent in
+            omega (arith, most, before, ap length all_text, length-append (canonical_stream Full (trees_of p.rows)) (canonical_blob Full (point_tree row)))),
+        unspent,
+      );
       failures = all.failures;
       unspent = tt;
     }
@@ -302,19 +315,19 @@ stopped_undrained l contents told old new done all = record {
   front = [];
   rest = [];
   ready = all_ready l contents told old new done all;
-  next = omega arith;
   cut = refl;
+  one = inl refl;
   sends = sent_whole contents old new (canonical_stream Full all.geometries) all.took.sends;
   count = all.count;
-  explains = refl;
+  explains = (refl, refl, (all.records, all.all, all.named));
   failures = all.took.failures;
   unspent = all.took.spent;
 }
 
 -- a flush that failed after the whole table
 pub flush_failed : {W : Type 0} (l : Allowance) (contents : W → Option (List ℕ)) (told : Option (List ℕ)) (old mid new : Output W) (done : ℕ) (f : OutFault)
-    → SentAll l contents told old mid done → Refused contents mid [] f new → Stopped l contents told old new (record { done = done; why = why.Output f })
-flush_failed l contents told old mid new done f all failed =
+    → SentAll l contents told old mid done → Refused contents mid [] f new → (f ≡ out.TooLong → ⊥) → (f ≡ out.Spent → ⊥) → Stopped l contents told old new (record { done = done; why = why.Output f })
+flush_failed l contents told old mid new done f all failed short unspent =
     let refused = refused_join contents old mid new (canonical_stream Full all.geometries) [] f all.took failed in
     record {
       whole = all.geometries;
@@ -322,11 +335,11 @@ flush_failed l contents told old mid new done f all failed =
       front = [];
       rest = [];
       ready = all_ready l contents told old mid done all;
-      next = omega arith;
       cut = refl;
+      one = inl refl;
       sends = refused.sends;
       count = all.count;
-      explains = tt;
+      explains = (λ far. absurd (short far), unspent);
       failures = refused.failures;
       unspent = tt;
     }

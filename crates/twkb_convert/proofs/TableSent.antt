@@ -1,11 +1,11 @@
 -- The table of a stream, sent behind the header's line.
-use Rattle.std.proofs.Common.{◌≡◌, ◌∙◌, ◌+◌, ◌<◌, ◌^◌, ℕ, List, [], ◌∷◌, ◌++◌, Option, Some, None, Result, Ok, Err, length, ap, arith, refl, sym, subst, inl, inr, length-append, append_assoc, false}
+use Rattle.std.proofs.Common.{◌≡◌, ◌∙◌, ◌+◌, ◌<◌, ◌^◌, ℕ, List, [], ◌∷◌, ◌++◌, Option, Some, None, Result, Ok, Err, length, ap, arith, refl, sym, subst, inl, inr, length-append, append_assoc}
 use Rattle.std.specs.Prelude.{IfOk, IfErr, IfSome}
 use Rattle.std.proofs.lemmas.List.{append-nil}
 use Rattle.std.specs.declared.io.traits.Read.{Ghosts}
 use Rattle.twkb_io.specs.Copies.{BeginsWith}
 use Rattle.twkb_io.specs.Taps.{count_failure}
-use Rattle.twkb_io.specs.Outputs.{Refused, Sent, Took, is_spent, output_failures, sent_of}
+use Rattle.twkb_io.specs.Outputs.{Refused, Took, sent_of}
 use Rattle.twkb_io.specs.OutputLaws.{refused_join, sent_join, took_join}
 use Rattle.twkb_io.specs.declared.output.Output.{Output}
 use Rattle.twkb_io.specs.declared.output.OutFault.{OutFault}
@@ -15,7 +15,7 @@ use Rattle.twkb_geom.specs.Limits.{Allowance}
 use Rattle.twkb_grammar.specs.Blob.{Stream}
 use Rattle.twkb_table.specs.Record.{header}
 use Rattle.twkb_table.specs.Text.{csvtext}
-use Rattle.twkb_convert.specs.BlobReading.{given, limits_of, rest_of}
+use Rattle.twkb_convert.specs.BlobReading.{given, limits_of, rest_of, told_of}
 use Rattle.twkb_blob.specs.declared.reader.Reader.{Reader}
 use Rattle.twkb_convert.specs.Outputs.{rows_text, table_text}
 use Rattle.twkb_convert.specs.RowSending.{CutBlobs, CutTable, Explains, SentAll, SentTable, is_write}
@@ -36,12 +36,12 @@ all_begins None bytes all = tt
 all_begins (Some whole) bytes all = ([], all ∙ sym (append-nil bytes))
 
 -- what was to be sent in all grows by the header's line
-explains_more : (l : Allowance) (known : Option (List ℕ)) (before : ℕ) (bytes : List ℕ) (why : Obstacle) (old mid : ℕ) (whole later : List Tree) (left : List ℕ)
-    → mid ≡ old + length header_line → Explains l known before bytes why mid (rows_text whole) later left
-    → Explains l known before bytes why old (table_text whole) later left
-explains_more l known before bytes (obstacle.Stream why) old mid whole later left sent explains = explains
-explains_more l known before bytes obstacle.Memory old mid whole later left sent explains = explains
-explains_more l known before bytes (obstacle.Output why) old mid whole later left sent explains = (
+explains_more : (l : Allowance) (known told : Option (List ℕ)) (before : ℕ) (bytes : List ℕ) (why : Obstacle) (old mid : ℕ) (whole later : List Tree) (left : List ℕ)
+    → mid ≡ old + length header_line → Explains l known told before bytes why mid (rows_text whole) later left
+    → Explains l known told before bytes why old (table_text whole) later left
+explains_more l known told before bytes (obstacle.Stream why) old mid whole later left sent explains = explains
+explains_more l known told before bytes obstacle.Memory old mid whole later left sent explains = explains
+explains_more l known told before bytes (obstacle.Output why) old mid whole later left sent explains = (
   λ long. let far = explains.0 long in omega (arith, far, sent, ap length (table_text-rows whole), length-append header_line (rows_text whole)),
   explains.1,
 )
@@ -60,6 +60,7 @@ module _ {R W : Type 0} {read : Ghosts R} (contents : W → Option (List ℕ)) w
     text = front;
     left = left;
     cut = cut;
+    one = inl refl;
     holds = inl refl;
     sends = refused.sends;
     count = refl;
@@ -97,10 +98,11 @@ module _ {R W : Type 0} {read : Ghosts R} (contents : W → Option (List ℕ)) w
         cut = sym (table_text-rows (cut.whole ++ cut.later)) ∙ ap (λ l. header_line ++ l) (rows_text-append cut.whole cut.later
             ∙ ap (λ l. rows_text cut.whole ++ l) cut.cut ∙ sym (append_assoc (rows_text cut.whole) cut.front cut.left))
             ∙ sym (append_assoc header_line (rows_text cut.whole ++ cut.front) cut.left);
+        one = cut.one;
         holds = inr (cut.front, sym (append_assoc header_line (rows_text cut.whole) cut.front) ∙ ap (λ l. l ++ cut.front) (table_text-rows cut.whole));
         sends = sent_join contents old mid new header_line (rows_text cut.whole ++ cut.front) took.sends cut.sends;
         count = cut.count;
-        explains = explains_more (limits_of from) (rest_of from) (given from) cut.bytes halt.obstacle (sent_of old) (sent_of mid)
+        explains = explains_more (limits_of from) (rest_of from) (told_of to) (given from) cut.bytes halt.obstacle (sent_of old) (sent_of mid)
             (cut.whole ++ cut.later) cut.later cut.left took.sends.sent cut.explains;
         failures = cut.failures ∙ ap (count_failure (is_write halt.obstacle)) took.failures;
         unspent = cut.unspent;
@@ -126,6 +128,7 @@ module _ {R W : Type 0} {read : Ghosts R} (contents : W → Option (List ℕ)) w
         text = table_text sent.trees ++ [];
         left = [];
         cut = ap table_text (append-nil sent.trees) ∙ (sym same ∙ sym (append-nil (table_text sent.trees ++ [])));
+        one = inl refl;
         holds = inr ([], refl);
         sends = all.sends;
         count = sent.count;

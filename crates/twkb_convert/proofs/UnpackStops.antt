@@ -1,13 +1,12 @@
 -- What a caller of `unpack` learns of a stop.
-use Rattle.std.proofs.Common.{◌≡◌, ◌≢◌, ◌∙◌, ◌+◌, ◌<◌, ◌^◌, ℕ, List, [], ◌∷◌, ◌++◌, Option, Some, None, Bool, true, false, length, ap, arith, refl, sym, subst, inl, inr, length-append}
+use Rattle.std.proofs.Common.{◌≡◌, ◌∙◌, ◌+◌, ◌<◌, ◌^◌, ℕ, List, [], ◌++◌, Option, Some, None, Bool, true, false, length, ap, arith, refl, sym, subst, inl, inr}
 use Rattle.std.specs.Prelude.{IfSome, ◌⊎◌}
 use Rattle.std.proofs.lemmas.List.{append-nil}
-use Rattle.std.proofs.KnownBytes.{Consumes-kept}
-use Rattle.std.specs.Io.KnownBytes.{Appends, Consumes, Keeps}
+use Rattle.std.specs.Io.KnownBytes.{Appends}
 use Rattle.std.specs.declared.io.traits.Read.{Ghosts}
 use Rattle.twkb_io.specs.Copies.{BeginsWith}
 use Rattle.twkb_io.specs.Taps.{count_failure, device_of, failures_of}
-use Rattle.twkb_io.specs.Outputs.{output_failures, output_tap, sent_of}
+use Rattle.twkb_io.specs.Outputs.{output_tap, sent_of}
 use Rattle.twkb_io.specs.declared.tap.Tap.{Tap}
 use Rattle.twkb_io.specs.declared.output.Output.{Output}
 use Rattle.twkb_io.specs.declared.input.InFault.TheVariants as input
@@ -15,15 +14,15 @@ use Rattle.twkb_io.specs.declared.output.OutFault.TheVariants as out
 use Rattle.twkb_geom.specs.Tree.{Tree}
 use Rattle.twkb_geom.specs.Limits.{Allowance}
 use Rattle.twkb_grammar.specs.Blob.{Stream}
-use Rattle.twkb_grammar.specs.Fault.{FirstFault, Reason, StreamFault}
+use Rattle.twkb_grammar.specs.Fault.{StreamFault}
 use Rattle.twkb_engine.specs.Frames.{reason_of}
-use Rattle.twkb_convert.specs.BlobReading.{RefusesBlob, given, limits_of, reader_failures, reader_tap, rest_of}
+use Rattle.twkb_convert.specs.BlobReading.{RefusesBlob, given, limits_of, reader_failures, reader_tap, rest_of, told_of}
 use Rattle.twkb_engine.specs.declared.blob_reason.BlobReason.{BlobReason}
 use Rattle.twkb_blob.specs.declared.reader.Reader.{Reader}
 use Rattle.twkb_blob.specs.declared.fault.BlobFault.TheVariants as blob
 use Rattle.twkb_convert.specs.Outputs.{table_text}
 use Rattle.twkb_convert.specs.RowSending.{CutTable, Explains, StopsRead, is_read, is_write}
-use Rattle.twkb_convert.specs.Unpacked.{DevicesTell, ExplainsCause, IsDeviceCause, StoppedUnpacking, cause_for}
+use Rattle.twkb_convert.specs.Unpacked.{ExplainsCause, IsDeviceCause, StoppedUnpacking, cause_for}
 use Rattle.twkb_convert.specs.declared.row_sending.Obstacle.{Obstacle}
 use Rattle.twkb_convert.specs.declared.row_sending.Obstacle.TheVariants as obstacle
 use Rattle.twkb_convert.specs.declared.row_sending.Halt.{Halt}
@@ -50,7 +49,7 @@ tell : (why : Obstacle) (failed : Bool) → (failed ≡ is_read why) ⊎ (is_wri
 tell (obstacle.Stream blob.Memory) failed told = neither failed causes.Memory told (λ e. cc e) (λ e. cc e)
 tell (obstacle.Stream (blob.Device input.Read)) failed told = was_read failed told
 tell (obstacle.Stream (blob.Device input.TooLong)) failed told = neither failed causes.TooLong told (λ e. cc e) (λ e. cc e)
-tell (obstacle.Stream (blob.Device input.Spent)) failed told = neither failed causes.Memory told (λ e. cc e) (λ e. cc e)
+tell (obstacle.Stream (blob.Device input.Spent)) failed told = neither failed causes.TooLong told (λ e. cc e) (λ e. cc e)
 tell (obstacle.Stream blob.Spent) failed told = neither failed causes.TooLong told (λ e. cc e) (λ e. cc e)
 tell (obstacle.Stream (blob.At offset reason)) failed told = neither failed (causes.Blob offset reason) told (λ e. cc e) (λ e. cc e)
 tell obstacle.Memory failed told = neither failed causes.Memory told (λ e. cc e) (λ e. cc e)
@@ -82,21 +81,21 @@ stream_fault l (Some all) before bytes trees offset reason start blobs (left, wh
 none_later : (l : Allowance) (bytes : List ℕ) (whole later : List Tree) → Stream l bytes (whole ++ later) → later ≡ [] → Stream l bytes whole
 none_later l bytes whole later blobs none = subst (λ gs. Stream l bytes gs) (ap (λ gs. whole ++ gs) none ∙ append-nil whole) blobs
 
-caused : (l : Allowance) (old : Option (List ℕ)) (before : ℕ) (bytes : List ℕ) (why : Obstacle) (sent : ℕ) (whole later : List Tree) (left : List ℕ)
+caused : (l : Allowance) (old told : Option (List ℕ)) (before : ℕ) (bytes : List ℕ) (why : Obstacle) (sent : ℕ) (whole later : List Tree) (left : List ℕ)
     → before ≡ 0 → sent ≡ 0 → Stream l bytes (whole ++ later)
-    → Explains l old before bytes why sent (table_text (whole ++ later)) later left → ExplainsCause l old (cause_for why) whole later left
-caused l old before bytes (obstacle.Stream blob.Memory) sent whole later left start none blobs e = (e.0, e.1)
-caused l old before bytes (obstacle.Stream blob.Spent) sent whole later left start none blobs e = absurd e.2
-caused l old before bytes (obstacle.Stream (blob.Device input.Read)) sent whole later left start none blobs e = (e.0, e.1)
-caused l old before bytes (obstacle.Stream (blob.Device input.TooLong)) sent whole later left start none blobs e = inl (long_input old before start e.2)
-caused l old before bytes (obstacle.Stream (blob.Device input.Spent)) sent whole later left start none blobs e = (e.0, e.1)
-caused l old before bytes (obstacle.Stream (blob.At offset reason)) sent whole later left start none blobs e =
+    → Explains l old told before bytes why sent (table_text (whole ++ later)) later left → ExplainsCause l old told bytes (cause_for why) whole later left
+caused l old told before bytes (obstacle.Stream blob.Memory) sent whole later left start none blobs e = (e.0, e.1)
+caused l old told before bytes (obstacle.Stream blob.Spent) sent whole later left start none blobs e = absurd e.2
+caused l old told before bytes (obstacle.Stream (blob.Device input.Read)) sent whole later left start none blobs e = e
+caused l old told before bytes (obstacle.Stream (blob.Device input.TooLong)) sent whole later left start none blobs e = inl (long_input old before start e.2)
+caused l old told before bytes (obstacle.Stream (blob.Device input.Spent)) sent whole later left start none blobs e = absurd e.2
+caused l old told before bytes (obstacle.Stream (blob.At offset reason)) sent whole later left start none blobs e =
     (e.0, e.1, stream_fault l old before bytes whole offset reason start (none_later l bytes whole later blobs e.0) e.2)
-caused l old before bytes obstacle.Memory sent whole later left start none blobs e = e
-caused l old before bytes (obstacle.Output out.Write) sent whole later left start none blobs e = tt
-caused l old before bytes (obstacle.Output out.Stuck) sent whole later left start none blobs e = tt
-caused l old before bytes (obstacle.Output out.TooLong) sent whole later left start none blobs e = inr (let far = e.0 refl in omega (arith, far, none))
-caused l old before bytes (obstacle.Output out.Spent) sent whole later left start none blobs e = absurd (e.1 refl)
+caused l old told before bytes obstacle.Memory sent whole later left start none blobs e = e
+caused l old told before bytes (obstacle.Output out.Write) sent whole later left start none blobs e = tt
+caused l old told before bytes (obstacle.Output out.Stuck) sent whole later left start none blobs e = tt
+caused l old told before bytes (obstacle.Output out.TooLong) sent whole later left start none blobs e = inr (let far = e.0 refl in omega (arith, far, none))
+caused l old told before bytes (obstacle.Output out.Spent) sent whole later left start none blobs e = absurd (e.1 refl)
 
 -- ---- the stop
 
@@ -104,15 +103,16 @@ module _ {R W : Type 0} {read : Ghosts R} (remaining : R → Option (List ℕ)) 
   pub stopped : (l : Allowance) (reader after : Tap R) (writer written : Tap W) (from to : Reader R read) (old new : Output W) (halt : Halt) (sent : ℕ) (why : Cause)
       → limits_of from ≡ l → rest_of from ≡ remaining (device_of reader) → given from ≡ 0 → reader_failures from ≡ failures_of reader
       → (output_tap old).now ≡ writer → sent_of old ≡ 0 → sent ≡ sent_of new → why ≡ cause_for halt.obstacle
-      → (reader_tap to).now ≡ after → (output_tap new).now ≡ written
+      → (reader_tap to).now ≡ after → (output_tap new).now ≡ written → told_of to ≡ remaining (device_of after)
       → CutTable contents from old to new halt → StopsRead from halt.obstacle to
       → StoppedUnpacking l remaining contents reader writer (record { done = halt.done; sent = sent; cause = why }) after written
-  stopped l reader after writer written from to old new halt sent why limits told start failures lent none count is_cause ends closes cut stops =
+  stopped l reader after writer written from to old new halt sent why limits told start failures lent none count is_cause ends closes later_told cut stops =
       let total : sent ≡ length cut.text = omega (arith, count, cut.sends.sent, none) in
       let blobs = subst (λ a. Stream a cut.bytes (cut.whole ++ cut.later)) limits cut.blobs in
-      let known : Explains l (remaining (device_of reader)) (given from) cut.bytes halt.obstacle (sent_of old) (table_text (cut.whole ++ cut.later)) cut.later cut.left =
-      subst (λ a. Explains a (remaining (device_of reader)) (given from) cut.bytes halt.obstacle (sent_of old) (table_text (cut.whole ++ cut.later)) cut.later cut.left) limits
-      (subst (λ k. Explains (limits_of from) k (given from) cut.bytes halt.obstacle (sent_of old) (table_text (cut.whole ++ cut.later)) cut.later cut.left) told cut.explains) in
+      let known : Explains l (remaining (device_of reader)) (remaining (device_of after)) (given from) cut.bytes halt.obstacle (sent_of old) (table_text (cut.whole ++ cut.later)) cut.later cut.left =
+      subst (λ a. Explains a (remaining (device_of reader)) (remaining (device_of after)) (given from) cut.bytes halt.obstacle (sent_of old) (table_text (cut.whole ++ cut.later)) cut.later cut.left) limits
+      (subst (λ k. Explains (limits_of from) k (remaining (device_of after)) (given from) cut.bytes halt.obstacle (sent_of old) (table_text (cut.whole ++ cut.later)) cut.later cut.left) told
+      (subst (λ k. Explains (limits_of from) (rest_of from) k (given from) cut.bytes halt.obstacle (sent_of old) (table_text (cut.whole ++ cut.later)) cut.later cut.left) later_told cut.explains)) in
       record {
         whole = cut.whole;
         later = cut.later;
@@ -122,13 +122,14 @@ module _ {R W : Type 0} {read : Ghosts R} (remaining : R → Option (List ℕ)) 
         text = cut.text;
         left = cut.left;
         cut = cut.cut;
+        one = cut.one;
         holds = cut.holds;
         appends = subst (λ t. Appends (contents (device_of t)) (contents (device_of written)) cut.text) lent
             (subst (λ t. Appends (contents (device_of (output_tap old).now)) (contents (device_of t)) cut.text) closes cut.sends.appends);
         done = cut.count;
         sent = total;
-        explains = subst (λ c. ExplainsCause l (remaining (device_of reader)) c cut.whole cut.later cut.left) (sym is_cause)
-            (caused l (remaining (device_of reader)) (given from) cut.bytes halt.obstacle (sent_of old) cut.whole cut.later cut.left start none blobs known);
+        explains = subst (λ c. ExplainsCause l (remaining (device_of reader)) (remaining (device_of after)) cut.bytes c cut.whole cut.later cut.left) (sym is_cause)
+            (caused l (remaining (device_of reader)) (remaining (device_of after)) (given from) cut.bytes halt.obstacle (sent_of old) cut.whole cut.later cut.left start none blobs known);
         devices = record {
           read_failed = stops.has_failed;
           write_failed = is_write halt.obstacle;

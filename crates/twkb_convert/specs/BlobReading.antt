@@ -1,10 +1,9 @@
 -- What one call of a reader of blobs does to the bytes that are left.
-use Rattle.std.specs.Prelude.{ℕ, ◌≡◌, ◌≢◌, ◌+◌, ◌^◌, ◌<◌, List, [], length, Option, Some, None, IfSome, Bool, true, false, Result, Ok, Err, ⊤}
-use Rattle.std.specs.Io.KnownBytes.{Consumes, IsAtEnd}
+use Rattle.std.specs.Prelude.{ℕ, ◌≡◌, ◌+◌, ◌^◌, ◌<◌, List, [], ◌++◌, length, Bool, Option, IfSome, ⊤}
+use Rattle.std.specs.Io.KnownBytes.{Consumes}
 use Rattle.std.specs.Borrow.{MutBor}
 use Rattle.std.specs.declared.io.traits.Read.{Ghosts}
 use Rattle.twkb_io.specs.declared.tap.Tap.{Tap}
-use Rattle.twkb_io.specs.declared.input.InFault.{InFault}
 use Rattle.twkb_io.specs.declared.input.InFault.TheVariants as input
 use Rattle.twkb_io.specs.Inputs as Inputs
 use Rattle.twkb_geom.specs.Tree.{Tree}
@@ -13,7 +12,7 @@ use Rattle.twkb_grammar.specs.Blob.{Blob}
 use Rattle.twkb_grammar.specs.Fault.{FirstFault}
 use Rattle.twkb_engine.specs.declared.blob_reason.BlobReason.{BlobReason}
 use Rattle.twkb_engine.specs.Frames.{reason_of}
-use Rattle.twkb_blob.specs.Readers.{reader_input, reader_limits}
+use Rattle.twkb_blob.specs.Readers.{AreCutOff, reader_input, reader_limits, told_by}
 use Rattle.twkb_blob.specs.declared.fault.BlobFault.{BlobFault}
 use Rattle.twkb_blob.specs.declared.fault.BlobFault.TheVariants as stop
 use Rattle.twkb_blob.specs.declared.reader.Reader.{Reader}
@@ -33,6 +32,14 @@ given reader = Inputs.given (reader_input reader)
 -- the bytes that are left
 abbrev pub rest_of : {R : Type 0} {read : Ghosts R} → Reader R read → Option (List ℕ)
 rest_of reader = Inputs.rest_of (reader_input reader)
+
+-- what the device still tells
+abbrev pub told_of : {R : Type 0} {read : Ghosts R} → Reader R read → Option (List ℕ)
+told_of reader = told_by (reader_input reader)
+
+-- whether a call of the input answered an error
+abbrev pub is_input_spent : {R : Type 0} {read : Ghosts R} → Reader R read → Bool
+is_input_spent reader = Inputs.is_spent (reader_input reader)
 
 -- the limits of each geometry
 abbrev pub limits_of : {R : Type 0} {read : Ghosts R} → Reader R read → Allowance
@@ -55,11 +62,17 @@ pub record RefusesBlob (limits : Allowance) (bytes : List ℕ) (before : ℕ) (o
   pub place : offset ≡ before + within
   pub first : FirstFault limits bytes within (reason_of why)
 
--- why no blob came, of the bytes that were left and the count of those given out before
-abbrev pub Misses : Allowance → Option (List ℕ) → ℕ → BlobFault → Type 0
-Misses limits old before stop.Memory = ⊤
-Misses limits old before (stop.Device input.Read) = ⊤
-Misses limits old before (stop.Device input.TooLong) = IfSome old (λ bytes. 2 ^ 62 < before + length bytes)
-Misses limits old before (stop.Device input.Spent) = ⊤
-Misses limits old before stop.Spent = ⊥
-Misses limits old before (stop.At offset why) = IfSome old (λ bytes. RefusesBlob limits bytes before offset why)
+-- The device gave these bytes, then none or some that are cut inside a blob, and now it tells what follows them.
+pub record GaveOnly (limits : Allowance) (old : Option (List ℕ)) (bytes : List ℕ) (told : Option (List ℕ)) : Type 0 where
+  pub cut : List ℕ
+  pub consumed : Consumes old told (bytes ++ cut)
+  pub cut_off : AreCutOff limits cut
+
+-- why no blob came, of the bytes that were left, the count of those given out before, and what the device now tells
+abbrev pub Misses : Allowance → Option (List ℕ) → ℕ → Option (List ℕ) → BlobFault → Type 0
+Misses limits old before told stop.Memory = ⊤
+Misses limits old before told (stop.Device input.Read) = GaveOnly limits old [] told
+Misses limits old before told (stop.Device input.TooLong) = IfSome old (λ bytes. 2 ^ 62 < before + length bytes)
+Misses limits old before told (stop.Device input.Spent) = ⊥
+Misses limits old before told stop.Spent = ⊥
+Misses limits old before told (stop.At offset why) = IfSome old (λ bytes. RefusesBlob limits bytes before offset why)

@@ -1,5 +1,3 @@
-pub mod CsvRecords
-pub mod SourceStanding
 pub mod Draining
 pub mod PointRows
 pub mod PointBlobs

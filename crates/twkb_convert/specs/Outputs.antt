@@ -1,5 +1,5 @@
 -- What the conversions write.
-use Rattle.std.specs.Prelude.{◌≡◌, ℕ, ◌⊎◌, List, map}
+use Rattle.std.specs.Prelude.{◌≡◌, ◌≢◌, ℕ, ◌⊎◌, List, [], ◌∷◌, map}
 use Rattle.twkb_geom.specs.Tree.{Tree}
 use Rattle.twkb_geom.specs.Limits.{Allowance}
 use Rattle.twkb_geom.specs.Rows.{rows_of}
@@ -34,3 +34,7 @@ abbrev pub UnpackTo : Allowance → List ℕ → List ℕ → Type 0
 UnpackTo l bytes text =
     ((gs : List Tree) × Stream l bytes gs × (text ≡ table_text gs))
     ⊎ ((offset : ℕ) × (reason : Reason) × (gs : List Tree) × StreamFault l bytes gs offset reason × (text ≡ table_text gs))
+
+-- At most one more geometry was begun, and bytes of its output are left to be written: so those before it are all whose output is whole.
+abbrev pub AtMostOneCut : List Tree → List ℕ → Type 0
+AtMostOneCut later left = (later ≡ []) ⊎ ((g : Tree) × (later ≡ g ∷ []) × (left ≢ []))

@@ -1,5 +1,5 @@
 -- What a table is packed to.
-use Rattle.std.specs.Prelude.{◌≡◌, ℕ, ◌^◌, ◌≤◌, List, [], ◌++◌, length, Option, IfSome, ⊤}
+use Rattle.std.specs.Prelude.{◌≡◌, ℕ, ◌^◌, ◌<◌, ◌⊎◌, List, [], ◌++◌, length, Option, IfSome, ⊤}
 use Rattle.std.specs.Io.KnownBytes.{Appends}
 use Rattle.twkb_geom.specs.Tree.{Tree}
 use Rattle.twkb_geom.specs.Limits.{Allowance}
@@ -7,8 +7,9 @@ use Rattle.twkb_grammar.specs.Written.{canonical_stream}
 use Rattle.twkb_grammar.specs.declared.style.Style.TheVariants.{Full}
 use Rattle.twkb_table.specs.Record.{Record}
 use Rattle.twkb_table.specs.Named.{Named}
-use Rattle.twkb_convert.specs.CsvRecords.{AreRecordsOf, BeginWith}
-use Rattle.twkb_convert.specs.RefusedRows.{IsRefusedTable, MayBeWritten}
+use Rattle.twkb_table.specs.CsvRecords.{AreRecordsOf, BeginWith}
+use Rattle.twkb_convert.specs.Outputs.{AtMostOneCut}
+use Rattle.twkb_convert.specs.RefusedRows.{IsRefusedTable, MayBeWritten, NamesAll}
 use Rattle.twkb_convert.specs.declared.report.Cause.{Cause}
 use Rattle.twkb_convert.specs.declared.report.Cause.TheVariants as cause
 use Rattle.twkb_convert.specs.declared.report.ConvertFault.{ConvertFault}
@@ -24,15 +25,18 @@ pub record Packed (l : Allowance) (told before after : Option (List ℕ)) (repor
   pub count : report.geometries ≡ length geometries
   pub bytes : report.bytes ≡ length (canonical_stream Full geometries)
 
--- what a cause says of the table and of what was written: a refused record comes after the whole output that it leaves complete
+-- What a cause says of the table and of what was written: a refused record comes after the whole output that it leaves complete; the
+-- output would be too long, or behind the whole table the reader gave bytes without end; the other causes cut no blob, a device aside.
 abbrev pub ExplainsCause : Allowance → Option (List ℕ) → Cause → List Tree → List Tree → List ℕ → Type 0
 ExplainsCause l told (cause.Row number reason) whole later front = (later ≡ []) × (front ≡ []) × IsRefusedTable l told number reason whole
-ExplainsCause l told cause.TooManyRecords whole later front = (seen : List Record) × IfSome told (λ text. BeginWith text seen) × (length seen ≡ 2 ^ 32)
+ExplainsCause l told cause.TooManyRecords whole later front =
+    (later ≡ []) × (front ≡ []) × ((seen : List Record) × IfSome told (λ text. BeginWith text seen) × (length seen ≡ 2 ^ 32))
 ExplainsCause l told (cause.Blob offset reason) whole later front = ⊥
 ExplainsCause l told cause.ReadDevice whole later front = ⊤
 ExplainsCause l told cause.WriteDevice whole later front = ⊤
-ExplainsCause l told cause.Memory whole later front = ⊤
-ExplainsCause l told cause.TooLong whole later front = ⊤
+ExplainsCause l told cause.Memory whole later front = (later ≡ []) × (front ≡ [])
+ExplainsCause l told cause.TooLong whole later front =
+    (2 ^ 62 < length (canonical_stream Full (whole ++ later))) ⊎ ((later ≡ []) × (front ≡ []) × NamesAll l told whole)
 
 -- Geometries of the text may be written: the canonical blobs of the first ones were, and a front of the next one's.
 pub record StoppedIn (l : Allowance) (told before after : Option (List ℕ)) (fault : ConvertFault) : Type 0 where
@@ -41,8 +45,8 @@ pub record StoppedIn (l : Allowance) (told before after : Option (List ℕ)) (fa
   pub front : List ℕ
   pub rest : List ℕ
   pub ready : MayBeWritten l told (whole ++ later)
-  pub next : length later ≤ 1
   pub cut : canonical_stream Full later ≡ front ++ rest
+  pub one : AtMostOneCut later rest
   pub appends : Appends before after (canonical_stream Full whole ++ front)
   pub sent : fault.sent ≡ length (canonical_stream Full whole ++ front)
   pub done : fault.done ≡ length whole

@@ -7,7 +7,7 @@ use Rattle.twkb_table.specs.Named.{Named}
 use Rattle.twkb_table.specs.RowFault.{AreComplete, all_but_last}
 use Rattle.twkb_table.specs.declared.reason.RowReason.{RowReason}
 use Rattle.twkb_table.specs.declared.reason.RowReason.TheVariants.{Unsupported}
-use Rattle.twkb_convert.specs.CsvRecords.{AreRecordsOf, BeginWith}
+use Rattle.twkb_table.specs.CsvRecords.{AreRecordsOf, BeginWith}
 use Rattle.twkb_convert.specs.PointRows.{NamesOtherKind}
 
 -- The records of the text begin with some that are refused at the record of this number, for this reason, and these geometries are
@@ -47,3 +47,7 @@ pub record MayBeWritten (l : Allowance) (told : Option (List ℕ)) (gs : List Tr
   pub begins : IfSome told (λ text. BeginWith text records)
   pub named : NameSoFar l records geometries
   pub ready : (gs ≡ all_but_last geometries) ⊎ (IfSome told (λ text. AreRecordsOf text records) × (gs ≡ geometries))
+
+-- the records of the text are all read, and name these geometries
+abbrev pub NamesAll : Allowance → Option (List ℕ) → List Tree → Type 0
+NamesAll l told gs = (records : List Record) × IfSome told (λ text. AreRecordsOf text records) × Named l records gs

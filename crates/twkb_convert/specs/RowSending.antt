@@ -1,6 +1,6 @@
 -- How far the rows of a stream were sent.
-use Rattle.std.specs.Prelude.{◌≡◌, ◌≢◌, ℕ, ◌+◌, ◌^◌, ◌<◌, ◌≤◌, ◌⊎◌, List, [], ◌∷◌, ◌++◌, length, Option, Some, None, IfSome, Result, Ok, Err, Bool, true, false, ⊤}
-use Rattle.std.specs.Io.KnownBytes.{Consumes, IsAtEnd, Keeps}
+use Rattle.std.specs.Prelude.{◌≡◌, ◌≢◌, ℕ, ◌+◌, ◌^◌, ◌<◌, ◌≤◌, ◌⊎◌, List, [], ◌∷◌, ◌++◌, length, Option, IfSome, Bool, true, false, ⊤}
+use Rattle.std.specs.Io.KnownBytes.{IsAtEnd}
 use Rattle.std.specs.declared.io.traits.Read.{Ghosts}
 use Rattle.twkb_io.specs.Taps.{count_failure, device_of}
 use Rattle.twkb_io.specs.Copies.{BeginsWith}
@@ -8,17 +8,15 @@ use Rattle.twkb_io.specs.Outputs.{Refused, Sent, Took, is_device, is_spent, outp
 use Rattle.twkb_io.specs.declared.output.Output.{Output}
 use Rattle.twkb_io.specs.declared.output.OutFault.{OutFault}
 use Rattle.twkb_io.specs.declared.output.OutFault.TheVariants as out
-use Rattle.twkb_io.specs.declared.input.InFault.{InFault}
 use Rattle.twkb_io.specs.declared.input.InFault.TheVariants as input
 use Rattle.twkb_geom.specs.Tree.{Tree}
 use Rattle.twkb_geom.specs.Limits.{Allowance}
 use Rattle.twkb_grammar.specs.Blob.{Stream}
-use Rattle.twkb_grammar.specs.Fault.{FirstFault}
-use Rattle.twkb_convert.specs.BlobReading.{GivesBlob, Misses, RefusesBlob, Used, given, limits_of, reader_failures, reader_tap, rest_of}
+use Rattle.twkb_convert.specs.BlobReading.{GaveOnly, GivesBlob, Misses, RefusesBlob, Used, given, limits_of, reader_failures, reader_tap, rest_of, told_of}
 use Rattle.twkb_blob.specs.declared.reader.Reader.{Reader}
 use Rattle.twkb_blob.specs.declared.fault.BlobFault.{BlobFault}
 use Rattle.twkb_blob.specs.declared.fault.BlobFault.TheVariants as blob
-use Rattle.twkb_convert.specs.Outputs.{rows_text, table_text}
+use Rattle.twkb_convert.specs.Outputs.{AtMostOneCut, rows_text, table_text}
 use Rattle.twkb_convert.specs.declared.row_sending.Obstacle.{Obstacle}
 use Rattle.twkb_convert.specs.declared.row_sending.Obstacle.TheVariants as obstacle
 use Rattle.twkb_convert.specs.declared.row_sending.Halt.{Halt}
@@ -83,7 +81,7 @@ pub record GivesRows {R : Type 0} {read : Ghosts R} (from to : Reader R read) (t
 
 -- what an obstacle to one blob's reading says
 abbrev pub StopsRows : {R : Type 0} {read : Ghosts R} → Reader R read → Obstacle → Reader R read → Type 0
-StopsRows from (obstacle.Stream why) to = Misses (limits_of from) (rest_of from) (given from) why
+StopsRows from (obstacle.Stream why) to = Misses (limits_of from) (rest_of from) (given from) (told_of to) why
 StopsRows from obstacle.Memory to = ⊤
 StopsRows from (obstacle.Output why) to = ⊥
 
@@ -103,11 +101,12 @@ pub record CutBlob {R W : Type 0} {read : Ghosts R} (contents : W → Option (Li
   pub refused : Refused contents old front why new
   pub too_long : why ≡ out.TooLong → 2 ^ 62 < sent_of old + length (rows_text (tree ∷ []))
   pub unspent : why ≢ out.Spent
+  pub short : 0 < length (rows_text (tree ∷ [])) → sent_of new < sent_of old + length (rows_text (tree ∷ []))
 
 -- what an obstacle to one blob's rows says
 abbrev pub StopsBlob : {R W : Type 0} {read : Ghosts R} → (W → Option (List ℕ)) → Reader R read → Output W → Obstacle → Reader R read → Output W → Type 0
 StopsBlob contents from old (obstacle.Stream why) to new =
-    (new ≡ old) × Misses (limits_of from) (rest_of from) (given from) why
+    (new ≡ old) × Misses (limits_of from) (rest_of from) (given from) (told_of to) why
 StopsBlob contents from old obstacle.Memory to new = new ≡ old
 StopsBlob contents from old (obstacle.Output why) to new = CutBlob contents from old to why new
 
@@ -132,20 +131,20 @@ pub record SentAll {R W : Type 0} {read : Ghosts R} (contents : W → Option (Li
   pub count : done ≡ length trees
 
 -- the reader's answer, after blobs of these bytes
-abbrev pub ExplainsStream : Allowance → Option (List ℕ) → ℕ → List ℕ → BlobFault → Type 0
-ExplainsStream l old before bytes blob.Memory = ⊤
-ExplainsStream l old before bytes blob.Spent = ⊥
-ExplainsStream l old before bytes (blob.Device input.Read) = ⊤
-ExplainsStream l old before bytes (blob.Device input.TooLong) = IfSome old (λ all. 2 ^ 62 < before + length all)
-ExplainsStream l old before bytes (blob.Device input.Spent) = ⊤
-ExplainsStream l old before bytes (blob.At offset reason) =
+abbrev pub ExplainsStream : Allowance → Option (List ℕ) → Option (List ℕ) → ℕ → List ℕ → BlobFault → Type 0
+ExplainsStream l old told before bytes blob.Memory = ⊤
+ExplainsStream l old told before bytes blob.Spent = ⊥
+ExplainsStream l old told before bytes (blob.Device input.Read) = GaveOnly l old bytes told
+ExplainsStream l old told before bytes (blob.Device input.TooLong) = IfSome old (λ all. 2 ^ 62 < before + length all)
+ExplainsStream l old told before bytes (blob.Device input.Spent) = ⊥
+ExplainsStream l old told before bytes (blob.At offset reason) =
     IfSome old (λ all. (left : List ℕ) × (all ≡ bytes ++ left) × RefusesBlob l left (before + length bytes) offset reason)
 
 -- what an obstacle says, where these bytes were to be sent in all, from an output that had sent so many
-abbrev pub Explains : Allowance → Option (List ℕ) → ℕ → List ℕ → Obstacle → ℕ → List ℕ → List Tree → List ℕ → Type 0
-Explains l old before bytes (obstacle.Stream why) sent text later left = (later ≡ []) × (left ≡ []) × ExplainsStream l old before bytes why
-Explains l old before bytes obstacle.Memory sent text later left = (later ≡ []) × (left ≡ [])
-Explains l old before bytes (obstacle.Output why) sent text later left = (why ≡ out.TooLong → 2 ^ 62 < sent + length text) × (why ≢ out.Spent)
+abbrev pub Explains : Allowance → Option (List ℕ) → Option (List ℕ) → ℕ → List ℕ → Obstacle → ℕ → List ℕ → List Tree → List ℕ → Type 0
+Explains l old told before bytes (obstacle.Stream why) sent text later left = (later ≡ []) × (left ≡ []) × ExplainsStream l old told before bytes why
+Explains l old told before bytes obstacle.Memory sent text later left = (later ≡ []) × (left ≡ [])
+Explains l old told before bytes (obstacle.Output why) sent text later left = (why ≡ out.TooLong → 2 ^ 62 < sent + length text) × (why ≢ out.Spent)
 
 -- The rows of the first blobs were sent, and a front of the others'.
 pub record CutBlobs {R W : Type 0} {read : Ghosts R} (contents : W → Option (List ℕ)) (from : Reader R read) (old : Output W) (to : Reader R read) (new : Output W) (halt : Halt) : Type 0 where
@@ -157,9 +156,10 @@ pub record CutBlobs {R W : Type 0} {read : Ghosts R} (contents : W → Option (L
   pub front : List ℕ
   pub left : List ℕ
   pub cut : rows_text later ≡ front ++ left
+  pub one : AtMostOneCut later left
   pub sends : Sent contents old (rows_text whole ++ front) new
   pub count : halt.done ≡ length whole
-  pub explains : Explains (limits_of from) (rest_of from) (given from) bytes halt.obstacle (sent_of old) (rows_text (whole ++ later)) later left
+  pub explains : Explains (limits_of from) (rest_of from) (told_of to) (given from) bytes halt.obstacle (sent_of old) (rows_text (whole ++ later)) later left
   pub failures : output_failures new ≡ count_failure (is_write halt.obstacle) (output_failures old)
   pub unspent : UnlessOutput halt.obstacle (is_spent new ≡ false)
 
@@ -188,9 +188,10 @@ pub record CutTable {R W : Type 0} {read : Ghosts R} (contents : W → Option (L
   pub text : List ℕ
   pub left : List ℕ
   pub cut : table_text (whole ++ later) ≡ text ++ left
+  pub one : AtMostOneCut later left
   pub holds : HoldsRows text whole
   pub sends : Sent contents old text new
   pub count : halt.done ≡ length whole
-  pub explains : Explains (limits_of from) (rest_of from) (given from) bytes halt.obstacle (sent_of old) (table_text (whole ++ later)) later left
+  pub explains : Explains (limits_of from) (rest_of from) (told_of to) (given from) bytes halt.obstacle (sent_of old) (table_text (whole ++ later)) later left
   pub failures : output_failures new ≡ count_failure (is_write halt.obstacle) (output_failures old)
   pub unspent : UnlessOutput halt.obstacle (is_spent new ≡ false)

@@ -1,7 +1,8 @@
 -- How far the points of a table were sent.
-use Rattle.std.specs.Prelude.{◌≡◌, ℕ, ◌+◌, ◌^◌, ◌<◌, ◌≤◌, List, [], ◌∷◌, ◌++◌, length, map, Option, Some, None, IfSome, Result, Ok, Err, Bool, true, false, ⊤}
+use Rattle.std.specs.Prelude.{◌≡◌, ◌≢◌, ℕ, ◌+◌, ◌^◌, ◌<◌, List, [], ◌∷◌, ◌++◌, length, map, Option, Some, None, IfSome, Result, Ok, Err, Bool, true, false, ⊤}
 use Rattle.twkb_io.specs.Taps.{count_failure}
-use Rattle.twkb_io.specs.Outputs.{Sent, Took, is_device, is_spent, output_failures}
+use Rattle.twkb_io.specs.Outputs.{Sent, Took, is_device, is_spent, output_failures, sent_of}
+use Rattle.twkb_io.specs.declared.output.OutFault.TheVariants as out
 use Rattle.twkb_io.specs.declared.output.Output.{Output}
 use Rattle.twkb_geom.specs.Tree.{Tree}
 use Rattle.twkb_geom.specs.Limits.{Allowance}
@@ -9,11 +10,12 @@ use Rattle.twkb_grammar.specs.Written.{canonical_stream}
 use Rattle.twkb_grammar.specs.declared.style.Style.TheVariants.{Full}
 use Rattle.twkb_table.specs.Record.{Record, header}
 use Rattle.twkb_table.specs.Named.{Named}
-use Rattle.twkb_convert.specs.CsvRecords.{AreRecordsOf, BeginWith}
-use Rattle.twkb_convert.specs.SourceStanding.{StandsAfter}
+use Rattle.twkb_table.specs.CsvRecords.{AreRecordsOf, BeginWith}
+use Rattle.twkb_convert.specs.Outputs.{AtMostOneCut}
+use Rattle.twkb_table.specs.SourceStanding.{StandsAfter}
 use Rattle.twkb_convert.specs.PointRows.{ArePointRows, IsPointRecord, IsRefusedSoFar, point_tree}
-use Rattle.twkb_convert.specs.RefusedRows.{IsRefusedTable, MayBeWritten}
-use Rattle.twkb_convert.specs.declared.record_source.RecordSource.{RecordSource}
+use Rattle.twkb_convert.specs.RefusedRows.{IsRefusedTable, MayBeWritten, NamesAll}
+use Rattle.twkb_table.specs.declared.record_source.RecordSource.{RecordSource}
 use Rattle.twkb_convert.specs.declared.point_row.PointRow.{PointRow}
 use Rattle.twkb_convert.specs.declared.sending.Why.{Why}
 use Rattle.twkb_convert.specs.declared.sending.Why.TheVariants as why
@@ -106,14 +108,16 @@ UnlessOutput why.Memory fact = fact
 UnlessOutput why.TooMany fact = fact
 UnlessOutput why.Undrained fact = fact
 
--- what a stop says of the table and of what was written
-abbrev pub Explains : Allowance → Option (List ℕ) → Why → List Tree → List Tree → List ℕ → Type 0
-Explains l told (why.Row number reason) whole later front = (later ≡ []) × (front ≡ []) × IsRefusedTable l told number reason whole
-Explains l told why.TooMany whole later front = (seen : List Record) × IfSome told (λ text. BeginWith text seen) × (length seen ≡ 2 ^ 32)
-Explains l told why.Undrained whole later front = later ≡ []
-Explains l told why.Source whole later front = ⊤
-Explains l told why.Memory whole later front = ⊤
-Explains l told (why.Output f) whole later front = ⊤
+-- what a stop says of the table and of what was written, by an output that had sent so many bytes
+abbrev pub Explains : Allowance → Option (List ℕ) → Why → ℕ → List Tree → List Tree → List ℕ → Type 0
+Explains l told (why.Row number reason) sent whole later front = (later ≡ []) × (front ≡ []) × IsRefusedTable l told number reason whole
+Explains l told why.TooMany sent whole later front =
+    (later ≡ []) × (front ≡ []) × ((seen : List Record) × IfSome told (λ text. BeginWith text seen) × (length seen ≡ 2 ^ 32))
+Explains l told why.Undrained sent whole later front = (later ≡ []) × (front ≡ []) × NamesAll l told whole
+Explains l told why.Source sent whole later front = (later ≡ []) × (front ≡ [])
+Explains l told why.Memory sent whole later front = (later ≡ []) × (front ≡ [])
+Explains l told (why.Output f) sent whole later front =
+    (f ≡ out.TooLong → 2 ^ 62 < sent + length (canonical_stream Full (whole ++ later))) × (f ≢ out.Spent)
 
 -- the blobs of some geometries were written, and a front of the next one's
 pub record Stopped {W : Type 0} (l : Allowance) (contents : W → Option (List ℕ)) (told : Option (List ℕ)) (old new : Output W) (stop : Stop) : Type 0 where
@@ -122,11 +126,11 @@ pub record Stopped {W : Type 0} (l : Allowance) (contents : W → Option (List �
   pub front : List ℕ
   pub rest : List ℕ
   pub ready : MayBeWritten l told (whole ++ later)
-  pub next : length later ≤ 1
   pub cut : canonical_stream Full later ≡ front ++ rest
+  pub one : AtMostOneCut later rest
   pub sends : Sent contents old (canonical_stream Full whole ++ front) new
   pub count : stop.done ≡ length whole
-  pub explains : Explains l told stop.why whole later front
+  pub explains : Explains l told stop.why (sent_of old) whole later front
   pub failures : output_failures new ≡ count_failure (is_write stop.why) (output_failures old)
   pub unspent : UnlessOutput stop.why (is_spent new ≡ is_spent old)
 

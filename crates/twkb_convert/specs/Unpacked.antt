@@ -1,6 +1,6 @@
 -- What a stream was unpacked to, and where it stopped.
-use Rattle.std.specs.Prelude.{◌≡◌, ◌≢◌, ℕ, ◌+◌, ◌^◌, ◌<◌, ◌⊎◌, List, [], ◌++◌, length, Option, IfSome, Bool, true, false, ⊤}
-use Rattle.std.specs.Io.KnownBytes.{Appends, Consumes, IsAtEnd}
+use Rattle.std.specs.Prelude.{◌≡◌, ◌≢◌, ℕ, ◌^◌, ◌<◌, ◌⊎◌, List, [], ◌++◌, length, Option, IfSome, Bool, true, false, ⊤}
+use Rattle.std.specs.Io.KnownBytes.{Appends, IsAtEnd}
 use Rattle.twkb_io.specs.Taps.{count_failure, device_of, failures_of}
 use Rattle.twkb_io.specs.Copies.{BeginsWith}
 use Rattle.twkb_io.specs.declared.tap.Tap.{Tap}
@@ -12,7 +12,8 @@ use Rattle.twkb_grammar.specs.Blob.{Stream}
 use Rattle.twkb_grammar.specs.Fault.{StreamFault}
 use Rattle.twkb_engine.specs.Frames.{reason_of}
 use Rattle.twkb_blob.specs.declared.fault.BlobFault.TheVariants as blob
-use Rattle.twkb_convert.specs.Outputs.{table_text}
+use Rattle.twkb_convert.specs.BlobReading.{GaveOnly}
+use Rattle.twkb_convert.specs.Outputs.{AtMostOneCut, table_text}
 use Rattle.twkb_convert.specs.RowSending.{HoldsRows}
 use Rattle.twkb_convert.specs.declared.row_sending.Obstacle.{Obstacle}
 use Rattle.twkb_convert.specs.declared.row_sending.Obstacle.TheVariants as obstacle
@@ -47,18 +48,19 @@ pub record DevicesTell {R W : Type 0} (reader : Tap R) (writer : Tap W) (why : C
   pub writes : failures_of written ≡ count_failure write_failed (failures_of writer)
   pub tell : IsDeviceCause read_failed write_failed why
 
--- What a cause says of the bytes that were told at the start, of the geometries whose table was written, of others whose rows were not
--- written whole, and of the text that is left to be written for all these.
-abbrev pub ExplainsCause : Allowance → Option (List ℕ) → Cause → List Tree → List Tree → List ℕ → Type 0
-ExplainsCause l old (cause.Row number reason) whole later left = ⊥
-ExplainsCause l old (cause.Blob offset reason) whole later left =
+-- What a cause says of the bytes that are told at the start and at the end, of those of the blobs that were read, of the geometries whose
+-- table was written, of another whose rows were not written whole, and of the text that is left to be written for all these. After a
+-- failed read the table of every whole blob in the bytes that were read is written.
+abbrev pub ExplainsCause : Allowance → Option (List ℕ) → Option (List ℕ) → List ℕ → Cause → List Tree → List Tree → List ℕ → Type 0
+ExplainsCause l old told bytes (cause.Row number reason) whole later left = ⊥
+ExplainsCause l old told bytes (cause.Blob offset reason) whole later left =
     (later ≡ []) × (left ≡ []) × IfSome old (λ all. StreamFault l all whole offset (reason_of reason))
-ExplainsCause l old cause.ReadDevice whole later left = (later ≡ []) × (left ≡ [])
-ExplainsCause l old cause.WriteDevice whole later left = ⊤
-ExplainsCause l old cause.Memory whole later left = (later ≡ []) × (left ≡ [])
-ExplainsCause l old cause.TooLong whole later left =
+ExplainsCause l old told bytes cause.ReadDevice whole later left = (later ≡ []) × (left ≡ []) × GaveOnly l old bytes told
+ExplainsCause l old told bytes cause.WriteDevice whole later left = ⊤
+ExplainsCause l old told bytes cause.Memory whole later left = (later ≡ []) × (left ≡ [])
+ExplainsCause l old told bytes cause.TooLong whole later left =
     IfSome old (λ all. 2 ^ 62 < length all) ⊎ (2 ^ 62 < length (table_text (whole ++ later)))
-ExplainsCause l old cause.TooManyRecords whole later left = ⊥
+ExplainsCause l old told bytes cause.TooManyRecords whole later left = ⊥
 
 -- The bytes of the reader begin with blobs, and the writer took a front of the text of their table, with the rows of the first of them.
 pub record StoppedUnpacking {R W : Type 0} (l : Allowance) (remaining : R → Option (List ℕ)) (contents : W → Option (List ℕ)) (reader : Tap R) (writer : Tap W) (fault : ConvertFault)
@@ -71,11 +73,12 @@ pub record StoppedUnpacking {R W : Type 0} (l : Allowance) (remaining : R → Op
   pub text : List ℕ
   pub left : List ℕ
   pub cut : table_text (whole ++ later) ≡ text ++ left
+  pub one : AtMostOneCut later left
   pub holds : HoldsRows text whole
   pub appends : Appends (contents (device_of writer)) (contents (device_of written)) text
   pub done : fault.done ≡ length whole
   pub sent : fault.sent ≡ length text
-  pub explains : ExplainsCause l (remaining (device_of reader)) fault.cause whole later left
+  pub explains : ExplainsCause l (remaining (device_of reader)) (remaining (device_of read)) bytes fault.cause whole later left
   pub devices : DevicesTell reader writer fault.cause read written
 
 -- the cause that an obstacle is
@@ -83,7 +86,7 @@ abbrev pub cause_for : Obstacle → Cause
 cause_for (obstacle.Stream blob.Memory) = cause.Memory
 cause_for (obstacle.Stream (blob.Device input.Read)) = cause.ReadDevice
 cause_for (obstacle.Stream (blob.Device input.TooLong)) = cause.TooLong
-cause_for (obstacle.Stream (blob.Device input.Spent)) = cause.Memory
+cause_for (obstacle.Stream (blob.Device input.Spent)) = cause.TooLong
 cause_for (obstacle.Stream blob.Spent) = cause.TooLong
 cause_for (obstacle.Stream (blob.At offset reason)) = cause.Blob offset reason
 cause_for obstacle.Memory = cause.Memory

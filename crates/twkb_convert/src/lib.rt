@@ -7,7 +7,6 @@ pub mod laws;
 mod packing;
 mod point_blob;
 mod point_row;
-mod record_source;
 mod report;
 mod row_sending;
 mod sending;

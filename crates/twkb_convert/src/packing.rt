@@ -9,13 +9,13 @@ ghost use Rattle.twkb_convert.specs.Packed.{ExplainsCause, Packed, StoppedIn};
 ghost use Rattle.twkb_convert.specs.Sending.{Explains, SendsTable, is_write};
 
 use crate::draining::drain;
-use crate::record_source::RecordSource;
 use crate::report::{Cause, ConvertFault, Report};
 use crate::sending::{Stop, Why, send_records};
 use std::alloc::Global;
 use std::io::{Read, Write};
 use twkb_geom::Limits;
 use twkb_io::{OutFault, Output, Tap};
+use twkb_table::RecordSource;
 
 /// Packs a table of points: reads its records to the reader's end, and writes the canonical blob
 /// of each point once the row behind it was accepted or the table's end was met (TWKB; RFC 4180).
@@ -70,7 +70,8 @@ pub fn pack<R: Read, W: Write>(
 fn cause_of(why: Why, has_read_failed: bool) -> Cause
     ensures write { (result ≡ Cause.WriteDevice) ↔ (is_write why ≡ true) }
     ensures read { (result ≡ Cause.ReadDevice) ↔ ((is_write why ≡ false) × (has_read_failed ≡ true)) }
-    ensures explains { (l : Allowance) (told : Option (List ℕ)) (whole later : List Tree) (front : List ℕ) → Explains l told why whole later front → ExplainsCause l told result whole later front }
+    ensures explains { (l : Allowance) (told : Option (List ℕ)) (sent : ℕ) (whole later : List Tree) (front : List ℕ) → sent ≡ 0
+        → Explains l told why sent whole later front → ExplainsCause l told result whole later front }
 {
     match why {
         Why::Output(OutFault::Write | OutFault::Stuck) => Cause::WriteDevice,

@@ -3,7 +3,7 @@ ghost use Rattle.std.specs.Prelude.{◌≡◌, ◌≤◌, false, true, IfOk, IfE
 ghost use Rattle.twkb_io.specs.Outputs as Outputs;
 ghost use Rattle.twkb_geom.specs.Limits.{largest_limits};
 ghost use Rattle.twkb_blob.specs.Readers.{has_ended, is_spent};
-ghost use Rattle.twkb_convert.specs.BlobReading.{limits_of};
+ghost use Rattle.twkb_convert.specs.BlobReading.{is_input_spent, limits_of};
 ghost use Rattle.twkb_convert.specs.RowSending.{CutBlobs, CutTable, Follows, IsEnded, SentBlob, SentAll, SentTable, StopsBlob, StopsRead, EndsBlobs, GivesRows, StopsRows};
 
 use std::alloc::Global;
@@ -38,6 +38,7 @@ pub(crate) fn send_and_flush<R: Read, W: Write>(
 ) -> Result<u64, Halt>
     requires reader { is_spent reader.old ≡ false }
     requires going_on { has_ended reader.old ≡ false }
+    requires input { is_input_spent reader.old ≡ false }
     requires nest { (limits_of reader.old).nest ≤ largest_limits.nest }
     requires output { Outputs.is_spent output.old ≡ false }
     ensures ok { IfOk result (λ done. SentTable W.contents reader.old output.old output.new done) }
@@ -77,6 +78,7 @@ fn send_table<R: Read, W: Write>(
 ) -> Result<u64, Halt>
     requires reader { is_spent reader.old ≡ false }
     requires going_on { has_ended reader.old ≡ false }
+    requires input { is_input_spent reader.old ≡ false }
     requires nest { (limits_of reader.old).nest ≤ largest_limits.nest }
     requires output { Outputs.is_spent output.old ≡ false }
     ensures ok { IfOk result (λ done. SentTable W.contents reader.old output.old output.new done) }
@@ -101,6 +103,7 @@ fn send_blobs<R: Read, W: Write>(
 ) -> Result<u64, Halt>
     requires reader { is_spent reader.old ≡ false }
     requires going_on { has_ended reader.old ≡ false }
+    requires input { is_input_spent reader.old ≡ false }
     requires nest { (limits_of reader.old).nest ≤ largest_limits.nest }
     requires output { Outputs.is_spent output.old ≡ false }
     ensures ok { IfOk result (λ done. SentAll W.contents reader.old output.old output.new done) }
@@ -128,11 +131,13 @@ fn send_blob<R: Read, W: Write>(
 ) -> Result<bool, Obstacle>
     requires reader { is_spent reader.old ≡ false }
     requires going_on { has_ended reader.old ≡ false }
+    requires input { is_input_spent reader.old ≡ false }
     requires nest { (limits_of reader.old).nest ≤ largest_limits.nest }
     requires output { Outputs.is_spent output.old ≡ false }
     ensures more { IfOk result (λ found. found ≡ true → SentBlob W.contents reader.old output.old reader.new output.new) }
     ensures fresh { IfOk result (λ found. is_spent reader.new ≡ false) }
     ensures going_on { IfOk result (λ found. found ≡ true → has_ended reader.new ≡ false) }
+    ensures input { IfOk result (λ found. found ≡ true → is_input_spent reader.new ≡ false) }
     ensures end { IfOk result (λ found. found ≡ false → EndsBlobs R.remaining reader.old reader.new × (output.new ≡ output.old)) }
     ensures follows { IfOk result (λ found. Follows reader.old reader.new false) }
     ensures err { IfErr result (λ obstacle. StopsBlob W.contents reader.old output.old obstacle reader.new output.new) }
@@ -155,10 +160,12 @@ fn next_rows<R: Read>(
 ) -> Result<bool, Obstacle>
     requires reader { is_spent reader.old ≡ false }
     requires going_on { has_ended reader.old ≡ false }
+    requires input { is_input_spent reader.old ≡ false }
     requires nest { (limits_of reader.old).nest ≤ largest_limits.nest }
     ensures more { IfOk result (λ found. found ≡ true → GivesRows reader.old reader.new text.new.items) }
     ensures fresh { IfOk result (λ found. is_spent reader.new ≡ false) }
     ensures going_on { IfOk result (λ found. found ≡ true → has_ended reader.new ≡ false) }
+    ensures input { IfOk result (λ found. found ≡ true → is_input_spent reader.new ≡ false) }
     ensures end { IfOk result (λ found. found ≡ false → EndsBlobs R.remaining reader.old reader.new) }
     ensures follows { IfOk result (λ found. Follows reader.old reader.new false) }
     ensures err { IfErr result (λ obstacle. StopsRows reader.old obstacle reader.new) }

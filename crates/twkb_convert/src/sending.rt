@@ -5,19 +5,18 @@ ghost use Rattle.twkb_io.specs.Outputs.{is_spent};
 ghost use Rattle.twkb_geom.specs.Tree.{IsPrecision};
 ghost use Rattle.twkb_geom.specs.Limits.{Allowance, IsAllowance};
 ghost use Rattle.twkb_table.specs.Record.{Record, header};
-ghost use Rattle.twkb_convert.specs.SourceStanding.{StandsAfter};
+ghost use Rattle.twkb_table.specs.SourceStanding.{StandsAfter};
 ghost use Rattle.twkb_convert.specs.Sending.{Pending, ReadsHeader, ReadsNext, SendsTable};
 
 use crate::fields::five_fields;
 use crate::point_blob::point_blob;
 use crate::point_row::{PointRow, RowStop, judge_point_record};
-use crate::record_source::RecordSource;
 use csv::ByteRecord;
 use std::io::{Read, Write};
 use twkb_geom::Limits;
 use twkb_io::{OutFault, Output, Sink};
 use twkb_points::Pt;
-use twkb_table::RowReason;
+use twkb_table::{RecordSource, RowReason};
 
 /// The number that no record of a table may have, 2^32.
 const RECORD_CAP: u64 = 1 << 32;

@@ -47,9 +47,8 @@ fn cause_of(obstacle: Obstacle) -> Cause
         Obstacle::Stream(BlobFault::At { offset, reason }) => Cause::Blob { offset, reason },
         Obstacle::Stream(BlobFault::Device(InFault::Read)) => Cause::ReadDevice,
         Obstacle::Output(OutFault::Write | OutFault::Stuck) => Cause::WriteDevice,
-        Obstacle::Stream(BlobFault::Device(InFault::TooLong) | BlobFault::Spent) => Cause::TooLong,
-        Obstacle::Memory | Obstacle::Stream(BlobFault::Memory | BlobFault::Device(_)) =>
-            Cause::Memory,
+        Obstacle::Stream(BlobFault::Device(_) | BlobFault::Spent) => Cause::TooLong,
+        Obstacle::Memory | Obstacle::Stream(BlobFault::Memory) => Cause::Memory,
         Obstacle::Output(OutFault::TooLong | OutFault::Spent) => Cause::TooLong,
     }
 }

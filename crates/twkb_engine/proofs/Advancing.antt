@@ -1,5 +1,5 @@
 -- An item is added.
-use Rattle.std.proofs.Common.{◌≡◌, ℕ, ◌+◌, ◌≤◌, List, length, refl, sym, subst, Result, Ok, Err, IfOk, Some, None}
+use Rattle.std.proofs.Common.{◌≡◌, ℕ, ◌+◌, ◌≤◌, List, length, refl, sym, ap, ◌∙◌, subst, Option, Result, Ok, Some, None}
 use Rattle.twkb_points.specs.Point.{Point}
 use Rattle.twkb_geom.specs.Limits.{Allowance}
 use Rattle.twkb_grammar.specs.Fault.{nodes_by, points_by, moved}
@@ -9,9 +9,9 @@ use Rattle.twkb_grammar.specs.Machine.{Sums, Stack, added, stack_after, advanced
 use Rattle.twkb_grammar.specs.Machine as machine
 use Rattle.twkb_engine.specs.State.{phase_of, next_of, kind_of, many_of, role_of_part}
 use Rattle.twkb_engine.specs.Decoding.{refusal, objection_at}
+use Rattle.twkb_engine.specs.declared.phase.Axis.TheVariants as axis
 use Rattle.twkb_engine.specs.declared.phase.Phase.{Phase}
 use Rattle.twkb_engine.specs.declared.phase.Phase.TheVariants as phase
-use Rattle.twkb_engine.specs.declared.phase.Next.{Next}
 
 -- an item always comes next
 abbrev pub has_role : (level bytes : ℕ) (p : Phase) → (r : Role) × (phase_role level bytes (phase_of p) ≡ Some r)
@@ -22,16 +22,14 @@ has_role level bytes (phase.Count many head) = (Count (first_count (many_of many
 has_role level bytes (phase.Id many head members ids left) = (Id, refl)
 has_role level bytes (phase.LineCount place) = (Count (listed 0), refl)
 has_role level bytes (phase.AreaCount place) = (Count (listed 1), refl)
-has_role level bytes (phase.X place) = (X, refl)
-has_role level bytes (phase.Y place) = (Y, refl)
+has_role level bytes (phase.Coordinate axis.X place) = (X, refl)
+has_role level bytes (phase.Coordinate axis.Y place) = (Y, refl)
 
 -- what is not refused at the next item meets no objection in its role
 pub no_objection : (limits : Allowance) (e : Sums) (st : Stack) (n : ℕ) (r : Role) → role_at e st ≡ Some r → refusal limits e st n ≡ None → objection limits e r n ≡ None
 no_objection limits e st n r says h = subst (λ o. objection_at limits e n o ≡ None) says h
 
--- the sums and the stack behind the item
-pub added_item : {E : Type 0} (e : Sums) (i : Item) (fs after : List machine.Frame) (p : machine.Phase) (position : Point) (bytes n nodes points : ℕ) → i.number ≡ n → bytes ≡ e.bytes + length i.bytes → position ≡ moved e.position i.role i.number
-    → nodes ≡ e.nodes + nodes_by i.role i.number → points ≡ e.points + points_by i.role i.number → (r : Result Next E) → IfOk r (λ next. (after, next_of next) ≡ advanced position bytes n fs p)
-    → IfOk r (λ next. (record { bytes = bytes; position = position; nodes = nodes; points = points } ≡ added e i) × ((after, next_of next) ≡ stack_after e i (fs, p)))
-added_item e i fs after p position bytes n nodes points en eb ep eo et (Ok next) h = (rw (eb, ep, eo, et) refl, rw (← ep, ← eb, en) h)
-added_item e i fs after p position bytes n nodes points en eb ep eo et (Err x) h = tt
+-- the sums behind the item
+pub added_sums : (e : Sums) (i : Item) (bytes : ℕ) (position : Point) (nodes points : ℕ) → bytes ≡ e.bytes + length i.bytes → position ≡ moved e.position i.role i.number → nodes ≡ e.nodes + nodes_by i.role i.number
+    → points ≡ e.points + points_by i.role i.number → record { bytes = bytes; position = position; nodes = nodes; points = points } ≡ added e i
+added_sums e i bytes position nodes points eb ep eo et = rw (eb, ep, eo, et) refl

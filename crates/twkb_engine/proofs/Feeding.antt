@@ -1,38 +1,57 @@
 -- An engine takes the bytes of a piece, and comes to the end of the bytes.
-use Rattle.std.proofs.Common.{◌≡◌, ◌⊎◌, inl, inr, ℕ, zero, suc, ◌+◌, ◌<◌, ◌≤◌, List, [], ◌∷◌, ◌++◌, length, take, get_or, refl, sym, ap, ◌∙◌, subst, append_assoc, add-one, Some, None, Ok, Err, arith}
-use Rattle.std.proofs.Math.Seq.{take-suc}
+use Rattle.std.proofs.Common.{◌≡◌, ◌⊎◌, inl, inr, ℕ, ◌+◌, ◌-◌, ◌<◌, ◌≤◌, List, [], ◌∷◌, ◌++◌, length, take, drop, get_or, refl, sym, ap, ◌∙◌, subst, append_assoc, Option, Result, Some, None, Ok, Err, arith}
+use Rattle.std.proofs.Math.Seq.{take-suc, take-add}
+use Rattle.std.proofs.lemmas.List.{append-nil, length-drop, take_rest}
 use Rattle.twkb_geom.specs.Tree.{Tree}
 use Rattle.twkb_geom.specs.Limits.{Allowance}
 use Rattle.twkb_grammar.specs.Fault.{FirstFault}
 use Rattle.twkb_grammar.specs.Blob.{Blob}
 use Rattle.twkb_engine.specs.State.{IsSpelled}
 use Rattle.twkb_engine.specs.Frames.{reason_of}
-use Rattle.twkb_engine.specs.Standing.{StandsAt, IsStep, IsFed, MadeIn, RefusedIn, offset_in}
+use Rattle.twkb_engine.specs.Standing.{StandsAt, IsStep, IsTakenFrom, IsFed, MadeIn, RefusedIn, offset_in}
 use Rattle.twkb_engine.specs.declared.engine.Engine.{Engine}
 use Rattle.twkb_engine.specs.declared.phase.Phase.{Phase}
 use Rattle.twkb_engine.specs.declared.stop.Stop.{Stop}
 use Rattle.twkb_engine.specs.declared.stop.Stop.TheVariants.{Memory, Refused}
 
--- one byte of the piece more
-pub one_more : (bs piece : List ℕ) (i : ℕ) → i < length piece → (bs ++ take i piece) ++ get_or piece i 0 ∷ [] ≡ bs ++ take (i + 1) piece
-one_more bs piece i low = append_assoc bs (take i piece) (get_or piece i 0 ∷ []) ∙ ap (λ l. bs ++ l) (sym (take-suc piece i 0 low) ∙ ap (λ n. take n piece) (sym (add-one i)))
+-- the first byte of some
+pub first_byte : (rest : List ℕ) → 0 < length rest → take 1 rest ≡ get_or rest 0 0 ∷ []
+first_byte rest some = take-suc rest 0 0 some
 
--- a geometry that is made by a byte is made in the piece
-pub made : (limits own : Allowance) (bs piece : List ℕ) (i : ℕ) (g : Tree) (d : Engine) → own ≡ limits → i < length piece
-    → IsStep own ((bs ++ take i piece) ++ get_or piece i 0 ∷ []) (Ok (Some g)) d → IsFed limits bs piece (Ok (i + 1, Some g)) d
-made limits own bs piece i g d same low h =
-    (record { some = omega arith; within = omega arith; blob = subst (λ l. Blob l (bs ++ take (i + 1) piece) g) same (subst (λ l. Blob own l g) (one_more bs piece i low) h.0) }, h.1)
+-- no bytes were taken, and then the first one
+pub stepped_first : (limits own : Allowance) (bs rest : List ℕ) (used : ℕ) (r : Result (Option Tree) Stop) (d : Engine) → own ≡ limits → used ≡ 0 → 0 < length rest
+    → IsStep own ((bs ++ take used rest) ++ get_or rest 0 0 ∷ []) r d → IsStep limits (bs ++ take 1 rest) r d
+stepped_first limits own bs rest used r d same none some h =
+    let a : (bs ++ take used rest) ++ get_or rest 0 0 ∷ [] ≡ bs ++ take 1 rest =
+    ap (λ n. (bs ++ take n rest) ++ get_or rest 0 0 ∷ []) none ∙ (ap (λ l. l ++ get_or rest 0 0 ∷ []) (append-nil bs) ∙ ap (λ l. bs ++ l) (sym (first_byte rest some))) in
+    subst (λ l. IsStep l (bs ++ take 1 rest) r d) same (subst (λ l. IsStep own l r d) a h)
 
--- an item that is refused at a byte is refused in the piece
-pub refused : (limits own : Allowance) (bs piece : List ℕ) (i : ℕ) (stop : Stop) (d : Engine) → own ≡ limits → i < length piece
-    → IsStep own ((bs ++ take i piece) ++ get_or piece i 0 ∷ []) (Err stop) d → IsFed limits bs piece (Err stop) d
-refused limits own bs piece i Memory d same low h = tt
-refused limits own bs piece i (Refused r) d same low h = record {
-  used = i + 1;
+-- the front of what is left of a piece stands behind what was used
+pub one_front : (bs piece : List ℕ) (used count : ℕ) → (bs ++ take used piece) ++ take count (take (length piece - used) (drop used piece)) ≡ bs ++ take (used + count) piece
+one_front bs piece used count =
+    append_assoc bs (take used piece) (take count (take (length piece - used) (drop used piece)))
+    ∙ ap (λ l. bs ++ l) (ap (λ l. take used piece ++ take count l) (take_rest piece used) ∙ sym (take-add used count piece))
+
+-- and stays within it
+pub one_within : (piece : List ℕ) (used count : ℕ) → used ≤ length piece → count ≤ length (take (length piece - used) (drop used piece)) → used + count ≤ length piece
+one_within piece used count within h = omega (arith, within, subst (λ l. count ≤ length l) (take_rest piece used) h, length-drop used piece)
+
+-- a geometry that is made by a front is made in the piece
+pub made : (limits own : Allowance) (bs piece : List ℕ) (used count : ℕ) (g : Tree) (d : Engine) → own ≡ limits → 0 < count → used + count ≤ length piece
+    → IsStep own ((bs ++ take used piece) ++ take count (take (length piece - used) (drop used piece))) (Ok (Some g)) d → IsFed limits bs piece (Ok (used + count, Some g)) d
+made limits own bs piece used count g d same some within h =
+    (record { some = omega arith; within = within; blob = subst (λ l. Blob l (bs ++ take (used + count) piece) g) same (subst (λ l. Blob own l g) (one_front bs piece used count) h.0) }, h.1)
+
+-- an item that is refused in what is left is refused in the piece
+pub refused : (limits own : Allowance) (bs piece : List ℕ) (used : ℕ) (stop : Stop) (d : Engine) → own ≡ limits → used ≤ length piece
+    → IsTakenFrom own (bs ++ take used piece) (take (length piece - used) (drop used piece)) (Err stop) d → IsFed limits bs piece (Err stop) d
+refused limits own bs piece used Memory d same within h = tt
+refused limits own bs piece used (Refused r) d same within (count, some, few, h) = record {
+  used = used + count;
   some = omega arith;
-  within = omega arith;
-  fault = λ more. subst (λ l. FirstFault l ((bs ++ take (i + 1) piece) ++ more) (offset_in d) (reason_of r)) same
-      (subst (λ l. FirstFault own (l ++ more) (offset_in d) (reason_of r)) (one_more bs piece i low) (h more));
+  within = one_within piece used count within few;
+  fault = λ more. subst (λ l. FirstFault l ((bs ++ take (used + count) piece) ++ more) (offset_in d) (reason_of r)) same
+      (subst (λ l. FirstFault own (l ++ more) (offset_in d) (reason_of r)) (one_front bs piece used count) (h more));
 }
 
 -- a list of length 0

@@ -8,3 +8,6 @@ pub mod Advancing
 pub mod Stepping
 pub mod Feeding
 pub mod Opening
+pub mod InFront
+pub mod RunningOn
+pub mod PointBlobs

@@ -17,6 +17,7 @@ use Rattle.twkb_engine.specs.Decoding.{sums_of, stack_of}
 use Rattle.twkb_engine.specs.Taking.{way, IsLanded, IsRefused, IsTaken, IsTakenBy}
 use Rattle.twkb_engine.specs.Standing.{StandsAt, IsStep, allowance_of, held_in, offset_in}
 use Rattle.twkb_engine.specs.declared.engine.Engine.{Engine}
+use Rattle.twkb_engine.specs.declared.phase.Axis.TheVariants as axis
 use Rattle.twkb_engine.specs.declared.phase.Phase.{Phase}
 use Rattle.twkb_engine.specs.declared.phase.Phase.TheVariants as phase
 use Rattle.twkb_engine.specs.declared.phase.Optional.TheVariants as part
@@ -87,8 +88,8 @@ number_written level bytes n bs (phase.Count many head) v s = v
 number_written level bytes n bs (phase.Id many head members ids left) v s = v
 number_written level bytes n bs (phase.LineCount place) v s = v
 number_written level bytes n bs (phase.AreaCount place) v s = v
-number_written level bytes n bs (phase.X place) v s = v
-number_written level bytes n bs (phase.Y place) v s = v
+number_written level bytes n bs (phase.Coordinate axis.X place) v s = v
+number_written level bytes n bs (phase.Coordinate axis.Y place) v s = v
 
 -- a number's place has a number's role
 pub is_number : (level bytes : ℕ) (p : Phase) → IsSpelled p → IsNumber (has_role level bytes p).0
@@ -101,8 +102,8 @@ is_number level bytes (phase.Count many head) s = tt
 is_number level bytes (phase.Id many head members ids left) s = tt
 is_number level bytes (phase.LineCount place) s = tt
 is_number level bytes (phase.AreaCount place) s = tt
-is_number level bytes (phase.X place) s = tt
-is_number level bytes (phase.Y place) s = tt
+is_number level bytes (phase.Coordinate axis.X place) s = tt
+is_number level bytes (phase.Coordinate axis.Y place) s = tt
 
 -- no geometry's end comes next
 pub no_end : (level bytes : ℕ) (p : Phase) (d : Option ℕ) (came : ℕ) → (has_role level bytes p).0 ≡ End d came → ⊥
@@ -115,8 +116,8 @@ no_end level bytes (phase.Count many head) d came e = cc
 no_end level bytes (phase.Id many head members ids left) d came e = cc
 no_end level bytes (phase.LineCount place) d came e = cc
 no_end level bytes (phase.AreaCount place) d came e = cc
-no_end level bytes (phase.X place) d came e = cc
-no_end level bytes (phase.Y place) d came e = cc
+no_end level bytes (phase.Coordinate axis.X place) d came e = cc
+no_end level bytes (phase.Coordinate axis.Y place) d came e = cc
 
 -- nine bytes that go on, one above 1, and whatever follows
 pub too_long : (us : List ℕ) (u : ℕ) (more : List ℕ) → IsOpenVarint us → length us ≡ 9 → 2 ≤ u → IsTooLong (us ++ u ∷ more)

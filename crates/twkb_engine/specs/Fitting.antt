@@ -57,8 +57,7 @@ PhaseFits (phase.Count many head) = IsPrecision head.precision
 PhaseFits (phase.Id many head members ids left) = IsPrecision head.precision × (length ids.items + 1 + left ≡ members)
 PhaseFits (phase.LineCount place) = LineAwaits place
 PhaseFits (phase.AreaCount place) = AreaAwaits place
-PhaseFits (phase.X place) = PointFits place
-PhaseFits (phase.Y place) = PointFits place
+PhaseFits (phase.Coordinate axis place) = PointFits place
 
 -- what an item leads to may come
 abbrev pub NextFits : Next → Type 0

@@ -66,8 +66,7 @@ phase_prop (phase.Count many head) = precision_prop head.precision
 phase_prop (phase.Id many head members ids left) = hlevel props
 phase_prop (phase.LineCount place) = line_awaits_prop place
 phase_prop (phase.AreaCount place) = area_awaits_prop place
-phase_prop (phase.X place) = point_prop place
-phase_prop (phase.Y place) = point_prop place
+phase_prop (phase.Coordinate axis place) = point_prop place
 
 frame_prop : (f : Frame) → IsProp (FrameFits f)
 frame_prop f = let one : IsProp (HasIds f.ids (length f.done.items + 1 + f.left)) = ids_prop f.ids (length f.done.items + 1 + f.left) in hlevel (props, one)

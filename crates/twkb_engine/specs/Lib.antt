@@ -1,5 +1,7 @@
 pub mod Fitting
 pub mod FittingProps
+pub mod Front
+pub mod Pairs
 pub mod State
 pub mod Frames
 pub mod Open

@@ -5,8 +5,9 @@ use Rattle.twkb_geom.specs.Limits.{Allowance}
 use Rattle.twkb_grammar.specs.Blob.{Blob}
 use Rattle.twkb_grammar.specs.Fault.{FirstFault, Reason, Truncated}
 use Rattle.twkb_grammar.specs.Reading.{Reached}
-use Rattle.twkb_engine.specs.State.{IsSpelled}
-use Rattle.twkb_engine.specs.Open.{open_of}
+use Rattle.twkb_engine.specs.State.{IsSpelled, phase_of}
+use Rattle.twkb_engine.specs.Open.{open_of, awaited_at}
+use Rattle.twkb_engine.specs.declared.awaited.Awaited.{Awaited}
 use Rattle.twkb_engine.specs.Frames.{reason_of}
 use Rattle.twkb_engine.specs.Decoding.{sums_of, stack_of}
 use Rattle.twkb_engine.specs.declared.engine.Engine.{Engine}
@@ -29,6 +30,14 @@ held_in d = d.partial
 abbrev pub count_of : Engine → ℕ
 count_of d = offset_in d + length (held_in d)
 
+-- the points that were announced since the blob's start
+abbrev pub points_in : Engine → ℕ
+points_in d = d.builder.points
+
+-- what its next byte is for
+abbrev pub awaited_in : Engine → Awaited
+awaited_in d = awaited_at (phase_of d.builder.phase)
+
 -- the geometries that are begun and not finished
 abbrev pub open_in : Engine → ℕ
 open_in d = open_of (stack_of d.builder)
@@ -46,6 +55,11 @@ IsStep limits bytes (Ok None) d = StandsAt bytes d
 IsStep limits bytes (Ok (Some g)) d = Blob limits bytes g × StandsAt [] d
 IsStep limits bytes (Err Memory) d = ⊤
 IsStep limits bytes (Err (Refused r)) d = (more : List ℕ) → FirstFault limits (bytes ++ more) (offset_in d) (reason_of r)
+
+-- some bytes were taken from the front of the rest of a piece, or a byte of it is the last of an item that is refused
+abbrev pub IsTakenFrom : Allowance → List ℕ → List ℕ → Result (ℕ × Option Tree) Stop → Engine → Type 0
+IsTakenFrom limits bs rest (Ok (used, found)) d = IsStep limits (bs ++ take used rest) (Ok found) d
+IsTakenFrom limits bs rest (Err stop) d = (used : ℕ) × (0 < used) × (used ≤ length rest) × IsStep limits (bs ++ take used rest) (Err stop) d
 
 -- a byte of the piece is the last of an item that is refused, whatever follows
 pub record RefusedIn (limits : Allowance) (bs piece : List ℕ) (offset : ℕ) (reason : Reason) : Type 0 where

@@ -20,6 +20,7 @@ use Rattle.twkb_engine.specs.declared.phase.Many.{Many}
 use Rattle.twkb_engine.specs.declared.phase.Many.TheVariants as many
 use Rattle.twkb_engine.specs.declared.phase.Optional.{Optional}
 use Rattle.twkb_engine.specs.declared.phase.Optional.TheVariants as part
+use Rattle.twkb_engine.specs.declared.phase.Axis.TheVariants as axis
 use Rattle.twkb_engine.specs.declared.phase.Phase.{Phase}
 use Rattle.twkb_engine.specs.declared.phase.Phase.TheVariants as phase
 use Rattle.twkb_engine.specs.declared.phase.Next.{Next}
@@ -124,8 +125,8 @@ phase_of (phase.Count many head) = AtCount (many_of many) (head_of head)
 phase_of (phase.Id many head members ids left) = AtId (many_of many) (head_of head) members ids.items left
 phase_of (phase.LineCount place) = wanted (line_spot place)
 phase_of (phase.AreaCount place) = wanted (area_spot place)
-phase_of (phase.X place) = wanted (point_spot place)
-phase_of (phase.Y place) = let s = point_spot place in AtBody s.head s.form s.ids (WantY s.around)
+phase_of (phase.Coordinate axis.X place) = wanted (point_spot place)
+phase_of (phase.Coordinate axis.Y place) = let s = point_spot place in AtBody s.head s.form s.ids (WantY s.around)
 
 -- what an item leads to
 abbrev pub next_of : Next → machine.Phase

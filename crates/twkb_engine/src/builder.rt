@@ -1,25 +1,29 @@
 //! A geometry that is read item by item.
-ghost use Rattle.std.specs.Prelude.{true, false, [], ◌⊎◌, ◌≡◌, ◌≤◌, ◌<◌, ◌^◌, ◌+◌, ◌-◌, IfOk, IfSome, IsSome, length as length_of, nat_lt, None, Some};
+ghost use Rattle.std.specs.Prelude.{true, false, [], ◌⊎◌, ◌≡◌, ◌≤◌, ◌<◌, ◌^◌, ◌+◌, ◌-◌, ◌++◌, ℕ, List, IfOk, IfSome, IsSome, length as length_of, take, nat_lt, None, Some};
 ghost use Rattle.std.specs.List.{AllByRecursion};
 ghost use Rattle.twkb_geom.specs.Limits.{IsAllowance};
-ghost use Rattle.twkb_grammar.specs.PlainReader.{unless};
+ghost use Rattle.twkb_grammar.specs.PlainReader.{unless, objection as objection_in};
 ghost use Rattle.twkb_grammar.specs.Fault as fault;
 ghost use Rattle.twkb_grammar.specs.Fault.{nodes_by, points_by, moved as moved_by};
-ghost use Rattle.twkb_grammar.specs.Roles.{Role, Item};
-ghost use Rattle.twkb_grammar.specs.Machine.{role_at, added, stack_after, nothing, started};
+ghost use Rattle.twkb_grammar.specs.Roles.{Role, Metadata, Count, Item};
+ghost use Rattle.twkb_grammar.specs.Machine.{role_at, kind_number, first_count, added, advanced, nothing, started};
 ghost use Rattle.twkb_grammar.specs.PlainReader.{is_exact as exact};
-ghost use Rattle.twkb_grammar.specs.Reading.{past_end, ends};
-ghost use Rattle.twkb_engine.specs.State.{next_of, IsSpelled, IsByte};
+ghost use Rattle.twkb_grammar.specs.Reading.{past_end, ends, Reached};
+ghost use Rattle.twkb_engine.specs.State.{next_of, phase_of, kind_of, many_of, IsSpelled, IsByte};
 ghost use Rattle.twkb_engine.specs.Frames.{frames_of};
-ghost use Rattle.twkb_engine.specs.Open.{open_of};
+ghost use Rattle.twkb_engine.specs.Open.{open_of, awaited_at};
+ghost use Rattle.twkb_engine.specs.Pairs.{LeadsOn};
 ghost use Rattle.twkb_engine.specs.Fitting.{FrameFits, PhaseFits, NextFits};
 ghost use Rattle.twkb_engine.specs.FittingProps.{phase_prop, frames_prop, allowance_prop};
 
+use crate::awaited::Awaited;
 use crate::blob_reason::BlobReason;
 use crate::frames::{Frame, Frames, finish};
 use crate::header::{EMPTY, has_bit};
+use crate::in_place::take_in_place;
 use crate::motion::{moved_x, moved_y, origin};
-use crate::phase::{Kind, Many, Next, Optional, Phase};
+use crate::pairs::take_points;
+use crate::phase::{Axis, Kind, Many, Next, Optional, Phase};
 use crate::place::Head;
 use crate::steps::next;
 use crate::stop::Stop;
@@ -80,6 +84,24 @@ impl Builder {
         self.bytes
     }
 
+    /// Points that its items announced since the blob's start.
+    pub fn points(&self) -> u64
+        ensures { result ≡ self.now.points }
+    {
+        self.points
+    }
+
+    /// What the next byte is for.
+    pub fn awaited(&self) -> Awaited
+        ensures { result ≡ awaited_at (phase_of self.now.phase) }
+    {
+        match &self.phase {
+            Phase::Header => Awaited::Header,
+            Phase::Metadata { .. } => Awaited::Metadata,
+            _ => Awaited::Other,
+        }
+    }
+
     /// How many geometries are begun and not finished.
     pub fn open_geometries(&self) -> usize
         ensures { result ≡ open_of (stack_of self.now) }
@@ -89,6 +111,13 @@ impl Builder {
             Phase::Header => frames,
             _ => frames + 1,
         }
+    }
+
+    /// Whether a geometry may have a point.
+    pub fn allows_points(&self) -> bool
+        ensures { result ≡ true → 0 < self.now.limits.points }
+    {
+        self.limits.points() > 0
     }
 
     /// Why a count may not be this large.
@@ -115,22 +144,44 @@ impl Builder {
         }
     }
 
+    /// Why a geometry of this type may not have this metadata byte.
+    fn objection_to_metadata(&self, kind: Kind, number: u64) -> Option<BlobReason>
+        ensures { objection_of result ≡ objection_in self.now.limits (sums_of self.now) (Metadata (kind_number (kind_of kind))) number }
+    {
+        if kind == Kind::Point
+            && !has_bit(number, EMPTY)
+            && u64::from(self.limits.points()) <= self.points
+        {
+            Some(BlobReason::TooManyPoints)
+        } else {
+            None
+        }
+    }
+
+    /// Why there may not be so many members.
+    fn objection_to_count(&self, many: Many, number: u64) -> Option<BlobReason>
+        ensures { objection_of result ≡ objection_in self.now.limits (sums_of self.now) (Count (first_count (many_of many) (length_of (frames_of self.now.frames.items)))) number }
+    {
+        match many {
+            Many::Points => self.too_many(number, number),
+            Many::Lines | Many::Areas => self.too_many(number, 0),
+            Many::Geometries => {
+                if self.frames.len() >= self.limits.nest() as usize && number > 0 {
+                    Some(BlobReason::TooDeep)
+                } else {
+                    self.too_many(number, 0)
+                }
+            }
+        }
+    }
+
     /// Why the next item may not have this number.
     fn objection(&self, number: u64) -> Option<BlobReason>
         ensures { objection_of result ≡ refusal self.now.limits (sums_of self.now) (stack_of self.now) number }
     {
         match &self.phase {
             Phase::Header => Self::bad_type(number),
-            Phase::Metadata { kind, .. } => {
-                if *kind == Kind::Point
-                    && !has_bit(number, EMPTY)
-                    && u64::from(self.limits.points()) <= self.points
-                {
-                    Some(BlobReason::TooManyPoints)
-                } else {
-                    None
-                }
-            }
+            Phase::Metadata { kind, .. } => self.objection_to_metadata(*kind, number),
             Phase::Optional { part, .. } => {
                 if *part == Optional::Extended && number % 4 != 0 {
                     Some(BlobReason::ExtraDimensions)
@@ -138,28 +189,18 @@ impl Builder {
                     None
                 }
             }
-            Phase::Count { many, .. } => match many {
-                Many::Points => self.too_many(number, number),
-                Many::Lines | Many::Areas => self.too_many(number, 0),
-                Many::Geometries => {
-                    if self.frames.len() >= self.limits.nest() as usize && number > 0 {
-                        Some(BlobReason::TooDeep)
-                    } else {
-                        self.too_many(number, 0)
-                    }
-                }
-            },
+            Phase::Count { many, .. } => self.objection_to_count(*many, number),
             Phase::Id { .. } => None,
             Phase::LineCount(_) => self.too_many(0, number),
             Phase::AreaCount(_) => self.too_many(number, 0),
-            Phase::X(_) => {
+            Phase::Coordinate(Axis::X, _) => {
                 if moved_x(self.position, unzigzag(number)).is_none() {
                     Some(BlobReason::CoordinateRange)
                 } else {
                     None
                 }
             }
-            Phase::Y(_) => {
+            Phase::Coordinate(Axis::Y, _) => {
                 if moved_y(self.position, unzigzag(number)).is_none() {
                     Some(BlobReason::CoordinateRange)
                 } else {
@@ -188,8 +229,9 @@ impl Builder {
             },
             Phase::LineCount(_) => (0, number),
             Phase::AreaCount(_) => (number, 0),
-            Phase::Header | Phase::Optional { .. } | Phase::Id { .. } | Phase::X(_) | Phase::Y(_) =>
-                (0, 0),
+            Phase::Header | Phase::Optional { .. } | Phase::Id { .. } | Phase::Coordinate(_, _) => (
+                0, 0,
+            ),
         }
     }
 
@@ -200,23 +242,23 @@ impl Builder {
     {
         match &self.phase {
             Phase::Header => Some(origin()),
-            Phase::X(_) => moved_x(self.position, unzigzag(number)),
-            Phase::Y(_) => moved_y(self.position, unzigzag(number)),
+            Phase::Coordinate(Axis::X, _) => moved_x(self.position, unzigzag(number)),
+            Phase::Coordinate(Axis::Y, _) => moved_y(self.position, unzigzag(number)),
             _ => Some(self.position),
         }
     }
 
-    /// What the next item leads to, with its number added to the sums.
-    fn advance(&mut self, number: u64, length: u64) -> Result<Next, AllocError>
-        requires byte { number < 256 ⊎ IsSpelled self.old.phase }
+    /// Adds the next item to the sums.
+    fn add(&mut self, number: u64, length: u64)
         requires some { 0 < length }
         requires room { self.old.bytes + length + 1 < 2 ^ 64 }
         requires allowed { refusal self.old.limits (sums_of self.old) (stack_of self.old) number ≡ None }
         ensures limits { self.new.limits ≡ self.old.limits }
         ensures bytes { self.new.bytes ≡ self.old.bytes + length }
-        ensures fits { IfOk result NextFits }
-        ensures added { (i : Item) → role_at (sums_of self.old) (stack_of self.old) ≡ Some i.role → i.number ≡ number → length_of i.bytes ≡ length → IfOk result (λ next.
-            (sums_of self.new ≡ added (sums_of self.old) i) × ((frames_of self.new.frames.items, next_of next) ≡ stack_after (sums_of self.old) i (stack_of self.old))) }
+        ensures stack { stack_of self.new ≡ stack_of self.old }
+        ensures phase { self.new.phase ≡ self.old.phase }
+        ensures few { length_of self.new.frames.items < self.new.bytes }
+        ensures added { (i : Item) → role_at (sums_of self.old) (stack_of self.old) ≡ Some i.role → i.number ≡ number → length_of i.bytes ≡ length → sums_of self.new ≡ added (sums_of self.old) i }
     {
         let _most_nodes = self.limits.nodes();
         let _most_points = self.limits.points();
@@ -226,15 +268,54 @@ impl Builder {
         self.nodes += nodes;
         self.points += points;
         self.position = position;
+    }
+
+    /// What the item leads to that was added last.
+    fn advance(&mut self, number: u64) -> Result<Next, AllocError>
+        requires byte { number < 256 ⊎ IsSpelled self.old.phase }
+        requires some { length_of self.old.frames.items < self.old.bytes }
+        ensures limits { self.new.limits ≡ self.old.limits }
+        ensures sums { sums_of self.new ≡ sums_of self.old }
+        ensures fits { IfOk result NextFits }
+        ensures next { IfOk result (λ next. (frames_of self.new.frames.items, next_of next) ≡ advanced self.old.position self.old.bytes number (frames_of self.old.frames.items) (phase_of self.old.phase)) }
+    {
         let phase = mem::replace(&mut self.phase, Phase::Header);
         next(
             self.alloc,
             &mut self.frames,
             phase,
-            position,
+            self.position,
             self.bytes,
             number,
         )
+    }
+
+    /// Takes the item that was added last, where it leads on within a list; answers whether it did.
+    fn go_on(&mut self) -> Result<bool, AllocError>
+        ensures limits { self.new.limits ≡ self.old.limits }
+        ensures sums { sums_of self.new ≡ sums_of self.old }
+        ensures frames { self.new.frames ≡ self.old.frames }
+        ensures taken { IfOk result (λ taken. taken ≡ true → LeadsOn self.old.position self.old.phase self.new.phase) }
+        ensures left { IfOk result (λ taken. taken ≡ false → self.new.phase ≡ self.old.phase) }
+    {
+        take_in_place(&mut self.phase, self.position)
+    }
+
+    /// Takes points of a list, but not its last, as far as they stand whole in front, and answers how many bytes they had:
+    /// none where no list is read. It takes memory for the points.
+    pub fn take_points(&mut self, bytes: &[u8]) -> Result<usize, AllocError>
+        requires room { self.old.bytes + length_of bytes.now + 1 < 2 ^ 64 }
+        ensures limits { self.new.limits ≡ self.old.limits }
+        ensures within { IfOk result (λ used. used ≤ length_of bytes.now) }
+        ensures bytes { IfOk result (λ used. self.new.bytes ≡ self.old.bytes + used) }
+        ensures few { self.new.bytes ≤ self.old.bytes + length_of bytes.now }
+        ensures reached { IfOk result (λ used. (front : List ℕ) → Reached self.old.limits front (sums_of self.old) (stack_of self.old)
+            → Reached self.old.limits (front ++ take used bytes.now) (sums_of self.new) (stack_of self.new)) }
+    {
+        let taken = take_points(&mut self.phase, self.position, bytes)?;
+        self.bytes += taken.used as u64;
+        self.position = taken.position;
+        Ok(taken.used)
     }
 
     fn restart(&mut self)
@@ -309,7 +390,11 @@ impl Builder {
         if let Some(reason) = self.objection(number) {
             return Err(Stop::Refused(reason));
         }
-        let next = self.advance(number, length)?;
+        self.add(number, length);
+        if self.go_on()? {
+            return Ok(None);
+        }
+        let next = self.advance(number)?;
         self.land(next)
     }
 }

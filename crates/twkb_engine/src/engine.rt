@@ -1,14 +1,20 @@
 //! A blob that is read byte by byte.
-ghost use Rattle.std.specs.Prelude.{◌≡◌, IfOk, ◌+◌, ◌<◌, ◌≤◌, ◌^◌, ◌++◌, ◌∷◌, [], List, ℕ, true, false, length as length_of};
+ghost use Rattle.std.specs.Prelude.{◌≡◌, IfOk, IfErr, IfSome, Ok, Some, take, ◌+◌, ◌<◌, ◌≤◌, ◌^◌, ◌++◌, ◌∷◌, [], List, ℕ, true, false, length as length_of};
+ghost use Rattle.twkb_num.specs.Varint.{IsOpenVarint};
 ghost use Rattle.twkb_engine.specs.Decoding.{stack_of};
-ghost use Rattle.twkb_engine.specs.Standing.{StandsAt, IsStep, IsFed, IsEnd, count_of, offset_in, held_in, open_in, allowance_of};
+ghost use Rattle.twkb_engine.specs.Standing.{StandsAt, IsStep, IsTakenFrom, IsFed, IsEnd, count_of, offset_in, points_in, awaited_in, held_in, open_in, allowance_of};
 
+use crate::awaited::Awaited;
 use crate::blob_reason::BlobReason;
 use crate::builder::Builder;
+use crate::point_blob::{Made, point_blob};
 use crate::stop::Stop;
 use std::alloc::Global;
 use twkb_geom::{Geometry, Limits};
 use twkb_num::{Leb128, Partial, Step};
+
+/// What is taken at once has two items at least, and so as many bytes: shorter pieces are not looked at for it.
+const SHORTEST: usize = 2;
 
 /// A blob that is read byte by byte: the geometry as far as it is built, and the bytes of a number that is not whole.
 #[derive(Drop)]
@@ -53,6 +59,72 @@ impl Engine {
         }
     }
 
+    /// Takes points of a list, but not its last, as far as they stand whole in front, and answers how many bytes they had.
+    fn take_ahead(&mut self, rest: &[u8]) -> Result<usize, Stop>
+        requires room { count_of self.old + length_of rest.now ≤ 2 ^ 63 }
+        ensures limits { allowance_of self.new ≡ allowance_of self.old }
+        ensures count { IfOk result (λ used. count_of self.new ≡ count_of self.old + used) }
+        ensures few { count_of self.new ≤ count_of self.old + length_of rest.now }
+        ensures within { IfOk result (λ used. used ≤ length_of rest.now) }
+        ensures memory { IfErr result (λ stop. stop ≡ Stop.Memory) }
+        ensures ahead { IfOk result (λ used. (bs : List ℕ) → StandsAt bs self.old → StandsAt (bs ++ take used rest.now) self.new) }
+    {
+        if rest.len() < SHORTEST {
+            return Ok(0);
+        }
+        if self.partial.len() > 0 {
+            return Ok(0);
+        }
+        match self.builder.take_points(rest) {
+            Ok(used) => Ok(used),
+            Err(_) => Err(Stop::Memory),
+        }
+    }
+
+    /// The point whose blob stands whole in front, where no byte of a blob was taken.
+    fn front_point(&self, rest: &[u8]) -> Option<Made>
+        ensures some { IfSome result (λ made. 0 < made.used) }
+        ensures within { IfSome result (λ made. made.used ≤ length_of rest.now) }
+        ensures made { IfSome result (λ made. (bs : List ℕ) → StandsAt bs self.now → IsStep (allowance_of self.now) (bs ++ take made.used rest.now) (Ok (Some made.geometry)) self.now) }
+    {
+        if rest.len() < SHORTEST {
+            return None;
+        }
+        if self.is_between() {
+            if self.builder.allows_points() {
+                return point_blob(rest);
+            }
+        }
+        None
+    }
+
+    /// Takes the next bytes of a piece, one at least: what stands whole in front, or an item's byte.
+    fn take_some(&mut self, rest: &[u8]) -> Result<(usize, Option<Geometry>), Stop>
+        requires some { 0 < length_of rest.now }
+        requires room { count_of self.old + length_of rest.now ≤ 2 ^ 63 }
+        ensures limits { allowance_of self.new ≡ allowance_of self.old }
+        ensures count { IfOk result (λ taken. count_of self.new ≤ count_of self.old + taken.0) }
+        ensures few { count_of self.new ≤ count_of self.old + length_of rest.now }
+        ensures some { IfOk result (λ taken. 0 < taken.0) }
+        ensures within { IfOk result (λ taken. taken.0 ≤ length_of rest.now) }
+        ensures taken { (bs : List ℕ) → StandsAt bs self.old → IsTakenFrom (allowance_of self.old) bs rest.now result self.new }
+    {
+        if let Some(made) = self.front_point(rest) {
+            return Ok((made.used, Some(made.geometry)));
+        }
+        let used = match self.take_ahead(rest) {
+            Ok(used) => used,
+            Err(stop) => return Err(stop),
+        };
+        if used > 0 {
+            return Ok((used, None));
+        }
+        match self.step(rest[0]) {
+            Ok(found) => Ok((1, found)),
+            Err(stop) => Err(stop),
+        }
+    }
+
     /// Takes bytes up to the end of a geometry, else all of them, and answers how many. An item that is kept takes memory.
     pub fn feed(&mut self, piece: &[u8]) -> Result<(usize, Option<Geometry>), Stop>
         requires room { count_of self.old + length_of piece.now ≤ 2 ^ 63 }
@@ -61,14 +133,15 @@ impl Engine {
         ensures within { IfOk result (λ fed. fed.0 ≤ length_of piece.now) }
         ensures fed { (bs : List ℕ) → StandsAt bs self.old → IsFed (allowance_of self.old) bs piece.now result self.new }
     {
-        for (index, byte) in piece.iter().enumerate() {
-            match self.step(*byte) {
-                Ok(None) => {}
-                Ok(Some(geometry)) => return Ok((index + 1, Some(geometry))),
+        let mut used = 0;
+        while used < piece.len() {
+            match self.take_some(&piece[used..]) {
+                Ok((count, None)) => used += count,
+                Ok((count, Some(geometry))) => return Ok((used + count, Some(geometry))),
                 Err(stop) => return Err(stop),
             }
         }
-        Ok((piece.len(), None))
+        Ok((used, None))
     }
 
     /// Whether no byte was taken since the last blob's end. Takes no memory.
@@ -90,7 +163,9 @@ impl Engine {
     pub fn held(&self) -> usize
         ensures held { result ≡ length_of (held_in self.now) }
         ensures few { result ≤ 9 }
+        ensures begun { IsOpenVarint (held_in self.now) }
     {
+        twkb_num::laws::varints();
         self.partial.len()
     }
 
@@ -101,9 +176,24 @@ impl Engine {
         self.builder.bytes()
     }
 
+    /// Points that the counts and points which it took since the last blob's end announced. Takes no memory.
+    pub fn points(&self) -> u64
+        ensures { result ≡ points_in self.now }
+    {
+        self.builder.points()
+    }
+
+    /// What its next byte is for. Takes no memory.
+    pub fn awaited(&self) -> Awaited
+        ensures { result ≡ awaited_in self.now }
+    {
+        self.builder.awaited()
+    }
+
     /// How many geometries are begun and not finished. Takes no memory.
     pub fn open_geometries(&self) -> usize
-        ensures { result ≡ open_in self.now }
+        ensures open { result ≡ open_in self.now }
+        ensures few { (bs : List ℕ) → StandsAt bs self.now → result ≤ (allowance_of self.now).nest + 1 }
     {
         self.builder.open_geometries()
     }

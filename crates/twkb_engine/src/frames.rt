@@ -22,7 +22,7 @@ use twkb_geom::{Geometry, IdList, Ids, Members, Shape};
 use twkb_num::unzigzag;
 
 /// How many open collections take no memory of their own.
-pub const INLINE: usize = 4;
+pub const INLINE: usize = 1;
 
 /// A collection that is begun and not finished, and whose members have begun.
 #[derive(Debug, Drop)]

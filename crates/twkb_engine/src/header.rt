@@ -7,7 +7,7 @@ ghost use Rattle.twkb_grammar.specs.Machine.{wanting, begun, asked, AtEnd, empty
 ghost use Rattle.twkb_engine.specs.State.{next_of, phase_of, kind_of, head_of, role_of_part, roles_behind, size_roles, box_roles};
 ghost use Rattle.twkb_engine.specs.Fitting.{NextFits, PhaseFits};
 
-use crate::phase::{Kind, Many, Next, Optional, Phase, end};
+use crate::phase::{Axis, Kind, Many, Next, Optional, Phase, end};
 use crate::place::{AreaPlace, Head, LinePlace, PointPlace};
 use std::alloc::Global;
 use twkb_geom::{Areas, Lines, Members, Pts, Shape};
@@ -38,7 +38,7 @@ pub fn has_bit(number: u64, position: u32) -> bool
     number >> position & 1 == 1
 }
 
-/// The precision of a type byte's upper half.
+/// The precision of a type byte's upper half, -8 to 7 (TWKB, type and precision).
 pub fn precision_at(half: u64) -> i8
     requires { half < 16 }
     ensures value { result ≡ unzigzag_of half }
@@ -88,7 +88,7 @@ fn begin_body(kind: Kind, head: Head) -> Phase
     ensures fits { PhaseFits result }
 {
     match kind {
-        Kind::Point => Phase::X(PointPlace::Point(head)),
+        Kind::Point => Phase::Coordinate(Axis::X, PointPlace::Point(head)),
         Kind::Line => Phase::LineCount(LinePlace::Line(head)),
         Kind::Polygon => Phase::AreaCount(AreaPlace::Polygon(head)),
         Kind::MultiPoint => Phase::Count {

@@ -43,6 +43,13 @@ pub enum Optional {
     Box { left: u8 },
 }
 
+/// Which coordinate of a point it is.
+#[derive(Clone, Copy, Debug, PartialEq, Eq)]
+pub enum Axis {
+    X,
+    Y,
+}
+
 /// What comes next.
 #[derive(Debug, Drop)]
 pub enum Phase {
@@ -76,10 +83,8 @@ pub enum Phase {
     LineCount(LinePlace),
     /// The count of a polygon's rings.
     AreaCount(AreaPlace),
-    /// A first coordinate.
-    X(PointPlace),
-    /// A second coordinate.
-    Y(PointPlace),
+    /// A coordinate of a point.
+    Coordinate(Axis, PointPlace),
 }
 
 /// What an item leads to: a further item, or a geometry's end.
@@ -183,7 +188,8 @@ pub fn close_point(place: PointPlace, point: Pt) -> Result<Next, AllocError>
                 close_line(line, Pts::from_vec(done))
             } else {
                 let left = left - 1;
-                Ok(Next::Read(Phase::X(PointPlace::InLine { done, left, line })))
+                let place = PointPlace::InLine { done, left, line };
+                Ok(Next::Read(Phase::Coordinate(Axis::X, place)))
             }
         }
     }
@@ -200,11 +206,12 @@ pub fn open_line(alloc: Global, place: LinePlace, count: u64) -> Result<Next, Al
         return close_line(place, Pts::from_vec(done));
     }
     let left = count - 1;
-    Ok(Next::Read(Phase::X(PointPlace::InLine {
+    let point = PointPlace::InLine {
         done,
         left,
         line: place,
-    })))
+    };
+    Ok(Next::Read(Phase::Coordinate(Axis::X, point)))
 }
 
 /// A list of so many lines or rings begins. The count reserves nothing.

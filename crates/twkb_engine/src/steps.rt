@@ -8,7 +8,7 @@ ghost use Rattle.twkb_engine.specs.Fitting.{FrameFits, PhaseFits, NextFits};
 
 use crate::frames::{Frames, after_count, after_id};
 use crate::header::{after_metadata, after_part, kind_at, precision_at};
-use crate::phase::{Next, Phase, close_point, open_area, open_line};
+use crate::phase::{Axis, Next, Phase, close_point, open_area, open_line};
 use crate::place::Head;
 use std::alloc::{AllocError, Global};
 use twkb_points::Pt;
@@ -57,7 +57,7 @@ pub fn next(
         } => after_id(alloc, frames, many, head, members, ids, left, number),
         Phase::LineCount(place) => open_line(alloc, place, number),
         Phase::AreaCount(place) => open_area(alloc, place, number),
-        Phase::X(place) => Ok(Next::Read(Phase::Y(place))),
-        Phase::Y(place) => close_point(place, position),
+        Phase::Coordinate(Axis::X, place) => Ok(Next::Read(Phase::Coordinate(Axis::Y, place))),
+        Phase::Coordinate(Axis::Y, place) => close_point(place, position),
     }
 }

@@ -2,6 +2,7 @@ pub mod AllJoined
 pub mod ExtentSteps
 pub mod Forest
 pub mod InRange
+pub mod LargestLimits
 pub mod LimitLaws
 pub mod OpenDecides
 pub mod OpenLaws
@@ -18,6 +19,7 @@ pub mod RowFitting
 pub mod RowForest
 pub mod RowLaws
 pub mod RowListing
+pub mod RowMembers
 pub mod RowNests
 pub mod RowParts
 pub mod RowPoints
@@ -33,3 +35,4 @@ pub mod RowsGrow
 pub mod RowsLocal
 pub mod RowsOfTrees
 pub mod Shapes
+pub mod StandingLemmas

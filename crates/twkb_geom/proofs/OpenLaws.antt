@@ -44,7 +44,7 @@ length-opened (suc zero) r (o ∷ os) le = refl
 length-opened (suc (suc d)) r (o ∷ os) le = omega (arith, length-opened (suc d) r os (omega arith))
 
 -- a row is no deeper than the open rows allow
-steps_within : (d : ℕ) (before : List Row) → steps_to d before ≡ true → d ≤ open_count before
+pub steps_within : (d : ℕ) (before : List Row) → steps_to d before ≡ true → d ≤ open_count before
 steps_within zero before h = omega arith
 steps_within (suc d) [] h = cc h
 steps_within (suc d) (r ∷ before) h = grind (arith, nat_tests)

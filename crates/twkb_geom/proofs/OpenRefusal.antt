@@ -29,19 +29,19 @@ parent_checks l steps (Some p) None f nodes points r e = cc e
 parent_checks l steps (Some p) (Some q) f nodes points r e = rw (head_kind p q e) refl
 
 -- a row too deep has no place
-stepless : (l : Allowance) (steps : Bool) (p f : Option Row) (nodes points : ℕ) (r : Row) → steps ≡ false → first_failed (checks_under l steps p f nodes points r) ≡ Some BadPlace
+pub stepless : (l : Allowance) (steps : Bool) (p f : Option Row) (nodes points : ℕ) (r : Row) → steps ≡ false → first_failed (checks_under l steps p f nodes points r) ≡ Some BadPlace
 stepless l steps p f nodes points r e = rw e refl
 
 -- ---- what the open rows say
 
 -- the parent below a root
-open_parent_at : (d : ℕ) (os : List OpenRow) → d < length os → open_parent (suc d) os ≡ Some (get_or os d blank_row)
-open_parent_at d [] lt = absurd (omega arith)
-open_parent_at zero (o ∷ os) lt = refl
-open_parent_at (suc d) (o ∷ os) lt = open_parent_at d os (omega arith)
+pub open_parent_at : (d : ℕ) (os : List OpenRow) (blank : OpenRow) → d < length os → open_parent (suc d) os ≡ Some (get_or os d blank)
+open_parent_at d [] blank lt = absurd (omega arith)
+open_parent_at zero (o ∷ os) blank lt = refl
+open_parent_at (suc d) (o ∷ os) blank lt = open_parent_at d os blank (omega arith)
 
 -- a root has none
-no_open_parent : (os : List OpenRow) → open_parent zero os ≡ None
+pub no_open_parent : (os : List OpenRow) → open_parent zero os ≡ None
 no_open_parent [] = refl
 no_open_parent (o ∷ os) = refl
 
@@ -50,30 +50,30 @@ kind_by-row_of : (o : OpenRow) → kind_by (row_of (Some o)) ≡ Some o.kind
 kind_by-row_of o = refl
 
 -- the id
-ids_by-child_by : (b : Option Bool) → ids_by (child_by b) ≡ b
+pub ids_by-child_by : (b : Option Bool) → ids_by (child_by b) ≡ b
 ids_by-child_by None = refl
 ids_by-child_by (Some true) = refl
 ids_by-child_by (Some false) = refl
 
 -- the kind of the parent
-kind_under : (d : ℕ) (before : List Row) (os : List OpenRow) → AreOpen before os → d ≤ length os → kind_by (row_of (open_parent d os)) ≡ kind_by (parent d before)
+pub kind_under : (d : ℕ) (before : List Row) (os : List OpenRow) → AreOpen before os → d ≤ length os → kind_by (row_of (open_parent d os)) ≡ kind_by (parent d before)
 kind_under zero before os a le = ap (λ o. kind_by (row_of o)) (no_open_parent os)
 kind_under (suc d) before os a le =
-    ap (λ o. kind_by (row_of o)) (open_parent_at d os (omega arith)) ∙ sym (kind_at d before (get_or os d blank_row) (open_at d before os blank_row a (omega arith)))
+    ap (λ o. kind_by (row_of o)) (open_parent_at d os blank_row (omega arith)) ∙ sym (kind_at d before (get_or os d blank_row) (open_at d before os blank_row a (omega arith)))
 
 -- the id of the first child
-ids_under : (d : ℕ) (before : List Row) (os : List OpenRow) → AreOpen before os → d ≤ length os → ids_by (child_of (open_parent d os)) ≡ ids_by (first_child d before)
+pub ids_under : (d : ℕ) (before : List Row) (os : List OpenRow) → AreOpen before os → d ≤ length os → ids_by (child_of (open_parent d os)) ≡ ids_by (first_child d before)
 ids_under zero before os a le = ap (λ o. ids_by (child_of o)) (no_open_parent os)
 ids_under (suc d) before os a le =
-    ap (λ o. ids_by (child_of o)) (open_parent_at d os (omega arith)) ∙ ids_by-child_by (get_or os d blank_row).child_ids ∙ (open_at d before os blank_row a (omega arith)).3
+    ap (λ o. ids_by (child_of o)) (open_parent_at d os blank_row (omega arith)) ∙ ids_by-child_by (get_or os d blank_row).child_ids ∙ (open_at d before os blank_row a (omega arith)).3
 
 -- the rows of the geometry
-nodes_under : (d : ℕ) (before : List Row) → count_at d (length (since_root before)) ≡ length (geometry_rows d before)
+pub nodes_under : (d : ℕ) (before : List Row) → count_at d (length (since_root before)) ≡ length (geometry_rows d before)
 nodes_under zero before = refl
 nodes_under (suc d) before = refl
 
 -- their points
-points_under : (d : ℕ) (before : List Row) → count_at d (point_count (since_root before)) ≡ point_count (geometry_rows d before)
+pub points_under : (d : ℕ) (before : List Row) → count_at d (point_count (since_root before)) ≡ point_count (geometry_rows d before)
 points_under zero before = refl
 points_under (suc d) before = refl
 

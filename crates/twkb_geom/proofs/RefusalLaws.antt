@@ -62,7 +62,7 @@ points_test k w (p ∷ ps) h = elim (cases_Bool (has_points k)) [
 -- ---- accepted, and not refused
 
 -- the tests of a row by their names
-record Passes (l : Allowance) (steps : Bool) (p f : Option Row) (nodes points : ℕ) (r : Row) : Type 0 where
+pub record Passes (l : Allowance) (steps : Bool) (p f : Option Row) (nodes points : ℕ) (r : Row) : Type 0 where
   pub place : (steps && has_place p r.kind) ≡ true
   pub nest : nest_kept l p r.depth ≡ true
   pub nodes_left : nat_lt nodes l.nodes ≡ true
@@ -78,7 +78,7 @@ record Passes (l : Allowance) (steps : Bool) (p f : Option Row) (nodes points : 
   pub number : points_fit r.kind (is_whole p) r.points ≡ true
 
 -- where none fails, each holds
-passes : (l : Allowance) (steps : Bool) (p f : Option Row) (nodes points : ℕ) (r : Row) → first_failed (checks_under l steps p f nodes points r) ≡ None → Passes l steps p f nodes points r
+pub passes : (l : Allowance) (steps : Bool) (p f : Option Row) (nodes points : ℕ) (r : Row) → first_failed (checks_under l steps p f nodes points r) ≡ None → Passes l steps p f nodes points r
 passes l steps p f nodes points r e =
     let h = all_hold (checks_under l steps p f nodes points r) e in
     let from_4 = h.1.1.1.1 in
@@ -100,7 +100,7 @@ passes l steps p f nodes points r e =
     }
 
 -- where each holds, none fails
-passed : (l : Allowance) (steps : Bool) (p f : Option Row) (nodes points : ℕ) (r : Row) → Passes l steps p f nodes points r → first_failed (checks_under l steps p f nodes points r) ≡ None
+pub passed : (l : Allowance) (steps : Bool) (p f : Option Row) (nodes points : ℕ) (r : Row) → Passes l steps p f nodes points r → first_failed (checks_under l steps p f nodes points r) ≡ None
 passed l steps p f nodes points r h =
     none_fails (checks_under l steps p f nodes points r) (
       h.place,
@@ -108,7 +108,7 @@ passed l steps p f nodes points r h =
     )
 
 -- so the row fits
-joined : (l : Allowance) (steps : Bool) (p f : Option Row) (nodes points : ℕ) (r : Row) → Passes l steps p f nodes points r → (steps && fits p f r) ≡ true
+pub joined : (l : Allowance) (steps : Bool) (p f : Option Row) (nodes points : ℕ) (r : Row) → Passes l steps p f nodes points r → (steps && fits p f r) ≡ true
 joined l steps p f nodes points r h =
     let place = both_true steps (has_place p r.kind) h.place in
     both steps (fits p f r) place.0 (fits_by p f r (record {
@@ -122,7 +122,7 @@ joined l steps p f nodes points r h =
     }))
 
 -- a row that fits passes
-apart : (l : Allowance) (steps : Bool) (p f : Option Row) (nodes points : ℕ) (r : Row) → (steps && fits p f r) ≡ true → nest_kept l p r.depth ≡ true → nodes < l.nodes → AreInRange r.points → points + length r.points ≤ l.points → Passes l steps p f nodes points r
+pub apart : (l : Allowance) (steps : Bool) (p f : Option Row) (nodes points : ℕ) (r : Row) → (steps && fits p f r) ≡ true → nest_kept l p r.depth ≡ true → nodes < l.nodes → AreInRange r.points → points + length r.points ≤ l.points → Passes l steps p f nodes points r
 apart l steps p f nodes points r e nest few in_range room =
     let two = both_true steps (fits p f r) e in
     let h = facts p f r two.1 in
@@ -166,7 +166,7 @@ accepted_unrefused l before r a =
 -- ---- by tests that compute
 
 -- nothing
-none_is : {A : Type 0} (o : Option A) → is_none o ≡ true → o ≡ None
+pub none_is : {A : Type 0} (o : Option A) → is_none o ≡ true → o ≡ None
 none_is None h = refl
 none_is (Some x) h = cc h
 

@@ -2,9 +2,9 @@
 use Rattle.std.proofs.Common.{◌≡◌, List, [], ◌∷◌, ◌++◌, Some, None, sym, ◌∙◌, ap, subst, arith, append-nil}
 use Rattle.twkb_geom.specs.Tree.{Tree, end, ◌▷◌, IsTree}
 use Rattle.twkb_geom.specs.Rows.{Row, rows, rows_of, own_row}
-use Rattle.twkb_geom.specs.RowLists.{AreGeometries, IsAtRoot}
+use Rattle.twkb_geom.specs.RowLists.{AreGeometries, IsAtRoot, IsAbove}
 use Rattle.twkb_geom.proofs.RowForest.{listed, Fit, tree_below}
-use Rattle.twkb_geom.proofs.RowsApart.{IsAbove, one_forest}
+use Rattle.twkb_geom.proofs.RowsApart.{one_forest}
 use Rattle.twkb_geom.proofs.RowListing.{listed-members}
 use Rattle.twkb_geom.proofs.RowFitting.{fit_roots}
 use Rattle.twkb_geom.proofs.RootLaws.{one_tree, root_depth, one_geometry}

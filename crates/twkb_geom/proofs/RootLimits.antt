@@ -51,7 +51,7 @@ valid_list l [] a = ([], tt, refl)
 valid_list l (s ∷ rs) a = valid_as_list l s rs a
 
 -- they are rows of one geometry
-of_one : (l : Allowance) (rs : List Row) → AreValidRowsOfOne l rs → AreRowsOfOne rs
+pub of_one : (l : Allowance) (rs : List Row) → AreValidRowsOfOne l rs → AreRowsOfOne rs
 of_one l [] a = tt
 of_one l (s ∷ rs) a = (a.0, a.1.tree, a.2)
 

@@ -1,16 +1,11 @@
 -- Rows determine the forest.
 use Rattle.std.proofs.Common.{◌≡◌, ℕ, suc, ◌<◌, List, [], ◌∷◌, ◌++◌, Option, Some, None, refl, sym, ◌∙◌, ap, arith, append_assoc}
-use Rattle.std.specs.Prelude.{⊤}
 use Rattle.twkb_geom.specs.Rows.{Row}
+use Rattle.twkb_geom.specs.RowLists.{IsAbove}
 use Rattle.twkb_geom.proofs.RowForest.{Nodes, none, node, listed, next_first, Fit}
 
--- the first of the rows, if there is one, is above a depth
-abbrev pub IsAbove : ℕ → List Row → Type 0
-IsAbove d [] = ⊤
-IsAbove d (r ∷ rs) = r.depth < d
-
 -- above a greater depth
-above_less : (d : ℕ) (x : List Row) → IsAbove d x → IsAbove (suc d) x
+pub above_less : (d : ℕ) (x : List Row) → IsAbove d x → IsAbove (suc d) x
 above_less d [] h = tt
 above_less d (r ∷ rs) h = omega arith
 

@@ -17,7 +17,7 @@ rows_of-append [] hs = refl
 rows_of-append (g ∷ gs) hs = ap (λ rs. rows 0 g ++ rs) (rows_of-append gs hs) ∙ sym (append_assoc (rows 0 g) (rows_of gs) (rows_of hs))
 
 -- the rows of the last geometry come last
-rows_of-last : (gs : List Tree) (g : Tree) → rows_of (gs ++ g ∷ []) ≡ rows_of gs ++ rows 0 g
+pub rows_of-last : (gs : List Tree) (g : Tree) → rows_of (gs ++ g ∷ []) ≡ rows_of gs ++ rows 0 g
 rows_of-last gs g = rows_of-append gs (g ∷ []) ∙ ap (λ rs. rows_of gs ++ rs) (append-nil (rows 0 g))
 
 -- rows that are some are those of a geometry
@@ -29,11 +29,14 @@ one_more l (s ∷ rs) r a = a
 pub continued_tree : (l : Allowance) (rs : List Row) (r : Row) → AreValidRowsOfOne l rs → Continues l rs r → (h : Tree) × IsValid l h × (rows 0 h ≡ rs ++ r ∷ [])
 continued_tree l rs r a h = one_more l rs r (continued l rs r a h)
 
+-- an accepted root is accepted where no row stands before it
+pub root_alone : (l : Allowance) (rs : List Row) (r : Row) → Accepts l (reverse rs) r → r.depth ≡ 0 → Accepts l [] r
+root_alone l rs r accepts root = accepts_unrefused l [] r (sym (root_refusal l rs r root) ∙ accepted_unrefused l (reverse rs) r accepts)
+
 -- an accepted root begins a geometry
 pub new_geometry : (l : Allowance) (rs : List Row) (r : Row) → Accepts l (reverse rs) r → r.depth ≡ 0 → (h : Tree) × IsValid l h × (rows 0 h ≡ r ∷ [])
 new_geometry l rs r accepts root =
-    let alone = accepts_unrefused l [] r (sym (root_refusal l rs r root) ∙ accepted_unrefused l (reverse rs) r accepts) in
-    continued_tree l [] r tt (alone, root)
+    continued_tree l [] r tt (root_alone l rs r accepts root, root)
 
 -- the same, said of rows
 grown_from : (l : Allowance) (earlier : List Row) (s : Row) (rs : List Row) (r : Row) → AreRowsOfOne (s ∷ rs) → AreValidRowsOfOne l (s ∷ rs) → Accepts l (reverse (earlier ++ s ∷ rs)) r → 0 < r.depth → (h : Tree) × IsValid l h × (rows 0 h ≡ s ∷ rs ++ r ∷ [])
@@ -42,7 +45,7 @@ grown_from l earlier s rs r one valid accepts below =
     continued_tree l (s ∷ rs) r valid (here, below)
 
 -- the last geometry is valid
-last_valid : (l : Allowance) (gs : List Tree) (g : Tree) → AreValid l (gs ++ g ∷ []) → IsValid l g
+pub last_valid : (l : Allowance) (gs : List Tree) (g : Tree) → AreValid l (gs ++ g ∷ []) → IsValid l g
 last_valid l [] g v = v.0
 last_valid l (h ∷ gs) g v = last_valid l gs g v.1
 

@@ -113,7 +113,7 @@ next_is (s ∷ rs) [] r a = absurd (omega (arith, a.all, open_count-some s [] (r
 next_is (s ∷ rs) (o ∷ os) r a = refl
 
 -- turned round, rows have as many points
-point_count-reverse : (rs : List Row) → point_count (reverse rs) ≡ point_count rs
+pub point_count-reverse : (rs : List Row) → point_count (reverse rs) ≡ point_count rs
 point_count-reverse rs = weight-onto (λ r. length r.points) rs [] ∙ omega arith
 
 -- the test by the open rows is the test by the rows

@@ -18,6 +18,16 @@ IsTree-tree_of p (MultiLine lines ids) small fit are = (small, fit)
 IsTree-tree_of p (MultiPolygon areas ids) small fit are = (small, fit)
 IsTree-tree_of p (Collection gs ids) small fit are = (small, subst (λ n. HasIds ids n) (sym (count-trees gs)) fit, are)
 
+-- and a geometry's precision and shape are such
+pub fit-tree_of : (p : ℤ) (s : Shape) → IsTree (tree_of p s) → IsPrecision p × HasFitIds s
+fit-tree_of p (Point o) t = (t.0, tt)
+fit-tree_of p (Line ps) t = (t.0, tt)
+fit-tree_of p (Polygon rings) t = (t.0, tt)
+fit-tree_of p (MultiPoint ps ids) t = t
+fit-tree_of p (MultiLine lines ids) t = t
+fit-tree_of p (MultiPolygon areas ids) t = t
+fit-tree_of p (Collection gs ids) t = (t.0, subst (λ n. HasIds ids n) (count-trees gs) t.1)
+
 -- the points of the shape are those of its tree
 pub IsTreeInRange-tree_of : (p : ℤ) (s : Shape) → IsShapeInRange s → IsTreeInRange (tree_of p s)
 IsTreeInRange-tree_of p (Point None) h = tt

@@ -13,6 +13,7 @@ pub mod Rows
 pub mod Shape
 pub mod Size
 pub mod SizeFalls
+pub mod Standing
 pub mod Tree
 pub mod TreeCode
 pub mod Uniform

@@ -1,5 +1,5 @@
 -- Lists of rows that are those of geometries.
-use Rattle.std.specs.Prelude.{◌≡◌, ℕ, ◌≤◌, List, [], ◌∷◌, ◌++◌, ⊤}
+use Rattle.std.specs.Prelude.{◌≡◌, ℕ, ◌<◌, ◌≤◌, List, [], ◌∷◌, ◌++◌, ⊤}
 use Rattle.std.specs.List.{AllByRecursion}
 use Rattle.twkb_geom.specs.Limits.{Allowance, IsValid}
 use Rattle.twkb_geom.specs.Tree.{Tree, IsTree}
@@ -39,6 +39,11 @@ AreValidRowsOfOne l (r ∷ rs) = (g : Tree) × IsValid l g × (rows 0 g ≡ r �
 abbrev pub IsAtRoot : List Row → Type 0
 IsAtRoot [] = ⊤
 IsAtRoot (r ∷ rs) = r.depth ≡ 0
+
+-- the first of the rows, if there is one, stands above this depth
+abbrev pub IsAbove : ℕ → List Row → Type 0
+IsAbove d [] = ⊤
+IsAbove d (r ∷ rs) = r.depth < d
 
 -- the row stands at this depth or above it
 abbrev pub IsShallow : ℕ → Row → Type 0

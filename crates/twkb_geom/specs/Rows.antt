@@ -1,5 +1,5 @@
 -- The rows of a geometry in a table, before they are text.
-use Rattle.std.specs.Prelude.{ℕ, suc, ℤ, List, [], ◌∷◌, ◌++◌, Option, None, Some, flat_map}
+use Rattle.std.specs.Prelude.{ℕ, suc, ℤ, List, [], ◌∷◌, ◌++◌, Option, None, Some, flat_map, drop}
 use Rattle.twkb_points.specs.Point.{Point}
 use Rattle.twkb_geom.specs.declared.kind.Kind.{Kind}
 use Rattle.twkb_geom.specs.Tree.{Ids, Simple, point, line, polygon, multi_point, multi_line, multi_polygon, Tree, simple, collection, Trees, end, ◌▷◌, point_list}
@@ -37,6 +37,11 @@ abbrev pub other_ids : Ids → Ids
 other_ids (Some (id ∷ ids)) = Some ids
 other_ids ids = ids
 
+-- the ids of the members from a place on
+abbrev pub ids_from : ℕ → Ids → Ids
+ids_from i None = None
+ids_from i (Some ids) = Some (drop i ids)
+
 -- the rows of each member, with its id
 abbrev pub rows_of_each : {A : Type 0} → (Option ℤ → A → List Row) → Ids → List A → List Row
 rows_of_each f ids [] = []
@@ -45,6 +50,10 @@ rows_of_each f ids (x ∷ xs) = f (first_id ids) x ++ rows_of_each f (other_ids 
 -- a row with no precision of its own
 abbrev pub plain_row : ℕ → Kind → Option ℤ → List Point → Row
 plain_row d kind id ps = record { depth = d; kind = kind; id = id; precision = None; points = ps }
+
+-- a row with a precision of its own
+abbrev pub whole_row : ℕ → Kind → Option ℤ → ℤ → List Point → Row
+whole_row d kind id p ps = record { depth = d; kind = kind; id = id; precision = Some p; points = ps }
 
 -- the rows of rings, which have no ids
 abbrev pub ring_rows : ℕ → List (List Point) → List Row
@@ -77,6 +86,11 @@ abbrev mutual
   pub member_rows : ℕ → Ids → Trees → List Row
   member_rows d ids end = []
   member_rows d ids (g ▷ gs) = rows_with (first_id ids) d g ++ member_rows d (other_ids ids) gs
+
+-- the rows of a geometry but for its own, at depth d
+abbrev pub rows_under : ℕ → Tree → List Row
+rows_under d (simple p s) = rows_below d s
+rows_under d (collection p ids gs) = member_rows d ids gs
 
 -- the rows of a geometry, in preorder from a depth
 abbrev pub rows : ℕ → Tree → List Row

@@ -12,16 +12,21 @@ pub mod laws;
 mod limits;
 mod lists;
 mod open_rows;
+mod parts;
 mod placed;
 mod precisions;
+pub mod row_rules;
+mod standing;
 mod validity;
 
 pub use fault::GeomFault;
 pub use geometry::{Geometry, Members, Shape};
 pub use kind::Kind;
 pub use limits::Limits;
-pub use lists::{Areas, IdList, Ids, Items, Lines, Pts};
+pub use lists::{Areas, IdList, Ids, Item, Items, Lines, Pts};
 pub use open_rows::OpenRow;
+pub use parts::{id_at, own_parts};
+pub use standing::Standing;
 
 #[cfg(test)]
 mod row_tests;

@@ -35,3 +35,8 @@ pub mod Frames
 pub mod Standing
 pub mod Either
 pub mod Computed
+pub mod NotedSpans
+pub mod NotedEnds
+pub mod TakenItems
+pub mod Following
+pub mod SpanLaws

@@ -37,9 +37,9 @@ no_item X n bytes more s some go_on h = no_number n bytes more s go_on
 no_item Y n bytes more s some go_on h = no_number n bytes more s go_on
 no_item (End d came) n bytes more s some go_on h = some d came refl
 
--- so no items that are run through go on beyond those of a reader, over the same bytes
 module _ (limits : Allowance) (bytes : List ℕ) (gs : List Tree) (e : Sums) (st : Stack) (held : List ℕ) (s : Stands limits bytes gs e st held) where
-  none_longer : (is : List Item) (last : Stack) (x : List ℕ) → Runs nothing started is last → join is ++ x ≡ s.middle ++ held → Beyond is s.reached.items → ⊥
+  -- so no items that are run through go on beyond those of a reader, over the same bytes
+  pub none_longer : (is : List Item) (last : Stack) (x : List ℕ) → Runs nothing started is last → join is ++ x ≡ s.middle ++ held → Beyond is s.reached.items → ⊥
   none_longer is last x r at b =
       let t = runs_split s.reached.items (b.next ∷ b.more) nothing started last (subst (λ l. Runs nothing started l last) b.whole r) in
       let mid : t.mid ≡ st = runs_same s.reached.items nothing started t.mid st t.front s.reached.ran.runs in

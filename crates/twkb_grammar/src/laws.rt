@@ -12,6 +12,8 @@ ghost use Rattle.twkb_grammar.specs.Written.{canonical_blob, canonical_stream};
 ghost use Rattle.twkb_grammar.specs.Fault.{Refused, Fault, FirstFault, StreamFault, Reason, Truncated, BadVarint, Part, IsCut, IsTooLong};
 ghost use Rattle.twkb_grammar.specs.Machine.{Runs, Sums, nothing, started, Finished, Stack, role_at, sums_after};
 ghost use Rattle.twkb_grammar.specs.PlainReader.{decode, objection, Made, RefusedAt, GoesOn};
+ghost use Rattle.twkb_grammar.specs.Spans.{spans_of_blob, geometries, CoversBlob};
+ghost use Rattle.twkb_grammar.specs.Noting.{no_notes, noted, note_byte, note_ends_to, notes_of, IsCalm};
 ghost use Rattle.twkb_grammar.specs.Reading.{Ran, Reached, Gives, Leads, Stands, frame_count, open_after};
 
 /// The canonical blob of a valid geometry, in either style, is a blob of it, and its length is bounded by nodes and points;
@@ -114,4 +116,21 @@ pub fn standing()
     ensures whole { (limits : Allowance) (bytes : List ℕ) (gs : List Tree) (e : Sums) (st : Stack) (held : List ℕ) → Stands limits bytes gs e st held → e.bytes ≡ 0 → Stream limits bytes gs }
     ensures cut { (limits : Allowance) (bytes : List ℕ) (gs : List Tree) (e : Sums) (st : Stack) (held : List ℕ) (s : Stands limits bytes gs e st held) → 0 < e.bytes
         → StreamFault limits bytes gs (length s.front + e.bytes) Truncated }
+{}
+
+/// The bytes of a blob tell its spans: one for each geometry, and the first from its start to its end.
+pub fn spans()
+    ensures one_list { (limits : Allowance) (bytes : List ℕ) (g : Tree) (start : ℕ) (a b : Blob limits bytes g) → spans_of_blob start a ≡ spans_of_blob start b }
+    ensures one_each { (limits : Allowance) (bytes : List ℕ) (g : Tree) (start : ℕ) (b : Blob limits bytes g) → length (spans_of_blob start b) ≡ geometries g }
+    ensures first { (limits : Allowance) (bytes : List ℕ) (g : Tree) (start : ℕ) (b : Blob limits bytes g) → CoversBlob start bytes g (spans_of_blob start b) }
+{}
+
+/// A reader that notes the spans of geometries as their items come has noted those of the blob behind its last item. What a byte more notes
+/// is told by where the reader stands before it and behind it.
+pub fn noting()
+    ensures whole { (limits : Allowance) (bytes : List ℕ) (g : Tree) (start : ℕ) (b : Blob limits bytes g) → noted start nothing no_notes b.items ≡ record { spans = spans_of_blob start b; begun = [] } }
+    ensures goes_on { (limits : Allowance) (bytes : List ℕ) (e : Sums) (st : Stack) (held : List ℕ) (s : Stands limits bytes [] e st held) (start byte : ℕ) (f : Sums) (su : Stack) (kept : List ℕ) (t : Stands limits (bytes ++ byte ∷ []) [] f su kept)
+        → IsCalm st.1 → notes_of start t ≡ note_ends_to (frame_count su) (start + f.bytes) f.points (note_byte st.1 (start + e.bytes) e.points byte (notes_of start s)) }
+    ensures ends { (limits : Allowance) (bytes : List ℕ) (e : Sums) (st : Stack) (held : List ℕ) (s : Stands limits bytes [] e st held) (start byte : ℕ) (g : Tree) (b : Blob limits (bytes ++ byte ∷ []) g)
+        → IsCalm st.1 → spans_of_blob start b ≡ (note_ends_to 0 (start + length (bytes ++ byte ∷ [])) (length (flat g)) (note_byte st.1 (start + e.bytes) e.points byte (notes_of start s))).spans }
 {}

@@ -25,6 +25,8 @@ fn laws_and_samples_are_contracts_of_functions_that_do_nothing() {
     laws::refusals();
     laws::reading();
     laws::standing();
+    laws::spans();
+    laws::noting();
     samples::full();
     samples::plain();
     samples::loose();

@@ -82,6 +82,7 @@ impl<'a, R: Read> Input<'a, R> {
 
         ensures failures { input_failures self.new ≡ count_failure (is_read_fault result) (input_failures self.old) }
         ensures too_long { result ≡ Err InFault.TooLong → (given self.old ≡ 2 ^ 62) × IfSome (rest_of self.old) (λ rest. rest ≢ []) }
+        ensures none_held { result ≡ Err InFault.Read → rest_of self.new ≡ R.remaining (device_of (input_tap self.new).now) }
         ensures spent { (result ≡ Err InFault.Spent) ↔ (is_spent self.old ≡ true) }
         ensures stays { is_spent self.new ≡ is_err result }
         ensures unchanged { is_spent self.old ≡ true → self.new ≡ self.old }
@@ -108,6 +109,7 @@ impl<'a, R: Read> Input<'a, R> {
 
         ensures failures { input_failures self.new ≡ count_failure (is_read_fault result) (input_failures self.old) }
         ensures too_long { result ≡ Err InFault.TooLong → (given self.old ≡ 2 ^ 62) × IfSome (rest_of self.old) (λ rest. rest ≢ []) }
+        ensures none_held { result ≡ Err InFault.Read → rest_of self.new ≡ R.remaining (device_of (input_tap self.new).now) }
         ensures spent { (result ≡ Err InFault.Spent) ↔ (is_spent self.old ≡ true) }
         ensures stays { is_spent self.new ≡ is_err result }
         ensures unchanged { is_spent self.old ≡ true → self.new ≡ self.old }
@@ -177,6 +179,7 @@ impl<'a, R: Read> Input<'a, R> {
         ensures end { OnOk result (self.new.at ≡ self.new.filled → has_ended self.new ≡ true) }
         ensures unread { (self.old.at < self.old.filled) ⊎ (has_ended self.old ≡ true) → (is_err result ≡ false) × (self.new ≡ self.old) }
         ensures err { IfErr result (λ fault. fault ≡ InFault.Read) }
+        ensures none_held { is_err result ≡ true → rest_of self.new ≡ R.remaining (device_of (input_tap self.new).now) }
         ensures stays { is_spent self.new ≡ is_err result }
     {
         if self.at < self.filled || self.ended {

@@ -147,6 +147,7 @@ impl<'a, W: Write> Sink for Output<'a, W> {
         ensures too_long { (result ≡ Err OutFault.TooLong) ↔ ((is_spent self.old ≡ false) × (2 ^ 62 < sent_of self.old + length bytes.now)) }
         ensures untouched { result ≡ Err OutFault.TooLong → (output_tap self.new ≡ output_tap self.old) × (sent_of self.new ≡ sent_of self.old) }
         ensures unchanged { is_spent self.old ≡ true → self.new ≡ self.old }
+        ensures short { OnErr result (0 < length bytes.now → sent_of self.new < sent_of self.old + length bytes.now) }
     {
         if self.spent {
             return Err(OutFault::Spent);

@@ -1,5 +1,5 @@
 -- Varints: the spellings by seven bits, one at a place, and those that are too long.
-use Rattle.std.proofs.Common.{◌≡◌, ℕ, ◌+◌, ◌-◌, ◌*◌, ◌%◌, ◌<◌, ◌≤◌, ◌^◌, true, false, inl, inr, Some, List, [], ◌∷◌, ◌++◌, length, map, refl, sym, ◌∙◌, ap, arith, lit<}
+use Rattle.std.proofs.Common.{◌≡◌, ℕ, ◌+◌, ◌-◌, ◌*◌, ◌/◌, ◌%◌, ◌<◌, ◌≤◌, ◌^◌, true, false, inl, inr, Some, List, [], ◌∷◌, ◌++◌, length, map, refl, sym, ◌∙◌, ap, arith, lit<}
 use Rattle.std.specs.Prelude.{◌↔◌}
 use Rattle.std.specs.Int.Digits.{AllBelowBase}
 use Rattle.std.specs.List.{AllByRecursion}
@@ -17,7 +17,7 @@ use Rattle.twkb_num.specs.AlphabetLemmas.{leb_laws}
 use Rattle.twkb_num.proofs.AnswerLemmas.{marks_apart}
 use Rattle.twkb_num.proofs.DigitLemmas.{AllBelowBase-push, number_of-push}
 use Rattle.twkb_num.proofs.LawLemmas.{spelling_one, shortest_spelling}
-use Rattle.twkb_num.proofs.SpellingLemmas.{length-units_of, units_of-push}
+use Rattle.twkb_num.proofs.SpellingLemmas.{length-units_of, units_of-push, shortest_one, shortest_more}
 
 -- a varint's bytes are the units of their low seven bits
 sevens_spell : (bs : List ℕ) → HasMarks bs → bs ≡ units_of leb_unit (map (λ b. b % 128) bs)
@@ -196,3 +196,22 @@ too_long_is us u o small = (λ t. long us u o t, λ h. answered us u o small h.0
       where
         high_group : (u : ℕ) → 128 ≤ u → leb_group u ≡ Some (u - 128, true)
         high_group u h = rw (le-ltb u 128 h) refl
+
+-- ---- the length of the shortest varint
+
+-- a number below 128 has one byte
+pub one_byte : (n : ℕ) → n < 128 → length (varint_of n) ≡ 1
+one_byte n h = ap length (shortest_one leb_unit 128 n h)
+
+-- any other one more than its quotient
+pub one_byte_more : (n : ℕ) → 128 ≤ n → length (varint_of n) ≡ 1 + length (varint_of (n / 128))
+one_byte_more n h = omega (arith, ap length (shortest_more leb_unit 128 n (lit< tt) h))
+
+-- a varint has a byte
+pub some_byte : (n : ℕ) → 1 ≤ length (varint_of n)
+some_byte n = elim (cases_lt n 128) [
+  | inl small ↦ omega (arith, one_byte n small)
+  | inr large ↦ omega (arith, one_byte_more n large)
+]
+
+pub ruleset varint_lengths = (one_byte, one_byte_more, length-varint_of)

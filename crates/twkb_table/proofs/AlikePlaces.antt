@@ -1,5 +1,5 @@
 -- What a record is judged by the open rows, it is judged by the rows so far.
-use Rattle.std.proofs.Common.{◌≡◌, ℕ, zero, suc, ◌<◌, ◌≤◌, Bool, true, false, List, [], ◌∷◌, length, Option, Some, None, get_or, refl, sym, ◌∙◌, ap, subst, arith}
+use Rattle.std.proofs.Common.{◌≡◌, ℕ, ◌<◌, ◌≤◌, true, false, List, [], length, Option, Some, None, sym, ◌∙◌, ap, subst, arith}
 use Rattle.std.specs.Prelude.{ℤ, is_some, nat_le}
 use Rattle.std.proofs.lemmas.Bool.Decides.{nat_tests}
 use Rattle.twkb_geom.specs.declared.kind.Kind.{Kind}
@@ -7,11 +7,13 @@ use Rattle.twkb_geom.specs.declared.open_rows.OpenRow.{OpenRow}
 use Rattle.twkb_geom.specs.Limits.{Allowance}
 use Rattle.twkb_geom.specs.Rows.{Row}
 use Rattle.twkb_geom.specs.Admits.{parent, first_child, steps_to}
-use Rattle.twkb_geom.specs.Accepted.{since_root, geometry_rows, point_count}
-use Rattle.twkb_geom.specs.Open.{ids_by, AreOpen, open_parent, row_of, child_by, child_of, count_at}
-use Rattle.twkb_geom.proofs.OpenDecides.{kind_by, head_kind, head_id, kind_at, blank_row, steps_open, open_at}
+use Rattle.twkb_geom.specs.Accepted.{geometry_rows, point_count}
+use Rattle.twkb_geom.specs.Open.{ids_by, open_parent, row_of, child_of, count_at}
+use Rattle.twkb_geom.proofs.OpenDecides.{kind_by, head_kind, head_id, steps_open}
 use Rattle.twkb_table.specs.Judged.{Verdict, place_of, JudgedByPlace}
-use Rattle.twkb_table.specs.Standing.{standing_at, place_seen, StandsAfter}
+use Rattle.twkb_geom.specs.Standing.{standing_at}
+use Rattle.twkb_geom.proofs.OpenRefusal.{kind_under, ids_under, nodes_under, points_under}
+use Rattle.twkb_table.specs.Standing.{place_seen, StandsAfter}
 
 -- ---- the chain looks at the kind of the parent and at whether the first child has an id
 
@@ -48,40 +50,6 @@ first_alike l d p None (Some g) nodes points k id_field field text v e j = cc e
 first_alike l d p (Some f) None nodes points k id_field field text v e j = cc e
 first_alike l d p (Some f) (Some g) nodes points k id_field field text v e j = id_alike l d p f.id g.id nodes points k id_field field text v (head_id f g e) j
 
--- ---- what the open rows say
-
-open_parent_at : (d : ℕ) (os : List OpenRow) → d < length os → open_parent (suc d) os ≡ Some (get_or os d blank_row)
-open_parent_at d [] lt = absurd (omega arith)
-open_parent_at zero (o ∷ os) lt = refl
-open_parent_at (suc d) (o ∷ os) lt = open_parent_at d os (omega arith)
-
-no_open_parent : (os : List OpenRow) → open_parent zero os ≡ None
-no_open_parent [] = refl
-no_open_parent (o ∷ os) = refl
-
-ids_by-child_by : (b : Option Bool) → ids_by (child_by b) ≡ b
-ids_by-child_by None = refl
-ids_by-child_by (Some true) = refl
-ids_by-child_by (Some false) = refl
-
-kind_under : (d : ℕ) (before : List Row) (os : List OpenRow) → AreOpen before os → d ≤ length os → kind_by (row_of (open_parent d os)) ≡ kind_by (parent d before)
-kind_under zero before os a le = ap (λ o. kind_by (row_of o)) (no_open_parent os)
-kind_under (suc d) before os a le =
-    ap (λ o. kind_by (row_of o)) (open_parent_at d os (omega arith)) ∙ sym (kind_at d before (get_or os d blank_row) (open_at d before os blank_row a (omega arith)))
-
-ids_under : (d : ℕ) (before : List Row) (os : List OpenRow) → AreOpen before os → d ≤ length os → ids_by (child_of (open_parent d os)) ≡ ids_by (first_child d before)
-ids_under zero before os a le = ap (λ o. ids_by (child_of o)) (no_open_parent os)
-ids_under (suc d) before os a le =
-    ap (λ o. ids_by (child_of o)) (open_parent_at d os (omega arith)) ∙ ids_by-child_by (get_or os d blank_row).child_ids ∙ (open_at d before os blank_row a (omega arith)).3
-
-nodes_under : (d nodes : ℕ) (before : List Row) → nodes ≡ length (since_root before) → count_at d nodes ≡ length (geometry_rows d before)
-nodes_under zero nodes before e = refl
-nodes_under (suc d) nodes before e = e
-
-points_under : (d points : ℕ) (before : List Row) → points ≡ point_count (since_root before) → count_at d points ≡ point_count (geometry_rows d before)
-points_under zero points before e = refl
-points_under (suc d) points before e = e
-
 -- ---- the two places
 
 near : (d n : ℕ) → d ≤ n → nat_le d n ≡ true
@@ -98,8 +66,8 @@ judged_there l before rows nodes points d k id_field field text v stands le j =
     let a = parent_alike l d p (parent d before) f (count_at d nodes) (count_at d points) k id_field field text v (kind_under d before rows stands.open_rows le) j in
     let b = first_alike l d (parent d before) f (first_child d before) (count_at d nodes) (count_at d points) k id_field field text v (ids_under d before rows stands.open_rows le) a in
     let steps : true ≡ steps_to d before = sym (steps_open d before rows stands.open_rows ∙ near d (length rows) le) in
-    let c = subst (λ n. JudgedByPlace l (record { depth = d; steps = true; parent = parent d before; first = first_child d before; nodes = n; points = count_at d points }) k id_field field text v) (nodes_under d nodes before stands.node_count) b in
-    let e = subst (λ n. JudgedByPlace l (record { depth = d; steps = true; parent = parent d before; first = first_child d before; nodes = length (geometry_rows d before); points = n }) k id_field field text v) (points_under d points before stands.points_held) c in
+    let c = subst (λ n. JudgedByPlace l (record { depth = d; steps = true; parent = parent d before; first = first_child d before; nodes = n; points = count_at d points }) k id_field field text v) (ap (count_at d) stands.node_count ∙ nodes_under d before) b in
+    let e = subst (λ n. JudgedByPlace l (record { depth = d; steps = true; parent = parent d before; first = first_child d before; nodes = length (geometry_rows d before); points = n }) k id_field field text v) (ap (count_at d) stands.points_held ∙ points_under d before) c in
     subst (λ s. JudgedByPlace l (record { depth = d; steps = s; parent = parent d before; first = first_child d before; nodes = length (geometry_rows d before); points = point_count (geometry_rows d before) }) k id_field field text v) steps e
 
 -- a row may not stand deeper than one below the last row

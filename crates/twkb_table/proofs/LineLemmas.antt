@@ -1,18 +1,16 @@
 -- The lines of rows, put one after the other.
-use Rattle.std.proofs.Common.{◌≡◌, ℕ, zero, suc, ◌+◌, ◌<◌, ◌≤◌, List, [], ◌∷◌, ◌++◌, length, drop, get_or, Option, None, Some, refl, sym, ◌∙◌, ap, subst, append_assoc, append-nil, add-one, arith}
+use Rattle.std.proofs.Common.{◌≡◌, ℕ, ◌+◌, ◌<◌, ◌≤◌, List, [], ◌∷◌, ◌++◌, length, drop, get_or, Option, refl, sym, ◌∙◌, ap, subst, append_assoc, append-nil, add-one}
 use Rattle.std.specs.Prelude.{ℤ, map, Result, OnOk}
 use Rattle.std.proofs.lemmas.List.{drop_all, map-append}
 use Rattle.std.proofs.lemmas.Grind.{flat_map-append}
-use Rattle.twkb_polyline.proofs.EncodeLemmas.{drop_next}
-use Rattle.twkb_geom.specs.Tree.{Ids, Tree, simple, collection, trees, nest, nest_all}
-use Rattle.twkb_geom.specs.Rows.{Row, plain_row, polygon_rows, ring_rows, first_id, other_ids, rows_of_each, rows_with, own_row, member_rows}
+use Rattle.twkb_geom.specs.Tree.{Ids, Tree}
+use Rattle.twkb_geom.specs.Rows.{Row, plain_row, polygon_rows, ring_rows, first_id, ids_from, rows_of_each, rows_with, rows_under, own_row}
+use Rattle.twkb_geom.proofs.RowMembers.{each_next, ids_from_start, own_row_first}
 use Rattle.twkb_geom.specs.declared.kind.Kind.{Kind}
 use Rattle.twkb_points.specs.Point.{Point}
-use Rattle.twkb_geom.specs.Shape.{tree_of}
-use Rattle.twkb_geom.specs.declared.geometry.Shape.{Shape}
 use Rattle.twkb_table.specs.Record.{Record, record_of}
 use Rattle.twkb_table.specs.Text.{csvtext, joined}
-use Rattle.twkb_table.specs.Printing.{row_lines, ids_from, rows_under}
+use Rattle.twkb_table.specs.Printing.{row_lines}
 
 -- the lines of two lists of rows
 pub row_lines-append : (rs ss : List Row) → row_lines (rs ++ ss) ≡ row_lines rs ++ row_lines ss
@@ -42,18 +40,6 @@ row_before r rs old = append_assoc old (row_lines (r ∷ [])) (row_lines rs) ∙
 pub rows_put : (r : Row) (rs : List Row) (old a t : List ℕ) → a ≡ old ++ row_lines (r ∷ []) → t ≡ a ++ row_lines rs → t ≡ old ++ row_lines (r ∷ rs)
 rows_put r rs old a t ea et = et ∙ ap (λ u. u ++ row_lines rs) ea ∙ row_before r rs old
 
--- the ids of the members after one
-pub other_from : (i : ℕ) (ids : Ids) → other_ids (ids_from i ids) ≡ ids_from (suc i) ids
-other_from i None = refl
-other_from zero (Some []) = refl
-other_from zero (Some (id ∷ ids)) = refl
-other_from (suc i) (Some []) = refl
-other_from (suc i) (Some (id ∷ ids)) = other_from i (Some ids)
-
-pub ids_from_start : (ids : Ids) → ids_from 0 ids ≡ ids
-ids_from_start None = refl
-ids_from_start (Some ids) = refl
-
 -- the lines of the members before the place i were put behind `old`
 pub record HasLines {A : Type 0} (f : Option ℤ → A → List Row) (ids : Ids) (xs : List A) (i index : ℕ) (old text : List ℕ) : Type 0 where
   pub place : index ≡ i
@@ -69,12 +55,8 @@ pub has_lines_more : {A : Type 0} (f : Option ℤ → A → List Row) (ids : Ids
     → id ≡ first_id (ids_from index ids) → after ≡ text ++ row_lines (f id x) → HasLines f ids xs (i + 1) (index + 1) old after
 has_lines_more f ids xs i index x id old text after has within read eid put =
     let rest : List Row = rows_of_each f (ids_from (i + 1) ids) (drop (i + 1) xs) in
-    let others : ids_from (i + 1) ids ≡ other_ids (ids_from i ids) = ap (λ j. ids_from j ids) (add-one i) ∙ sym (other_from i ids) in
     let first : id ≡ first_id (ids_from i ids) = eid ∙ ap (λ j. first_id (ids_from j ids)) has.place in
-    let whole : f id x ++ rest ≡ rows_of_each f (ids_from i ids) (drop i xs) =
-    ap (λ j. f j x ++ rest) first
-    ∙ ap (λ (js : Ids). f (first_id (ids_from i ids)) x ++ rows_of_each f js (drop (i + 1) xs)) others
-    ∙ ap (rows_of_each f (ids_from i ids)) (sym (drop_next xs i x within read)) in
+    let whole : f id x ++ rest ≡ rows_of_each f (ids_from i ids) (drop i xs) = ap (λ j. f j x ++ rest) first ∙ sym (each_next f ids xs i x within read) in
     record {
       place = ap (λ j. j + 1) has.place;
       lines =
@@ -89,16 +71,6 @@ pub has_lines_all : {A : Type 0} (f : Option ℤ → A → List Row) (ids : Ids)
 has_lines_all f ids xs i index old text has done =
     sym (append-nil text) ∙ ap (λ t. text ++ t) (sym no_lines) ∙ ap (λ ys. text ++ row_lines (rows_of_each f (ids_from i ids) ys)) (sym (drop_all i xs done)) ∙ has.lines
 
--- the rows of members, each by its own
-pub member_rows_each : (d : ℕ) (ids : Ids) (gs : List Tree) → rows_of_each (λ id g. rows_with id d g) ids gs ≡ member_rows d ids (trees gs)
-member_rows_each d ids [] = refl
-member_rows_each d ids (g ∷ gs) = ap (λ rs. rows_with (first_id ids) d g ++ rs) (member_rows_each d (other_ids ids) gs)
-
--- a geometry's own row is before the others
-pub own_row_first : (id : Option ℤ) (d : ℕ) (g : Tree) → rows_with id d g ≡ own_row id d g ∷ rows_under (suc d) g
-own_row_first id d (simple p s) = refl
-own_row_first id d (collection p ids gs) = refl
-
 -- the rows of a geometry told, whether all were put
 pub rows_told : {T E : Type 0} (result : Result T E) (id : Option ℤ) (d : ℕ) (g : Tree) (r : Row) (rs : List Row) (old a t : List ℕ) → r ≡ own_row id d g → rs ≡ rows_under (d + 1) g → a ≡ old ++ row_lines (r ∷ []) → OnOk result (t ≡ a ++ row_lines rs)
     → OnOk result (t ≡ old ++ row_lines (rows_with id d g))
@@ -112,13 +84,3 @@ area_put d id rings given old a t ea eg et =
     rows_put (plain_row d Kind.Polygon id []) (ring_rows (d + 1) given) old a t ea et
     ∙ ap (λ (rs : List (List Point)). old ++ row_lines (plain_row d Kind.Polygon id [] ∷ ring_rows (d + 1) rs)) eg
     ∙ ap (λ (k : ℕ). old ++ row_lines (plain_row d Kind.Polygon id [] ∷ ring_rows k rings)) (add-one d)
-
--- a member stands in one collection more
-pub nest_member : (gs : List Tree) (i : ℕ) (g : Tree) → i < length gs → g ≡ get_or gs i g → nest g < nest_all (trees gs)
-nest_member [] i g within read = absurd (omega arith)
-nest_member (u ∷ us) zero g within read = rw read (omega arith)
-nest_member (u ∷ us) (suc i) g within read = omega (arith, nest_member us i g (omega arith) read)
-
--- the rows below a geometry's own, by its shape
-pub under_shape : (d : ℕ) (p : ℤ) (shape told : Shape) (g : Tree) → tree_of p shape ≡ g → shape ≡ told → rows_under d (tree_of p told) ≡ rows_under d g
-under_shape d p shape told g whole is = ap (λ (s : Shape). rows_under d (tree_of p s)) (sym is) ∙ ap (rows_under d) whole

@@ -11,8 +11,9 @@ use Rattle.twkb_table.specs.Fields.{IsDepthField}
 use Rattle.twkb_geom.specs.Kind.{word_of}
 use Rattle.twkb_table.specs.Record.{Record}
 use Rattle.twkb_table.specs.Judged.{Verdict, Refused, JudgedByPlace, Judged}
-use Rattle.twkb_table.specs.Standing.{standing_at, place_seen, StandsAfter, IfRefused}
-use Rattle.twkb_table.specs.declared.standing.Standing.{Standing}
+use Rattle.twkb_geom.specs.Standing.{standing_at}
+use Rattle.twkb_table.specs.Standing.{place_seen, StandsAfter, IfRefused}
+use Rattle.twkb_geom.specs.declared.standing.Standing.{Standing}
 use Rattle.twkb_table.specs.declared.judging.JudgeFault.{JudgeFault}
 use Rattle.twkb_table.specs.declared.judging.JudgeFault.TheVariants.{Memory}
 use Rattle.twkb_table.specs.declared.judging.JudgeFault.TheVariants as Fault

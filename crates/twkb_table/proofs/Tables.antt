@@ -61,7 +61,7 @@ plain_rows l gs cap v =
 
 -- ---- one reading
 
-geometries : (l : Allowance) (gs : List Tree) → AreValid l gs → AreGeometries gs
+pub geometries : (l : Allowance) (gs : List Tree) → AreValid l gs → AreGeometries gs
 geometries l [] v = tt
 geometries l (g ∷ gs) v = (v.0.tree, geometries l gs v.1)
 

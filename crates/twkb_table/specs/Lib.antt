@@ -1,11 +1,17 @@
+pub mod CsvRecords
 pub mod Fields
 pub mod FiveFields
 pub mod Judged
 pub mod Named
+pub mod Numbering
 pub mod Printing
 pub mod Reading
 pub mod Record
 pub mod RowFault
+pub mod RowReading
 pub mod Samples
+pub mod SourceStanding
 pub mod Standing
+pub mod TableReading
 pub mod Text
+pub mod Waiting

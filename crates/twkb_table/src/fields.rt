@@ -5,6 +5,9 @@ ghost use Rattle.twkb_table.specs.FiveFields.{record_seen};
 
 use csv::ByteRecord;
 
+/// How many fields the record of a row has.
+pub(crate) const FIELD_COUNT: usize = 5;
+
 /// The fields of a row's record, as they stand.
 #[derive(Clone, Copy)]
 pub(crate) struct Fields<'a> {

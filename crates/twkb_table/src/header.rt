@@ -1,11 +1,30 @@
 //! The line that every table begins with.
-ghost use Rattle.std.specs.Prelude.{◌≡◌, [], ◌∷◌};
+ghost use Rattle.std.specs.Prelude.{◌≡◌, ◌↔◌, [], ◌∷◌, IsTrue};
+ghost use Rattle.csv.specs.Records.{fields_of};
 ghost use Rattle.twkb_table.specs.Record.{header};
 ghost use Rattle.twkb_table.specs.Text.{csvtext};
+
+use crate::fields::{FIELD_COUNT, five_fields};
+use csv::ByteRecord;
 
 /// The header's line with its LF (profile). Takes no memory.
 pub fn header_text() -> &'static [u8]
     ensures text { result.now ≡ csvtext (header ∷ []) }
 {
     b"depth,kind,id,precision,polyline\n"
+}
+
+/// Whether the record is the header.
+pub(crate) fn is_header(here: &ByteRecord) -> bool
+    ensures { IsTrue result ↔ (fields_of here.now ≡ header) }
+{
+    if here.len() != FIELD_COUNT {
+        return false;
+    }
+    let fields = five_fields(here);
+    fields.depth == b"depth".as_slice()
+        && fields.kind == b"kind".as_slice()
+        && fields.id == b"id".as_slice()
+        && fields.precision == b"precision".as_slice()
+        && fields.polyline == b"polyline".as_slice()
 }

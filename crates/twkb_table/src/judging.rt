@@ -1,42 +1,23 @@
 //! What a record after the first is: a row, or the first reason that holds of it.
-ghost use Rattle.std.specs.Prelude.{◌≡◌, ℤ, List, length, Option, IfOk, IfErr};
-ghost use Rattle.twkb_points.specs.Point.{Point};
+ghost use Rattle.std.specs.Prelude.{ℤ, List, Option, OnOk, IfOk, IfErr};
 ghost use Rattle.csv.specs.Records.{fields_of};
-ghost use Rattle.twkb_geom.specs.Rows.{Row};
-ghost use Rattle.twkb_geom.specs.Admits.{has_points, points_fit};
+ghost use Rattle.twkb_geom.specs.Rows.{Row as TableRow};
 ghost use Rattle.twkb_table.specs.Judged.{Judged, Accepted, Refused, JudgedByPlace, JudgedByPoints};
-ghost use Rattle.twkb_table.specs.Standing.{place_seen, StandsAfter, row_seen, IfRefused};
+ghost use Rattle.twkb_table.specs.Standing.{place_seen, StandsAfter, IfRefused};
 ghost use Rattle.twkb_table.specs.FiveFields.{record_seen};
+ghost use Rattle.twkb_flat.specs.Rows.{row_with};
 
 use crate::decimal::parse_depth;
-use crate::fields::{Fields, five_fields};
+use crate::fields::{FIELD_COUNT, Fields, five_fields};
 use crate::kind_word::parse_kind;
-use crate::places::{check_place, is_whole, read_id, read_precision};
+use crate::places::{check_place, read_id, read_precision};
 use crate::reason::RowReason;
-use crate::standing::Standing;
 use csv::ByteRecord;
-use std::alloc::Global;
-use twkb_geom::{Kind, Limits, OpenRow};
+use twkb_flat::Row;
+use twkb_geom::row_rules::{count_fits, has_points, is_whole};
+use twkb_geom::{Kind, Limits, OpenRow, Standing};
 use twkb_points::Pt;
-use twkb_polyline::{PolyFault, decode};
-
-/// How many fields the record of a row has.
-const FIELD_COUNT: usize = 5;
-
-/// A row that was read.
-#[derive(Drop)]
-pub struct ReadRow {
-    /// How deep the row stands, 0 for a root.
-    pub depth: u32,
-    /// What it holds.
-    pub kind: Kind,
-    /// Its id, if it has one.
-    pub id: Option<i64>,
-    /// The decimals of its coordinates, where it is a geometry of its own.
-    pub precision: Option<i8>,
-    /// Its own points.
-    pub points: Vec<Pt>,
-}
+use twkb_polyline::{PolyFault, decode_into};
 
 /// Why a record gave no row.
 #[derive(Clone, Copy, Debug, PartialEq, Eq)]
@@ -47,43 +28,27 @@ pub enum JudgeFault {
     Refused(RowReason),
 }
 
-/// Whether rows of this kind have points of their own.
-fn has_points(kind: Kind) -> bool
-    ensures value { result ≡ has_points kind }
-{
-    matches!(kind, Kind::Point | Kind::Linestring | Kind::Ring)
-}
-
-/// Whether a row of this kind may have so many points, as a geometry of its own or a part of one.
-fn count_fits(kind: Kind, whole: bool, count: usize) -> bool
-    ensures value { (points : List Point) → length points ≡ count → points_fit kind whole points ≡ result }
-{
-    match kind {
-        Kind::Point => count == 1 || (count == 0 && whole),
-        Kind::Linestring | Kind::Ring => true,
-        _ => count == 0,
-    }
-}
-
-/// The points of a row of this kind that stands there, or why it may not have them.
+/// Reads the points of a row of this kind that stands there in place of those held, or tells why it
+/// may not have them.
 fn read_points(
-    alloc: Global,
     limits: &Limits,
     standing: &Standing,
     kind: Kind,
     text: &[u8],
-) -> Result<Vec<Pt>, JudgeFault>
-    ensures read { IfOk result (λ points. (id precision : Option ℤ) → JudgedByPoints limits.now (place_seen standing.now) kind id precision text.now (Accepted (record { depth = standing.now.depth; kind = kind; id = id; precision = precision; points = points.items }))) }
+    points: &mut Vec<Pt>,
+) -> Result<(), JudgeFault>
+    ensures read { OnOk result ((id precision : Option ℤ) → JudgedByPoints limits.now (place_seen standing.now) kind id precision text.now (Accepted (record { depth = standing.now.depth; kind = kind; id = id; precision = precision; points = points.new.items }))) }
     ensures refused { IfErr result (IfRefused (λ reason. (id precision : Option ℤ) → JudgedByPoints limits.now (place_seen standing.now) kind id precision text.now (Refused reason))) }
 {
     if !text.is_empty() && !has_points(kind) {
         return Err(JudgeFault::Refused(RowReason::PolylineNotAllowed));
     }
     let left = limits.points().saturating_sub(standing.points);
-    match decode(alloc, text, left) {
-        Ok(points) => {
+    points.clear();
+    match decode_into(text, left, points) {
+        Ok(()) => {
             if count_fits(kind, is_whole(standing.parent), points.len()) {
-                Ok(points)
+                Ok(())
             } else {
                 Err(JudgeFault::Refused(RowReason::PointCount))
             }
@@ -97,15 +62,15 @@ fn read_points(
 
 /// The row of these fields, of this kind and standing there, or why it is none.
 fn judge_standing(
-    alloc: Global,
     limits: &Limits,
     standing: &Standing,
     kind: Kind,
     id_field: &[u8],
     precision_field: &[u8],
     text: &[u8],
-) -> Result<ReadRow, JudgeFault>
-    ensures read { IfOk result (λ row. JudgedByPlace limits.now (place_seen standing.now) kind id_field.now precision_field.now text.now (Accepted (row_seen row))) }
+    points: &mut Vec<Pt>,
+) -> Result<Row, JudgeFault>
+    ensures read { IfOk result (λ row. JudgedByPlace limits.now (place_seen standing.now) kind id_field.now precision_field.now text.now (Accepted (row_with row points.new.items))) }
     ensures refused { IfErr result (IfRefused (λ reason. JudgedByPlace limits.now (place_seen standing.now) kind id_field.now precision_field.now text.now (Refused reason))) }
 {
     if let Err(reason) = check_place(limits, standing, kind) {
@@ -119,29 +84,28 @@ fn judge_standing(
         Ok(precision) => precision,
         Err(reason) => return Err(JudgeFault::Refused(reason)),
     };
-    match read_points(alloc, limits, standing, kind, text) {
-        Ok(points) => Ok(ReadRow {
-            depth: standing.depth,
-            kind,
-            id,
-            precision,
-            points,
-        }),
-        Err(fault) => Err(fault),
+    if let Err(fault) = read_points(limits, standing, kind, text, points) {
+        return Err(fault);
     }
+    Ok(Row {
+        depth: standing.depth,
+        kind,
+        id,
+        precision,
+    })
 }
 
 /// What a record of these five fields is.
 fn judge_fields(
-    alloc: Global,
     limits: &Limits,
     rows: &[OpenRow],
     nodes: u32,
-    points: u32,
+    held: u32,
     fields: &Fields<'_>,
-) -> Result<ReadRow, JudgeFault>
-    ensures read { IfOk result (λ read. (before : List Row) → StandsAfter before rows.now nodes points → Judged limits.now before (record_seen fields.now) (Accepted (row_seen read))) }
-    ensures refused { IfErr result (IfRefused (λ reason. (before : List Row) → StandsAfter before rows.now nodes points → Judged limits.now before (record_seen fields.now) (Refused reason))) }
+    points: &mut Vec<Pt>,
+) -> Result<Row, JudgeFault>
+    ensures read { IfOk result (λ row. (before : List TableRow) → StandsAfter before rows.now nodes held → Judged limits.now before (record_seen fields.now) (Accepted (row_with row points.new.items))) }
+    ensures refused { IfErr result (IfRefused (λ reason. (before : List TableRow) → StandsAfter before rows.now nodes held → Judged limits.now before (record_seen fields.now) (Refused reason))) }
 {
     let Some(depth) = parse_depth(fields.depth) else {
         return Err(JudgeFault::Refused(RowReason::BadDepth));
@@ -149,37 +113,37 @@ fn judge_fields(
     let Some(kind) = parse_kind(fields.kind) else {
         return Err(JudgeFault::Refused(RowReason::BadKind));
     };
-    let Some(standing) = Standing::at(depth, rows, nodes, points) else {
+    let Some(standing) = Standing::at(depth, rows, nodes, held) else {
         return Err(JudgeFault::Refused(RowReason::BadPlace));
     };
     judge_standing(
-        alloc,
         limits,
         &standing,
         kind,
         fields.id,
         fields.precision,
         fields.polyline,
+        points,
     )
 }
 
 /// What a record after the first is, after rows so far with these open rows, the root first, and
 /// these counts of rows and points since the last root: its row, or the first reason that holds of
-/// it (profile). Takes memory for the points alone.
+/// it (profile). The row's points replace those held in `points`, which alone takes memory.
 pub fn judge(
-    alloc: Global,
     limits: &Limits,
     rows: &[OpenRow],
     nodes: u32,
-    points: u32,
-    row: &ByteRecord,
-) -> Result<ReadRow, JudgeFault>
-    ensures read { IfOk result (λ read. (before : List Row) → StandsAfter before rows.now nodes points → Judged limits.now before (fields_of row.now) (Accepted (row_seen read))) }
-    ensures refused { IfErr result (IfRefused (λ reason. (before : List Row) → StandsAfter before rows.now nodes points → Judged limits.now before (fields_of row.now) (Refused reason))) }
+    held: u32,
+    here: &ByteRecord,
+    points: &mut Vec<Pt>,
+) -> Result<Row, JudgeFault>
+    ensures read { IfOk result (λ row. (before : List TableRow) → StandsAfter before rows.now nodes held → Judged limits.now before (fields_of here.now) (Accepted (row_with row points.new.items))) }
+    ensures refused { IfErr result (IfRefused (λ reason. (before : List TableRow) → StandsAfter before rows.now nodes held → Judged limits.now before (fields_of here.now) (Refused reason))) }
 {
-    if row.len() != FIELD_COUNT {
+    if here.len() != FIELD_COUNT {
         return Err(JudgeFault::Refused(RowReason::FieldCount));
     }
-    let fields = five_fields(row);
-    judge_fields(alloc, limits, rows, nodes, points, &fields)
+    let fields = five_fields(here);
+    judge_fields(limits, rows, nodes, held, &fields, points)
 }

@@ -7,24 +7,30 @@ mod header;
 mod judging;
 mod kind_word;
 pub mod laws;
+mod numbering;
 mod open_rows;
 mod places;
 mod printing;
 mod reason;
+mod record_source;
 mod row_line;
-mod standing;
+mod row_reader;
+mod table_fault;
+mod table_reader;
 
 pub use decimal::{
     parse_depth, parse_id, parse_optional_id, parse_optional_precision, parse_precision,
     push_decimal,
 };
 pub use header::header_text;
-pub use judging::{JudgeFault, ReadRow, judge};
+pub use judging::{JudgeFault, judge};
 pub use kind_word::parse_kind;
 pub use open_rows::open_row;
 pub use printing::{put_rows, rows_text};
 pub use reason::RowReason;
-pub use standing::Standing;
+pub use record_source::{RecordSource, SourceFault};
+pub use table_fault::TableFault;
+pub use table_reader::TableReader;
 
 #[cfg(test)]
 mod tests;

@@ -1,18 +1,19 @@
 //! The open rows of a table that is being read.
-ghost use Rattle.std.specs.Prelude.{◌≡◌, ◌≤◌, length, OnOk, OnErr};
+ghost use Rattle.std.specs.Prelude.{◌≡◌, ◌≤◌, List, length, OnOk, OnErr};
+ghost use Rattle.twkb_points.specs.Point.{Point};
 ghost use Rattle.twkb_geom.specs.Open.{opened};
-ghost use Rattle.twkb_table.specs.Standing.{row_seen};
+ghost use Rattle.twkb_flat.specs.Rows.{row_with};
 
-use crate::judging::ReadRow;
 use smallvec::SmallVec;
 use std::alloc::AllocError;
+use twkb_flat::Row;
 use twkb_geom::OpenRow;
 
 /// Opens a row that was read: the open rows below its depth go, its parent has had a child, and
 /// the row stands last. Takes memory where more than eight rows are open; an `Err` changes nothing.
-pub fn open_row(rows: &mut SmallVec<OpenRow, 8>, row: &ReadRow) -> Result<(), AllocError>
+pub fn open_row(rows: &mut SmallVec<OpenRow, 8>, row: &Row) -> Result<(), AllocError>
     requires { row.now.depth ≤ length rows.old.items }
-    ensures opened { OnOk result (rows.new.items ≡ opened row.now.depth rows.old.items (row_seen row.now)) }
+    ensures opened { OnOk result ((points : List Point) → rows.new.items ≡ opened row.now.depth rows.old.items (row_with row.now points)) }
     ensures same { OnErr result (rows.new.items ≡ rows.old.items) }
 {
     rows.reserve(1)?;

@@ -1,61 +1,14 @@
 //! What a row may be where it stands.
-ghost use Rattle.std.specs.Prelude.{◌≡◌, ℕ, ℤ, List, Option, is_some, OnOk, IfOk, IfErr};
+ghost use Rattle.std.specs.Prelude.{ℕ, ℤ, List, Option, OnOk, IfOk, IfErr};
 ghost use Rattle.twkb_geom.specs.declared.kind.Kind.{Kind};
 ghost use Rattle.twkb_geom.specs.Limits.{Allowance};
-ghost use Rattle.twkb_geom.specs.Admits.{may_have, has_place, is_whole, id_allowed, has_same_ids, points_fit, has_points};
-ghost use Rattle.twkb_geom.specs.Accepted.{nest_kept};
-ghost use Rattle.twkb_geom.specs.Open.{row_of, child_of};
 ghost use Rattle.twkb_table.specs.Judged.{Verdict, Refused, JudgedByPlace, JudgedById, JudgedByPrecision, JudgedByPoints};
 ghost use Rattle.twkb_table.specs.Standing.{place_seen};
 
 use crate::decimal::{parse_optional_id, parse_optional_precision};
 use crate::reason::RowReason;
-use crate::standing::Standing;
-use twkb_geom::{Kind, Limits, OpenRow};
-
-/// Whether a row of the first kind may have a child of the second.
-fn may_have(parent: Kind, child: Kind) -> bool
-    ensures value { result ≡ may_have parent child }
-{
-    match parent {
-        Kind::Polygon => child == Kind::Ring,
-        Kind::MultiPoint => child == Kind::Point,
-        Kind::MultiLinestring => child == Kind::Linestring,
-        Kind::MultiPolygon => child == Kind::Polygon,
-        Kind::Collection => child != Kind::Ring,
-        Kind::Point | Kind::Linestring | Kind::Ring => false,
-    }
-}
-
-/// Whether a row of this kind may stand under this parent.
-fn has_place(parent: Option<OpenRow>, kind: Kind) -> bool
-    ensures value { result ≡ has_place (row_of parent) kind }
-{
-    match parent {
-        None => kind != Kind::Ring,
-        Some(row) => may_have(row.kind, kind),
-    }
-}
-
-/// Whether a row under this parent is a geometry of its own.
-pub(crate) fn is_whole(parent: Option<OpenRow>) -> bool
-    ensures value { result ≡ is_whole (row_of parent) }
-{
-    match parent {
-        None => true,
-        Some(row) => row.kind == Kind::Collection,
-    }
-}
-
-/// Whether the collections round a row at this depth are not too many.
-fn nest_kept(limits: &Limits, parent: Option<OpenRow>, depth: u32) -> bool
-    ensures value { result ≡ nest_kept limits.now (row_of parent) depth }
-{
-    match parent {
-        None => true,
-        Some(row) => row.kind != Kind::Collection || depth <= limits.nest(),
-    }
-}
+use twkb_geom::row_rules::{has_place, has_same_ids, id_allowed, is_whole, nest_kept};
+use twkb_geom::{Kind, Limits, Standing};
 
 /// Why a row of this kind may not stand there.
 pub(crate) fn check_place(limits: &Limits, standing: &Standing, kind: Kind) -> Result<(), RowReason>
@@ -72,26 +25,6 @@ pub(crate) fn check_place(limits: &Limits, standing: &Standing, kind: Kind) -> R
         return Err(RowReason::TooManyNodes);
     }
     Ok(())
-}
-
-/// Whether a row of this kind under this parent may have an id, or may have none.
-fn id_allowed(parent: Option<OpenRow>, kind: Kind, has_id: bool) -> bool
-    ensures value { (id : Option ℤ) → is_some id ≡ has_id → id_allowed (row_of parent) kind id ≡ result }
-{
-    !has_id || (parent.is_some() && kind != Kind::Ring)
-}
-
-/// Whether a row under this parent has an id where the first child has one, and none else.
-fn has_same_ids(parent: Option<OpenRow>, has_id: bool) -> bool
-    ensures value { (id : Option ℤ) → is_some id ≡ has_id → has_same_ids (child_of parent) id ≡ result }
-{
-    match parent {
-        None => true,
-        Some(row) => match row.child_ids {
-            None => true,
-            Some(first) => first == has_id,
-        },
-    }
 }
 
 /// The id of a row of this kind that stands there, or why it may not have it.

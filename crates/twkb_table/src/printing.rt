@@ -1,18 +1,17 @@
 //! The rows of a geometry as text.
-ghost use Rattle.std.specs.Prelude.{◌≡◌, ◌≤◌, ◌<◌, ◌+◌, ◌^◌, ℕ, ℤ, Option, ◌∷◌, [], ◌++◌, map, OnOk, IfOk};
+ghost use Rattle.std.specs.Prelude.{◌≡◌, ◌≤◌, ◌<◌, ◌+◌, ◌^◌, ◌∷◌, [], ◌++◌, map, OnOk, IfOk};
 ghost use Rattle.twkb_geom.specs.Limits.{largest_limits};
 ghost use Rattle.twkb_geom.specs.Tree.{nest, nest_all, trees};
-ghost use Rattle.twkb_geom.specs.Rows.{first_id, own_row, rows, rows_with, member_rows, rows_of_each, plain_row, ring_rows, polygon_rows};
+ghost use Rattle.twkb_geom.specs.Rows.{own_row, rows, rows_with, member_rows, rows_of_each, plain_row, ring_rows, polygon_rows};
 ghost use Rattle.twkb_geom.specs.declared.kind.Kind.{Kind};
-ghost use Rattle.twkb_geom.specs.Shape.{tree_of};
 ghost use Rattle.twkb_table.specs.Record.{record_of};
 ghost use Rattle.twkb_table.specs.Text.{csvtext};
-ghost use Rattle.twkb_table.specs.Printing.{row_lines, line_row, line_of, ids_from};
+ghost use Rattle.twkb_table.specs.Printing.{row_lines, line_row};
 
 use crate::row_line::{RowLine, put_row};
 use std::alloc::{AllocError, Global};
 use std::slice::from_ref;
-use twkb_geom::{Geometry, Ids, Kind, Lines, Members, Pts, Shape};
+use twkb_geom::{Geometry, Ids, Kind, Lines, Members, Pts, Shape, id_at, own_parts};
 use twkb_points::Pt;
 
 /// The lines of the geometry's rows, each ended by LF and none of them the header (profile). Takes
@@ -74,22 +73,6 @@ fn own_line(geometry: &Geometry, depth: u32, id: Option<i64>) -> RowLine<'_>
     }
 }
 
-/// The kind of a shape, and the points of its own row.
-fn own_parts(shape: &Shape) -> (Kind, &[Pt])
-    ensures { (p : ℤ) (id : Option ℤ) (depth : ℕ) → own_row id depth (tree_of p shape.now) ≡ line_of depth result.0 id p result.1.now }
-{
-    match shape {
-        Shape::Point(None) => (Kind::Point, &[]),
-        Shape::Point(Some(point)) => (Kind::Point, from_ref(point)),
-        Shape::Line(points) => (Kind::Linestring, points.as_slice()),
-        Shape::Polygon(_) => (Kind::Polygon, &[]),
-        Shape::MultiPoint(_, _) => (Kind::MultiPoint, &[]),
-        Shape::MultiLine(_, _) => (Kind::MultiLinestring, &[]),
-        Shape::MultiPolygon(_, _) => (Kind::MultiPolygon, &[]),
-        Shape::Collection(_, _) => (Kind::Collection, &[]),
-    }
-}
-
 /// Appends the lines of the members of a collection.
 #[cycle(lines)]
 #[tactic(auto, using(twkb_geom::specs::Size::member_smaller))]
@@ -109,16 +92,6 @@ fn put_members(
         index += 1;
     }
     Ok(())
-}
-
-/// The id of the member at a place, if the members have ids.
-fn id_at(ids: &Ids, index: usize) -> Option<i64>
-    ensures { result ≡ first_id (ids_from index ids.now) }
-{
-    match ids {
-        None => None,
-        Some(ids) => ids.as_slice().get(index).copied(),
-    }
 }
 
 /// Appends the lines of the polygons of a multipolygon.

@@ -1,5 +1,8 @@
 //! Tests against vectors from outside.
+mod calls;
 mod fields;
+mod fixtures;
 mod printing;
+mod reading;
+mod refusing;
 mod rows;
-mod tables;

@@ -1,10 +1,10 @@
 //! Streams, and the first fault of each: offset and reason as the documents have them.
-use crate::tests::feeding::{Outcome, all_give, by_reader};
+use crate::tests::feeding::{Outcome, all_give};
 use crate::{BlobFault, BlobReason};
 use std::alloc::Global;
 
 /// Whether each way to read the stream gives so many geometries and then refuses at this offset.
-fn refused(alloc: Global, bytes: &[u8], made: u64, offset: u64, reason: BlobReason) -> bool {
+pub fn refused(alloc: Global, bytes: &[u8], made: u64, offset: u64, reason: BlobReason) -> bool {
     let fault = Some(BlobFault::At { offset, reason });
     all_give(alloc, bytes, Outcome { made, fault })
 }
@@ -159,9 +159,8 @@ fn a_cut_blob_is_truncated_at_its_end(rt: HostRuntime) {
             offset: cut as u64,
             reason: BlobReason::Truncated,
         });
-        assert_eq!(rt;
-            by_reader(alloc, &whole[..cut]),
-            Outcome { made: 0, fault },
+        assert!(rt;
+            all_give(alloc, &whole[..cut], Outcome { made: 0, fault }),
             "cut at {cut}"
         );
     }

@@ -1,88 +1,84 @@
 //! Sessions: bytes in pieces, what is held, and the end.
-use crate::tests::readers::short_line;
+use crate::tests::answers::{
+    feeds_geometry, feeds_short_line, goes_on, refuses_end, refuses_piece,
+};
 use crate::{BlobFault, BlobReason, Session};
-use std::test::Fail;
 use twkb_geom::Limits;
 
-#[test]
-fn a_feed_stops_behind_a_geometry(rt: HostRuntime) -> Result<(), Fail> {
-    let alloc = rt.alloc();
-    let mut session = Session::new(alloc, Limits::standard());
-    assert_eq!(rt;
-        session.feed(&[0x02, 0x00, 0x02, 0x02]),
-        Ok((4, None)),
-        "half a line"
-    );
-    assert_eq!(rt; session.held(), 0, "whole items");
-    assert_eq!(rt; session.frames(), 1, "the line");
-    let line = short_line(alloc)?;
-    assert_eq!(rt;
-        session.feed(&[0x02, 0x08, 0x08, 0x01]),
-        Ok((3, Some(line))),
-        "the other half"
-    );
-    assert_eq!(rt; session.frames(), 0, "between two blobs");
-    assert_eq!(rt; session.feed(&[0x01]), Ok((1, None)), "a type byte");
+/// Whether half a line is used, and counted as a geometry that is begun.
+fn begins_a_line(session: &mut Session) -> bool {
+    goes_on(session, b"\x02\x00\x02\x02") && session.held() == 0 && session.frames() == 1
+}
+
+/// Whether the other half gives the line, and leaves the type byte behind it.
+fn ends_a_line(session: &mut Session) -> bool {
+    feeds_short_line(session, b"\x02\x08\x08\x01", 3) && session.frames() == 0
+}
+
+/// Whether the stream may not end behind a type byte, for good.
+fn is_cut_at_a_type_byte(session: &mut Session) -> bool {
     let reason = BlobReason::Truncated;
-    assert_eq!(rt;
-        session.finish(),
-        Err(BlobFault::At { offset: 8, reason }),
-        "a cut blob"
-    );
-    assert_eq!(rt; session.finish(), Err(BlobFault::Spent), "for good");
-    Ok(())
+    goes_on(session, b"\x01")
+        && refuses_end(session, BlobFault::At { offset: 8, reason })
+        && refuses_end(session, BlobFault::Spent)
+}
+
+#[test]
+fn a_feed_stops_behind_a_geometry(rt: HostRuntime) {
+    let mut session = Session::new(rt.alloc(), Limits::standard());
+    assert!(rt; begins_a_line(&mut session), "half a line");
+    assert!(rt; ends_a_line(&mut session), "the other half");
+    assert!(rt; is_cut_at_a_type_byte(&mut session), "a cut blob");
 }
 
 #[test]
 fn a_session_holds_the_first_bytes_of_a_number(rt: HostRuntime) {
     let mut session = Session::new(rt.alloc(), Limits::standard());
-    assert_eq!(rt;
-        session.feed(&[0x02, 0x00, 0x82]),
-        Ok((3, None)),
-        "half a count"
-    );
-    assert_eq!(rt; session.held(), 1, "its first byte");
+    assert!(rt; goes_on(&mut session, b"\x02\x00\x82"), "half a count");
+    assert!(rt; session.held() == 1, "its first byte");
+}
+
+/// Whether a third coordinate is refused at its extended byte, for good.
+fn refuses_a_third_coordinate(session: &mut Session) -> bool {
+    let reason = BlobReason::ExtraDimensions;
+    refuses_piece(session, b"\x01", BlobFault::At { offset: 2, reason })
+        && refuses_piece(session, b"\x01", BlobFault::Spent)
 }
 
 #[test]
 fn single_bytes_are_used_and_refused_where_they_stand(rt: HostRuntime) {
     let mut session = Session::new(rt.alloc(), Limits::standard());
-    assert_eq!(rt; session.feed(&[0x01]), Ok((1, None)), "a type byte");
-    assert_eq!(rt; session.feed(&[0x08]), Ok((1, None)), "a metadata byte");
-    let reason = BlobReason::ExtraDimensions;
-    assert_eq!(rt;
-        session.feed(&[0x01]),
-        Err(BlobFault::At { offset: 2, reason }),
+    assert!(rt;
+        goes_on(&mut session, b"\x01") && goes_on(&mut session, b"\x08"),
+        "a type byte and a metadata byte"
+    );
+    assert!(rt;
+        refuses_a_third_coordinate(&mut session),
         "a third coordinate"
     );
-    assert_eq!(rt; session.feed(&[0x01]), Err(BlobFault::Spent), "for good");
+}
+
+/// Whether the stream may end here, and then takes no bytes.
+fn ends_between_blobs(session: &mut Session, piece: &[u8]) -> bool {
+    session.finish().is_ok() && refuses_piece(session, piece, BlobFault::Spent)
 }
 
 #[test]
-fn collections_are_counted_as_they_open(rt: HostRuntime) -> Result<(), Fail> {
+fn collections_are_counted_as_they_open(rt: HostRuntime) {
     let mut session = Session::new(rt.alloc(), Limits::standard());
-    assert_eq!(rt;
-        session.feed(&[0x07, 0x00, 0x01, 0x07, 0x00, 0x01]),
-        Ok((6, None)),
-        "two collections"
+    let is_used = goes_on(&mut session, b"\x07\x00\x01\x07\x00\x01");
+    assert!(rt; is_used && session.frames() == 2, "two collections");
+    let is_used = feeds_geometry(&mut session, b"\x01\x10\x02", 2);
+    assert!(rt; is_used, "the empty point, and with it both collections");
+    let is_used = goes_on(&mut session, &[]);
+    assert!(rt;
+        is_used && ends_between_blobs(&mut session, &[]),
+        "no bytes"
     );
-    assert_eq!(rt; session.frames(), 2, "both are open");
-    let (used, found) = session.feed(&[0x01, 0x10, 0x02]).map_err(|_| "a fault")?;
-    assert_eq!(rt; used, 2, "the empty point");
-    assert!(rt; found.is_some(), "and with it both collections");
-    assert_eq!(rt; session.feed(&[]), Ok((0, None)), "no bytes");
-    assert_eq!(rt; session.finish(), Ok(()), "between two blobs");
-    assert_eq!(rt; session.feed(&[]), Err(BlobFault::Spent), "behind the end");
-    Ok(())
 }
 
 #[test]
 fn a_new_session_ends_between_two_blobs(rt: HostRuntime) {
     let mut session = Session::new(rt.alloc(), Limits::standard());
-    assert_eq!(rt; session.finish(), Ok(()), "no bytes");
-    assert_eq!(rt;
-        session.feed(&[0x01]),
-        Err(BlobFault::Spent),
-        "behind the end"
-    );
+    assert!(rt; ends_between_blobs(&mut session, b"\x01"), "no bytes");
 }

@@ -251,3 +251,43 @@ fn a_flush_that_fails_is_a_failed_write(rt: HostRuntime) -> Result<(), Fail> {
     assert_eq!(rt; unread.answer, Err(fault), "behind a failed read");
     Ok(())
 }
+
+const POINT_AND_A_CUT: &[u8] = b"\x01\x00\x04\x02\x01\x00\x04";
+
+// Run with `rt try --test --fail-alloc N`: whichever growth is refused, a front of the table was
+// written, and the cause is want of memory (a writer in memory that cannot grow is a failed write).
+#[test]
+fn a_refused_growth_leaves_a_front_of_the_table(rt: HostRuntime) {
+    let mut reader = Tap::new(POINT_AND_A_CUT);
+    let mut writer = Tap::new(Vec::new(rt.alloc()));
+    let answer = unpack(rt.alloc(), &mut reader, &mut writer, Limits::standard());
+    let text = writer.into_inner();
+    assert!(rt; answer.is_err(), "the last blob is cut");
+    if let Err(fault) = answer {
+        let is_known = match fault.cause {
+            Cause::Blob { offset, .. } => offset == 7 && fault.sent == 47,
+            Cause::Memory => fault.sent == 33 || fault.sent == 47,
+            Cause::WriteDevice => true,
+            _ => false,
+        };
+        assert!(rt; is_known, "{fault:?}");
+        assert_eq!(rt; fault.sent, text.len() as u64, "{fault:?}");
+        assert_eq!(rt; fault.done, fault.sent / 47, "{fault:?}");
+    }
+    assert!(rt; ITS_TABLE.as_bytes().starts_with(&text));
+}
+
+#[test]
+fn each_read_of_two_blobs_fails_after_the_rows_of_whole_ones(rt: HostRuntime) -> Result<(), Fail> {
+    for given in 0..8 {
+        let unpacked = unpack_through(&rt, POINT_AND_A_CUT, given, 99, FuseEnd::Fail, false)?;
+        let is_whole = given >= 4;
+        let fault = ConvertFault {
+            done: if is_whole { 1 } else { 0 },
+            sent: if is_whole { 47 } else { 33 },
+            cause: Cause::ReadDevice,
+        };
+        assert_eq!(rt; unpacked.answer, Err(fault), "{given} bytes");
+    }
+    Ok(())
+}

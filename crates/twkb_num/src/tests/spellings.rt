@@ -1,6 +1,6 @@
 //! Numbers and their shortest spellings, both ways.
 use crate::tests::{done, read};
-use crate::{Five, Leb128, NumBuf};
+use crate::{Five, Leb128, NumBuf, varint_len};
 
 // 150 and 300: Protocol Buffers, "Base 128 Varints". 624485: Wikipedia, "LEB128". The others stand at each boundary of
 // 7, 14, .. 63 bits, where a byte more is needed: all ones, then a one alone.
@@ -55,6 +55,11 @@ fn shortest_varints(rt: HostRuntime) {
             NumBuf::put::<Leb128>(number).as_slice(),
             bytes,
             "varint of {number}"
+        );
+        assert_eq!(rt;
+            varint_len(number) as usize,
+            bytes.len(),
+            "length of the varint of {number}"
         );
         assert_eq!(rt;
             read::<Leb128>(bytes),

@@ -21,17 +21,18 @@ fn a_row_is_its_fields(rt: HostRuntime) -> Result<(), Fail> {
         kind: Kind::Collection,
         child_ids: Some(true),
     };
-    let row = judge(rt.alloc(), &Limits::standard(), &[parent], 2, 1, &record)
+    let mut points = Vec::new(rt.alloc());
+    let row = judge(&Limits::standard(), &[parent], 2, 1, &record, &mut points)
         .ok()
         .ok_or("row")?;
     assert_eq!(rt; row.depth, 1, "depth");
     assert_eq!(rt; row.kind, Kind::Linestring, "kind");
     assert_eq!(rt; row.id, Some(-1), "id");
     assert_eq!(rt; row.precision, Some(0), "precision");
-    let points = [
+    let places = [
         Pt::try_new(1, 1).ok_or("point")?,
         Pt::try_new(5, 5).ok_or("point")?,
     ];
-    assert_eq!(rt; row.points.as_slice(), points.as_slice(), "points");
+    assert_eq!(rt; points.as_slice(), places.as_slice(), "points");
     Ok(())
 }

@@ -1,8 +1,8 @@
-use Rattle.std.proofs.Common.{◌≡◌, ◌∙◌, ◌+◌, ◌++◌, [], refl, subst, arith}
+use Rattle.std.proofs.Common.{◌∙◌, ◌++◌, [], refl, subst, arith}
 use Rattle.std.specs.Prelude.{Option}
 use Rattle.twkb_geom.specs.Tree.{Tree}
 use Rattle.twkb_grammar.specs.Fault.{FirstFault, Truncated}
-use Rattle.twkb_engine.specs.Standing.{allowance_of, offset_in}
+use Rattle.twkb_engine.specs.Standing.{IsEnd, allowance_of, offset_in}
 use Rattle.twkb_blob.proofs.Standing.{counted}
 use Rattle.twkb_blob.proofs.Blobs.{nothing_left, left_join, made_next, end_next, cut_next, stopped_next, halted_next, no_device}
 use Rattle.twkb_blob.proofs.reader.read_blob.Goals as goal
@@ -68,4 +68,6 @@ pub returns-in-Err-Device-clause-next : goal.returns-in-Err-Device-clause-next
 returns-in-Err-Device-clause-next g c =
     let (bs, left, stands) = c.loop-geometry.invariant.read in
     let read = rw c.in-Err-Device.field-0-is at (c.in-Err-Device.ensures.read bs stands) in
-    halted_next c.in-Err-Device.fault bs c.args.input.now c.loop-geometry.input c.read_piece.new.input left c.loop-geometry.invariant.spent read
+    halted_next (allowance_of c.args.engine.now) (allowance_of c.loop-geometry.engine) c.in-Err-Device.fault bs c.args.input.now c.loop-geometry.input c.read_piece.new.input c.read_piece.new.engine
+    (offset_in c.read_piece.new.engine) c.is_between-between.result c.loop-geometry.invariant.limits left c.loop-geometry.invariant.spent
+    (subst (λ l. IsEnd l bs (offset_in c.read_piece.new.engine) c.is_between-between.result) c.read_piece.ensures.limits (c.is_between-between.ensures bs read.1)) read

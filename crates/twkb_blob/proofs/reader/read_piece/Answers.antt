@@ -14,7 +14,7 @@ returns-in-Ok-default-None-clause-read g c = λ bs s.
 pub returns-in-Ok-default-Some-clause-read : goal.returns-in-Ok-default-Some-clause-read
 returns-in-Ok-default-Some-clause-read g c = λ bs s.
     made_read (allowance_of c.args.engine.now) bs c.held-piece.result.now c.args.input.now c.fill.new.self c.advance-in-Ok-default-Some.new.self _ _ c.feed.new.self c.fill.ensures.keeps c.fill.ensures.given c.held-piece.ensures.held
-    c.advance-in-Ok-default-Some.ensures.gives c.advance-in-Ok-default-Some.ensures.given (rw c.in-Ok-default-Some.field-0-1-is at (c.in-Ok-default-Some.ensures.fed bs s))
+    c.advance-in-Ok-default-Some.ensures.gives c.advance-in-Ok-default-Some.ensures.given (c.advance-in-Ok-default-Some.ensures.stays ∙ c.in_default.ensures.stays) (rw c.in-Ok-default-Some.field-0-1-is at (c.in-Ok-default-Some.ensures.fed bs s))
 
 pub returns-in-Err-feed-clause-read : goal.returns-in-Err-feed-clause-read
 returns-in-Err-feed-clause-read g c = λ bs s.
@@ -26,4 +26,5 @@ returns-then-count-eq0-clause-read g c = λ bs s.
     end_read (allowance_of c.args.engine.now) bs c.args.input.now c.fill.new.self c.args.engine.now c.fill.ensures.keeps c.fill.ensures.given (c.fill.ensures.ended (c.in_default.ensures.end none)).1 s
 
 pub returns-in-Err-clause-read : goal.returns-in-Err-clause-read
-returns-in-Err-clause-read g c = λ bs s. halted c.fill.result c.in-Err.fault c.args.input.now c.fill.new.self c.in-Err.is c.fill.ensures.given c.fill.ensures.too_long c.fill.ensures.spent.0
+returns-in-Err-clause-read g c = λ bs s.
+    (halted c.fill.result c.in-Err.fault c.args.input.now c.fill.new.self c.in-Err.is c.fill.ensures.keeps c.fill.ensures.given c.fill.ensures.too_long c.fill.ensures.none_held c.fill.ensures.spent.0, s)

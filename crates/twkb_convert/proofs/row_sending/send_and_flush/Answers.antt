@@ -1,4 +1,4 @@
-use Rattle.std.proofs.Common.{◌≡◌, rules}
+use Rattle.std.proofs.Common.{rules}
 use Rattle.twkb_convert.proofs.TableSent.{cut_by_flush}
 use Rattle.twkb_convert.proofs.row_sending.send_and_flush.Goals as goal
 

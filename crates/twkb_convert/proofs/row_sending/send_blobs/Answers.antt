@@ -1,5 +1,5 @@
-use Rattle.std.proofs.Common.{◌≡◌, ◌∙◌, arith, rules}
-use Rattle.twkb_convert.proofs.BlobsSent.{blob_long, cut_blobs, follows_trans, sent_all, sent_more, stream_long}
+use Rattle.std.proofs.Common.{◌∙◌, arith, rules}
+use Rattle.twkb_convert.proofs.BlobsSent.{blob_long, cut_blobs, follows_trans, sent_more, stream_long}
 use Rattle.twkb_convert.proofs.row_sending.send_blobs.Goals as goal
 
 pub overflow_add-done : goal.overflow_add-done
@@ -21,6 +21,7 @@ loop-done-preserved g c =
       follows = follows_trans _ _ _ _ kept.follows c.in-Ok-true.ensures.follows;
       reader = c.in-Ok-true.ensures.fresh;
       going_on = c.in-Ok-true.ensures.going_on (search rules);
+      input = c.in-Ok-true.ensures.input (search rules);
       output = one.took.spent ∙ kept.output;
     }
 

@@ -1,7 +1,7 @@
 use Rattle.std.proofs.Common.{◌≡◌, ◌-◌, ◌^◌, false}
 use Rattle.twkb_io.specs.Outputs as Outputs
 use Rattle.twkb_blob.specs.Readers.{has_ended, is_spent}
-use Rattle.twkb_convert.specs.BlobReading.{given}
+use Rattle.twkb_convert.specs.BlobReading.{given, is_input_spent}
 use Rattle.twkb_convert.specs.RowSending.{Follows, SentBlobs}
 use Rattle.twkb_convert.proofs.row_sending.send_blobs.Given as goal
 
@@ -13,6 +13,7 @@ invariant-loop-done g l =
       follows : Follows l.fn.reader l.reader false;
       reader : is_spent l.reader ≡ false;
       going_on : has_ended l.reader ≡ false;
+      input : is_input_spent l.reader ≡ false;
       output : Outputs.is_spent l.output ≡ false;
     }
 

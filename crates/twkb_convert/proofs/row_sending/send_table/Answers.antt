@@ -1,4 +1,4 @@
-use Rattle.std.proofs.Common.{◌≡◌, ◌∙◌, sym, subst, rules}
+use Rattle.std.proofs.Common.{◌∙◌, sym, subst, rules}
 use Rattle.twkb_io.specs.Outputs.{Took}
 use Rattle.twkb_convert.proofs.TableSent.{cut_header, table_cut, table_sent}
 use Rattle.twkb_convert.proofs.row_sending.send_table.Goals as goal

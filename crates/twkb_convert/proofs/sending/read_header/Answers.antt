@@ -1,7 +1,7 @@
 use Rattle.std.proofs.Common.{rules, []}
 use Rattle.std.proofs.lemmas.Bool.{false≢true}
 use Rattle.csv.specs.Records.{fields_of}
-use Rattle.twkb_convert.specs.SourceStanding.{record_in}
+use Rattle.twkb_table.specs.SourceStanding.{record_in}
 use Rattle.twkb_convert.proofs.StopLemmas.{other_header}
 use Rattle.twkb_convert.proofs.sending.read_header.Goals as goal
 

@@ -1,6 +1,6 @@
 use Rattle.std.proofs.Common.{refl, rules}
 use Rattle.csv.specs.Records.{fields_of}
-use Rattle.twkb_convert.specs.SourceStanding.{record_in}
+use Rattle.twkb_table.specs.SourceStanding.{record_in}
 use Rattle.twkb_convert.proofs.sending.read_point.Goals as goal
 
 pub returns-then-number-eq-RECORD_CAP-clause-reads : goal.returns-then-number-eq-RECORD_CAP-clause-reads

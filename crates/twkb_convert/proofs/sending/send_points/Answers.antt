@@ -1,4 +1,4 @@
-use Rattle.std.proofs.Common.{◌∙◌, arith, sym}
+use Rattle.std.proofs.Common.{◌∙◌, ap, arith, rules, sym, Err}
 use Rattle.twkb_convert.proofs.StopLemmas.{may_be_written, pending_next, sent_last, stopped_at_next, stopped_at_put}
 use Rattle.twkb_convert.proofs.sending.send_points.Goals as goal
 
@@ -15,8 +15,10 @@ returns-in-Err-put g c = record {
   sends = λ told start.
       let p = c.loop-done.invariant.pending told start in
       let (front, rest, cut, refused) = c.in-Err-put.ensures.err in
+      let blob = c.as_slice.ensures ∙ c.point_blob.ensures in
       let ready = may_be_written c.args.limits.now g.R.Read.remaining g.W.Write.contents told _ _ _ c.loop-done.done _ c.loop-done.pending c.in-Ok.next _ p (c.in-Ok.ensures.reads told p.records p.stands) in
-      stopped_at_put c.args.limits.now g.R.Read.remaining g.W.Write.contents told _ _ _ _ c.loop-done.done c.loop-done.pending p front rest c.in-Err-put.fault ready (sym (c.as_slice.ensures ∙ c.point_blob.ensures) ∙ cut) refused;
+      stopped_at_put c.args.limits.now g.R.Read.remaining g.W.Write.contents told _ _ _ _ c.loop-done.done c.loop-done.pending p front rest c.in-Err-put.fault ready (sym blob ∙ cut) refused
+      (λ far. rw blob at (c.in-Err-put.ensures.too_long.0 (ap Err far)).1) (λ spent. search rules) (rw blob at c.in-Err-put.ensures.short);
 }
 
 pub returns-in-None : goal.returns-in-None

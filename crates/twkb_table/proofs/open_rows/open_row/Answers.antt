@@ -2,15 +2,15 @@ use Rattle.std.proofs.Common.{◌≡◌, ◌∷◌, [], ◌++◌, Bool, Some, Li
 use Rattle.std.specs.Prelude.{unwrap_or}
 use Rattle.std.proofs.lemmas.Bool.{false≢true}
 use Rattle.twkb_geom.specs.declared.open_rows.OpenRow.{OpenRow}
-use Rattle.twkb_table.specs.Standing.{row_seen}
+use Rattle.twkb_flat.specs.Rows.{row_with}
 use Rattle.twkb_table.proofs.OpenedLemmas.{opened_some, opened_none, entered, nothing}
 use Rattle.twkb_table.proofs.open_rows.open_row.Goals as goal
 use Rattle.twkb_table.proofs.open_rows.open_row.Goals.{in-Some, in_default}
 
 pub returns-clause-opened : goal.returns-clause-opened
-returns-clause-opened c =
+returns-clause-opened c points =
     let d = c.args.row.now.depth in
-    let r = row_seen c.args.row.now in
+    let r = row_with c.args.row.now points in
     let cut : c.truncate.new.self.items ≡ take d c.args.rows.now.items = c.truncate.ensures.items ∙ ap (take d) c.reserve.ensures.items in
     elim c.match-pop.branch [
       | in-Some w ↦

@@ -4,7 +4,8 @@ use Rattle.twkb_geom.specs.Rows.{plain_row, ring_rows, polygon_rows, rows_of_eac
 use Rattle.twkb_geom.specs.declared.kind.Kind.{Kind}
 use Rattle.twkb_geom.specs.Size.{member_smaller}
 use Rattle.twkb_table.specs.Printing.{row_lines}
-use Rattle.twkb_table.proofs.LineLemmas.{has_lines_none, has_lines_more, has_lines_all, member_rows_each, nest_member, rows_told, under_shape}
+use Rattle.twkb_geom.proofs.RowMembers.{member_rows_each, nest_member, under_shape}
+use Rattle.twkb_table.proofs.LineLemmas.{has_lines_none, has_lines_more, has_lines_all, rows_told}
 use Rattle.twkb_table.proofs.printing.+lines.Goals as goal
 
 pub put_members-loop-member-init : goal.put_members-loop-member-init

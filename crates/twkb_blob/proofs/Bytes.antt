@@ -1,0 +1,92 @@
+-- Bytes of an input, one after another, make a geometry with its spans, or a fault.
+use Rattle.std.proofs.Common.{◌≡◌, ℕ, ◌+◌, ◌<◌, ◌≤◌, List, [], ◌∷◌, ◌++◌, length, take, refl, sym, ap, ◌∙◌, subst, append_assoc, Option, Some, None, Ok, Err, false, arith}
+use Rattle.std.specs.Prelude.{IfSome}
+use Rattle.std.specs.Io.KnownBytes.{Consumes, IsAtEnd, Keeps}
+use Rattle.std.specs.declared.io.traits.Read.{Ghosts}
+use Rattle.twkb_geom.specs.Tree.{Tree}
+use Rattle.twkb_geom.specs.Limits.{Allowance}
+use Rattle.twkb_grammar.specs.Blob.{Blob}
+use Rattle.twkb_grammar.specs.Fault.{FirstFault, Reason}
+use Rattle.twkb_grammar.specs.Spans.{spans_of_blob}
+use Rattle.twkb_grammar.specs.Noting.{Notes}
+use Rattle.twkb_grammar.specs.declared.span.Span.{Span}
+use Rattle.twkb_io.specs.declared.input.Input.{Input}
+use Rattle.twkb_io.specs.Inputs.{given, rest_of, is_spent}
+use Rattle.twkb_engine.specs.Standing.{StandsAt, RefusedIn, offset_in}
+use Rattle.twkb_engine.specs.Frames.{reason_of}
+use Rattle.twkb_engine.specs.declared.engine.Engine.{Engine}
+use Rattle.twkb_engine.specs.declared.stop.Stop.{Stop}
+use Rattle.twkb_engine.specs.declared.stop.Stop.TheVariants.{Memory, Refused}
+use Rattle.twkb_blob.specs.Readers.{Left, Makes, IsRead, IsNext}
+use Rattle.twkb_blob.specs.Located.{HasSpans, IsLocated, IsNotedFed, IsNotedRead}
+use Rattle.twkb_blob.specs.declared.spans.Located.{Located}
+use Rattle.twkb_blob.specs.declared.fault.BlobFault.{BlobFault}
+use Rattle.twkb_blob.specs.declared.fault.BlobFault.TheVariants as fault
+use Rattle.twkb_blob.specs.Faults.{fault_of}
+use Rattle.twkb_io.specs.declared.input.InFault.{InFault}
+use Rattle.twkb_blob.specs.declared.reader.Piece.TheVariants as piece
+use Rattle.twkb_blob.specs.declared.reader.Halt.TheVariants as halt
+use Rattle.twkb_blob.proofs.Blobs.{left_join}
+
+-- a piece of one byte is that byte
+pub one_byte : (used byte : ℕ) → 0 < used → used ≤ length (byte ∷ []) → take used (byte ∷ []) ≡ byte ∷ []
+one_byte used byte some few = ap (λ n. take n (byte ∷ [])) (let z : used ≡ 1 = omega (arith, some, few) in z)
+
+-- an item that is refused at a byte is refused in what the input had
+refused_byte : (limits : Allowance) (a b : Option (List ℕ)) (bs : List ℕ) (byte offset : ℕ) (reason : Reason) → Consumes a b (byte ∷ []) → RefusedIn limits bs (byte ∷ []) offset reason → IfSome a (λ rest. FirstFault limits (bs ++ rest) offset reason)
+refused_byte limits None b bs byte offset reason loses h = tt
+refused_byte limits (Some xs) None bs byte offset reason loses h = absurd loses
+refused_byte limits (Some xs) (Some ys) bs byte offset reason loses h =
+    let whole : (bs ++ take h.used (byte ∷ [])) ++ ys ≡ bs ++ xs =
+    ap (λ l. (bs ++ l) ++ ys) (one_byte h.used byte h.some h.within) ∙ (append_assoc bs (byte ∷ []) ys ∙ ap (λ l. bs ++ l) (sym loses)) in
+    subst (λ l. FirstFault limits l offset reason) whole (h.fault ys)
+
+module _ {R : Type 0} {read : Ghosts R} where
+  -- a byte leaves
+  byte_left : (a b : Input R read) (byte : ℕ) → Consumes (rest_of a) (rest_of b) (byte ∷ []) → given b ≡ given a + 1 → Left a b (byte ∷ [])
+  byte_left a b byte loses counted = record { consumed = loses; counted = counted }
+
+  -- the blob goes on
+  pub byte_more : (limits : Allowance) (start : ℕ) (bs : List ℕ) (byte : ℕ) (a b : Input R read) (d : Engine) (w : Notes) → Consumes (rest_of a) (rest_of b) (byte ∷ []) → given b ≡ given a + 1 → is_spent b ≡ false
+      → IsNotedFed limits start bs byte (Ok None) d w → IsNotedRead limits start bs a b (Ok piece.More) d w
+  byte_more limits start bs byte a b d w loses counted live h = (byte ∷ [], omega arith, byte_left a b byte loses counted, h.0, h.1, live)
+
+  -- the blob ends
+  pub byte_made : (limits : Allowance) (start : ℕ) (bs : List ℕ) (byte : ℕ) (a b : Input R read) (g : Tree) (d : Engine) (w : Notes) → Consumes (rest_of a) (rest_of b) (byte ∷ []) → given b ≡ given a + 1 → is_spent b ≡ false
+      → IsNotedFed limits start bs byte (Ok (Some g)) d w → IsNotedRead limits start bs a b (Ok (piece.Made g)) d w
+  byte_made limits start bs byte a b g d w loses counted live h = (record { bytes = byte ∷ []; left = byte_left a b byte loses counted; blob = h.0; unspent = live }, h.1)
+
+  -- the engine stopped at a byte
+  pub byte_stopped : (limits : Allowance) (start : ℕ) (bs : List ℕ) (byte : ℕ) (a b : Input R read) (stop : Stop) (d : Engine) (w : Notes) → Consumes (rest_of a) (rest_of b) (byte ∷ [])
+      → IsNotedFed limits start bs byte (Err stop) d w → IsRead limits bs a b (Err (halt.Engine stop)) d
+  byte_stopped limits start bs byte a b Memory d w loses h = tt
+  byte_stopped limits start bs byte a b (Refused r) d w loses h = refused_byte limits (rest_of a) (rest_of b) bs byte (offset_in d) (reason_of r) loses h
+
+  -- a blob left the input, with these spans
+  pub made_spans : (limits own : Allowance) (start : ℕ) (bs : List ℕ) (a b c : Input R read) (g : Tree) (spans told : List Span) → own ≡ limits → start ≡ given a → Left a b bs
+      → spans ≡ told → (made : Makes own bs b c g) → told ≡ spans_of_blob start made.blob → HasSpans limits a c g spans
+  made_spans limits own start bs a b c g spans told same begun left is made says =
+      subst (λ l. HasSpans l a c g spans) same (record {
+        made = record { bytes = bs ++ made.bytes; left = left_join a b c bs made.bytes left made.left; blob = made.blob; unspent = made.unspent };
+        told = is ∙ (says ∙ ap (λ o. spans_of_blob o made.blob) begun);
+      })
+
+  -- and that is an answer
+  pub made_located : (limits : Allowance) (a c : Input R read) (l : Located) → HasSpans limits a c l.geometry l.spans → IsLocated limits a c (Ok (Some l))
+  made_located limits a c l h = record { next = h.made; spans = h }
+
+  -- an answer without a geometry has no spans
+  pub none_located : (limits : Allowance) (a c : Input R read) → IsNext limits a c (Ok None) → IsLocated limits a c (Ok None)
+  none_located limits a c h = record { next = h; spans = tt }
+
+  pub fault_located : (limits : Allowance) (a c : Input R read) (e : BlobFault) → IsNext limits a c (Err e) → IsLocated limits a c (Err e)
+  fault_located limits a c e h = record { next = h; spans = tt }
+
+  -- the input gave no byte
+  pub device_located : (limits : Allowance) (a c : Input R read) (told why : InFault) → told ≡ why → IsNext limits a c (Err (fault.Device why)) → IsLocated limits a c (Err (fault.Device told))
+  device_located limits a c told why same h = fault_located limits a c (fault.Device told) (subst (λ f. IsNext limits a c (Err (fault.Device f))) (sym same) h)
+
+  -- the engine stopped
+  pub engine_located : (limits : Allowance) (a c : Input R read) (e : BlobFault) (told offset : ℕ) (why stop : Stop) → e ≡ fault_of told why → told ≡ offset → why ≡ stop → IsNext limits a c (Err (fault_of offset stop)) → IsLocated limits a c (Err e)
+  engine_located limits a c e told offset why stop is at same h =
+      fault_located limits a c e (subst (λ f. IsNext limits a c (Err f)) (sym (is ∙ (ap (λ n. fault_of n why) at ∙ ap (λ s. fault_of offset s) same))) h)

@@ -1,0 +1,4 @@
+use Rattle.twkb_blob.proofs.session.Session.frames.Goals as goal
+
+pub returns-clause-few : goal.returns-clause-few
+returns-clause-few c = λ bytes gs s. c.open_geometries.ensures.few s.rest s.begun

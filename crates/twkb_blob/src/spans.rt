@@ -1,0 +1,53 @@
+//! Geometries with the place and the header of each.
+ghost use Rattle.std.specs.Prelude.{◌≡◌};
+
+use std::marker::Model;
+use twkb_geom::Geometry;
+use twkb_grammar::Span;
+
+/// The spans of a blob, in the order of its headers. A contract sees the list of them.
+#[derive(Debug, Drop)]
+pub struct Spans {
+    items: Vec<Span>,
+}
+
+impl Model for Spans {
+    ghost use Rattle.std.specs.Prelude.{List};
+    ghost use Rattle.twkb_grammar.specs.declared.span.Span.{Span};
+
+    ghost Value = { List Span };
+
+    ghost view = { λ a. a.items.items };
+}
+
+impl Spans {
+    /// The list of these spans. Takes no memory.
+    pub fn from_vec(items: Vec<Span>) -> Spans
+        ensures { result ≡ items.items }
+    {
+        Spans { items }
+    }
+
+    /// The spans. Takes no memory.
+    pub fn into_vec(self) -> Vec<Span>
+        ensures { result.items ≡ self }
+    {
+        self.items
+    }
+
+    /// The spans. Takes no memory.
+    pub fn as_slice(&self) -> &[Span]
+        ensures { result.now ≡ self.now }
+    {
+        self.items.as_slice()
+    }
+}
+
+/// A geometry, with a span for itself and for each of its members, at any depth.
+#[derive(Debug, Drop)]
+pub struct Located {
+    /// The geometry.
+    pub geometry: Geometry,
+    /// Where it and its members stand, and what their headers say.
+    pub spans: Spans,
+}

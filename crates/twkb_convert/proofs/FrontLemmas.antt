@@ -1,0 +1,219 @@
+-- What may be written is a front of the whole output.
+use Rattle.std.specs.Prelude.{◌⊎◌, map}
+use Rattle.std.proofs.Common.{◌≡◌, ◌∙◌, ℕ, List, [], ◌∷◌, ◌++◌, Some, None, ap, refl, sym, subst, inl, inr, append_assoc}
+use Rattle.std.proofs.lemmas.List.{append-nil}
+use Rattle.std.proofs.lemmas.Grind.{flat_map-append}
+use Rattle.csv.specs.Reading.{AreRecords, Reached, default_config, strip_bom}
+use Rattle.csv.specs.Machine.{Read, next_record}
+use Rattle.csv.specs.declared.parser.Config.{Config}
+use Rattle.csv.specs.declared.parser.State.{State}
+use Rattle.csv.specs.declared.parser.State.TheVariants.{StartRecord}
+use Rattle.twkb_geom.specs.Tree.{Tree}
+use Rattle.twkb_geom.specs.Limits.{Allowance, IsAllowance}
+use Rattle.twkb_geom.specs.Rows.{Row, own_row, rows, rows_of}
+use Rattle.twkb_geom.specs.RowLists.{AreGeometries, IsAtRoot}
+use Rattle.twkb_geom.proofs.LimitLaws.{valid_front}
+use Rattle.twkb_geom.proofs.RootEnd.{first_ended, roots_first}
+use Rattle.twkb_geom.proofs.RootLaws.{below_root}
+use Rattle.twkb_grammar.specs.Blob.{Stream}
+use Rattle.twkb_grammar.specs.Fault.{FirstFault, Reason}
+use Rattle.twkb_grammar.specs.Written.{canonical_blob, canonical_stream}
+use Rattle.twkb_grammar.specs.declared.style.Style.TheVariants.{Full}
+use Rattle.twkb_grammar.proofs.One.{peel, one_blob_lem}
+use Rattle.twkb_grammar.proofs.OneFault.{no_fault}
+use Rattle.twkb_grammar.proofs.Streams.{behind_stream}
+use Rattle.twkb_table.specs.Record.{Record, header, record_of}
+use Rattle.twkb_table.specs.Named.{Named}
+use Rattle.twkb_table.specs.Text.{csvtext}
+use Rattle.twkb_table.specs.RowFault.{AreComplete, HasNoHeader, all_but_last}
+use Rattle.twkb_table.specs.declared.reason.RowReason.{RowReason}
+use Rattle.twkb_table.proofs.FaultLaws.{later_none}
+use Rattle.twkb_table.proofs.FieldLemmas.{head_same, tail_same}
+use Rattle.twkb_table.proofs.Tables.{geometries, one_table, split, table_front}
+use Rattle.twkb_table.specs.CsvRecords.{AreRecordsOf, BeginWith}
+use Rattle.twkb_convert.specs.Outputs.{PackTo, UnpackTo, rows_text, table_text}
+use Rattle.twkb_convert.specs.RefusedRows.{MayBeWritten, NameSoFar}
+use Rattle.twkb_convert.proofs.RoundTrips.{one_records}
+use Rattle.twkb_convert.proofs.RowTexts.{rows_text-append, table_text-rows}
+
+-- these geometries are followed by others in the list
+abbrev BeginTrees : List Tree → List Tree → Type 0
+BeginTrees gs hs = (more : List Tree) × (hs ≡ gs ++ more)
+
+-- ---- records
+
+reached_first : (cfg : Config) (s : State) (xs : List ℕ) (rs qs : List Record) → AreRecords cfg s xs rs → (state : State) (left : List ℕ) → Reached cfg s xs qs state left
+    → (more : List Record) × (rs ≡ qs ++ more)
+unfolding Reached
+reached_first cfg s xs rs [] a state left b = (rs, refl)
+reached_first cfg s xs [] (q ∷ qs) a state left b =
+    let ended : next_record cfg s [] [] xs ≡ None = subst (λ t. next_record cfg t [] [] xs ≡ None) (sym a.2.0) (subst (λ l. next_record cfg a.0 [] [] l ≡ None) (sym a.2.1) a.3) in
+    absurd (let more = b.1 in cc)
+reached_first cfg s xs (r ∷ rs) (q ∷ qs) a state left b =
+    let first = a.2.1 in
+    let second = b.1 in
+    let same : a.2.0 ≡ b.0 = cc (first, second) in
+    let later : AreRecords cfg b.0.1 b.0.2 rs = subst (λ (p : Read). AreRecords cfg p.1 p.2 rs) same (a.0, a.1, a.2.3, a.3) in
+    let tail = reached_first cfg b.0.1 b.0.2 rs qs later state left b.3 in
+    (tail.0, ap (λ x. x ∷ rs) (a.2.2 ∙ ap (λ (p : Read). p.0) same ∙ sym b.2) ∙ ap (λ l. q ∷ l) tail.1)
+
+-- the records that a text begins with come first among its records
+first_records : (text : List ℕ) (records seen : List Record) → AreRecordsOf text records → BeginWith text seen → (more : List Record) × (records ≡ seen ++ more)
+first_records text records seen all begins = reached_first default_config StartRecord (strip_bom text) records seen all begins.0 begins.1 begins.2
+
+-- of two fronts of a list, one goes on from the other
+abbrev OneGoesOn : List Record → List Record → Record → Type 0
+OneGoesOn xs ys x = ((more : List Record) × (ys ≡ xs ++ more)) ⊎ ((more : List Record) × (xs ≡ (ys ++ x ∷ []) ++ more))
+
+one_goes_on : (xs ys : List Record) (x : Record) (rest more : List Record) → xs ++ rest ≡ ys ++ x ∷ more → OneGoesOn xs ys x
+one_goes_on [] ys x rest more e = inl (ys, refl)
+one_goes_on (a ∷ xs) [] x rest more e = inr (xs, ap (λ q. q ∷ xs) (head_same a x (xs ++ rest) more e))
+one_goes_on (a ∷ xs) (b ∷ ys) x rest more e = go (one_goes_on xs ys x rest more (tail_same a b (xs ++ rest) (ys ++ x ∷ more) e))
+  where
+    same : a ≡ b
+    same = head_same a b (xs ++ rest) (ys ++ x ∷ more) e
+
+    go : OneGoesOn xs ys x → OneGoesOn (a ∷ xs) (b ∷ ys) x
+    go (inl (zs, f)) = inl (zs, ap (λ q. q ∷ ys) (sym same) ∙ ap (λ l. a ∷ l) f)
+    go (inr (zs, f)) = inr (zs, ap (λ q. q ∷ xs) same ∙ ap (λ l. b ∷ l) f)
+
+-- ---- geometries
+
+-- a geometry has a row, and it is a root
+at_root : (g : Tree) (gs : List Tree) (more : List Row) → AreGeometries (g ∷ gs) → IsAtRoot (rows_of (g ∷ gs) ++ more)
+at_root g gs more are =
+    let (below, e, deep) = below_root g are.0 in
+    let head : rows_of (g ∷ gs) ≡ own_row None 0 g ∷ (below ++ rows_of gs) = ap (λ rs. rs ++ rows_of gs) e in
+    let root : IsAtRoot (own_row None 0 g ∷ (below ++ rows_of gs)) = subst IsAtRoot head (roots_first (g ∷ gs) are) in
+    subst (λ rs. IsAtRoot (rs ++ more)) (sym head) root
+
+no_row : (g : Tree) (gs : List Tree) (more : List Row) → AreGeometries (g ∷ gs) → [] ≡ rows_of (g ∷ gs) ++ more → ⊥
+no_row g gs more are e = let (below, first, deep) = below_root g are.0 in cc (e ∙ ap (λ rs. (rs ++ rows_of gs) ++ more) first)
+
+-- All but the last of the geometries come first among others, and among all but the last of these.
+record ComeFirst (gs hs : List Tree) : Type 0 where
+  in_all : BeginTrees (all_but_last gs) hs
+  in_complete : BeginTrees (all_but_last gs) (all_but_last hs)
+
+first_and : (g k : Tree) (gs rest hs : List Tree) → hs ≡ g ∷ rest → (rest ≡ [] → ⊥) → ComeFirst (k ∷ gs) rest → ComeFirst (g ∷ k ∷ gs) hs
+first_and g k gs [] hs whole some first = absurd (some refl)
+first_and g k gs (r ∷ rest) hs whole some first = record {
+  in_all = (first.in_all.0, whole ∙ ap (λ l. g ∷ l) first.in_all.1);
+  in_complete = (first.in_complete.0, ap all_but_last whole ∙ ap (λ l. g ∷ l) first.in_complete.1);
+}
+
+-- where the rows of geometries begin those of others
+come_first : (gs hs : List Tree) (more : List Row) → AreGeometries gs → AreGeometries hs → rows_of hs ≡ rows_of gs ++ more → ComeFirst gs hs
+come_first [] hs more a b e = record { in_all = (hs, refl); in_complete = (all_but_last hs, refl) }
+come_first (g ∷ []) hs more a b e = record { in_all = (hs, refl); in_complete = (all_but_last hs, refl) }
+come_first (g ∷ k ∷ gs) hs more a b e =
+    let (rest, whole, others) = first_ended g (rows_of (k ∷ gs) ++ more) hs a.0 b (at_root k gs more a.1) (sym (append_assoc (rows 0 g) (rows_of (k ∷ gs)) more) ∙ sym e) in
+    let are : AreGeometries (g ∷ rest) = subst AreGeometries whole b in
+    first_and g k gs rest hs whole (λ none. no_row k gs more a.1 (ap rows_of (sym none) ∙ others)) (come_first (k ∷ gs) rest more a.1 are.1 others)
+
+-- where the records of geometries begin those of others, so do the rows
+named_first : (l : Allowance) (seen tail : List Record) (gs hs : List Tree) → IsAllowance l → Named l seen gs → Named l (seen ++ tail) hs → ComeFirst gs hs
+named_first l [] tail gs hs allowed a b = absurd (let e = a.table_of in cc)
+named_first l (h ∷ front) tail gs hs allowed a b =
+    let head = head_same h header (front ++ tail) (map record_of (rows_of hs)) b.table_of in
+    let s = split (rows_of hs) front tail (sym (tail_same h header (front ++ tail) (map record_of (rows_of hs)) b.table_of)) in
+    let v = valid_front l s.front s.more (hs, b.valid, s.whole) in
+    let named : Named l (h ∷ front) v.0 = record { table_of = ap (λ q. q ∷ front) head ∙ ap (λ qs. header ∷ qs) (sym s.fronts ∙ ap (λ qs. map record_of qs) (sym v.2)); valid = v.1 } in
+    let same : rows_of gs ≡ s.front = ap rows_of (one_table l (h ∷ front) gs v.0 allowed a named) ∙ v.2 in
+    come_first gs hs s.more (geometries l gs a.valid) (geometries l hs b.valid) (s.whole ∙ ap (λ rs. rs ++ s.more) (sym same))
+
+-- ---- what may be written
+
+-- what is ready after some records of a text
+abbrev IsReady : List ℕ → List Record → List Tree → List Tree → Type 0
+IsReady text seen trees gs = (gs ≡ all_but_last trees) ⊎ (AreRecordsOf text seen × (gs ≡ trees))
+
+none_ready : (text : List ℕ) (seen : List Record) (trees gs : List Tree) → trees ≡ [] → IsReady text seen trees gs → gs ≡ []
+none_ready text seen trees gs none (inl e) = e ∙ ap all_but_last none
+none_ready text seen trees gs none (inr e) = e.1 ∙ none
+
+ready_named : (l : Allowance) (text : List ℕ) (records seen : List Record) (trees gs hs : List Tree) → IsAllowance l → AreRecordsOf text records → BeginWith text seen → NameSoFar l seen trees
+    → IsReady text seen trees gs → Named l records hs → BeginTrees gs hs
+ready_named l text records [] trees gs hs allowed all begins named ready other = (hs, ap (λ ks. ks ++ hs) (sym (none_ready text [] trees gs named ready)))
+ready_named l text records (s ∷ seen) trees gs hs allowed all begins named (inl e) other =
+    let (tail, whole) = first_records text records (s ∷ seen) all begins in
+    let first = named_first l (s ∷ seen) tail trees hs allowed named (subst (λ r. Named l r hs) whole other) in
+    (first.in_all.0, first.in_all.1 ∙ ap (λ ks. ks ++ first.in_all.0) (sym e))
+ready_named l text records (s ∷ seen) trees gs hs allowed all begins named (inr (ended, e)) other =
+    let same : s ∷ seen ≡ records = one_records text (s ∷ seen) records ended all in
+    ([], one_table l records hs trees allowed other (subst (λ r. Named l r trees) same named) ∙ sym e ∙ sym (append-nil gs))
+
+is_header : (l : Allowance) (s : Record) (seen tail records : List Record) (trees : List Tree) → Named l (s ∷ seen) trees → records ≡ s ∷ (seen ++ tail) → HasNoHeader records → ⊥
+is_header l s seen tail [] trees named e none = cc e
+is_header l s seen tail (q ∷ qs) trees named e none =
+    none (head_same q s qs (seen ++ tail) e ∙ head_same s header seen (map record_of (rows_of trees)) named.table_of)
+
+snoc_some : (xs : List Record) (y : Record) → xs ++ y ∷ [] ≡ [] → ⊥
+snoc_some [] y e = cc e
+snoc_some (x ∷ xs) y e = cc e
+
+ready_complete : (l : Allowance) (text : List ℕ) (records seen : List Record) (number : ℕ) (reason : RowReason) (trees gs hs : List Tree) → IsAllowance l → AreRecordsOf text records
+    → BeginWith text seen → NameSoFar l seen trees → IsReady text seen trees gs → AreComplete l records number reason hs → BeginTrees gs hs
+ready_complete l text records [] number reason trees gs hs allowed all begins named ready complete = (hs, ap (λ ks. ks ++ hs) (sym (none_ready text [] trees gs named ready)))
+ready_complete l text records (s ∷ seen) number reason trees gs hs allowed all begins named ready (inl f) =
+    let (tail, whole) = first_records text records (s ∷ seen) all begins in
+    absurd (is_header l s seen tail records trees named whole f.0)
+ready_complete l text records (s ∷ seen) number reason trees gs hs allowed all begins named (inr (ended, e)) (inr f) =
+    absurd (later_none l records number reason f.0 trees (subst (λ r. Named l r trees) (one_records text (s ∷ seen) records ended all) named))
+ready_complete l text records (s ∷ seen) number reason trees gs hs allowed all begins named (inl e) (inr f) = go (one_goes_on (s ∷ seen) f.0.before f.0.here tail.0 f.0.more (sym tail.1 ∙ f.0.split))
+  where
+    tail : (more : List Record) × (records ≡ (s ∷ seen) ++ more)
+    tail = first_records text records (s ∷ seen) all begins
+
+    go : OneGoesOn (s ∷ seen) f.0.before f.0.here → BeginTrees gs hs
+    go (inl (more, longer)) =
+        let first = named_first l (s ∷ seen) more trees f.0.geometries allowed named (subst (λ r. Named l r f.0.geometries) longer f.0.named) in
+        (first.in_complete.0, f.1 ∙ first.in_complete.1 ∙ ap (λ ks. ks ++ first.in_complete.0) (sym e))
+    go (inr (more, longer)) =
+        let front = table_front l (f.0.before ++ f.0.here ∷ []) more trees (snoc_some f.0.before f.0.here) (subst (λ r. Named l r trees) longer named) in
+        absurd (f.0.none front.0 front.1)
+
+ready_packed : (l : Allowance) (text : List ℕ) (records : List Record) (gs : List Tree) (bytes : List ℕ) → IsAllowance l → AreRecordsOf text records → MayBeWritten l (Some text) gs → PackTo l records bytes
+    → (hs : List Tree) × (bytes ≡ canonical_stream Full hs) × BeginTrees gs hs
+ready_packed l text records gs bytes allowed all may (inl (hs, named, e)) =
+    (hs, e, ready_named l text records may.records may.geometries gs hs allowed all may.begins may.named may.ready named)
+ready_packed l text records gs bytes allowed all may (inr (number, reason, hs, complete, e)) =
+    (hs, e, ready_complete l text records may.records number reason may.geometries gs hs allowed all may.begins may.named may.ready complete)
+
+pub pack_front : (l : Allowance) (text : List ℕ) (records : List Record) (whole later : List Tree) (front rest bytes : List ℕ) → IsAllowance l → AreRecordsOf text records
+    → MayBeWritten l (Some text) (whole ++ later) → canonical_stream Full later ≡ front ++ rest → PackTo l records bytes → (more : List ℕ) × (bytes ≡ (canonical_stream Full whole ++ front) ++ more)
+pack_front l text records whole later front rest bytes allowed all may cut packs =
+    let (hs, e, (others, first)) = ready_packed l text records (whole ++ later) bytes allowed all may packs in
+    let stream = canonical_stream Full in (
+      rest ++ stream others,
+      e ∙ ap stream first ∙ flat_map-append (canonical_blob Full) (whole ++ later) others ∙ ap (λ b. b ++ stream others) (flat_map-append (canonical_blob Full) whole later)
+          ∙ append_assoc (stream whole) (stream later) (stream others) ∙ ap (λ b. stream whole ++ (b ++ stream others)) cut
+          ∙ ap (λ b. stream whole ++ b) (append_assoc front rest (stream others)) ∙ sym (append_assoc (stream whole) front (rest ++ stream others)),
+    )
+
+-- ---- tables
+
+-- blobs in front of bytes with a fault are first of those before it
+blobs_first : (l : Allowance) (a b x y : List ℕ) (gs hs : List Tree) (within : ℕ) (reason : Reason) → Stream l a gs → Stream l b hs → FirstFault l y within reason → a ++ x ≡ b ++ y → BeginTrees gs hs
+blobs_first l a b x y [] hs within reason s t f e = (hs, refl)
+blobs_first l a b x y (g ∷ gs) [] within reason s t f e =
+    let whole : y ≡ s.0 ++ (s.1 ++ x) = ap (λ k. k ++ y) (sym t) ∙ (sym e ∙ (ap (λ k. k ++ x) s.2 ∙ append_assoc s.0 s.1 x)) in
+    absurd (no_fault l y (s.1 ++ x) g within reason (record { front = s.0; whole = whole; blob = s.3 }) f.fault)
+blobs_first l a b x y (g ∷ gs) (h ∷ hs) within reason s t f e =
+    let whole : s.0 ++ (s.1 ++ x) ≡ t.0 ++ (t.1 ++ y) = sym (append_assoc s.0 s.1 x) ∙ (ap (λ k. k ++ x) (sym s.2) ∙ (e ∙ (ap (λ k. k ++ y) t.2 ∙ append_assoc t.0 t.1 y))) in
+    let one = one_blob_lem l s.0 t.0 (s.1 ++ x) (t.1 ++ y) g h s.3 t.3 whole in
+    let rest = blobs_first l s.1 t.1 x y gs hs within reason s.4 t.4 f (peel s.0 t.0 (s.1 ++ x) (t.1 ++ y) one.1 whole) in
+    (rest.0, ap (λ k. h ∷ k) rest.1 ∙ ap (λ k. k ∷ (gs ++ rest.0)) (sym one.0))
+
+blobs_unpacked : (l : Allowance) (all bytes rest : List ℕ) (gs : List Tree) (text : List ℕ) → all ≡ bytes ++ rest → Stream l bytes gs → UnpackTo l all text → (hs : List Tree) × (text ≡ table_text hs) × BeginTrees gs hs
+blobs_unpacked l all bytes rest gs text whole s (inl (hs, t, e)) = let behind = behind_stream l bytes rest gs hs s (subst (λ k. Stream l k hs) whole t) in (hs, e, (behind.0, behind.1))
+blobs_unpacked l all bytes rest gs text whole s (inr (offset, reason, hs, f, e)) = (hs, e, blobs_first l bytes f.front rest f.rest gs hs f.within reason s f.blobs f.first (sym whole ∙ f.whole))
+
+pub unpack_front : (l : Allowance) (all bytes rest : List ℕ) (gs : List Tree) (text written left : List ℕ) → all ≡ bytes ++ rest → Stream l bytes gs → table_text gs ≡ written ++ left → UnpackTo l all text
+    → (more : List ℕ) × (text ≡ written ++ more)
+unpack_front l all bytes rest gs text written left whole s cut unpacks =
+    let (hs, e, (others, first)) = blobs_unpacked l all bytes rest gs text whole s unpacks in
+    let line = csvtext (header ∷ []) in
+    let longer : table_text (gs ++ others) ≡ table_text gs ++ rows_text others =
+    sym (table_text-rows (gs ++ others)) ∙ ap (λ k. line ++ k) (rows_text-append gs others) ∙ sym (append_assoc line (rows_text gs) (rows_text others)) ∙ ap (λ k. k ++ rows_text others) (table_text-rows gs) in
+    (left ++ rows_text others, e ∙ ap table_text first ∙ longer ∙ ap (λ k. k ++ rows_text others) cut ∙ append_assoc written left (rows_text others))

@@ -1,0 +1,5 @@
+use Rattle.twkb_convert.proofs.FrontLemmas.{pack_front}
+use Rattle.twkb_convert.proofs.laws.pack_front.Goals as goal
+
+pub returns : goal.returns
+returns c = pack_front

@@ -1,0 +1,5 @@
+use Rattle.twkb_convert.proofs.FrontLemmas.{unpack_front}
+use Rattle.twkb_convert.proofs.laws.unpack_front.Goals as goal
+
+pub returns : goal.returns
+returns c = unpack_front

@@ -1,0 +1,22 @@
+-- Points of a list that are taken many at a time.
+use Rattle.std.specs.Prelude.{◌≡◌, ℕ, ◌+◌, List, ◌++◌, length, Ok}
+use Rattle.twkb_points.specs.Point.{Point}
+use Rattle.twkb_geom.specs.Limits.{Allowance}
+use Rattle.twkb_grammar.specs.Machine.{Sums, Frame, Phase, advanced}
+use Rattle.twkb_grammar.specs.Reading.{Reached, ends}
+use Rattle.twkb_engine.specs.State.{phase_of}
+use Rattle.twkb_engine.specs.declared.phase.Phase as own
+
+-- the sums behind bytes that announce nothing and lead to a point
+abbrev pub sums_past : Sums → List ℕ → Point → Sums
+sums_past e bytes to = record { bytes = e.bytes + length bytes; position = to; nodes = e.nodes; points = e.points }
+
+-- wherever a reader stands at this phase and position, these bytes lead it to that phase and position
+abbrev pub RunsOn : Phase → Point → List ℕ → Phase → Point → Type 0
+RunsOn before from bytes after to =
+    (limits : Allowance) (front : List ℕ) (e : Sums) (fs : List Frame) → e.position ≡ from → Reached limits front e (fs, before) → Reached limits (front ++ bytes) (sums_past e bytes to) (fs, after)
+
+-- an item that leads to this position leads the machine on to that phase, and no geometry ends there
+pub record LeadsOn (to : Point) (before after : own.Phase) : Type 0 where
+  pub advances : (bytes n : ℕ) (fs : List Frame) → advanced to bytes n fs (phase_of before) ≡ (fs, phase_of after)
+  pub stays : (bytes : ℕ) (fs : List Frame) → ends bytes fs (phase_of after) ≡ Ok (fs, phase_of after)

@@ -1,0 +1,73 @@
+//! Points, each read from a blob that stands whole in front of bytes.
+ghost use Rattle.std.specs.Prelude.{◌≡◌, IfSome};
+ghost use Rattle.twkb_engine.specs.Front.{SizedPoint, PointBlob};
+
+use crate::front::{front_number, front_point};
+use crate::header::precision_at;
+use crate::motion::origin;
+use crate::phase::build;
+use crate::place::Head;
+use twkb_geom::{Geometry, Shape};
+use twkb_points::Pt;
+
+/// The type of a point (TWKB, geometry types).
+const POINT: u8 = 1;
+
+/// The metadata byte that announces a size, and nothing besides (TWKB, metadata header).
+const SIZED: u8 = 2;
+
+/// How many bytes a type byte and a metadata byte are.
+const HEADER_LEN: usize = 2;
+
+/// A point that was read.
+#[derive(Clone, Copy, Debug, PartialEq, Eq)]
+struct Sized {
+    to: Pt,
+    used: usize,
+}
+
+/// A point that was read, as a geometry.
+#[derive(Drop)]
+pub struct Made {
+    /// How many bytes its blob has.
+    pub used: usize,
+    /// The point.
+    pub geometry: Geometry,
+}
+
+/// The point that stands in front behind its size; `None` where it does not stand whole, or the size is another.
+fn sized_point(bytes: &[u8]) -> Option<Sized>
+    ensures { IfSome result (λ point. SizedPoint bytes.now point.to point.used) }
+{
+    let (size, width) = front_number(bytes)?;
+    let (to, count) = front_point(origin(), &bytes[width..])?;
+    if size != count as u64 {
+        return None;
+    }
+    let used = width + count;
+    Some(Sized { to, used })
+}
+
+/// The point whose blob stands whole in front, with a size and no further option; `None` where none does. Takes no memory.
+pub fn point_blob(bytes: &[u8]) -> Option<Made>
+    ensures { IfSome result (λ made. PointBlob bytes.now made.used made.geometry) }
+{
+    let type_byte = *bytes.first()?;
+    let metadata = *bytes.get(1)?;
+    if type_byte % 16 != POINT {
+        return None;
+    }
+    if metadata != SIZED {
+        return None;
+    }
+    let point = sized_point(&bytes[HEADER_LEN..])?;
+    let head = Head {
+        precision: precision_at(u64::from(type_byte / 16)),
+        metadata,
+        size: None,
+        from: 0,
+    };
+    let geometry = build(head, Shape::Point(Some(point.to)));
+    let used = HEADER_LEN + point.used;
+    Some(Made { used, geometry })
+}

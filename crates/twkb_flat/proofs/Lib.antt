@@ -1,0 +1,13 @@
+pub mod AdmitLemmas
+pub mod EntryLemmas
+pub mod FlatLaws
+pub mod FillLemmas
+pub mod GoingOn
+pub mod LinkLemmas
+pub mod NodeLemmas
+pub mod OpenRowLemmas
+pub mod PushLemmas
+pub mod RowLemmas
+pub mod ReadLemmas
+pub mod TakeLemmas
+pub mod BuildLemmas

@@ -1,0 +1,105 @@
+-- The row at a place, by its entry.
+use Rattle.std.proofs.Common.{◌≡◌, ℕ, ◌+◌, ◌-◌, ◌<◌, ◌≤◌, List, [], ◌∷◌, ◌++◌, map, length, take, drop, get_or, refl, sym, ap, ◌∙◌, subst, arith, eq-eqb}
+use Rattle.std.specs.Prelude.{IsTrue, ◌↔◌, ◌==◌}
+use Rattle.std.proofs.lemmas.List.{length-map, length-append, length-drop, get_or-map, take-append-drop, take_at, drop_at, drop_all}
+use Rattle.std.proofs.lemmas.Bool.{eqb-true}
+use Rattle.std.proofs.lemmas.Grind.{flat_map-append}
+use Rattle.twkb_points.specs.Point.{Point}
+use Rattle.twkb_geom.specs.Rows.{Row as TableRow, row_points}
+use Rattle.twkb_flat.specs.declared.entries.Span.{Span}
+use Rattle.twkb_flat.specs.declared.entries.Entry.{Entry}
+use Rattle.twkb_flat.specs.Rows.{row_with}
+use Rattle.twkb_flat.specs.Entries.{listed, Laid, span_of}
+use Rattle.twkb_flat.specs.Taking.{IsAt}
+use Rattle.twkb_geom.specs.Limits.{largest_limits}
+use Rattle.twkb_geom.specs.RowLists.{AreValidRowsOfOne}
+use Rattle.twkb_flat.proofs.FillLemmas.{no_deeper}
+use Rattle.twkb_flat.proofs.RowLemmas.{Here, row_at, flat_points, length-listed}
+
+-- the rows from a place on, by the entry there
+pub entry_here : (es : List Entry) (ps : List Point) (i : ℕ) (e : Entry) → Laid 0 (map span_of es) (length ps) → i < length es → e ≡ get_or es i e → Here 0 (map span_of es) ps i e.span
+entry_here es ps i e all_laid h is =
+    let inside : i < length (map span_of es) = rw length-map h in
+    let laid : Laid 0 (map span_of es) (0 + length ps) = subst (λ (n : ℕ). Laid 0 (map span_of es) n) (omega arith) all_laid in
+    let span : get_or (map span_of es) i e.span ≡ e.span = get_or-map span_of es i e e.span h ∙ sym (ap span_of is) in
+    subst (λ (s : Span). Here 0 (map span_of es) ps i s) span (row_at 0 (map span_of es) ps i e.span laid inside)
+
+-- one entry for each row
+pub length-rows : (es : List Entry) (ps : List Point) (rows : List TableRow) → listed (map span_of es) ps ≡ rows → length rows ≡ length es
+length-rows es ps rows view = ap length (sym view) ∙ length-listed (map span_of es) ps ∙ length-map es span_of
+
+-- the row at a place, from the rows there
+pub row_here : (es : List Entry) (ps : List Point) (i : ℕ) (e : Entry) (rows : List TableRow) (r : TableRow) (rest : List TableRow) → Laid 0 (map span_of es) (length ps) → listed (map span_of es) ps ≡ rows → i < length es → e ≡ get_or es i e → drop i rows ≡ r ∷ rest → row_with e.span.row r.points ≡ r
+row_here es ps i e rows r rest laid view h is at =
+    let here = entry_here es ps i e laid h is in
+    let both : row_with e.span.row here.own ∷ here.rest ≡ r ∷ rest = sym here.here ∙ ap (drop i) view ∙ at in
+    let same : row_with e.span.row here.own ≡ r = cc both in
+    subst (λ (q : TableRow). row_with e.span.row q.points ≡ q) same refl
+
+-- the points of the row at a place
+points_own : (es : List Entry) (ps : List Point) (i : ℕ) (e : Entry) → Laid 0 (map span_of es) (length ps) → (h : Here 0 (map span_of es) ps i e.span) → (before : List Point) × (after : List Point) × (length before ≡ e.span.first) × (before ++ (h.own ++ after) ≡ ps)
+points_own es ps i e laid h =
+    let rows = listed (map span_of es) ps in (
+      row_points (take i rows),
+      row_points h.rest,
+      omega (arith, h.first),
+      ap (λ (q : List TableRow). row_points (take i (listed (map span_of es) ps)) ++ row_points q) (sym h.here)
+          ∙ sym (flat_map-append (λ (r : TableRow). r.points) (take i (listed (map span_of es) ps)) (drop i (listed (map span_of es) ps)))
+          ∙ ap row_points (take-append-drop i (listed (map span_of es) ps))
+          ∙ flat_points (map span_of es) ps laid,
+    )
+
+-- they are within all points
+pub points_inside : (es : List Entry) (ps : List Point) (i : ℕ) (e : Entry) → Laid 0 (map span_of es) (length ps) → i < length es → e ≡ get_or es i e → e.span.first + e.span.points ≤ length ps
+points_inside es ps i e laid within is =
+    let h = entry_here es ps i e laid within is in
+    let own = points_own es ps i e laid h in
+    let own_list = h.own in
+    omega (arith, own.2, h.count, ap length own.3, length-append own.0 (h.own ++ own.1), length-append h.own own.1)
+
+-- a part of a list, taken from where it begins
+cut_out : (before own after ps : List Point) (first count : ℕ) → length before ≡ first → length own ≡ count → before ++ (own ++ after) ≡ ps → take count (drop first ps) ≡ own
+cut_out before own after ps first count f n e =
+    ap (λ (qs : List Point). take count (drop first qs)) (sym e) ∙ ap (take count) (drop_at before (own ++ after) first f) ∙ take_at own after count n
+
+-- the points of the row at a place, from the rows there
+pub points_here : (es : List Entry) (ps : List Point) (i : ℕ) (e : Entry) (rows : List TableRow) (r : TableRow) (rest : List TableRow) → Laid 0 (map span_of es) (length ps) → listed (map span_of es) ps ≡ rows → i < length es → e ≡ get_or es i e → drop i rows ≡ r ∷ rest
+    → take (e.span.first + e.span.points - e.span.first) (drop e.span.first ps) ≡ r.points
+points_here es ps i e rows r rest laid view within is at =
+    let h = entry_here es ps i e laid within is in
+    let own = points_own es ps i e laid h in
+    let both : row_with e.span.row h.own ∷ h.rest ≡ r ∷ rest = sym h.here ∙ ap (drop i) view ∙ at in
+    let same : row_with e.span.row h.own ≡ r = cc both in
+    let count : length h.own ≡ e.span.first + e.span.points - e.span.first = omega (arith, h.count) in
+    cut_out own.0 h.own own.1 ps e.span.first (e.span.first + e.span.points - e.span.first) own.2 count own.3 ∙ ap (λ (q : TableRow). q.points) same
+
+-- no row is deeper than 34
+pub shallow_here : (es : List Entry) (ps : List Point) (i : ℕ) (e : Entry) (rows : List TableRow) → AreValidRowsOfOne largest_limits (listed (map span_of es) ps) → Laid 0 (map span_of es) (length ps) → i < length es → e ≡ get_or es i e → e.span.row.depth < 35
+shallow_here es ps i e rows v laid within is =
+    let h = entry_here es ps i e laid within is in
+    let rows = listed (map span_of es) ps in
+    let split : take i rows ++ row_with e.span.row h.own ∷ h.rest ≡ rows = ap (λ (q : List TableRow). take i (listed (map span_of es) ps) ++ q) (sym h.here) ∙ take-append-drop i rows in
+    let most = no_deeper (take i rows) (row_with e.span.row h.own) h.rest (subst (AreValidRowsOfOne largest_limits) (sym split) v) in
+    omega (arith, most)
+
+-- ---- by the rows alone
+
+-- behind the last row there is none
+pub none_at : (rows : List TableRow) (i d : ℕ) → length rows ≤ i → IsAt d (drop i rows) → ⊥
+none_at rows i d past at = subst (IsAt d) (drop_all i rows past) at
+
+-- a row that is there is at its depth
+pub by_test : (rows : List TableRow) (i d k : ℕ) (r : TableRow) (rest : List TableRow) → drop i rows ≡ r ∷ rest → k ≡ r.depth → IsTrue (k == d) ↔ IsAt d (drop i rows)
+by_test rows i d k r rest here e = (
+  λ same. subst (IsAt d) (sym here) (sym e ∙ eqb-true k d same),
+  λ at. eq-eqb k d (e ∙ subst (IsAt d) here at),
+)
+
+-- the first of some rows, and the others
+first_of : (rows : List TableRow) → 0 < length rows → (r : TableRow) × (rest : List TableRow) × (rows ≡ r ∷ rest)
+first_of [] h = absurd (omega arith)
+first_of (r ∷ rest) h = (r, rest, refl)
+
+-- the row at a place within the rows
+pub some_at : (rows : List TableRow) (i : ℕ) → i < length rows → (r : TableRow) × (rest : List TableRow) × (drop i rows ≡ r ∷ rest)
+some_at rows i h = first_of (drop i rows) (omega (arith, length-drop i rows))

@@ -1,0 +1,17 @@
+-- The parts so far were taken, and the others stand at the place.
+use Rattle.std.proofs.Common.{List, length, drop}
+use Rattle.twkb_geom.specs.declared.kind.Kind.{Kind}
+use Rattle.twkb_geom.specs.Tree.{Ids}
+use Rattle.twkb_geom.specs.Rows.{Row}
+use Rattle.twkb_flat.specs.Parts.{part_rows}
+use Rattle.twkb_flat.specs.Taking.{EachAt, IsAny}
+use Rattle.twkb_flat.proofs.TakeLemmas.{Left}
+use Rattle.twkb_flat.proofs.building.take_each.Given as goal
+
+abbrev pub invariant-loop-alloc : goal.invariant-loop-alloc
+invariant-loop-alloc g l =
+    (kind : Kind) (ids : Ids) (parts : List g.row.T.Denot) (rest : List Row) → EachAt IsAny (part_rows g.T.Part.own g.T.Part.below kind l.depth) l.flat l.start l.depth ids parts rest
+    → Left IsAny (part_rows g.T.Part.own g.T.Part.below kind l.depth) l.flat ids parts rest l.at l.parts.items l.ids.items
+
+abbrev pub decreases-loop-alloc : goal.decreases-loop-alloc
+decreases-loop-alloc g l = length (drop l.at l.flat)

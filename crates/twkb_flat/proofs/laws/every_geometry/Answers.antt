@@ -1,0 +1,5 @@
+use Rattle.twkb_flat.proofs.FlatLaws.{each_goes_on}
+use Rattle.twkb_flat.proofs.laws.every_geometry.Goals as goal
+
+pub returns : goal.returns
+returns c = each_goes_on

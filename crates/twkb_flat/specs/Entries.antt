@@ -1,0 +1,49 @@
+-- The nodes as they are kept, and the rows that they stand for.
+use Rattle.std.specs.Prelude.{ℕ, ◌≡◌, ◌+◌, ◌≤◌, ◌^◌, List, [], ◌∷◌, map, length, slice_set, take, drop, reverse}
+use Rattle.twkb_points.specs.Point.{Point}
+use Rattle.twkb_geom.specs.declared.open_rows.OpenRow.{OpenRow}
+use Rattle.twkb_geom.specs.Limits.{largest_limits}
+use Rattle.twkb_geom.specs.Rows.{Row as TableRow}
+use Rattle.twkb_geom.specs.RowLists.{AreValidRowsOfOne}
+use Rattle.twkb_geom.specs.Open.{AreOpen}
+use Rattle.twkb_flat.specs.declared.entries.Span.{Span}
+use Rattle.twkb_flat.specs.declared.entries.Entry.{Entry}
+use Rattle.twkb_flat.specs.Rows.{row_with}
+use Rattle.twkb_flat.specs.Links.{Linked}
+
+-- its span
+abbrev pub span_of : Entry → Span
+span_of e = e.span
+
+-- its link
+abbrev pub next_of : Entry → ℕ
+next_of e = e.next
+
+-- how deep its row stands
+abbrev pub span_depth : Span → ℕ
+span_depth s = s.row.depth
+
+-- the links with each of these places set
+abbrev pub closed : List ℕ → List ℕ → ℕ → List ℕ
+closed nexts [] next = nexts
+closed nexts (at ∷ places) next = closed (slice_set nexts at next) places next
+
+-- the rows, each with its part of the points
+abbrev pub listed : List Span → List Point → List TableRow
+listed [] ps = []
+listed (s ∷ ss) ps = row_with s.row (take s.points ps) ∷ listed ss (drop s.points ps)
+
+-- each span begins where the one before it ends, and the last ends at `total`
+abbrev pub Laid : ℕ → List Span → ℕ → Type 0
+Laid at [] total = at ≡ total
+Laid at (s ∷ ss) total = (s.first ≡ at) × Laid (at + s.points) ss total
+
+-- Entries and points are kept so that they stand for the rows of one valid geometry, or for none.
+pub record IsFlat (entries : List Entry) (points : List Point) (spine : List ℕ) (open_rows : List OpenRow) (count : ℕ) : Type 0 where
+  pub laid : Laid 0 (map span_of entries) (length points)
+  pub linked : Linked (map span_depth (map span_of entries)) (map next_of entries) spine count
+  pub valid : AreValidRowsOfOne largest_limits (listed (map span_of entries) points)
+  pub opened : AreOpen (reverse (listed (map span_of entries) points)) (take count open_rows)
+  pub room : length open_rows ≡ 35
+  pub nodes : length entries ≤ 2 ^ 20
+  pub most : length points ≤ 2 ^ 24

@@ -1,0 +1,50 @@
+-- Where the rows of a part, of parts or of a geometry stand among the rows.
+use Rattle.std.specs.Prelude.{◌≡◌, ℕ, suc, ℤ, List, [], ◌∷◌, ◌++◌, length, drop, Option, None, Some, ⊤}
+use Rattle.std.specs.List.{AllByRecursion}
+use Rattle.twkb_geom.specs.Tree.{Ids, Tree, IsTree, HasIds, precision_of}
+use Rattle.twkb_geom.specs.Shape.{tree_of}
+use Rattle.twkb_geom.specs.declared.geometry.Shape.{Shape}
+use Rattle.twkb_geom.specs.Rows.{Row, rows_with, rows_of_each}
+use Rattle.twkb_geom.specs.RowLists.{IsAbove}
+
+-- there is a row, and the first stands at this depth
+abbrev pub IsAt : ℕ → List Row → Type 0
+IsAt d [] = ⊥
+IsAt d (r ∷ rs) = r.depth ≡ d
+
+-- the rows from a place on are those of one sound item at a depth with an id, and then others that are not below it
+pub record ItemAt {A : Type 0} (sound : A → Type 0) (f : Option ℤ → A → List Row) (rows : List Row) (at d : ℕ) (id : Option ℤ) (item : A) (rest : List Row) : Type 0 where
+  pub is_sound : sound item
+  pub behind : IsAbove (suc d) rest
+  pub here : drop at rows ≡ f id item ++ rest
+
+-- the rows from a place on are those of sound items at a depth with these ids, and then others that are above them
+pub record EachAt {A : Type 0} (sound : A → Type 0) (f : Option ℤ → A → List Row) (rows : List Row) (at d : ℕ) (ids : Ids) (items : List A) (rest : List Row) : Type 0 where
+  pub are_sound : AllByRecursion sound items
+  pub ids_fit : HasIds ids (length items)
+  pub behind : IsAbove d rest
+  pub here : drop at rows ≡ rows_of_each f ids items ++ rest
+
+-- any item
+abbrev pub IsAny : {A : Type 0} → A → Type 0
+IsAny item = ⊤
+
+-- the rows of a geometry at a depth stand at a place
+abbrev pub TreeAt : List Row → ℕ → ℕ → Option ℤ → Tree → List Row → Type 0
+TreeAt rows at d id g rest = ItemAt IsTree (λ i h. rows_with i d h) rows at d id g rest
+
+-- a precision and a shape are those of this geometry
+pub record AreOf (precision : Option ℤ) (shape : Shape) (g : Tree) : Type 0 where
+  pub sound : IsTree g
+  pub precision_is : precision ≡ Some (precision_of g)
+  pub shape_is : tree_of (precision_of g) shape ≡ g
+
+-- the ids in a list, where there are any
+abbrev pub ids_in : List ℤ → Ids
+ids_in [] = None
+ids_in (id ∷ ids) = Some (id ∷ ids)
+
+-- the id, if there is one
+abbrev pub id_list : Option ℤ → List ℤ
+id_list None = []
+id_list (Some id) = id ∷ []

@@ -1,0 +1,162 @@
+//! The geometry of a flat form, built from its rows.
+ghost use Rattle.std.specs.Prelude.{◌≡◌, [], ℕ, ℤ, List, Option, drop, IfOk, OnOk, ◌++◌};
+ghost use Rattle.twkb_geom.specs.declared.kind.Kind.{Kind};
+ghost use Rattle.twkb_geom.specs.Limits.{largest_limits, IsValid};
+ghost use Rattle.twkb_geom.specs.Shape.{tree_of};
+ghost use Rattle.twkb_geom.specs.Tree.{Ids, Tree, IsTree, precision_of};
+ghost use Rattle.twkb_geom.specs.Rows.{Row as TableRow, rows, rows_with};
+ghost use Rattle.twkb_flat.specs.Parts.{part_rows};
+ghost use Rattle.twkb_flat.specs.Taking.{TreeAt, EachAt, IsAny, AreOf, ids_in, id_list};
+
+use crate::flat::Flat;
+use crate::parts::Part;
+use std::alloc::{AllocError, Global};
+use twkb_geom::{Geometry, IdList, Ids, Items, Kind, Members, Pts, Shape};
+
+impl Flat {
+    /// The geometry of these rows, of which there is at least one. Takes memory for each list in
+    /// it, and answers `AllocError` only where a growth was refused.
+    pub fn to_geometry(&self, alloc: Global) -> Result<Geometry, AllocError>
+        requires { ¬ (self.now ≡ []) }
+        ensures rows { IfOk result (λ g. rows 0 g ≡ self.now) }
+        ensures valid { IfOk result (λ g. IsValid largest_limits g) }
+    {
+        self.is_empty();
+        let (geometry, _next) = take_geometry(self, alloc, 0)?;
+        Ok(geometry)
+    }
+}
+
+/// The geometry whose rows stand at a place, and the place after them.
+#[cycle(building)]
+fn take_geometry(flat: &Flat, alloc: Global, at: usize) -> Result<(Geometry, usize), AllocError>
+    requires { (d : ℕ) × (id : Option ℤ) × (g : Tree) × (rest : List TableRow) × TreeAt flat.now at d id g rest }
+    ensures { (d : ℕ) (id : Option ℤ) (g : Tree) (rest : List TableRow) → TreeAt flat.now at d id g rest → IfOk result (λ taken. (taken.0 ≡ g) × (drop taken.1 flat.now ≡ rest)) }
+{
+    let precision = flat.row(at).precision;
+    let (shape, next) = take_shape(flat, alloc, at)?;
+    Ok((made_of(precision, shape), next))
+}
+
+/// The geometry of a precision and a shape.
+fn made_of(precision: Option<i8>, shape: Shape) -> Geometry
+    requires { (g : Tree) × AreOf precision shape g }
+    ensures { (g : Tree) → AreOf precision shape g → result ≡ g }
+{
+    let Some(precision) = precision else {
+        unreachable!()
+    };
+    match Geometry::try_new(precision, shape) {
+        Ok(geometry) => geometry,
+        Err(_) => unreachable!(),
+    }
+}
+
+/// The shape of the geometry whose rows stand at a place, and the place after them.
+#[cycle(building)]
+fn take_shape(flat: &Flat, alloc: Global, at: usize) -> Result<(Shape, usize), AllocError>
+    requires { (d : ℕ) × (id : Option ℤ) × (g : Tree) × (rest : List TableRow) × TreeAt flat.now at d id g rest }
+    ensures { (d : ℕ) (id : Option ℤ) (g : Tree) (rest : List TableRow) → TreeAt flat.now at d id g rest → IfOk result (λ taken. (tree_of (precision_of g) taken.0 ≡ g) × (drop taken.1 flat.now ≡ rest)) }
+{
+    let row = flat.row(at);
+    let below = at + 1;
+    let depth = row.depth + 1;
+    match row.kind {
+        Kind::Point => {
+            let point = flat.own_points(at).first().copied();
+            Ok((Shape::Point(point), below))
+        }
+        Kind::Linestring => {
+            let points = Vec::from_slice(alloc, flat.own_points(at))?;
+            Ok((Shape::Line(Pts::from_vec(points)), below))
+        }
+        Kind::Polygon => {
+            let (rings, _ids, next) = take_each(flat, alloc, below, depth)?;
+            Ok((Shape::Polygon(rings), next))
+        }
+        Kind::MultiPoint => {
+            let (points, ids, next) = take_each(flat, alloc, below, depth)?;
+            Ok((Shape::MultiPoint(points, ids), next))
+        }
+        Kind::MultiLinestring => {
+            let (lines, ids, next) = take_each(flat, alloc, below, depth)?;
+            Ok((Shape::MultiLine(lines, ids), next))
+        }
+        Kind::MultiPolygon => {
+            let (areas, ids, next) = take_each(flat, alloc, below, depth)?;
+            Ok((Shape::MultiPolygon(areas, ids), next))
+        }
+        Kind::Collection => {
+            let (members, ids, next) = take_members(flat, alloc, below, depth)?;
+            Ok((Shape::Collection(members, ids), next))
+        }
+        Kind::Ring => unreachable!(),
+    }
+}
+
+/// The geometries whose rows stand at a place, as many as follow at this depth; their ids, and the
+/// place after them.
+#[cycle(building)]
+fn take_members(
+    flat: &Flat,
+    alloc: Global,
+    start: usize,
+    depth: u32,
+) -> Result<(Members, Ids, usize), AllocError>
+    requires { (ids : Ids) × (gs : List Tree) × (rest : List TableRow) × EachAt IsTree (λ id g. rows_with id depth g) flat.now start depth ids gs rest }
+    ensures { (ids : Ids) (gs : List Tree) (rest : List TableRow) → EachAt IsTree (λ id g. rows_with id depth g) flat.now start depth ids gs rest → IfOk result (λ taken. (taken.0 ≡ gs) × (taken.1 ≡ ids) × (drop taken.2 flat.now ≡ rest)) }
+{
+    let mut members = Vec::new(alloc);
+    let mut ids = Vec::new(alloc);
+    let mut at = start;
+    while flat.is_at(at, depth) {
+        push_id(&mut ids, flat.row(at).id)?;
+        let (member, next) = take_geometry(flat, alloc, at)?;
+        members.push(member)?;
+        at = next;
+    }
+    Ok((Members::from_vec(members), found_ids(ids), at))
+}
+
+/// The parts whose rows stand at a place, as many as follow at this depth; their ids, and the place
+/// after them.
+pub fn take_each<T: Part>(
+    flat: &Flat,
+    alloc: Global,
+    start: usize,
+    depth: u32,
+) -> Result<(Items<T>, Ids, usize), AllocError>
+    requires { (kind : Kind) × (ids : Ids) × (parts : List T) × (rest : List TableRow) × EachAt IsAny (part_rows T.own T.below kind depth) flat.now start depth ids parts rest }
+    ensures { (kind : Kind) (ids : Ids) (parts : List T) (rest : List TableRow) → EachAt IsAny (part_rows T.own T.below kind depth) flat.now start depth ids parts rest → IfOk result (λ taken. (taken.0 ≡ parts) × (taken.1 ≡ ids) × (drop taken.2 flat.now ≡ rest)) }
+{
+    let mut parts = Vec::new(alloc);
+    let mut ids = Vec::new(alloc);
+    let mut at = start;
+    while flat.is_at(at, depth) {
+        push_id(&mut ids, flat.row(at).id)?;
+        let (part, next) = T::take(flat, alloc, at)?;
+        parts.push(part)?;
+        at = next;
+    }
+    Ok((Items::from_vec(parts), found_ids(ids), at))
+}
+
+/// Appends the id, if there is one.
+fn push_id(ids: &mut Vec<i64>, id: Option<i64>) -> Result<(), AllocError>
+    ensures { OnOk result (ids.new.items ≡ ids.old.items ++ id_list id) }
+{
+    if let Some(id) = id {
+        ids.push(id)?;
+    }
+    Ok(())
+}
+
+/// The ids, where there are any.
+fn found_ids(ids: Vec<i64>) -> Ids
+    ensures { result ≡ ids_in ids.items }
+{
+    if ids.is_empty() {
+        return None;
+    }
+    Some(IdList::from_vec(ids))
+}

@@ -1,0 +1,43 @@
+//! Nodes as they are kept.
+ghost use Rattle.std.specs.Prelude.{◌≡◌, ◌<◌, ◌≤◌, ◌-◌, ℕ, length, map, take, drop, slice_set, slice_index};
+ghost use Rattle.twkb_flat.specs.Entries.{span_of, next_of, closed};
+
+use crate::node::Row;
+
+/// A row and where its own points are.
+#[derive(Clone, Copy, Debug)]
+pub struct Span {
+    pub row: Row,
+    pub first: u32,
+    pub points: u32,
+}
+
+/// A span, and the node after its subtree, or 0 while all rows after it are below it.
+#[derive(Clone, Copy, Debug)]
+pub struct Entry {
+    pub span: Span,
+    pub next: u32,
+}
+
+/// Says where the subtree of one node ends.
+pub fn close(entries: &mut [Entry], at: u32, next: u32)
+    requires { at < length entries.old }
+    ensures spans { map span_of entries.new ≡ map span_of entries.old }
+    ensures nexts { map next_of entries.new ≡ slice_set (map next_of entries.old) at next }
+{
+    let entry = &mut entries[at as usize];
+    entry.next = next;
+}
+
+/// Says where the subtrees of the nodes at `spine[from..to]` end.
+pub fn close_all(entries: &mut [Entry], spine: &[u32], from: usize, to: usize, next: u32)
+    requires range { from ≤ to }
+    requires room { to ≤ length spine.now }
+    requires below { (k : ℕ) → k < to → slice_index spine.now k < length entries.old }
+    ensures spans { map span_of entries.new ≡ map span_of entries.old }
+    ensures nexts { map next_of entries.new ≡ closed (map next_of entries.old) (take (to - from) (drop from spine.now)) next }
+{
+    for at in &spine[from..to] {
+        close(entries, *at, next);
+    }
+}

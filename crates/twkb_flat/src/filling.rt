@@ -1,0 +1,127 @@
+//! A geometry's rows appended to the flat form.
+ghost use Rattle.std.specs.Prelude.{◌≡◌, ◌++◌, OnOk, IfOk};
+ghost use Rattle.twkb_geom.specs.Limits.{largest_limits, IsValid};
+ghost use Rattle.twkb_geom.specs.Tree.{trees};
+ghost use Rattle.twkb_geom.specs.Rows.{rows, rows_with, rows_under, own_row, member_rows, rows_of_each};
+ghost use Rattle.twkb_geom.specs.RowLists.{AreValidRowsOfOne};
+ghost use Rattle.twkb_flat.specs.Parts.{part_rows};
+ghost use Rattle.twkb_flat.specs.Rows.{row_with};
+
+use crate::flat::Flat;
+use crate::node::Row;
+use crate::parts::Part;
+use std::alloc::{AllocError, Global};
+use twkb_geom::{Geometry, Ids, Kind, Members, Shape, id_at, own_parts};
+use twkb_points::Pt;
+
+impl Flat {
+    /// The rows of a geometry that is within `Limits::largest()`. Takes memory, and answers
+    /// `AllocError` only where a growth was refused.
+    pub fn from_geometry(alloc: Global, geometry: &Geometry) -> Result<Flat, AllocError>
+        requires { IsValid largest_limits geometry.now }
+        ensures { IfOk result (λ flat. flat ≡ rows 0 geometry.now) }
+    {
+        let mut flat = Flat::new(alloc);
+        push_geometry(geometry, 0, None, &mut flat)?;
+        Ok(flat)
+    }
+}
+
+/// Appends the rows of a geometry, which has this id and stands at this depth.
+#[cycle(filling)]
+fn push_geometry(
+    geometry: &Geometry,
+    depth: u32,
+    id: Option<i64>,
+    flat: &mut Flat,
+) -> Result<(), AllocError>
+    requires { AreValidRowsOfOne largest_limits (flat.old ++ rows_with id depth geometry.now) }
+    ensures { OnOk result (flat.new ≡ flat.old ++ rows_with id depth geometry.now) }
+{
+    let (row, points) = own_row(geometry, depth, id);
+    flat.push(row, points)?;
+    let below = depth + 1;
+    push_under(geometry, below, flat)
+}
+
+/// The row of the geometry itself, and its points.
+fn own_row(geometry: &Geometry, depth: u32, id: Option<i64>) -> (Row, &[Pt])
+    ensures { row_with result.0 result.1.now ≡ own_row id depth geometry.now }
+{
+    let (kind, points) = own_parts(geometry.shape());
+    let precision = Some(geometry.precision());
+    let row = Row {
+        depth,
+        kind,
+        id,
+        precision,
+    };
+    (row, points)
+}
+
+/// Appends the rows of a geometry but for its own, the first of them at this depth.
+#[cycle(filling)]
+fn push_under(geometry: &Geometry, depth: u32, flat: &mut Flat) -> Result<(), AllocError>
+    requires { AreValidRowsOfOne largest_limits (flat.old ++ rows_under depth geometry.now) }
+    ensures { OnOk result (flat.new ≡ flat.old ++ rows_under depth geometry.now) }
+{
+    match geometry.shape() {
+        Shape::Point(_) | Shape::Line(_) => Ok(()),
+        Shape::Polygon(rings) => push_each(Kind::Ring, depth, rings.as_slice(), &None, flat),
+        Shape::MultiPoint(points, ids) => {
+            push_each(Kind::Point, depth, points.as_slice(), ids, flat)
+        }
+        Shape::MultiLine(lines, ids) => {
+            push_each(Kind::Linestring, depth, lines.as_slice(), ids, flat)
+        }
+        Shape::MultiPolygon(areas, ids) => {
+            push_each(Kind::Polygon, depth, areas.as_slice(), ids, flat)
+        }
+        Shape::Collection(members, ids) => push_members(members, depth, ids, flat),
+    }
+}
+
+/// Appends the rows of the members of a collection, with these ids and at this depth.
+#[cycle(filling)]
+#[tactic(auto, using(twkb_geom::specs::Size::member_smaller))]
+fn push_members(members: &Members, depth: u32, ids: &Ids, flat: &mut Flat) -> Result<(), AllocError>
+    requires { AreValidRowsOfOne largest_limits (flat.old ++ member_rows depth ids.now (trees members.now)) }
+    ensures { OnOk result (flat.new ≡ flat.old ++ member_rows depth ids.now (trees members.now)) }
+{
+    let mut index = 0;
+    for member in members.as_slice() {
+        let id = id_at(ids, index);
+        push_geometry(member, depth, id, flat)?;
+        index += 1;
+    }
+    Ok(())
+}
+
+/// Appends the rows of parts, with these ids and at this depth.
+pub fn push_each<T: Part>(
+    kind: Kind,
+    depth: u32,
+    parts: &[T],
+    ids: &Ids,
+    flat: &mut Flat,
+) -> Result<(), AllocError>
+    requires { AreValidRowsOfOne largest_limits (flat.old ++ rows_of_each (part_rows T.own T.below kind depth) ids.now parts.now) }
+    ensures { OnOk result (flat.new ≡ flat.old ++ rows_of_each (part_rows T.own T.below kind depth) ids.now parts.now) }
+{
+    let mut index = 0;
+    for part in parts {
+        let id = id_at(ids, index);
+        flat.push(
+            Row {
+                depth,
+                kind,
+                id,
+                precision: None,
+            },
+            part.own_points(),
+        )?;
+        part.push_below(depth + 1, flat)?;
+        index += 1;
+    }
+    Ok(())
+}

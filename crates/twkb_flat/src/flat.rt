@@ -1,0 +1,181 @@
+//! The flat form of one geometry.
+ghost use Rattle.std.specs.Prelude.{◌≡◌, ◌↔◌, ◌+◌, ◌<◌, ◌++◌, ◌∷◌, [], length, slice_get, Some, OnOk, OnErr, IsTrue};
+ghost use Rattle.twkb_geom.specs.Tree.{saturated};
+ghost use Rattle.twkb_geom.specs.Limits.{largest_limits};
+ghost use Rattle.twkb_geom.specs.Rows.{row_points};
+ghost use Rattle.twkb_geom.specs.Accepted.{Continues};
+ghost use Rattle.twkb_geom.specs.RowLists.{AreValidRowsOfOne};
+ghost use Rattle.twkb_flat.specs.Rows.{IsNode, row_with};
+
+use crate::admitting::{admits_under, open_row};
+use crate::entries::{Entry, Span, close_all};
+use crate::node::{Node, NodeId, PointId, Row};
+use crate::work::Work;
+use std::alloc::{AllocError, Global};
+use std::marker::Model;
+use twkb_geom::{Kind, OpenRow};
+use twkb_points::Pt;
+
+/// How many depths a row of a geometry within `Limits::largest()` may have: a root, a member in 32
+/// collections, its parts and their rings.
+const LEVELS: usize = 35;
+
+/// One geometry within `Limits::largest()`, or none: its rows in preorder, and the points of all
+/// rows one after another. A contract sees the list of its rows, each with its own points.
+#[derive(Drop)]
+pub struct Flat {
+    /// The nodes in preorder.
+    pub(crate) entries: Vec<Entry>,
+    /// The points of all rows.
+    pub(crate) points: Vec<Pt>,
+    /// Which row is open at each depth.
+    spine: [u32; LEVELS],
+    /// What the test of the next row asks of the open rows.
+    open_rows: [OpenRow; LEVELS],
+    /// How many rows are open.
+    levels: u32,
+}
+
+impl Model for Flat {
+    ghost use Rattle.std.specs.Prelude.{List, map};
+    ghost use Rattle.twkb_geom.specs.Rows.{Row as TableRow};
+
+    ghost Value = { List TableRow };
+
+    ghost use Rattle.twkb_flat.specs.Entries.{IsFlat, listed, span_of};
+
+    ghost view = { λ f. listed (map span_of f.entries.items) f.points.items };
+
+    ghost invariant = { λ f. IsFlat f.entries.items f.points.items f.spine f.open_rows f.levels };
+}
+
+impl Flat {
+    /// No rows. Takes no memory.
+    pub fn new(alloc: Global) -> Flat
+        ensures { result ≡ [] }
+    {
+        let blank = OpenRow {
+            kind: Kind::Point,
+            child_ids: None,
+        };
+        Flat {
+            entries: Vec::new(alloc),
+            points: Vec::new(alloc),
+            spine: [0; LEVELS],
+            open_rows: [blank; LEVELS],
+            levels: 0,
+        }
+    }
+
+    /// Forgets all rows, and keeps their room for others. Takes no memory.
+    pub fn clear(&mut self)
+        ensures { self.new ≡ [] }
+    {
+        self.entries.clear();
+        self.points.clear();
+        self.levels = 0;
+    }
+
+    /// How many nodes there are, 0 to 2^20. Takes no memory.
+    pub fn node_count(&self) -> u32
+        ensures value { result ≡ length self.now }
+        ensures sound { AreValidRowsOfOne largest_limits self.now }
+    {
+        self.entries.len() as u32
+    }
+
+    /// How many points there are, 0 to 2^24. Takes no memory.
+    pub fn point_count(&self) -> u32
+        ensures { result ≡ length (row_points self.now) }
+    {
+        self.points.len() as u32
+    }
+
+    /// Whether there is no node. Takes no memory.
+    pub fn is_empty(&self) -> bool
+        ensures value { IsTrue result ↔ (self.now ≡ []) }
+        ensures sound { AreValidRowsOfOne largest_limits self.now }
+    {
+        self.entries.is_empty()
+    }
+
+    /// Whether the row with these points of its own may be pushed: it is a root where there is no
+    /// row yet, and else goes on with the geometry, by the rules of the table and within
+    /// `Limits::largest()` (profile). Takes no memory.
+    pub fn admits(&self, row: &Row, points: &[Pt]) -> bool
+        ensures { IsTrue result ↔ Continues largest_limits self.now (row_with row.now points.now) }
+    {
+        admits_under(
+            &self.open_rows,
+            self.levels,
+            self.node_count(),
+            self.point_count(),
+            row,
+            points,
+        )
+    }
+
+    /// Appends a row with these points of its own, which `admits` admits. Takes memory; an `Err`
+    /// changes nothing.
+    pub fn push(&mut self, row: Row, points: &[Pt]) -> Result<(), AllocError>
+        requires { Continues largest_limits self.old (row_with row points.now) }
+        ensures pushed { OnOk result (self.new ≡ self.old ++ row_with row points.now ∷ []) }
+        ensures same { OnErr result (self.new ≡ self.old) }
+    {
+        let next = self.entries.len() as u32;
+        let first = self.points.len() as u32;
+        let span = Span {
+            row,
+            first,
+            points: points.len() as u32,
+        };
+        self.points.extend_from_slice(points)?;
+        if let Err(refused) = self.entries.push(Entry { span, next: 0 }) {
+            self.points.truncate(first as usize);
+            return Err(refused.into());
+        }
+        let depth = row.depth as usize;
+        close_all(
+            &mut self.entries,
+            &self.spine,
+            depth,
+            self.levels as usize,
+            next,
+        );
+        self.spine[depth] = next;
+        open_row(&mut self.open_rows, &row);
+        self.levels = row.depth + 1;
+        Ok(())
+    }
+
+    /// The node at a place, counted as one read. Takes no memory.
+    pub fn node(&self, id: NodeId, work: &mut Work) -> Node
+        requires { id.0 < length self.now }
+        ensures node { IsNode self.now id.0 result }
+        ensures counted { work.new ≡ record work.old { node_reads = saturated (work.old.node_reads + 1) } }
+    {
+        work.count_node();
+        let entry = self.entries[id.0 as usize];
+        let next = if entry.next == 0 {
+            self.node_count()
+        } else {
+            entry.next
+        };
+        Node {
+            row: entry.span.row,
+            next: NodeId(next),
+            first: PointId(entry.span.first),
+            points: entry.span.points,
+        }
+    }
+
+    /// The point at a place, counted as one read. Takes no memory.
+    pub fn point(&self, id: PointId, work: &mut Work) -> Pt
+        requires { id.0 < length (row_points self.now) }
+        ensures point { slice_get (row_points self.now) id.0 ≡ Some result }
+        ensures counted { work.new ≡ record work.old { point_reads = saturated (work.old.point_reads + 1) } }
+    {
+        work.count_point();
+        self.points[id.0 as usize]
+    }
+}

@@ -1,0 +1,20 @@
+//! The flat form of a geometry: its rows in preorder, and their points in one list.
+#![tactic(auto)]
+
+mod admitting;
+mod building;
+mod entries;
+mod filling;
+mod flat;
+pub mod laws;
+mod node;
+mod parts;
+mod reading;
+mod work;
+
+pub use flat::Flat;
+pub use node::{Node, NodeId, PointId, Row};
+pub use work::Work;
+
+#[cfg(test)]
+mod tests;

@@ -1,0 +1,98 @@
+//! Parts of geometries that are no geometries of their own: points, lines, rings and polygons.
+ghost use Rattle.std.specs.Prelude.{◌≡◌, ◌++◌, ◌∷◌, [], ℕ, ℤ, List, Option, drop, OnOk, IfOk};
+ghost use Rattle.twkb_points.specs.Point.{Point};
+ghost use Rattle.twkb_geom.specs.Limits.{largest_limits};
+ghost use Rattle.twkb_geom.specs.Rows.{Row as TableRow, ring_rows};
+ghost use Rattle.twkb_geom.specs.RowLists.{AreValidRowsOfOne};
+ghost use Rattle.twkb_geom.specs.declared.kind.Kind.{Kind};
+ghost use Rattle.twkb_flat.specs.Parts.{part_rows};
+ghost use Rattle.twkb_flat.specs.Taking.{ItemAt, IsAny};
+
+use crate::building::take_each;
+use crate::filling::push_each;
+use crate::flat::Flat;
+use std::alloc::{AllocError, Global};
+use std::slice::from_ref;
+use twkb_geom::{Item, Kind, Lines, Pts};
+use twkb_points::Pt;
+
+/// What a multi or a polygon has as members or rings.
+pub trait Part: Item {
+    // The points of its own row.
+    ghost own: { Self → List Point };
+
+    // The rows below its own, the first of them at a depth.
+    ghost below: { ℕ → Self → List TableRow };
+
+    /// The points of its own row. Takes no memory.
+    fn own_points(&self) -> &[Pt]
+        ensures { result.now ≡ own self.now };
+
+    /// Appends the rows below its own, at this depth.
+    fn push_below(&self, depth: u32, flat: &mut Flat) -> Result<(), AllocError>
+        requires valid { AreValidRowsOfOne largest_limits (flat.old ++ below depth self.now) }
+        ensures { OnOk result (flat.new ≡ flat.old ++ below depth self.now) };
+
+    /// The part whose rows stand at a place, and the place after them.
+    fn take(flat: &Flat, alloc: Global, at: usize) -> Result<(Self, usize), AllocError>
+        requires stands { (kind : Kind) × (d : ℕ) × (id : Option ℤ) × (part : Self) × (rest : List TableRow) × ItemAt IsAny (part_rows own below kind d) flat.now at d id part rest }
+        ensures { (kind : Kind) (d : ℕ) (id : Option ℤ) (part : Self) (rest : List TableRow) → ItemAt IsAny (part_rows own below kind d) flat.now at d id part rest → IfOk result (λ taken. (taken.0 ≡ part) × (drop taken.1 flat.now ≡ rest)) };
+}
+
+impl Part for Pt {
+    ghost own = { λ point. point ∷ [] };
+
+    ghost below = { λ depth point. [] };
+
+    fn own_points(&self) -> &[Pt] {
+        from_ref(self)
+    }
+
+    fn push_below(&self, _depth: u32, _flat: &mut Flat) -> Result<(), AllocError> {
+        Ok(())
+    }
+
+    fn take(flat: &Flat, _alloc: Global, at: usize) -> Result<(Pt, usize), AllocError> {
+        let point = flat.own_points(at)[0];
+        Ok((point, at + 1))
+    }
+}
+
+impl Part for Pts {
+    ghost own = { λ points. points };
+
+    ghost below = { λ depth points. [] };
+
+    fn own_points(&self) -> &[Pt] {
+        self.as_slice()
+    }
+
+    fn push_below(&self, _depth: u32, _flat: &mut Flat) -> Result<(), AllocError> {
+        Ok(())
+    }
+
+    fn take(flat: &Flat, alloc: Global, at: usize) -> Result<(Pts, usize), AllocError> {
+        let points = Vec::from_slice(alloc, flat.own_points(at))?;
+        Ok((Pts::from_vec(points), at + 1))
+    }
+}
+
+impl Part for Lines {
+    ghost own = { λ rings. [] };
+
+    ghost below = { ring_rows };
+
+    fn own_points(&self) -> &[Pt] {
+        &[]
+    }
+
+    fn push_below(&self, depth: u32, flat: &mut Flat) -> Result<(), AllocError> {
+        push_each(Kind::Ring, depth, self.as_slice(), &None, flat)
+    }
+
+    fn take(flat: &Flat, alloc: Global, at: usize) -> Result<(Lines, usize), AllocError> {
+        let row = flat.row(at);
+        let (rings, _ids, next) = take_each(flat, alloc, at + 1, row.depth + 1)?;
+        Ok((rings, next))
+    }
+}

@@ -1,0 +1,45 @@
+//! Counted work.
+ghost use Rattle.std.specs.Prelude.{◌≡◌, ◌+◌};
+ghost use Rattle.twkb_geom.specs.Tree.{saturated};
+
+/// What was measured and read, each number at most `u64::MAX`.
+#[derive(Clone, Copy, Debug, PartialEq, Eq)]
+pub struct Work {
+    /// Points of the flat forms that were measured.
+    pub points: u64,
+    /// Their nodes.
+    pub nodes: u64,
+    /// Their TWKB geometries: the rows that have a header of their own.
+    pub entries: u64,
+    /// How often a point was read.
+    pub point_reads: u64,
+    /// How often a node was read.
+    pub node_reads: u64,
+}
+
+impl Work {
+    /// No work. Takes no memory.
+    pub fn new() -> Work
+        ensures { result ≡ record { points = 0; nodes = 0; entries = 0; point_reads = 0; node_reads = 0 } }
+    {
+        Work {
+            points: 0,
+            nodes: 0,
+            entries: 0,
+            point_reads: 0,
+            node_reads: 0,
+        }
+    }
+
+    pub(crate) fn count_node(&mut self)
+        ensures { self.new ≡ record self.old { node_reads = saturated (self.old.node_reads + 1) } }
+    {
+        self.node_reads = self.node_reads.saturating_add(1);
+    }
+
+    pub(crate) fn count_point(&mut self)
+        ensures { self.new ≡ record self.old { point_reads = saturated (self.old.point_reads + 1) } }
+    {
+        self.point_reads = self.point_reads.saturating_add(1);
+    }
+}

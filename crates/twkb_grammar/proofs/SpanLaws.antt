@@ -1,0 +1,69 @@
+-- A blob has a span for each geometry, the first covers it, and its bytes have one list of spans.
+use Rattle.std.proofs.Common.{Bool, true, false, ◌≡◌, ℕ, suc, ◌+◌, List, [], ◌++◌, length, refl, sym, ap, ◌∙◌, subst, length-append, Some, None}
+use Rattle.std.proofs.lemmas.Bool.{false≢true}
+use Rattle.twkb_geom.specs.Tree.{Tree, simple, collection, Trees, end, ◌▷◌, count, flat, precision_of}
+use Rattle.twkb_geom.specs.Limits.{Allowance}
+use Rattle.twkb_grammar.specs.Bits.{bit}
+use Rattle.twkb_grammar.specs.Roles.{Item, join}
+use Rattle.twkb_grammar.specs.Items.{Follow, BodyAt, Agrees, flags_all, Items, ItemsOfAll}
+use Rattle.twkb_grammar.specs.Blob.{Blob}
+use Rattle.twkb_grammar.specs.Machine.{Finished, nothing, started, Runs}
+use Rattle.twkb_grammar.specs.Spans.{behind, spans, spans_of_all, spans_of_blob, geometries, geometries_of_all, CoversBlob}
+use Rattle.twkb_grammar.specs.Noting.{no_notes, noted}
+use Rattle.twkb_grammar.proofs.Trees.{tree_runs}
+use Rattle.twkb_grammar.proofs.TwoFronts.{Compared, longer, shorter, same, two_fronts, none_beyond}
+use Rattle.twkb_grammar.proofs.NotedSpans.{blob_noted}
+
+below_many : (First : List Item → Type 0) (level offset : ℕ) (ids : Rattle.twkb_geom.specs.Tree.Ids) (gs : Trees) (meta : ℕ) → Agrees (flags_all ids gs) meta
+    → ((o : ℕ) (js : List Item) (h : ItemsOfAll level gs js) → length (spans_of_all level o gs js h) ≡ geometries_of_all gs)
+    → (b : Bool) → bit meta 4 ≡ b → (body : List Item) (h : BodyAt b (Follow First (ItemsOfAll level gs)) body)
+    → length (behind First (ItemsOfAll level gs) offset (λ o js h. spans_of_all level o gs js h) b body h) ≡ geometries_of_all gs
+below_many First level offset ids end meta agrees each true bare body h = refl
+below_many First level offset None (g ▷ gs) meta agrees each true bare body h = absurd (false≢true (sym agrees.0 ∙ bare))
+below_many First level offset (Some ids) (g ▷ gs) meta agrees each true bare body h = absurd (false≢true (sym agrees.0 ∙ bare))
+below_many First level offset ids gs meta agrees each false full body h = each (offset + length (join h.front)) h.rest h.second
+
+mutual
+  -- there is a span for each geometry
+  pub spans_many : (g : Tree) (level offset : ℕ) (is : List Item) (f : Items level g is) → length (spans level offset g is f) ≡ geometries g
+  spans_many (simple p s) level offset is f = refl
+  spans_many (collection p ids gs) level offset is f =
+      ap suc (below_many _ (suc level) _ ids gs f.meta f.agrees (λ o js h. all_many gs (suc level) o js h) (bit f.meta 4) refl f.body f.body_is)
+
+  all_many : (gs : Trees) (level offset : ℕ) (is : List Item) (h : ItemsOfAll level gs is) → length (spans_of_all level offset gs is h) ≡ geometries_of_all gs
+  all_many end level offset is h = refl
+  all_many (g ▷ gs) level offset is h =
+      length-append (spans level offset g h.front h.first) (spans_of_all level (offset + length (join h.front)) gs h.rest h.second)
+      ∙ (ap (λ n. n + length (spans_of_all level (offset + length (join h.front)) gs h.rest h.second)) (spans_many g level offset h.front h.first)
+      ∙ ap (λ n. geometries g + n) (all_many gs level (offset + length (join h.front)) h.rest h.second))
+
+-- also of a blob
+pub blob_many : (limits : Allowance) (bytes : List ℕ) (g : Tree) (start : ℕ) (b : Blob limits bytes g) → length (spans_of_blob start b) ≡ geometries g
+blob_many limits bytes g start b = spans_many g 0 start b.items b.are_items
+
+whole_first : (g : Tree) (start : ℕ) (is : List Item) (f : Items 0 g is) → CoversBlob start (join is) g (spans 0 start g is f)
+whole_first (simple p s) start is f = record { meta = f.meta; more = []; first = refl }
+whole_first (collection p ids gs) start is f = record { meta = f.meta; more = _; first = refl }
+
+-- the first span is that of the blob
+pub blob_first : (limits : Allowance) (bytes : List ℕ) (g : Tree) (start : ℕ) (b : Blob limits bytes g) → CoversBlob start bytes g (spans_of_blob start b)
+blob_first limits bytes g start b = subst (λ l. CoversBlob start l g (spans_of_blob start b)) b.spelled (whole_first g start b.items b.are_items)
+
+-- the bytes tell the spans
+pub one_list : (limits : Allowance) (bytes : List ℕ) (g : Tree) (start : ℕ) (a b : Blob limits bytes g) → spans_of_blob start a ≡ spans_of_blob start b
+one_list limits bytes g start a b = ap (λ w. w.spans) (sym (blob_noted limits bytes g start a) ∙ (ap (λ l. noted start nothing no_notes l) (go (two_fronts a.items b.items nothing started ([], Finished g) ([], Finished g) [] [] first second at))
+    ∙ blob_noted limits bytes g start b))
+  where
+    first : Runs nothing started a.items ([], Finished g)
+    first = tree_runs g [] nothing a.items a.valid.tree a.are_items
+
+    second : Runs nothing started b.items ([], Finished g)
+    second = tree_runs g [] nothing b.items b.valid.tree b.are_items
+
+    at : join a.items ++ [] ≡ join b.items ++ []
+    at = ap (λ l. l ++ []) (a.spelled ∙ sym b.spelled)
+
+    go : Compared a.items b.items → a.items ≡ b.items
+    go (longer n) = absurd (none_beyond b.items a.items g ([], Finished g) second first n)
+    go (shorter n) = absurd (none_beyond a.items b.items g ([], Finished g) first second n)
+    go (same e) = e

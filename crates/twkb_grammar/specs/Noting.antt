@@ -1,0 +1,107 @@
+-- A reader that notes the spans of a blob as its items come.
+-- It is what the code of such a reader is proved against, and no part of the format; the law `noting` joins it to the spans of blobs.
+use Rattle.std.specs.Prelude.{⊤, ℕ, zero, suc, ◌+◌, ◌-◌, ◌/◌, ◌%◌, List, [], ◌∷◌, ◌++◌, length}
+use Rattle.twkb_num.specs.Zigzag.{unzigzag_of}
+use Rattle.twkb_geom.specs.declared.kind.Kind.{Kind}
+use Rattle.twkb_geom.specs.declared.kind.Kind.TheVariants as kind
+use Rattle.twkb_geom.specs.Tree.{Tree}
+use Rattle.twkb_geom.specs.Limits.{Allowance}
+use Rattle.twkb_grammar.specs.Roles.{Role, Header, Metadata, End, Item}
+use Rattle.twkb_grammar.specs.Machine as machine
+use Rattle.twkb_grammar.specs.Machine.{SimpleKind, CollectionKind, PointForm, LineForm, PolygonForm, MultiPointForm, MultiLineForm, MultiPolygonForm, kind_at, Sums, nothing, added, Stack, Phase, AtHeader, AtMetadata, AtOption}
+use Rattle.twkb_grammar.specs.Reading.{Stands}
+use Rattle.twkb_grammar.specs.declared.span.Span.{Span}
+
+-- The kind of a type.
+abbrev pub shown : machine.Kind → Kind
+shown (SimpleKind PointForm) = kind.Point
+shown (SimpleKind LineForm) = kind.Linestring
+shown (SimpleKind PolygonForm) = kind.Polygon
+shown (SimpleKind MultiPointForm) = kind.MultiPoint
+shown (SimpleKind MultiLineForm) = kind.MultiLinestring
+shown (SimpleKind MultiPolygonForm) = kind.MultiPolygon
+shown CollectionKind = kind.Collection
+
+-- What was noted: the spans so far, in the order of the headers, and the places in that list of the geometries that are begun and not
+-- ended, the innermost first. Of these the span has the points before it in place of its own, and no length.
+pub record Notes : Type 0 where
+  pub spans : List Span
+  pub begun : List ℕ
+
+-- Nothing was noted.
+abbrev pub no_notes : Notes
+no_notes = record { spans = []; begun = [] }
+
+-- A list with the item at a place changed.
+abbrev pub changed_at : {A : Type 0} → ℕ → (A → A) → List A → List A
+changed_at n f [] = []
+changed_at zero f (x ∷ xs) = f x ∷ xs
+changed_at (suc n) f (x ∷ xs) = x ∷ changed_at n f xs
+
+-- A geometry begins by this type byte at this offset, behind so many points.
+abbrev pub note_header : (offset points number : ℕ) → Notes → Notes
+note_header offset points number w = record {
+  spans = w.spans ++ record { level = length w.begun; offset = offset; kind = shown (kind_at (number % 16)); precision = unzigzag_of (number / 16); metadata = 0; length = 0; points = points } ∷ [];
+  begun = length w.spans ∷ w.begun;
+}
+
+-- The span of the innermost geometry is changed.
+abbrev pub change_inner : (Span → Span) → List Span → List ℕ → List Span
+change_inner f ss [] = ss
+change_inner f ss (i ∷ is) = changed_at i f ss
+
+-- The metadata byte of the innermost geometry.
+abbrev pub note_metadata : ℕ → Notes → Notes
+note_metadata number w = record { spans = change_inner (λ s. record s { metadata = number }) w.spans w.begun; begun = w.begun }
+
+-- The list without its first item.
+abbrev pub behind_first : List ℕ → List ℕ
+behind_first [] = []
+behind_first (i ∷ is) = is
+
+-- The innermost geometry ends at this offset, with so many points so far.
+abbrev pub note_end : (offset points : ℕ) → Notes → Notes
+note_end offset points w = record { spans = change_inner (λ s. record s { length = offset - s.offset; points = points - s.points }) w.spans w.begun; begun = behind_first w.begun }
+
+-- Roles of which nothing is noted.
+abbrev pub IsQuiet : Role → Type 0
+IsQuiet Header = ⊥
+IsQuiet (Metadata kind) = ⊥
+IsQuiet (End declared came) = ⊥
+IsQuiet _ = ⊤
+
+-- An item of a blob that begins at offset `start`, behind items with these sums.
+abbrev pub noted_by : (start : ℕ) → Sums → Role → ℕ → Notes → Notes
+noted_by start e Header n w = note_header (start + e.bytes) e.points n w
+noted_by start e (Metadata kind) n w = note_metadata n w
+noted_by start e (End declared came) n w = note_end (start + e.bytes) e.points w
+noted_by start e _ n w = w
+
+-- What was noted behind some items.
+abbrev pub noted : (start : ℕ) → Sums → Notes → List Item → Notes
+noted start e w [] = w
+noted start e w (i ∷ is) = noted start (added e i) (noted_by start e i.role i.number w) is
+
+-- What the next byte notes by itself, where that is a header's.
+abbrev pub note_byte : Phase → (offset points byte : ℕ) → Notes → Notes
+note_byte AtHeader offset points byte w = note_header offset points byte w
+note_byte (AtMetadata k p) offset points byte w = note_metadata byte w
+note_byte _ offset points byte w = w
+
+-- So many geometries end at one place.
+abbrev pub note_ends : ℕ → (offset points : ℕ) → Notes → Notes
+note_ends zero offset points w = w
+note_ends (suc n) offset points w = note_end offset points (note_ends n offset points w)
+
+-- They end until so many are left.
+abbrev pub note_ends_to : (left offset points : ℕ) → Notes → Notes
+note_ends_to left offset points w = note_ends (length w.begun - left) offset points w
+
+-- A part that is asked for by a metadata byte is no header and no end.
+abbrev pub IsCalm : Phase → Type 0
+IsCalm (AtOption k h r rs) = IsQuiet r
+IsCalm _ = ⊤
+
+-- Where a reader stands has these notes.
+abbrev pub notes_of : {limits : Allowance} {bytes held : List ℕ} {gs : List Tree} {e : Sums} {st : Stack} → (start : ℕ) → Stands limits bytes gs e st held → Notes
+notes_of start s = noted start nothing no_notes s.reached.items

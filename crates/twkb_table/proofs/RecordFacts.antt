@@ -1,0 +1,42 @@
+-- How a read of `csv` goes on in a text.
+use Rattle.std.proofs.Common.{◌≡◌, ◌∙◌, ℕ, List, [], ◌∷◌, ◌++◌, Option, Some, None, true, false, sym, refl, inl}
+use Rattle.std.specs.Prelude.{option_map, IfSome}
+use Rattle.std.specs.Borrow.{MutBor}
+use Rattle.csv.specs.Reading.{Reached, ReadRecord, default_config, is_flexible, reader_state, source_of, strip_bom, took_first}
+use Rattle.csv.specs.declared.reader.Reader.{Reader}
+use Rattle.csv.specs.declared.parser.State.TheVariants as st
+use Rattle.csv.proofs.ReadFacts.{rows-end, rows-more}
+use Rattle.twkb_io.specs.declared.tap.Tap.{Tap}
+use Rattle.twkb_table.specs.Record.{Record}
+use Rattle.twkb_table.specs.CsvRecords.{AreRecordsOf, HasGivenOf, IsSetUp, told_by}
+
+-- a new reader gave none
+pub given_none : {R : Type 0} (remaining : R → Option (List ℕ)) (told : Option (List ℕ)) (reader : Reader (MutBor (Tap R)))
+    → source_of (told_by remaining) reader ≡ option_map strip_bom told → reader_state reader ≡ st.StartRecord
+    → HasGivenOf remaining told [] reader
+unfolding Reached
+given_none remaining None reader source state = tt
+given_none remaining (Some text) reader source state = (strip_bom text, source, (sym state, refl))
+
+-- one record more
+pub given_more : {R : Type 0} (remaining : R → Option (List ℕ)) (old new : Reader (MutBor (Tap R))) (fields : Record)
+    → IsSetUp old → took_first new ≡ true → is_flexible new ≡ is_flexible old
+    → ReadRecord (told_by remaining) old new true fields
+    → (told : Option (List ℕ)) (records : List Record) → HasGivenOf remaining told records old → HasGivenOf remaining told (records ++ fields ∷ []) new
+given_more remaining old new fields set_up first flexible read None records given = tt
+given_more remaining old new fields set_up first flexible read (Some text) records given =
+    rows-more (told_by remaining) old new fields default_config st.StartRecord (strip_bom text) given.0 records set_up.3 given.1 given.2 read
+
+-- the reader reads on
+pub still_set_up : {R : Type 0} (remaining : R → Option (List ℕ)) (old new : Reader (MutBor (Tap R))) (fields : Record)
+    → IsSetUp old → took_first new ≡ true → is_flexible new ≡ is_flexible old
+    → ReadRecord (told_by remaining) old new true fields → IsSetUp new
+still_set_up remaining old new fields set_up first flexible read = (read.3 ∙ set_up.0, inl first, flexible ∙ set_up.2, read.2 ∙ set_up.3)
+
+-- no record more
+pub given_all : {R : Type 0} (remaining : R → Option (List ℕ)) (old new : Reader (MutBor (Tap R))) (fields : Record)
+    → IsSetUp old → ReadRecord (told_by remaining) old new false fields
+    → (told : Option (List ℕ)) (records : List Record) → HasGivenOf remaining told records old → IfSome told (λ text. AreRecordsOf text records)
+given_all remaining old new fields set_up read None records given = tt
+given_all remaining old new fields set_up read (Some text) records given =
+    (reader_state old, given.0, given.2, rows-end (told_by remaining) old new fields default_config given.0 set_up.3 given.1 read)

@@ -1,0 +1,123 @@
+-- What the next row is to the rows of the geometry that is being read.
+use Rattle.std.proofs.Common.{◌≡◌, ℕ, zero, suc, ◌<◌, ◌≤◌, true, List, [], ◌∷◌, ◌++◌, length, Option, Some, None, refl, sym, ◌∙◌, ap, subst, arith, length-append}
+use Rattle.std.specs.Prelude.{reverse, IfSome}
+use Rattle.std.proofs.lemmas.List.{reverse-append, length-reverse}
+use Rattle.twkb_points.specs.Point.{Point}
+use Rattle.twkb_geom.specs.declared.open_rows.OpenRow.{OpenRow}
+use Rattle.twkb_geom.specs.Limits.{Allowance}
+use Rattle.twkb_geom.specs.Rows.{Row, row_points}
+use Rattle.twkb_geom.specs.Admits.{parent, first_child, steps_to, fits}
+use Rattle.twkb_geom.specs.Accepted.{Accepts, Continues, since_root, point_count}
+use Rattle.twkb_geom.specs.RowLists.{AreRowsOfOne, AreValidRowsOfOne}
+use Rattle.twkb_geom.specs.Open.{AreOpen, opened}
+use Rattle.twkb_geom.proofs.LimitLaws.{accepted_rows}
+use Rattle.twkb_geom.proofs.OpenLaws.{open_more, open_none, steps_within}
+use Rattle.twkb_geom.proofs.RefusalLaws.{continues_is}
+use Rattle.twkb_geom.proofs.RootLimits.{continued, valid_list}
+use Rattle.twkb_geom.proofs.RowsGrow.{root_alone}
+use Rattle.twkb_geom.proofs.RowsLocal.{open_last, since_last, point_count-reverse}
+use Rattle.twkb_flat.specs.Rows.{row_with}
+use Rattle.twkb_flat.specs.declared.node.Row.{Row as Bare}
+use Rattle.twkb_table.specs.Record.{Record}
+use Rattle.twkb_table.specs.Judged.{Verdict, Accepted, Judged}
+use Rattle.twkb_table.specs.Standing.{StandsAfter}
+use Rattle.twkb_table.specs.Waiting.{may_wait}
+use Rattle.twkb_table.specs.RowReading.{limits_of, open_rows_of, Keeps}
+use Rattle.twkb_table.specs.declared.row_reader.RowReader.{RowReader}
+use Rattle.twkb_table.proofs.AcceptedRecords.{judged_row, has_room}
+use Rattle.twkb_table.proofs.Verdicts.{both_true}
+
+-- rows have as many points as their points are
+point_total : (rs : List Row) → length (row_points rs) ≡ point_count rs
+point_total [] = refl
+point_total (r ∷ rs) = omega (arith, length-append r.points (row_points rs), point_total rs)
+
+-- the open rows and counts of one geometry are those of all rows that end with it
+pub stands_after : (l : Allowance) (os : List OpenRow) (rows earlier : List Row) → AreValidRowsOfOne l rows → 0 < length rows → AreOpen (reverse rows) os
+    → StandsAfter (reverse (earlier ++ rows)) os (length rows) (length (row_points rows))
+stands_after l os [] earlier v some open_now = absurd (omega (arith, some))
+stands_after l os (s ∷ rs) earlier v some open_now =
+    let one : AreRowsOfOne (s ∷ rs) = (v.0, v.1.tree, v.2) in
+    let turned : reverse (earlier ++ s ∷ rs) ≡ reverse (s ∷ rs) ++ reverse earlier = reverse-append earlier (s ∷ rs) in
+    let since : since_root (reverse (earlier ++ s ∷ rs)) ≡ reverse (s ∷ rs) = ap since_root turned ∙ since_last s rs (reverse earlier) one in
+    record {
+      open_rows = subst (λ xs. AreOpen xs os) (sym turned) (open_last (reverse (s ∷ rs)) (reverse earlier) os (omega (arith, length-reverse (s ∷ rs))) open_now);
+      node_count = sym (ap (λ xs. length xs) since ∙ length-reverse (s ∷ rs));
+      points_held = point_total (s ∷ rs) ∙ sym (ap point_count since ∙ point_count-reverse (s ∷ rs));
+    }
+
+-- a record that is judged a row after rows of one geometry
+pub accepts_next : (l : Allowance) (rows : List Row) (fields : Record) (row : Row) → AreValidRowsOfOne l rows → Judged l (reverse rows) fields (Accepted row) → Accepts l (reverse rows) row
+accepts_next l rows fields row v j = (judged_row l (reverse rows) fields row (has_room l (reverse rows) (accepted_rows l rows (valid_list l rows v))) j).accepts
+
+no_depth : (d : ℕ) → steps_to d [] ≡ true → d ≡ 0
+no_depth zero e = refl
+no_depth (suc d) e = cc e
+
+steps : (l : Allowance) (before : List Row) (row : Row) → Accepts l before row → steps_to row.depth before ≡ true
+steps l before row a = (both_true (steps_to row.depth before) (fits (parent row.depth before) (first_child row.depth before) row) a.admitted).0
+
+-- a record that is judged a row where there is none is a root
+pub begins_first : (l : Allowance) (fields : Record) (row : Row) → Judged l [] fields (Accepted row) → Continues l [] row
+begins_first l fields row j =
+    let a = (judged_row l [] fields row (has_room l [] tt) j).accepts in
+    (a, no_depth row.depth (steps l [] row a))
+
+-- another row is of the same geometry
+pub continues_below : (l : Allowance) (rows : List Row) (row : Row) → 0 < length rows → Accepts l (reverse rows) row → 0 < row.depth → Continues l rows row
+continues_below l [] row some a below = absurd (omega (arith, some))
+continues_below l (s ∷ rs) row some a below = (a, below)
+
+-- no deeper than the open rows
+pub depth_within : (l : Allowance) (before : List Row) (os : List OpenRow) (row : Row) → Accepts l before row → AreOpen before os → row.depth ≤ length os
+depth_within l before os row a open_now = omega (arith, steps_within row.depth before (steps l before row a), open_now.all)
+
+-- the open rows after it
+pub opens_next : (l : Allowance) (rows : List Row) (os : List OpenRow) (row : Row) → Accepts l (reverse rows) row → AreOpen (reverse rows) os → AreOpen (reverse (rows ++ row ∷ [])) (opened row.depth os row)
+opens_next l rows os row a open_now =
+    subst (λ xs. AreOpen xs (opened row.depth os row)) (sym (reverse-append rows (row ∷ []))) (open_more (reverse rows) os row (steps l (reverse rows) row a) open_now)
+
+-- a root after rows of one geometry begins another
+pub begins_anew : (l : Allowance) (rows : List Row) (row : Row) → Accepts l (reverse rows) row → row.depth ≡ 0 → Continues l [] row
+begins_anew l rows row a root = (root_alone l rows row a root, root)
+
+-- the root that waits
+pub waiting_begins : (l : Allowance) (waits : Option Bare) (points : List Point) → may_wait l waits points ≡ true → IfSome waits (λ row. Continues l [] (row_with row points))
+waiting_begins l None points e = tt
+waiting_begins l (Some row) points e = continues_is l [] (row_with row points) e
+
+-- no row stands where none is open
+pub stands_nowhere : StandsAfter [] [] 0 0
+stands_nowhere = record { open_rows = open_none; node_count = refl; points_held = refl }
+
+-- What a reader keeps of rows of one geometry.
+pub record Kept (l : Allowance) (rows : List Row) (os : List OpenRow) : Type 0 where
+  pub of_one : AreValidRowsOfOne l rows
+  pub some : 0 < length rows
+  pub open_rows : AreOpen (reverse rows) os
+
+pub keeps_first : (l : Allowance) (row : Row) (before rows : List Row) (cleared os : List OpenRow) → Continues l [] row → before ≡ [] → rows ≡ before ++ row ∷ [] → cleared ≡ [] → os ≡ opened row.depth cleared row → Kept l rows os
+keeps_first l row before rows cleared os c none put clear open_now =
+    let rows_are : rows ≡ row ∷ [] = put ∙ ap (λ rs. rs ++ row ∷ []) none in
+    let open_are : os ≡ opened row.depth [] row = open_now ∙ ap (λ xs. opened row.depth xs row) clear in
+    record {
+      of_one = subst (AreValidRowsOfOne l) (sym rows_are) (continued l [] row tt c);
+      some = omega (arith, ap (λ (rs : List Row). length rs) rows_are);
+      open_rows = subst (λ rs. AreOpen (reverse rs) os) (sym rows_are) (subst (λ xs. AreOpen (row ∷ []) xs) (sym open_are) (opens_next l [] [] row c.0 open_none));
+    }
+
+pub keeps_next : (l : Allowance) (row : Row) (before rows : List Row) (was os : List OpenRow) → AreValidRowsOfOne l before → 0 < length before → AreOpen (reverse before) was → Accepts l (reverse before) row → 0 < row.depth → rows ≡ before ++ row ∷ [] → os ≡ opened row.depth was row → Kept l rows os
+keeps_next l row before rows was os v some open_before a below put open_now = record {
+  of_one = subst (AreValidRowsOfOne l) (sym put) (continued l before row v (continues_below l before row some a below));
+  some = omega (arith, ap (λ (rs : List Row). length rs) put, length-append before (row ∷ []));
+  open_rows = subst (λ rs. AreOpen (reverse rs) os) (sym put) (subst (λ xs. AreOpen (reverse (before ++ row ∷ [])) xs) (sym open_now) (opens_next l before was row a open_before));
+}
+
+-- what a record is judged by what is kept, it is judged after all rows that end with those of the geometry
+pub judged_by_kept : (l : Allowance) (rows : List Row) (os shown : List OpenRow) (nodes points : ℕ) (fields : Record) (v : Verdict) → Kept l rows os → shown ≡ os → nodes ≡ length rows → points ≡ length (row_points rows)
+    → ((before : List Row) → StandsAfter before shown nodes points → Judged l before fields v) → (earlier : List Row) → Judged l (reverse (earlier ++ rows)) fields v
+judged_by_kept l rows os shown nodes points fields v kept open_rows count held j earlier =
+    j (reverse (earlier ++ rows)) (rw (open_rows, count, held) (stands_after l os rows earlier kept.of_one kept.some kept.open_rows))
+
+pub kept_of : (reader : RowReader) (rows : List Row) → Keeps reader rows → Kept (limits_of reader) rows (open_rows_of reader)
+kept_of reader rows k = record { of_one = k.of_one; some = k.some; open_rows = k.open_rows }

@@ -1,0 +1,174 @@
+-- What the calls of a reader of tables show, put together.
+use Rattle.std.proofs.Common.{◌≡◌, ℕ, ◌+◌, ◌^◌, ◌⊎◌, Bool, true, false, List, [], ◌∷◌, ◌++◌, length, Option, Some, None, Result, Ok, Err, refl, sym, ◌∙◌, ap, subst, arith, inl, inr}
+use Rattle.std.specs.Prelude.{IfSome}
+use Rattle.twkb_points.specs.Point.{Point}
+use Rattle.twkb_geom.specs.Tree.{Tree, IsTree}
+use Rattle.twkb_geom.specs.Limits.{Allowance}
+use Rattle.twkb_geom.specs.Rows.{Row, rows}
+use Rattle.twkb_geom.proofs.RootLaws.{one_geometry}
+use Rattle.twkb_flat.specs.Rows.{row_with}
+use Rattle.twkb_flat.specs.declared.node.Row.{Row as Bare}
+use Rattle.twkb_table.specs.Record.{Record, header}
+use Rattle.twkb_table.specs.RowFault.{AreComplete}
+use Rattle.twkb_table.specs.CsvRecords.{AreRecordsOf, BeginWith}
+use Rattle.twkb_table.specs.SourceStanding as Source
+use Rattle.twkb_table.specs.Numbering.{fault_of}
+use Rattle.twkb_table.specs.Standing.{IfRefused}
+use Rattle.twkb_table.specs.RowReading.{limits_of, points_held, waiting, with_points}
+use Rattle.twkb_table.specs.TableReading.{HaveGiven, StandsAfter, Extends, GivesNext, GivesTree, MeetsEnd, IsRefusedAt, Explains, IsReading, HasHeader, BeginsNext, ReadsRoot, ReadsOn, is_ended, is_spent}
+use Rattle.twkb_table.specs.declared.judging.JudgeFault.{JudgeFault}
+use Rattle.twkb_table.specs.declared.judging.JudgeFault.TheVariants.{Memory, Refused}
+use Rattle.twkb_table.specs.declared.reason.RowReason.TheVariants.{BadHeader}
+use Rattle.twkb_table.specs.declared.table_fault.TableFault.{TableFault}
+use Rattle.twkb_table.specs.declared.table_fault.TableFault.TheVariants as fault
+use Rattle.twkb_table.specs.declared.table_reader.TableReader.{TableReader}
+use Rattle.twkb_table.proofs.TableReaderLemmas.{begins_none, extends_none, extends_both, explains_from, never_none}
+use Rattle.twkb_table.proofs.TableSteps.{too_many}
+
+-- ---- faults
+
+-- where no record came
+pub no_record : (l : Allowance) (told : Option (List ℕ)) (records : List Record) (given : List Tree) (number : ℕ) (f : TableFault) → number ≡ length records
+    → (f ≡ fault.Source) ⊎ ((f ≡ fault.TooManyRecords) × (number + 1 ≡ 2 ^ 32) × ((here : Record) × IfSome told (λ text. BeginWith text (records ++ here ∷ [])))) → Explains l told records given f
+no_record l told records given number f count (inl source) = subst (λ e. Explains l told records given e) (sym source) tt
+no_record l told records given number f count (inr (many, last, here)) = subst (λ e. Explains l told records given e) (sym many) (too_many told records number here.0 count last here.1)
+
+-- where a record gave no row
+pub explained : (l : Allowance) (told : Option (List ℕ)) (records : List Record) (given : List Tree) (number : ℕ) (f : JudgeFault) → IfRefused (λ reason. IsRefusedAt l told records given number reason) f → Explains l told records given (fault_of number f)
+explained l told records given number Memory h = tt
+explained l told records given number (Refused reason) h = h
+
+-- ---- the header
+
+pub fresh : (l : Allowance) (records : List Record) (given : List Tree) (ended : Bool) → length records ≡ 0 → HaveGiven l records given [] ended → (records ≡ []) × (given ≡ [])
+fresh l [] given ended none h = (refl, h.0)
+fresh l (r ∷ records) given ended none h = absurd (omega (arith, none))
+
+refused_first : (l : Allowance) (told : Option (List ℕ)) (seen records : List Record) (given : List Tree) → records ≡ [] → given ≡ [] → IfSome told (λ text. BeginWith text seen) → (seen ≡ [] → IfSome told (λ text. AreRecordsOf text [])) → AreComplete l seen 1 BadHeader []
+    → IsRefusedAt l told records given 1 BadHeader
+refused_first l told seen records given none before begins all complete = record {
+  seen = seen;
+  extends = (seen, ap (λ (rs : List Record). rs ++ seen) (sym none));
+  begins = begins;
+  none = all;
+  complete = subst (AreComplete l seen 1 BadHeader) (sym before) complete;
+}
+
+pub no_header : (l : Allowance) (told : Option (List ℕ)) (records : List Record) (given : List Tree) → (records ≡ []) × (given ≡ []) → IfSome told (λ text. AreRecordsOf text records) → IsRefusedAt l told records given 1 BadHeader
+no_header l told records given (none, before) all =
+    refused_first l told [] records given none before (begins_none told) (λ e. subst (λ rs. IfSome told (λ text. AreRecordsOf text rs)) none all) (inl (tt, refl, refl, refl))
+
+pub other_header : (l : Allowance) (told : Option (List ℕ)) (records : List Record) (given : List Tree) (here : Record) → (records ≡ []) × (given ≡ []) → IfSome told (λ text. BeginWith text (records ++ here ∷ [])) → (here ≡ header → ⊥) → IsRefusedAt l told records given 1 BadHeader
+other_header l told records given here (none, before) begins other =
+    refused_first l told (here ∷ []) records given none before (subst (λ (rs : List Record). IfSome told (λ text. BeginWith text (rs ++ here ∷ []))) none begins) (λ e. absurd (never_none [] here e)) (inl (other, refl, refl, refl))
+
+pub the_header : {R : Type 0} (l : Allowance) (remaining : R → Option (List ℕ)) (told : Option (List ℕ)) (records : List Record) (given : List Tree) (here : Record) (old new : TableReader R) → StandsAfter l remaining told records given old → (records ≡ []) × (given ≡ [])
+    → Source.StandsAfter remaining told (records ++ here ∷ []) new.source → here ≡ header → new.number ≡ 1 → limits_of new.rows ≡ limits_of old.rows → waiting new.rows ≡ [] → is_spent new ≡ is_spent old → HasHeader l remaining told records given new
+the_header l remaining told records given here old new s (none, before) source same number limits waits spent = record {
+  fresh = none;
+  none = before;
+  stands = record {
+    source = subst (λ (r : Record). Source.StandsAfter remaining told (r ∷ []) new.source) same (subst (λ (rs : List Record). Source.StandsAfter remaining told (rs ++ here ∷ []) new.source) none source);
+    count = number;
+    limits = limits ∙ s.limits;
+    gave = subst (λ w. HaveGiven l (header ∷ []) [] w (is_ended new)) (sym waits) (record { table_of = refl; valid = tt }, inl refl);
+    unspent = spent ∙ s.unspent;
+  };
+}
+
+-- from before the header
+meets_from : {R : Type 0} (l : Allowance) (remaining : R → Option (List ℕ)) (told : Option (List ℕ)) (records seen : List Record) (given : List Tree) (reader : TableReader R) → Extends records seen → MeetsEnd l remaining told seen given reader → MeetsEnd l remaining told records given reader
+meets_from l remaining told records seen given reader x m = record { seen = m.seen; extends = extends_both records seen m.seen x m.extends; all = m.all; named = m.named; stands = m.stands }
+
+reads_from : {R : Type 0} (l : Allowance) (remaining : R → Option (List ℕ)) (told : Option (List ℕ)) (records seen : List Record) (given : List Tree) (reader : TableReader R) (r : Result (Option Bare) TableFault) → Extends records seen → ReadsRoot l remaining told seen given reader r → ReadsRoot l remaining told records given reader r
+reads_from l remaining told records seen given reader (Ok (Some root)) x b = record { seen = b.seen; extends = extends_both records seen b.seen x b.extends; reading = b.reading }
+reads_from l remaining told records seen given reader (Ok None) x m = meets_from l remaining told records seen given reader x m
+reads_from l remaining told records seen given reader (Err f) x e = explains_from l told records seen given f x e
+
+pub after_header : {R : Type 0} (l : Allowance) (remaining : R → Option (List ℕ)) (told : Option (List ℕ)) (records : List Record) (given : List Tree) (mid new : TableReader R) (r : Result (Option Bare) TableFault) → HasHeader l remaining told records given mid → ReadsRoot l remaining told (header ∷ []) [] new r
+    → ReadsRoot l remaining told records given new r
+after_header l remaining told records given mid new r h reads =
+    let there : ReadsRoot l remaining told (header ∷ []) given new r = subst (λ gs. ReadsRoot l remaining told (header ∷ []) gs new r) (sym h.none) reads in
+    reads_from l remaining told records (header ∷ []) given new r (header ∷ [], ap (λ (rs : List Record). rs ++ header ∷ []) (sym h.fresh)) there
+
+-- ---- the root that waits
+
+-- the reader without it
+pub stands_still : {R : Type 0} (l : Allowance) (remaining : R → Option (List ℕ)) (told : Option (List ℕ)) (records : List Record) (given : List Tree) (old new : TableReader R) → StandsAfter l remaining told records given old → new.source ≡ old.source → new.number ≡ old.number
+    → limits_of new.rows ≡ limits_of old.rows → waiting new.rows ≡ waiting old.rows → is_spent new ≡ is_spent old → StandsAfter l remaining told records given new
+stands_still l remaining told records given old new s source number limits waits spent = record {
+  source = subst (Source.StandsAfter remaining told records) (sym source) s.source;
+  count = number ∙ s.count;
+  limits = limits ∙ s.limits;
+  gave = subst (λ w. HaveGiven l records given w (is_ended new)) (sym waits) (subst (λ q. HaveGiven l records given (waiting old.rows) (Source.is_ended q)) (sym source) s.gave);
+  unspent = spent ∙ s.unspent;
+}
+
+pub waited : {R : Type 0} (l : Allowance) (remaining : R → Option (List ℕ)) (told : Option (List ℕ)) (records : List Record) (given : List Tree) (root : Row) (old new : TableReader R) → StandsAfter l remaining told records given old → root ∷ [] ≡ waiting old.rows → new.source ≡ old.source
+    → new.number ≡ old.number → limits_of new.rows ≡ limits_of old.rows → is_spent new ≡ is_spent old → BeginsNext l remaining told records given (root ∷ []) new
+waited l remaining told records given root old new s waits source number limits spent =
+    let gave = subst (λ w. HaveGiven l records given w (is_ended old)) (sym waits) s.gave in
+    record {
+      seen = records;
+      extends = extends_none records;
+      reading = record {
+        source = subst (Source.StandsAfter remaining told records) (sym source) s.source;
+        count = number ∙ s.count;
+        limits = limits ∙ s.limits;
+        geometry = gave.0;
+        named = gave.1;
+        rows = gave.2;
+        unspent = spent ∙ s.unspent;
+      };
+    }
+
+-- no root waits where none is answered
+pub none_waits : (taken : Option Bare) (points : List Point) (ws : List Row) → with_points taken points ≡ ws → taken ≡ None → ws ≡ []
+none_waits taken points ws e none = sym e ∙ ap (λ t. with_points t points) none
+
+pub some_waits : (root : Bare) (points : List Point) → with_points (Some root) points ≡ [] → ⊥
+some_waits root points e = cc e
+
+-- ---- a geometry and its end
+
+-- the root in the flat form
+pub reading_in : {R : Type 0} (l : Allowance) (remaining : R → Option (List ℕ)) (told : Option (List ℕ)) (records : List Record) (given : List Tree) (root flat : List Row) (old new : TableReader R) → IsReading l remaining told records given root old → flat ≡ root → new.source ≡ old.source
+    → new.number ≡ old.number → limits_of new.rows ≡ limits_of old.rows → is_spent new ≡ is_spent old → IsReading l remaining told records given flat new
+reading_in l remaining told records given root flat old new r put source number limits spent = record {
+  source = subst (Source.StandsAfter remaining told records) (sym source) r.source;
+  count = number ∙ r.count;
+  limits = limits ∙ r.limits;
+  geometry = r.geometry;
+  named = r.named;
+  rows = r.rows ∙ sym put;
+  unspent = spent ∙ r.unspent;
+}
+
+pub reads_by : {R : Type 0} (l : Allowance) (remaining : R → Option (List ℕ)) (told : Option (List ℕ)) (records : List Record) (given : List Tree) (so_far : List Row) (reader : TableReader R) (more : Bool) → (more ≡ true → (here : Record) × IsReading l remaining told (records ++ here ∷ []) given so_far reader)
+    → (more ≡ false → GivesNext l remaining told records given so_far reader) → ReadsOn l remaining told records given so_far reader (Ok more)
+reads_by l remaining told records given so_far reader true on end = on refl
+reads_by l remaining told records given so_far reader false on end = end refl
+
+-- a row more was read
+pub went_by : {R : Type 0} (l : Allowance) (remaining : R → Option (List ℕ)) (told : Option (List ℕ)) (records : List Record) (given : List Tree) (so_far : List Row) (reader : TableReader R) (more : Bool) → more ≡ true → ReadsOn l remaining told records given so_far reader (Ok more)
+    → (here : Record) × IsReading l remaining told (records ++ here ∷ []) given so_far reader
+went_by l remaining told records given so_far reader true e reads = reads
+went_by l remaining told records given so_far reader false e reads = cc e
+
+-- or the geometry is whole
+pub ended_by : {R : Type 0} (l : Allowance) (remaining : R → Option (List ℕ)) (told : Option (List ℕ)) (records : List Record) (given : List Tree) (so_far : List Row) (reader : TableReader R) (more : Bool) → more ≡ false → ReadsOn l remaining told records given so_far reader (Ok more)
+    → GivesNext l remaining told records given so_far reader
+ended_by l remaining told records given so_far reader true e reads = cc e
+ended_by l remaining told records given so_far reader false e reads = reads
+
+-- a root was read
+pub root_by : {R : Type 0} (l : Allowance) (remaining : R → Option (List ℕ)) (told : Option (List ℕ)) (records : List Record) (given : List Tree) (reader : TableReader R) (found : Option Bare) (root : Bare) → found ≡ Some root → ReadsRoot l remaining told records given reader (Ok found)
+    → BeginsNext l remaining told records given (row_with root (points_held reader.rows) ∷ []) reader
+root_by l remaining told records given reader found root e reads = rw e at reads
+
+-- the geometry of the rows that were given
+pub tree_given : {R : Type 0} (l : Allowance) (remaining : R → Option (List ℕ)) (told : Option (List ℕ)) (records : List Record) (given : List Tree) (flat : List Row) (reader : TableReader R) (tree : Tree) → GivesNext l remaining told records given flat reader → rows 0 tree ≡ flat → IsTree tree
+    → GivesTree l remaining told records given tree reader
+tree_given l remaining told records given flat reader tree n e is_tree =
+    let same : n.geometry ≡ tree = one_geometry n.geometry tree n.valid.tree is_tree (n.rows ∙ sym e) in
+    record { seen = n.seen; extends = n.extends; begins = n.begins; stands = subst (λ (h : Tree). StandsAfter l remaining told n.seen (given ++ h ∷ []) reader) same n.stands }

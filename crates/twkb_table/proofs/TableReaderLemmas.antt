@@ -1,0 +1,91 @@
+-- What the calls of a reader of tables answer, by what one record shows.
+use Rattle.std.proofs.Common.{◌≡◌, ℕ, ◌<◌, Bool, true, false, List, [], ◌∷◌, ◌++◌, length, Option, Some, None, refl, sym, ◌∙◌, ap, subst, arith, append_assoc, append-nil}
+use Rattle.std.specs.Prelude.{reverse, IfSome}
+use Rattle.std.specs.Borrow.{MutBor}
+use Rattle.csv.specs.Reading.{reader_state, strip_bom, Reached}
+use Rattle.csv.specs.declared.reader.Reader.{Reader}
+use Rattle.csv.specs.declared.parser.State.TheVariants as st
+use Rattle.twkb_io.specs.declared.tap.Tap.{Tap}
+use Rattle.twkb_geom.specs.Tree.{Tree}
+use Rattle.twkb_geom.specs.Limits.{Allowance}
+use Rattle.twkb_geom.specs.Rows.{Row, rows, rows_of}
+use Rattle.twkb_geom.proofs.RowsGrow.{rows_of-last}
+use Rattle.twkb_table.specs.Record.{Record}
+use Rattle.twkb_table.specs.Named.{Named}
+use Rattle.twkb_table.specs.Judged.{Verdict, Judged}
+use Rattle.twkb_table.specs.RowFault.{all_but_last}
+use Rattle.twkb_table.specs.CsvRecords.{BeginWith}
+use Rattle.twkb_table.specs.SourceStanding as Source
+use Rattle.twkb_table.specs.RowReading.{JudgedAfter}
+use Rattle.twkb_table.specs.TableReading.{NameSoFar, Extends, GivesNext, Explains}
+use Rattle.twkb_table.specs.declared.record_source.RecordSource.{RecordSource}
+use Rattle.twkb_table.specs.declared.table_fault.TableFault.{TableFault}
+use Rattle.twkb_table.specs.declared.table_fault.TableFault.TheVariants as fault
+use Rattle.twkb_table.specs.declared.table_reader.TableReader.{TableReader}
+
+-- ---- the text begins with the records that were read
+
+pub begins_none : (told : Option (List ℕ)) → IfSome told (λ text. BeginWith text [])
+unfolding Reached
+begins_none None = tt
+begins_none (Some text) = (st.StartRecord, strip_bom text, (refl, refl))
+
+standing_begins : {R : Type 0} (remaining : R → Option (List ℕ)) (told : Option (List ℕ)) (records : List Record) (ended : Bool) (reader : Reader (MutBor (Tap R))) → Source.standing remaining told records ended reader → IfSome told (λ text. BeginWith text records)
+standing_begins remaining None records ended reader s = tt
+standing_begins remaining (Some text) records false reader s = (reader_state reader, s.1.0, s.1.2)
+standing_begins remaining (Some text) records true reader s = (s.0, s.1, s.2)
+
+pub source_begins : {R : Type 0} (remaining : R → Option (List ℕ)) (told : Option (List ℕ)) (records : List Record) (source : RecordSource R) → Source.StandsAfter remaining told records source → IfSome told (λ text. BeginWith text records)
+source_begins remaining told records source s = standing_begins remaining told records source.ended source.reader s.0
+
+-- ---- one call and the next
+
+pub extends_none : (records : List Record) → Extends records records
+extends_none records = ([], sym (append-nil records))
+
+pub extends_one : (records : List Record) (here : Record) → Extends records (records ++ here ∷ [])
+extends_one records here = (here ∷ [], refl)
+
+pub extends_both : (a b c : List Record) → Extends a b → Extends b c → Extends a c
+extends_both a b c x y = (x.0 ++ y.0, y.1 ∙ ap (λ rs. rs ++ y.0) x.1 ∙ append_assoc a x.0 y.0)
+
+pub explains_from : (l : Allowance) (told : Option (List ℕ)) (records seen : List Record) (given : List Tree) (f : TableFault) → Extends records seen → Explains l told seen given f → Explains l told records given f
+explains_from l told records seen given (fault.At number reason) x e = record { seen = e.seen; extends = extends_both records seen e.seen x e.extends; begins = e.begins; none = e.none; complete = e.complete }
+explains_from l told records seen given fault.TooManyRecords x e = record { seen = e.seen; extends = extends_both records seen e.seen x e.extends; begins = e.begins; many = e.many }
+explains_from l told records seen given fault.Source x e = tt
+explains_from l told records seen given fault.Memory x e = tt
+explains_from l told records seen given fault.Spent x e = e
+
+pub gives_from : {R : Type 0} (l : Allowance) (remaining : R → Option (List ℕ)) (told : Option (List ℕ)) (records seen : List Record) (given : List Tree) (flat : List Row) (reader : TableReader R) → Extends records seen
+    → GivesNext l remaining told seen given flat reader → GivesNext l remaining told records given flat reader
+gives_from l remaining told records seen given flat reader x g = record { seen = g.seen; extends = extends_both records seen g.seen x g.extends; begins = g.begins; geometry = g.geometry; valid = g.valid; rows = g.rows; stands = g.stands }
+
+-- ---- records and what they name
+
+pub no_records : (records : List Record) → length records ≡ 0 → records ≡ []
+no_records [] e = refl
+no_records (r ∷ records) e = absurd (omega (arith, e))
+
+pub never_none : (records : List Record) (here : Record) → records ++ here ∷ [] ≡ [] → ⊥
+never_none [] here e = cc e
+never_none (r ∷ records) here e = cc e
+
+pub named_some : (l : Allowance) (records : List Record) (gs : List Tree) → 0 < length records → NameSoFar l records gs → Named l records gs
+named_some l [] gs some n = absurd (omega (arith, some))
+named_some l (first ∷ records) gs some n = n
+
+pub names_so_far : (l : Allowance) (records : List Record) (gs : List Tree) → Named l records gs → NameSoFar l records gs
+names_so_far l [] gs n = (let e = n.table_of in cc)
+names_so_far l (first ∷ records) gs n = n
+
+-- all but the last
+pub all_but_last-last : (xs : List Tree) (x : Tree) → all_but_last (xs ++ x ∷ []) ≡ xs
+all_but_last-last [] x = refl
+all_but_last-last (y ∷ []) x = refl
+all_but_last-last (y ∷ z ∷ xs) x = ap (λ (l : List Tree). y ∷ l) (all_but_last-last (z ∷ xs) x)
+
+-- a record judged after the rows of the last geometry is judged after those of all
+pub judged_after : (l other : Allowance) (given : List Tree) (g : Tree) (so_far : List Row) (here : Record) (v : Verdict) → other ≡ l → rows 0 g ≡ so_far → JudgedAfter other so_far here v → Judged l (reverse (rows_of (given ++ g ∷ []))) here v
+judged_after l other given g so_far here v limits same j =
+    let here_too : Judged l (reverse (rows_of given ++ so_far)) here v = subst (λ m. Judged m (reverse (rows_of given ++ so_far)) here v) limits (j (rows_of given)) in
+    subst (λ rs. Judged l (reverse rs) here v) (ap (λ rs. rows_of given ++ rs) (sym same) ∙ sym (rows_of-last given g)) here_too

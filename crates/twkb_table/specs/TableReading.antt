@@ -1,0 +1,153 @@
+-- Where a reader of tables stands, and what its calls answer.
+use Rattle.std.specs.Prelude.{◌≡◌, ℕ, ◌^◌, ◌<◌, ◌⊎◌, List, [], ◌∷◌, ◌++◌, length, Option, Some, None, IfSome, Result, Ok, Err, Bool, true, false, ⊤}
+use Rattle.twkb_geom.specs.Tree.{Tree}
+use Rattle.twkb_geom.specs.Rows.{Row, rows}
+use Rattle.twkb_geom.specs.Limits.{Allowance, IsValid}
+use Rattle.twkb_flat.specs.Rows.{row_with}
+use Rattle.twkb_flat.specs.declared.node.Row.{Row as Bare}
+use Rattle.twkb_table.specs.Record.{Record, header}
+use Rattle.twkb_table.specs.Named.{Named}
+use Rattle.twkb_table.specs.RowFault.{AreComplete}
+use Rattle.twkb_table.specs.CsvRecords.{AreRecordsOf, BeginWith}
+use Rattle.twkb_table.specs.SourceStanding as Source
+use Rattle.twkb_table.specs.RowReading.{limits_of, points_held, waiting}
+use Rattle.twkb_table.specs.declared.reason.RowReason.{RowReason}
+use Rattle.twkb_table.specs.declared.table_fault.TableFault.{TableFault}
+use Rattle.twkb_table.specs.declared.table_fault.TableFault.TheVariants as fault
+use Rattle.twkb_table.specs.declared.table_reader.TableReader.{TableReader}
+
+-- ---- where a reader stands
+
+-- these records, as far as they were read, name these geometries: before the header none
+abbrev pub NameSoFar : Allowance → List Record → List Tree → Type 0
+NameSoFar l [] gs = gs ≡ []
+NameSoFar l (first ∷ records) gs = Named l (first ∷ records) gs
+
+-- The records name the geometries that were given, and one more where a root waits, whose only row is that root. Where none waits, either no
+-- geometry was given yet or the table's end was met.
+abbrev pub HaveGiven : Allowance → List Record → List Tree → List Row → Bool → Type 0
+HaveGiven l records given [] ended = NameSoFar l records given × ((given ≡ []) ⊎ (ended ≡ true))
+HaveGiven l records given (root ∷ more) ended = (last : Tree) × Named l records (given ++ last ∷ []) × (rows 0 last ≡ root ∷ more)
+
+-- whether the end of the table was met
+abbrev pub is_ended : {R : Type 0} → TableReader R → Bool
+is_ended reader = Source.is_ended reader.source
+
+-- whether a call answered an error
+abbrev pub is_spent : {R : Type 0} → TableReader R → Bool
+is_spent reader = reader.spent
+
+-- A reader with these limits read these records of a text that was told at the start, and gave these geometries.
+pub record StandsAfter {R : Type 0} (l : Allowance) (remaining : R → Option (List ℕ)) (told : Option (List ℕ)) (records : List Record) (given : List Tree) (reader : TableReader R) : Type 0 where
+  pub source : Source.StandsAfter remaining told records reader.source
+  pub count : reader.number ≡ length records
+  pub limits : limits_of reader.rows ≡ l
+  pub gave : HaveGiven l records given (waiting reader.rows) (is_ended reader)
+  pub unspent : is_spent reader ≡ false
+
+-- The end of the table was met, and all its geometries were given.
+pub record IsOver {R : Type 0} (reader : TableReader R) : Type 0 where
+  pub ended : is_ended reader ≡ true
+  pub unspent : Source.is_spent reader.source ≡ false
+  pub none : waiting reader.rows ≡ []
+  pub begun : 0 < reader.number
+
+-- ---- what a call answers
+
+-- the second records begin with the first
+abbrev pub Extends : List Record → List Record → Type 0
+Extends records seen = (more : List Record) × (seen ≡ records ++ more)
+
+-- The records seen name one geometry more, which is valid, and these are its rows.
+pub record GivesNext {R : Type 0} (l : Allowance) (remaining : R → Option (List ℕ)) (told : Option (List ℕ)) (records : List Record) (given : List Tree) (flat : List Row) (reader : TableReader R) : Type 0 where
+  pub seen : List Record
+  pub extends : Extends records seen
+  pub begins : IfSome told (λ text. BeginWith text seen)
+  pub geometry : Tree
+  pub valid : IsValid l geometry
+  pub rows : rows 0 geometry ≡ flat
+  pub stands : StandsAfter l remaining told seen (given ++ geometry ∷ []) reader
+
+-- The records seen name this geometry more.
+pub record GivesTree {R : Type 0} (l : Allowance) (remaining : R → Option (List ℕ)) (told : Option (List ℕ)) (records : List Record) (given : List Tree) (geometry : Tree) (reader : TableReader R) : Type 0 where
+  pub seen : List Record
+  pub extends : Extends records seen
+  pub begins : IfSome told (λ text. BeginWith text seen)
+  pub stands : StandsAfter l remaining told seen (given ++ geometry ∷ []) reader
+
+-- All records of the text name the geometries that were given.
+pub record MeetsEnd {R : Type 0} (l : Allowance) (remaining : R → Option (List ℕ)) (told : Option (List ℕ)) (records : List Record) (given : List Tree) (reader : TableReader R) : Type 0 where
+  pub seen : List Record
+  pub extends : Extends records seen
+  pub all : IfSome told (λ text. AreRecordsOf text seen)
+  pub named : Named l seen given
+  pub stands : StandsAfter l remaining told seen given reader
+
+-- The records seen are refused at the last of them, for this reason, and the geometries that were given are those that the refusal leaves
+-- complete. Where no record was seen, the text has none.
+pub record IsRefusedAt (l : Allowance) (told : Option (List ℕ)) (records : List Record) (given : List Tree) (number : ℕ) (reason : RowReason) : Type 0 where
+  pub seen : List Record
+  pub extends : Extends records seen
+  pub begins : IfSome told (λ text. BeginWith text seen)
+  pub none : seen ≡ [] → IfSome told (λ text. AreRecordsOf text [])
+  pub complete : AreComplete l seen number reason given
+
+-- The text begins with 2 ^ 32 records, of which all but the last were taken.
+pub record HasTooMany (told : Option (List ℕ)) (records : List Record) : Type 0 where
+  pub seen : List Record
+  pub extends : Extends records seen
+  pub begins : IfSome told (λ text. BeginWith text seen)
+  pub many : length seen ≡ 2 ^ 32
+
+-- what a fault says of a text, of which these records were read and these geometries given
+abbrev pub Explains : Allowance → Option (List ℕ) → List Record → List Tree → TableFault → Type 0
+Explains l told records given (fault.At number reason) = IsRefusedAt l told records given number reason
+Explains l told records given fault.TooManyRecords = HasTooMany told records
+Explains l told records given fault.Source = ⊤
+Explains l told records given fault.Memory = ⊤
+Explains l told records given fault.Spent = ⊥
+
+-- ---- inside a call
+
+-- how many records were read
+abbrev pub records_read : {R : Type 0} → TableReader R → ℕ
+records_read reader = reader.number
+
+-- The records name the geometries that were given and one more, of which these are the rows so far.
+pub record IsReading {R : Type 0} (l : Allowance) (remaining : R → Option (List ℕ)) (told : Option (List ℕ)) (records : List Record) (given : List Tree) (so_far : List Row) (reader : TableReader R) : Type 0 where
+  pub source : Source.StandsAfter remaining told records reader.source
+  pub count : reader.number ≡ length records
+  pub limits : limits_of reader.rows ≡ l
+  pub geometry : Tree
+  pub named : Named l records (given ++ geometry ∷ [])
+  pub rows : rows 0 geometry ≡ so_far
+  pub unspent : is_spent reader ≡ false
+
+-- The header was read, and nothing before it.
+pub record HasHeader {R : Type 0} (l : Allowance) (remaining : R → Option (List ℕ)) (told : Option (List ℕ)) (records : List Record) (given : List Tree) (reader : TableReader R) : Type 0 where
+  pub fresh : records ≡ []
+  pub none : given ≡ []
+  pub stands : StandsAfter l remaining told (header ∷ []) [] reader
+
+-- what the reading of the first record shows
+abbrev pub ReadsHeader : {R : Type 0} → Allowance → (R → Option (List ℕ)) → Option (List ℕ) → List Record → List Tree → TableReader R → Result (Unit {0}) TableFault → Type 0
+ReadsHeader l remaining told records given reader (Ok done) = HasHeader l remaining told records given reader
+ReadsHeader l remaining told records given reader (Err fault) = Explains l told records given fault
+
+-- The records seen name one geometry more, of which the root alone was read.
+pub record BeginsNext {R : Type 0} (l : Allowance) (remaining : R → Option (List ℕ)) (told : Option (List ℕ)) (records : List Record) (given : List Tree) (root : List Row) (reader : TableReader R) : Type 0 where
+  pub seen : List Record
+  pub extends : Extends records seen
+  pub reading : IsReading l remaining told seen given root reader
+
+-- what the reading of a root shows
+abbrev pub ReadsRoot : {R : Type 0} → Allowance → (R → Option (List ℕ)) → Option (List ℕ) → List Record → List Tree → TableReader R → Result (Option Bare) TableFault → Type 0
+ReadsRoot l remaining told records given reader (Ok (Some root)) = BeginsNext l remaining told records given (row_with root (points_held reader.rows) ∷ []) reader
+ReadsRoot l remaining told records given reader (Ok None) = MeetsEnd l remaining told records given reader
+ReadsRoot l remaining told records given reader (Err fault) = Explains l told records given fault
+
+-- what the reading of one record shows: a row more of the geometry, the geometry's end, or a fault
+abbrev pub ReadsOn : {R : Type 0} → Allowance → (R → Option (List ℕ)) → Option (List ℕ) → List Record → List Tree → List Row → TableReader R → Result Bool TableFault → Type 0
+ReadsOn l remaining told records given so_far reader (Ok true) = (here : Record) × IsReading l remaining told (records ++ here ∷ []) given so_far reader
+ReadsOn l remaining told records given so_far reader (Ok false) = GivesNext l remaining told records given so_far reader
+ReadsOn l remaining told records given so_far reader (Err fault) = Explains l told records given fault

@@ -1,0 +1,57 @@
+//! Records with their numbers.
+ghost use Rattle.std.specs.Prelude.{◌≡◌, ◌+◌, ◌∷◌, ◌++◌, ◌⊎◌, ◌<◌, ◌^◌, [], ℕ, List, Option, Ok, true, false, IfOk, IfErr, IfSome};
+ghost use Rattle.csv.specs.Records.{fields_of};
+ghost use Rattle.twkb_table.specs.Record.{Record};
+ghost use Rattle.twkb_table.specs.CsvRecords.{AreRecordsOf, BeginWith};
+ghost use Rattle.twkb_table.specs.SourceStanding.{StandsAfter, is_ended, is_spent, record_in};
+ghost use Rattle.twkb_table.specs.Numbering.{fault_of};
+
+use crate::judging::JudgeFault;
+use crate::record_source::RecordSource;
+use crate::table_fault::TableFault;
+use std::io::Read;
+
+/// The greatest number that a record of a table may have.
+const LAST_RECORD: u32 = u32::MAX;
+
+/// Reads the record of the next number, and answers whether there was one. A table has fewer than
+/// 2^32 records (profile).
+pub(crate) fn next_record<R: Read>(
+    source: &mut RecordSource<'_, R>,
+    number: &mut u32,
+) -> Result<bool, TableFault>
+    ensures more { IfOk result (λ found. found ≡ true → (told : Option (List ℕ)) (records : List Record) → StandsAfter R.remaining told records source.old
+        → StandsAfter R.remaining told (records ++ fields_of (record_in source.new) ∷ []) source.new) }
+    ensures counted { IfOk result (λ found. found ≡ true → (number.new ≡ number.old + 1) × (number.new < 2 ^ 32)) }
+    ensures over { is_ended source.old ≡ true → is_spent source.old ≡ false → result ≡ Ok false }
+    ensures ended { result ≡ Ok false → (is_ended source.new ≡ true) × (is_spent source.new ≡ false) }
+    ensures end { IfOk result (λ found. found ≡ false → (number.new ≡ number.old) × ((told : Option (List ℕ)) (records : List Record) → StandsAfter R.remaining told records source.old
+        → StandsAfter R.remaining told records source.new × IfSome told (λ text. AreRecordsOf text records))) }
+    ensures fault { IfErr result (λ fault. (fault ≡ TableFault.Source) ⊎ ((fault ≡ TableFault.TooManyRecords) × (number.old + 1 ≡ 2 ^ 32) × ((told : Option (List ℕ)) (records : List Record) → StandsAfter R.remaining told records source.old
+        → (here : Record) × IfSome told (λ text. BeginWith text (records ++ here ∷ []))))) }
+{
+    let Ok(found) = source.read() else {
+        return Err(TableFault::Source);
+    };
+    if !found {
+        return Ok(false);
+    }
+    if *number == LAST_RECORD {
+        return Err(TableFault::TooManyRecords);
+    }
+    *number += 1;
+    Ok(true)
+}
+
+/// What is answered of a record of this number that gave no row.
+pub(crate) fn fault_at(number: u32, fault: JudgeFault) -> TableFault
+    ensures value { result ≡ fault_of number fault }
+{
+    match fault {
+        JudgeFault::Memory => TableFault::Memory,
+        JudgeFault::Refused(reason) => TableFault::At {
+            number: u64::from(number),
+            reason,
+        },
+    }
+}

@@ -1,0 +1,114 @@
+//! The records of a table, one at a time.
+ghost use Rattle.std.specs.Prelude.{◌≡◌, ◌++◌, ◌∷◌, ◌↔◌, ℕ, List, Option, Some, None, Ok, Err, [], true, false, is_err, IfOk, IfErr, IfSome};
+ghost use Rattle.csv.specs.Records.{fields_of};
+ghost use Rattle.twkb_io.specs.Taps.{device_of};
+ghost use Rattle.twkb_table.specs.Record.{Record};
+ghost use Rattle.twkb_table.specs.CsvRecords.{AreRecordsOf, BeginWith, HasGiven};
+
+use csv::{ByteRecord, Reader, ReaderBuilder};
+use std::alloc::Global;
+use std::io::Read;
+use thiserror::Error;
+use twkb_io::Tap;
+
+/// Why no record came.
+#[derive(Clone, Copy, PartialEq, Eq, Debug, Error)]
+pub enum SourceFault {
+    /// The reader failed, or no memory was found.
+    #[error("reading the table failed")]
+    Source,
+    /// An earlier call answered an error.
+    #[error("the table was refused before")]
+    Spent,
+}
+
+/// The records that `csv` reads from a tap, of any number of fields, as they stand (RFC 4180).
+#[derive(Drop)]
+pub struct RecordSource<'a, R> {
+    reader: Reader<&'a mut Tap<R>>,
+    held: ByteRecord,
+    ended: bool,
+    spent: bool,
+}
+
+impl<'a, R: Read> RecordSource<'a, R> {
+    ghost use Rattle.twkb_table.specs.SourceStanding.{StandsAfter, is_ended, is_spent, record_in};
+
+    /// Reads nothing yet, and takes no memory.
+    pub fn new(alloc: Global, tap: &'a mut Tap<R>) -> RecordSource<'a, R>
+        ensures { StandsAfter R.remaining (R.remaining (device_of tap.old)) [] result }
+    {
+        RecordSource {
+            reader: new_reader(alloc, tap),
+            held: ByteRecord::new(alloc),
+            ended: false,
+            spent: false,
+        }
+    }
+
+    /// The last record that was read.
+    pub fn record(&self) -> &ByteRecord
+        ensures { result.now ≡ record_in self.now }
+    {
+        &self.held
+    }
+
+    /// Reads the next record, and answers whether there was one. After an `Err` each call answers
+    /// `Spent`, and after the end each call answers that there is none.
+    pub fn read(&mut self) -> Result<bool, SourceFault>
+        ensures gives { IfOk result (λ found. found ≡ true → (told : Option (List ℕ)) (records : List Record)
+            → StandsAfter R.remaining told records self.old
+            → StandsAfter R.remaining told (records ++ fields_of (record_in self.new) ∷ []) self.new
+            × IfSome told (λ text. BeginWith text (records ++ fields_of (record_in self.new) ∷ []))) }
+        ensures ends { IfOk result (λ found. found ≡ false → (told : Option (List ℕ)) (records : List Record)
+            → StandsAfter R.remaining told records self.old
+            → StandsAfter R.remaining told records self.new × IfSome told (λ text. AreRecordsOf text records)) }
+        ensures source { IfErr result (λ fault. (told : Option (List ℕ)) (records : List Record)
+            → StandsAfter R.remaining told records self.old → (fault ≡ SourceFault.Source) × IfSome told (λ text. BeginWith text records)) }
+        ensures over { is_ended self.old ≡ true → is_spent self.old ≡ false → result ≡ Ok false }
+        ensures spent { (result ≡ Err SourceFault.Spent) ↔ (is_spent self.old ≡ true) }
+        ensures ended { result ≡ Ok false → is_ended self.new ≡ true }
+        ensures stays { is_spent self.new ≡ is_err result }
+    {
+        if self.spent {
+            return Err(SourceFault::Spent);
+        }
+        if self.ended {
+            return Ok(false);
+        }
+        let found = read_record(&mut self.reader, &mut self.held);
+        match found {
+            Ok(true) => {}
+            Ok(false) => self.ended = true,
+            Err(_) => self.spent = true,
+        }
+        found
+    }
+}
+
+// A reader of every record, of any length, as it stands.
+fn new_reader<'a, R: Read>(alloc: Global, tap: &'a mut Tap<R>) -> Reader<&'a mut Tap<R>>
+    ensures { HasGiven R.remaining (R.remaining (device_of tap.old)) [] result }
+{
+    ReaderBuilder::new()
+        .has_headers(false)
+        .flexible(true)
+        .from_reader(alloc, tap)
+}
+
+// The next record.
+fn read_record<R: Read>(
+    reader: &mut Reader<&mut Tap<R>>,
+    held: &mut ByteRecord,
+) -> Result<bool, SourceFault>
+    ensures more { IfOk result (λ found. found ≡ true → (told : Option (List ℕ)) (records : List Record)
+        → HasGiven R.remaining told records reader.old → HasGiven R.remaining told (records ++ fields_of held.new ∷ []) reader.new) }
+    ensures end { IfOk result (λ found. found ≡ false → (told : Option (List ℕ)) (records : List Record)
+        → HasGiven R.remaining told records reader.old → IfSome told (λ text. AreRecordsOf text records)) }
+    ensures source { IfErr result (λ fault. fault ≡ SourceFault.Source) }
+{
+    let Ok(found) = reader.read_byte_record(held) else {
+        return Err(SourceFault::Source);
+    };
+    Ok(found)
+}

@@ -1,0 +1,292 @@
+//! The geometries of a table, one after another.
+ghost use Rattle.std.specs.Prelude.{◌≡◌, ◌+◌, ◌∷◌, ◌++◌, ◌⊎◌, ◌↔◌, ◌<◌, ◌^◌, ◌≢◌, [], ℕ, length, List, Option, None, Some, Ok, Err, true, false, is_err, OnOk, IfOk, IfErr, IfSome};
+ghost use Rattle.twkb_io.specs.Taps.{device_of};
+ghost use Rattle.twkb_geom.specs.Tree.{Tree};
+ghost use Rattle.twkb_geom.specs.Limits.{Allowance};
+ghost use Rattle.twkb_flat.specs.Rows.{row_with};
+ghost use Rattle.twkb_table.specs.Record.{Record, header};
+
+use crate::header::is_header;
+use crate::numbering::{fault_at, next_record};
+use crate::reason::RowReason;
+use crate::record_source::RecordSource;
+use crate::row_reader::RowReader;
+use crate::table_fault::TableFault;
+use std::alloc::Global;
+use std::io::Read;
+use twkb_flat::{Flat, Row};
+use twkb_geom::{Geometry, Limits};
+use twkb_io::Tap;
+
+/// The geometries that a table names, read from a tap one after another (profile; RFC 4180).
+#[derive(Drop)]
+pub struct TableReader<'a, R> {
+    alloc: Global,
+    source: RecordSource<'a, R>,
+    /// How many records were read.
+    number: u32,
+    rows: RowReader,
+    spent: bool,
+}
+
+/// The number that no record of a table may have.
+const RECORD_CAP: u64 = 1 << 32;
+
+/// What a first record is answered that is missing or not the header.
+const BAD_HEADER: TableFault = TableFault::At {
+    number: 1,
+    reason: RowReason::BadHeader,
+};
+
+impl<'a, R: Read> TableReader<'a, R> {
+    ghost use Rattle.twkb_table.specs.RowReading.{limits_of, points_held, waiting, Begins, Keeps};
+    ghost use Rattle.twkb_table.specs.TableReading.{StandsAfter, GivesNext, GivesTree, MeetsEnd, Explains, IsReading, ReadsHeader, ReadsRoot, ReadsOn, IsOver, is_spent, records_read};
+
+    /// Reads nothing yet, and takes no memory.
+    pub fn new(alloc: Global, tap: &'a mut Tap<R>, limits: Limits) -> TableReader<'a, R>
+        ensures { StandsAfter limits R.remaining (R.remaining (device_of tap.old)) [] [] result }
+    {
+        TableReader {
+            alloc,
+            source: RecordSource::new(alloc, tap),
+            number: 0,
+            rows: RowReader::new(alloc, limits),
+            spent: false,
+        }
+    }
+
+    /// Ends the reading; the tap is the caller's again. A caller that made the reader calls this
+    /// last, since the checker covers no drop of a reader as a whole.
+    pub fn finish(self) {
+        let TableReader { source, rows, .. } = self;
+        drop(source);
+        drop(rows);
+    }
+
+    /// Reads the next geometry into a flat form, in place of what it holds, and answers whether
+    /// there was one; after a false and after an `Err` the form is empty. A geometry is given once
+    /// the next root was accepted, or at the table's end. After the end each call answers false, and
+    /// after an `Err` each call answers `Spent`. Takes memory for one record and one row's points,
+    /// and for the flat form.
+    pub fn next_flat(&mut self, flat: &mut Flat) -> Result<bool, TableFault>
+        ensures gives { IfOk result (λ found. found ≡ true → (l : Allowance) (told : Option (List ℕ)) (records : List Record) (given : List Tree)
+            → StandsAfter l R.remaining told records given self.old → GivesNext l R.remaining told records given flat.new self.new) }
+        ensures ends { IfOk result (λ found. found ≡ false → (l : Allowance) (told : Option (List ℕ)) (records : List Record) (given : List Tree)
+            → StandsAfter l R.remaining told records given self.old → MeetsEnd l R.remaining told records given self.new) }
+        ensures fault { IfErr result (λ fault. (l : Allowance) (told : Option (List ℕ)) (records : List Record) (given : List Tree)
+            → StandsAfter l R.remaining told records given self.old → Explains l told records given fault) }
+        ensures cleared { (result ≡ Ok true) ⊎ (flat.new ≡ []) }
+        ensures some { result ≡ Ok true → 0 < length flat.new }
+
+        // the end for good, and a refusal for good
+        ensures over { IsOver self.old → is_spent self.old ≡ false → result ≡ Ok false }
+        ensures ended { result ≡ Ok false → IsOver self.new }
+        ensures spent { (result ≡ Err TableFault.Spent) ↔ (is_spent self.old ≡ true) }
+        ensures stays { is_spent self.new ≡ is_err result }
+    {
+        flat.clear();
+        if self.spent {
+            return Err(TableFault::Spent);
+        }
+        match self.read_geometry(flat) {
+            Ok(true) => Ok(true),
+            Ok(false) => {
+                flat.clear();
+                Ok(false)
+            }
+            Err(fault) => {
+                flat.clear();
+                self.spent = true;
+                Err(fault)
+            }
+        }
+    }
+
+    /// The next geometry, or `None` at the table's end, as `next_flat` reads them; calls of the two
+    /// may be mixed. Takes memory for the geometry too.
+    pub fn next(&mut self) -> Result<Option<Geometry>, TableFault>
+        ensures gives { IfOk result (λ found. IfSome found (λ geometry. (l : Allowance) (told : Option (List ℕ)) (records : List Record) (given : List Tree)
+            → StandsAfter l R.remaining told records given self.old → GivesTree l R.remaining told records given geometry self.new)) }
+        ensures ends { result ≡ Ok None → (l : Allowance) (told : Option (List ℕ)) (records : List Record) (given : List Tree)
+            → StandsAfter l R.remaining told records given self.old → MeetsEnd l R.remaining told records given self.new }
+        ensures fault { IfErr result (λ fault. (l : Allowance) (told : Option (List ℕ)) (records : List Record) (given : List Tree)
+            → StandsAfter l R.remaining told records given self.old → Explains l told records given fault) }
+
+        // the end for good, and a refusal for good
+        ensures over { IsOver self.old → is_spent self.old ≡ false → result ≡ Ok None }
+        ensures ended { result ≡ Ok None → IsOver self.new }
+        ensures spent { (result ≡ Err TableFault.Spent) ↔ (is_spent self.old ≡ true) }
+        ensures stays { is_spent self.new ≡ is_err result }
+    {
+        let mut flat = Flat::new(self.alloc);
+        match self.next_flat(&mut flat) {
+            Ok(true) => {}
+            Ok(false) => return Ok(None),
+            Err(fault) => return Err(fault),
+        }
+        let Ok(geometry) = flat.to_geometry(self.alloc) else {
+            self.spent = true;
+            return Err(TableFault::Memory);
+        };
+        Ok(Some(geometry))
+    }
+
+    // Reads the next geometry into an empty flat form.
+    fn read_geometry(&mut self, flat: &mut Flat) -> Result<bool, TableFault>
+        requires empty { flat.old ≡ [] }
+        ensures gives { IfOk result (λ found. found ≡ true → (l : Allowance) (told : Option (List ℕ)) (records : List Record) (given : List Tree)
+            → StandsAfter l R.remaining told records given self.old → GivesNext l R.remaining told records given flat.new self.new) }
+        ensures ends { IfOk result (λ found. found ≡ false → (l : Allowance) (told : Option (List ℕ)) (records : List Record) (given : List Tree)
+            → StandsAfter l R.remaining told records given self.old → MeetsEnd l R.remaining told records given self.new) }
+        ensures fault { IfErr result (λ fault. (l : Allowance) (told : Option (List ℕ)) (records : List Record) (given : List Tree)
+            → StandsAfter l R.remaining told records given self.old → Explains l told records given fault) }
+        ensures some { result ≡ Ok true → 0 < length flat.new }
+        ensures over { IsOver self.old → result ≡ Ok false }
+        ensures ended { result ≡ Ok false → IsOver self.new }
+        ensures fresh { IfErr result (λ fault. fault ≢ TableFault.Spent) }
+        ensures same { is_spent self.new ≡ is_spent self.old }
+    {
+        let root = match self.next_root() {
+            Ok(Some(root)) => root,
+            Ok(None) => return Ok(false),
+            Err(fault) => return Err(fault),
+        };
+        let Ok(()) = self.rows.begin(root, flat) else {
+            return Err(TableFault::Memory);
+        };
+        match self.read_rows(flat) {
+            Ok(()) => Ok(true),
+            Err(fault) => Err(fault),
+        }
+    }
+
+    // The root of the next geometry, with its points in the buffer: the one that waits, or the first.
+    fn next_root(&mut self) -> Result<Option<Row>, TableFault>
+        ensures reads { (l : Allowance) (told : Option (List ℕ)) (records : List Record) (given : List Tree)
+            → StandsAfter l R.remaining told records given self.old → ReadsRoot l R.remaining told records given self.new result }
+        ensures begins { IfOk result (λ found. IfSome found (λ root. Begins (limits_of self.new.rows) root (points_held self.new.rows))) }
+        ensures none { OnOk result (waiting self.new.rows ≡ []) }
+        ensures over { IsOver self.old → result ≡ Ok None }
+        ensures ended { result ≡ Ok None → IsOver self.new }
+        ensures fresh { IfErr result (λ fault. fault ≢ TableFault.Spent) }
+        ensures same { is_spent self.new ≡ is_spent self.old }
+    {
+        if let Some(root) = self.rows.take_root() {
+            return Ok(Some(root));
+        }
+        if self.number == 0 {
+            return self.begin_table();
+        }
+        self.first_root()
+    }
+
+    // Reads the header, and the root of the first geometry behind it.
+    fn begin_table(&mut self) -> Result<Option<Row>, TableFault>
+        requires first { records_read self.old ≡ 0 }
+        requires none { waiting self.old.rows ≡ [] }
+        ensures reads { (l : Allowance) (told : Option (List ℕ)) (records : List Record) (given : List Tree)
+            → StandsAfter l R.remaining told records given self.old → ReadsRoot l R.remaining told records given self.new result }
+        ensures begins { IfOk result (λ found. IfSome found (λ root. Begins (limits_of self.new.rows) root (points_held self.new.rows))) }
+        ensures none { OnOk result (waiting self.new.rows ≡ []) }
+        ensures ended { result ≡ Ok None → IsOver self.new }
+        ensures fresh { IfErr result (λ fault. fault ≢ TableFault.Spent) }
+        ensures same { is_spent self.new ≡ is_spent self.old }
+    {
+        match self.read_header() {
+            Ok(()) => self.first_root(),
+            Err(fault) => Err(fault),
+        }
+    }
+
+    // Reads the first record, which is to be the header.
+    fn read_header(&mut self) -> Result<(), TableFault>
+        requires first { records_read self.old ≡ 0 }
+        requires none { waiting self.old.rows ≡ [] }
+        ensures reads { (l : Allowance) (told : Option (List ℕ)) (records : List Record) (given : List Tree)
+            → StandsAfter l R.remaining told records given self.old → ReadsHeader l R.remaining told records given self.new result }
+        ensures counted { OnOk result (records_read self.new ≡ 1) }
+        ensures none { waiting self.new.rows ≡ [] }
+        ensures fresh { IfErr result (λ fault. fault ≢ TableFault.Spent) }
+        ensures same { is_spent self.new ≡ is_spent self.old }
+    {
+        match self.source.read() {
+            Ok(true) => {}
+            Ok(false) => return Err(BAD_HEADER),
+            Err(_) => return Err(TableFault::Source),
+        }
+        if !is_header(self.source.record()) {
+            return Err(BAD_HEADER);
+        }
+        self.number = 1;
+        Ok(())
+    }
+
+    // Reads the root of the first geometry, behind the header.
+    fn first_root(&mut self) -> Result<Option<Row>, TableFault>
+        requires begun { 0 < records_read self.old }
+        requires none { waiting self.old.rows ≡ [] }
+        ensures reads { (l : Allowance) (told : Option (List ℕ)) (records : List Record) (given : List Tree)
+            → StandsAfter l R.remaining told records given self.old → ReadsRoot l R.remaining told records given self.new result }
+        ensures begins { IfOk result (λ found. IfSome found (λ root. Begins (limits_of self.new.rows) root (points_held self.new.rows))) }
+        ensures none { OnOk result (waiting self.new.rows ≡ []) }
+        ensures over { IsOver self.old → result ≡ Ok None }
+        ensures ended { result ≡ Ok None → IsOver self.new }
+        ensures fresh { IfErr result (λ fault. fault ≢ TableFault.Spent) }
+        ensures same { is_spent self.new ≡ is_spent self.old }
+    {
+        match next_record(&mut self.source, &mut self.number) {
+            Ok(true) => {}
+            Ok(false) => return Ok(None),
+            Err(fault) => return Err(fault),
+        }
+        match self.rows.read_root(self.source.record()) {
+            Ok(root) => Ok(Some(root)),
+            Err(fault) => Err(fault_at(self.number, fault)),
+        }
+    }
+
+    // Reads the rows of a geometry behind its first ones, up to its end.
+    fn read_rows(&mut self, flat: &mut Flat) -> Result<(), TableFault>
+        requires keeps { Keeps self.old.rows flat.old }
+        ensures gives { OnOk result ((l : Allowance) (told : Option (List ℕ)) (records : List Record) (given : List Tree)
+            → IsReading l R.remaining told records given flat.old self.old → GivesNext l R.remaining told records given flat.new self.new) }
+        ensures fault { IfErr result (λ fault. (l : Allowance) (told : Option (List ℕ)) (records : List Record) (given : List Tree)
+            → IsReading l R.remaining told records given flat.old self.old → Explains l told records given fault) }
+        ensures some { OnOk result (0 < length flat.new) }
+        ensures fresh { IfErr result (λ fault. fault ≢ TableFault.Spent) }
+        ensures same { is_spent self.new ≡ is_spent self.old }
+    {
+        // a proof learns by reading it that the number is a u32
+        let _number = self.number;
+        for _ in 0..RECORD_CAP {
+            match self.read_row(flat) {
+                Ok(true) => {}
+                Ok(false) => return Ok(()),
+                Err(fault) => return Err(fault),
+            }
+        }
+        Err(TableFault::TooManyRecords)
+    }
+
+    // Reads one record, and answers whether it is a row more of the geometry.
+    fn read_row(&mut self, flat: &mut Flat) -> Result<bool, TableFault>
+        requires keeps { Keeps self.old.rows flat.old }
+        ensures reads { (l : Allowance) (told : Option (List ℕ)) (records : List Record) (given : List Tree)
+            → IsReading l R.remaining told records given flat.old self.old → ReadsOn l R.remaining told records given flat.new self.new result }
+        ensures keeps { IfOk result (λ more. more ≡ true → Keeps self.new.rows flat.new) }
+        ensures counts { IfOk result (λ more. more ≡ true → (records_read self.new ≡ records_read self.old + 1) × (records_read self.new < 2 ^ 32)) }
+        ensures some { OnOk result (0 < length flat.new) }
+        ensures fresh { IfErr result (λ fault. fault ≢ TableFault.Spent) }
+        ensures same { is_spent self.new ≡ is_spent self.old }
+    {
+        match next_record(&mut self.source, &mut self.number) {
+            Ok(true) => {}
+            Ok(false) => return Ok(false),
+            Err(fault) => return Err(fault),
+        }
+        match self.rows.read_row(self.source.record(), flat) {
+            Ok(more) => Ok(more),
+            Err(stop) => Err(fault_at(self.number, stop)),
+        }
+    }
+}

@@ -1,0 +1,138 @@
+-- The members among the rows below a row.
+use Rattle.std.proofs.Common.{◌≡◌, ℕ, suc, ◌<◌, ◌≤◌, true, false, List, [], ◌∷◌, ◌++◌, map, length, Option, Some, None, refl, ap, sym, ◌∙◌, subst, append_assoc, arith}
+use Rattle.std.specs.Prelude.{⊤, ℤ, nat_le, nat_eq}
+use Rattle.std.proofs.lemmas.Bool.Decides.{nat_tests}
+use Rattle.twkb_points.specs.Point.{Point}
+use Rattle.twkb_geom.specs.Tree.{Simple, point, line, polygon, multi_point, multi_line, multi_polygon, Tree, simple, collection, Trees, end, ◌▷◌, Ids, members}
+use Rattle.twkb_geom.specs.declared.kind.Kind.{Kind}
+use Rattle.twkb_geom.specs.Rows.{Row, plain_row, polygon_rows, own_row, rows_with, rows_below, member_rows, ring_rows, rows_of_each, first_id, other_ids}
+use Rattle.twkb_geom.proofs.AllJoined.{all_join}
+use Rattle.twkb_geom.proofs.RootLaws.{AreDeep, IsDeeper}
+use Rattle.twkb_geom.proofs.RowFitting.{own_row-depth}
+use Rattle.twkb_grammar.specs.Items.{OfId}
+use Rattle.twkb_writer.specs.Bytes.{members_below, ids_bytes, id_bytes, signed}
+use Rattle.twkb_writer.proofs.WayLemmas.{walked}
+
+-- no row is there, or the first is at this depth or above it
+abbrev pub Stops : ℕ → List Row → Type 0
+Stops d [] = ⊤
+Stops d (r ∷ rs) = r.depth ≤ d
+
+-- also at a greater depth
+pub stops_deeper : (d : ℕ) (rs : List Row) → Stops d rs → Stops (suc d) rs
+stops_deeper d [] h = tt
+stops_deeper d (r ∷ rs) h = omega arith
+
+-- ---- single rows
+
+-- a row no deeper than d ends the members
+pub members-over : (d : ℕ) (r : Row) (rs : List Row) → r.depth ≤ d → members_below d (r ∷ rs) ≡ []
+members-over d r rs h = let le : nat_le r.depth d ≡ true = grind (arith, nat_tests) in rw le refl
+
+-- a row one deeper is a member
+pub members-one : (d : ℕ) (r : Row) (rs : List Row) → r.depth ≡ suc d → members_below d (r ∷ rs) ≡ r ∷ members_below d rs
+members-one d r rs e =
+    let le : nat_le r.depth d ≡ false = grind (arith, nat_tests) in
+    let eq : nat_eq r.depth (suc d) ≡ true = grind (arith, nat_tests) in
+    rw (le, eq) refl
+
+-- a deeper row is none
+pub members-past : (d : ℕ) (r : Row) (rs : List Row) → suc d < r.depth → members_below d (r ∷ rs) ≡ members_below d rs
+members-past d r rs h =
+    let le : nat_le r.depth d ≡ false = grind (arith, nat_tests) in
+    let eq : nat_eq r.depth (suc d) ≡ false = grind (arith, nat_tests) in
+    rw (le, eq) refl
+
+-- ---- lists of rows
+
+-- rows that stop have no members
+pub members-stop : (d : ℕ) (rs : List Row) → Stops d rs → members_below d rs ≡ []
+members-stop d [] h = refl
+members-stop d (r ∷ rs) h = members-over d r rs h
+
+-- deeper rows are passed over
+pub members-deeper : (d : ℕ) (xs rs : List Row) → AreDeep (suc (suc d)) xs → members_below d (xs ++ rs) ≡ members_below d rs
+members-deeper d [] rs deep = refl
+members-deeper d (x ∷ xs) rs deep = members-past d x (xs ++ rs) (let low = deep.0 in omega (arith, low)) ∙ members-deeper d xs rs deep.1
+
+-- of each part its first row is the member
+pub members-each : {A : Type 0} (d : ℕ) (f : Option ℤ → A → List Row) (own : Option ℤ → A → Row) (deeper : Option ℤ → A → List Row)
+    → ((id : Option ℤ) (x : A) → f id x ≡ own id x ∷ deeper id x) → ((id : Option ℤ) (x : A) → (own id x).depth ≡ suc d) → ((id : Option ℤ) (x : A) → AreDeep (suc (suc d)) (deeper id x))
+    → (ids : Ids) (xs : List A) (rs : List Row) → members_below d (rows_of_each f ids xs ++ rs) ≡ rows_of_each (λ id x. own id x ∷ []) ids xs ++ members_below d rs
+members-each d f own deeper is at deep ids [] rs = refl
+members-each d f own deeper is at deep ids (x ∷ xs) rs =
+    let id = first_id ids in
+    let rest = rows_of_each f (other_ids ids) xs in
+    ap (λ (l : List Row). members_below d ((l ++ rest) ++ rs)) (is id x)
+    ∙ ap (λ (l : List Row). members_below d (own id x ∷ l)) (append_assoc (deeper id x) rest rs)
+    ∙ members-one d (own id x) (deeper id x ++ (rest ++ rs)) (at id x)
+    ∙ ap (λ (l : List Row). own id x ∷ l) (members-deeper d (deeper id x) (rest ++ rs) (deep id x) ∙ members-each d f own deeper is at deep (other_ids ids) xs rs)
+
+-- one row each
+pub length-each : {A : Type 0} (own : Option ℤ → A → Row) (ids : Ids) (xs : List A) → length (rows_of_each (λ id x. own id x ∷ []) ids xs) ≡ length xs
+length-each own ids [] = refl
+length-each own ids (x ∷ xs) = let more = length-each own (other_ids ids) xs in omega (arith, more)
+
+-- their ids
+pub ids-each : {A : Type 0} (own : Option ℤ → A → Row) → ((id : Option ℤ) (x : A) → (own id x).id ≡ id) → (at : Point) (ids : List ℤ) (xs : List A) → length ids ≡ length xs
+    → ids_bytes (rows_of_each (λ id x. own id x ∷ []) (Some ids) xs) ≡ walked at (map OfId ids)
+ids-each own is at [] [] e = refl
+ids-each own is at [] (x ∷ xs) e = absurd (omega (arith, e))
+ids-each own is at (id ∷ ids) [] e = absurd (omega (arith, e))
+ids-each own is at (id ∷ ids) (x ∷ xs) e =
+    ap (λ (i : Option ℤ). id_bytes i ++ ids_bytes (rows_of_each (λ id x. own id x ∷ []) (Some ids) xs)) (is (Some id) x)
+    ∙ ap (λ l. signed id ++ l) (ids-each own is at ids xs (omega (arith, e)))
+
+-- ---- depths
+
+-- parts are deep where each is
+pub deep-each : {A : Type 0} (d : ℕ) (f : Option ℤ → A → List Row) → ((id : Option ℤ) (x : A) → AreDeep d (f id x)) → (ids : Ids) (xs : List A) → AreDeep d (rows_of_each f ids xs)
+deep-each d f deep ids [] = tt
+deep-each d f deep ids (x ∷ xs) = all_join (IsDeeper d) (f (first_id ids) x) (rows_of_each f (other_ids ids) xs) (deep (first_id ids) x) (deep-each d f deep (other_ids ids) xs)
+
+-- deeper is deep
+pub deep-less : (d : ℕ) (rs : List Row) → AreDeep (suc d) rs → AreDeep d rs
+deep-less d [] h = tt
+deep-less d (r ∷ rs) h = (let low = h.0 in omega (arith, low), deep-less d rs h.1)
+
+-- the rings of a polygon
+pub deep-rings : (d : ℕ) (rings : List (List Point)) → AreDeep d (ring_rows d rings)
+deep-rings d rings = deep-each d (λ none ring. plain_row d Kind.Ring none ring ∷ []) (λ id x. (omega arith, tt)) None rings
+
+deep-simple : (d : ℕ) (s : Simple) → AreDeep d (rows_below d s)
+deep-simple d (point o) = tt
+deep-simple d (line ps) = tt
+deep-simple d (polygon rings) = deep-rings d rings
+deep-simple d (multi_point ids ps) = deep-each d (λ id p. plain_row d Kind.Point id (p ∷ []) ∷ []) (λ id x. (omega arith, tt)) ids ps
+deep-simple d (multi_line ids lines) = deep-each d (λ id ps. plain_row d Kind.Linestring id ps ∷ []) (λ id x. (omega arith, tt)) ids lines
+deep-simple d (multi_polygon ids areas) = deep-each d (polygon_rows d) (λ id x. (omega arith, deep-less d (ring_rows (suc d) x) (deep-rings (suc d) x))) ids areas
+
+-- the rows below a geometry's own row, at depth d
+abbrev pub below_of : ℕ → Tree → List Row
+below_of d (simple p s) = rows_below d s
+below_of d (collection p ids gs) = member_rows d ids gs
+
+-- a geometry's row, and those below it
+pub rows_with-below : (id : Option ℤ) (d : ℕ) (g : Tree) → rows_with id d g ≡ own_row id d g ∷ below_of (suc d) g
+rows_with-below id d (simple p s) = refl
+rows_with-below id d (collection p ids gs) = refl
+
+-- a row at a depth and deeper ones below it
+deep-own : (d : ℕ) (id : Option ℤ) (g : Tree) → AreDeep (suc d) (below_of (suc d) g) → AreDeep d (rows_with id d g)
+deep-own d id g h =
+    let own = own_row-depth id d g in
+    subst (AreDeep d) (sym (rows_with-below id d g)) (omega (arith, own), deep-less d (below_of (suc d) g) h)
+
+mutual
+  pub deep-below : (d : ℕ) (g : Tree) → AreDeep d (below_of d g)
+  deep-below d (simple p s) = deep-simple d s
+  deep-below d (collection p ids gs) = deep-members d ids gs
+
+  deep-members : (d : ℕ) (ids : Ids) (gs : Trees) → AreDeep d (member_rows d ids gs)
+  deep-members d ids end = tt
+  deep-members d ids (g ▷ gs) = all_join (IsDeeper d) (rows_with (first_id ids) d g) (member_rows d (other_ids ids) gs) (deep-own d (first_id ids) g (deep-below (suc d) g)) (deep-members d (other_ids ids) gs)
+
+-- the rows of members are those of each
+pub member_rows-each : (d : ℕ) (ids : Ids) (gs : Trees) → member_rows d ids gs ≡ rows_of_each (λ id g. rows_with id d g) ids (members gs)
+member_rows-each d ids end = refl
+member_rows-each d ids (g ▷ gs) = ap (λ (l : List Row). rows_with (first_id ids) d g ++ l) (member_rows-each d (other_ids ids) gs)

@@ -1,0 +1,45 @@
+-- The caps of a flat form's rows.
+use Rattle.std.proofs.Common.{ℕ, zero, suc, ◌≤◌, ◌^◌, List, [], ◌∷◌, length, drop, None, ◌∙◌, ap, subst, arith, append-nil, length-append}
+use Rattle.twkb_geom.specs.Tree.{Tree}
+use Rattle.twkb_geom.specs.Limits.{largest_limits, IsValid}
+use Rattle.twkb_geom.specs.Rows.{Row, rows, row_points}
+use Rattle.twkb_geom.specs.RowLists.{AreValidRowsOfOne, AreValidRows, AreShallow}
+use Rattle.twkb_geom.specs.RowLemmas.{length-rows_with}
+use Rattle.twkb_geom.proofs.RowDepths.{valid_depths}
+use Rattle.twkb_geom.proofs.RowPoints.{row_points-with}
+use Rattle.twkb_flat.specs.declared.node.Node.{Node}
+use Rattle.twkb_flat.specs.Rows.{IsNode}
+
+-- at most so many rows and points, none deeper than 34
+pub record IsCapped (rs : List Row) : Type 0 where
+  pub nodes : length rs ≤ 2 ^ 20
+  pub points : length (row_points rs) ≤ 2 ^ 24
+  pub depths : AreShallow 34 rs
+
+-- so are the rows of a geometry
+pub capped : (rs : List Row) → AreValidRowsOfOne largest_limits rs → IsCapped rs
+capped [] v = record { nodes = omega arith; points = omega arith; depths = tt }
+capped (r ∷ rs) v =
+    let g : Tree = v.0 in
+    let valid : IsValid largest_limits g = v.1 in
+    let all : AreValidRows largest_limits (r ∷ rs) = (g ∷ [], (valid, tt), append-nil (rows 0 g) ∙ v.2) in
+    record {
+      nodes = omega (arith, ap (λ (l : List Row). length l) v.2, length-rows_with None 0 g, valid.nodes_kept);
+      points = omega (arith, ap (λ (l : List Row). length (row_points l)) v.2, ap (λ ps. length ps) (row_points-with None 0 g), valid.points_kept);
+      depths = valid_depths largest_limits (r ∷ rs) all;
+    }
+
+-- and those from a place on
+pub capped_drop : (i : ℕ) (rs : List Row) → IsCapped rs → IsCapped (drop i rs)
+capped_drop zero rs c = c
+capped_drop (suc i) [] c = c
+capped_drop (suc i) (r ∷ rs) c =
+    capped_drop i rs (record {
+      nodes = omega (arith, c.nodes);
+      points = omega (arith, c.points, length-append r.points (row_points rs));
+      depths = c.depths.1;
+    })
+
+-- no node is deeper
+pub node_depth : (rs : List Row) (i : ℕ) (node : Node) → IsCapped rs → IsNode rs i node → node.row.depth ≤ 34
+node_depth rs i node c is = (subst (AreShallow 34) is.here (capped_drop i rs c).depths).0

@@ -1,0 +1,46 @@
+-- The points of a node, read from the last to the first.
+use Rattle.std.proofs.Common.{◌≡◌, ℕ, ◌+◌, ◌-◌, ◌<◌, List, ◌∷◌, ◌++◌, length, drop, take, get_or, Some, sym, ◌∙◌, ap, subst, arith}
+use Rattle.std.specs.Prelude.{slice_get}
+use Rattle.std.proofs.lemmas.List.{get_or-append-add, get_or_append_left, at_drop_more}
+use Rattle.std.proofs.lemmas.Option.{get_or_from_slice_get}
+use Rattle.twkb_points.specs.Point.{Point}
+use Rattle.twkb_geom.specs.Rows.{Row, row_points}
+use Rattle.twkb_flat.specs.declared.node.Node.{Node}
+use Rattle.twkb_flat.specs.Rows.{IsNode}
+use Rattle.twkb_writer.specs.declared.tails.Tail.{Tail}
+use Rattle.twkb_writer.specs.Measuring.{points_at}
+use Rattle.twkb_writer.specs.Tails.{tail_of}
+use Rattle.twkb_writer.proofs.RowStep.{points_split}
+
+-- the first row behind a place is the node, with its own points
+pub own_at : (rows : List Row) (i : ℕ) (node : Node) (is : IsNode rows i node) → points_at (drop i rows) ≡ is.own
+own_at rows i node is = ap points_at is.here
+
+-- a point that was read stands before those after it
+pub read_back : (rows : List Row) (i : ℕ) (node : Node) → IsNode rows i node → (j : ℕ) (p : Point) → j < node.points → slice_get (row_points rows) (node.first.0 + j) ≡ Some p
+    → drop j (points_at (drop i rows)) ≡ p ∷ drop (j + 1) (points_at (drop i rows))
+read_back rows i node is j p within read =
+    let before : List Point = row_points (take i rows) in
+    let inside : j < length is.own = omega (arith, is.count, within) in
+    let at : get_or is.own j p ≡ p =
+    sym (get_or_append_left is.own (row_points is.rest) p j inside)
+    ∙ sym (get_or-append-add before (is.own ++ row_points is.rest) j p)
+    ∙ ap (λ (n : ℕ). get_or (before ++ (is.own ++ row_points is.rest)) (n + j) p) is.first
+    ∙ ap (λ (ps : List Point). get_or ps (node.first.0 + j) p) (sym (points_split rows i node is))
+    ∙ get_or_from_slice_get (row_points rows) (node.first.0 + j) p p read in
+    subst (λ (own : List Point). drop j own ≡ p ∷ drop (j + 1) own) (sym (own_at rows i node is))
+    (at_drop_more (λ l. l) is.own j p inside ∙ ap (λ q. q ∷ drop (j + 1) is.own) at)
+
+-- with that point before them
+pub tail_back : (rows : List Row) (i : ℕ) (node : Node) → IsNode rows i node → (count back : ℕ) (p : Point) (ahead : List Point) (new : Tail) → count ≡ node.points → back < count
+    → slice_get (row_points rows) (node.first.0 + (count - 1 - back)) ≡ Some p
+    → new ≡ tail_of (p ∷ (drop (count - back) (points_at (drop i rows)) ++ ahead))
+    → new ≡ tail_of (drop (count - (back + 1)) (points_at (drop i rows)) ++ ahead)
+tail_back rows i node is count back p ahead new counted below read new_is =
+    let own : List Point = points_at (drop i rows) in
+    let here : count - 1 - back + 1 ≡ count - back = omega arith in
+    let there : count - 1 - back ≡ count - (back + 1) = omega arith in
+    new_is
+    ∙ ap (λ n. tail_of ((p ∷ drop n own) ++ ahead)) (sym here)
+    ∙ ap (λ l. tail_of (l ++ ahead)) (sym (read_back rows i node is (count - 1 - back) p (omega arith) read))
+    ∙ ap (λ n. tail_of (drop n own ++ ahead)) there

@@ -1,0 +1,32 @@
+-- The points of a node, one after another.
+use Rattle.std.proofs.Common.{◌≡◌, ◌∙◌, ℕ, suc, ◌+◌, ◌-◌, ◌<◌, ◌≤◌, List, [], ◌∷◌, ◌++◌, take, drop, Some, ap, arith}
+use Rattle.std.specs.Prelude.{slice_get, ◌-ℤ◌}
+use Rattle.std.proofs.lemmas.List.{drop_more}
+use Rattle.std.proofs.lemmas.Option.{get_or_from_slice_get, slice_get_within}
+use Rattle.twkb_points.specs.Point.{Point}
+use Rattle.twkb_writer.specs.Bytes.{step_bytes, way_bytes, way_end}
+
+-- the next of some points, and the others
+pub part_more : (ps : List Point) (i end : ℕ) (p : Point) → i < end → slice_get ps i ≡ Some p → take (end - i) (drop i ps) ≡ p ∷ take (end - (i + 1)) (drop (i + 1) ps)
+part_more ps i end p h e =
+    let here : drop i ps ≡ p ∷ drop (i + 1) ps = drop_more ps i p (slice_get_within ps i p e) ∙ ap (λ (q : Point). q ∷ drop (i + 1) ps) (get_or_from_slice_get ps i p p e) in
+    let turns : end - i ≡ suc (end - (i + 1)) = omega arith in
+    ap (λ (n : ℕ). take n (drop i ps)) turns ∙ ap (take (suc (end - (i + 1)))) here
+
+-- the way to it, and on
+pub way_more : (ps : List Point) (i end : ℕ) (at p : Point) → i < end → slice_get ps i ≡ Some p
+    → way_bytes at (take (end - i) (drop i ps)) ≡ step_bytes (p.x -ℤ at.x, p.y -ℤ at.y) ++ way_bytes p (take (end - (i + 1)) (drop (i + 1) ps))
+way_more ps i end at p h e = ap (way_bytes at) (part_more ps i end p h e)
+
+-- where it ends
+pub end_more : (ps : List Point) (i end : ℕ) (at p : Point) → i < end → slice_get ps i ≡ Some p
+    → way_end at (take (end - i) (drop i ps)) ≡ way_end p (take (end - (i + 1)) (drop (i + 1) ps))
+end_more ps i end at p h e = ap (way_end at) (part_more ps i end p h e)
+
+-- no points are left
+pub nothing_left : (ps : List Point) (i end : ℕ) → end ≤ i → take (end - i) (drop i ps) ≡ []
+nothing_left ps i end h = ap (λ (n : ℕ). take n (drop i ps)) (let none : end - i ≡ 0 = omega arith in none)
+
+-- all points are left
+pub whole_part : (ps : List Point) (first count : ℕ) → take (first + count - first) (drop first ps) ≡ take count (drop first ps)
+whole_part ps first count = ap (λ (n : ℕ). take n (drop first ps)) (let same : first + count - first ≡ count = omega arith in same)

@@ -1,0 +1,45 @@
+-- Counts of reads add up.
+use Rattle.std.proofs.Common.{◌≡◌, ◌∙◌, ℕ, ◌+◌, ◌≤◌, Bool, true, false, refl, arith, ap}
+use Rattle.std.specs.Prelude.{if◌then◌else◌}
+use Rattle.twkb_geom.specs.Tree.{saturated}
+use Rattle.twkb_flat.specs.declared.work.Work.{Work}
+use Rattle.twkb_writer.specs.Reads.{Reads}
+
+pub reads_none : (w : Work) (n m : ℕ) → Reads w n m w
+reads_none w n m = record { node_reads = omega arith; point_reads = omega arith; same_points = refl; same_nodes = refl; same_entries = refl }
+
+pub reads_join : (a b c : Work) (n m k j p q : ℕ) → Reads a n m b → Reads b k j c → n + k ≤ p → m + j ≤ q → Reads a p q c
+reads_join a b c n m k j p q r s h i = record {
+  node_reads = omega (arith, r.node_reads, s.node_reads);
+  point_reads = omega (arith, r.point_reads, s.point_reads);
+  same_points = s.same_points ∙ r.same_points;
+  same_nodes = s.same_nodes ∙ r.same_nodes;
+  same_entries = s.same_entries ∙ r.same_entries;
+}
+
+pub one_node : (a b : Work) → b ≡ record a { node_reads = saturated (a.node_reads + 1) } → Reads a 1 0 b
+one_node a b e = record {
+  node_reads = omega (arith, ap (λ (w : Work). w.node_reads) e);
+  point_reads = omega (arith, ap (λ (w : Work). w.point_reads) e);
+  same_points = ap (λ (w : Work). w.points) e;
+  same_nodes = ap (λ (w : Work). w.nodes) e;
+  same_entries = ap (λ (w : Work). w.entries) e;
+}
+
+pub one_point : (a b : Work) → b ≡ record a { point_reads = saturated (a.point_reads + 1) } → Reads a 0 1 b
+one_point a b e = record {
+  node_reads = omega (arith, ap (λ (w : Work). w.node_reads) e);
+  point_reads = omega (arith, ap (λ (w : Work). w.point_reads) e);
+  same_points = ap (λ (w : Work). w.points) e;
+  same_nodes = ap (λ (w : Work). w.nodes) e;
+  same_entries = ap (λ (w : Work). w.entries) e;
+}
+
+pub reads_if : (named : Bool) (a b : Work) (n : ℕ) → Reads a (if named then n else 0) 0 b → Reads a n 0 b
+reads_if true a b n r = r
+reads_if false a b n r = reads_join a b b 0 0 0 0 n 0 r (reads_none b 0 0) (omega arith) (omega arith)
+
+pub reads_row : (a b c d e : Work) (n m k p : ℕ) → Reads a n m b → Reads b 1 0 c → Reads c k 0 d → Reads d 0 p e → Reads a (n + (1 + k)) (m + p) e
+reads_row a b c d e n m k p r s t u =
+    reads_join a d e (n + (1 + k)) m 0 p (n + (1 + k)) (m + p)
+    (reads_join a c d (n + 1) m k 0 (n + (1 + k)) m (reads_join a b c n m 1 0 (n + 1) m r s (omega arith) (omega arith)) t (omega arith) (omega arith)) u (omega arith) (omega arith)

@@ -1,0 +1,16 @@
+use Rattle.std.proofs.Common.{◌≡◌, ◌+◌, ◌-◌, take, drop}
+use Rattle.twkb_geom.specs.Rows.{row_points}
+use Rattle.twkb_writer.specs.Bytes.{way_bytes, way_end}
+use Rattle.twkb_writer.specs.Putting.{Progress}
+use Rattle.twkb_writer.specs.Reads.{Reads}
+use Rattle.twkb_writer.proofs.points.put_points.Given as goal
+
+abbrev pub invariant-loop-index : goal.invariant-loop-index
+invariant-loop-index g l =
+    let ps = row_points l.flat in
+    record {
+      progress : Progress g.S.Sink.took l.fn.sink l.fn.piece.items (way_bytes l.fn.cursor (take l.count (drop l.fn.first.0 ps))) l.sink l.piece.items
+          (way_bytes l.cursor (take (l.fn.first.0 + l.count - l.index) (drop l.index ps)));
+      last : way_end l.cursor (take (l.fn.first.0 + l.count - l.index) (drop l.index ps)) ≡ way_end l.fn.cursor (take l.count (drop l.fn.first.0 ps));
+      reads : Reads l.fn.work 0 (l.index - l.fn.first.0) l.work;
+    }

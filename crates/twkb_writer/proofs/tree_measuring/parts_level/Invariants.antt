@@ -1,0 +1,13 @@
+-- What the parts from the place on come to.
+use Rattle.std.proofs.Common.{◌≡◌, ◌*◌, ◌≤◌, length, drop}
+use Rattle.twkb_geom.specs.Rows.{ids_from}
+use Rattle.twkb_writer.specs.Levels.{blank}
+use Rattle.twkb_writer.specs.Measuring.{load}
+use Rattle.twkb_writer.proofs.MeasuringParts.{with_each, with_row_of}
+use Rattle.twkb_writer.proofs.tree_measuring.parts_level.Given as goal
+
+abbrev pub invariant-loop-index : goal.invariant-loop-index
+invariant-loop-index g l = record {
+  value : l.level ≡ with_each (with_row_of l.kind g.T.Part.own) (ids_from l.index l.ids) (drop l.index l.parts) blank;
+  most : load l.level ≤ 20 * length (drop l.index l.parts);
+}

@@ -1,0 +1,154 @@
+-- The bytes that rows in preorder stand for, with what was measured of their geometries.
+use Rattle.std.specs.Prelude.{ℕ, zero, suc, ◌+◌, ◌*◌, ◌%◌, Bool, true, false, if◌then◌else◌, nat_le, nat_eq, ◌&&◌, List, [], ◌∷◌, ◌++◌, length, drop, flat_map, ℤ, Option, None, Some}
+use Rattle.twkb_num.specs.Zigzag.{zigzag_of}
+use Rattle.twkb_num.specs.Varint.{varint_of}
+use Rattle.twkb_points.specs.Point.{Point, origin}
+use Rattle.twkb_points.specs.Differences.{differences_from}
+use Rattle.twkb_points.specs.Extent.{Extent, box_numbers}
+use Rattle.twkb_geom.specs.declared.kind.Kind.{Kind}
+use Rattle.twkb_geom.specs.declared.kind.Kind.TheVariants as kind
+use Rattle.twkb_geom.specs.Rows.{Row}
+use Rattle.twkb_grammar.specs.declared.style.Style.{Style}
+use Rattle.twkb_grammar.specs.declared.style.Style.TheVariants.{Full, Plain}
+use Rattle.twkb_writer.specs.declared.sizes.Entry.{Entry}
+
+-- ---- numbers
+
+-- a whole number: the shortest varint of its zigzag form (TWKB, zigzag)
+abbrev pub signed : ℤ → List ℕ
+signed n = varint_of (zigzag_of n)
+
+-- a difference: x, then y (TWKB, point arrays)
+abbrev pub step_bytes : ℤ × ℤ → List ℕ
+step_bytes d = signed d.0 ++ signed d.1
+
+-- the way from a place through some points (TWKB, point arrays)
+abbrev pub way_bytes : Point → List Point → List ℕ
+way_bytes at ps = flat_map step_bytes (differences_from at ps)
+
+-- where the way ends
+abbrev pub way_end : Point → List Point → Point
+way_end at [] = at
+way_end at (p ∷ ps) = way_end p ps
+
+-- ---- members
+
+-- of the rows after a row at this depth its members: the rows one deeper, up to the first row that is no deeper than it
+abbrev pub members_below : ℕ → List Row → List Row
+members_below d [] = []
+members_below d (r ∷ rs) = if nat_le r.depth d then [] else if nat_eq r.depth (suc d) then r ∷ members_below d rs else members_below d rs
+
+-- an id, where there is one
+abbrev pub id_bytes : Option ℤ → List ℕ
+id_bytes None = []
+id_bytes (Some n) = signed n
+
+-- the ids of rows
+abbrev pub ids_bytes : List Row → List ℕ
+ids_bytes rs = flat_map (λ (r : Row). id_bytes r.id) rs
+
+-- what stands before the points of a row: npoints of a linestring or ring, the count and the ids of members (TWKB,
+-- description of types)
+abbrev pub counts_bytes : Kind → ℕ → ℕ → List ℕ → List ℕ
+counts_bytes kind.Point own members ids = []
+counts_bytes kind.Linestring own members ids = varint_of own
+counts_bytes kind.Ring own members ids = varint_of own
+counts_bytes kind.Polygon own members ids = varint_of members ++ ids
+counts_bytes kind.MultiPoint own members ids = varint_of members ++ ids
+counts_bytes kind.MultiLinestring own members ids = varint_of members ++ ids
+counts_bytes kind.MultiPolygon own members ids = varint_of members ++ ids
+counts_bytes kind.Collection own members ids = varint_of members ++ ids
+
+-- ---- headers
+
+-- the number of a type (TWKB, type and precision); a ring has none
+abbrev pub type_of : Kind → ℕ
+type_of kind.Ring = 0
+type_of kind.Point = 1
+type_of kind.Linestring = 2
+type_of kind.Polygon = 3
+type_of kind.MultiPoint = 4
+type_of kind.MultiLinestring = 5
+type_of kind.MultiPolygon = 6
+type_of kind.Collection = 7
+
+-- the type byte: the type, and four bits of the precision's zigzag form (TWKB, type and precision)
+abbrev pub type_byte : Kind → ℤ → ℕ
+type_byte k p = type_of k + 16 * (zigzag_of p % 16)
+
+-- the count is 0
+abbrev pub is_zero : ℕ → Bool
+is_zero zero = true
+is_zero (suc n) = false
+
+-- a geometry with so many points of its own has no body (profile)
+abbrev pub is_bare : ℕ → Entry → Bool
+is_bare own e = is_zero own && is_zero e.members
+
+-- bits 4 and 2 (TWKB, metadata header)
+abbrev pub body_bits : ℕ → Entry → ℕ
+body_bits own e = if is_bare own e then 16 else if e.named then 4 else 0
+
+-- bit 0 (TWKB, metadata header)
+abbrev pub box_bit : Option Extent → ℕ
+box_bit None = 0
+box_bit (Some b) = 1
+
+-- the metadata byte in a style: bit 1 in a full blob
+abbrev pub metadata_of : Style → ℕ → Entry → ℕ
+metadata_of Full own e = body_bits own e + (box_bit e.bounds + 2)
+metadata_of Plain own e = body_bits own e
+
+-- the size, which a full blob has
+abbrev pub size_bytes : Style → Entry → List ℕ
+size_bytes Full e = varint_of e.size
+size_bytes Plain e = []
+
+-- the four numbers of the box (TWKB, bounding box)
+abbrev pub box_bytes : Option Extent → List ℕ
+box_bytes None = []
+box_bytes (Some b) = flat_map signed (box_numbers b)
+
+-- type byte, metadata byte, size and box
+abbrev pub header : Style → Kind → ℤ → ℕ → Entry → List ℕ
+header style k p own e = type_byte k p ∷ metadata_of style own e ∷ (size_bytes style e ++ box_bytes e.bounds)
+
+-- ---- rows
+
+-- what stands before the points of a row of this kind and depth, with so many points of its own and these rows after it:
+-- where it is a geometry of its own
+abbrev pub geometry_lead : Style → ℤ → Entry → Kind → ℕ → ℕ → List Row → List ℕ
+geometry_lead style p e k d own rs =
+    header style k p own e ++ (if is_bare own e then [] else counts_bytes k own e.members (if e.named then ids_bytes (members_below d rs) else []))
+
+-- and where it is a part of a geometry: a ring, or a member of a multi type
+abbrev pub part_lead : Kind → ℕ → ℕ → List Row → List ℕ
+part_lead k d own rs = counts_bytes k own (length (members_below d rs)) []
+
+-- of any row, which is a geometry of its own where it has a precision
+abbrev pub lead : Style → Option ℤ → List Entry → Kind → ℕ → ℕ → List Row → List ℕ
+lead style None es k d own rs = part_lead k d own rs
+lead style (Some p) [] k d own rs = []
+lead style (Some p) (e ∷ es) k d own rs = geometry_lead style p e k d own rs
+
+-- the way goes on through the parts of a geometry, and begins at the origin in a geometry of its own (profile)
+abbrev pub way_start : Option ℤ → Point → Point
+way_start None at = at
+way_start (Some p) at = origin
+
+-- how many entries a row has
+abbrev pub entry_count : Option ℤ → ℕ
+entry_count None = 0
+entry_count (Some p) = 1
+
+-- the bytes of rows with their entries, where the way stands at a place
+abbrev pub rows_bytes : Style → Point → List Entry → List Row → List ℕ
+rows_bytes style at es [] = []
+rows_bytes style at es (r ∷ rs) =
+    (lead style r.precision es r.kind r.depth (length r.points) rs ++ way_bytes (way_start r.precision at) r.points)
+    ++ rows_bytes style (way_end (way_start r.precision at) r.points) (drop (entry_count r.precision) es) rs
+
+-- how many entries the rows have
+abbrev pub entries_in : List Row → ℕ
+entries_in [] = 0
+entries_in (r ∷ rs) = entry_count r.precision + entries_in rs

@@ -1,0 +1,102 @@
+-- What the rows at one depth come to, with all rows below them, and the entry of the geometry above them.
+use Rattle.std.specs.Prelude.{ℕ, ◌+◌, ◌≤◌, ◌^◌, ℤ, ◌-ℤ◌, Bool, true, false, not, ◌&&◌, ◌||◌, if◌then◌else◌, nat_eq, is_some, Option, None, Some}
+use Rattle.twkb_points.specs.Extent.{Extent, joined_options}
+use Rattle.twkb_geom.specs.declared.kind.Kind.{Kind}
+use Rattle.twkb_geom.specs.declared.kind.Kind.TheVariants as kind
+use Rattle.twkb_grammar.specs.declared.style.Style.{Style}
+use Rattle.twkb_grammar.specs.declared.style.Style.TheVariants.{Full, Plain}
+use Rattle.twkb_writer.specs.declared.levels.Level.{Level}
+use Rattle.twkb_writer.specs.declared.precisions.Precisions.TheVariants.{Absent, One}
+use Rattle.twkb_writer.specs.declared.sizes.Entry.{Entry}
+use Rattle.twkb_writer.specs.declared.tails.Tail.{Tail}
+use Rattle.twkb_writer.specs.Precisions.{all_are, agreed}
+use Rattle.twkb_writer.specs.Tails.{number_len, signed_len, from_origin}
+
+-- no rows
+abbrev pub blank : Level
+blank = record { members = 0; ids = 0; named = false; bytes = 0; bounds = None; precisions = Absent }
+
+-- the bytes of an id
+abbrev pub id_len : Option ℤ → ℕ
+id_len None = 0
+id_len (Some n) = signed_len n
+
+-- the bytes of the four numbers of a box (TWKB, bounding box)
+abbrev pub box_len : Option Extent → ℕ
+box_len None = 0
+box_len (Some e) = signed_len e.least.x + signed_len (e.greatest.x -ℤ e.least.x) + signed_len e.least.y + signed_len (e.greatest.y -ℤ e.least.y)
+
+-- the bytes of a count, and of the ids where members are counted (TWKB, description of types)
+abbrev pub lead_len : Kind → ℕ → Level → ℕ
+lead_len kind.Point own below = 0
+lead_len kind.Linestring own below = number_len own
+lead_len kind.Ring own below = number_len own
+lead_len kind.Polygon own below = number_len below.members + below.ids
+lead_len kind.MultiPoint own below = number_len below.members + below.ids
+lead_len kind.MultiLinestring own below = number_len below.members + below.ids
+lead_len kind.MultiPolygon own below = number_len below.members + below.ids
+lead_len kind.Collection own below = number_len below.members + below.ids
+
+-- no points of its own, no members and no parts
+abbrev pub is_bare : ℕ → Level → Bool
+is_bare own below = nat_eq own 0 && nat_eq below.members 0
+
+-- the bytes of a geometry's body: none where it is bare
+abbrev pub body_len : Kind → ℕ → Level → Tail → ℕ
+body_len k own below t = if is_bare own below then 0 else lead_len k own below + below.bytes + from_origin t
+
+-- the extent of the geometry's points, those of members included
+abbrev pub all_bounds : Level → Tail → Option Extent
+all_bounds below t = joined_options t.bounds below.bounds
+
+-- the row is a point
+abbrev pub is_point : Kind → Bool
+is_point kind.Point = true
+is_point _ = false
+
+-- the extent for its box, where it has one
+abbrev pub box_for : Style → Kind → ℤ → Level → Tail → Option Extent
+box_for Full k p below t = if not (is_point k) && all_are p below.precisions then all_bounds below t else None
+box_for Plain k p below t = None
+
+-- the entry of a geometry with so many points of its own, these rows below it, and these points up to its end
+abbrev pub entry_for : Style → Kind → ℤ → ℕ → Level → Tail → Entry
+entry_for style k p own below t = record {
+  size = box_len (box_for style k p below t) + body_len k own below t;
+  bounds = box_for style k p below t;
+  members = below.members;
+  named = below.named;
+}
+
+-- the bytes of a blob with so many bytes of box and body: two bytes, and the size where it has one (TWKB, structure)
+abbrev pub blob_len : Style → ℕ → ℕ
+blob_len Full size = 2 + number_len size + size
+blob_len Plain size = 2 + size
+
+-- the rows at a depth with a part of a geometry before them
+abbrev pub with_part : Kind → ℕ → Option ℤ → Level → Level → Level
+with_part k own id below l = record {
+  members = l.members + 1;
+  ids = id_len id + l.ids;
+  named = is_some id || l.named;
+  bytes = lead_len k own below + below.bytes + l.bytes;
+  bounds = l.bounds;
+  precisions = l.precisions;
+}
+
+-- the rows at a depth with a geometry before them whose box and body have so many bytes
+abbrev pub with_geometry : Style → ℕ → ℤ → Option ℤ → Level → Tail → Level → Level
+with_geometry style size p id below t l = record {
+  members = l.members + 1;
+  ids = id_len id + l.ids;
+  named = is_some id || l.named;
+  bytes = blob_len style size + l.bytes;
+  bounds = joined_options (all_bounds below t) l.bounds;
+  precisions = agreed (agreed (One p) below.precisions) l.precisions;
+}
+
+-- far below the greatest numbers
+pub record IsSmall (l : Level) : Type 0 where
+  pub members : l.members ≤ 2 ^ 20
+  pub ids : l.ids ≤ 2 ^ 40
+  pub bytes : l.bytes ≤ 2 ^ 40

@@ -1,0 +1,11 @@
+pub mod Bytes
+pub mod Encoding
+pub mod Levels
+pub mod Measuring
+pub mod Nodes
+pub mod Precisions
+pub mod Putting
+pub mod Reads
+pub mod Sizes
+pub mod Tails
+pub mod TreeMeasuring

@@ -1,0 +1,210 @@
+//! What the rows at one depth come to, and the entry of a geometry whose members and parts are known.
+ghost use Rattle.std.specs.Prelude.{◌≡◌, ◌+◌, ◌≤◌, ◌^◌};
+ghost use Rattle.twkb_writer.specs.Levels.{blank, is_bare, lead_len, body_len, all_bounds, box_for, box_len, id_len, is_point, entry_for, blob_len, with_part, with_geometry};
+ghost use Rattle.twkb_grammar.specs.declared.style.Style.TheVariants.{Full};
+
+use crate::precisions::Precisions;
+use crate::sizes::Entry;
+use crate::tails::{Tail, number_len, signed_len};
+use twkb_geom::Kind;
+use twkb_grammar::Style;
+use twkb_points::{Bounds, merged};
+
+/// What the rows at one depth come to, from a place on up to the next row above them, with all rows below them.
+#[derive(Clone, Copy, Debug, PartialEq, Eq)]
+pub struct Level {
+    /// How many rows there are at this depth.
+    pub members: u32,
+    /// The bytes of their ids.
+    pub ids: u64,
+    /// Whether one has an id.
+    pub named: bool,
+    /// The bytes of whole geometries, and of the counts of parts.
+    pub bytes: u64,
+    /// The bounds of the points of whole geometries.
+    pub bounds: Option<Bounds>,
+    /// The precisions of whole geometries.
+    pub precisions: Precisions,
+}
+
+/// The bytes of an id.
+fn id_len(id: Option<i64>) -> u64
+    ensures value { result ≡ id_len id }
+    ensures most { result ≤ 10 }
+{
+    match id {
+        Some(id) => signed_len(id),
+        None => 0,
+    }
+}
+
+/// The bytes of a box.
+fn box_len(bounds: &Option<Bounds>) -> u64
+    ensures value { result ≡ box_len bounds.now }
+    ensures most { result ≤ 40 }
+{
+    match bounds {
+        Some(bounds) => {
+            let [x, width, y, height] = bounds.items();
+            signed_len(x) + signed_len(width) + signed_len(y) + signed_len(height)
+        }
+        None => 0,
+    }
+}
+
+/// Whether the row is a point.
+fn is_point(kind: Kind) -> bool
+    ensures { result ≡ is_point kind }
+{
+    matches!(kind, Kind::Point)
+}
+
+/// The bytes of a whole blob with so many bytes of box and body.
+pub fn blob_len(style: Style, size: u64) -> u64
+    requires room { size ≤ 2 ^ 50 }
+    ensures value { result ≡ blob_len style size }
+    ensures most { result ≤ size + 12 }
+{
+    match style {
+        Style::Full => 2 + number_len(size) + size,
+        Style::Plain => 2 + size,
+    }
+}
+
+impl Level {
+    /// No rows.
+    pub fn blank() -> Level
+        ensures { result ≡ blank }
+    {
+        Level {
+            members: 0,
+            ids: 0,
+            named: false,
+            bytes: 0,
+            bounds: None,
+            precisions: Precisions::Absent,
+        }
+    }
+
+    /// The bytes of a count, and of ids where members are counted: of a row with so many points of its own and these rows below it.
+    fn lead_len(&self, kind: Kind, own: u32) -> u64
+        requires room { self.now.ids ≤ 2 ^ 40 }
+        ensures value { result ≡ lead_len kind own self.now }
+        ensures most { result ≤ self.now.ids + 10 }
+    {
+        match kind {
+            Kind::Point => 0,
+            Kind::Linestring | Kind::Ring => number_len(own as u64),
+            _ => number_len(self.members as u64) + self.ids,
+        }
+    }
+
+    /// The bytes of a geometry's body.
+    fn body_len(&self, kind: Kind, own: u32, tail: &Tail) -> u64
+        requires ids { self.now.ids ≤ 2 ^ 40 }
+        requires bytes { self.now.bytes ≤ 2 ^ 40 }
+        requires points { tail.now.bytes ≤ 2 ^ 40 }
+        ensures value { result ≡ body_len kind own self.now tail.now }
+        ensures most { result ≤ self.now.ids + self.now.bytes + tail.now.bytes + 30 }
+    {
+        if own == 0 && self.members == 0 {
+            return 0;
+        }
+        self.lead_len(kind, own) + self.bytes + tail.from_origin()
+    }
+
+    /// The bounds of all points of a geometry.
+    fn all_bounds(&self, tail: &Tail) -> Option<Bounds>
+        ensures { result ≡ all_bounds self.now tail.now }
+    {
+        merged(tail.bounds, self.bounds)
+    }
+
+    /// The bounds for a geometry's box, where it has one.
+    fn box_for(&self, style: Style, kind: Kind, precision: i8, tail: &Tail) -> Option<Bounds>
+        ensures { result ≡ box_for style kind precision self.now tail.now }
+    {
+        match style {
+            Style::Full => self.full_box(kind, precision, tail),
+            Style::Plain => None,
+        }
+    }
+
+    /// The same in a full blob.
+    fn full_box(&self, kind: Kind, precision: i8, tail: &Tail) -> Option<Bounds>
+        ensures { result ≡ box_for Full kind precision self.now tail.now }
+    {
+        if is_point(kind) || !self.precisions.all_are(precision) {
+            return None;
+        }
+        self.all_bounds(tail)
+    }
+
+    /// What is measured of a geometry with so many points of its own, these rows below it, and these points up to its end.
+    pub fn entry_for(&self, style: Style, kind: Kind, precision: i8, own: u32, tail: &Tail) -> Entry
+        requires ids { self.now.ids ≤ 2 ^ 40 }
+        requires bytes { self.now.bytes ≤ 2 ^ 40 }
+        requires points { tail.now.bytes ≤ 2 ^ 40 }
+        ensures value { result ≡ entry_for style kind precision own self.now tail.now }
+        ensures most { result.size ≤ self.now.ids + self.now.bytes + tail.now.bytes + 70 }
+    {
+        let bounds = self.box_for(style, kind, precision, tail);
+        let size = box_len(&bounds) + self.body_len(kind, own, tail);
+        Entry {
+            size,
+            bounds,
+            members: self.members,
+            named: self.named,
+        }
+    }
+
+    /// These rows with a part of a geometry before them, with so many points of its own and rows below it.
+    pub fn with_part(self, kind: Kind, own: u32, id: Option<i64>, below: &Level) -> Level
+        requires members { self.members ≤ 2 ^ 20 }
+        requires ids { self.ids ≤ 2 ^ 40 }
+        requires bytes { self.bytes ≤ 2 ^ 40 }
+        requires ids_below { below.now.ids ≤ 2 ^ 40 }
+        requires bytes_below { below.now.bytes ≤ 2 ^ 40 }
+        ensures value { result ≡ with_part kind own id below.now self }
+        ensures most { result.ids + result.bytes ≤ (below.now.ids + below.now.bytes) + (self.ids + self.bytes) + 20 }
+    {
+        Level {
+            members: self.members + 1,
+            ids: id_len(id) + self.ids,
+            named: id.is_some() || self.named,
+            bytes: below.lead_len(kind, own) + below.bytes + self.bytes,
+            bounds: self.bounds,
+            precisions: self.precisions,
+        }
+    }
+
+    /// These rows with a geometry before them, whose box and body have so many bytes, with these rows below it and these
+    /// points up to its end.
+    pub fn with_geometry(
+        self,
+        style: Style,
+        size: u64,
+        precision: i8,
+        id: Option<i64>,
+        below: &Level,
+        tail: &Tail,
+    ) -> Level
+        requires members { self.members ≤ 2 ^ 20 }
+        requires ids { self.ids ≤ 2 ^ 40 }
+        requires bytes { self.bytes ≤ 2 ^ 40 }
+        requires room { size ≤ 2 ^ 50 }
+        ensures value { result ≡ with_geometry style size precision id below.now tail.now self }
+        ensures most { result.ids + result.bytes ≤ self.ids + self.bytes + size + 22 }
+    {
+        Level {
+            members: self.members + 1,
+            ids: id_len(id) + self.ids,
+            named: id.is_some() || self.named,
+            bytes: blob_len(style, size) + self.bytes,
+            bounds: merged(below.all_bounds(tail), self.bounds),
+            precisions: Precisions::One(precision)
+                .and(below.precisions)
+                .and(self.precisions),
+        }
+    }
+}

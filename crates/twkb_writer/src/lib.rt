@@ -1,0 +1,26 @@
+//! Canonical blobs of flat forms: their sizes, and their bytes to a sink.
+#![tactic(auto)]
+
+mod encoding;
+mod header;
+mod levels;
+mod measuring;
+mod members;
+mod piece;
+mod points;
+mod precisions;
+mod rows;
+mod sizes;
+mod tails;
+mod tree_measuring;
+mod writing;
+
+pub use encoding::{EncodeFault, encode, encode_styled};
+pub use measuring::measure_flat;
+pub use sizes::Sizes;
+pub use tree_measuring::measure;
+pub use twkb_grammar::Style;
+pub use writing::write_flat;
+
+#[cfg(test)]
+mod tests;

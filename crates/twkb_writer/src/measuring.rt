@@ -1,0 +1,144 @@
+//! The sizes of a flat form, in one pass over its rows from the last to the first.
+ghost use Rattle.std.specs.Prelude.{◌≡◌, ◌+◌, ◌++◌, ◌*◌, ◌<◌, ◌≤◌, ◌^◌, ℕ, List, length, drop, slice_index_or, IfOk};
+ghost use Rattle.twkb_points.specs.Point.{Point};
+ghost use Rattle.twkb_geom.specs.Rows.{row_points};
+ghost use Rattle.twkb_flat.specs.Rows.{IsNode};
+ghost use Rattle.twkb_writer.specs.Levels.{blank, IsSmall};
+ghost use Rattle.twkb_writer.specs.Measuring.{row_level, row_entry, option_list, tail_after, cost_of, points_at, TakenRow, Counted};
+ghost use Rattle.twkb_writer.specs.Reads.{Reads};
+ghost use Rattle.twkb_writer.specs.Sizes.{AreSizes};
+ghost use Rattle.twkb_writer.specs.Tails.{tail_of};
+
+use crate::levels::Level;
+use crate::sizes::{Entry, Sizes};
+use crate::tails::Tail;
+use std::alloc::{AllocError, Global};
+use twkb_flat::{Flat, Node, NodeId, PointId, Work};
+use twkb_grammar::Style;
+
+/// How many depths a row may have, and one below them.
+const LEVELS: usize = 36;
+
+/// The points of a row before those up to the end of its geometry, each read once.
+fn take_points(flat: &Flat, id: NodeId, node: &Node, tail: Tail, work: &mut Work) -> Tail
+    requires node { IsNode flat.now id.0 node.now }
+    requires few { length (row_points flat.now) ≤ 2 ^ 24 }
+    requires room { tail.bytes ≤ 2 ^ 30 }
+    ensures value { (ahead : List Point) → tail ≡ tail_of ahead → result ≡ tail_of (points_at (drop id.0 flat.now) ++ ahead) }
+    ensures most { result.bytes ≤ tail.bytes + 20 * node.now.points }
+    ensures reads { Reads work.old 0 node.now.points work.new }
+{
+    let mut tail = tail;
+    for back in 0..node.points {
+        let point = flat.point(PointId(node.first.0 + (node.points - 1 - back)), work);
+        tail = tail.behind(point);
+    }
+    tail
+}
+
+/// The rows at a row's depth with this row before them, and its entry where it is a geometry of its own.
+fn measure_row(
+    style: Style,
+    node: &Node,
+    below: &Level,
+    tail: &Tail,
+    others: Level,
+) -> (Level, Option<Entry>)
+    requires below { IsSmall below.now }
+    requires others { IsSmall others }
+    requires points { tail.now.bytes ≤ 2 ^ 40 }
+    ensures level { result.0 ≡ row_level style node.now.row.kind node.now.points node.now.row.id node.now.row.precision below.now tail.now others }
+    ensures most { result.0.ids + result.0.bytes ≤ (below.now.ids + below.now.bytes) + (others.ids + others.bytes) + cost_of node.now.row.precision tail.now.bytes }
+    ensures entry { result.1 ≡ row_entry style node.now.row.kind node.now.points node.now.row.precision below.now tail.now }
+{
+    match node.row.precision {
+        Some(precision) => {
+            let entry = below.entry_for(style, node.row.kind, precision, node.points, tail);
+            let level = others.with_geometry(
+                style,
+                entry.size,
+                precision,
+                node.row.id,
+                below,
+                tail,
+            );
+            (level, Some(entry))
+        }
+        None => (
+            others.with_part(node.row.kind, node.points, node.row.id, below),
+            None,
+        ),
+    }
+}
+
+/// Takes a row in: sets what the rows at its depth come to, with this row before them, and leaves none below. Gives its
+/// entry, where it is a geometry of its own.
+fn take_row(style: Style, node: &Node, points: &Tail, levels: &mut [Level; LEVELS]) -> Option<Entry>
+    requires deep { node.now.row.depth < 35 }
+    requires small { (k : ℕ) → k < 36 → IsSmall (slice_index_or levels.old k blank) }
+    requires points { points.now.bytes ≤ 2 ^ 40 }
+    ensures { TakenRow style node.now points.now levels.old levels.new result }
+{
+    let depth = node.row.depth as usize;
+    let below = levels[depth + 1];
+    let others = levels[depth];
+    let (level, entry) = measure_row(style, node, &below, points, others);
+    levels[depth + 1] = Level::blank();
+    levels[depth] = level;
+    entry
+}
+
+/// Keeps an entry, where there is one; the first makes room for `most`, the only growth.
+fn keep(entries: Vec<Entry>, entry: Option<Entry>, most: usize) -> Result<Vec<Entry>, AllocError>
+    ensures { IfOk result (λ kept. kept.items ≡ entries.items ++ option_list entry) }
+{
+    let mut entries = entries;
+    if let Some(entry) = entry {
+        if entries.is_empty() {
+            entries.reserve(most)?;
+        }
+        entries.extend_from_slice(&[entry])?;
+    }
+    Ok(entries)
+}
+
+/// The points up to the end of their geometry before a row whose points these are, with those after it.
+fn before_row(node: &Node, points: Tail) -> Tail
+    ensures { result ≡ tail_after node.now.row.precision points }
+{
+    match node.row.precision {
+        Some(_) => Tail::none(),
+        None => points,
+    }
+}
+
+/// The sizes of a flat form in a style, one entry for each TWKB geometry in preorder, and none where there is no node.
+/// Reads each node and each point once, in one pass at any nesting; counts them and the entries. Takes memory, for the
+/// entries alone.
+pub fn measure_flat(
+    alloc: Global,
+    flat: &Flat,
+    style: Style,
+    work: &mut Work,
+) -> Result<Sizes, AllocError>
+    ensures sizes { IfOk result (λ sizes. AreSizes style flat.now sizes) }
+    ensures work { IfOk result (λ sizes. Counted work.old (length (row_points flat.now)) (length flat.now) (length sizes) work.new) }
+{
+    let total = flat.node_count();
+    let mut entries = Vec::new(alloc);
+    let mut levels = [Level::blank(); LEVELS];
+    let mut tail = Tail::none();
+    for back in 0..total {
+        let id = NodeId(total - 1 - back);
+        let node = flat.node(id, work);
+        let points = take_points(flat, id, &node, tail, work);
+        let entry = take_row(style, &node, &points, &mut levels);
+        tail = before_row(&node, points);
+        entries = keep(entries, entry, id.0 as usize + 1)?;
+    }
+    entries.reverse();
+    work.points = work.points.saturating_add(flat.point_count() as u64);
+    work.nodes = work.nodes.saturating_add(total as u64);
+    work.entries = work.entries.saturating_add(entries.len() as u64);
+    Ok(Sizes { entries })
+}

@@ -1,0 +1,39 @@
+//! Whether geometries have one precision.
+ghost use Rattle.std.specs.Prelude.{◌≡◌};
+ghost use Rattle.twkb_writer.specs.Precisions.{agreed, all_are};
+
+/// What is known of the precisions of some geometries.
+#[derive(Clone, Copy, Debug, PartialEq, Eq)]
+pub enum Precisions {
+    /// There is no geometry.
+    Absent,
+    /// All have this one.
+    One(i8),
+    /// Two differ.
+    Several,
+}
+
+impl Precisions {
+    /// Whether all are this one.
+    pub fn all_are(self, precision: i8) -> bool
+        ensures { result ≡ all_are precision self }
+    {
+        match self {
+            Precisions::Absent => true,
+            Precisions::One(other) => precision == other,
+            Precisions::Several => false,
+        }
+    }
+
+    /// What is known of these and of others.
+    pub fn and(self, others: Precisions) -> Precisions
+        ensures { result ≡ agreed self others }
+    {
+        match (self, others) {
+            (Precisions::Absent, others) => others,
+            (own, Precisions::Absent) => own,
+            (Precisions::One(a), Precisions::One(b)) if a == b => Precisions::One(a),
+            _ => Precisions::Several,
+        }
+    }
+}

@@ -1,0 +1,42 @@
+//! The sizes of a flat form.
+ghost use Rattle.std.specs.Prelude.{◌≡◌, length};
+
+use std::marker::Model;
+use twkb_points::Bounds;
+
+/// What is measured of a TWKB geometry before its header can be written.
+#[derive(Clone, Copy, Debug, PartialEq, Eq)]
+pub struct Entry {
+    /// The bytes behind the size up to the geometry's end: box and body.
+    pub(crate) size: u64,
+    /// The bounds of all its points, where it has a box.
+    pub(crate) bounds: Option<Bounds>,
+    /// How many members or rings it has.
+    pub(crate) members: u32,
+    /// Whether its members have ids.
+    pub(crate) named: bool,
+}
+
+/// The sizes of a flat form in a style, one entry for each TWKB geometry, in preorder. A contract sees the list of these.
+#[derive(Drop)]
+pub struct Sizes {
+    pub(crate) entries: Vec<Entry>,
+}
+
+impl Model for Sizes {
+    ghost use Rattle.std.specs.Prelude.{List};
+    ghost use Rattle.twkb_writer.specs.declared.sizes.Entry.{Entry};
+
+    ghost Value = { List Entry };
+
+    ghost view = { λ s. s.entries.items };
+}
+
+impl Sizes {
+    /// How many TWKB geometries were measured. Takes no memory.
+    pub fn len(&self) -> usize
+        ensures { result ≡ length self.now }
+    {
+        self.entries.len()
+    }
+}

@@ -1,0 +1,91 @@
+//! The points from a place on up to the end of their geometry, taken in from the last to the first.
+ghost use Rattle.std.specs.Prelude.{◌≡◌, ◌+◌, ◌≤◌, ◌^◌, [], ◌∷◌, List};
+ghost use Rattle.twkb_points.specs.Point.{Point};
+ghost use Rattle.twkb_writer.specs.Tails.{number_len, signed_len, step_len, from_origin, tail_of};
+
+use twkb_num::{varint_len, zigzag};
+use twkb_points::{Bounds, Cursor, Pt, merged};
+
+/// What the points from a place on up to the end of their geometry come to.
+#[derive(Clone, Copy, Debug, PartialEq, Eq)]
+pub struct Tail {
+    /// The first of them.
+    pub first: Option<Pt>,
+    /// The bytes of the differences of all but the first, each from the point before it.
+    pub bytes: u64,
+    /// Their bounds.
+    pub bounds: Option<Bounds>,
+}
+
+/// The bytes of a number.
+#[tactic(auto, unfolding(crate::specs::Tails::number_len))]
+pub fn number_len(number: u64) -> u64
+    ensures value { result ≡ number_len number }
+    ensures most { result ≤ 10 }
+{
+    varint_len(number) as u64
+}
+
+/// The bytes of a whole number.
+pub fn signed_len(number: i64) -> u64
+    ensures value { result ≡ signed_len number }
+    ensures most { result ≤ 10 }
+{
+    number_len(zigzag(number))
+}
+
+/// The bytes of the way from one point to the next.
+pub fn step_len(from: Pt, to: Pt) -> u64
+    ensures value { result ≡ step_len from to }
+    ensures most { result ≤ 20 }
+{
+    let mut cursor = Cursor::origin();
+    let _to_the_start = cursor.delta(from);
+    let (x, y) = cursor.delta(to);
+    signed_len(x) + signed_len(y)
+}
+
+impl Tail {
+    /// No points.
+    pub fn none() -> Tail
+        ensures { result ≡ tail_of [] }
+    {
+        Tail {
+            first: None,
+            bytes: 0,
+            bounds: None,
+        }
+    }
+
+    /// The same with a point before them.
+    pub fn behind(self, point: Pt) -> Tail
+        requires room { self.bytes ≤ 2 ^ 40 }
+        ensures value { (ps : List Point) → self ≡ tail_of ps → result ≡ tail_of (point ∷ ps) }
+        ensures most { result.bytes ≤ self.bytes + 20 }
+    {
+        let step = match self.first {
+            Some(next) => step_len(point, next),
+            None => 0,
+        };
+        Tail {
+            first: Some(point),
+            bytes: step + self.bytes,
+            bounds: merged(Some(Bounds::of(point)), self.bounds),
+        }
+    }
+
+    /// The bytes of all their differences, where the first counts from (0, 0).
+    pub fn from_origin(&self) -> u64
+        requires room { self.now.bytes ≤ 2 ^ 40 }
+        ensures value { result ≡ from_origin self.now }
+        ensures most { result ≤ self.now.bytes + 20 }
+    {
+        match self.first {
+            Some(first) => {
+                let (x, y) = Cursor::origin().delta(first);
+                signed_len(x) + signed_len(y) + self.bytes
+            }
+            None => 0,
+        }
+    }
+}

@@ -1,0 +1,207 @@
+//! The length of a geometry's canonical blob, measured on the geometry itself.
+ghost use Rattle.std.specs.Prelude.{◌≡◌, ◌+◌, ◌++◌, ◌∷◌, [], ◌*◌, ◌≤◌, ◌^◌, List, length, flat_map};
+ghost use Rattle.twkb_points.specs.Point.{Point};
+ghost use Rattle.twkb_geom.specs.Limits.{largest_limits, IsValid};
+ghost use Rattle.twkb_geom.specs.Rows.{rows_of_each, plain_row, polygon_rows, rows_under, member_rows};
+ghost use Rattle.twkb_geom.specs.Tree.{IsTree, flatten, trees, area_nodes, nodes, nodes_all, flat, flat_all};
+ghost use Rattle.twkb_grammar.specs.Written.{canonical_blob};
+ghost use Rattle.twkb_grammar.specs.declared.style.Style.TheVariants.{Full};
+ghost use Rattle.twkb_writer.specs.Measuring.{level, load};
+ghost use Rattle.twkb_writer.specs.Tails.{tail_of};
+ghost use Rattle.twkb_writer.specs.TreeMeasuring.{way_of, level_under, tree_level, most_of, IsWithinCaps};
+
+use crate::levels::Level;
+use crate::tails::Tail;
+use std::slice::from_ref;
+use twkb_geom::{Geometry, Ids, Item, Kind, Lines, Members, Pts, Shape, id_at, own_parts};
+use twkb_grammar::Style;
+use twkb_points::Pt;
+
+/// A part of a geometry that is no geometry of its own: a point, line, ring or polygon.
+trait Part: Item {
+    // The points of its own row.
+    ghost own: { Self → List Point };
+
+    // All its points, in order.
+    ghost all: { Self → List Point };
+
+    /// The points of its own row. Takes no memory.
+    fn own_points(&self) -> &[Pt]
+        ensures { result.now ≡ own self.now };
+
+    /// Its points before those up to the end of the geometry.
+    fn in_front_of(&self, tail: Tail) -> Tail
+        requires room { tail.bytes + 20 * length (all self.now) ≤ 2 ^ 40 }
+        ensures value { (ahead : List Point) → tail ≡ tail_of ahead → result ≡ tail_of (all self.now ++ ahead) }
+        ensures most { result.bytes ≤ tail.bytes + 20 * length (all self.now) };
+}
+
+impl Part for Pt {
+    ghost own = { λ point. point ∷ [] };
+
+    ghost all = { λ point. point ∷ [] };
+
+    fn own_points(&self) -> &[Pt] {
+        from_ref(self)
+    }
+
+    fn in_front_of(&self, tail: Tail) -> Tail {
+        tail.behind(*self)
+    }
+}
+
+impl Part for Pts {
+    ghost own = { λ points. points };
+
+    ghost all = { λ points. points };
+
+    fn own_points(&self) -> &[Pt] {
+        self.as_slice()
+    }
+
+    fn in_front_of(&self, tail: Tail) -> Tail {
+        tail_before(self.as_slice(), tail)
+    }
+}
+
+impl Part for Lines {
+    ghost own = { λ rings. [] };
+
+    ghost all = { flatten };
+
+    fn own_points(&self) -> &[Pt] {
+        &[]
+    }
+
+    fn in_front_of(&self, tail: Tail) -> Tail {
+        tail_before(self.as_slice(), tail)
+    }
+}
+
+/// The points of parts before those up to the end of the geometry.
+fn tail_before<T: Part>(parts: &[T], tail: Tail) -> Tail
+    requires room { tail.bytes + 20 * length (flat_map T.all parts.now) ≤ 2 ^ 40 }
+    ensures value { (ahead : List Point) → tail ≡ tail_of ahead → result ≡ tail_of (flat_map T.all parts.now ++ ahead) }
+    ensures most { result.bytes ≤ tail.bytes + 20 * length (flat_map T.all parts.now) }
+{
+    let mut tail = tail;
+    for index in (0..parts.len()).rev() {
+        tail = parts[index].in_front_of(tail);
+    }
+    tail
+}
+
+/// All points of a part, with none after them.
+fn whole_tail<T: Part>(part: &T) -> Tail
+    requires few { length (T.all part.now) ≤ 2 ^ 24 }
+    ensures value { result ≡ tail_of (T.all part.now) }
+    ensures most { result.bytes ≤ 20 * length (T.all part.now) }
+{
+    part.in_front_of(Tail::none())
+}
+
+/// What rings, or members that are points or linestrings, come to.
+fn parts_level<T: Part>(kind: Kind, parts: &[T], ids: &Ids) -> Level
+    requires few { length parts.now ≤ 2 ^ 20 }
+    requires few_points { length (flat_map T.own parts.now) ≤ 2 ^ 24 }
+    ensures value { result ≡ level Full 0 (rows_of_each (λ id part. plain_row 0 kind id (T.own part) ∷ []) ids.now parts.now) }
+    ensures most { load result ≤ 20 * length parts.now }
+{
+    let mut level = Level::blank();
+    for index in (0..parts.len()).rev() {
+        let own = parts[index].own_points().len() as u32;
+        level = level.with_part(kind, own, id_at(ids, index), &Level::blank());
+    }
+    level
+}
+
+/// What members that are polygons come to.
+fn areas_level(areas: &[Lines], ids: &Ids) -> Level
+    requires few { area_nodes areas.now ≤ 2 ^ 20 }
+    requires few_points { length (flat_map flatten areas.now) ≤ 2 ^ 24 }
+    ensures value { result ≡ level Full 0 (rows_of_each (polygon_rows 0) ids.now areas.now) }
+    ensures most { load result ≤ 20 * area_nodes areas.now }
+{
+    let mut level = Level::blank();
+    for index in (0..areas.len()).rev() {
+        let rings = parts_level(Kind::Ring, areas[index].as_slice(), &None);
+        level = level.with_part(Kind::Polygon, 0, id_at(ids, index), &rings);
+    }
+    level
+}
+
+/// The points of the geometry itself, those of its parts included.
+fn own_tail(geometry: &Geometry) -> Tail
+    requires few { length (flat geometry.now) ≤ 2 ^ 24 }
+    ensures value { result ≡ tail_of (way_of geometry.now) }
+    ensures most { result.bytes ≤ 20 * length (way_of geometry.now) }
+{
+    match geometry.shape() {
+        Shape::Point(None) | Shape::Collection(_, _) => Tail::none(),
+        Shape::Point(Some(point)) => whole_tail(point),
+        Shape::Line(points) | Shape::MultiPoint(points, _) => whole_tail(points),
+        Shape::Polygon(lines) | Shape::MultiLine(lines, _) => whole_tail(lines),
+        Shape::MultiPolygon(areas, _) => tail_before(areas.as_slice(), Tail::none()),
+    }
+}
+
+/// What the members of a collection come to, with these ids.
+#[cycle(measuring)]
+#[tactic(auto, using(twkb_geom::specs::Size::member_smaller))]
+fn members_level(members: &Members, ids: &Ids) -> Level
+    requires { IsWithinCaps (nodes_all (trees members.now)) (length (flat_all (trees members.now))) }
+    ensures value { result ≡ level Full 0 (member_rows 0 ids.now (trees members.now)) }
+    ensures most { load result ≤ most_of (nodes_all (trees members.now)) (length (flat_all (trees members.now))) }
+{
+    let items = members.as_slice();
+    let mut level = Level::blank();
+    for index in (0..items.len()).rev() {
+        level = with_member(&items[index], id_at(ids, index), level);
+    }
+    level
+}
+
+/// What the rows below a geometry's own come to.
+#[cycle(measuring)]
+fn below(geometry: &Geometry) -> Level
+    requires { IsWithinCaps (nodes geometry.now) (length (flat geometry.now)) }
+    ensures value { result ≡ level_under geometry.now }
+    ensures most { load result + 20 * length (way_of geometry.now) + 100 ≤ most_of (nodes geometry.now) (length (flat geometry.now)) }
+{
+    match geometry.shape() {
+        Shape::Point(_) | Shape::Line(_) => Level::blank(),
+        Shape::Polygon(rings) => parts_level(Kind::Ring, rings.as_slice(), &None),
+        Shape::MultiPoint(points, ids) => parts_level(Kind::Point, points.as_slice(), ids),
+        Shape::MultiLine(lines, ids) => parts_level(Kind::Linestring, lines.as_slice(), ids),
+        Shape::MultiPolygon(areas, ids) => areas_level(areas.as_slice(), ids),
+        Shape::Collection(members, ids) => members_level(members, ids),
+    }
+}
+
+/// The rows at a depth with a geometry before them, which has this id.
+#[cycle(measuring)]
+fn with_member(geometry: &Geometry, id: Option<i64>, others: Level) -> Level
+    requires caps { IsWithinCaps (nodes geometry.now) (length (flat geometry.now)) }
+    requires members { others.members ≤ 2 ^ 20 }
+    requires room { load others ≤ 2 ^ 39 }
+    ensures value { result ≡ tree_level id geometry.now others }
+    ensures most { load result ≤ load others + most_of (nodes geometry.now) (length (flat geometry.now)) }
+    ensures sound { IsTree geometry.now }
+{
+    let (kind, points) = own_parts(geometry.shape());
+    let own = points.len() as u32;
+    let precision = geometry.precision();
+    let tail = own_tail(geometry);
+    let level = below(geometry);
+    let entry = level.entry_for(Style::Full, kind, precision, own, &tail);
+    others.with_geometry(Style::Full, entry.size, precision, id, &level, &tail)
+}
+
+/// The length of the full canonical blob of a geometry within `Limits::largest()`, as `encode` writes it. Reads each
+/// point once, whatever the nesting. Takes no memory.
+pub fn measure(geometry: &Geometry) -> u64
+    requires { IsValid largest_limits geometry.now }
+    ensures { result ≡ length (canonical_blob Full geometry.now) }
+{
+    with_member(geometry, None, Level::blank()).bytes
+}

@@ -1,0 +1,43 @@
+//! Flat forms as canonical blobs.
+ghost use Rattle.std.specs.Prelude.{◌≡◌, ◌*◌, [], length, OnOk, IfErr, IsOk};
+ghost use Rattle.twkb_geom.specs.Tree.{Tree, IsTree};
+ghost use Rattle.twkb_geom.specs.Rows.{rows, row_points};
+ghost use Rattle.twkb_io.specs.Sinks.{TookFront};
+ghost use Rattle.twkb_grammar.specs.Written.{canonical_blob};
+ghost use Rattle.twkb_writer.specs.Sizes.{AreSizes};
+ghost use Rattle.twkb_writer.specs.Reads.{Reads};
+
+use crate::piece::{Piece, flush};
+use crate::rows::put_rows;
+use crate::sizes::Sizes;
+use twkb_flat::{Flat, Work};
+use twkb_grammar::Style;
+use twkb_io::Sink;
+
+/// Writes the canonical blob of a flat form in a style, with its sizes in that style: exactly these bytes where it answers
+/// `Ok`, else a front of them. Writes nothing for a flat form without rows. Reads each point once at most and each node
+/// twice at most, at any nesting, and adds nothing else to the counted work. Takes no memory.
+pub fn write_flat<S: Sink>(
+    flat: &Flat,
+    style: Style,
+    sizes: &Sizes,
+    sink: &mut S,
+    work: &mut Work,
+) -> Result<(), S::Fault>
+    requires { AreSizes style flat.now sizes.now }
+
+    // the blob, or a front of it
+    ensures ok { OnOk result ((g : Tree) → IsTree g → rows 0 g ≡ flat.now → S.took sink.old (canonical_blob style g) sink.new) }
+    ensures err { IfErr result (λ fault. (g : Tree) → IsTree g → rows 0 g ≡ flat.now → TookFront S.refused sink.old (canonical_blob style g) fault sink.new) }
+    ensures nothing { flat.now ≡ [] → (IsOk result) × (sink.new ≡ sink.old) }
+
+    // the work
+    ensures reads { OnOk result (Reads work.old (2 * length flat.now) (length (row_points flat.now)) work.new) }
+{
+    if flat.is_empty() {
+        return Ok(());
+    }
+    let mut piece = Piece::new();
+    put_rows(flat, style, sizes, sink, &mut piece, work)?;
+    flush(sink, &piece)
+}
