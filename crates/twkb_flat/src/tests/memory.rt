@@ -35,10 +35,8 @@ fn a_push_into_a_cleared_form_asks_for_no_growth(rt: HostRuntime) -> Result<(), 
     let own = points(alloc, &[(2, 1)])?;
     let mut flat = fixtures::two_polygons(&rt, alloc)?;
     flat.clear();
-    assert!(rt;
-        flat.admits(&point_row(), own.as_slice()),
-        "a row is refused"
-    );
-    assert!(rt; flat.push(point_row(), own.as_slice()).is_ok(), "a growth");
+    let row = point_row();
+    assert!(rt; flat.admits(&row, own.as_slice()), "a row is refused");
+    assert!(rt; flat.push(row, own.as_slice()).is_ok(), "a growth");
     Ok(())
 }
