@@ -1,4 +1,4 @@
-"""Measures the reading of blobs. See reading.sh."""
+"""Measures the reading of blobs. See compare.sh."""
 import resource
 import subprocess
 import sys

@@ -1,4 +1,4 @@
-"""Measures the reading of tables. See tables.sh; a size in MB may be given."""
+"""Measures the reading of tables. See compare.sh; a size in MB may be given."""
 import resource
 import subprocess
 import sys

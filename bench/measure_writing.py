@@ -1,4 +1,4 @@
-"""Measures the writing of lines. See writing.sh."""
+"""Measures the writing of lines. See compare.sh."""
 import os
 import resource
 import subprocess

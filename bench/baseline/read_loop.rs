@@ -4,6 +4,9 @@
 //!     rustc -O read_loop.rs
 //!     ./read_loop make lines|points BYTES FILE      writes blobs of at least so many bytes
 //!     ./read_loop read FILE                         blobs, points, and the best seconds of the runs
+mod numbers;
+
+use numbers::Numbers;
 use std::fs;
 use std::io::{BufWriter, Write};
 use std::time::Instant;
@@ -16,21 +19,6 @@ const RUNS: usize = 5;
 
 const LEAST: i64 = -(1 << 62);
 const GREATEST: i64 = (1 << 62) - 1;
-
-/// A fixed generator of numbers.
-struct Numbers(u64);
-
-impl Numbers {
-    fn next(&mut self) -> u64 {
-        self.0 = self.0.wrapping_mul(6364136223846793005).wrapping_add(1442695040888963407);
-        self.0 >> 33
-    }
-
-    /// From `-most` to `most`.
-    fn up_to(&mut self, most: i64) -> i64 {
-        (self.next() % (2 * most as u64 + 1)) as i64 - most
-    }
-}
 
 fn put_number(bytes: &mut Vec<u8>, mut number: u64) {
     while number >= 0x80 {

@@ -4,6 +4,9 @@
 //!     rustc -O table_loop.rs
 //!     ./table_loop make points|lines|multipolygons|collections BYTES FILE     a table of at least so many bytes
 //!     ./table_loop decode FILE                                                points, a sum, and the best seconds
+mod numbers;
+
+use numbers::Numbers;
 use std::fs;
 use std::io::{BufWriter, Write};
 use std::time::Instant;
@@ -19,21 +22,6 @@ const NEST: u64 = 8;
 
 /// How often the loop is timed.
 const RUNS: usize = 5;
-
-/// A fixed generator of numbers.
-struct Numbers(u64);
-
-impl Numbers {
-    fn next(&mut self) -> u64 {
-        self.0 = self.0.wrapping_mul(6364136223846793005).wrapping_add(1442695040888963407);
-        self.0 >> 33
-    }
-
-    /// From `-most` to `most`.
-    fn up_to(&mut self, most: i64) -> i64 {
-        (self.next() % (2 * most as u64 + 1)) as i64 - most
-    }
-}
 
 fn put_number(text: &mut Vec<u8>, step: i64) {
     let mut number = (step << 1 ^ step >> 63) as u64;

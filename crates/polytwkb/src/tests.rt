@@ -2,48 +2,58 @@
 mod causes;
 mod devices;
 mod memory;
-mod runs;
+mod packing;
 mod unpacking;
+mod usage;
 mod words;
 
 use crate::program::run;
+use std::alloc::Global;
 use std::io::{Read, Write};
-use std::process::Abort;
-use std::test::Fail;
-use twkb_io::Tap;
+use twkb_io::{Fuse, FuseEnd, Tap};
 
-// What a run did: its status, and what its writer and standard error took.
-#[derive(Drop)]
-struct Outcome {
-    status: u8,
-    output: Vec<u8>,
-    errors: Vec<u8>,
+const HEADER: &str = "depth,kind,id,precision,polyline\n";
+
+// The words of a line, which names the program first, where memory is found.
+fn words_of(alloc: Global, line: &str) -> Option<Vec<String>> {
+    let mut words = Vec::new(alloc);
+    for name in line.split(' ') {
+        let Ok(word) = format!(in alloc; "{name}") else {
+            return None;
+        };
+        if words.push(word).is_err() {
+            return None;
+        }
+    }
+    Some(words)
 }
 
-// Runs the command with the words of a line, which names the program first.
-fn run_line<A: Abort + AllocGlobal, R: Read, W: Write, E: Write>(
-    rt: &A,
+// The status of a run with the words of a line, where memory is found for these.
+fn run_line<R: Read, W: Write, E: Write>(
+    alloc: Global,
     line: &str,
     reader: &mut Tap<R>,
     writer: &mut Tap<W>,
     errors: &mut Tap<E>,
-) -> Result<u8, Fail> {
-    let mut words = Vec::new(rt.alloc());
-    for word in line.split(' ') {
-        words.push(format!(in rt.alloc(); "{word}")?)?;
-    }
-    Ok(run(rt.alloc(), &words, reader, writer, errors))
+) -> Option<u8> {
+    let Some(words) = words_of(alloc, line) else {
+        return None;
+    };
+    Some(run(alloc, &words, reader, writer, errors))
 }
 
-// Runs the command over an input in memory.
-fn run_over<A: Abort + AllocGlobal>(rt: &A, line: &str, input: &[u8]) -> Result<Outcome, Fail> {
+// Whether a run over an input in memory has this status, and writes this output and these errors.
+fn ends(alloc: Global, line: &str, input: &[u8], status: u8, output: &[u8], errors: &[u8]) -> bool {
     let mut reader = Tap::new(input);
-    let mut writer = Tap::new(Vec::new(rt.alloc()));
-    let mut errors = Tap::new(Vec::new(rt.alloc()));
-    let status = run_line(rt, line, &mut reader, &mut writer, &mut errors)?;
-    Ok(Outcome {
-        status,
-        output: writer.into_inner(),
-        errors: errors.into_inner(),
-    })
+    let mut writer = Tap::new(Vec::new(alloc));
+    let mut told = Tap::new(Vec::new(alloc));
+    let found = run_line(alloc, line, &mut reader, &mut writer, &mut told);
+    let is_written = writer.into_inner().as_slice() == output;
+    let is_told = told.into_inner().as_slice() == errors;
+    found == Some(status) && is_written && is_told
+}
+
+// A device that takes so many bytes, one a write, and then ends so.
+fn cut_writer(alloc: Global, taken: u64, end: FuseEnd, flush_fails: bool) -> Tap<Fuse<Vec<u8>>> {
+    Tap::new(Fuse::new(Vec::new(alloc), taken, 1, end, flush_fails))
 }

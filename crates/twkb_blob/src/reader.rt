@@ -5,7 +5,7 @@ ghost use Rattle.twkb_geom.specs.Limits.{Allowance};
 ghost use Rattle.twkb_io.specs.Taps.{count_failure};
 ghost use Rattle.twkb_io.specs.Inputs.{input_failures, input_tap};
 ghost use Rattle.twkb_engine.specs.Standing.{StandsAt, allowance_of, count_of, offset_in};
-ghost use Rattle.twkb_blob.specs.Readers.{IsRead, IsNext, halted_by_read, failed_by_read, spent_at, ended_at};
+ghost use Rattle.twkb_blob.specs.Readers.{IsRead, IsNext, Makes, halted_by_read, failed_by_read, spent_at, ended_at};
 ghost use Rattle.twkb_blob.specs.Located.{IsLocated};
 
 use crate::fault::{BlobFault, fault_at};
@@ -14,7 +14,7 @@ use crate::notes::SpanNotes;
 use crate::spans::Located;
 use std::alloc::Global;
 use std::io::Read;
-use twkb_engine::{BlobReason, Engine, Stop};
+use twkb_engine::{BlobReason, Engine, Stop, front_blob};
 use twkb_geom::{Geometry, Limits};
 use twkb_io::{InFault, Input};
 
@@ -83,6 +83,23 @@ fn read_piece<R: Read>(input: &mut Input<'_, R>, engine: &mut Engine) -> Result<
         }
         Err(stop) => Err(Halt::Engine(stop)),
     }
+}
+
+/// The geometry whose blob stands whole in front of the held bytes and is read without an engine; the blob leaves the input.
+/// `None` says nothing of the bytes, and changes nothing. It neither reads nor takes memory.
+fn take_front<R: Read>(input: &mut Input<'_, R>, limits: Limits) -> Option<Geometry>
+    ensures same_tap { (input_tap input.new).ghost_name ≡ (input_tap input.old).ghost_name }
+    ensures made { IfSome result (λ geometry. Makes limits [] input.old input.new geometry) }
+    ensures none { result ≡ None → input.new ≡ input.old }
+    ensures failures { input_failures input.new ≡ input_failures input.old }
+{
+    let made = front_blob(limits, input.held())?;
+    // reads nothing, since bytes are held: a proof learns from it that the input can go on
+    if input.fill().is_err() {
+        return None;
+    }
+    input.advance(made.used);
+    Some(made.geometry)
 }
 
 /// Reads a blob from an input, with an engine that has read nothing.
@@ -169,6 +186,9 @@ impl<'a, R: Read> Reader<'a, R> {
             State::Ready => {}
             State::Ended => return Ok(None),
             State::Spent => return Err(BlobFault::Spent),
+        }
+        if let Some(geometry) = take_front(&mut self.input, self.limits) {
+            return Ok(Some(geometry));
         }
         let mut engine = Engine::new(alloc, self.limits);
         let found = read_blob(&mut self.input, &mut engine);

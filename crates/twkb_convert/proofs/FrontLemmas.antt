@@ -30,9 +30,11 @@ use Rattle.twkb_table.specs.declared.reason.RowReason.{RowReason}
 use Rattle.twkb_table.proofs.FaultLaws.{later_none}
 use Rattle.twkb_table.proofs.FieldLemmas.{head_same, tail_same}
 use Rattle.twkb_table.proofs.Tables.{geometries, one_table, split, table_front}
+use Rattle.twkb_table.proofs.TableReaderLemmas.{never_none}
 use Rattle.twkb_table.specs.CsvRecords.{AreRecordsOf, BeginWith}
+use Rattle.twkb_table.specs.TableReading.{NameSoFar}
 use Rattle.twkb_convert.specs.Outputs.{PackTo, UnpackTo, rows_text, table_text}
-use Rattle.twkb_convert.specs.RefusedRows.{MayBeWritten, NameSoFar}
+use Rattle.twkb_convert.specs.RefusedRows.{MayBeWritten}
 use Rattle.twkb_convert.proofs.RoundTrips.{one_records}
 use Rattle.twkb_convert.proofs.RowTexts.{rows_text-append, table_text-rows}
 
@@ -148,10 +150,6 @@ is_header l s seen tail [] trees named e none = cc e
 is_header l s seen tail (q ∷ qs) trees named e none =
     none (head_same q s qs (seen ++ tail) e ∙ head_same s header seen (map record_of (rows_of trees)) named.table_of)
 
-snoc_some : (xs : List Record) (y : Record) → xs ++ y ∷ [] ≡ [] → ⊥
-snoc_some [] y e = cc e
-snoc_some (x ∷ xs) y e = cc e
-
 ready_complete : (l : Allowance) (text : List ℕ) (records seen : List Record) (number : ℕ) (reason : RowReason) (trees gs hs : List Tree) → IsAllowance l → AreRecordsOf text records
     → BeginWith text seen → NameSoFar l seen trees → IsReady text seen trees gs → AreComplete l records number reason hs → BeginTrees gs hs
 ready_complete l text records [] number reason trees gs hs allowed all begins named ready complete = (hs, ap (λ ks. ks ++ hs) (sym (none_ready text [] trees gs named ready)))
@@ -170,7 +168,7 @@ ready_complete l text records (s ∷ seen) number reason trees gs hs allowed all
         let first = named_first l (s ∷ seen) more trees f.0.geometries allowed named (subst (λ r. Named l r f.0.geometries) longer f.0.named) in
         (first.in_complete.0, f.1 ∙ first.in_complete.1 ∙ ap (λ ks. ks ++ first.in_complete.0) (sym e))
     go (inr (more, longer)) =
-        let front = table_front l (f.0.before ++ f.0.here ∷ []) more trees (snoc_some f.0.before f.0.here) (subst (λ r. Named l r trees) longer named) in
+        let front = table_front l (f.0.before ++ f.0.here ∷ []) more trees (never_none f.0.before f.0.here) (subst (λ r. Named l r trees) longer named) in
         absurd (f.0.none front.0 front.1)
 
 ready_packed : (l : Allowance) (text : List ℕ) (records : List Record) (gs : List Tree) (bytes : List ℕ) → IsAllowance l → AreRecordsOf text records → MayBeWritten l (Some text) gs → PackTo l records bytes

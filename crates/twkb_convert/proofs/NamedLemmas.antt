@@ -11,6 +11,7 @@ use Rattle.twkb_geom.specs.Limits.{Allowance, IsValid}
 use Rattle.twkb_table.specs.Record.{Record, record_of, header, table}
 use Rattle.twkb_table.specs.Named.{Named}
 use Rattle.twkb_table.specs.RowFault.{all_but_last}
+use Rattle.twkb_table.proofs.TableReaderLemmas.{all_but_last-last}
 use Rattle.twkb_convert.specs.PointRows.{ArePointRows, IsPointRow, IsPointRecord, point_tree}
 use Rattle.twkb_convert.specs.Sending.{trees_of}
 use Rattle.twkb_convert.specs.declared.point_row.PointRow.{PointRow}
@@ -52,13 +53,8 @@ named_more l records rows here row named is_row =
     })
 
 -- all but the last
-pub but_last : (xs : List Tree) (x : Tree) → all_but_last (xs ++ x ∷ []) ≡ xs
-but_last [] x = refl
-but_last (y ∷ []) x = refl
-but_last (y ∷ z ∷ xs) x = ap (λ (l : List Tree). y ∷ l) (but_last (z ∷ xs) x)
-
 pub all_but_pending : (rows : List PointRow) (row : PointRow) → all_but_last (trees_of (rows ++ row ∷ [])) ≡ trees_of rows
-all_but_pending rows row = rw (map_push point_tree rows row) (but_last (trees_of rows) (point_tree row))
+all_but_pending rows row = rw (map_push point_tree rows row) (all_but_last-last (trees_of rows) (point_tree row))
 
 -- as many geometries as rows
 pub count_trees : (rows : List PointRow) → length (trees_of rows) ≡ length rows

@@ -3,8 +3,6 @@ use Rattle.std.proofs.Common.{◌≡◌, ◌∙◌, ◌+◌, ◌<◌, ◌^◌, �
 use Rattle.std.specs.Prelude.{IfSome, reverse}
 use Rattle.std.proofs.lemmas.List.{append-nil, map_push}
 use Rattle.std.proofs.lemmas.Grind.{flat_map-append}
-use Rattle.csv.specs.Reading.{Reached, strip_bom}
-use Rattle.csv.specs.declared.parser.State.TheVariants as st
 use Rattle.twkb_io.specs.Outputs.{Refused, Sent, Took, is_spent, output_failures, sent_of}
 use Rattle.twkb_io.specs.OutputLaws.{refused_join, took_join, took_nothing}
 use Rattle.twkb_io.specs.Taps.{count_failure}
@@ -22,9 +20,10 @@ use Rattle.twkb_table.specs.RowFault.{all_but_last}
 use Rattle.twkb_table.specs.declared.reason.RowReason.{RowReason}
 use Rattle.twkb_table.specs.declared.reason.RowReason.TheVariants.{BadHeader}
 use Rattle.twkb_table.proofs.Growing.{refused_none}
+use Rattle.twkb_table.proofs.TableReaderLemmas.{begins_none, names_so_far, never_none}
 use Rattle.twkb_table.specs.CsvRecords.{AreRecordsOf, BeginWith}
 use Rattle.twkb_convert.specs.PointRows.{IsRefusedSoFar, point_tree}
-use Rattle.twkb_convert.specs.RefusedRows.{IsRefusedTable, MayBeWritten, NameSoFar}
+use Rattle.twkb_convert.specs.RefusedRows.{IsRefusedTable, MayBeWritten}
 use Rattle.twkb_convert.specs.Sending.{Explains, GivesPoint, Pending, ReadsHeader, ReadsNext, SentAll, Stopped, UnlessOutput, is_write, trees_of}
 use Rattle.twkb_table.specs.declared.record_source.RecordSource.{RecordSource}
 use Rattle.twkb_convert.specs.declared.point_row.PointRow.{PointRow}
@@ -35,24 +34,10 @@ use Rattle.twkb_convert.proofs.NamedLemmas.{all_but_pending, before_are_points, 
 
 -- ---- records
 
--- each text begins with no record
-pub begins_none : (told : Option (List ℕ)) → IfSome told (λ text. BeginWith text [])
-unfolding Reached
-begins_none None = tt
-begins_none (Some text) = (st.StartRecord, strip_bom text, (refl, refl))
-
 -- all records of a text are a beginning of them
 pub begins_all : (told : Option (List ℕ)) (records : List Record) → IfSome told (λ text. AreRecordsOf text records) → IfSome told (λ text. BeginWith text records)
 begins_all None records all = tt
 begins_all (Some text) records all = (all.0, all.1, all.2)
-
-never_none : (records : List Record) (here : Record) → records ++ here ∷ [] ≡ [] → ⊥
-never_none [] here e = cc e
-never_none (r ∷ records) here e = cc e
-
-name_so_far : (l : Allowance) (records : List Record) (gs : List Tree) → Named l records gs → NameSoFar l records gs
-name_so_far l [] gs named = (let e = named.table_of in cc)
-name_so_far l (first ∷ records) gs named = named
 
 -- no header
 pub no_header : (l : Allowance) (told : Option (List ℕ)) → IfSome told (λ text. AreRecordsOf text []) → IsRefusedTable l told 1 BadHeader []
@@ -135,7 +120,7 @@ stopped_at_record l remaining contents told records rows number source old new d
       later = [];
       front = [];
       rest = [];
-      ready = record { records = records; geometries = trees_of rows; begins = begins; named = name_so_far l records (trees_of rows) named; ready = inl (append-nil ready) };
+      ready = record { records = records; geometries = trees_of rows; begins = begins; named = names_so_far l records (trees_of rows) named; ready = inl (append-nil ready) };
       cut = refl;
       one = inl refl;
       sends = sent_whole contents old new (canonical_stream Full ready) took.sends;
@@ -203,14 +188,14 @@ may_be_written l remaining contents told source old new done number row None aft
   records = p.records;
   geometries = trees_of (p.rows ++ row ∷ []);
   begins = p.begins;
-  named = name_so_far l p.records (trees_of (p.rows ++ row ∷ [])) p.named;
+  named = names_so_far l p.records (trees_of (p.rows ++ row ∷ [])) p.named;
   ready = inr (reads, sym (map_push point_tree p.rows row));
 }
 may_be_written l remaining contents told source old new done number row (Some later) after p reads = record {
   records = p.records ++ reads.here ∷ [];
   geometries = trees_of ((p.rows ++ row ∷ []) ++ later ∷ []);
   begins = reads.begins;
-  named = name_so_far l (p.records ++ reads.here ∷ []) (trees_of ((p.rows ++ row ∷ []) ++ later ∷ []))
+  named = names_so_far l (p.records ++ reads.here ∷ []) (trees_of ((p.rows ++ row ∷ []) ++ later ∷ []))
       (named_more l p.records (p.rows ++ row ∷ []) reads.here later p.named reads.is_row);
   ready = inl (sym (map_push point_tree p.rows row) ∙ sym (all_but_pending (p.rows ++ row ∷ []) later));
 }
@@ -281,7 +266,7 @@ all_ready l contents told old new done all = record {
   records = all.records;
   geometries = all.geometries;
   begins = begins_all told all.records all.all;
-  named = name_so_far l all.records all.geometries all.named;
+  named = names_so_far l all.records all.geometries all.named;
   ready = inr (all.all, append-nil all.geometries);
 }
 

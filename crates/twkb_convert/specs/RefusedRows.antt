@@ -8,6 +8,7 @@ use Rattle.twkb_table.specs.RowFault.{AreComplete, all_but_last}
 use Rattle.twkb_table.specs.declared.reason.RowReason.{RowReason}
 use Rattle.twkb_table.specs.declared.reason.RowReason.TheVariants.{Unsupported}
 use Rattle.twkb_table.specs.CsvRecords.{AreRecordsOf, BeginWith}
+use Rattle.twkb_table.specs.TableReading.{NameSoFar}
 use Rattle.twkb_convert.specs.PointRows.{NamesOtherKind}
 
 -- The records of the text begin with some that are refused at the record of this number, for this reason, and these geometries are
@@ -33,11 +34,6 @@ pub record IsUnsupportedAt (l : Allowance) (told : Option (List ℕ)) (number : 
 abbrev pub IsRefusedTable : Allowance → Option (List ℕ) → ℕ → RowReason → List Tree → Type 0
 IsRefusedTable l told number reason gs =
     IsRefusedAt l told number reason gs ⊎ ((reason ≡ Unsupported) × IsUnsupportedAt l told number gs)
-
--- these records, as far as they were read, name these geometries: before the header none
-abbrev pub NameSoFar : Allowance → List Record → List Tree → Type 0
-NameSoFar l [] gs = gs ≡ []
-NameSoFar l (first ∷ records) gs = Named l (first ∷ records) gs
 
 -- After these records, the first of a text, these geometries may be written: all but the last of those that they name, and the last where
 -- the text has no more records.

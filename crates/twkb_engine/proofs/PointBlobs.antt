@@ -96,8 +96,8 @@ point_blob_is bytes used p to some kind meta half fits cut =
     }
 
 -- where no byte was taken, such a blob is the whole
-pub point_made : (rest : List ℕ) (d : Engine) (o : Option Made) → IfSome o (λ made. PointBlob rest made.used made.geometry) → ((bs : List ℕ) → StandsAt bs d → bs ≡ []) → IsAllowance (allowance_of d) → 0 < (allowance_of d).points
+pub point_made : (rest : List ℕ) (limits : Allowance) (d : Engine) (o : Option Made) → limits ≡ allowance_of d → IfSome o (λ made. Blob limits (take made.used rest) made.geometry) → ((bs : List ℕ) → StandsAt bs d → bs ≡ [])
     → IfSome o (λ made. (bs : List ℕ) → StandsAt bs d → IsStep (allowance_of d) (bs ++ take made.used rest) (Ok (Some made.geometry)) d)
-point_made rest d None h none allowed may = tt
-point_made rest d (Some m) h none allowed may = λ bs s.
-    (subst (λ l. Blob (allowance_of d) (l ++ take m.used rest) m.geometry) (sym (none bs s)) (h.blob (allowance_of d) allowed may), subst (λ l. StandsAt l d) (none bs s) s)
+point_made rest limits d None same h none = tt
+point_made rest limits d (Some m) same h none = λ bs s.
+    (subst (λ l. Blob (allowance_of d) (l ++ take m.used rest) m.geometry) (sym (none bs s)) (subst (λ l. Blob l (take m.used rest) m.geometry) same h), subst (λ l. StandsAt l d) (none bs s) s)

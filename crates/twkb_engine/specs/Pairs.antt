@@ -16,7 +16,7 @@ abbrev pub RunsOn : Phase → Point → List ℕ → Phase → Point → Type 0
 RunsOn before from bytes after to =
     (limits : Allowance) (front : List ℕ) (e : Sums) (fs : List Frame) → e.position ≡ from → Reached limits front e (fs, before) → Reached limits (front ++ bytes) (sums_past e bytes to) (fs, after)
 
--- an item that leads to this position leads the machine on to that phase, and no geometry ends there
-pub record LeadsOn (to : Point) (before after : own.Phase) : Type 0 where
-  pub advances : (bytes n : ℕ) (fs : List Frame) → advanced to bytes n fs (phase_of before) ≡ (fs, phase_of after)
-  pub stays : (bytes : ℕ) (fs : List Frame) → ends bytes fs (phase_of after) ≡ Ok (fs, phase_of after)
+-- an item of this number that leads to this position, with so many bytes behind it, leads the machine on to that phase, and no geometry ends there
+pub record LeadsOn (to : Point) (bytes n : ℕ) (before after : own.Phase) : Type 0 where
+  pub advances : (fs : List Frame) → advanced to bytes n fs (phase_of before) ≡ (fs, phase_of after)
+  pub stays : (fs : List Frame) → ends bytes fs (phase_of after) ≡ Ok (fs, phase_of after)

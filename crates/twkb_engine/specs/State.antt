@@ -5,7 +5,7 @@ use Rattle.twkb_grammar.specs.Bits.{bit}
 use Rattle.twkb_grammar.specs.Roles as role
 use Rattle.twkb_grammar.specs.Roles.{Role, where_set}
 use Rattle.twkb_grammar.specs.Machine as machine
-use Rattle.twkb_grammar.specs.Machine.{Around, top, within, Nested, Form, depth_of, closed, opened, settled, SimpleKind, CollectionKind, PointForm, LineForm, PolygonForm, MultiPointForm, MultiLineForm, MultiPolygonForm, ManyPoints, ManyLines, ManyPolygons, ManyGeometries, Want, WantY, AtHeader, AtMetadata, AtOption, AtCount, AtId, AtBody, AtEnd}
+use Rattle.twkb_grammar.specs.Machine.{Around, top, within, Nested, Form, depth_of, closed, opened, settled, SimpleKind, CollectionKind, PointForm, LineForm, PolygonForm, MultiPointForm, MultiLineForm, MultiPolygonForm, ManyPoints, ManyLines, ManyPolygons, ManyGeometries, Want, WantY, AtHeader, AtMetadata, AtOption, AtCount, AtId, AtBody, AtEnd, begun, empty_of}
 use Rattle.twkb_engine.specs.declared.place.Head.{Head}
 use Rattle.twkb_engine.specs.declared.place.AreasPlace.{AreasPlace}
 use Rattle.twkb_engine.specs.declared.place.AreaPlace.{AreaPlace}
@@ -23,6 +23,8 @@ use Rattle.twkb_engine.specs.declared.phase.Optional.TheVariants as part
 use Rattle.twkb_engine.specs.declared.phase.Axis.TheVariants as axis
 use Rattle.twkb_engine.specs.declared.phase.Phase.{Phase}
 use Rattle.twkb_engine.specs.declared.phase.Phase.TheVariants as phase
+use Rattle.twkb_engine.specs.declared.header.Behind.{Behind}
+use Rattle.twkb_engine.specs.declared.header.Behind.TheVariants as behind
 use Rattle.twkb_engine.specs.declared.phase.Next.{Next}
 use Rattle.twkb_engine.specs.declared.phase.Next.TheVariants as next
 
@@ -127,6 +129,12 @@ phase_of (phase.LineCount place) = wanted (line_spot place)
 phase_of (phase.AreaCount place) = wanted (area_spot place)
 phase_of (phase.Coordinate axis.X place) = wanted (point_spot place)
 phase_of (phase.Coordinate axis.Y place) = let s = point_spot place in AtBody s.head s.form s.ids (WantY s.around)
+
+-- what comes behind a header's byte or part
+abbrev pub placed : machine.Kind → machine.Head → Behind → machine.Phase
+placed k h (behind.Part part) = AtOption k h (role_of_part part) (roles_behind h.meta part)
+placed k h behind.Body = begun k h
+placed k h behind.Nothing = AtEnd h (empty_of k h.precision)
 
 -- what an item leads to
 abbrev pub next_of : Next → machine.Phase

@@ -19,7 +19,7 @@ ghost use Rattle.twkb_engine.specs.FittingProps.{phase_prop, frames_prop, allowa
 use crate::awaited::Awaited;
 use crate::blob_reason::BlobReason;
 use crate::frames::{Frame, Frames, finish};
-use crate::header::{EMPTY, has_bit};
+use crate::header::{EMPTY, bad_type, has_bit};
 use crate::in_place::take_in_place;
 use crate::motion::{moved_x, moved_y, origin};
 use crate::pairs::take_points;
@@ -56,7 +56,7 @@ pub struct Builder {
 
 impl Builder {
     ghost use Rattle.twkb_engine.specs.Taking.{IsTaken, IsLanded};
-    ghost use Rattle.twkb_engine.specs.Decoding.{objection_to_header, sums_of, stack_of, refusal, objection_of};
+    ghost use Rattle.twkb_engine.specs.Decoding.{sums_of, stack_of, refusal, objection_of};
 
     /// One that has read nothing. Takes no memory.
     pub fn new(alloc: Global, limits: Limits) -> Builder
@@ -113,11 +113,11 @@ impl Builder {
         }
     }
 
-    /// Whether a geometry may have a point.
-    pub fn allows_points(&self) -> bool
-        ensures { result ≡ true → 0 < self.now.limits.points }
+    /// Its limits.
+    pub fn limits(&self) -> Limits
+        ensures { result ≡ self.now.limits }
     {
-        self.limits.points() > 0
+        self.limits
     }
 
     /// Why a count may not be this large.
@@ -128,17 +128,6 @@ impl Builder {
             Some(BlobReason::TooManyNodes)
         } else if points > u64::from(self.limits.points()) - self.points {
             Some(BlobReason::TooManyPoints)
-        } else {
-            None
-        }
-    }
-
-    fn bad_type(number: u64) -> Option<BlobReason>
-        ensures { objection_of result ≡ objection_to_header number }
-    {
-        let kind = number % 16;
-        if kind == 0 || kind > 7 {
-            Some(BlobReason::BadType)
         } else {
             None
         }
@@ -180,7 +169,7 @@ impl Builder {
         ensures { objection_of result ≡ refusal self.now.limits (sums_of self.now) (stack_of self.now) number }
     {
         match &self.phase {
-            Phase::Header => Self::bad_type(number),
+            Phase::Header => bad_type(number),
             Phase::Metadata { kind, .. } => self.objection_to_metadata(*kind, number),
             Phase::Optional { part, .. } => {
                 if *part == Optional::Extended && number % 4 != 0 {
@@ -271,6 +260,7 @@ impl Builder {
     }
 
     /// What the item leads to that was added last.
+    #[inline(never)]
     fn advance(&mut self, number: u64) -> Result<Next, AllocError>
         requires byte { number < 256 ⊎ IsSpelled self.old.phase }
         requires some { length_of self.old.frames.items < self.old.bytes }
@@ -290,15 +280,16 @@ impl Builder {
         )
     }
 
-    /// Takes the item that was added last, where it leads on within a list; answers whether it did.
-    fn go_on(&mut self) -> Result<bool, AllocError>
+    /// Takes the item that was added last, where it leads on within a header or a list; answers whether it did.
+    fn go_on(&mut self, number: u64) -> Result<bool, AllocError>
+        requires byte { number < 256 ⊎ IsSpelled self.old.phase }
         ensures limits { self.new.limits ≡ self.old.limits }
         ensures sums { sums_of self.new ≡ sums_of self.old }
         ensures frames { self.new.frames ≡ self.old.frames }
-        ensures taken { IfOk result (λ taken. taken ≡ true → LeadsOn self.old.position self.old.phase self.new.phase) }
+        ensures taken { IfOk result (λ taken. taken ≡ true → LeadsOn self.old.position self.old.bytes number self.old.phase self.new.phase) }
         ensures left { IfOk result (λ taken. taken ≡ false → self.new.phase ≡ self.old.phase) }
     {
-        take_in_place(&mut self.phase, self.position)
+        take_in_place(&mut self.phase, self.position, self.bytes, number)
     }
 
     /// Takes points of a list, but not its last, as far as they stand whole in front, and answers how many bytes they had:
@@ -350,6 +341,7 @@ impl Builder {
     }
 
     /// Goes to what an item leads to.
+    #[inline(never)]
     fn land(&mut self, next: Next) -> Result<Option<Geometry>, Stop>
         requires { NextFits next }
         ensures limits { self.new.limits ≡ self.old.limits }
@@ -378,6 +370,7 @@ impl Builder {
     }
 
     /// Takes an item with this number, which has so many bytes, and the ends behind it. A value that is kept takes memory.
+    #[inline(always)]
     pub fn take(&mut self, number: u64, length: u64) -> Result<Option<Geometry>, Stop>
         requires byte { number < 256 ⊎ IsSpelled self.old.phase }
         requires some { 0 < length }
@@ -391,7 +384,7 @@ impl Builder {
             return Err(Stop::Refused(reason));
         }
         self.add(number, length);
-        if self.go_on()? {
+        if self.go_on(number)? {
             return Ok(None);
         }
         let next = self.advance(number)?;

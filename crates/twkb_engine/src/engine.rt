@@ -7,7 +7,7 @@ ghost use Rattle.twkb_engine.specs.Standing.{StandsAt, IsStep, IsTakenFrom, IsFe
 use crate::awaited::Awaited;
 use crate::blob_reason::BlobReason;
 use crate::builder::Builder;
-use crate::point_blob::{Made, point_blob};
+use crate::point_blob::{Made, front_blob};
 use crate::stop::Stop;
 use std::alloc::Global;
 use twkb_geom::{Geometry, Limits};
@@ -91,9 +91,7 @@ impl Engine {
             return None;
         }
         if self.is_between() {
-            if self.builder.allows_points() {
-                return point_blob(rest);
-            }
+            return front_blob(self.builder.limits(), rest);
         }
         None
     }

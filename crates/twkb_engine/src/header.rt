@@ -1,12 +1,14 @@
 //! From a type byte to a body.
-ghost use Rattle.std.specs.Prelude.{◌≡◌, ◌<◌, []};
+ghost use Rattle.std.specs.Prelude.{◌≡◌, ◌<◌, [], None};
 ghost use Rattle.twkb_num.specs.Zigzag.{unzigzag_of};
 ghost use Rattle.twkb_geom.specs.Tree.{IsPrecision};
 ghost use Rattle.twkb_grammar.specs.Bits.{bit};
-ghost use Rattle.twkb_grammar.specs.Machine.{wanting, begun, asked, AtEnd, empty_of, with_option, kind_at as kind_of_number};
-ghost use Rattle.twkb_engine.specs.State.{next_of, phase_of, kind_of, head_of, role_of_part, roles_behind, size_roles, box_roles};
+ghost use Rattle.twkb_grammar.specs.Machine.{Kind as MachineKind, wanting, begun, asked, AtEnd, empty_of, with_option, kind_at as kind_of_number};
+ghost use Rattle.twkb_engine.specs.State.{next_of, phase_of, kind_of, head_of, placed, role_of_part, roles_behind, size_roles, box_roles};
+ghost use Rattle.twkb_engine.specs.Decoding.{objection_of, objection_to_header};
 ghost use Rattle.twkb_engine.specs.Fitting.{NextFits, PhaseFits};
 
+use crate::blob_reason::BlobReason;
 use crate::phase::{Axis, Kind, Many, Next, Optional, Phase, end};
 use crate::place::{AreaPlace, Head, LinePlace, PointPlace};
 use std::alloc::Global;
@@ -29,6 +31,17 @@ pub const EMPTY: u32 = 4;
 
 /// Numbers of a box behind the first.
 const BOX_REST: u8 = 3;
+
+/// What stands behind a header's byte or part.
+#[derive(Clone, Copy, Debug, PartialEq, Eq)]
+pub enum Behind {
+    /// An optional part.
+    Part(Optional),
+    /// The body.
+    Body,
+    /// No body: the geometry ends.
+    Nothing,
+}
 
 /// Whether a bit of a byte is set; bit 0 is the lowest.
 pub fn has_bit(number: u64, position: u32) -> bool
@@ -63,6 +76,33 @@ pub fn kind_at(number: u64) -> Kind
     }
 }
 
+/// The header behind a metadata byte, before its optional parts.
+pub fn head_of_byte(precision: i8, number: u64, bytes: u64) -> Head
+    requires { number < 256 }
+    ensures head { head_of result ≡ record { precision = precision; meta = number; size = None; from = bytes } }
+    ensures precision { result.precision ≡ precision }
+    ensures metadata { result.metadata ≡ number }
+{
+    Head {
+        precision,
+        metadata: number as u8,
+        size: None,
+        from: bytes,
+    }
+}
+
+/// Why this number is no type byte.
+pub fn bad_type(number: u64) -> Option<BlobReason>
+    ensures { objection_of result ≡ objection_to_header number }
+{
+    let kind = number % 16;
+    if kind == 0 || kind > 7 {
+        Some(BlobReason::BadType)
+    } else {
+        None
+    }
+}
+
 /// A geometry of the kind without points or members. Takes no memory.
 fn empty(alloc: Global, kind: Kind, head: Head) -> Next
     requires { IsPrecision head.precision }
@@ -82,7 +122,7 @@ fn empty(alloc: Global, kind: Kind, head: Head) -> Next
 }
 
 /// The body begins.
-fn begin_body(kind: Kind, head: Head) -> Phase
+pub fn begin_body(kind: Kind, head: Head) -> Phase
     requires { IsPrecision head.precision }
     ensures phase { phase_of result ≡ begun (kind_of kind) (head_of head) }
     ensures fits { PhaseFits result }
@@ -110,103 +150,94 @@ fn begin_body(kind: Kind, head: Head) -> Phase
     }
 }
 
-fn after_box(alloc: Global, kind: Kind, head: Head) -> Next
-    requires { IsPrecision head.precision }
-    ensures next { next_of result ≡ wanting (kind_of kind) (head_of head) [] }
-    ensures fits { NextFits result }
+/// What stands behind a header whose optional parts were read.
+fn behind_box(head: Head) -> Behind
+    ensures { (k : MachineKind) → placed k (head_of head) result ≡ wanting k (head_of head) [] }
 {
     if has_bit(u64::from(head.metadata), EMPTY) {
-        empty(alloc, kind, head)
+        Behind::Nothing
     } else {
-        Next::Read(begin_body(kind, head))
+        Behind::Body
     }
 }
 
-fn after_size(alloc: Global, kind: Kind, head: Head) -> Next
-    requires { IsPrecision head.precision }
-    ensures next { next_of result ≡ wanting (kind_of kind) (head_of head) (box_roles head.metadata) }
-    ensures fits { NextFits result }
+fn behind_size(head: Head) -> Behind
+    ensures { (k : MachineKind) → placed k (head_of head) result ≡ wanting k (head_of head) (box_roles head.metadata) }
 {
     if has_bit(u64::from(head.metadata), BOX) {
-        Next::Read(Phase::Optional {
-            kind,
-            head,
-            part: Optional::Box { left: BOX_REST },
-        })
+        Behind::Part(Optional::Box { left: BOX_REST })
     } else {
-        after_box(alloc, kind, head)
+        behind_box(head)
     }
 }
 
-fn after_extended(alloc: Global, kind: Kind, head: Head) -> Next
-    requires { IsPrecision head.precision }
-    ensures next { next_of result ≡ wanting (kind_of kind) (head_of head) (size_roles head.metadata) }
-    ensures fits { NextFits result }
+fn behind_extended(head: Head) -> Behind
+    ensures { (k : MachineKind) → placed k (head_of head) result ≡ wanting k (head_of head) (size_roles head.metadata) }
 {
     if has_bit(u64::from(head.metadata), SIZE) {
-        Next::Read(Phase::Optional {
-            kind,
-            head,
-            part: Optional::Size,
-        })
+        Behind::Part(Optional::Size)
     } else {
-        after_size(alloc, kind, head)
+        behind_size(head)
     }
 }
 
-/// What follows a metadata byte. Takes no memory.
-pub fn after_metadata(alloc: Global, kind: Kind, head: Head) -> Next
-    requires { IsPrecision head.precision }
-    ensures next { next_of result ≡ wanting (kind_of kind) (head_of head) (asked head.metadata) }
-    ensures fits { NextFits result }
+/// What stands behind a metadata byte.
+pub fn behind_metadata(head: Head) -> Behind
+    ensures { (k : MachineKind) → placed k (head_of head) result ≡ wanting k (head_of head) (asked head.metadata) }
 {
     if has_bit(u64::from(head.metadata), EXTENDED) {
-        Next::Read(Phase::Optional {
-            kind,
-            head,
-            part: Optional::Extended,
-        })
+        Behind::Part(Optional::Extended)
     } else {
-        after_extended(alloc, kind, head)
+        behind_extended(head)
     }
 }
 
-/// What follows an optional part, behind so many bytes. Takes no memory.
-pub fn after_part(
-    alloc: Global,
-    kind: Kind,
-    head: Head,
-    part: Optional,
-    bytes: u64,
-    number: u64,
-) -> Next
-    requires { IsPrecision head.precision }
-    ensures next { next_of result ≡ wanting (kind_of kind) (with_option (head_of head) (role_of_part part) number bytes) (roles_behind head.metadata part) }
-    ensures fits { NextFits result }
+/// What stands behind an optional part.
+pub fn behind_part(head: Head, part: Optional) -> Behind
+    ensures { (k : MachineKind) → placed k (head_of head) result ≡ wanting k (head_of head) (roles_behind head.metadata part) }
 {
     match part {
-        Optional::Extended => {
-            let head = Head {
-                from: bytes,
-                ..head
-            };
-            after_extended(alloc, kind, head)
-        }
-        Optional::Size => {
-            let head = Head {
-                size: Some(number),
-                from: bytes,
-                ..head
-            };
-            after_size(alloc, kind, head)
-        }
+        Optional::Extended => behind_extended(head),
+        Optional::Size => behind_size(head),
         Optional::Box { left } => {
             if left == 0 {
-                after_box(alloc, kind, head)
+                behind_box(head)
             } else {
-                let part = Optional::Box { left: left - 1 };
-                Next::Read(Phase::Optional { kind, head, part })
+                Behind::Part(Optional::Box { left: left - 1 })
             }
         }
+    }
+}
+
+/// The header with an optional part of this number, behind so many bytes.
+pub fn head_with(head: Head, part: Optional, bytes: u64, number: u64) -> Head
+    ensures head { head_of result ≡ with_option (head_of head) (role_of_part part) number bytes }
+    ensures precision { result.precision ≡ head.precision }
+    ensures metadata { result.metadata ≡ head.metadata }
+{
+    match part {
+        Optional::Extended => Head {
+            from: bytes,
+            ..head
+        },
+        Optional::Size => Head {
+            size: Some(number),
+            from: bytes,
+            ..head
+        },
+        Optional::Box { .. } => head,
+    }
+}
+
+/// What stands behind a header's byte or part, or the end of a geometry without a body. Takes no memory.
+pub fn go_behind(alloc: Global, kind: Kind, head: Head, behind: Behind) -> Next
+    requires { IsPrecision head.precision }
+    ensures next { next_of result ≡ placed (kind_of kind) (head_of head) behind }
+    ensures fits { NextFits result }
+{
+    match behind {
+        Behind::Part(part) => Next::Read(Phase::Optional { kind, head, part }),
+        Behind::Body => Next::Read(begin_body(kind, head)),
+        Behind::Nothing => empty(alloc, kind, head),
     }
 }

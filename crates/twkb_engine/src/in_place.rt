@@ -1,11 +1,18 @@
-//! Coordinates that lead on within a list, taken where they stand: nothing is moved for them.
-ghost use Rattle.std.specs.Prelude.{◌≡◌, IfOk, true, false};
-ghost use Rattle.twkb_engine.specs.State.{wanted, shut, point_spot};
+//! Items that lead on, taken where they stand: coordinates within a list, and a header's bytes and parts. Nothing is moved for them.
+ghost use Rattle.std.specs.Prelude.{◌≡◌, ◌<◌, ◌⊎◌, IfOk, IfSome, List, true, false};
+ghost use Rattle.twkb_grammar.specs.Machine.{Frame as MachineFrame, advanced};
+ghost use Rattle.twkb_points.specs.Point.{Point};
+ghost use Rattle.twkb_geom.specs.Tree.{IsPrecision};
+ghost use Rattle.twkb_engine.specs.State.{wanted, shut, point_spot, phase_of, kind_of, head_of, placed, IsSpelled};
 ghost use Rattle.twkb_engine.specs.Fitting.{PointFits, PhaseFits};
 ghost use Rattle.twkb_engine.specs.Pairs.{LeadsOn};
 
-use crate::phase::{Axis, Phase};
-use crate::place::PointPlace;
+use crate::header::{
+    Behind, begin_body, behind_metadata, behind_part, head_of_byte, head_with, kind_at,
+    precision_at,
+};
+use crate::phase::{Axis, Kind, Phase};
+use crate::place::{Head, PointPlace};
 use std::alloc::AllocError;
 use twkb_points::Pt;
 
@@ -33,11 +40,78 @@ fn put_point(place: &mut PointPlace, point: Pt) -> Result<bool, AllocError>
     }
 }
 
-/// Takes a coordinate that leads to this position, where it ends neither a point geometry nor a list; answers whether it did.
-/// A point takes memory.
-pub fn take_in_place(phase: &mut Phase, position: Pt) -> Result<bool, AllocError>
-    requires { PhaseFits phase.old }
-    ensures taken { IfOk result (λ taken. taken ≡ true → LeadsOn position phase.old phase.new) }
+/// Goes to what stands behind a header's byte or part, unless a geometry ends there; answers whether it did. Takes no memory.
+fn go_behind_in_place(phase: &mut Phase, kind: Kind, head: Head, behind: Behind) -> bool
+    requires { IsPrecision head.precision }
+    ensures gone { result ≡ true → phase_of phase.new ≡ placed (kind_of kind) (head_of head) behind }
+    ensures left { result ≡ false → phase.new ≡ phase.old }
+    ensures fits { PhaseFits phase.old → PhaseFits phase.new }
+{
+    match behind {
+        Behind::Part(part) => {
+            *phase = Phase::Optional { kind, head, part };
+            true
+        }
+        Behind::Body => {
+            *phase = begin_body(kind, head);
+            true
+        }
+        Behind::Nothing => false,
+    }
+}
+
+/// The header behind a metadata byte or an optional part, and what stands behind it; `None` behind any other item.
+fn behind_item(phase: &Phase, bytes: u64, number: u64) -> Option<(Kind, Head, Behind)>
+    requires byte { number < 256 ⊎ IsSpelled phase.now }
+    requires fits { PhaseFits phase.now }
+    ensures precision { IfSome result (λ found. IsPrecision found.1.precision) }
+    ensures advances { IfSome result (λ found. (to : Point) (fs : List MachineFrame) → advanced to bytes number fs (phase_of phase.now) ≡ (fs, placed (kind_of found.0) (head_of found.1) found.2)) }
+{
+    match phase {
+        Phase::Metadata { kind, precision } => {
+            let head = head_of_byte(*precision, number, bytes);
+            Some((*kind, head, behind_metadata(head)))
+        }
+        Phase::Optional { kind, head, part } => {
+            let head = head_with(*head, *part, bytes, number);
+            Some((*kind, head, behind_part(head, *part)))
+        }
+        _ => None,
+    }
+}
+
+/// Takes an item of a header in place, unless a geometry ends there; answers whether it did. Takes no memory.
+fn take_header(phase: &mut Phase, bytes: u64, number: u64) -> bool
+    requires byte { number < 256 ⊎ IsSpelled phase.old }
+    requires fits { PhaseFits phase.old }
+    ensures taken { (to : Point) → result ≡ true → LeadsOn to bytes number phase.old phase.new }
+    ensures left { result ≡ false → phase.new ≡ phase.old }
+    ensures fits { PhaseFits phase.new }
+{
+    if let Phase::Header = phase {
+        *phase = Phase::Metadata {
+            kind: kind_at(number % 16),
+            precision: precision_at(number / 16),
+        };
+        return true;
+    }
+    let Some((kind, head, behind)) = behind_item(phase, bytes, number) else {
+        return false;
+    };
+    go_behind_in_place(phase, kind, head, behind)
+}
+
+/// Takes an item that leads to this position, with so many bytes behind it, where it ends no list and no geometry: a header's,
+/// or a coordinate; answers whether it did. A point takes memory.
+pub fn take_in_place(
+    phase: &mut Phase,
+    position: Pt,
+    bytes: u64,
+    number: u64,
+) -> Result<bool, AllocError>
+    requires byte { number < 256 ⊎ IsSpelled phase.old }
+    requires fits { PhaseFits phase.old }
+    ensures taken { IfOk result (λ taken. taken ≡ true → LeadsOn position bytes number phase.old phase.new) }
     ensures left { IfOk result (λ taken. taken ≡ false → phase.new ≡ phase.old) }
     ensures fits { PhaseFits phase.new }
 {
@@ -53,6 +127,6 @@ pub fn take_in_place(phase: &mut Phase, position: Pt) -> Result<bool, AllocError
             }
             Ok(false)
         }
-        _ => Ok(false),
+        _ => Ok(take_header(phase, bytes, number)),
     }
 }

@@ -21,4 +21,5 @@ pub use awaited::Awaited;
 pub use blob_reason::BlobReason;
 pub use engine::Engine;
 pub use header::precision_at;
+pub use point_blob::{Made, front_blob};
 pub use stop::Stop;

@@ -95,6 +95,7 @@ pub enum Next {
 }
 
 /// The geometry of a header that was read, and of the shape behind it. Takes no memory.
+#[inline(always)]
 pub fn build(head: Head, shape: Shape) -> Geometry
     requires precision { IsPrecision head.precision }
     requires ids { HasFitIds shape }

@@ -1,5 +1,6 @@
 //! Points, each read from a blob that stands whole in front of bytes.
-ghost use Rattle.std.specs.Prelude.{◌≡◌, IfSome};
+ghost use Rattle.std.specs.Prelude.{◌≡◌, ◌<◌, ◌≤◌, IfSome, take, length};
+ghost use Rattle.twkb_grammar.specs.Blob.{Blob};
 ghost use Rattle.twkb_engine.specs.Front.{SizedPoint, PointBlob};
 
 use crate::front::{front_number, front_point};
@@ -7,7 +8,7 @@ use crate::header::precision_at;
 use crate::motion::origin;
 use crate::phase::build;
 use crate::place::Head;
-use twkb_geom::{Geometry, Shape};
+use twkb_geom::{Geometry, Limits, Shape};
 use twkb_points::Pt;
 
 /// The type of a point (TWKB, geometry types).
@@ -36,6 +37,7 @@ pub struct Made {
 }
 
 /// The point that stands in front behind its size; `None` where it does not stand whole, or the size is another.
+#[inline(always)]
 fn sized_point(bytes: &[u8]) -> Option<Sized>
     ensures { IfSome result (λ point. SizedPoint bytes.now point.to point.used) }
 {
@@ -48,8 +50,9 @@ fn sized_point(bytes: &[u8]) -> Option<Sized>
     Some(Sized { to, used })
 }
 
-/// The point whose blob stands whole in front, with a size and no further option; `None` where none does. Takes no memory.
-pub fn point_blob(bytes: &[u8]) -> Option<Made>
+/// The point whose blob stands whole in front, with a size and no further option; `None` where none does.
+#[inline(always)]
+fn point_blob(bytes: &[u8]) -> Option<Made>
     ensures { IfSome result (λ made. PointBlob bytes.now made.used made.geometry) }
 {
     let type_byte = *bytes.first()?;
@@ -70,4 +73,18 @@ pub fn point_blob(bytes: &[u8]) -> Option<Made>
     let geometry = build(head, Shape::Point(Some(point.to)));
     let used = HEADER_LEN + point.used;
     Some(Made { used, geometry })
+}
+
+/// The geometry whose blob stands whole in front of bytes and is read without an engine: a point's with a size and no further
+/// option. `None` says nothing of the bytes. Takes no memory.
+#[inline(always)]
+pub fn front_blob(limits: Limits, bytes: &[u8]) -> Option<Made>
+    ensures some { IfSome result (λ made. 0 < made.used) }
+    ensures within { IfSome result (λ made. made.used ≤ length bytes.now) }
+    ensures blob { IfSome result (λ made. Blob limits (take made.used bytes.now) made.geometry) }
+{
+    if limits.points() == 0 {
+        return None;
+    }
+    point_blob(bytes)
 }

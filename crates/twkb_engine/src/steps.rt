@@ -7,9 +7,10 @@ ghost use Rattle.twkb_engine.specs.Frames.{frames_of};
 ghost use Rattle.twkb_engine.specs.Fitting.{FrameFits, PhaseFits, NextFits};
 
 use crate::frames::{Frames, after_count, after_id};
-use crate::header::{after_metadata, after_part, kind_at, precision_at};
+use crate::header::{
+    behind_metadata, behind_part, go_behind, head_of_byte, head_with, kind_at, precision_at,
+};
 use crate::phase::{Axis, Next, Phase, close_point, open_area, open_line};
-use crate::place::Head;
 use std::alloc::{AllocError, Global};
 use twkb_points::Pt;
 
@@ -36,16 +37,12 @@ pub fn next(
             precision: precision_at(number / 16),
         })),
         Phase::Metadata { kind, precision } => {
-            let head = Head {
-                precision,
-                metadata: number as u8,
-                size: None,
-                from: bytes,
-            };
-            Ok(after_metadata(alloc, kind, head))
+            let head = head_of_byte(precision, number, bytes);
+            Ok(go_behind(alloc, kind, head, behind_metadata(head)))
         }
         Phase::Optional { kind, head, part } => {
-            Ok(after_part(alloc, kind, head, part, bytes, number))
+            let head = head_with(head, part, bytes, number);
+            Ok(go_behind(alloc, kind, head, behind_part(head, part)))
         }
         Phase::Count { many, head } => after_count(alloc, frames, many, head, number),
         Phase::Id {

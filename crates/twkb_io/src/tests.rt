@@ -2,6 +2,7 @@
 mod callers;
 mod devices;
 mod inputs;
+mod long_texts;
 mod outputs;
 mod sinks;
 mod taps;

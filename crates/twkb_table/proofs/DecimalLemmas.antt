@@ -1,11 +1,11 @@
 -- Canonical decimals, as std reads and prints them.
-use Rattle.std.proofs.Common.{◌≡◌, ℕ, ◌<◌, ◌≤◌, ◌^◌, List, Result, Ok, Err, sym, ◌∙◌, ap, subst, arith, ℤ, pos, negsuc, FitsSigned, w64}
+use Rattle.std.proofs.Common.{◌≡◌, ℕ, ◌+◌, ◌-◌, ◌<◌, ◌≤◌, ◌^◌, List, [], ◌∷◌, length, slice_index_or, decimal, Result, Ok, Err, sym, ◌∙◌, ap, subst, arith, ℤ, pos, negsuc, FitsSigned, w64}
 use Rattle.std.proofs.lemmas.Int.{ints}
 use Rattle.std.specs.Fmt.{signed_decimal}
 use Rattle.std.specs.Int.Signed.{mag}
 use Rattle.std.specs.Str.{IsUtf8}
 use Rattle.std.specs.Str.Parse.{ParsesSigned}
-use Rattle.std.proofs.lemmas.Fmt.{IsAscii-signed, parse-signed_decimal, signed_decimal_injective}
+use Rattle.std.proofs.lemmas.Fmt.{decimal_digit, IsAscii-signed, parse-signed_decimal, signed_decimal_injective}
 use Rattle.std.proofs.lemmas.Str.{IsUtf8-from_ascii}
 use Rattle.twkb_geom.specs.Tree.{IsId, IsPrecision}
 use Rattle.twkb_table.specs.Fields.{IsDepthField, IsIdField, IsPrecisionField}
@@ -56,3 +56,12 @@ depth_number field number depth n d = one_id number (pos depth) n.1 (depth-id de
 -- so is the precision
 pub precision_number : (field : List ℕ) (number precision : ℤ) → IsIdField field number → IsPrecisionField field precision → number ≡ precision
 precision_number field number precision n p = one_id number precision n.1 (precision-id precision p.1) (sym n.0 ∙ p.0)
+
+-- a field of one digit spells its value
+pub one_digit : (field : List ℕ) → 1 ≤ length field → length field < 2 → 48 ≤ slice_index_or field 0 0 → slice_index_or field 0 0 ≤ 57 → IsIdField field (pos (slice_index_or field 0 0 - 48))
+one_digit [] some few low high = absurd (omega arith)
+one_digit (d ∷ []) some few low high =
+    let value : 48 + (d - 48) ≡ d = omega arith in
+    let spelled : decimal (d - 48) ≡ d ∷ [] = decimal_digit (d - 48) (omega arith) ∙ ap (λ n. n ∷ []) value in
+    (sym spelled, depth-id (d - 48) (omega arith))
+one_digit (d ∷ e ∷ rest) some few low high = absurd (omega arith)

@@ -10,7 +10,7 @@ use Rattle.twkb_geom.specs.declared.kind.Kind.{Kind}
 use Rattle.twkb_points.specs.Point.{Point}
 use Rattle.twkb_table.specs.Record.{Record, record_of}
 use Rattle.twkb_table.specs.Text.{csvtext, joined}
-use Rattle.twkb_table.specs.Printing.{row_lines}
+use Rattle.twkb_table.specs.Printing.{row_lines, Grows}
 
 -- the lines of two lists of rows
 pub row_lines-append : (rs ss : List Row) → row_lines (rs ++ ss) ≡ row_lines rs ++ row_lines ss
@@ -21,6 +21,23 @@ row_lines-append rs ss = ap csvtext (map-append record_of rs ss) ∙ flat_map-ap
 pub no_lines : row_lines [] ≡ []
 unfolding row_lines
 no_lines = refl
+
+-- ---- a text that grew
+
+pub grows_none : (t : List ℕ) → Grows t t
+grows_none t = ([], sym (append-nil t))
+
+pub grows_same : (old new : List ℕ) → new ≡ old → Grows old new
+grows_same old new e = ([], e ∙ sym (append-nil old))
+
+pub grows_by : (old new xs : List ℕ) → new ≡ old ++ xs → Grows old new
+grows_by old new xs e = (xs, e)
+
+-- first so, then so
+pub grows_on : (old mid new : List ℕ) → Grows old mid → Grows mid new → Grows old new
+grows_on old mid new g h = (g.0 ++ h.0, h.1 ∙ ap (λ t. t ++ h.0) g.1 ∙ append_assoc old g.0 h.0)
+
+-- ---- rows
 
 cons_append : (x : ℕ) (xs ys : List ℕ) → (x ∷ xs) ++ ys ≡ x ∷ (xs ++ ys)
 cons_append x xs ys = refl
@@ -44,11 +61,13 @@ rows_put r rs old a t ea et = et ∙ ap (λ u. u ++ row_lines rs) ea ∙ row_bef
 pub record HasLines {A : Type 0} (f : Option ℤ → A → List Row) (ids : Ids) (xs : List A) (i index : ℕ) (old text : List ℕ) : Type 0 where
   pub place : index ≡ i
   pub lines : text ++ row_lines (rows_of_each f (ids_from i ids) (drop i xs)) ≡ old ++ row_lines (rows_of_each f ids xs)
+  pub grown : Grows old text
 
 pub has_lines_none : {A : Type 0} (f : Option ℤ → A → List Row) (ids : Ids) (xs : List A) (old : List ℕ) → HasLines f ids xs 0 0 old old
 has_lines_none f ids xs old = record {
   place = refl;
   lines = ap (λ (js : Ids). old ++ row_lines (rows_of_each f js xs)) (ids_from_start ids);
+  grown = grows_none old;
 }
 
 pub has_lines_more : {A : Type 0} (f : Option ℤ → A → List Row) (ids : Ids) (xs : List A) (i index : ℕ) (x : A) (id : Option ℤ) (old text after : List ℕ) → HasLines f ids xs i index old text → i < length xs → x ≡ get_or xs i x
@@ -65,6 +84,7 @@ has_lines_more f ids xs i index x id old text after has within read eid put =
           ∙ ap (λ t. text ++ t) (sym (row_lines-append (f id x) rest))
           ∙ ap (λ rs. text ++ row_lines rs) whole
           ∙ has.lines;
+      grown = grows_on old text after has.grown (grows_by text after (row_lines (f id x)) put);
     }
 
 pub has_lines_all : {A : Type 0} (f : Option ℤ → A → List Row) (ids : Ids) (xs : List A) (i index : ℕ) (old text : List ℕ) → HasLines f ids xs i index old text → length xs ≤ i → text ≡ old ++ row_lines (rows_of_each f ids xs)

@@ -1,6 +1,6 @@
 -- What the calls of a reader of tables show, put together.
 use Rattle.std.proofs.Common.{◌≡◌, ℕ, ◌+◌, ◌^◌, ◌⊎◌, Bool, true, false, List, [], ◌∷◌, ◌++◌, length, Option, Some, None, Result, Ok, Err, refl, sym, ◌∙◌, ap, subst, arith, inl, inr}
-use Rattle.std.specs.Prelude.{IfSome}
+use Rattle.std.specs.Prelude.{IfOk, IfSome}
 use Rattle.twkb_points.specs.Point.{Point}
 use Rattle.twkb_geom.specs.Tree.{Tree, IsTree}
 use Rattle.twkb_geom.specs.Limits.{Allowance}
@@ -10,12 +10,11 @@ use Rattle.twkb_flat.specs.Rows.{row_with}
 use Rattle.twkb_flat.specs.declared.node.Row.{Row as Bare}
 use Rattle.twkb_table.specs.Record.{Record, header}
 use Rattle.twkb_table.specs.RowFault.{AreComplete}
-use Rattle.twkb_table.specs.CsvRecords.{AreRecordsOf, BeginWith}
-use Rattle.twkb_table.specs.SourceStanding as Source
+use Rattle.twkb_table.specs.CsvRecords.{AreRecordsOf, BeginWith, standing}
 use Rattle.twkb_table.specs.Numbering.{fault_of}
 use Rattle.twkb_table.specs.Standing.{IfRefused}
 use Rattle.twkb_table.specs.RowReading.{limits_of, points_held, waiting, with_points}
-use Rattle.twkb_table.specs.TableReading.{HaveGiven, StandsAfter, Extends, GivesNext, GivesTree, MeetsEnd, IsRefusedAt, Explains, IsReading, HasHeader, BeginsNext, ReadsRoot, ReadsOn, is_ended, is_spent}
+use Rattle.twkb_table.specs.TableReading.{HaveGiven, StandsAfter, Extends, GivesNext, GivesTree, MeetsEnd, IsRefusedAt, Explains, IsReading, HasHeader, BeginsNext, ReadsRoot, ReadsOn, HasRead, is_ended, is_spent}
 use Rattle.twkb_table.specs.declared.judging.JudgeFault.{JudgeFault}
 use Rattle.twkb_table.specs.declared.judging.JudgeFault.TheVariants.{Memory, Refused}
 use Rattle.twkb_table.specs.declared.reason.RowReason.TheVariants.{BadHeader}
@@ -63,12 +62,12 @@ other_header l told records given here (none, before) begins other =
     refused_first l told (here ∷ []) records given none before (subst (λ (rs : List Record). IfSome told (λ text. BeginWith text (rs ++ here ∷ []))) none begins) (λ e. absurd (never_none [] here e)) (inl (other, refl, refl, refl))
 
 pub the_header : {R : Type 0} (l : Allowance) (remaining : R → Option (List ℕ)) (told : Option (List ℕ)) (records : List Record) (given : List Tree) (here : Record) (old new : TableReader R) → StandsAfter l remaining told records given old → (records ≡ []) × (given ≡ [])
-    → Source.StandsAfter remaining told (records ++ here ∷ []) new.source → here ≡ header → new.number ≡ 1 → limits_of new.rows ≡ limits_of old.rows → waiting new.rows ≡ [] → is_spent new ≡ is_spent old → HasHeader l remaining told records given new
+    → HasRead remaining told (records ++ here ∷ []) new → here ≡ header → new.number ≡ 1 → limits_of new.rows ≡ limits_of old.rows → waiting new.rows ≡ [] → is_spent new ≡ is_spent old → HasHeader l remaining told records given new
 the_header l remaining told records given here old new s (none, before) source same number limits waits spent = record {
   fresh = none;
   none = before;
   stands = record {
-    source = subst (λ (r : Record). Source.StandsAfter remaining told (r ∷ []) new.source) same (subst (λ (rs : List Record). Source.StandsAfter remaining told (rs ++ here ∷ []) new.source) none source);
+    source = subst (λ (r : Record). HasRead remaining told (r ∷ []) new) same (subst (λ (rs : List Record). HasRead remaining told (rs ++ here ∷ []) new) none source);
     count = number;
     limits = limits ∙ s.limits;
     gave = subst (λ w. HaveGiven l (header ∷ []) [] w (is_ended new)) (sym waits) (record { table_of = refl; valid = tt }, inl refl);
@@ -93,26 +92,29 @@ after_header l remaining told records given mid new r h reads =
 
 -- ---- the root that waits
 
+still_read : {R : Type 0} (remaining : R → Option (List ℕ)) (told : Option (List ℕ)) (records : List Record) (old new : TableReader R) → HasRead remaining told records old → new.reader ≡ old.reader → is_ended new ≡ is_ended old → HasRead remaining told records new
+still_read remaining told records old new s source ended = subst (standing remaining told records (is_ended new)) (sym source) (subst (λ e. standing remaining told records e old.reader) (sym ended) s)
+
 -- the reader without it
-pub stands_still : {R : Type 0} (l : Allowance) (remaining : R → Option (List ℕ)) (told : Option (List ℕ)) (records : List Record) (given : List Tree) (old new : TableReader R) → StandsAfter l remaining told records given old → new.source ≡ old.source → new.number ≡ old.number
+pub stands_still : {R : Type 0} (l : Allowance) (remaining : R → Option (List ℕ)) (told : Option (List ℕ)) (records : List Record) (given : List Tree) (old new : TableReader R) → StandsAfter l remaining told records given old → new.reader ≡ old.reader → is_ended new ≡ is_ended old → new.number ≡ old.number
     → limits_of new.rows ≡ limits_of old.rows → waiting new.rows ≡ waiting old.rows → is_spent new ≡ is_spent old → StandsAfter l remaining told records given new
-stands_still l remaining told records given old new s source number limits waits spent = record {
-  source = subst (Source.StandsAfter remaining told records) (sym source) s.source;
+stands_still l remaining told records given old new s source ended number limits waits spent = record {
+  source = still_read remaining told records old new s.source source ended;
   count = number ∙ s.count;
   limits = limits ∙ s.limits;
-  gave = subst (λ w. HaveGiven l records given w (is_ended new)) (sym waits) (subst (λ q. HaveGiven l records given (waiting old.rows) (Source.is_ended q)) (sym source) s.gave);
+  gave = subst (λ w. HaveGiven l records given w (is_ended new)) (sym waits) (subst (HaveGiven l records given (waiting old.rows)) (sym ended) s.gave);
   unspent = spent ∙ s.unspent;
 }
 
-pub waited : {R : Type 0} (l : Allowance) (remaining : R → Option (List ℕ)) (told : Option (List ℕ)) (records : List Record) (given : List Tree) (root : Row) (old new : TableReader R) → StandsAfter l remaining told records given old → root ∷ [] ≡ waiting old.rows → new.source ≡ old.source
+pub waited : {R : Type 0} (l : Allowance) (remaining : R → Option (List ℕ)) (told : Option (List ℕ)) (records : List Record) (given : List Tree) (root : Row) (old new : TableReader R) → StandsAfter l remaining told records given old → root ∷ [] ≡ waiting old.rows → new.reader ≡ old.reader → is_ended new ≡ is_ended old
     → new.number ≡ old.number → limits_of new.rows ≡ limits_of old.rows → is_spent new ≡ is_spent old → BeginsNext l remaining told records given (root ∷ []) new
-waited l remaining told records given root old new s waits source number limits spent =
+waited l remaining told records given root old new s waits source ended number limits spent =
     let gave = subst (λ w. HaveGiven l records given w (is_ended old)) (sym waits) s.gave in
     record {
       seen = records;
       extends = extends_none records;
       reading = record {
-        source = subst (Source.StandsAfter remaining told records) (sym source) s.source;
+        source = still_read remaining told records old new s.source source ended;
         count = number ∙ s.count;
         limits = limits ∙ s.limits;
         geometry = gave.0;
@@ -132,10 +134,10 @@ some_waits root points e = cc e
 -- ---- a geometry and its end
 
 -- the root in the flat form
-pub reading_in : {R : Type 0} (l : Allowance) (remaining : R → Option (List ℕ)) (told : Option (List ℕ)) (records : List Record) (given : List Tree) (root flat : List Row) (old new : TableReader R) → IsReading l remaining told records given root old → flat ≡ root → new.source ≡ old.source
+pub reading_in : {R : Type 0} (l : Allowance) (remaining : R → Option (List ℕ)) (told : Option (List ℕ)) (records : List Record) (given : List Tree) (root flat : List Row) (old new : TableReader R) → IsReading l remaining told records given root old → flat ≡ root → new.reader ≡ old.reader → is_ended new ≡ is_ended old
     → new.number ≡ old.number → limits_of new.rows ≡ limits_of old.rows → is_spent new ≡ is_spent old → IsReading l remaining told records given flat new
-reading_in l remaining told records given root flat old new r put source number limits spent = record {
-  source = subst (Source.StandsAfter remaining told records) (sym source) r.source;
+reading_in l remaining told records given root flat old new r put source ended number limits spent = record {
+  source = still_read remaining told records old new r.source source ended;
   count = number ∙ r.count;
   limits = limits ∙ r.limits;
   geometry = r.geometry;
@@ -172,3 +174,26 @@ pub tree_given : {R : Type 0} (l : Allowance) (remaining : R → Option (List �
 tree_given l remaining told records given flat reader tree n e is_tree =
     let same : n.geometry ≡ tree = one_geometry n.geometry tree n.valid.tree is_tree (n.rows ∙ sym e) in
     record { seen = n.seen; extends = n.extends; begins = n.begins; stands = subst (λ (h : Tree). StandsAfter l remaining told n.seen (given ++ h ∷ []) reader) same n.stands }
+
+-- ---- the flat form put back
+
+stands_with : {R : Type 0} (l : Allowance) (remaining : R → Option (List ℕ)) (told : Option (List ℕ)) (records : List Record) (given : List Tree) (reader : TableReader R) (flat : List Row) → StandsAfter l remaining told records given reader → StandsAfter l remaining told records given (record reader { kept = flat })
+stands_with l remaining told records given reader flat s = record { source = s.source; count = s.count; limits = s.limits; gave = s.gave; unspent = s.unspent }
+
+tree_kept : {R : Type 0} (l : Allowance) (remaining : R → Option (List ℕ)) (told : Option (List ℕ)) (records : List Record) (given : List Tree) (geometry : Tree) (reader : TableReader R) (flat : List Row) → GivesTree l remaining told records given geometry reader → GivesTree l remaining told records given geometry (record reader { kept = flat })
+tree_kept l remaining told records given geometry reader flat n = record { seen = n.seen; extends = n.extends; begins = n.begins; stands = stands_with l remaining told n.seen (given ++ geometry ∷ []) reader flat n.stands }
+
+end_kept : {R : Type 0} (l : Allowance) (remaining : R → Option (List ℕ)) (told : Option (List ℕ)) (records : List Record) (given : List Tree) (reader : TableReader R) (flat : List Row) → MeetsEnd l remaining told records given reader → MeetsEnd l remaining told records given (record reader { kept = flat })
+end_kept l remaining told records given reader flat m = record { seen = m.seen; extends = m.extends; all = m.all; named = m.named; stands = stands_with l remaining told m.seen given reader flat m.stands }
+
+pub found_kept : {R : Type 0} (remaining : R → Option (List ℕ)) (old new : TableReader R) (before after : List Row) (r : Result (Option Tree) TableFault)
+    → IfOk r (λ found. IfSome found (λ geometry. (l : Allowance) (told : Option (List ℕ)) (records : List Record) (given : List Tree) → StandsAfter l remaining told records given (record old { kept = before }) → GivesTree l remaining told records given geometry new))
+    → IfOk r (λ found. IfSome found (λ geometry. (l : Allowance) (told : Option (List ℕ)) (records : List Record) (given : List Tree) → StandsAfter l remaining told records given old → GivesTree l remaining told records given geometry (record new { kept = after })))
+found_kept remaining old new before after (Ok (Some geometry)) h = λ l told records given s. tree_kept l remaining told records given geometry new after (h l told records given (stands_with l remaining told records given old before s))
+found_kept remaining old new before after (Ok None) h = tt
+found_kept remaining old new before after (Err f) h = tt
+
+pub none_kept : {R : Type 0} (remaining : R → Option (List ℕ)) (old new : TableReader R) (before after : List Row)
+    → ((l : Allowance) (told : Option (List ℕ)) (records : List Record) (given : List Tree) → StandsAfter l remaining told records given (record old { kept = before }) → MeetsEnd l remaining told records given new)
+    → (l : Allowance) (told : Option (List ℕ)) (records : List Record) (given : List Tree) → StandsAfter l remaining told records given old → MeetsEnd l remaining told records given (record new { kept = after })
+none_kept remaining old new before after h l told records given s = end_kept l remaining told records given new after (h l told records given (stands_with l remaining told records given old before s))

@@ -14,10 +14,10 @@ use Rattle.twkb_table.specs.Record.{Record}
 use Rattle.twkb_table.specs.Named.{Named}
 use Rattle.twkb_table.specs.Judged.{Verdict, Judged}
 use Rattle.twkb_table.specs.RowFault.{all_but_last}
-use Rattle.twkb_table.specs.CsvRecords.{BeginWith}
+use Rattle.twkb_table.specs.CsvRecords.{BeginWith, standing}
 use Rattle.twkb_table.specs.SourceStanding as Source
 use Rattle.twkb_table.specs.RowReading.{JudgedAfter}
-use Rattle.twkb_table.specs.TableReading.{NameSoFar, Extends, GivesNext, Explains}
+use Rattle.twkb_table.specs.TableReading.{NameSoFar, Extends, GivesNext, Explains, HasRead, is_ended}
 use Rattle.twkb_table.specs.declared.record_source.RecordSource.{RecordSource}
 use Rattle.twkb_table.specs.declared.table_fault.TableFault.{TableFault}
 use Rattle.twkb_table.specs.declared.table_fault.TableFault.TheVariants as fault
@@ -30,10 +30,13 @@ unfolding Reached
 begins_none None = tt
 begins_none (Some text) = (st.StartRecord, strip_bom text, (refl, refl))
 
-standing_begins : {R : Type 0} (remaining : R → Option (List ℕ)) (told : Option (List ℕ)) (records : List Record) (ended : Bool) (reader : Reader (MutBor (Tap R))) → Source.standing remaining told records ended reader → IfSome told (λ text. BeginWith text records)
+standing_begins : {R : Type 0} (remaining : R → Option (List ℕ)) (told : Option (List ℕ)) (records : List Record) (ended : Bool) (reader : Reader (MutBor (Tap R))) → standing remaining told records ended reader → IfSome told (λ text. BeginWith text records)
 standing_begins remaining None records ended reader s = tt
 standing_begins remaining (Some text) records false reader s = (reader_state reader, s.1.0, s.1.2)
 standing_begins remaining (Some text) records true reader s = (s.0, s.1, s.2)
+
+pub text_begins : {R : Type 0} (remaining : R → Option (List ℕ)) (told : Option (List ℕ)) (records : List Record) (reader : TableReader R) → HasRead remaining told records reader → IfSome told (λ text. BeginWith text records)
+text_begins remaining told records reader s = standing_begins remaining told records (is_ended reader) reader.reader s
 
 pub source_begins : {R : Type 0} (remaining : R → Option (List ℕ)) (told : Option (List ℕ)) (records : List Record) (source : RecordSource R) → Source.StandsAfter remaining told records source → IfSome told (λ text. BeginWith text records)
 source_begins remaining told records source s = standing_begins remaining told records source.ended source.reader s.0

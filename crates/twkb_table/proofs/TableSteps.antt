@@ -11,14 +11,13 @@ use Rattle.twkb_table.specs.Named.{Named}
 use Rattle.twkb_table.specs.Judged.{Accepted, Refused, Judged}
 use Rattle.twkb_table.specs.RowFault.{AreComplete, all_but_last}
 use Rattle.twkb_table.specs.CsvRecords.{AreRecordsOf, BeginWith}
-use Rattle.twkb_table.specs.SourceStanding as Source
 use Rattle.twkb_table.specs.RowReading.{limits_of, waiting, JudgedAfter, GoesOn, EndsBefore}
-use Rattle.twkb_table.specs.TableReading.{HaveGiven, StandsAfter, GivesNext, MeetsEnd, IsRefusedAt, HasTooMany, IsReading, BeginsNext, is_ended, is_spent}
+use Rattle.twkb_table.specs.TableReading.{HaveGiven, StandsAfter, GivesNext, MeetsEnd, IsRefusedAt, HasTooMany, IsReading, BeginsNext, HasRead, is_ended, is_spent}
 use Rattle.twkb_table.specs.declared.reason.RowReason.{RowReason}
 use Rattle.twkb_table.specs.declared.table_fault.TableFault.{TableFault}
 use Rattle.twkb_table.specs.declared.table_reader.TableReader.{TableReader}
 use Rattle.twkb_table.proofs.NextRecord.{row_more, root_more, refused_more}
-use Rattle.twkb_table.proofs.TableReaderLemmas.{source_begins, extends_none, extends_one, never_none, named_some, names_so_far, all_but_last-last, judged_after}
+use Rattle.twkb_table.proofs.TableReaderLemmas.{text_begins, extends_none, extends_one, never_none, named_some, names_so_far, all_but_last-last, judged_after}
 
 one_more : (m n : ℕ) (records : List Record) (here : Record) → n ≡ m + 1 → m ≡ length records → n ≡ length (records ++ here ∷ [])
 one_more m n records here next count = omega (arith, next, count, length-append records (here ∷ []))
@@ -27,7 +26,7 @@ one_more m n records here next count = omega (arith, next, count, length-append 
 
 -- a row more
 pub reads_more : {R : Type 0} (l : Allowance) (remaining : R → Option (List ℕ)) (told : Option (List ℕ)) (records : List Record) (given : List Tree) (before after : List Row) (here : Record) (old new : TableReader R)
-    → IsReading l remaining told records given before old → Source.StandsAfter remaining told (records ++ here ∷ []) new.source → new.number ≡ old.number + 1 → limits_of new.rows ≡ limits_of old.rows → is_spent new ≡ is_spent old
+    → IsReading l remaining told records given before old → HasRead remaining told (records ++ here ∷ []) new → new.number ≡ old.number + 1 → limits_of new.rows ≡ limits_of old.rows → is_spent new ≡ is_spent old
     → GoesOn old.rows before here new.rows after → IsReading l remaining told (records ++ here ∷ []) given after new
 reads_more l remaining told records given before after here old new r source number limits spent g =
     let j = judged_after l (limits_of old.rows) given r.geometry before here (Accepted g.row) r.limits r.rows g.judged in
@@ -44,7 +43,7 @@ reads_more l remaining told records given before after here old new r source num
 
 -- the root of another geometry
 pub reads_next : {R : Type 0} (l : Allowance) (remaining : R → Option (List ℕ)) (told : Option (List ℕ)) (records : List Record) (given : List Tree) (before : List Row) (here : Record) (old new : TableReader R)
-    → IsReading l remaining told records given before old → Source.StandsAfter remaining told (records ++ here ∷ []) new.source → new.number ≡ old.number + 1 → limits_of new.rows ≡ limits_of old.rows → is_spent new ≡ is_spent old
+    → IsReading l remaining told records given before old → HasRead remaining told (records ++ here ∷ []) new → new.number ≡ old.number + 1 → limits_of new.rows ≡ limits_of old.rows → is_spent new ≡ is_spent old
     → EndsBefore old.rows before here new.rows → GivesNext l remaining told records given before new
 reads_next l remaining told records given before here old new r source number limits spent e =
     let j = judged_after l (limits_of old.rows) given r.geometry before here (Accepted e.row) r.limits r.rows e.judged in
@@ -52,7 +51,7 @@ reads_next l remaining told records given before here old new r source number li
     record {
       seen = records ++ here ∷ [];
       extends = extends_one records here;
-      begins = source_begins remaining told (records ++ here ∷ []) new.source source;
+      begins = text_begins remaining told (records ++ here ∷ []) new source;
       geometry = r.geometry;
       valid = last_valid l given r.geometry r.named.valid;
       rows = r.rows;
@@ -67,12 +66,12 @@ reads_next l remaining told records given before here old new r source number li
 
 -- the table's end
 pub reads_end : {R : Type 0} (l : Allowance) (remaining : R → Option (List ℕ)) (told : Option (List ℕ)) (records : List Record) (given : List Tree) (before : List Row) (old new : TableReader R)
-    → IsReading l remaining told records given before old → Source.StandsAfter remaining told records new.source → is_ended new ≡ true → new.number ≡ old.number → limits_of new.rows ≡ limits_of old.rows → is_spent new ≡ is_spent old
+    → IsReading l remaining told records given before old → HasRead remaining told records new → is_ended new ≡ true → new.number ≡ old.number → limits_of new.rows ≡ limits_of old.rows → is_spent new ≡ is_spent old
     → waiting new.rows ≡ [] → GivesNext l remaining told records given before new
 reads_end l remaining told records given before old new r source ended number limits spent none = record {
   seen = records;
   extends = extends_none records;
-  begins = source_begins remaining told records new.source source;
+  begins = text_begins remaining told records new source;
   geometry = r.geometry;
   valid = last_valid l given r.geometry r.named.valid;
   rows = r.rows;
@@ -97,11 +96,11 @@ refused_at l told records here gs given number reason cap n but begins j count =
 }
 
 pub reads_refused : {R : Type 0} (l : Allowance) (remaining : R → Option (List ℕ)) (told : Option (List ℕ)) (records : List Record) (given : List Tree) (before : List Row) (here : Record) (old new : TableReader R) (reason : RowReason)
-    → IsReading l remaining told records given before old → Source.StandsAfter remaining told (records ++ here ∷ []) new.source → new.number ≡ old.number + 1 → IsAllowance (limits_of old.rows)
+    → IsReading l remaining told records given before old → HasRead remaining told (records ++ here ∷ []) new → new.number ≡ old.number + 1 → IsAllowance (limits_of old.rows)
     → JudgedAfter (limits_of old.rows) before here (Refused reason) → IsRefusedAt l told records given new.number reason
 reads_refused l remaining told records given before here old new reason r source number cap j =
     refused_at l told records here (given ++ r.geometry ∷ []) given new.number reason (subst IsAllowance r.limits cap) r.named (all_but_last-last given r.geometry)
-    (source_begins remaining told (records ++ here ∷ []) new.source source) (judged_after l (limits_of old.rows) given r.geometry before here (Refused reason) r.limits r.rows j) (omega (arith, number, r.count))
+    (text_begins remaining told (records ++ here ∷ []) new source) (judged_after l (limits_of old.rows) given r.geometry before here (Refused reason) r.limits r.rows j) (omega (arith, number, r.count))
 
 -- too many records
 pub too_many : (told : Option (List ℕ)) (records : List Record) (number : ℕ) (here : Record) → number ≡ length records → number + 1 ≡ 2 ^ 32 → IfSome told (λ text. BeginWith text (records ++ here ∷ [])) → HasTooMany told records
@@ -116,7 +115,7 @@ too_many told records number here count last begins = record {
 
 -- the table's end
 pub meets_end : {R : Type 0} (l : Allowance) (remaining : R → Option (List ℕ)) (told : Option (List ℕ)) (records : List Record) (given : List Tree) (old new : TableReader R)
-    → StandsAfter l remaining told records given old → waiting old.rows ≡ [] → 0 < old.number → Source.StandsAfter remaining told records new.source → is_ended new ≡ true → IfSome told (λ text. AreRecordsOf text records)
+    → StandsAfter l remaining told records given old → waiting old.rows ≡ [] → 0 < old.number → HasRead remaining told records new → is_ended new ≡ true → IfSome told (λ text. AreRecordsOf text records)
     → new.number ≡ old.number → limits_of new.rows ≡ limits_of old.rows → is_spent new ≡ is_spent old → waiting new.rows ≡ [] → MeetsEnd l remaining told records given new
 meets_end l remaining told records given old new s none some source ended all number limits spent still =
     let gave = subst (λ w. HaveGiven l records given w (is_ended old)) none s.gave in
@@ -140,14 +139,14 @@ none_given l records given ended (n, inl none) going some = (subst (λ gs. Named
 none_given l records given ended (n, inr over) going some = absurd (true≢false (sym over ∙ going))
 
 -- a record came, so the end was not met
-pub going_on : (ended spent found : Bool) → (ended ≡ true → spent ≡ false → ◌≡◌ {A = Result Bool TableFault} (Ok found) (Ok false)) → spent ≡ false → found ≡ true → ended ≡ false
-going_on false spent found over unspent e = refl
-going_on true spent true over unspent e = (let same = over refl unspent in cc same)
-going_on true spent false over unspent e = cc e
+pub going_on : (ended found : Bool) → (ended ≡ true → ◌≡◌ {A = Result Bool TableFault} (Ok found) (Ok false)) → found ≡ true → ended ≡ false
+going_on false found over e = refl
+going_on true true over e = (let same = over refl in cc same)
+going_on true false over e = cc e
 
 -- the first root
 pub begins_next : {R : Type 0} (l : Allowance) (remaining : R → Option (List ℕ)) (told : Option (List ℕ)) (records : List Record) (given : List Tree) (here : Record) (row : Row) (old new : TableReader R)
-    → StandsAfter l remaining told records given old → waiting old.rows ≡ [] → 0 < old.number → is_ended old ≡ false → Source.StandsAfter remaining told (records ++ here ∷ []) new.source
+    → StandsAfter l remaining told records given old → waiting old.rows ≡ [] → 0 < old.number → is_ended old ≡ false → HasRead remaining told (records ++ here ∷ []) new
     → new.number ≡ old.number + 1 → limits_of new.rows ≡ limits_of old.rows → is_spent new ≡ is_spent old → Judged (limits_of old.rows) [] here (Accepted row) → row.depth ≡ 0
     → BeginsNext l remaining told records given (row ∷ []) new
 begins_next l remaining told records given here row old new s none some going source number limits spent j root =
@@ -168,9 +167,9 @@ begins_next l remaining told records given here row old new s none some going so
     }
 
 pub first_refused : {R : Type 0} (l : Allowance) (remaining : R → Option (List ℕ)) (told : Option (List ℕ)) (records : List Record) (given : List Tree) (here : Record) (old new : TableReader R) (reason : RowReason)
-    → StandsAfter l remaining told records given old → waiting old.rows ≡ [] → 0 < old.number → is_ended old ≡ false → Source.StandsAfter remaining told (records ++ here ∷ []) new.source
+    → StandsAfter l remaining told records given old → waiting old.rows ≡ [] → 0 < old.number → is_ended old ≡ false → HasRead remaining told (records ++ here ∷ []) new
     → new.number ≡ old.number + 1 → IsAllowance (limits_of old.rows) → Judged (limits_of old.rows) [] here (Refused reason) → IsRefusedAt l told records given new.number reason
 first_refused l remaining told records given here old new reason s none some going source number cap j =
     let first = none_given l records given (is_ended old) (subst (λ w. HaveGiven l records given w (is_ended old)) none s.gave) going (omega (arith, some, s.count)) in
-    refused_at l told records here [] given new.number reason (subst IsAllowance s.limits cap) first.0 (sym first.1) (source_begins remaining told (records ++ here ∷ []) new.source source)
+    refused_at l told records here [] given new.number reason (subst IsAllowance s.limits cap) first.0 (sym first.1) (text_begins remaining told (records ++ here ∷ []) new source)
     (subst (λ m. Judged m [] here (Refused reason)) s.limits j) (omega (arith, number, s.count))

@@ -1,5 +1,5 @@
 -- The records that `csv` reads from a text, and how far its reader gave them.
-use Rattle.std.specs.Prelude.{ℕ, ◌≡◌, List, Option, Some, None, true, ⊤}
+use Rattle.std.specs.Prelude.{ℕ, ◌≡◌, List, Option, Some, None, IfSome, Bool, true, false, ⊤}
 use Rattle.std.specs.Borrow.{MutBor}
 use Rattle.csv.specs.Reading.{AreRecords, Reached, Ready, default_config, is_flexible, reader_config, reader_state, reader_trim, source_of, strip_bom}
 use Rattle.csv.specs.declared.parser.State.{State}
@@ -36,3 +36,8 @@ HasGivenOf remaining (Some text) records reader =
 -- the same of a reader that is set up
 abbrev pub HasGiven : {R : Type 0} → (R → Option (List ℕ)) → Option (List ℕ) → List Record → Reader (MutBor (Tap R)) → Type 0
 HasGiven remaining told records reader = IsSetUp reader × HasGivenOf remaining told records reader
+
+-- From a text that was told at the start these records were given, and they are all where the end was met.
+abbrev pub standing : {R : Type 0} → (R → Option (List ℕ)) → Option (List ℕ) → List Record → Bool → Reader (MutBor (Tap R)) → Type 0
+standing remaining told records false reader = HasGiven remaining told records reader
+standing remaining told records true reader = IfSome told (λ text. AreRecordsOf text records)

@@ -8,8 +8,7 @@ use Rattle.twkb_flat.specs.declared.node.Row.{Row as Bare}
 use Rattle.twkb_table.specs.Record.{Record, header}
 use Rattle.twkb_table.specs.Named.{Named}
 use Rattle.twkb_table.specs.RowFault.{AreComplete}
-use Rattle.twkb_table.specs.CsvRecords.{AreRecordsOf, BeginWith}
-use Rattle.twkb_table.specs.SourceStanding as Source
+use Rattle.twkb_table.specs.CsvRecords.{AreRecordsOf, BeginWith, standing}
 use Rattle.twkb_table.specs.RowReading.{limits_of, points_held, waiting}
 use Rattle.twkb_table.specs.declared.reason.RowReason.{RowReason}
 use Rattle.twkb_table.specs.declared.table_fault.TableFault.{TableFault}
@@ -31,15 +30,19 @@ HaveGiven l records given (root ∷ more) ended = (last : Tree) × Named l recor
 
 -- whether the end of the table was met
 abbrev pub is_ended : {R : Type 0} → TableReader R → Bool
-is_ended reader = Source.is_ended reader.source
+is_ended reader = reader.ended
 
 -- whether a call answered an error
 abbrev pub is_spent : {R : Type 0} → TableReader R → Bool
 is_spent reader = reader.spent
 
+-- `csv` gave the reader these records of a text that was told at the start, and they are all where the end was met
+abbrev pub HasRead : {R : Type 0} → (R → Option (List ℕ)) → Option (List ℕ) → List Record → TableReader R → Type 0
+HasRead remaining told records reader = standing remaining told records (is_ended reader) reader.reader
+
 -- A reader with these limits read these records of a text that was told at the start, and gave these geometries.
 pub record StandsAfter {R : Type 0} (l : Allowance) (remaining : R → Option (List ℕ)) (told : Option (List ℕ)) (records : List Record) (given : List Tree) (reader : TableReader R) : Type 0 where
-  pub source : Source.StandsAfter remaining told records reader.source
+  pub source : HasRead remaining told records reader
   pub count : reader.number ≡ length records
   pub limits : limits_of reader.rows ≡ l
   pub gave : HaveGiven l records given (waiting reader.rows) (is_ended reader)
@@ -48,7 +51,6 @@ pub record StandsAfter {R : Type 0} (l : Allowance) (remaining : R → Option (L
 -- The end of the table was met, and all its geometries were given.
 pub record IsOver {R : Type 0} (reader : TableReader R) : Type 0 where
   pub ended : is_ended reader ≡ true
-  pub unspent : Source.is_spent reader.source ≡ false
   pub none : waiting reader.rows ≡ []
   pub begun : 0 < reader.number
 
@@ -115,7 +117,7 @@ records_read reader = reader.number
 
 -- The records name the geometries that were given and one more, of which these are the rows so far.
 pub record IsReading {R : Type 0} (l : Allowance) (remaining : R → Option (List ℕ)) (told : Option (List ℕ)) (records : List Record) (given : List Tree) (so_far : List Row) (reader : TableReader R) : Type 0 where
-  pub source : Source.StandsAfter remaining told records reader.source
+  pub source : HasRead remaining told records reader
   pub count : reader.number ≡ length records
   pub limits : limits_of reader.rows ≡ l
   pub geometry : Tree

@@ -1,5 +1,5 @@
 //! Canonical decimals: digits without a leading zero, after a minus sign where the number is negative.
-ghost use Rattle.std.specs.Prelude.{◌≡◌, ◌++◌, OnOk};
+ghost use Rattle.std.specs.Prelude.{◌≡◌, ◌++◌, IfSome, OnOk, OnErr};
 ghost use Rattle.std.specs.Fmt.{signed_decimal};
 ghost use Rattle.twkb_table.specs.Fields.{Reads, IsDepthField, IsIdField, IsPrecisionField, IsOptionalId, IsOptionalPrecision};
 
@@ -22,10 +22,23 @@ pub fn parse_depth(field: &[u8]) -> Option<u32>
     }
 }
 
+/// The number that a field of one digit spells, as most fields do.
+fn digit_of(field: &[u8]) -> Option<i64>
+    ensures some { IfSome result (λ id. IsIdField field.now id) }
+{
+    match field {
+        [digit] if b'0' <= *digit && *digit <= b'9' => Some(i64::from(*digit - b'0')),
+        _ => None,
+    }
+}
+
 /// The id, any i64, whose canonical decimal the field is (profile). Takes no memory.
 pub fn parse_id(field: &[u8]) -> Option<i64>
     ensures reads { Reads (IsIdField field.now) result }
 {
+    if let Some(id) = digit_of(field) {
+        return Some(id);
+    }
     let Ok(text) = str::from_utf8(field) else {
         return None;
     };
@@ -78,9 +91,11 @@ pub fn parse_optional_precision(field: &[u8]) -> Option<Option<i8>>
     }
 }
 
-/// Appends the canonical decimal of a number (profile).
+/// Appends the canonical decimal of a number (profile). Takes memory for the text alone; where that
+/// is refused, the text is as it was.
 pub fn push_decimal(text: &mut Vec<u8>, number: i64) -> Result<(), AllocError>
     ensures appended { OnOk result (text.new.items ≡ text.old.items ++ signed_decimal number) }
+    ensures same { OnErr result (text.new.items ≡ text.old.items) }
 {
     let mut buffer = Buffer::new();
     text.extend_from_slice(buffer.format(number).as_bytes())

@@ -1,12 +1,12 @@
 //! The rows of a geometry as text.
-ghost use Rattle.std.specs.Prelude.{◌≡◌, ◌≤◌, ◌<◌, ◌+◌, ◌^◌, ◌∷◌, [], ◌++◌, map, OnOk, IfOk};
+ghost use Rattle.std.specs.Prelude.{◌≡◌, ◌≤◌, ◌<◌, ◌+◌, ◌^◌, ◌∷◌, [], ◌++◌, map, OnOk, OnErr, IfOk};
 ghost use Rattle.twkb_geom.specs.Limits.{largest_limits};
 ghost use Rattle.twkb_geom.specs.Tree.{nest, nest_all, trees};
 ghost use Rattle.twkb_geom.specs.Rows.{own_row, rows, rows_with, member_rows, rows_of_each, plain_row, ring_rows, polygon_rows};
 ghost use Rattle.twkb_geom.specs.declared.kind.Kind.{Kind};
 ghost use Rattle.twkb_table.specs.Record.{record_of};
 ghost use Rattle.twkb_table.specs.Text.{csvtext};
-ghost use Rattle.twkb_table.specs.Printing.{row_lines, line_row};
+ghost use Rattle.twkb_table.specs.Printing.{row_lines, line_row, Grows};
 
 use crate::row_line::{RowLine, put_row};
 use std::alloc::{AllocError, Global};
@@ -25,14 +25,20 @@ pub fn rows_text(alloc: Global, geometry: &Geometry) -> Result<Vec<u8>, AllocErr
     Ok(text)
 }
 
-/// Appends the lines of the geometry's rows, each ended by LF (profile). Takes memory for the text alone; where that
-/// is refused, a front of the lines may stand behind what was there.
+/// Appends the lines of the geometry's rows, each ended by LF (profile). Takes memory for the text
+/// alone; where that is refused, the text is as it was.
 #[tactic(auto, unfolding(crate::specs::Printing::row_lines))]
 pub fn put_rows(geometry: &Geometry, text: &mut Vec<u8>) -> Result<(), AllocError>
     requires nest { nest geometry.now ≤ largest_limits.nest }
     ensures appended { OnOk result (text.new.items ≡ text.old.items ++ csvtext (map record_of (rows 0 geometry.now))) }
+    ensures same { OnErr result (text.new.items ≡ text.old.items) }
 {
-    put_geometry(geometry, 0, None, text)
+    let held = text.len();
+    let result = put_geometry(geometry, 0, None, text);
+    if result.is_err() {
+        text.truncate(held);
+    }
+    result
 }
 
 /// Appends the lines of a geometry's rows, which has this id and stands at this depth.
@@ -44,7 +50,8 @@ fn put_geometry(
     text: &mut Vec<u8>,
 ) -> Result<(), AllocError>
     requires nest { depth + nest geometry.now < 2 ^ 31 }
-    ensures { OnOk result (text.new.items ≡ text.old.items ++ row_lines (rows_with id depth geometry.now)) }
+    ensures appended { OnOk result (text.new.items ≡ text.old.items ++ row_lines (rows_with id depth geometry.now)) }
+    ensures grown { Grows text.old.items text.new.items }
 {
     put_row(&own_line(geometry, depth, id), text)?;
     let below = depth + 1;
@@ -83,7 +90,8 @@ fn put_members(
     text: &mut Vec<u8>,
 ) -> Result<(), AllocError>
     requires nest { depth + nest_all (trees members.now) ≤ 2 ^ 31 }
-    ensures { OnOk result (text.new.items ≡ text.old.items ++ row_lines (member_rows depth ids.now (trees members.now))) }
+    ensures appended { OnOk result (text.new.items ≡ text.old.items ++ row_lines (member_rows depth ids.now (trees members.now))) }
+    ensures grown { Grows text.old.items text.new.items }
 {
     let mut index = 0;
     for member in members.as_slice() {
@@ -97,7 +105,8 @@ fn put_members(
 /// Appends the lines of the polygons of a multipolygon.
 fn put_areas(depth: u32, areas: &[Lines], ids: &Ids, text: &mut Vec<u8>) -> Result<(), AllocError>
     requires { depth + 1 < 2 ^ 32 }
-    ensures { OnOk result (text.new.items ≡ text.old.items ++ row_lines (rows_of_each (polygon_rows depth) ids.now areas.now)) }
+    ensures appended { OnOk result (text.new.items ≡ text.old.items ++ row_lines (rows_of_each (polygon_rows depth) ids.now areas.now)) }
+    ensures grown { Grows text.old.items text.new.items }
 {
     let mut index = 0;
     for rings in areas {
@@ -120,7 +129,8 @@ fn put_areas(depth: u32, areas: &[Lines], ids: &Ids, text: &mut Vec<u8>) -> Resu
 
 /// Appends the lines of the linestrings of a multilinestring.
 fn put_lines(depth: u32, lines: &[Pts], ids: &Ids, text: &mut Vec<u8>) -> Result<(), AllocError>
-    ensures { OnOk result (text.new.items ≡ text.old.items ++ row_lines (rows_of_each (λ id ps. plain_row depth Kind.Linestring id ps ∷ []) ids.now lines.now)) }
+    ensures appended { OnOk result (text.new.items ≡ text.old.items ++ row_lines (rows_of_each (λ id ps. plain_row depth Kind.Linestring id ps ∷ []) ids.now lines.now)) }
+    ensures grown { Grows text.old.items text.new.items }
 {
     let mut index = 0;
     for line in lines {
@@ -143,7 +153,8 @@ fn put_lines(depth: u32, lines: &[Pts], ids: &Ids, text: &mut Vec<u8>) -> Result
 
 /// Appends the lines of the points of a multipoint.
 fn put_points(depth: u32, points: &[Pt], ids: &Ids, text: &mut Vec<u8>) -> Result<(), AllocError>
-    ensures { OnOk result (text.new.items ≡ text.old.items ++ row_lines (rows_of_each (λ id p. plain_row depth Kind.Point id (p ∷ []) ∷ []) ids.now points.now)) }
+    ensures appended { OnOk result (text.new.items ≡ text.old.items ++ row_lines (rows_of_each (λ id p. plain_row depth Kind.Point id (p ∷ []) ∷ []) ids.now points.now)) }
+    ensures grown { Grows text.old.items text.new.items }
 {
     let mut index = 0;
     for point in points {
@@ -166,7 +177,8 @@ fn put_points(depth: u32, points: &[Pt], ids: &Ids, text: &mut Vec<u8>) -> Resul
 
 /// Appends the lines of the rings of a polygon.
 fn put_rings(depth: u32, rings: &[Pts], text: &mut Vec<u8>) -> Result<(), AllocError>
-    ensures { OnOk result (text.new.items ≡ text.old.items ++ row_lines (ring_rows depth rings.now)) }
+    ensures appended { OnOk result (text.new.items ≡ text.old.items ++ row_lines (ring_rows depth rings.now)) }
+    ensures grown { Grows text.old.items text.new.items }
 {
     for ring in rings {
         let points = ring.as_slice();

@@ -3,7 +3,7 @@ ghost use Rattle.std.specs.Prelude.{◌≡◌, ◌++◌, ◌∷◌, ◌↔◌, �
 ghost use Rattle.csv.specs.Records.{fields_of};
 ghost use Rattle.twkb_io.specs.Taps.{device_of};
 ghost use Rattle.twkb_table.specs.Record.{Record};
-ghost use Rattle.twkb_table.specs.CsvRecords.{AreRecordsOf, BeginWith, HasGiven};
+ghost use Rattle.twkb_table.specs.CsvRecords.{AreRecordsOf, BeginWith, HasGiven, standing};
 
 use csv::{ByteRecord, Reader, ReaderBuilder};
 use std::alloc::Global;
@@ -73,21 +73,42 @@ impl<'a, R: Read> RecordSource<'a, R> {
         if self.spent {
             return Err(SourceFault::Spent);
         }
-        if self.ended {
-            return Ok(false);
-        }
-        let found = read_record(&mut self.reader, &mut self.held);
-        match found {
-            Ok(true) => {}
-            Ok(false) => self.ended = true,
-            Err(_) => self.spent = true,
-        }
+        let found = read_next(&mut self.reader, &mut self.held, &mut self.ended);
+        self.spent = found.is_err();
         found
     }
 }
 
-// A reader of every record, of any length, as it stands.
-fn new_reader<'a, R: Read>(alloc: Global, tap: &'a mut Tap<R>) -> Reader<&'a mut Tap<R>>
+/// Reads the next record, and answers whether there was one. After the end each call answers that
+/// there is none.
+pub(crate) fn read_next<R: Read>(
+    reader: &mut Reader<&mut Tap<R>>,
+    held: &mut ByteRecord,
+    ended: &mut bool,
+) -> Result<bool, SourceFault>
+    ensures gives { IfOk result (λ found. found ≡ true → (told : Option (List ℕ)) (records : List Record)
+        → standing R.remaining told records ended.old reader.old
+        → standing R.remaining told (records ++ fields_of held.new ∷ []) ended.new reader.new
+        × IfSome told (λ text. BeginWith text (records ++ fields_of held.new ∷ []))) }
+    ensures ends { IfOk result (λ found. found ≡ false → (told : Option (List ℕ)) (records : List Record)
+        → standing R.remaining told records ended.old reader.old
+        → standing R.remaining told records ended.new reader.new × IfSome told (λ text. AreRecordsOf text records)) }
+    ensures source { IfErr result (λ fault. fault ≡ SourceFault.Source) }
+    ensures over { ended.old ≡ true → result ≡ Ok false }
+    ensures ended { result ≡ Ok false → ended.new ≡ true }
+{
+    if *ended {
+        return Ok(false);
+    }
+    let found = read_record(reader, held);
+    if let Ok(false) = found {
+        *ended = true;
+    }
+    found
+}
+
+/// A reader of every record, of any length, as it stands.
+pub(crate) fn new_reader<'a, R: Read>(alloc: Global, tap: &'a mut Tap<R>) -> Reader<&'a mut Tap<R>>
     ensures { HasGiven R.remaining (R.remaining (device_of tap.old)) [] result }
 {
     ReaderBuilder::new()

@@ -1,8 +1,8 @@
 //! One row of a table as a line.
-ghost use Rattle.std.specs.Prelude.{◌≡◌, [], ◌∷◌, ◌++◌, OnOk, decimal};
+ghost use Rattle.std.specs.Prelude.{◌≡◌, [], ◌∷◌, ◌++◌, OnOk, OnErr, decimal};
 ghost use Rattle.twkb_geom.specs.Kind.{word_of};
 ghost use Rattle.twkb_table.specs.Fields.{optional};
-ghost use Rattle.twkb_table.specs.Printing.{row_lines, line_row};
+ghost use Rattle.twkb_table.specs.Printing.{row_lines, line_row, Grows};
 
 use crate::decimal::push_decimal;
 use std::alloc::AllocError;
@@ -22,7 +22,8 @@ pub(crate) struct RowLine<'a> {
 
 /// Appends the row's line, or a front of it where memory is refused.
 pub(crate) fn put_row(row: &RowLine<'_>, text: &mut Vec<u8>) -> Result<(), AllocError>
-    ensures { OnOk result (text.new.items ≡ text.old.items ++ row_lines (line_row row.now ∷ [])) }
+    ensures appended { OnOk result (text.new.items ≡ text.old.items ++ row_lines (line_row row.now ∷ [])) }
+    ensures grown { Grows text.old.items text.new.items }
 {
     put_depth(row.depth, text)?;
     put_word(row.kind, text)?;
@@ -36,21 +37,24 @@ pub(crate) fn put_row(row: &RowLine<'_>, text: &mut Vec<u8>) -> Result<(), Alloc
 
 /// Appends one byte.
 fn put_byte(byte: u8, text: &mut Vec<u8>) -> Result<(), AllocError>
-    ensures { OnOk result (text.new.items ≡ text.old.items ++ (byte ∷ [])) }
+    ensures appended { OnOk result (text.new.items ≡ text.old.items ++ (byte ∷ [])) }
+    ensures same { OnErr result (text.new.items ≡ text.old.items) }
 {
     text.extend_from_slice(&[byte])
 }
 
 /// Appends the canonical decimal of a depth.
 fn put_depth(depth: u32, text: &mut Vec<u8>) -> Result<(), AllocError>
-    ensures { OnOk result (text.new.items ≡ text.old.items ++ decimal depth) }
+    ensures appended { OnOk result (text.new.items ≡ text.old.items ++ decimal depth) }
+    ensures same { OnErr result (text.new.items ≡ text.old.items) }
 {
     push_decimal(text, i64::from(depth))
 }
 
 /// Appends a comma and the word of a kind.
 fn put_word(kind: Kind, text: &mut Vec<u8>) -> Result<(), AllocError>
-    ensures { OnOk result (text.new.items ≡ text.old.items ++ (44 ∷ word_of kind)) }
+    ensures appended { OnOk result (text.new.items ≡ text.old.items ++ (44 ∷ word_of kind)) }
+    ensures grown { Grows text.old.items text.new.items }
 {
     text.extend_from_slice(b",")?;
     text.extend_from_slice(kind.name().as_bytes())
@@ -58,7 +62,8 @@ fn put_word(kind: Kind, text: &mut Vec<u8>) -> Result<(), AllocError>
 
 /// Appends a comma, and the canonical decimal of a number where there is one.
 fn put_number(number: Option<i64>, text: &mut Vec<u8>) -> Result<(), AllocError>
-    ensures { OnOk result (text.new.items ≡ text.old.items ++ (44 ∷ optional number)) }
+    ensures appended { OnOk result (text.new.items ≡ text.old.items ++ (44 ∷ optional number)) }
+    ensures grown { Grows text.old.items text.new.items }
 {
     text.extend_from_slice(b",")?;
     match number {

@@ -9,11 +9,13 @@ ghost use Rattle.twkb_table.specs.Record.{Record, header};
 use crate::header::is_header;
 use crate::numbering::{fault_at, next_record};
 use crate::reason::RowReason;
-use crate::record_source::RecordSource;
+use crate::record_source::{new_reader, read_next};
 use crate::row_reader::RowReader;
 use crate::table_fault::TableFault;
+use csv::{ByteRecord, Reader};
 use std::alloc::Global;
 use std::io::Read;
+use std::mem::replace;
 use twkb_flat::{Flat, Row};
 use twkb_geom::{Geometry, Limits};
 use twkb_io::Tap;
@@ -22,10 +24,17 @@ use twkb_io::Tap;
 #[derive(Drop)]
 pub struct TableReader<'a, R> {
     alloc: Global,
-    source: RecordSource<'a, R>,
+    reader: Reader<&'a mut Tap<R>>,
+    /// The record that was read last.
+    held: ByteRecord,
+    /// Whether the end of the table was met.
+    ended: bool,
     /// How many records were read.
     number: u32,
     rows: RowReader,
+    /// What `next` reads rows into.
+    kept: Flat,
+    /// Whether a call answered an error.
     spent: bool,
 }
 
@@ -48,19 +57,14 @@ impl<'a, R: Read> TableReader<'a, R> {
     {
         TableReader {
             alloc,
-            source: RecordSource::new(alloc, tap),
+            reader: new_reader(alloc, tap),
+            held: ByteRecord::new(alloc),
+            ended: false,
             number: 0,
             rows: RowReader::new(alloc, limits),
+            kept: Flat::new(alloc),
             spent: false,
         }
-    }
-
-    /// Ends the reading; the tap is the caller's again. A caller that made the reader calls this
-    /// last, since the checker covers no drop of a reader as a whole.
-    pub fn finish(self) {
-        let TableReader { source, rows, .. } = self;
-        drop(source);
-        drop(rows);
     }
 
     /// Reads the next geometry into a flat form, in place of what it holds, and answers whether
@@ -118,8 +122,26 @@ impl<'a, R: Read> TableReader<'a, R> {
         ensures spent { (result ≡ Err TableFault.Spent) ↔ (is_spent self.old ≡ true) }
         ensures stays { is_spent self.new ≡ is_err result }
     {
-        let mut flat = Flat::new(self.alloc);
-        match self.next_flat(&mut flat) {
+        let mut flat = replace(&mut self.kept, Flat::new(self.alloc));
+        let found = self.next_tree(&mut flat);
+        self.kept = flat;
+        found
+    }
+
+    // The next geometry, read into a flat form.
+    fn next_tree(&mut self, flat: &mut Flat) -> Result<Option<Geometry>, TableFault>
+        ensures gives { IfOk result (λ found. IfSome found (λ geometry. (l : Allowance) (told : Option (List ℕ)) (records : List Record) (given : List Tree)
+            → StandsAfter l R.remaining told records given self.old → GivesTree l R.remaining told records given geometry self.new)) }
+        ensures ends { result ≡ Ok None → (l : Allowance) (told : Option (List ℕ)) (records : List Record) (given : List Tree)
+            → StandsAfter l R.remaining told records given self.old → MeetsEnd l R.remaining told records given self.new }
+        ensures fault { IfErr result (λ fault. (l : Allowance) (told : Option (List ℕ)) (records : List Record) (given : List Tree)
+            → StandsAfter l R.remaining told records given self.old → Explains l told records given fault) }
+        ensures over { IsOver self.old → is_spent self.old ≡ false → result ≡ Ok None }
+        ensures ended { result ≡ Ok None → IsOver self.new }
+        ensures spent { (result ≡ Err TableFault.Spent) ↔ (is_spent self.old ≡ true) }
+        ensures stays { is_spent self.new ≡ is_err result }
+    {
+        match self.next_flat(flat) {
             Ok(true) => {}
             Ok(false) => return Ok(None),
             Err(fault) => return Err(fault),
@@ -209,12 +231,12 @@ impl<'a, R: Read> TableReader<'a, R> {
         ensures fresh { IfErr result (λ fault. fault ≢ TableFault.Spent) }
         ensures same { is_spent self.new ≡ is_spent self.old }
     {
-        match self.source.read() {
+        match read_next(&mut self.reader, &mut self.held, &mut self.ended) {
             Ok(true) => {}
             Ok(false) => return Err(BAD_HEADER),
             Err(_) => return Err(TableFault::Source),
         }
-        if !is_header(self.source.record()) {
+        if !is_header(&self.held) {
             return Err(BAD_HEADER);
         }
         self.number = 1;
@@ -234,12 +256,17 @@ impl<'a, R: Read> TableReader<'a, R> {
         ensures fresh { IfErr result (λ fault. fault ≢ TableFault.Spent) }
         ensures same { is_spent self.new ≡ is_spent self.old }
     {
-        match next_record(&mut self.source, &mut self.number) {
+        match next_record(
+            &mut self.reader,
+            &mut self.held,
+            &mut self.ended,
+            &mut self.number,
+        ) {
             Ok(true) => {}
             Ok(false) => return Ok(None),
             Err(fault) => return Err(fault),
         }
-        match self.rows.read_root(self.source.record()) {
+        match self.rows.read_root(&self.held) {
             Ok(root) => Ok(Some(root)),
             Err(fault) => Err(fault_at(self.number, fault)),
         }
@@ -279,12 +306,17 @@ impl<'a, R: Read> TableReader<'a, R> {
         ensures fresh { IfErr result (λ fault. fault ≢ TableFault.Spent) }
         ensures same { is_spent self.new ≡ is_spent self.old }
     {
-        match next_record(&mut self.source, &mut self.number) {
+        match next_record(
+            &mut self.reader,
+            &mut self.held,
+            &mut self.ended,
+            &mut self.number,
+        ) {
             Ok(true) => {}
             Ok(false) => return Ok(false),
             Err(fault) => return Err(fault),
         }
-        match self.rows.read_row(self.source.record(), flat) {
+        match self.rows.read_row(&self.held, flat) {
             Ok(more) => Ok(more),
             Err(stop) => Err(fault_at(self.number, stop)),
         }

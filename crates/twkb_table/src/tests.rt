@@ -2,7 +2,7 @@
 mod calls;
 mod fields;
 mod fixtures;
-mod printing;
-mod reading;
+mod geometries;
 mod refusing;
 mod rows;
+mod tables;

@@ -55,9 +55,17 @@ failed_more refused a b held first second fault p = record {
 pub moved_none : {S : Type 0} (took : S → List ℕ → S → Type 0) (a : S) (held : List ℕ) → took a [] a → Moved took a held [] a held
 moved_none took a held none = record { front = []; taken = none; whole = append-nil held }
 
--- all stayed in the piece
-pub moved_held : {S : Type 0} (took : S → List ℕ → S → Type 0) (a : S) (held bytes left : List ℕ) → took a [] a → left ≡ held ++ bytes → Moved took a held bytes a left
-moved_held took a held bytes left none e = record { front = []; taken = none; whole = sym e }
+-- room was made, and the bytes stayed in the piece
+pub pushed : {S : Type 0} (took : S → List ℕ → S → Type 0) (a b : S) (held left bytes now : List ℕ) → Moved took a held [] b left → now ≡ left ++ bytes → Moved took a held bytes b now
+pushed took a b held left bytes now p e = record {
+  front = p.front;
+  taken = p.taken;
+  whole = regroup held [] bytes p.front left p.whole ∙ ap (λ (l : List ℕ). p.front ++ l) (sym e);
+}
+
+-- two appended, one after the other
+pub pushed_twice : (left mid now first second : List ℕ) → mid ≡ left ++ first → now ≡ mid ++ second → now ≡ left ++ (first ++ second)
+pushed_twice left mid now first second e f = f ∙ ap (λ (l : List ℕ). l ++ second) e ∙ append_assoc left first second
 
 -- the piece was put first
 pub moved_through : {S : Type 0} (took : S → List ℕ → S → Type 0) (a b : S) (held bytes left : List ℕ) → took a held b → left ≡ bytes → Moved took a held bytes b left

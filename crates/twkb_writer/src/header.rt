@@ -3,7 +3,8 @@ ghost use Rattle.std.specs.Prelude.{◌≡◌, ◌≤◌, ◌<◌, ◌++◌, OnO
 ghost use Rattle.twkb_writer.specs.Bytes.{type_of, type_byte, is_bare, body_bits, box_bit, metadata_of, size_bytes, box_bytes, header};
 ghost use Rattle.twkb_writer.specs.Putting.{Moved, Failed};
 
-use crate::piece::{Piece, put_all, put_number, put_two};
+use crate::piece::Piece;
+use crate::putting::{put_all, put_number, put_two};
 use crate::sizes::Entry;
 use twkb_geom::Kind;
 use twkb_grammar::Style;
@@ -96,8 +97,8 @@ fn put_size<S: Sink>(
     sink: &mut S,
     piece: &mut Piece,
 ) -> Result<(), S::Fault>
-    ensures ok { OnOk result (Moved S.took sink.old piece.old.items (size_bytes style entry.now) sink.new piece.new.items) }
-    ensures err { IfErr result (λ fault. Failed S.refused sink.old piece.old.items (size_bytes style entry.now) fault sink.new) }
+    ensures ok { OnOk result (Moved S.took sink.old piece.old (size_bytes style entry.now) sink.new piece.new) }
+    ensures err { IfErr result (λ fault. Failed S.refused sink.old piece.old (size_bytes style entry.now) fault sink.new) }
 {
     match style {
         Style::Full => put_number(sink, piece, entry.size),
@@ -107,8 +108,8 @@ fn put_size<S: Sink>(
 
 // Puts the box, where there is one.
 fn put_box<S: Sink>(entry: &Entry, sink: &mut S, piece: &mut Piece) -> Result<(), S::Fault>
-    ensures ok { OnOk result (Moved S.took sink.old piece.old.items (box_bytes entry.now.bounds) sink.new piece.new.items) }
-    ensures err { IfErr result (λ fault. Failed S.refused sink.old piece.old.items (box_bytes entry.now.bounds) fault sink.new) }
+    ensures ok { OnOk result (Moved S.took sink.old piece.old (box_bytes entry.now.bounds) sink.new piece.new) }
+    ensures err { IfErr result (λ fault. Failed S.refused sink.old piece.old (box_bytes entry.now.bounds) fault sink.new) }
 {
     match entry.bounds {
         Some(bounds) => put_all(sink, piece, &bounds.items()),
@@ -123,8 +124,8 @@ fn put_size_and_box<S: Sink>(
     sink: &mut S,
     piece: &mut Piece,
 ) -> Result<(), S::Fault>
-    ensures ok { OnOk result (Moved S.took sink.old piece.old.items (size_bytes style entry.now ++ box_bytes entry.now.bounds) sink.new piece.new.items) }
-    ensures err { IfErr result (λ fault. Failed S.refused sink.old piece.old.items (size_bytes style entry.now ++ box_bytes entry.now.bounds) fault sink.new) }
+    ensures ok { OnOk result (Moved S.took sink.old piece.old (size_bytes style entry.now ++ box_bytes entry.now.bounds) sink.new piece.new) }
+    ensures err { IfErr result (λ fault. Failed S.refused sink.old piece.old (size_bytes style entry.now ++ box_bytes entry.now.bounds) fault sink.new) }
 {
     put_size(style, entry, sink, piece)?;
     put_box(entry, sink, piece)
@@ -140,8 +141,8 @@ pub(crate) fn put_header<S: Sink>(
     sink: &mut S,
     piece: &mut Piece,
 ) -> Result<(), S::Fault>
-    ensures ok { OnOk result (Moved S.took sink.old piece.old.items (header style kind precision points entry.now) sink.new piece.new.items) }
-    ensures err { IfErr result (λ fault. Failed S.refused sink.old piece.old.items (header style kind precision points entry.now) fault sink.new) }
+    ensures ok { OnOk result (Moved S.took sink.old piece.old (header style kind precision points entry.now) sink.new piece.new) }
+    ensures err { IfErr result (λ fault. Failed S.refused sink.old piece.old (header style kind precision points entry.now) fault sink.new) }
 {
     let bytes = [
         type_and_precision(kind, precision),

@@ -3,9 +3,10 @@ ghost use Rattle.std.specs.Prelude.{◌≡◌, ◌+◌, ◌≤◌, ◌^◌};
 ghost use Rattle.twkb_writer.specs.Levels.{blank, is_bare, lead_len, body_len, all_bounds, box_for, box_len, id_len, is_point, entry_for, blob_len, with_part, with_geometry};
 ghost use Rattle.twkb_grammar.specs.declared.style.Style.TheVariants.{Full};
 
+use crate::lengths::{number_len, signed_len};
 use crate::precisions::Precisions;
 use crate::sizes::Entry;
-use crate::tails::{Tail, number_len, signed_len};
+use crate::tails::Tail;
 use twkb_geom::Kind;
 use twkb_grammar::Style;
 use twkb_points::{Bounds, merged};

@@ -3,12 +3,14 @@
 
 mod encoding;
 mod header;
+mod lengths;
 mod levels;
 mod measuring;
 mod members;
 mod piece;
 mod points;
 mod precisions;
+mod putting;
 mod rows;
 mod sizes;
 mod tails;

@@ -6,7 +6,8 @@ ghost use Rattle.twkb_writer.specs.Nodes.{members_of};
 ghost use Rattle.twkb_writer.specs.Putting.{Moved, Failed};
 ghost use Rattle.twkb_writer.specs.Reads.{Reads};
 
-use crate::piece::{Piece, put_id};
+use crate::piece::Piece;
+use crate::putting::put_id;
 use twkb_flat::{Flat, Node, NodeId, Work};
 use twkb_io::Sink;
 
@@ -20,8 +21,8 @@ pub(crate) fn put_ids<S: Sink>(
     work: &mut Work,
 ) -> Result<(), S::Fault>
     requires { IsNode flat.now id.0 node.now }
-    ensures ok { OnOk result (Moved S.took sink.old piece.old.items (ids_bytes (members_of flat.now id node.now)) sink.new piece.new.items) }
-    ensures err { IfErr result (λ fault. Failed S.refused sink.old piece.old.items (ids_bytes (members_of flat.now id node.now)) fault sink.new) }
+    ensures ok { OnOk result (Moved S.took sink.old piece.old (ids_bytes (members_of flat.now id node.now)) sink.new piece.new) }
+    ensures err { IfErr result (λ fault. Failed S.refused sink.old piece.old (ids_bytes (members_of flat.now id node.now)) fault sink.new) }
     ensures reads { OnOk result (Reads work.old (length (members_of flat.now id node.now)) 0 work.new) }
 {
     let end = node.next.0;

@@ -1,125 +1,124 @@
-//! Bytes on their way to a sink, gathered in a piece.
-ghost use Rattle.std.specs.Prelude.{◌≡◌, ◌≤◌, ◌-ℤ◌, length, flat_map, [], OnOk, IfErr};
-ghost use Rattle.twkb_num.specs.Zigzag.{zigzag_of};
+//! A piece of bytes on their way to a sink.
+ghost use Rattle.std.specs.Prelude.{◌≡◌, ◌≤◌, ◌<◌, ◌+◌, ◌%◌, ◌++◌, ◌∷◌, ◌^◌, ◌↔◌, [], length, IsTrue, if◌then◌else◌, nat_lt};
 ghost use Rattle.twkb_num.specs.Varint.{varint_of};
-ghost use Rattle.twkb_writer.specs.Bytes.{signed, id_bytes, step_bytes};
-ghost use Rattle.twkb_writer.specs.Putting.{Moved, Failed};
 
-use arrayvec::ArrayVec;
-use twkb_io::Sink;
-use twkb_num::{Leb128, NumBuf, zigzag};
-use twkb_points::{Cursor, Pt};
+use crate::lengths::{THREE_BYTES, TWO_BYTES, short_len};
+use std::marker::Model;
 
-/// What gathers bytes until it is full.
-pub(crate) type Piece = ArrayVec<u8, 4096>;
+/// How many bytes a piece holds.
+const ROOM: usize = 4096;
 
-// Puts bytes, which may stay in the piece.
-fn put<S: Sink>(sink: &mut S, piece: &mut Piece, bytes: &[u8]) -> Result<(), S::Fault>
-    requires { length bytes.now ≤ 4096 }
-    ensures ok { OnOk result (Moved S.took sink.old piece.old.items bytes.now sink.new piece.new.items) }
-    ensures err { IfErr result (λ fault. Failed S.refused sink.old piece.old.items bytes.now fault sink.new) }
-{
-    if piece.remaining_capacity() < bytes.len() {
-        sink.put(piece.as_slice())?;
-        piece.clear();
-    }
-    let _fits = piece.try_extend_from_slice(bytes);
-    Ok(())
+/// The most bytes of two numbers.
+const STEP: usize = 20;
+
+/// In each byte of a number but the last this bit is set (TWKB specification; LEB128).
+const GOES_ON: u8 = 0x80;
+
+/// What gathers bytes until it has no room for a step more. A contract sees the bytes that it holds.
+#[derive(Drop)]
+pub(crate) struct Piece {
+    bytes: [u8; ROOM],
+    len: usize,
 }
 
-/// Puts two bytes.
-pub(crate) fn put_two<S: Sink>(
-    sink: &mut S,
-    piece: &mut Piece,
-    bytes: [u8; 2],
-) -> Result<(), S::Fault>
-    ensures ok { OnOk result (Moved S.took sink.old piece.old.items bytes sink.new piece.new.items) }
-    ensures err { IfErr result (λ fault. Failed S.refused sink.old piece.old.items bytes fault sink.new) }
-{
-    put(sink, piece, &bytes)
+impl Model for Piece {
+    ghost use Rattle.std.specs.Prelude.{ℕ, ◌≤◌, List, take};
+
+    ghost Value = { List ℕ };
+
+    ghost view = { λ p. take p.len p.bytes };
+
+    ghost invariant = { λ p. p.len ≤ 4096 };
 }
 
-/// Puts a number, by its shortest varint.
-pub(crate) fn put_number<S: Sink>(
-    sink: &mut S,
-    piece: &mut Piece,
-    number: u64,
-) -> Result<(), S::Fault>
-    ensures ok { OnOk result (Moved S.took sink.old piece.old.items (varint_of number) sink.new piece.new.items) }
-    ensures err { IfErr result (λ fault. Failed S.refused sink.old piece.old.items (varint_of number) fault sink.new) }
+// The first byte of a number.
+fn lead_byte(number: u64) -> u8
+    ensures { result ≡ (if nat_lt number 128 then number else number % 128 + 128) }
 {
-    let spelled = NumBuf::put::<Leb128>(number);
-    put(sink, piece, spelled.as_slice())
-}
-
-// Puts a whole number, by its zigzag form.
-fn put_signed<S: Sink>(sink: &mut S, piece: &mut Piece, number: i64) -> Result<(), S::Fault>
-    ensures ok { OnOk result (Moved S.took sink.old piece.old.items (signed number) sink.new piece.new.items) }
-    ensures err { IfErr result (λ fault. Failed S.refused sink.old piece.old.items (signed number) fault sink.new) }
-{
-    put_number(sink, piece, zigzag(number))
-}
-
-/// Puts an id, where there is one.
-pub(crate) fn put_id<S: Sink>(
-    sink: &mut S,
-    piece: &mut Piece,
-    id: Option<i64>,
-) -> Result<(), S::Fault>
-    ensures ok { OnOk result (Moved S.took sink.old piece.old.items (id_bytes id) sink.new piece.new.items) }
-    ensures err { IfErr result (λ fault. Failed S.refused sink.old piece.old.items (id_bytes id) fault sink.new) }
-{
-    match id {
-        Some(id) => put_signed(sink, piece, id),
-        None => Ok(()),
+    if number < TWO_BYTES {
+        number as u8
+    } else {
+        (number % TWO_BYTES) as u8 + GOES_ON
     }
 }
 
-/// Puts whole numbers.
-pub(crate) fn put_all<S: Sink>(
-    sink: &mut S,
-    piece: &mut Piece,
-    numbers: &[i64],
-) -> Result<(), S::Fault>
-    ensures ok { OnOk result (Moved S.took sink.old piece.old.items (flat_map signed numbers.now) sink.new piece.new.items) }
-    ensures err { IfErr result (λ fault. Failed S.refused sink.old piece.old.items (flat_map signed numbers.now) fault sink.new) }
-{
-    for number in numbers {
-        put_signed(sink, piece, *number)?;
+impl Piece {
+    /// A piece without bytes.
+    pub(crate) fn new() -> Piece
+        ensures { result ≡ [] }
+    {
+        Piece {
+            bytes: [0; ROOM],
+            len: 0,
+        }
     }
-    Ok(())
-}
 
-// The zigzag forms of the difference to a point, where the cursor moves.
-fn step_to(cursor: &mut Cursor, to: Pt) -> (u64, u64)
-    ensures x { result.0 ≡ zigzag_of (to.x -ℤ cursor.old.x) }
-    ensures y { result.1 ≡ zigzag_of (to.y -ℤ cursor.old.y) }
-    ensures moved { cursor.new ≡ to }
-{
-    let (x, y) = cursor.delta(to);
-    (zigzag(x), zigzag(y))
-}
+    /// The bytes.
+    pub(crate) fn as_slice(&self) -> &[u8]
+        ensures { result.now ≡ self.now }
+    {
+        &self.bytes[..self.len]
+    }
 
-/// Puts the difference to a point, where the cursor moves.
-pub(crate) fn put_step<S: Sink>(
-    sink: &mut S,
-    piece: &mut Piece,
-    cursor: &mut Cursor,
-    to: Pt,
-) -> Result<(), S::Fault>
-    ensures ok { OnOk result (Moved S.took sink.old piece.old.items (step_bytes (to.x -ℤ cursor.old.x, to.y -ℤ cursor.old.y)) sink.new piece.new.items) }
-    ensures moved { OnOk result (cursor.new ≡ to) }
-    ensures err { IfErr result (λ fault. Failed S.refused sink.old piece.old.items (step_bytes (to.x -ℤ cursor.old.x, to.y -ℤ cursor.old.y)) fault sink.new) }
-{
-    let (x, y) = step_to(cursor, to);
-    put_number(sink, piece, x)?;
-    put_number(sink, piece, y)
-}
+    /// Forgets the bytes.
+    pub(crate) fn clear(&mut self)
+        ensures { self.new ≡ [] }
+    {
+        self.len = 0;
+    }
 
-/// Puts what the piece holds.
-pub(crate) fn flush<S: Sink>(sink: &mut S, piece: &Piece) -> Result<(), S::Fault>
-    ensures ok { OnOk result (S.took sink.old piece.now.items sink.new) }
-    ensures err { IfErr result (λ fault. Failed S.refused sink.old piece.now.items [] fault sink.new) }
-{
-    sink.put(piece.as_slice())
+    /// Whether there is room for a step more.
+    pub(crate) fn has_room(&self) -> bool
+        ensures { IsTrue result ↔ (length self.now + 20 ≤ 4096) }
+    {
+        self.len <= ROOM - STEP
+    }
+
+    /// Appends a byte.
+    pub(crate) fn push(&mut self, byte: u8)
+        requires { length self.old < 4096 }
+        ensures { self.new ≡ self.old ++ byte ∷ [] }
+    {
+        let at = self.len;
+        self.bytes[at] = byte;
+        self.len = at + 1;
+    }
+
+    // Appends a number that has two bytes at most, both written at once.
+    fn push_short(&mut self, number: u64)
+        requires small { number < 2 ^ 14 }
+        requires room { length self.old + 2 ≤ 4096 }
+        ensures { self.new ≡ self.old ++ varint_of number }
+    {
+        let at = self.len;
+        self.bytes[at] = lead_byte(number);
+        self.bytes[at + 1] = (number / TWO_BYTES) as u8;
+        self.len = at + short_len(number);
+    }
+
+    // Appends any number, byte by byte.
+    fn push_long(&mut self, number: u64)
+        requires { length self.old + 10 ≤ 4096 }
+        ensures { self.new ≡ self.old ++ varint_of number }
+    {
+        let mut rest = number;
+        while rest >= TWO_BYTES {
+            self.push(lead_byte(rest));
+            rest /= TWO_BYTES;
+        }
+        self.push(rest as u8);
+    }
+
+    /// Appends a number, by its shortest varint.
+    pub(crate) fn push_number(&mut self, number: u64)
+        requires { length self.old + 10 ≤ 4096 }
+        ensures value { self.new ≡ self.old ++ varint_of number }
+        ensures most { length self.new ≤ length self.old + 10 }
+    {
+        if number < THREE_BYTES {
+            self.push_short(number);
+        } else {
+            self.push_long(number);
+        }
+    }
 }

@@ -6,7 +6,8 @@ ghost use Rattle.twkb_writer.specs.Nodes.{points_from};
 ghost use Rattle.twkb_writer.specs.Putting.{Moved, Failed};
 ghost use Rattle.twkb_writer.specs.Reads.{Reads};
 
-use crate::piece::{Piece, put_step};
+use crate::piece::Piece;
+use crate::putting::put_step;
 use twkb_flat::{Flat, PointId, Work};
 use twkb_io::Sink;
 use twkb_points::Cursor;
@@ -23,9 +24,9 @@ pub(crate) fn put_points<S: Sink>(
 ) -> Result<(), S::Fault>
     requires within { first.0 + count ≤ length (row_points flat.now) }
     requires fits { first.0 + count < 2 ^ 32 }
-    ensures ok { OnOk result (Moved S.took sink.old piece.old.items (way_bytes cursor.old (points_from flat.now first count)) sink.new piece.new.items) }
+    ensures ok { OnOk result (Moved S.took sink.old piece.old (way_bytes cursor.old (points_from flat.now first count)) sink.new piece.new) }
     ensures moved { OnOk result (cursor.new ≡ way_end cursor.old (points_from flat.now first count)) }
-    ensures err { IfErr result (λ fault. Failed S.refused sink.old piece.old.items (way_bytes cursor.old (points_from flat.now first count)) fault sink.new) }
+    ensures err { IfErr result (λ fault. Failed S.refused sink.old piece.old (way_bytes cursor.old (points_from flat.now first count)) fault sink.new) }
     ensures reads { OnOk result (Reads work.old 0 count work.new) }
 {
     for index in first.0..first.0 + count {

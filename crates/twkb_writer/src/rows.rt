@@ -11,8 +11,9 @@ ghost use Rattle.twkb_writer.specs.Reads.{Reads};
 
 use crate::header::{has_no_body, put_header};
 use crate::members::{count_members, put_ids};
-use crate::piece::{Piece, put_number};
+use crate::piece::Piece;
 use crate::points::put_points;
+use crate::putting::put_number;
 use crate::sizes::{Entry, Sizes};
 use twkb_flat::{Flat, Node, NodeId, Work};
 use twkb_geom::Kind;
@@ -32,8 +33,8 @@ fn put_members<S: Sink>(
     work: &mut Work,
 ) -> Result<(), S::Fault>
     requires { IsNode flat.now id.0 node.now }
-    ensures ok { OnOk result (Moved S.took sink.old piece.old.items (varint_of count ++ (ids_of named flat.now id node.now)) sink.new piece.new.items) }
-    ensures err { IfErr result (λ fault. Failed S.refused sink.old piece.old.items (varint_of count ++ (ids_of named flat.now id node.now)) fault sink.new) }
+    ensures ok { OnOk result (Moved S.took sink.old piece.old (varint_of count ++ (ids_of named flat.now id node.now)) sink.new piece.new) }
+    ensures err { IfErr result (λ fault. Failed S.refused sink.old piece.old (varint_of count ++ (ids_of named flat.now id node.now)) fault sink.new) }
     ensures reads { OnOk result (Reads work.old (if named then length (members_of flat.now id node.now) else 0) 0 work.new) }
 {
     put_number(sink, piece, count as u64)?;
@@ -55,8 +56,8 @@ fn put_counts<S: Sink>(
     work: &mut Work,
 ) -> Result<(), S::Fault>
     requires { IsNode flat.now id.0 node.now }
-    ensures ok { OnOk result (Moved S.took sink.old piece.old.items (counts_of count named flat.now id node.now) sink.new piece.new.items) }
-    ensures err { IfErr result (λ fault. Failed S.refused sink.old piece.old.items (counts_of count named flat.now id node.now) fault sink.new) }
+    ensures ok { OnOk result (Moved S.took sink.old piece.old (counts_of count named flat.now id node.now) sink.new piece.new) }
+    ensures err { IfErr result (λ fault. Failed S.refused sink.old piece.old (counts_of count named flat.now id node.now) fault sink.new) }
     ensures reads { OnOk result (Reads work.old (if named then length (members_of flat.now id node.now) else 0) 0 work.new) }
 {
     match node.row.kind {
@@ -83,8 +84,8 @@ fn put_geometry<S: Sink>(
     work: &mut Work,
 ) -> Result<(), S::Fault>
     requires { IsNode flat.now id.0 node.now }
-    ensures ok { OnOk result (Moved S.took sink.old piece.old.items (geometry_of style precision entry.now flat.now id node.now) sink.new piece.new.items) }
-    ensures err { IfErr result (λ fault. Failed S.refused sink.old piece.old.items (geometry_of style precision entry.now flat.now id node.now) fault sink.new) }
+    ensures ok { OnOk result (Moved S.took sink.old piece.old (geometry_of style precision entry.now flat.now id node.now) sink.new piece.new) }
+    ensures err { IfErr result (λ fault. Failed S.refused sink.old piece.old (geometry_of style precision entry.now flat.now id node.now) fault sink.new) }
     ensures reads { OnOk result (Reads work.old (length (members_of flat.now id node.now)) 0 work.new) }
 {
     put_header(
@@ -121,8 +122,8 @@ fn put_part<S: Sink>(
     work: &mut Work,
 ) -> Result<(), S::Fault>
     requires { IsNode flat.now id.0 node.now }
-    ensures ok { OnOk result (Moved S.took sink.old piece.old.items (part_of flat.now id node.now) sink.new piece.new.items) }
-    ensures err { IfErr result (λ fault. Failed S.refused sink.old piece.old.items (part_of flat.now id node.now) fault sink.new) }
+    ensures ok { OnOk result (Moved S.took sink.old piece.old (part_of flat.now id node.now) sink.new piece.new) }
+    ensures err { IfErr result (λ fault. Failed S.refused sink.old piece.old (part_of flat.now id node.now) fault sink.new) }
     ensures reads { OnOk result (Reads work.old (length (members_of flat.now id node.now)) 0 work.new) }
 {
     let count = count_members(flat, id, node, work);
@@ -152,10 +153,10 @@ fn put_lead<S: Sink>(
     requires node { IsNode flat.now id.0 node.now }
     requires same { node.now.row.precision ≡ precision }
     requires room { place.entry + entry_count node.now.row.precision ≤ length sizes.now }
-    ensures ok { IfOk result (λ next. Moved S.took sink.old piece.old.items (lead_of style (drop place.entry sizes.now) flat.now id node.now) sink.new piece.new.items) }
+    ensures ok { IfOk result (λ next. Moved S.took sink.old piece.old (lead_of style (drop place.entry sizes.now) flat.now id node.now) sink.new piece.new) }
     ensures at { IfOk result (λ next. next.cursor ≡ way_start node.now.row.precision place.cursor) }
     ensures entry { IfOk result (λ next. next.entry ≡ place.entry + entry_count node.now.row.precision) }
-    ensures err { IfErr result (λ fault. Failed S.refused sink.old piece.old.items (lead_of style (drop place.entry sizes.now) flat.now id node.now) fault sink.new) }
+    ensures err { IfErr result (λ fault. Failed S.refused sink.old piece.old (lead_of style (drop place.entry sizes.now) flat.now id node.now) fault sink.new) }
     ensures reads { IfOk result (λ next. Reads work.old (length (members_of flat.now id node.now)) 0 work.new) }
 {
     match precision {
@@ -184,8 +185,8 @@ pub(crate) fn put_rows<S: Sink>(
     work: &mut Work,
 ) -> Result<(), S::Fault>
     requires { entries_in flat.now ≤ length sizes.now }
-    ensures ok { OnOk result (Moved S.took sink.old piece.old.items (rows_bytes style origin sizes.now flat.now) sink.new piece.new.items) }
-    ensures err { IfErr result (λ fault. Failed S.refused sink.old piece.old.items (rows_bytes style origin sizes.now flat.now) fault sink.new) }
+    ensures ok { OnOk result (Moved S.took sink.old piece.old (rows_bytes style origin sizes.now flat.now) sink.new piece.new) }
+    ensures err { IfErr result (λ fault. Failed S.refused sink.old piece.old (rows_bytes style origin sizes.now flat.now) fault sink.new) }
     ensures reads { OnOk result (Reads work.old (2 * length flat.now) (length (row_points flat.now)) work.new) }
 {
     let mut place = Place {

@@ -1,9 +1,9 @@
 //! The points from a place on up to the end of their geometry, taken in from the last to the first.
 ghost use Rattle.std.specs.Prelude.{◌≡◌, ◌+◌, ◌≤◌, ◌^◌, [], ◌∷◌, List};
 ghost use Rattle.twkb_points.specs.Point.{Point};
-ghost use Rattle.twkb_writer.specs.Tails.{number_len, signed_len, step_len, from_origin, tail_of};
+ghost use Rattle.twkb_writer.specs.Tails.{step_len, from_origin, tail_of};
 
-use twkb_num::{varint_len, zigzag};
+use crate::lengths::signed_len;
 use twkb_points::{Bounds, Cursor, Pt, merged};
 
 /// What the points from a place on up to the end of their geometry come to.
@@ -15,23 +15,6 @@ pub struct Tail {
     pub bytes: u64,
     /// Their bounds.
     pub bounds: Option<Bounds>,
-}
-
-/// The bytes of a number.
-#[tactic(auto, unfolding(crate::specs::Tails::number_len))]
-pub fn number_len(number: u64) -> u64
-    ensures value { result ≡ number_len number }
-    ensures most { result ≤ 10 }
-{
-    varint_len(number) as u64
-}
-
-/// The bytes of a whole number.
-pub fn signed_len(number: i64) -> u64
-    ensures value { result ≡ signed_len number }
-    ensures most { result ≤ 10 }
-{
-    number_len(zigzag(number))
 }
 
 /// The bytes of the way from one point to the next.

@@ -7,7 +7,8 @@ ghost use Rattle.twkb_grammar.specs.Written.{canonical_blob};
 ghost use Rattle.twkb_writer.specs.Sizes.{AreSizes};
 ghost use Rattle.twkb_writer.specs.Reads.{Reads};
 
-use crate::piece::{Piece, flush};
+use crate::piece::Piece;
+use crate::putting::flush;
 use crate::rows::put_rows;
 use crate::sizes::Sizes;
 use twkb_flat::{Flat, Work};

@@ -1,119 +1,167 @@
 //! The line and the status of each cause, as docs/FORMATS.md has them.
 use crate::lines::print_line;
 use crate::status::status;
-use std::process::Abort;
-use std::test::Fail;
+use std::alloc::Global;
 use twkb_convert::{BlobReason, Cause};
 use twkb_io::Tap;
 use twkb_polyline::PolyReason;
 use twkb_table::RowReason;
 
-// The line that is printed for a cause.
-fn line_of<A: Abort + AllocGlobal>(rt: &A, cause: Cause) -> Vec<u8> {
-    let mut errors = Tap::new(Vec::new(rt.alloc()));
+// Whether a cause has this status, and this text behind the start of its line.
+fn is_told(alloc: Global, cause: Cause, number: u8, start: &str, text: &str) -> bool {
+    let Ok(line) = format!(in alloc; "polytwkb: {start}{text}\n") else {
+        return false;
+    };
+    let mut errors = Tap::new(Vec::new(alloc));
     print_line(&mut errors, cause);
-    errors.into_inner()
+    let printed = errors.into_inner();
+    printed.as_slice() == line.as_bytes() && status(&cause) == number
+}
+
+// Whether a record that is refused for this reason, the first or the last, has this text.
+fn record(alloc: Global, reason: RowReason, text: &str) -> bool {
+    let first = Cause::Row { number: 1, reason };
+    let number = 4_294_967_295;
+    let last = Cause::Row { number, reason };
+    let is_first = is_told(alloc, first, 1, "record 1: ", text);
+    is_first && is_told(alloc, last, 1, "record 4294967295: ", text)
+}
+
+// Whether a record that is refused for its polyline has this text.
+fn polyline(alloc: Global, offset: usize, reason: PolyReason, text: &str) -> bool {
+    record(alloc, RowReason::Polyline(offset, reason), text)
+}
+
+// Whether an item that is refused for this reason, the first or the last, has this text.
+fn item(alloc: Global, reason: BlobReason, text: &str) -> bool {
+    let first = Cause::Blob { offset: 0, reason };
+    let offset = u64::MAX;
+    let last = Cause::Blob { offset, reason };
+    let is_first = is_told(alloc, first, 1, "byte 0: ", text);
+    is_first && is_told(alloc, last, 1, "byte 18446744073709551615: ", text)
 }
 
 #[test]
-fn a_refused_record_has_its_line(rt: HostRuntime) -> Result<(), Fail> {
-    let rows = [
-        (RowReason::BadHeader, "bad header"),
-        (RowReason::FieldCount, "not five fields"),
-        (RowReason::BadDepth, "bad depth"),
-        (RowReason::BadKind, "unknown kind"),
-        (RowReason::BadPlace, "kind not allowed there"),
-        (RowReason::TooDeep, "nested too deep"),
-        (RowReason::TooManyNodes, "too many rows in one geometry"),
-        (RowReason::BadId, "bad id"),
-        (RowReason::IdNotAllowed, "id not allowed"),
-        (RowReason::MixedIds, "id on some children only"),
-        (RowReason::BadPrecision, "bad precision"),
-        (RowReason::PrecisionMissing, "precision missing"),
-        (RowReason::PrecisionNotAllowed, "precision not allowed"),
-        (RowReason::PolylineNotAllowed, "polyline not allowed"),
-        (RowReason::PointCount, "wrong number of points"),
-        (RowReason::Unsupported, "not handled yet"),
-        (
-            RowReason::Polyline(0, PolyReason::BadChar),
-            "polyline at 0: bad character",
-        ),
-        (
-            RowReason::Polyline(1, PolyReason::Cut),
-            "polyline at 1: number cut short",
-        ),
-        (
-            RowReason::Polyline(20, PolyReason::TooLong),
-            "polyline at 20: number too long",
-        ),
-        (
-            RowReason::Polyline(3, PolyReason::Padded),
-            "polyline at 3: padded number",
-        ),
-        (
-            RowReason::Polyline(4, PolyReason::Half),
-            "polyline at 4: latitude without longitude",
-        ),
-        (
-            RowReason::Polyline(5, PolyReason::Range),
-            "polyline at 5: coordinate out of range",
-        ),
-        (
-            RowReason::Polyline(6, PolyReason::TooMany),
-            "polyline at 6: too many points",
-        ),
-    ];
-    for (reason, text) in rows {
-        for (number, digits) in [(1, "1"), (4_294_967_295, "4294967295")] {
-            let cause = Cause::Row { number, reason };
-            let want = format!(in rt.alloc(); "polytwkb: record {digits}: {text}\n")?;
-            assert_eq!(rt; line_of(&rt, cause).as_slice(), want.as_bytes(), "{text}");
-            assert_eq!(rt; status(&cause), 1, "{text}");
-        }
-    }
-    Ok(())
+fn a_refused_record_has_its_line(rt: HostRuntime) {
+    let alloc = rt.alloc();
+    assert!(rt; record(alloc, RowReason::BadHeader, "bad header"));
+    assert!(rt; record(alloc, RowReason::FieldCount, "not five fields"));
+    assert!(rt; record(alloc, RowReason::PointCount, "wrong number of points"));
+    assert!(rt; record(alloc, RowReason::Unsupported, "not handled yet"));
 }
 
 #[test]
-fn a_refused_item_has_its_line(rt: HostRuntime) -> Result<(), Fail> {
-    let rows = [
-        (BlobReason::Truncated, "truncated"),
-        (BlobReason::BadType, "unknown type"),
-        (BlobReason::ExtraDimensions, "extra dimensions"),
-        (BlobReason::BadVarint, "bad varint"),
-        (BlobReason::TooDeep, "nested too deep"),
-        (BlobReason::TooManyNodes, "too many nodes"),
-        (BlobReason::TooManyPoints, "too many points"),
-        (BlobReason::CoordinateRange, "coordinate out of range"),
-        (BlobReason::SizeMismatch, "size mismatch"),
-    ];
-    for (reason, text) in rows {
-        for (offset, digits) in [
-            (0, "0"),
-            (18_446_744_073_709_551_615, "18446744073709551615"),
-        ] {
-            let cause = Cause::Blob { offset, reason };
-            let want = format!(in rt.alloc(); "polytwkb: byte {digits}: {text}\n")?;
-            assert_eq!(rt; line_of(&rt, cause).as_slice(), want.as_bytes(), "{text}");
-            assert_eq!(rt; status(&cause), 1, "{text}");
-        }
-    }
-    Ok(())
+fn a_refused_place_has_its_line(rt: HostRuntime) {
+    let alloc = rt.alloc();
+    assert!(rt; record(alloc, RowReason::BadDepth, "bad depth"));
+    assert!(rt; record(alloc, RowReason::BadKind, "unknown kind"));
+    assert!(rt; record(alloc, RowReason::BadPlace, "kind not allowed there"));
+    assert!(rt; record(alloc, RowReason::TooDeep, "nested too deep"));
+    assert!(rt;
+        record(
+            alloc,
+            RowReason::TooManyNodes,
+            "too many rows in one geometry"
+        )
+    );
 }
 
 #[test]
-fn each_other_cause_has_its_line(rt: HostRuntime) -> Result<(), Fail> {
-    let rows = [
-        (Cause::ReadDevice, "read failed", 3),
-        (Cause::WriteDevice, "write failed", 3),
-        (Cause::Memory, "out of memory", 4),
-        (Cause::TooLong, "input or output too long", 1),
-        (Cause::TooManyRecords, "too many records", 1),
-    ];
-    for (cause, text, number) in rows {
-        let want = format!(in rt.alloc(); "polytwkb: {text}\n")?;
-        assert_eq!(rt; line_of(&rt, cause).as_slice(), want.as_bytes(), "{text}");
-        assert_eq!(rt; status(&cause), number, "{text}");
-    }
-    Ok(())
+fn a_refused_id_has_its_line(rt: HostRuntime) {
+    let alloc = rt.alloc();
+    assert!(rt; record(alloc, RowReason::BadId, "bad id"));
+    assert!(rt; record(alloc, RowReason::IdNotAllowed, "id not allowed"));
+    assert!(rt; record(alloc, RowReason::MixedIds, "id on some children only"));
+}
+
+#[test]
+fn a_refused_precision_has_its_line(rt: HostRuntime) {
+    let alloc = rt.alloc();
+    assert!(rt; record(alloc, RowReason::BadPrecision, "bad precision"));
+    assert!(rt; record(alloc, RowReason::PrecisionMissing, "precision missing"));
+    assert!(rt;
+        record(
+            alloc,
+            RowReason::PrecisionNotAllowed,
+            "precision not allowed"
+        )
+    );
+}
+
+#[test]
+fn a_refused_polyline_has_its_line(rt: HostRuntime) {
+    let alloc = rt.alloc();
+    assert!(rt; record(alloc, RowReason::PolylineNotAllowed, "polyline not allowed"));
+    assert!(rt;
+        polyline(
+            alloc,
+            0,
+            PolyReason::BadChar,
+            "polyline at 0: bad character"
+        )
+    );
+    assert!(rt; polyline(alloc, 1, PolyReason::Cut, "polyline at 1: number cut short"));
+    assert!(rt;
+        polyline(
+            alloc,
+            20,
+            PolyReason::TooLong,
+            "polyline at 20: number too long"
+        )
+    );
+    assert!(rt; polyline(alloc, 3, PolyReason::Padded, "polyline at 3: padded number"));
+    assert!(rt;
+        polyline(
+            alloc,
+            4,
+            PolyReason::Half,
+            "polyline at 4: latitude without longitude"
+        )
+    );
+    assert!(rt;
+        polyline(
+            alloc,
+            5,
+            PolyReason::Range,
+            "polyline at 5: coordinate out of range"
+        )
+    );
+    assert!(rt;
+        polyline(
+            alloc,
+            6,
+            PolyReason::TooMany,
+            "polyline at 6: too many points"
+        )
+    );
+}
+
+#[test]
+fn a_refused_item_has_its_line(rt: HostRuntime) {
+    let alloc = rt.alloc();
+    assert!(rt; item(alloc, BlobReason::Truncated, "truncated"));
+    assert!(rt; item(alloc, BlobReason::BadType, "unknown type"));
+    assert!(rt; item(alloc, BlobReason::ExtraDimensions, "extra dimensions"));
+    assert!(rt; item(alloc, BlobReason::BadVarint, "bad varint"));
+    assert!(rt; item(alloc, BlobReason::TooDeep, "nested too deep"));
+    assert!(rt; item(alloc, BlobReason::TooManyNodes, "too many nodes"));
+    assert!(rt; item(alloc, BlobReason::TooManyPoints, "too many points"));
+    assert!(rt;
+        item(
+            alloc,
+            BlobReason::CoordinateRange,
+            "coordinate out of range"
+        )
+    );
+    assert!(rt; item(alloc, BlobReason::SizeMismatch, "size mismatch"));
+}
+
+#[test]
+fn each_other_cause_has_its_line(rt: HostRuntime) {
+    let alloc = rt.alloc();
+    assert!(rt; is_told(alloc, Cause::ReadDevice, 3, "", "read failed"));
+    assert!(rt; is_told(alloc, Cause::WriteDevice, 3, "", "write failed"));
+    assert!(rt; is_told(alloc, Cause::Memory, 4, "", "out of memory"));
+    assert!(rt; is_told(alloc, Cause::TooLong, 1, "", "input or output too long"));
+    assert!(rt; is_told(alloc, Cause::TooManyRecords, 1, "", "too many records"));
 }

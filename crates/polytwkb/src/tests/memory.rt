@@ -1,7 +1,6 @@
 //! Runs while memory is short: run with each growth refused in turn (`rt try --test --fail-alloc N`).
 use super::run_line;
-use std::process::Abort;
-use std::test::Fail;
+use std::alloc::Global;
 use twkb_io::Tap;
 
 const TABLE: &[u8] =
@@ -9,36 +8,30 @@ const TABLE: &[u8] =
 
 const STREAM: &[u8] = b"\x01\x00\x04\x02\x01\x00\x04";
 
-// Runs a line over a refused input. Whichever growth is refused, the status is that of the fault,
-// of want of memory or, where a writer in memory cannot grow, of a failed write; and a front of
-// the output was written.
-fn run_short<A: Abort + AllocGlobal>(
-    rt: &A,
-    line: &str,
-    input: &[u8],
-    whole: &[u8],
-) -> Result<(), Fail> {
+// Whether a run over a refused input ends as it may. Whichever growth is refused, the status is that
+// of the fault, of want of memory or, where a writer in memory cannot grow, of a failed write; and a
+// front of the output was written. Where the words found no memory nothing was run.
+fn ends_short(alloc: Global, line: &str, input: &[u8], whole: &[u8]) -> bool {
     let mut reader = Tap::new(input);
-    let mut writer = Tap::new(Vec::new(rt.alloc()));
-    let mut errors = Tap::new(Vec::new(rt.alloc()));
-    let status = run_line(rt, line, &mut reader, &mut writer, &mut errors)?;
+    let mut writer = Tap::new(Vec::new(alloc));
+    let mut errors = Tap::new(Vec::new(alloc));
+    let status = run_line(alloc, line, &mut reader, &mut writer, &mut errors);
     let output = writer.into_inner();
-    let is_known = match status {
-        1 => output.as_slice() == whole,
-        3 | 4 => whole.starts_with(&output),
-        _ => false,
-    };
-    assert!(rt; is_known, "{line} ends with {status}");
-    Ok(())
+    match status {
+        Some(1) => output.as_slice() == whole,
+        Some(3 | 4) => whole.starts_with(&output),
+        Some(_) => false,
+        None => output.is_empty(),
+    }
 }
 
 #[test]
-fn a_refused_table_leaves_a_front_of_its_blobs(rt: HostRuntime) -> Result<(), Fail> {
-    run_short(&rt, "polytwkb pack", TABLE, b"\x01\x02\x02\x04\x02")
+fn a_refused_table_leaves_a_front_of_its_blobs(rt: HostRuntime) {
+    assert!(rt; ends_short(rt.alloc(), "polytwkb pack", TABLE, b"\x01\x02\x02\x04\x02"));
 }
 
 #[test]
-fn a_cut_stream_leaves_a_front_of_its_table(rt: HostRuntime) -> Result<(), Fail> {
-    let table = b"depth,kind,id,precision,polyline\n0,point,,0,AC\n".as_slice();
-    run_short(&rt, "polytwkb unpack", STREAM, table)
+fn a_cut_stream_leaves_a_front_of_its_table(rt: HostRuntime) {
+    let table = b"depth,kind,id,precision,polyline\n0,point,,0,AC\n";
+    assert!(rt; ends_short(rt.alloc(), "polytwkb unpack", STREAM, table));
 }

@@ -1,100 +1,88 @@
 //! Runs over worked streams.
-use super::{run_line, run_over};
-use std::test::Fail;
+use super::{HEADER, ends, run_line};
+use std::alloc::Global;
 use twkb_io::{Fuse, FuseEnd, Tap};
 
-const HEADER: &str = "depth,kind,id,precision,polyline\n";
+// Whether a run over a stream has this status, writes the header's line and these, and tells this.
+fn line_ends(alloc: Global, line: &str, blobs: &[u8], status: u8, rows: &str, told: &str) -> bool {
+    let Ok(table) = format!(in alloc; "{HEADER}{rows}") else {
+        return false;
+    };
+    ends(
+        alloc,
+        line,
+        blobs,
+        status,
+        table.as_bytes(),
+        told.as_bytes(),
+    )
+}
 
-#[test]
-fn a_stream_is_unpacked_with_0(rt: HostRuntime) -> Result<(), Fail> {
-    let rows = [
-        (b"".as_slice(), ""),
-        (b"\x01\x02\x02\x04\x02".as_slice(), "0,point,,0,AC\n"),
-        (
-            b"\x01\x00\x04\x02\x01\x12\x00".as_slice(),
-            "0,point,,0,AC\n0,point,,0,\n",
-        ),
-    ];
-    for (bytes, table) in rows {
-        let want = format!(in rt.alloc(); "{HEADER}{table}")?;
-        for line in ["polytwkb unpack", "polytwkb unpack --max-nest 0"] {
-            let outcome = run_over(&rt, line, bytes)?;
-            assert_eq!(rt; outcome.status, 0, "{line} of {table}");
-            assert_eq!(rt;
-                outcome.output.as_slice(),
-                want.as_bytes(),
-                "{line} of {table}"
-            );
-            assert!(rt; outcome.errors.is_empty(), "{line} of {table}");
-        }
-    }
-    Ok(())
+// Whether a stream is unpacked to these rows, also where no collection may stand round a member.
+fn unpacks(alloc: Global, blobs: &[u8], rows: &str) -> bool {
+    let is_unpacked = line_ends(alloc, "polytwkb unpack", blobs, 0, rows, "");
+    is_unpacked && line_ends(alloc, "polytwkb unpack --max-nest 0", blobs, 0, rows, "")
+}
+
+// Whether a stream ends with 1 after these rows, and this line on standard error.
+fn refuses(alloc: Global, blobs: &[u8], rows: &str, told: &str) -> bool {
+    line_ends(alloc, "polytwkb unpack", blobs, 1, rows, told)
 }
 
 #[test]
-fn a_refused_stream_ends_with_1_and_its_line(rt: HostRuntime) -> Result<(), Fail> {
-    let rows = [
-        (
-            b"\x01\x02\x03\x04\x02".as_slice(),
-            "",
-            "polytwkb: byte 5: size mismatch\n",
-        ),
-        (
-            b"\x01\x08\x01".as_slice(),
-            "",
-            "polytwkb: byte 2: extra dimensions\n",
-        ),
-        (
-            b"\x08\x00".as_slice(),
-            "",
-            "polytwkb: byte 0: unknown type\n",
-        ),
-        (
-            b"\x01\x00\x04\x02\x01\x00\x04".as_slice(),
+fn a_stream_is_unpacked_with_0(rt: HostRuntime) {
+    let alloc = rt.alloc();
+    assert!(rt; unpacks(alloc, b"", ""));
+    assert!(rt; unpacks(alloc, b"\x01\x02\x02\x04\x02", "0,point,,0,AC\n"));
+    let two = b"\x01\x00\x04\x02\x01\x12\x00";
+    assert!(rt; unpacks(alloc, two, "0,point,,0,AC\n0,point,,0,\n"));
+}
+
+#[test]
+fn a_refused_stream_ends_with_1_and_its_line(rt: HostRuntime) {
+    let alloc = rt.alloc();
+    let size = b"\x01\x02\x03\x04\x02";
+    assert!(rt; refuses(alloc, size, "", "polytwkb: byte 5: size mismatch\n"));
+    let third = b"\x01\x08\x01";
+    assert!(rt; refuses(alloc, third, "", "polytwkb: byte 2: extra dimensions\n"));
+    assert!(rt; refuses(alloc, b"\x08\x00", "", "polytwkb: byte 0: unknown type\n"));
+    let cut = b"\x01\x00\x04\x02\x01\x00\x04";
+    assert!(rt;
+        refuses(
+            alloc,
+            cut,
             "0,point,,0,AC\n",
-            "polytwkb: byte 7: truncated\n",
-        ),
-    ];
-    for (bytes, table, line) in rows {
-        let want = format!(in rt.alloc(); "{HEADER}{table}")?;
-        let outcome = run_over(&rt, "polytwkb unpack", bytes)?;
-        assert_eq!(rt; outcome.status, 1, "{line}");
-        assert_eq!(rt; outcome.output.as_slice(), want.as_bytes(), "{line}");
-        assert_eq!(rt; outcome.errors.as_slice(), line.as_bytes());
-    }
-    Ok(())
+            "polytwkb: byte 7: truncated\n"
+        )
+    );
+}
+
+const TWO_POINTS: &[u8] = b"\x01\x00\x04\x02\x01\x00\x04\x02";
+
+// Whether a read that fails after so many bytes ends with 3, after this table.
+fn read_fails(alloc: Global, given: u64, table: &[u8]) -> bool {
+    let mut reader = Tap::new(Fuse::new(TWO_POINTS, given, 1, FuseEnd::Fail, false));
+    let mut writer = Tap::new(Vec::new(alloc));
+    let mut errors = Tap::new(Vec::new(alloc));
+    let status = run_line(
+        alloc,
+        "polytwkb unpack",
+        &mut reader,
+        &mut writer,
+        &mut errors,
+    );
+    let is_written = writer.into_inner().as_slice() == table;
+    let is_told = errors.into_inner().as_slice() == b"polytwkb: read failed\n".as_slice();
+    status == Some(3) && is_written && is_told
 }
 
 #[test]
-fn a_reader_that_fails_ends_with_3_after_whole_blobs(rt: HostRuntime) -> Result<(), Fail> {
-    let bytes = b"\x01\x00\x04\x02\x01\x00\x04\x02".as_slice();
-    for (given, table) in [
-        (0, ""),
-        (3, ""),
-        (4, "0,point,,0,AC\n"),
-        (7, "0,point,,0,AC\n"),
-    ] {
-        let want = format!(in rt.alloc(); "{HEADER}{table}")?;
-        let mut reader = Tap::new(Fuse::new(bytes, given, 1, FuseEnd::Fail, false));
-        let mut writer = Tap::new(Vec::new(rt.alloc()));
-        let mut errors = Tap::new(Vec::new(rt.alloc()));
-        let status = run_line(
-            &rt,
-            "polytwkb unpack",
-            &mut reader,
-            &mut writer,
-            &mut errors,
-        )?;
-        assert_eq!(rt; status, 3, "a reader that gives {given}");
-        assert_eq!(rt;
-            writer.into_inner().as_slice(),
-            want.as_bytes(),
-            "a reader that gives {given}"
-        );
-        assert_eq!(rt;
-            errors.into_inner().as_slice(),
-            b"polytwkb: read failed\n".as_slice()
-        );
-    }
-    Ok(())
+fn a_reader_that_fails_ends_with_3_after_whole_blobs(rt: HostRuntime) {
+    let alloc = rt.alloc();
+    let header = HEADER.as_bytes();
+    assert!(rt; read_fails(alloc, 0, header));
+    assert!(rt; read_fails(alloc, 3, header));
+    let table = b"depth,kind,id,precision,polyline\n0,point,,0,AC\n";
+    assert!(rt; read_fails(alloc, 4, table));
+    assert!(rt; read_fails(alloc, 7, table));
 }

@@ -13,8 +13,8 @@ pub struct Outcome {
 }
 
 /// What a reader over a tap answers, call by call.
-fn by_calls<R: Read>(alloc: Global, tap: &mut Tap<R>, most: usize) -> Outcome {
-    let mut reader = Reader::new(Input::new(tap), Limits::standard());
+fn by_calls<R: Read>(alloc: Global, limits: Limits, tap: &mut Tap<R>, most: usize) -> Outcome {
+    let mut reader = Reader::new(Input::new(tap), limits);
     let mut made = 0u64;
     for _ in 0..most {
         match reader.next(alloc) {
@@ -30,9 +30,9 @@ fn by_calls<R: Read>(alloc: Global, tap: &mut Tap<R>, most: usize) -> Outcome {
 }
 
 /// What a reader of these bytes answers.
-pub fn by_reader(alloc: Global, bytes: &[u8]) -> Outcome {
+pub fn by_reader(alloc: Global, limits: Limits, bytes: &[u8]) -> Outcome {
     let mut tap = Tap::new(bytes);
-    by_calls(alloc, &mut tap, bytes.len().saturating_add(1))
+    by_calls(alloc, limits, &mut tap, bytes.len().saturating_add(1))
 }
 
 /// Feeds a piece, and the unused rest again.
@@ -58,8 +58,8 @@ fn feed_all(session: &mut Session, piece: &[u8], outcome: &mut Outcome) {
 }
 
 /// What a session answers for two pieces and the end.
-pub fn by_session(alloc: Global, first: &[u8], second: &[u8]) -> Outcome {
-    let mut session = Session::new(alloc, Limits::standard());
+pub fn by_session(alloc: Global, limits: Limits, first: &[u8], second: &[u8]) -> Outcome {
+    let mut session = Session::new(alloc, limits);
     let mut outcome = Outcome {
         made: 0,
         fault: None,
@@ -73,8 +73,8 @@ pub fn by_session(alloc: Global, first: &[u8], second: &[u8]) -> Outcome {
 }
 
 /// What a session answers for single bytes and the end.
-pub fn byte_by_byte(alloc: Global, bytes: &[u8]) -> Outcome {
-    let mut session = Session::new(alloc, Limits::standard());
+pub fn byte_by_byte(alloc: Global, limits: Limits, bytes: &[u8]) -> Outcome {
+    let mut session = Session::new(alloc, limits);
     let mut outcome = Outcome {
         made: 0,
         fault: None,
@@ -89,12 +89,12 @@ pub fn byte_by_byte(alloc: Global, bytes: &[u8]) -> Outcome {
 }
 
 /// Whether all ways to read the stream have this outcome: a reader, two pieces cut anywhere, and single bytes.
-pub fn all_give(alloc: Global, bytes: &[u8], outcome: Outcome) -> bool {
-    if by_reader(alloc, bytes) != outcome || byte_by_byte(alloc, bytes) != outcome {
+pub fn all_give(alloc: Global, limits: Limits, bytes: &[u8], outcome: Outcome) -> bool {
+    if by_reader(alloc, limits, bytes) != outcome || byte_by_byte(alloc, limits, bytes) != outcome {
         return false;
     }
     for cut in 0..bytes.len() {
-        if by_session(alloc, &bytes[..cut], &bytes[cut..]) != outcome {
+        if by_session(alloc, limits, &bytes[..cut], &bytes[cut..]) != outcome {
             return false;
         }
     }

@@ -28,9 +28,10 @@ fn made_or_memory(outcome: Outcome) -> bool {
 
 /// Whether each way to read the blob gives its geometry, or answers want of memory.
 fn each_way(alloc: Global, bytes: &[u8]) -> bool {
-    made_or_memory(by_reader(alloc, bytes))
-        && made_or_memory(byte_by_byte(alloc, bytes))
-        && made_or_memory(by_session(alloc, bytes, &[]))
+    let limits = Limits::standard();
+    made_or_memory(by_reader(alloc, limits, bytes))
+        && made_or_memory(byte_by_byte(alloc, limits, bytes))
+        && made_or_memory(by_session(alloc, limits, bytes, &[]))
 }
 
 #[test]

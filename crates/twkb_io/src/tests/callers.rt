@@ -6,8 +6,8 @@ ghost use Rattle.twkb_io.specs.Sinks.{TookFront};
 ghost use Rattle.twkb_io.specs.Copies.{is_read_stop, is_write_stop};
 
 use crate::{Bytes, CopyFault, Fuse, FuseEnd, Input, OutFault, Output, Sink, Tap, copy};
+use std::alloc::Global;
 use std::io::{Read, Write};
-use std::test::Fail;
 
 // Two puts into any sink are one of the join.
 fn put_twice<S: Sink>(sink: &mut S, first: &[u8], second: &[u8]) -> Result<(), S::Fault>
@@ -37,36 +37,35 @@ fn copy_device<R: Read, W: Write>(
 }
 
 #[test]
-fn a_copy_between_devices_leaves_both_as_said(rt: HostRuntime) -> Result<(), Fail> {
+fn a_copy_between_devices_leaves_both_as_said(rt: HostRuntime) {
     let mut reader = Tap::new([1, 2, 3].as_slice());
     let mut writer = Tap::new(Vec::new(rt.alloc()));
-    assert_eq!(rt; copy_device(&mut reader, &mut writer), Ok(3));
-    assert_eq!(rt; reader.into_inner().len(), 0);
-    assert_eq!(rt; writer.into_inner().as_slice(), [1, 2, 3].as_slice());
-    Ok(())
+    let is_copied = copy_device(&mut reader, &mut writer) == Ok(3);
+    assert!(rt; is_copied);
+    assert!(rt; reader.into_inner().is_empty());
+    assert!(rt; writer.into_inner().as_slice() == [1, 2, 3].as_slice());
+}
+
+// Whether a copy to a writer that takes so many bytes, and no more, stops there.
+fn stops_at(alloc: Global, bytes: u64) -> bool {
+    let mut reader = Tap::new([1, 2, 3].as_slice());
+    let mut writer = Tap::new(Fuse::new(Vec::new(alloc), bytes, 2, FuseEnd::Zero, false));
+    let is_stuck = copy_device(&mut reader, &mut writer) == Err(CopyFault::Sink(OutFault::Stuck));
+    is_stuck && writer.failures() == 1 && writer.into_inner().into_inner().len() as u64 == bytes
 }
 
 #[test]
-fn a_copy_between_devices_stops_where_one_fails(rt: HostRuntime) -> Result<(), Fail> {
-    for bytes in 0..3 {
-        let mut reader = Tap::new([1, 2, 3].as_slice());
-        let mut writer = Tap::new(Fuse::new(Vec::new(rt.alloc()), bytes, 2, FuseEnd::Zero, false));
-        let copied = copy_device(&mut reader, &mut writer);
-        assert_eq!(rt;
-            copied,
-            Err(CopyFault::Sink(OutFault::Stuck)),
-            "a writer that takes {bytes}"
-        );
-        assert_eq!(rt; writer.failures(), 1);
-        assert_eq!(rt; writer.into_inner().into_inner().len() as u64, bytes);
-    }
-    Ok(())
+fn a_copy_between_devices_stops_where_one_fails(rt: HostRuntime) {
+    let alloc = rt.alloc();
+    assert!(rt; stops_at(alloc, 0));
+    assert!(rt; stops_at(alloc, 1));
+    assert!(rt; stops_at(alloc, 2));
 }
 
 #[test]
-fn two_puts_are_one_of_the_join(rt: HostRuntime) -> Result<(), Fail> {
+fn two_puts_are_one_of_the_join(rt: HostRuntime) {
     let mut bytes = Bytes::new(rt.alloc());
-    put_twice(&mut bytes, &[1, 2], &[3])?;
-    assert_eq!(rt; bytes.into_vec().as_slice(), [1, 2, 3].as_slice());
-    Ok(())
+    let put = put_twice(&mut bytes, &[1, 2], &[3]);
+    assert!(rt; put.is_ok());
+    assert!(rt; bytes.into_vec().as_slice() == [1, 2, 3].as_slice());
 }

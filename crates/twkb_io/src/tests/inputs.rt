@@ -2,131 +2,156 @@
 ghost use Rattle.std.specs.Prelude.{◌<◌};
 
 use super::devices::{Asked, FailsOnce};
-use crate::{Bytes, CopyFault, Fuse, FuseEnd, InFault, Input, Sink, Tap, copy};
-use std::process::Abort;
-use std::test::Fail;
+use crate::{Fuse, FuseEnd, InFault, Input, Tap};
+use std::io::Read;
 
 const TEXT: [u8; 9] = [1, 2, 3, 4, 5, 6, 7, 8, 9];
+
+// Whether the next byte is this one, which is then the number of bytes that were given.
+fn gives_byte<R: Read>(input: &mut Input<'_, R>, byte: u8) -> bool {
+    let is_byte = input.next() == Ok(Some(byte));
+    is_byte && input.offset() == u64::from(byte)
+}
+
+// Whether the next bytes are the first ones of the text, to this one.
+fn gives_text<R: Read>(input: &mut Input<'_, R>, last: u8) -> bool {
+    for byte in TEXT {
+        if byte <= last && !gives_byte(input, byte) {
+            return false;
+        }
+    }
+    true
+}
+
+// Whether the input is at its end.
+fn has_ended<R: Read>(input: &mut Input<'_, R>) -> bool {
+    input.next() == Ok(None)
+}
+
+// Whether the input ends, and asked again ends again.
+fn ends<R: Read>(input: &mut Input<'_, R>) -> bool {
+    has_ended(input) && has_ended(input)
+}
+
+// Whether reads of so many bytes give the text, each byte once.
+fn gives_all(step: usize) -> bool
+    requires { 0 < step }
+{
+    let mut tap = Tap::new(Fuse::new(TEXT.as_slice(), 99, step, FuseEnd::Fail, false));
+    let mut input = Input::new(&mut tap);
+    gives_text(&mut input, 9) && ends(&mut input) && input.offset() == 9 && input.failures() == 0
+}
 
 #[test]
 fn reads_of_each_step_give_each_byte_once(rt: HostRuntime) {
     for step in 1..11 {
-        let mut tap = Tap::new(Fuse::new(TEXT.as_slice(), 99, step, FuseEnd::Fail, false));
-        let mut input = Input::new(&mut tap);
-        for byte in TEXT {
-            assert_eq!(rt; input.next(), Ok(Some(byte)), "byte {byte} at step {step}");
-            assert_eq!(rt;
-                input.offset(),
-                u64::from(byte),
-                "after byte {byte} at step {step}"
-            );
-        }
-        assert_eq!(rt; input.next(), Ok(None), "the end at step {step}");
-        assert_eq!(rt; input.next(), Ok(None), "the end again at step {step}");
-        assert_eq!(rt; input.offset(), 9);
-        assert_eq!(rt; input.failures(), 0);
+        assert!(rt; gives_all(step), "step {step}");
     }
 }
 
-// A reader that fails after so many bytes.
-fn fails_after(rt: &impl Abort, bytes: u8, step: usize)
+// Whether the reader fails in the next call.
+fn fails<R: Read>(input: &mut Input<'_, R>) -> bool {
+    input.next() == Err(InFault::Read)
+}
+
+// Whether the input gives nothing, since it was refused before.
+fn gives_no_more<R: Read>(input: &mut Input<'_, R>) -> bool {
+    input.next() == Err(InFault::Spent)
+}
+
+// Whether it reads nothing, since it was refused before.
+fn reads_no_more<R: Read>(input: &mut Input<'_, R>) -> bool {
+    input.fill() == Err(InFault::Spent)
+}
+
+// Whether the input was refused before, and holds nothing.
+fn is_spent<R: Read>(input: &mut Input<'_, R>) -> bool {
+    gives_no_more(input) && reads_no_more(input) && input.held().is_empty()
+}
+
+// Whether an input gives so many bytes of the text, and then fails for good.
+fn gives_and_fails<R: Read>(tap: &mut Tap<R>, bytes: u8) -> bool {
+    let mut input = Input::new(tap);
+    gives_text(&mut input, bytes)
+        && fails(&mut input)
+        && is_spent(&mut input)
+        && input.offset() == u64::from(bytes)
+        && input.failures() == 1
+}
+
+// Whether another input over the reader fails too, and the tap counts both failures.
+fn fails_again<R: Read>(tap: &mut Tap<R>) -> bool {
+    let mut again = Input::new(tap);
+    fails(&mut again) && again.failures() == 2
+}
+
+// Whether a reader that fails after so many bytes is no end.
+fn fails_after(bytes: u8, step: usize) -> bool
     requires { 0 < step }
 {
-    let mut tap = Tap::new(Fuse::new(
-        TEXT.as_slice(),
-        u64::from(bytes),
-        step,
-        FuseEnd::Fail,
-        false,
-    ));
-    let mut input = Input::new(&mut tap);
-    for byte in TEXT {
-        if byte > bytes {
-            break;
+    let left = u64::from(bytes);
+    let mut tap = Tap::new(Fuse::new(TEXT.as_slice(), left, step, FuseEnd::Fail, false));
+    gives_and_fails(&mut tap, bytes) && fails_again(&mut tap)
+}
+
+// The same for reads of 1 to 9 bytes.
+fn fails_at_each_step(bytes: u8) -> bool {
+    for step in 1..10 {
+        if !fails_after(bytes, step) {
+            return false;
         }
-        assert_eq!(rt;
-            input.next(),
-            Ok(Some(byte)),
-            "byte {byte} of {bytes} at step {step}"
-        );
     }
-    assert_eq!(rt;
-        input.next(),
-        Err(InFault::Read),
-        "after {bytes} at step {step}"
-    );
-    assert_eq!(rt;
-        input.next(),
-        Err(InFault::Spent),
-        "then, after {bytes} at step {step}"
-    );
-    assert_eq!(rt;
-        input.fill(),
-        Err(InFault::Spent),
-        "and then, after {bytes} at step {step}"
-    );
-    assert!(rt; input.held().is_empty());
-    assert_eq!(rt; input.offset(), u64::from(bytes));
-    assert_eq!(rt; input.failures(), 1);
-    let mut again = Input::new(&mut tap);
-    assert_eq!(rt;
-        again.next(),
-        Err(InFault::Read),
-        "once more, after {bytes} at step {step}"
-    );
-    assert_eq!(rt; again.failures(), 2);
+    true
 }
 
 #[test]
 fn a_reader_that_fails_is_no_end(rt: HostRuntime) {
     for bytes in 0..9 {
-        for step in 1..10 {
-            fails_after(&rt, bytes, step);
-        }
+        assert!(rt; fails_at_each_step(bytes), "after {bytes} bytes");
     }
+}
+
+// Whether an input over a reader that is cut after so many bytes ends there.
+fn ends_after(bytes: u8) -> bool {
+    let left = u64::from(bytes);
+    let mut tap = Tap::new(Fuse::new(TEXT.as_slice(), left, 2, FuseEnd::Zero, false));
+    let mut input = Input::new(&mut tap);
+    gives_text(&mut input, bytes) && ends(&mut input)
 }
 
 #[test]
 fn a_reader_that_is_cut_ends_there(rt: HostRuntime) {
     for bytes in 0..10 {
-        let mut tap = Tap::new(Fuse::new(
-            TEXT.as_slice(),
-            u64::from(bytes),
-            2,
-            FuseEnd::Zero,
-            false,
-        ));
-        let mut input = Input::new(&mut tap);
-        for byte in TEXT {
-            if byte <= bytes {
-                assert_eq!(rt; input.next(), Ok(Some(byte)), "byte {byte} of {bytes}");
-            }
-        }
-        assert_eq!(rt; input.next(), Ok(None), "after {bytes}");
-        assert_eq!(rt; input.next(), Ok(None), "after {bytes}, again");
+        assert!(rt; ends_after(bytes), "after {bytes} bytes");
     }
+}
+
+// Whether an input at its end stays there, whatever is asked of it.
+fn stays_at_its_end<R: Read>(input: &mut Input<'_, R>) -> bool {
+    for _ in 0..5 {
+        if !has_ended(input) || input.fill().is_err() {
+            return false;
+        }
+    }
+    true
+}
+
+// How often a reader of such steps is asked for the text and far beyond its end.
+fn calls_for_all(step: usize) -> Option<u64>
+    requires { 0 < step }
+{
+    let fuse = Fuse::new(TEXT.as_slice(), 99, step, FuseEnd::Fail, false);
+    let mut tap = Tap::new(Asked::new(fuse));
+    let mut input = Input::new(&mut tap);
+    let is_whole = gives_text(&mut input, 9) && stays_at_its_end(&mut input);
+    is_whole.then_some(tap.into_inner().calls())
 }
 
 #[test]
 fn an_input_asks_once_for_what_it_holds_and_once_for_the_end(rt: HostRuntime) {
-    for (step, calls) in [(9, 2), (5, 3), (1, 10)] {
-        let mut tap = Tap::new(Asked::new(Fuse::new(
-            TEXT.as_slice(),
-            99,
-            step,
-            FuseEnd::Fail,
-            false,
-        )));
-        let mut input = Input::new(&mut tap);
-        for byte in TEXT {
-            assert_eq!(rt; input.next(), Ok(Some(byte)));
-        }
-        for _ in 0..5 {
-            assert_eq!(rt; input.next(), Ok(None));
-            assert_eq!(rt; input.fill(), Ok(()));
-        }
-        assert_eq!(rt; tap.into_inner().calls(), calls, "step {step}");
-    }
+    assert!(rt; calls_for_all(9) == Some(2));
+    assert!(rt; calls_for_all(5) == Some(3));
+    assert!(rt; calls_for_all(1) == Some(10));
 }
 
 #[test]
@@ -134,119 +159,34 @@ fn a_new_input_asks_nothing(rt: HostRuntime) {
     let mut tap = Tap::new(Asked::new(TEXT.as_slice()));
     let input = Input::new(&mut tap);
     assert!(rt; input.held().is_empty());
-    assert_eq!(rt; input.offset(), 0);
-    assert_eq!(rt; tap.into_inner().calls(), 0);
+    assert!(rt; input.offset() == 0);
+    assert!(rt; tap.into_inner().calls() == 0);
+}
+
+// Whether an input whose reader fails at once asks it no more, and has given nothing.
+fn is_spent_at_once<R: Read>(tap: &mut Tap<R>) -> bool {
+    let mut input = Input::new(tap);
+    if !fails(&mut input) {
+        return false;
+    }
+    for _ in 0..5 {
+        if !gives_no_more(&mut input) {
+            return false;
+        }
+    }
+    input.offset() == 0
+}
+
+// Whether another input goes on where the reader stands, and the tap has kept its count.
+fn goes_on<R: Read>(tap: &mut Tap<R>) -> bool {
+    let mut later = Input::new(tap);
+    gives_byte(&mut later, 1) && later.failures() == 1
 }
 
 #[test]
 fn a_spent_input_asks_no_more(rt: HostRuntime) {
     let mut tap = Tap::new(Asked::new(FailsOnce::new(TEXT.as_slice())));
-    let mut input = Input::new(&mut tap);
-    assert_eq!(rt; input.next(), Err(InFault::Read));
-    for _ in 0..5 {
-        assert_eq!(rt; input.next(), Err(InFault::Spent));
-    }
-    assert_eq!(rt; input.offset(), 0);
-    let mut later = Input::new(&mut tap);
-    assert_eq!(rt;
-        later.next(),
-        Ok(Some(1)),
-        "another input goes on where the reader stands"
-    );
-    assert_eq!(rt; later.failures(), 1, "and the tap has kept its count");
-    assert_eq!(rt; tap.into_inner().calls(), 2);
-}
-
-// Ten thousand bytes, which fill the array of an input twice and more.
-fn long_text(rt: &impl AllocGlobal) -> Result<Vec<u8>, Fail> {
-    let mut text = Vec::new(rt.alloc());
-    for turn in 0..100u8 {
-        for byte in 0..100u8 {
-            text.push(byte ^ turn)?;
-        }
-    }
-    Ok(text)
-}
-
-// Reads a text by pieces of at most `most` bytes, with a single byte between them.
-fn by_pieces(
-    rt: &(impl Abort + AllocGlobal),
-    text: &[u8],
-    step: usize,
-    most: usize,
-) -> Result<(), Fail>
-    requires { 0 < step }
-{
-    let mut tap = Tap::new(Fuse::new(text, u64::MAX, step, FuseEnd::Fail, false));
-    let mut input = Input::new(&mut tap);
-    let mut seen = Vec::new(rt.alloc());
-    for _ in 0..20_000 {
-        assert_eq!(rt; input.fill(), Ok(()));
-        let piece = input.held();
-        if piece.is_empty() {
-            break;
-        }
-        let count = piece.len().min(most);
-        seen.extend_from_slice(&piece[..count])?;
-        input.advance(count);
-        assert_eq!(rt;
-            input.offset(),
-            seen.len() as u64,
-            "step {step}, pieces of {most}"
-        );
-        if let Ok(Some(byte)) = input.next() {
-            seen.push(byte)?;
-        }
-    }
-    assert_eq!(rt; input.next(), Ok(None));
-    assert_eq!(rt; seen.as_slice(), text, "step {step}, pieces of {most}");
-    Ok(())
-}
-
-#[test]
-fn pieces_and_bytes_across_refills_give_the_text(rt: HostRuntime) -> Result<(), Fail> {
-    let text = long_text(&rt)?;
-    for (step, most) in [
-        (1, 9),
-        (7, 3),
-        (1000, 333),
-        (4096, 5000),
-        (9000, 4095),
-        (20_000, 1),
-    ] {
-        by_pieces(&rt, text.as_slice(), step, most)?;
-    }
-    Ok(())
-}
-
-#[test]
-fn a_copy_takes_all_that_is_left(rt: HostRuntime) -> Result<(), Fail> {
-    let text = long_text(&rt)?;
-    for step in [1, 1000, 20_000] {
-        let mut tap = Tap::new(Fuse::new(text.as_slice(), u64::MAX, step, FuseEnd::Fail, false));
-        let mut input = Input::new(&mut tap);
-        let mut bytes = Bytes::new(rt.alloc());
-        assert_eq!(rt; copy(&mut input, &mut bytes), Ok(()), "step {step}");
-        assert_eq!(rt; input.offset(), 10_000);
-        assert_eq!(rt; bytes.into_vec().as_slice(), text.as_slice(), "step {step}");
-    }
-    Ok(())
-}
-
-#[test]
-fn a_copy_stops_where_the_reader_fails(rt: HostRuntime) -> Result<(), Fail> {
-    let mut tap = Tap::new(Fuse::new(TEXT.as_slice(), 5, 2, FuseEnd::Fail, false));
-    let mut input = Input::new(&mut tap);
-    let mut bytes = Bytes::new(rt.alloc());
-    bytes.put(&[0])?;
-    assert_eq!(rt;
-        copy(&mut input, &mut bytes),
-        Err(CopyFault::Source(InFault::Read))
-    );
-    assert_eq!(rt;
-        copy(&mut input, &mut bytes),
-        Err(CopyFault::Source(InFault::Spent))
-    );
-    assert_eq!(rt; bytes.into_vec().as_slice(), [0, 1, 2, 3, 4, 5].as_slice());
-    Ok(())
+    assert!(rt; is_spent_at_once(&mut tap));
+    assert!(rt; goes_on(&mut tap));
+    assert!(rt; tap.into_inner().calls() == 2);
 }

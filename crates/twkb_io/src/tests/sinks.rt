@@ -1,83 +1,97 @@
 //! Sinks in memory, and the texts of the faults.
 use crate::{Bytes, Count, CountFull, InFault, OutFault, Output, Sink, Tap};
-use std::test::Fail;
+use std::alloc::{AllocError, Global};
+use std::fmt::Display;
+
+// Whether a sink takes two puts, of two numbers and of a third.
+fn takes_two<S: Sink>(sink: &mut S) -> bool
+where
+    S::Fault: Drop,
+{
+    sink.put(&[1, 2]).is_ok() && sink.put(&[3]).is_ok()
+}
 
 #[test]
-fn two_puts_are_taken_in_order(rt: HostRuntime) -> Result<(), Fail> {
+fn two_puts_are_kept_in_order(rt: HostRuntime) {
     let mut bytes = Bytes::new(rt.alloc());
+    assert!(rt; takes_two(&mut bytes));
+    assert!(rt; bytes.into_vec().as_slice() == [1, 2, 3].as_slice());
+}
+
+#[test]
+fn two_puts_are_counted(rt: HostRuntime) {
     let mut count = Count::new();
+    assert!(rt; takes_two(&mut count));
+    assert!(rt; count.total() == 3);
+}
+
+#[test]
+fn two_puts_are_sent_in_order(rt: HostRuntime) {
     let mut tap = Tap::new(Vec::new(rt.alloc()));
     let mut output = Output::new(&mut tap);
-    for part in [[1, 2].as_slice(), [3].as_slice()] {
-        bytes.put(part)?;
-        count.put(part)?;
-        output.put(part)?;
+    assert!(rt; takes_two(&mut output));
+    assert!(rt; output.sent() == 3);
+    assert!(rt; tap.into_inner().as_slice() == [1, 2, 3].as_slice());
+}
+
+// Whether the bytes are taken, at the second put where the first is refused, and then counted.
+fn takes(bytes: &mut Bytes, count: &mut Count, part: &[u8]) -> bool {
+    if bytes.put(part).is_err() && bytes.put(part).is_err() {
+        return false;
     }
-    assert_eq!(rt; bytes.into_vec().as_slice(), [1, 2, 3].as_slice());
-    assert_eq!(rt; count.total(), 3);
-    assert_eq!(rt; output.sent(), 3);
-    assert_eq!(rt; tap.into_inner().as_slice(), [1, 2, 3].as_slice());
-    Ok(())
+    count.put(part).is_ok()
+}
+
+// How often a byte stands among these.
+fn times(bytes: &[u8], wanted: u8) -> u64 {
+    let mut times = 0u64;
+    for byte in bytes {
+        if *byte == wanted {
+            times = times.saturating_add(1);
+        }
+    }
+    times
 }
 
 // With memory refused at any growth, what was taken is kept, and a later put goes on from there.
 #[test]
-fn a_refused_put_keeps_what_was_taken(rt: HostRuntime) -> Result<(), Fail> {
+fn a_refused_put_keeps_what_was_taken(rt: HostRuntime) {
     let mut bytes = Bytes::new(rt.alloc());
     let mut count = Count::new();
-    for part in [
-        [1; 3].as_slice(),
-        [2; 40].as_slice(),
-        [3; 400].as_slice(),
-        [4; 4000].as_slice(),
-    ] {
-        if bytes.put(part).is_ok() {
-            count.put(part)?;
-        } else {
-            bytes.put(part)?;
-            count.put(part)?;
-        }
-    }
+    assert!(rt; takes(&mut bytes, &mut count, &[1; 3]));
+    assert!(rt; takes(&mut bytes, &mut count, &[2; 40]));
+    assert!(rt; takes(&mut bytes, &mut count, &[3; 400]));
+    assert!(rt; takes(&mut bytes, &mut count, &[4; 4000]));
     let kept = bytes.into_vec();
-    assert_eq!(rt; kept.len() as u64, count.total());
-    for (byte, length) in [(1, 3), (2, 40), (3, 400), (4, 4000)] {
-        assert_eq!(rt;
-            kept.iter().filter(|kept_byte| **kept_byte == byte).count(),
-            length,
-            "of {byte}"
-        );
-    }
+    assert!(rt; kept.len() as u64 == count.total());
+    assert!(rt; times(kept.as_slice(), 1) == 3);
+    assert!(rt; times(kept.as_slice(), 2) == 40);
+    assert!(rt; times(kept.as_slice(), 3) == 400);
+    assert!(rt; times(kept.as_slice(), 4) == 4000);
+}
+
+// Whether a fault has this text.
+fn has_text<D: Display>(alloc: Global, fault: &D, text: &str) -> Result<bool, AllocError> {
+    let shown = fault.to_string(alloc)?;
+    Ok(shown.as_str() == text)
+}
+
+#[test]
+fn faults_of_inputs_have_texts(rt: HostRuntime) -> Result<(), AllocError> {
+    let alloc = rt.alloc();
+    assert!(rt; has_text(alloc, &InFault::Read, "read failed")?);
+    assert!(rt; has_text(alloc, &InFault::TooLong, "input too long")?);
+    assert!(rt; has_text(alloc, &InFault::Spent, "input was refused before")?);
     Ok(())
 }
 
 #[test]
-fn faults_have_texts(rt: HostRuntime) -> Result<(), Fail> {
+fn faults_of_outputs_have_texts(rt: HostRuntime) -> Result<(), AllocError> {
     let alloc = rt.alloc();
-    assert_eq!(rt; InFault::Read.to_string(alloc)?.as_str(), "read failed");
-    assert_eq!(rt;
-        InFault::TooLong.to_string(alloc)?.as_str(),
-        "input too long"
-    );
-    assert_eq!(rt;
-        InFault::Spent.to_string(alloc)?.as_str(),
-        "input was refused before"
-    );
-    assert_eq!(rt; OutFault::Write.to_string(alloc)?.as_str(), "write failed");
-    assert_eq!(rt;
-        OutFault::Stuck.to_string(alloc)?.as_str(),
-        "the writer takes no more"
-    );
-    assert_eq!(rt;
-        OutFault::TooLong.to_string(alloc)?.as_str(),
-        "output too long"
-    );
-    assert_eq!(rt;
-        OutFault::Spent.to_string(alloc)?.as_str(),
-        "output was refused before"
-    );
-    assert_eq!(rt;
-        CountFull.to_string(alloc)?.as_str(),
-        "too many bytes to count"
-    );
+    assert!(rt; has_text(alloc, &OutFault::Write, "write failed")?);
+    assert!(rt; has_text(alloc, &OutFault::Stuck, "the writer takes no more")?);
+    assert!(rt; has_text(alloc, &OutFault::TooLong, "output too long")?);
+    assert!(rt; has_text(alloc, &OutFault::Spent, "output was refused before")?);
+    assert!(rt; has_text(alloc, &CountFull, "too many bytes to count")?);
     Ok(())
 }

@@ -1,11 +1,10 @@
 //! Calls of a reader in turn, and devices that fail.
-use super::fixtures::{Outcome, an_empty_line, dot, line, read_all, two_polygons};
+use super::fixtures::{Outcome, has_rows, holds, read_all};
 use crate::{RowReason, TableFault, TableReader};
 use std::alloc::Global;
 use std::io::Read;
-use std::test::Fail;
 use twkb_flat::{Flat, Row};
-use twkb_geom::{Geometry, Kind, Limits};
+use twkb_geom::{Kind, Limits};
 use twkb_io::{Fuse, FuseEnd, Tap};
 
 const TWO_POINTS: &[u8] = b"depth,kind,id,precision,polyline\n0,point,,0,AC\n0,point,,0,AA\n";
@@ -13,8 +12,10 @@ const TWO_POINTS: &[u8] = b"depth,kind,id,precision,polyline\n0,point,,0,AC\n0,p
 const TWO_AND_A_FAULT: &[u8] =
     b"depth,kind,id,precision,polyline\n0,point,,0,AC\n0,point,,0,AA\n0,pont,,0,\n";
 
-const MANY_KINDS: &[u8] =
-    b"depth,kind,id,precision,polyline\n0,multipolygon,,0,\n1,polygon,3,,\n2,ring,,,AA\n2,ring,,,\n1,polygon,4,,\n0,multilinestring,,0,\n1,linestring,,,\n0,linestring,,0,AAGG\n";
+/// The rows of the points of both.
+const FIRST_POINT: &[u8] = b"0,point,,0,AC\n";
+
+const SECOND_POINT: &[u8] = b"0,point,,0,AA\n";
 
 /// What is answered at the refused record of `TWO_AND_A_FAULT`.
 const REFUSED: TableFault = TableFault::At {
@@ -22,25 +23,31 @@ const REFUSED: TableFault = TableFault::At {
     reason: RowReason::BadKind,
 };
 
-/// Whether the next call gives this geometry.
-fn gives<R: Read>(reader: &mut TableReader<'_, R>, wanted: &Geometry) -> bool {
+/// Whether the next call gives the geometry of these rows.
+fn gives<R: Read>(alloc: Global, reader: &mut TableReader<'_, R>, rows: &[u8]) -> bool {
     match reader.next() {
-        Ok(Some(geometry)) => &geometry == wanted,
+        Ok(Some(geometry)) => has_rows(alloc, &geometry, rows),
         _ => false,
     }
 }
 
-/// Whether the next call reads this geometry into the flat form.
+/// Whether these are the rows of the flat form.
+fn holds_rows(alloc: Global, flat: &Flat, rows: &[u8]) -> Option<bool> {
+    if flat.is_empty() {
+        return Some(false);
+    }
+    let geometry = flat.to_geometry(alloc).ok()?;
+    Some(has_rows(alloc, &geometry, rows))
+}
+
+/// Whether the next call reads these rows into the flat form.
 fn gives_flat<R: Read>(
     alloc: Global,
     reader: &mut TableReader<'_, R>,
     flat: &mut Flat,
-    wanted: &Geometry,
-) -> Result<bool, Fail> {
-    if reader.next_flat(flat) != Ok(true) {
-        return Ok(false);
-    }
-    Ok(&flat.to_geometry(alloc)? == wanted)
+    rows: &[u8],
+) -> bool {
+    reader.next_flat(flat) == Ok(true) && holds(holds_rows(alloc, flat, rows))
 }
 
 /// Whether the reader tells its end, by both calls, again and again.
@@ -52,29 +59,18 @@ fn tells_end<R: Read>(reader: &mut TableReader<'_, R>, flat: &mut Flat) -> bool 
 }
 
 // A geometry of each call, and then the end.
-fn mixed<R: Read>(
-    alloc: Global,
-    reader: &mut TableReader<'_, R>,
-    flat: &mut Flat,
-) -> Result<bool, Fail> {
-    let first = gives(reader, &dot(0, 2, 1)?);
-    let second = gives_flat(alloc, reader, flat, &dot(0, 1, 1)?)?;
-    Ok(first && second && tells_end(reader, flat))
-}
-
-fn mixed_over<R: Read>(alloc: Global, tap: &mut Tap<R>, flat: &mut Flat) -> Result<bool, Fail> {
+fn mixed<R: Read>(alloc: Global, tap: &mut Tap<R>, flat: &mut Flat) -> bool {
     let mut reader = TableReader::new(alloc, tap, Limits::standard());
-    let answer = mixed(alloc, &mut reader, flat);
-    reader.finish();
-    answer
+    gives(alloc, &mut reader, FIRST_POINT)
+        && gives_flat(alloc, &mut reader, flat, SECOND_POINT)
+        && tells_end(&mut reader, flat)
 }
 
 #[test]
-fn each_call_gives_the_next_geometry_and_the_end_for_good(rt: HostRuntime) -> Result<(), Fail> {
+fn each_call_gives_the_next_geometry_and_the_end_for_good(rt: HostRuntime) {
     let mut flat = Flat::new(rt.alloc());
     let mut tap = Tap::new(TWO_POINTS);
-    assert!(rt; mixed_over(rt.alloc(), &mut tap, &mut flat)?);
-    Ok(())
+    assert!(rt; mixed(rt.alloc(), &mut tap, &mut flat));
 }
 
 /// Whether the flat form may begin with a point, as a form without rows does.
@@ -94,99 +90,70 @@ fn tells_spent<R: Read>(reader: &mut TableReader<'_, R>, flat: &mut Flat) -> boo
     spent && matches!(reader.next(), Err(TableFault::Spent))
 }
 
-fn refused<R: Read>(
-    alloc: Global,
-    reader: &mut TableReader<'_, R>,
-    flat: &mut Flat,
-) -> Result<bool, Fail> {
-    let first = gives_flat(alloc, reader, flat, &dot(0, 2, 1)?)?;
-    let fault = reader.next_flat(flat) == Err(REFUSED);
-    let cleared = may_begin(flat);
-    Ok(first && fault && cleared && tells_spent(reader, flat))
-}
-
-fn refused_over<R: Read>(alloc: Global, tap: &mut Tap<R>, flat: &mut Flat) -> Result<bool, Fail> {
+fn refused<R: Read>(alloc: Global, tap: &mut Tap<R>, flat: &mut Flat) -> bool {
     let mut reader = TableReader::new(alloc, tap, Limits::standard());
-    let answer = refused(alloc, &mut reader, flat);
-    reader.finish();
-    answer
+    gives_flat(alloc, &mut reader, flat, FIRST_POINT)
+        && reader.next_flat(flat) == Err(REFUSED)
+        && may_begin(flat)
+        && tells_spent(&mut reader, flat)
 }
 
 // The row before the refused one is not given, and the flat form is empty.
 #[test]
-fn a_refusal_clears_the_form_and_is_for_good(rt: HostRuntime) -> Result<(), Fail> {
+fn a_refusal_clears_the_form_and_is_for_good(rt: HostRuntime) {
     let mut flat = Flat::new(rt.alloc());
     let mut tap = Tap::new(TWO_AND_A_FAULT);
-    assert!(rt; refused_over(rt.alloc(), &mut tap, &mut flat)?);
-    Ok(())
+    assert!(rt; refused(rt.alloc(), &mut tap, &mut flat));
 }
 
-/// What came of `MANY_KINDS` over a device that gives a byte a read, and fails behind so many.
-fn byte_by_byte(alloc: Global, given: u64) -> Result<Outcome, Fail> {
-    let mut tap = Tap::new(Fuse::new(MANY_KINDS, given, 1, FuseEnd::Fail, false));
-    read_all(alloc, Limits::standard(), &mut tap)
-}
+const MANY_KINDS: &[u8] =
+    b"depth,kind,id,precision,polyline\n0,multipolygon,,0,\n1,polygon,3,,\n2,ring,,,AA\n2,ring,,,\n1,polygon,4,,\n0,multilinestring,,0,\n1,linestring,,,\n0,linestring,,0,AAGG\n";
 
-/// How many reads failed behind so many bytes of `MANY_KINDS`.
-fn failures(alloc: Global, given: u64) -> Result<u64, Fail> {
-    let mut tap = Tap::new(Fuse::new(MANY_KINDS, given, 1, FuseEnd::Fail, false));
-    let _outcome = read_all(alloc, Limits::standard(), &mut tap)?;
-    Ok(tap.failures())
-}
+/// Where the rows of none, one, two and all geometries of `MANY_KINDS` end.
+const ENDS: [usize; 4] = [33, 102, 140, 161];
 
-/// Whether at most the first two geometries of `MANY_KINDS` are here, and `Source` is told.
-fn is_front(outcome: &Outcome, areas: &Geometry) -> bool {
-    if outcome.fault != Some(TableFault::Source) {
-        return false;
-    }
-    match outcome.geometries.as_slice() {
-        [] => true,
-        [first] => first == areas,
-        [first, _] => first == areas,
-        _ => false,
+/// Whether the rows are those of the first geometries of `MANY_KINDS`, as many as are told.
+fn is_front(outcome: &Outcome) -> bool {
+    match ENDS.get(outcome.count as usize) {
+        Some(end) => MANY_KINDS.get(ENDS[0]..*end) == Some(outcome.rows.as_slice()),
+        None => false,
     }
 }
 
-/// Whether a read that fails behind so many bytes is told behind the geometries before it.
-fn tells_failure(alloc: Global, given: u64, areas: &Geometry) -> Result<bool, Fail> {
-    let is_told = is_front(&byte_by_byte(alloc, given)?, areas);
-    Ok(is_told && failures(alloc, given)? == 1)
+/// Whether a read that fails behind so many bytes, a byte a read, is told behind the geometries
+/// before it.
+fn tells_failure(alloc: Global, given: u64) -> Option<bool> {
+    let mut tap = Tap::new(Fuse::new(MANY_KINDS, given, 1, FuseEnd::Fail, false));
+    let outcome = read_all(alloc, Limits::standard(), &mut tap)?;
+    let is_told = outcome.fault == Some(TableFault::Source);
+    Some(is_told && is_front(&outcome) && outcome.count < 3 && tap.failures() == 1)
 }
 
 // Each single read fails in turn: the geometries complete before it are given, and then `Source`.
 #[test]
-fn a_failed_read_is_told_after_the_geometries_before_it(rt: HostRuntime) -> Result<(), Fail> {
-    let areas = two_polygons(rt.alloc())?;
+fn a_failed_read_is_told_after_the_geometries_before_it(rt: HostRuntime) {
     for given in 0..MANY_KINDS.len() as u64 + 1 {
-        assert!(rt; tells_failure(rt.alloc(), given, &areas)?, "{given} bytes");
+        assert!(rt; holds(tells_failure(rt.alloc(), given)), "{given} bytes");
     }
-    Ok(())
 }
 
-/// Whether these are the geometries of `MANY_KINDS`.
-fn are_many_kinds(alloc: Global, geometries: &[Geometry]) -> Result<bool, Fail> {
-    let [first, second, third] = geometries else {
-        return Ok(false);
-    };
-    let is_polygons = first == &two_polygons(alloc)?;
-    let is_empty = second == &an_empty_line(alloc)?;
-    let is_line = third == &line(alloc, 0, &[(1, 1), (5, 5)])?;
-    Ok(is_polygons && is_empty && is_line)
+/// Whether a byte a read gives all geometries.
+fn reads_bytes(alloc: Global) -> Option<bool> {
+    let mut tap = Tap::new(Fuse::new(MANY_KINDS, u64::MAX, 1, FuseEnd::Fail, false));
+    let outcome = read_all(alloc, Limits::standard(), &mut tap)?;
+    Some(outcome.fault.is_none() && outcome.count == 3 && is_front(&outcome))
 }
 
 #[test]
-fn a_byte_a_read_gives_the_same_geometries(rt: HostRuntime) -> Result<(), Fail> {
-    let outcome = byte_by_byte(rt.alloc(), u64::MAX)?;
-    assert!(rt; outcome.fault.is_none());
-    assert!(rt; are_many_kinds(rt.alloc(), outcome.geometries.as_slice())?);
-    Ok(())
+fn a_byte_a_read_gives_the_same_geometries(rt: HostRuntime) {
+    assert!(rt; holds(reads_bytes(rt.alloc())));
 }
 
 /// Whether `MANY_KINDS` was read whole, or no memory was found before its last geometry.
 fn is_told(outcome: &Outcome) -> bool {
     match outcome.fault {
-        None => outcome.geometries.len() == 3,
-        Some(TableFault::Memory | TableFault::Source) => outcome.geometries.len() < 3,
+        None => outcome.count == 3,
+        Some(TableFault::Memory | TableFault::Source) => outcome.count < 3,
         _ => false,
     }
 }
@@ -194,9 +161,9 @@ fn is_told(outcome: &Outcome) -> bool {
 // Run with `rt try --test --fail-alloc N`: whichever growth is refused, it is told, and the
 // geometries before it are given.
 #[test]
-fn a_refused_growth_is_told(rt: HostRuntime) -> Result<(), Fail> {
+fn a_refused_growth_is_told(rt: HostRuntime) {
     let mut tap = Tap::new(MANY_KINDS);
-    let outcome = read_all(rt.alloc(), Limits::standard(), &mut tap)?;
-    assert!(rt; is_told(&outcome));
-    Ok(())
+    if let Some(outcome) = read_all(rt.alloc(), Limits::standard(), &mut tap) {
+        assert!(rt; is_told(&outcome) && is_front(&outcome));
+    }
 }

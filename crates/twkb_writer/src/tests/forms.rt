@@ -1,5 +1,5 @@
 //! Flat forms pushed row by row, and their blobs. A fixture is `None` where a row is refused, and without memory.
-use crate::{Style, measure_flat, write_flat};
+use crate::{Style, encode_styled, measure_flat, write_flat};
 use std::alloc::Global;
 use twkb_flat::{Flat, Row, Work};
 use twkb_geom::Kind;
@@ -77,15 +77,31 @@ fn blob(flat: &Flat, style: Style, alloc: Global) -> Option<Vec<u8>> {
     Some(sink.into_vec())
 }
 
-/// Whether a flat form was made, and has this blob in a style.
+/// The blob, in a style, of the geometry whose rows a flat form has.
+fn encoded(flat: &Flat, style: Style, alloc: Global) -> Option<Vec<u8>> {
+    if flat.is_empty() {
+        return None;
+    }
+    let geometry = flat.to_geometry(alloc).ok()?;
+    let mut sink = Bytes::new(alloc);
+    encode_styled(alloc, &geometry, style, &mut sink).ok()?;
+    Some(sink.into_vec())
+}
+
+/// Whether these bytes were written.
+fn is_written(written: Option<Vec<u8>>, bytes: &[u8]) -> bool {
+    match written {
+        Some(written) => written.as_slice() == bytes,
+        None => false,
+    }
+}
+
+/// Whether a flat form was made, and it and its geometry have this blob in a style.
 pub fn is_blob(flat: Option<Flat>, style: Style, bytes: &[u8], alloc: Global) -> bool {
     let Some(flat) = flat else {
         return false;
     };
-    match blob(&flat, style, alloc) {
-        Some(written) => written.as_slice() == bytes,
-        None => false,
-    }
+    is_written(blob(&flat, style, alloc), bytes) && is_written(encoded(&flat, style, alloc), bytes)
 }
 
 /// Whether it has this full blob.

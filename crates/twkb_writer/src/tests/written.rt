@@ -1,5 +1,7 @@
 //! Blobs of worked tables.
-use super::forms::{geometry, is_full, is_plain, one_row, part, point_and_line, two_rings, with};
+use super::forms::{
+    geometry, is_full, is_plain, one_row, part, point_and_line, push_row, two_rings, with,
+};
 use crate::{Style, measure_flat, write_flat};
 use std::alloc::Global;
 use twkb_flat::{Flat, Work};
@@ -72,6 +74,59 @@ fn a_plain_member_has_its_own_header(rt: HostRuntime) {
     assert!(&rt;
         is_plain(flat, bytes.as_slice(), rt.alloc()),
         "a point and an empty line"
+    );
+}
+
+/// `0,collection,,0,` / `1,point,,0,AA` / `1,point,,0,AA`
+fn one_place_twice(alloc: Global) -> Option<Flat> {
+    let flat = one_row(Kind::Collection, 0, &[], alloc)?;
+    let point = geometry(1, Kind::Point, None, 0);
+    let flat = with(flat, point, &[(1, 1)], alloc)?;
+    with(flat, point, &[(1, 1)], alloc)
+}
+
+#[test]
+fn each_member_begins_at_the_origin(rt: HostRuntime) {
+    let bytes = b"\x07\x03\x0F\x02\x00\x02\x00\x02\x01\x02\x02\x02\x02\x01\x02\x02\x02\x02";
+    let flat = one_place_twice(rt.alloc());
+    assert!(&rt;
+        is_full(flat, bytes.as_slice(), rt.alloc()),
+        "two points in a collection"
+    );
+}
+
+/// `0,multilinestring,,0,` / `1,linestring,,,AA` / `1,linestring,,,CC`
+fn two_lines(alloc: Global) -> Option<Flat> {
+    let line = part(1, Kind::Linestring, None);
+    let flat = one_row(Kind::MultiLinestring, 0, &[], alloc)?;
+    let flat = with(flat, line, &[(1, 1)], alloc)?;
+    with(flat, line, &[(2, 2)], alloc)
+}
+
+#[test]
+fn the_position_goes_on_from_line_to_line(rt: HostRuntime) {
+    let bytes = b"\x05\x00\x02\x01\x02\x02\x01\x02\x02";
+    let flat = two_lines(rt.alloc());
+    assert!(&rt; is_plain(flat, bytes.as_slice(), rt.alloc()), "two lines");
+}
+
+/// Collections at the depths 0 to 8.
+fn nine_collections(alloc: Global) -> Option<Flat> {
+    let mut flat = one_row(Kind::Collection, 0, &[], alloc)?;
+    for depth in 1..9u32 {
+        push_row(&mut flat, geometry(depth, Kind::Collection, None, 0), &[])?;
+    }
+    Some(flat)
+}
+
+#[test]
+fn nine_collections_have_a_size_each(rt: HostRuntime) {
+    let bytes =
+        b"\x07\x02\x20\x01\x07\x02\x1C\x01\x07\x02\x18\x01\x07\x02\x14\x01\x07\x02\x10\x01\x07\x02\x0C\x01\x07\x02\x08\x01\x07\x02\x04\x01\x07\x12\x00";
+    let flat = nine_collections(rt.alloc());
+    assert!(&rt;
+        is_full(flat, bytes.as_slice(), rt.alloc()),
+        "the innermost is empty"
     );
 }
 

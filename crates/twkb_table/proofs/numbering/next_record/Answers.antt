@@ -1,8 +1,7 @@
 use Rattle.std.proofs.Common.{rules, arith, refl, inr}
 use Rattle.csv.specs.Records.{fields_of}
-use Rattle.twkb_table.specs.SourceStanding.{record_in}
 use Rattle.twkb_table.proofs.numbering.next_record.Goals as goal
 
 pub returns-then-number-eq-LAST_RECORD-clause-fault : goal.returns-then-number-eq-LAST_RECORD-clause-fault
 returns-then-number-eq-LAST_RECORD-clause-fault g c =
-    inr (refl, omega (arith, c.if-number-eq-LAST_RECORD.true), λ told records stands. (fields_of (record_in c.read.new.self), (c.in-Ok.ensures.gives (search rules) told records stands).1))
+    inr (refl, omega (arith, c.if-number-eq-LAST_RECORD.true), λ told records stands. (fields_of c.read_next.new.held, (c.in-Ok.ensures.gives (search rules) told records stands).1))

@@ -18,34 +18,34 @@ put_members-put_geometry-requires t c = (
 )
 
 pub put_members-loop-member-preserved : goal.put_members-loop-member-preserved
-put_members-loop-member-preserved t c = has_lines_more _ _ _ _ _ _ _ _ _ _ c.loop-member.invariant c.loop-member-test.true c.member-item.is c.id_at-id.ensures c.in_ok-put_geometry.ensures
+put_members-loop-member-preserved t c = has_lines_more _ _ _ _ _ _ _ _ _ _ c.loop-member.invariant c.loop-member-test.true c.member-item.is c.id_at-id.ensures c.in_ok-put_geometry.ensures.appended
 
-pub put_members-returns : goal.put_members-returns
-put_members-returns t c =
+pub put_members-returns-clause-appended : goal.put_members-returns-clause-appended
+put_members-returns-clause-appended t c =
     has_lines_all _ _ _ _ _ _ _ c.loop-member.invariant c.loop-member-test.false
     ∙ ap (λ rs. c.args.text.now.items ++ row_lines rs)
     (member_rows_each c.args.depth c.args.ids.now c.as_slice-member-items.result.now ∙ ap (λ gs. member_rows c.args.depth c.args.ids.now (trees gs)) c.as_slice-member-items.ensures.items)
 
-pub put_geometry-returns-in-Polygon : goal.put_geometry-returns-in-Polygon
-put_geometry-returns-in-Polygon t c =
-    rows_told _ _ _ _ _ _ _ _ _ c.own_line.ensures (ap (ring_rows (c.args.depth + 1)) c.as_slice.ensures.items ∙ under_shape _ _ _ _ _ c.shape.ensures c.in-Polygon.is) c.in_ok-put_row.ensures c.put_rings.ensures
+pub put_geometry-returns-in-Polygon-clause-appended : goal.put_geometry-returns-in-Polygon-clause-appended
+put_geometry-returns-in-Polygon-clause-appended t c =
+    rows_told _ _ _ _ _ _ _ _ _ c.own_line.ensures (ap (ring_rows (c.args.depth + 1)) c.as_slice.ensures.items ∙ under_shape _ _ _ _ _ c.shape.ensures c.in-Polygon.is) c.in_ok-put_row.ensures.appended c.put_rings.ensures.appended
 
-pub put_geometry-returns-in-MultiPoint : goal.put_geometry-returns-in-MultiPoint
-put_geometry-returns-in-MultiPoint t c =
+pub put_geometry-returns-in-MultiPoint-clause-appended : goal.put_geometry-returns-in-MultiPoint-clause-appended
+put_geometry-returns-in-MultiPoint-clause-appended t c =
     rows_told _ _ _ _ _ _ _ _ _ c.own_line.ensures
-    (ap (rows_of_each (λ id p. plain_row (c.args.depth + 1) Kind.Point id (p ∷ []) ∷ []) c.in-MultiPoint.ids) c.as_slice-in-MultiPoint.ensures.items ∙ under_shape _ _ _ _ _ c.shape.ensures c.in-MultiPoint.is) c.in_ok-put_row.ensures
-    c.put_points.ensures
+    (ap (rows_of_each (λ id p. plain_row (c.args.depth + 1) Kind.Point id (p ∷ []) ∷ []) c.in-MultiPoint.ids) c.as_slice-in-MultiPoint.ensures.items ∙ under_shape _ _ _ _ _ c.shape.ensures c.in-MultiPoint.is) c.in_ok-put_row.ensures.appended
+    c.put_points.ensures.appended
 
-pub put_geometry-returns-in-MultiLine : goal.put_geometry-returns-in-MultiLine
-put_geometry-returns-in-MultiLine t c =
+pub put_geometry-returns-in-MultiLine-clause-appended : goal.put_geometry-returns-in-MultiLine-clause-appended
+put_geometry-returns-in-MultiLine-clause-appended t c =
     rows_told _ _ _ _ _ _ _ _ _ c.own_line.ensures
-    (ap (rows_of_each (λ id ps. plain_row (c.args.depth + 1) Kind.Linestring id ps ∷ []) c.in-MultiLine.ids) c.as_slice-in-MultiLine.ensures.items ∙ under_shape _ _ _ _ _ c.shape.ensures c.in-MultiLine.is) c.in_ok-put_row.ensures
-    c.put_lines.ensures
+    (ap (rows_of_each (λ id ps. plain_row (c.args.depth + 1) Kind.Linestring id ps ∷ []) c.in-MultiLine.ids) c.as_slice-in-MultiLine.ensures.items ∙ under_shape _ _ _ _ _ c.shape.ensures c.in-MultiLine.is) c.in_ok-put_row.ensures.appended
+    c.put_lines.ensures.appended
 
-pub put_geometry-returns-in-MultiPolygon : goal.put_geometry-returns-in-MultiPolygon
-put_geometry-returns-in-MultiPolygon t c =
+pub put_geometry-returns-in-MultiPolygon-clause-appended : goal.put_geometry-returns-in-MultiPolygon-clause-appended
+put_geometry-returns-in-MultiPolygon-clause-appended t c =
     rows_told _ _ _ _ _ _ _ _ _ c.own_line.ensures (ap (rows_of_each (polygon_rows (c.args.depth + 1)) c.in-MultiPolygon.ids) c.as_slice-in-MultiPolygon.ensures.items ∙ under_shape _ _ _ _ _ c.shape.ensures c.in-MultiPolygon.is)
-    c.in_ok-put_row.ensures c.put_areas.ensures
+    c.in_ok-put_row.ensures.appended c.put_areas.ensures.appended
 
-pub put_geometry-returns-in-Collection : goal.put_geometry-returns-in-Collection
-put_geometry-returns-in-Collection t c = rows_told _ _ _ _ _ _ _ _ _ c.own_line.ensures (under_shape _ _ _ _ _ c.shape.ensures c.in-Collection.is) c.in_ok-put_row.ensures c.put_members.ensures
+pub put_geometry-returns-in-Collection-clause-appended : goal.put_geometry-returns-in-Collection-clause-appended
+put_geometry-returns-in-Collection-clause-appended t c = rows_told _ _ _ _ _ _ _ _ _ c.own_line.ensures (under_shape _ _ _ _ _ c.shape.ensures c.in-Collection.is) c.in_ok-put_row.ensures.appended c.put_members.ensures.appended

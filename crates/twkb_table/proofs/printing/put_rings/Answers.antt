@@ -2,7 +2,7 @@ use Rattle.std.proofs.Common.{◌∙◌, None, [], ◌∷◌, ◌++◌, ap, refl
 use Rattle.twkb_geom.specs.Rows.{plain_row}
 use Rattle.twkb_geom.specs.declared.kind.Kind.{Kind}
 use Rattle.twkb_table.specs.Printing.{row_lines}
-use Rattle.twkb_table.proofs.LineLemmas.{has_lines_none, has_lines_more, has_lines_all}
+use Rattle.twkb_table.proofs.LineLemmas.{has_lines_none, has_lines_more, has_lines_all, grows_on}
 use Rattle.twkb_table.proofs.printing.put_rings.Goals as goal
 
 pub loop-ring-init : goal.loop-ring-init
@@ -11,7 +11,10 @@ loop-ring-init c = has_lines_none _ _ _ _
 pub loop-ring-preserved : goal.loop-ring-preserved
 loop-ring-preserved c =
     has_lines_more _ _ _ _ _ _ _ _ _ _ c.loop-ring.invariant c.loop-ring-test.true c.ring-item.is refl
-    (c.in_ok-put_row.ensures ∙ ap (λ ps. c.loop-ring.text.items ++ row_lines (plain_row c.args.depth Kind.Ring None ps ∷ [])) c.as_slice-points.ensures.items)
+    (c.in_ok-put_row.ensures.appended ∙ ap (λ ps. c.loop-ring.text.items ++ row_lines (plain_row c.args.depth Kind.Ring None ps ∷ [])) c.as_slice-points.ensures.items)
 
 pub returns : goal.returns
-returns c = has_lines_all _ _ _ _ _ _ _ c.loop-ring.invariant c.loop-ring-test.false
+returns c = record { appended = has_lines_all _ _ _ _ _ _ _ c.loop-ring.invariant c.loop-ring-test.false; grown = c.loop-ring.invariant.grown }
+
+pub returns-in_err-put_row-clause-grown : goal.returns-in_err-put_row-clause-grown
+returns-in_err-put_row-clause-grown c = grows_on _ _ _ c.loop-ring.invariant.grown c.in_err-put_row.ensures.grown

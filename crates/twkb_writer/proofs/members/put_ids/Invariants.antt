@@ -11,7 +11,7 @@ invariant-loop-child g l =
     record {
       after : l.fn.id.0 + 1 ≤ l.child;
       at : At l.flat d l.node.next.0 l.child;
-      progress : Progress g.S.Sink.took l.fn.sink l.fn.piece.items (ids_bytes (members_below d (drop (l.fn.id.0 + 1) l.flat))) l.sink l.piece.items (ids_bytes (members_below d (drop l.child l.flat)));
+      progress : Progress g.S.Sink.took l.fn.sink l.fn.piece (ids_bytes (members_below d (drop (l.fn.id.0 + 1) l.flat))) l.sink l.piece (ids_bytes (members_below d (drop l.child l.flat)));
       read : (n : ℕ) × (n + length (members_below d (drop l.child l.flat)) ≡ length (members_below d (drop (l.fn.id.0 + 1) l.flat))) × Reads l.fn.work n 0 l.work;
     }
 

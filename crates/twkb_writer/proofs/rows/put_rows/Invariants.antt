@@ -10,7 +10,7 @@ use Rattle.twkb_writer.proofs.rows.put_rows.Given as goal
 abbrev pub invariant-loop-index : goal.invariant-loop-index
 invariant-loop-index g l =
     record {
-      progress : Progress g.S.Sink.took l.fn.sink l.fn.piece.items (rows_bytes l.style origin l.sizes l.flat) l.sink l.piece.items
+      progress : Progress g.S.Sink.took l.fn.sink l.fn.piece (rows_bytes l.style origin l.sizes l.flat) l.sink l.piece
           (rows_bytes l.style l.place.cursor (drop l.place.entry l.sizes) (drop l.index l.flat));
       room : l.place.entry + entries_in (drop l.index l.flat) ≤ length l.sizes;
       read : (n m : ℕ) × (n + walks (drop l.index l.flat) ≡ walks l.flat) × (m + length (row_points (drop l.index l.flat)) ≡ length (row_points l.flat)) × Reads l.fn.work n m l.work;

@@ -1,7 +1,6 @@
-use Rattle.std.proofs.Common.{refl}
 use Rattle.twkb_engine.proofs.PointBlobs.{point_made}
 use Rattle.twkb_engine.proofs.engine.Engine.front_point.Goals as goal
 
-pub returns-then-allows_points-clause-made : goal.returns-then-allows_points-clause-made
-returns-then-allows_points-clause-made c =
-    point_made c.args.rest.now c.args.self.now c.point_blob.result c.point_blob.ensures c.if-is_between.ensures c.args.self.now.builder.sound (c.if-allows_points.ensures refl)
+pub returns-then-is_between-clause-made : goal.returns-then-is_between-clause-made
+returns-then-is_between-clause-made c =
+    point_made c.args.rest.now c.limits.result c.args.self.now c.front_blob.result c.limits.ensures c.front_blob.ensures.blob c.if-is_between.ensures

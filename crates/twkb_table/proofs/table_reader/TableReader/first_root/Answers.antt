@@ -2,7 +2,6 @@ use Rattle.std.proofs.Common.{rules, refl}
 use Rattle.csv.specs.Records.{fields_of}
 use Rattle.twkb_flat.specs.Rows.{row_with}
 use Rattle.twkb_table.specs.RowReading.{points_held}
-use Rattle.twkb_table.specs.SourceStanding.{record_in}
 use Rattle.twkb_table.proofs.RecordJudged.{if_refused}
 use Rattle.twkb_table.proofs.TableSteps.{going_on, begins_next, first_refused}
 use Rattle.twkb_table.proofs.TableCalls.{explained}
@@ -10,19 +9,19 @@ use Rattle.twkb_table.proofs.table_reader.TableReader.first_root.Goals as goal
 
 pub returns-in-Ok-clause-reads : goal.returns-in-Ok-clause-reads
 returns-in-Ok-clause-reads g c l told records given s =
-    let here = fields_of (record_in c.next_record.new.source) in
+    let here = fields_of c.next_record.new.held in
     let source = c.in-Ok-true.ensures.more (search rules) told records s.source in
-    let going = going_on _ _ c.in-Ok-true.field-0 c.in-Ok-true.ensures.over s.source.1 (search rules) in
+    let going = going_on _ c.in-Ok-true.field-0 c.in-Ok-true.ensures.over (search rules) in
     let number = (c.in-Ok-true.ensures.counted (search rules)).0 in
-    let judged = rw c.record.ensures at c.in-Ok.ensures.read in
+    let judged = c.in-Ok.ensures.read in
     begins_next l g.R.Read.remaining told records given here (row_with c.in-Ok.root (points_held c.read_root.new.self)) c.args.self.now _ s c.requires.none c.requires.begun going source number c.read_root.ensures.limits refl judged c.in-Ok.ensures.begins.1
 
 pub returns-in-Err-read_root-clause-reads : goal.returns-in-Err-read_root-clause-reads
 returns-in-Err-read_root-clause-reads g c l told records given s =
-    let here = fields_of (record_in c.next_record.new.source) in
+    let here = fields_of c.next_record.new.held in
     let source = c.in-Ok-true.ensures.more (search rules) told records s.source in
-    let going = going_on _ _ c.in-Ok-true.field-0 c.in-Ok-true.ensures.over s.source.1 (search rules) in
+    let going = going_on _ c.in-Ok-true.field-0 c.in-Ok-true.ensures.over (search rules) in
     let number = (c.in-Ok-true.ensures.counted (search rules)).0 in
-    let refused = rw c.record.ensures at c.in-Err-read_root.ensures.refused in
+    let refused = c.in-Err-read_root.ensures.refused in
     rw c.fault_at.ensures.value (explained l told records given c.next_record.new.number c.in-Err-read_root.fault
-    (if_refused _ _ c.in-Err-read_root.fault (λ reason j. first_refused l g.R.Read.remaining told records given here c.args.self.now (record c.args.self.now { source = c.next_record.new.source; number = c.next_record.new.number }) reason s c.requires.none c.requires.begun going source number c.read_root.ensures.sound j) refused))
+    (if_refused _ _ c.in-Err-read_root.fault (λ reason j. first_refused l g.R.Read.remaining told records given here c.args.self.now (record c.args.self.now { reader = c.next_record.new.reader; held = c.next_record.new.held; ended = c.next_record.new.ended; number = c.next_record.new.number }) reason s c.requires.none c.requires.begun going source number c.read_root.ensures.sound j) refused))

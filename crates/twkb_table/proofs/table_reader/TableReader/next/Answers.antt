@@ -1,8 +1,8 @@
-use Rattle.std.proofs.Common.{rules}
-use Rattle.twkb_table.proofs.TableCalls.{tree_given}
+use Rattle.twkb_table.proofs.TableCalls.{found_kept, none_kept}
 use Rattle.twkb_table.proofs.table_reader.TableReader.next.Goals as goal
 
 pub returns-clause-gives : goal.returns-clause-gives
-returns-clause-gives g c l told records given stands =
-    tree_given l g.R.Read.remaining told records given _ c.next_flat.new.self c.in-Ok.geometry
-    (c.in-Ok-true.ensures.gives (search rules) l told records given stands) c.in-Ok.ensures.rows c.in-Ok.ensures.valid.tree
+returns-clause-gives g c = found_kept g.R.Read.remaining c.args.self.now c.next_tree-found.new.self _ c.next_tree-found.new.flat c.next_tree-found.result c.next_tree-found.ensures.gives
+
+pub returns-clause-ends : goal.returns-clause-ends
+returns-clause-ends g c none = none_kept g.R.Read.remaining c.args.self.now c.next_tree-found.new.self _ c.next_tree-found.new.flat (c.next_tree-found.ensures.ends none)

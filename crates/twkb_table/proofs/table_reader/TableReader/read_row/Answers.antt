@@ -1,6 +1,5 @@
 use Rattle.std.proofs.Common.{rules, refl, sym, subst, inl, inr}
 use Rattle.csv.specs.Records.{fields_of}
-use Rattle.twkb_table.specs.SourceStanding.{record_in}
 use Rattle.twkb_table.specs.TableReading.{GivesNext}
 use Rattle.twkb_table.specs.declared.table_reader.TableReader.{TableReader}
 use Rattle.twkb_table.proofs.RecordJudged.{if_refused}
@@ -15,26 +14,26 @@ returns-in-Err-clause-reads g c l told records given r =
 
 pub returns-in-Ok-clause-reads : goal.returns-in-Ok-clause-reads
 returns-in-Ok-clause-reads g c l told records given r =
-    let here = fields_of (record_in c.next_record.new.source) in
+    let here = fields_of c.next_record.new.held in
     let source = c.in-Ok-true.ensures.more (search rules) told records r.source in
     let number = (c.in-Ok-true.ensures.counted (search rules)).0 in
-    let new : TableReader _ = record c.args.self.now { source = c.next_record.new.source; number = c.next_record.new.number; rows = c.read_row.new.self } in
+    let new : TableReader _ = record c.args.self.now { reader = c.next_record.new.reader; held = c.next_record.new.held; ended = c.next_record.new.ended; number = c.next_record.new.number; rows = c.read_row.new.self } in
     reads_by l g.R.Read.remaining told records given c.read_row.new.flat new c.in-Ok.more
-    (λ on. (here, reads_more l g.R.Read.remaining told records given c.args.flat.now c.read_row.new.flat here c.args.self.now new r source number c.read_row.ensures.limits refl (rw c.record.ensures at (c.in-Ok.ensures.more on))))
-    (λ over. (let (ends, same) = rw c.record.ensures at (c.in-Ok.ensures.root over) in
+    (λ on. (here, reads_more l g.R.Read.remaining told records given c.args.flat.now c.read_row.new.flat here c.args.self.now new r source number c.read_row.ensures.limits refl (c.in-Ok.ensures.more on)))
+    (λ over. (let (ends, same) = c.in-Ok.ensures.root over in
     subst (λ fl. GivesNext l g.R.Read.remaining told records given fl new) (sym same) (reads_next l g.R.Read.remaining told records given c.args.flat.now here c.args.self.now new r source number c.read_row.ensures.limits refl ends)))
 
 pub returns-in-Err-read_row-clause-reads : goal.returns-in-Err-read_row-clause-reads
 returns-in-Err-read_row-clause-reads g c l told records given r =
-    let here = fields_of (record_in c.next_record.new.source) in
+    let here = fields_of c.next_record.new.held in
     let source = c.in-Ok-true.ensures.more (search rules) told records r.source in
     let number = (c.in-Ok-true.ensures.counted (search rules)).0 in
-    let refused = rw c.record.ensures at c.in-Err-read_row.ensures.refused in
+    let refused = c.in-Err-read_row.ensures.refused in
     rw c.fault_at.ensures.value (explained l told records given c.next_record.new.number c.in-Err-read_row.stop
-    (if_refused _ _ c.in-Err-read_row.stop (λ reason j. reads_refused l g.R.Read.remaining told records given c.args.flat.now here c.args.self.now (record c.args.self.now { source = c.next_record.new.source; number = c.next_record.new.number }) reason r source number c.read_row.ensures.sound j) refused))
+    (if_refused _ _ c.in-Err-read_row.stop (λ reason j. reads_refused l g.R.Read.remaining told records given c.args.flat.now here c.args.self.now (record c.args.self.now { reader = c.next_record.new.reader; held = c.next_record.new.held; ended = c.next_record.new.ended; number = c.next_record.new.number }) reason r source number c.read_row.ensures.sound j) refused))
 
 pub returns-in-Ok-false-clause-reads : goal.returns-in-Ok-false-clause-reads
 returns-in-Ok-false-clause-reads g c l told records given r =
     let end = c.in-Ok-false.ensures.end (search rules) in
     let over = c.in-Ok-false.ensures.ended (search rules) in
-    reads_end l g.R.Read.remaining told records given c.args.flat.now c.args.self.now (record c.args.self.now { source = c.next_record.new.source; number = c.next_record.new.number }) r (end.1 told records r.source).0 over.0 end.0 refl refl c.requires.keeps.none
+    reads_end l g.R.Read.remaining told records given c.args.flat.now c.args.self.now (record c.args.self.now { reader = c.next_record.new.reader; held = c.next_record.new.held; ended = c.next_record.new.ended; number = c.next_record.new.number }) r (end.1 told records r.source).0 over end.0 refl refl c.requires.keeps.none

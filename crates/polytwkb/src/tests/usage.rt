@@ -1,0 +1,94 @@
+//! Words that are refused, words that ask for help, and words that no memory is found for.
+use super::run_line;
+use crate::program::{lack_memory, lack_words, run};
+use std::alloc::Global;
+use std::io::ErrorKind;
+use twkb_io::Tap;
+
+const HEADER: &[u8] = b"depth,kind,id,precision,polyline\n";
+
+// Whether a line ends with 2, with a text on standard error alone.
+fn is_refused(alloc: Global, line: &str) -> bool {
+    let mut reader = Tap::new(HEADER);
+    let mut writer = Tap::new(Vec::new(alloc));
+    let mut errors = Tap::new(Vec::new(alloc));
+    let status = run_line(alloc, line, &mut reader, &mut writer, &mut errors);
+    let is_unwritten = writer.into_inner().is_empty();
+    status == Some(2) && is_unwritten && !errors.into_inner().is_empty()
+}
+
+// Whether a line ends with 0, with a text on standard output alone.
+fn is_helped(alloc: Global, line: &str) -> bool {
+    let mut reader = Tap::new(b"".as_slice());
+    let mut writer = Tap::new(Vec::new(alloc));
+    let mut errors = Tap::new(Vec::new(alloc));
+    let status = run_line(alloc, line, &mut reader, &mut writer, &mut errors);
+    let is_untold = errors.into_inner().is_empty();
+    status == Some(0) && is_untold && !writer.into_inner().is_empty()
+}
+
+#[test]
+fn a_nesting_that_is_none_ends_with_2(rt: HostRuntime) {
+    let alloc = rt.alloc();
+    assert!(rt; is_refused(alloc, "polytwkb pack --max-nest 33"));
+    assert!(rt; is_refused(alloc, "polytwkb pack --max-nest -1"));
+    assert!(rt; is_refused(alloc, "polytwkb pack --max-nest x"));
+    assert!(rt; is_refused(alloc, "polytwkb pack --max-nest"));
+    assert!(rt; is_refused(alloc, "polytwkb pack --max-nest 1 --max-nest 2"));
+}
+
+#[test]
+fn words_that_are_unknown_end_with_2(rt: HostRuntime) {
+    let alloc = rt.alloc();
+    assert!(rt; is_refused(alloc, "polytwkb"));
+    assert!(rt; is_refused(alloc, "polytwkb pack --unknown"));
+    assert!(rt; is_refused(alloc, "polytwkb pack more"));
+    assert!(rt; is_refused(alloc, "polytwkb help"));
+    assert!(rt; is_refused(alloc, "polytwkb show"));
+    assert!(rt; is_refused(alloc, "polytwkb --max-nest 3"));
+}
+
+#[test]
+fn no_words_at_all_end_with_2(rt: HostRuntime) {
+    let alloc = rt.alloc();
+    let words: Vec<String> = Vec::new(alloc);
+    let mut reader = Tap::new(b"".as_slice());
+    let mut writer = Tap::new(Vec::new(alloc));
+    let mut errors = Tap::new(Vec::new(alloc));
+    let status = run(alloc, &words, &mut reader, &mut writer, &mut errors);
+    let is_unwritten = writer.into_inner().is_empty();
+    let is_told = !errors.into_inner().is_empty();
+    assert!(rt; status == 2 && is_unwritten && is_told);
+}
+
+#[test]
+fn help_goes_to_standard_output_with_0(rt: HostRuntime) {
+    let alloc = rt.alloc();
+    assert!(rt; is_helped(alloc, "polytwkb --help"));
+    assert!(rt; is_helped(alloc, "polytwkb -h"));
+    assert!(rt; is_helped(alloc, "polytwkb pack --help"));
+}
+
+#[test]
+fn want_of_memory_ends_with_4(rt: HostRuntime) {
+    let mut errors = Tap::new(Vec::new(rt.alloc()));
+    let status = lack_memory(&mut errors);
+    let is_told = errors.into_inner().as_slice() == b"polytwkb: out of memory\n".as_slice();
+    assert!(rt; status == 4 && is_told);
+}
+
+#[test]
+fn words_without_memory_end_with_4(rt: HostRuntime) {
+    let mut errors = Tap::new(Vec::new(rt.alloc()));
+    let status = lack_words(&mut errors, ErrorKind::OutOfMemory);
+    let is_told = errors.into_inner().as_slice() == b"polytwkb: out of memory\n".as_slice();
+    assert!(rt; status == 4 && is_told);
+}
+
+#[test]
+fn words_that_are_no_text_end_with_2(rt: HostRuntime) {
+    let mut errors = Tap::new(Vec::new(rt.alloc()));
+    let status = lack_words(&mut errors, ErrorKind::InvalidData);
+    let is_told = !errors.into_inner().is_empty();
+    assert!(rt; status == 2 && is_told);
+}
