@@ -57,7 +57,7 @@ def best(program, word, source, target):
 
 def main():
     program, folder = sys.argv[1], sys.argv[2]
-    words = sys.argv[3:] or ["pack"]
+    words = sys.argv[3:] or ["pack", "unpack"]
     print("table MB | " + " | ".join(f"{word}: s, MB/s, peak kB, time at 2n / n" for word in words))
     for megabytes in (1, 10, 100):
         cells = []
