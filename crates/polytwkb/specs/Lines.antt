@@ -1,4 +1,4 @@
--- The line on standard error that tells why a conversion stopped (profile).
+-- The line on standard error that tells why a conversion stopped, or why words were refused (profile).
 use Rattle.std.specs.Prelude.{ℕ, List, ◌++◌, codes, decimal}
 use Rattle.twkb_polyline.specs.declared.fault.PolyReason.{PolyReason}
 use Rattle.twkb_polyline.specs.declared.fault.PolyReason.TheVariants as text
@@ -73,3 +73,11 @@ cause_text cause.TooManyRecords = codes "too many records"
 -- the line of a cause
 abbrev pub line_of : Cause → List ℕ
 line_of c = codes "polytwkb: " ++ (cause_text c ++ codes "\n")
+
+-- the line of a word that is no UTF-8
+abbrev pub no_text_line : List ℕ
+no_text_line = codes "polytwkb: a word is not UTF-8\n"
+
+-- the line of a nesting that is none
+abbrev pub no_nest_line : List ℕ
+no_nest_line = codes "polytwkb: --max-nest takes a number from 0 to 32\n"

@@ -1,5 +1,6 @@
 -- What a run of the command does (profile).
 use Rattle.std.specs.Prelude.{ℕ, ◌≡◌, List, [], Option, Result, Ok, Err}
+use Rattle.clap.specs.Words.{Text}
 use Rattle.twkb_io.specs.declared.tap.Tap.{Tap}
 use Rattle.twkb_geom.specs.Limits.{Allowance}
 use Rattle.twkb_convert.specs.declared.report.Report.{Report}
@@ -8,10 +9,11 @@ use Rattle.twkb_convert.specs.declared.report.Cause.TheVariants as cause
 use Rattle.polytwkb.specs.declared.words.Conversion.{Conversion}
 use Rattle.polytwkb.specs.declared.words.Conversion.TheVariants as conversion
 use Rattle.polytwkb.specs.declared.words.Request.{Request}
-use Rattle.polytwkb.specs.Lines.{line_of}
+use Rattle.polytwkb.specs.Lines.{line_of, no_nest_line}
 use Rattle.polytwkb.specs.Printing.{IsPrinted}
 use Rattle.polytwkb.specs.Status.{status_of}
 use Rattle.polytwkb.specs.Conversions.{Packs, Unpacks}
+use Rattle.polytwkb.specs.Words.{NamesNoNest}
 
 -- the status of an answer
 abbrev pub status_of_answer : Result Report ConvertFault → ℕ
@@ -41,6 +43,14 @@ pub record LacksMemory {R W E : Type 0} (told : E → Option (List ℕ)) (reader
   pub unwritten : writer_after ≡ writer
   pub status_is : status ≡ 4
   pub line : IsPrinted told errors (line_of cause.Memory) errors_after
+
+-- `clap` takes the words, and yet the number of the option is none from 0 to 32: nothing is converted, and standard error gets the line that says so.
+pub record RefusesNest {R W E : Type 0} (told : E → Option (List ℕ)) (words : List Text) (reader : Tap R) (writer : Tap W) (errors : Tap E) (reader_after : Tap R) (writer_after : Tap W) (errors_after : Tap E) (status : ℕ) : Type 0 where
+  pub names : NamesNoNest words
+  pub unread : reader_after ≡ reader
+  pub unwritten : writer_after ≡ writer
+  pub status_is : status ≡ 2
+  pub line : IsPrinted told errors no_nest_line errors_after
 
 -- Nothing is converted, and what asked for help or was refused is answered with this status.
 pub record Answers {R : Type 0} (wanted : ℕ) (reader reader_after : Tap R) (status : ℕ) : Type 0 where

@@ -1,5 +1,5 @@
-//! The line on standard error that tells why a conversion stopped.
-ghost use Rattle.std.specs.Prelude.{◌≡◌, ◌++◌, ◌≤◌, codes, decimal, length};
+//! The line on standard error that tells why a conversion stopped, and other texts.
+ghost use Rattle.std.specs.Prelude.{◌≡◌, ◌++◌, ◌≤◌, ◌^◌, codes, decimal, length};
 ghost use Rattle.polytwkb.specs.Lines.{blob_words, cause_text, line_of, point_text_words, reason_text, row_words, text_reason};
 ghost use Rattle.polytwkb.specs.Printing.{IsPrinted, Prints};
 
@@ -154,6 +154,22 @@ fn put_line<W: Write>(output: &mut Output<'_, W>, cause: Cause)
     put_text(output, b"polytwkb: ");
     put_cause(output, cause);
     put_text(output, b"\n");
+}
+
+// Puts a text, and flushes.
+fn put_flushed<W: Write>(output: &mut Output<'_, W>, text: &[u8])
+    ensures { Prints W.contents output.old text.now output.new }
+{
+    put_text(output, text);
+    let _ = output.flush();
+}
+
+/// Prints a text and flushes, up to the first write that fails. Takes no memory.
+pub fn print_text<W: Write>(device: &mut Tap<W>, text: &str)
+    ensures { length text.now ≤ 2 ^ 62 → IsPrinted W.contents device.old text.now device.new }
+{
+    let mut output = Output::new(device);
+    put_flushed(&mut output, text.as_bytes());
 }
 
 /// Prints the line of a cause, up to the first write that fails. Takes no memory.

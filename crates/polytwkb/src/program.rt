@@ -3,13 +3,13 @@ ghost use Rattle.std.specs.Prelude.{◌≡◌, ◌≢◌, ◌⊎◌, ◌∷◌, 
 ghost use Rattle.clap.specs.Words.{IsAmong, fault_of, takes};
 ghost use Rattle.clap.specs.declared.error.kind.ErrorKind.TheVariants.{DisplayHelp};
 ghost use Rattle.polytwkb.specs.CommandLine.{command_line};
-ghost use Rattle.polytwkb.specs.Runs.{Answers, CarriesOut, Converts, LacksMemory};
-ghost use Rattle.polytwkb.specs.Lines.{line_of};
+ghost use Rattle.polytwkb.specs.Runs.{Answers, CarriesOut, Converts, LacksMemory, RefusesNest};
+ghost use Rattle.polytwkb.specs.Lines.{line_of, no_text_line};
 ghost use Rattle.polytwkb.specs.Printing.{IsPrinted};
-ghost use Rattle.polytwkb.specs.Words.{AsksFor, NamesNoNest};
+ghost use Rattle.polytwkb.specs.Words.{AsksFor};
 ghost use Rattle.polytwkb.specs.declared.words.Request.{Request as Asked};
 
-use crate::lines::print_line;
+use crate::lines::{print_line, print_text};
 use crate::status::{DONE, MEMORY, USAGE, status};
 use crate::words::{Conversion, Refusal, Request, read_words};
 use std::alloc::Global;
@@ -51,13 +51,6 @@ fn carry_out<R: Read, W: Write, E: Write>(
     }
 }
 
-// Writes a text, and flushes. A failure changes no status.
-fn print_text<W: Write>(device: &mut Tap<W>, text: &str) {
-    if device.write_all(text.as_bytes()).is_ok() {
-        let _ = device.flush();
-    }
-}
-
 /// Says that no memory was found, and answers the status. Takes no memory.
 pub fn lack_memory<E: Write>(errors: &mut Tap<E>) -> u8
     ensures status { result ≡ 4 }
@@ -71,7 +64,7 @@ pub fn lack_memory<E: Write>(errors: &mut Tap<E>) -> u8
 /// other words are. Takes no memory.
 pub fn lack_words<E: Write>(errors: &mut Tap<E>, kind: ErrorKind) -> u8
     ensures memory { kind ≡ ErrorKind.OutOfMemory → (result ≡ 4) × IsPrinted E.contents errors.old (line_of Cause.Memory) errors.new }
-    ensures other { kind ≢ ErrorKind.OutOfMemory → result ≡ 2 }
+    ensures other { kind ≢ ErrorKind.OutOfMemory → (result ≡ 2) × IsPrinted E.contents errors.old no_text_line errors.new }
 {
     if kind == ErrorKind::OutOfMemory {
         return lack_memory(errors);
@@ -94,7 +87,7 @@ pub fn run<R: Read, W: Write, E: Write>(
     ensures accepted { takes command_line (map string_bytes words.now) ≡ true
         → ((request : Asked) × AsksFor (map string_bytes words.now) request × CarriesOut R.remaining W.contents E.contents request reader.old writer.old errors.old reader.new writer.new errors.new result)
         ⊎ LacksMemory E.contents reader.old writer.old errors.old reader.new writer.new errors.new result
-        ⊎ (NamesNoNest (map string_bytes words.now) × Answers 2 reader.old reader.new result × (writer.new ≡ writer.old)) }
+        ⊎ RefusesNest E.contents (map string_bytes words.now) reader.old writer.old errors.old reader.new writer.new errors.new result }
     ensures help { fault_of command_line (map string_bytes words.now) ≡ DisplayHelp ∷ []
         → (Answers 0 reader.old reader.new result × (errors.new ≡ errors.old))
         ⊎ LacksMemory E.contents reader.old writer.old errors.old reader.new writer.new errors.new result }

@@ -31,6 +31,10 @@ JoinLaw = (limits : Allowance) (a b : List ℕ) (gs hs : List Tree) → Stream l
 pub counted : OffsetLaw → (bs : List ℕ) (d : Engine) → StandsAt bs d → length bs ≡ count_of d
 counted law bs d s = ap length s.whole ∙ length-append s.front (held_in d) ∙ ap (λ n. n + length (held_in d)) (law (allowance_of d) s.front (sums_of d.builder) (stack_of d.builder) s.reached)
 
+-- an engine that is the same stands for the same bytes
+pub still : (bs : List ℕ) (d e : Engine) → e ≡ d → StandsAt bs d → StandsAt bs e
+still bs d e same s = subst (λ x. StandsAt bs x) (sym same) s
+
 -- a stream and one blob more
 pub one_blob_more : JoinLaw → (limits : Allowance) (front blob : List ℕ) (gs : List Tree) (g : Tree) → Stream limits front gs → Blob limits blob g → Stream limits (front ++ blob) (gs ++ g ∷ [])
 one_blob_more join limits front blob gs g s b = join limits front blob gs (g ∷ []) s (blob, [], sym (append-nil blob), b, refl)

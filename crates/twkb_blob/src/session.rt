@@ -54,6 +54,10 @@ impl Session {
         if taken > MAX_BYTES || piece.len() as u64 > MAX_BYTES - taken {
             return Err(BlobFault::Device(InFault::TooLong));
         }
+        if self.engine.hold(piece) {
+            self.spent = false;
+            return Ok((1, None));
+        }
         match self.engine.feed(piece) {
             Ok((used, None)) => {
                 self.spent = false;

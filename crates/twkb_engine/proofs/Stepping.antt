@@ -1,6 +1,7 @@
 -- An engine takes a byte.
-use Rattle.std.proofs.Common.{◌≡◌, ◌⊎◌, inl, inr, ℕ, ◌+◌, ◌<◌, ◌≤◌, ◌^◌, List, [], ◌∷◌, ◌++◌, length, refl, sym, ap, ◌∙◌, subst, append_assoc, Option, Some, None, Result, Ok, Err, arith}
+use Rattle.std.proofs.Common.{◌≡◌, ◌⊎◌, inl, inr, ℕ, ◌+◌, ◌<◌, ◌≤◌, ◌^◌, List, [], ◌∷◌, ◌++◌, length, refl, sym, ap, ◌∙◌, subst, append_assoc, length-append, get_or, Option, Some, None, Result, Ok, Err, arith}
 use Rattle.std.proofs.lemmas.List.{append-nil}
+use Rattle.std.specs.List.{AllByRecursion}
 use Rattle.twkb_num.specs.Varint.{IsVarint, IsOpenVarint}
 use Rattle.twkb_geom.specs.Tree.{Tree}
 use Rattle.twkb_geom.specs.Limits.{Allowance}
@@ -131,3 +132,31 @@ cut_number us begun = (omega (arith, begun.room), begun.high)
 pub held_bytes : (bs front held more : List ℕ) (u : ℕ) → bs ≡ front ++ held → front ++ (held ++ u ∷ more) ≡ (bs ++ u ∷ []) ++ more
 held_bytes bs front held more u e =
     sym (ap (λ l. (l ++ u ∷ []) ++ more) e ∙ append_assoc (front ++ held) (u ∷ []) more ∙ append_assoc front held (u ∷ more))
+
+-- one byte more than all
+all_more : (P : ℕ → Type 0) (us : List ℕ) (u : ℕ) → AllByRecursion P us → P u → AllByRecursion P (us ++ u ∷ [])
+all_more P [] u all more = (more, tt)
+all_more P (v ∷ us) u all more = (all.0, all_more P us u all.1 more)
+
+-- a byte that goes on, behind fewer than nine
+pub open_more : (us : List ℕ) (u : ℕ) → IsOpenVarint us → length us < 9 → 128 ≤ u → u < 256 → IsOpenVarint (us ++ u ∷ [])
+open_more us u begun few high below = record {
+  high = all_more (λ b. 128 ≤ b) us u begun.high high;
+  below = all_more (λ b. b < 256) us u begun.below below;
+  room = omega (arith, few, length-append us (u ∷ []));
+}
+
+-- a piece of one byte
+pub one_byte : (piece : List ℕ) → 1 ≤ length piece → length piece < 2 → piece ≡ get_or piece 0 0 ∷ []
+one_byte [] some one = absurd (omega (arith, some))
+one_byte (u ∷ []) some one = refl
+one_byte (u ∷ v ∷ more) some one = absurd (omega (arith, one))
+
+-- a byte more is held of a number
+pub held_more : (bs : List ℕ) (u : ℕ) (d : Engine) (p : List ℕ) → IsSpelled d.builder.phase → p ≡ held_in d ++ u ∷ [] → StandsAt bs d → StandsAt (bs ++ u ∷ []) (record { builder = d.builder; partial = p })
+held_more bs u d p spelled held s = record {
+  front = s.front;
+  whole = ap (λ l. l ++ u ∷ []) s.whole ∙ (append_assoc s.front (held_in d) (u ∷ []) ∙ ap (λ l. s.front ++ l) (sym held));
+  reached = s.reached;
+  spelled = inl spelled;
+}

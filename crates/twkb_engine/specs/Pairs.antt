@@ -1,8 +1,9 @@
--- Points of a list that are taken many at a time.
-use Rattle.std.specs.Prelude.{◌≡◌, ℕ, ◌+◌, List, ◌++◌, length, Ok}
+-- Items that are taken where they stand, and points of a list that are taken many at a time.
+use Rattle.std.specs.Prelude.{◌≡◌, ℕ, ◌+◌, List, [], ◌++◌, length, Ok}
 use Rattle.twkb_points.specs.Point.{Point}
 use Rattle.twkb_geom.specs.Limits.{Allowance}
-use Rattle.twkb_grammar.specs.Machine.{Sums, Frame, Phase, advanced}
+use Rattle.twkb_geom.specs.Tree.{Tree}
+use Rattle.twkb_grammar.specs.Machine.{Sums, Frame, Phase, Finished, advanced}
 use Rattle.twkb_grammar.specs.Reading.{Reached, ends}
 use Rattle.twkb_engine.specs.State.{phase_of}
 use Rattle.twkb_engine.specs.declared.phase.Phase as own
@@ -20,3 +21,7 @@ RunsOn before from bytes after to =
 pub record LeadsOn (to : Point) (bytes n : ℕ) (before after : own.Phase) : Type 0 where
   pub advances : (fs : List Frame) → advanced to bytes n fs (phase_of before) ≡ (fs, phase_of after)
   pub stays : (fs : List Frame) → ends bytes fs (phase_of after) ≡ Ok (fs, phase_of after)
+
+-- an item that leads to this position, with so many bytes behind it, ends this geometry, which stands in no collection
+abbrev pub EndsAlone : Point → ℕ → own.Phase → Tree → Type 0
+EndsAlone to bytes before g = (n : ℕ) → ends bytes (advanced to bytes n [] (phase_of before)).0 (advanced to bytes n [] (phase_of before)).1 ≡ Ok ([], Finished g)

@@ -1,5 +1,5 @@
 -- What the taking of an item answers.
-use Rattle.std.specs.Prelude.{◌≡◌, ℕ, [], Option, Some, None, Result, Ok, Err, ⊤}
+use Rattle.std.specs.Prelude.{◌≡◌, ℕ, [], Bool, true, false, Option, Some, None, Result, Ok, Err, ⊤}
 use Rattle.twkb_geom.specs.Tree.{Tree}
 use Rattle.twkb_geom.specs.Limits.{Allowance}
 use Rattle.twkb_grammar.specs.Fault as fault
@@ -37,3 +37,9 @@ IsTakenBy e st i r b (Some reason) = IsRefused e reason r b
 -- an item was taken or refused, as the grammar has it
 abbrev pub IsTaken : Allowance → Sums → Stack → Item → Result (Option Tree) Stop → Builder → Type 0
 IsTaken limits e st i r b = IsTakenBy e st i r b (objection limits e i.role i.number)
+
+-- an item was taken that leads on, or it was added and nothing else was done, or it was refused
+abbrev pub IsTakenOn : Allowance → Sums → Stack → Item → Result Bool Stop → Builder → Type 0
+IsTakenOn limits e st i (Ok true) b = IsTaken limits e st i (Ok None) b
+IsTakenOn limits e st i (Ok false) b = (objection limits e i.role i.number ≡ None) × (sums_of b ≡ added e i) × (stack_of b ≡ st)
+IsTakenOn limits e st i (Err stop) b = IsTaken limits e st i (Err stop) b

@@ -1,4 +1,9 @@
 //! What the next byte is for.
+ghost use Rattle.std.specs.Prelude.{◌≡◌};
+ghost use Rattle.twkb_engine.specs.State.{phase_of};
+ghost use Rattle.twkb_engine.specs.Open.{awaited_at};
+
+use crate::phase::Phase;
 
 /// What the next byte is for.
 #[derive(Clone, Copy, Debug, PartialEq, Eq)]
@@ -9,4 +14,15 @@ pub enum Awaited {
     Metadata,
     /// Any other item.
     Other,
+}
+
+/// What the byte is for that comes next.
+pub fn awaited_by(phase: &Phase) -> Awaited
+    ensures { result ≡ awaited_at (phase_of phase.now) }
+{
+    match phase {
+        Phase::Header => Awaited::Header,
+        Phase::Metadata { .. } => Awaited::Metadata,
+        _ => Awaited::Other,
+    }
 }

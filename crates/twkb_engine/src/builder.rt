@@ -16,16 +16,16 @@ ghost use Rattle.twkb_engine.specs.Pairs.{LeadsOn};
 ghost use Rattle.twkb_engine.specs.Fitting.{FrameFits, PhaseFits, NextFits};
 ghost use Rattle.twkb_engine.specs.FittingProps.{phase_prop, frames_prop, allowance_prop};
 
-use crate::awaited::Awaited;
+use crate::awaited::{Awaited, awaited_by};
 use crate::blob_reason::BlobReason;
 use crate::frames::{Frame, Frames, finish};
 use crate::header::{EMPTY, bad_type, has_bit};
-use crate::in_place::take_in_place;
+use crate::in_place::{lone_point, take_in_place};
 use crate::motion::{moved_x, moved_y, origin};
 use crate::pairs::take_points;
-use crate::phase::{Axis, Kind, Many, Next, Optional, Phase};
+use crate::phase::{Axis, Kind, Many, Next, Optional, Phase, wants_byte};
 use crate::place::Head;
-use crate::steps::next;
+use crate::steps::{announced, next};
 use crate::stop::Stop;
 use smallvec::SmallVec;
 use std::alloc::{AllocError, Global};
@@ -55,7 +55,7 @@ pub struct Builder {
 }
 
 impl Builder {
-    ghost use Rattle.twkb_engine.specs.Taking.{IsTaken, IsLanded};
+    ghost use Rattle.twkb_engine.specs.Taking.{IsTaken, IsTakenOn, IsLanded};
     ghost use Rattle.twkb_engine.specs.Decoding.{sums_of, stack_of, refusal, objection_of};
 
     /// One that has read nothing. Takes no memory.
@@ -95,11 +95,7 @@ impl Builder {
     pub fn awaited(&self) -> Awaited
         ensures { result ≡ awaited_at (phase_of self.now.phase) }
     {
-        match &self.phase {
-            Phase::Header => Awaited::Header,
-            Phase::Metadata { .. } => Awaited::Metadata,
-            _ => Awaited::Other,
-        }
+        awaited_by(&self.phase)
     }
 
     /// How many geometries are begun and not finished.
@@ -165,6 +161,7 @@ impl Builder {
     }
 
     /// Why the next item may not have this number.
+    #[inline(always)]
     fn objection(&self, number: u64) -> Option<BlobReason>
         ensures { objection_of result ≡ refusal self.now.limits (sums_of self.now) (stack_of self.now) number }
     {
@@ -199,31 +196,6 @@ impl Builder {
         }
     }
 
-    /// The nodes and the points that the next item announces by this number.
-    fn announced(&self, number: u64) -> (u64, u64)
-        ensures nodes { (r : Role) → role_at (sums_of self.now) (stack_of self.now) ≡ Some r → result.0 ≡ nodes_by r number }
-        ensures points { (r : Role) → role_at (sums_of self.now) (stack_of self.now) ≡ Some r → result.1 ≡ points_by r number }
-    {
-        match &self.phase {
-            Phase::Metadata { kind, .. } => {
-                if *kind == Kind::Point && !has_bit(number, EMPTY) {
-                    (0, 1)
-                } else {
-                    (0, 0)
-                }
-            }
-            Phase::Count { many, .. } => match many {
-                Many::Points => (number, number),
-                Many::Lines | Many::Areas | Many::Geometries => (number, 0),
-            },
-            Phase::LineCount(_) => (0, number),
-            Phase::AreaCount(_) => (number, 0),
-            Phase::Header | Phase::Optional { .. } | Phase::Id { .. } | Phase::Coordinate(_, _) => (
-                0, 0,
-            ),
-        }
-    }
-
     /// The place behind the next item, where that is in range.
     fn moved(&self, number: u64) -> Option<Pt>
         ensures place { (r : Role) → role_at (sums_of self.now) (stack_of self.now) ≡ Some r → IfSome result (λ p. p ≡ moved_by (sums_of self.now).position r number) }
@@ -238,6 +210,7 @@ impl Builder {
     }
 
     /// Adds the next item to the sums.
+    #[inline(always)]
     fn add(&mut self, number: u64, length: u64)
         requires some { 0 < length }
         requires room { self.old.bytes + length + 1 < 2 ^ 64 }
@@ -251,7 +224,7 @@ impl Builder {
     {
         let _most_nodes = self.limits.nodes();
         let _most_points = self.limits.points();
-        let (nodes, points) = self.announced(number);
+        let (nodes, points) = announced(&self.phase, number);
         let position = self.moved(number).unwrap();
         self.bytes += length;
         self.nodes += nodes;
@@ -260,7 +233,6 @@ impl Builder {
     }
 
     /// What the item leads to that was added last.
-    #[inline(never)]
     fn advance(&mut self, number: u64) -> Result<Next, AllocError>
         requires byte { number < 256 ⊎ IsSpelled self.old.phase }
         requires some { length_of self.old.frames.items < self.old.bytes }
@@ -281,6 +253,7 @@ impl Builder {
     }
 
     /// Takes the item that was added last, where it leads on within a header or a list; answers whether it did.
+    #[inline(always)]
     fn go_on(&mut self, number: u64) -> Result<bool, AllocError>
         requires byte { number < 256 ⊎ IsSpelled self.old.phase }
         ensures limits { self.new.limits ≡ self.old.limits }
@@ -357,15 +330,51 @@ impl Builder {
         }
     }
 
+    /// Goes to what the item leads to that was added last, where it ends a list or a geometry, or begins one.
+    #[inline(never)]
+    fn close(&mut self, number: u64) -> Result<Option<Geometry>, Stop>
+        requires byte { number < 256 ⊎ IsSpelled self.old.phase }
+        requires some { length_of self.old.frames.items < self.old.bytes }
+        ensures limits { self.new.limits ≡ self.old.limits }
+        ensures bytes { self.new.bytes ≤ self.old.bytes }
+        ensures landed { let last = advanced self.old.position self.old.bytes number (frames_of self.old.frames.items) (phase_of self.old.phase) in IsLanded (ends self.old.bytes last.0 last.1) (sums_of self.old) result self.new }
+    {
+        if let Some(geometry) = lone_point(&self.phase, &self.frames, self.position, self.bytes) {
+            self.restart();
+            return Ok(Some(geometry));
+        }
+        let next = self.advance(number)?;
+        self.land(next)
+    }
+
     /// Whether the next item is a byte, and no number.
     pub fn wants_byte(&self) -> bool
         ensures spelled { (result ≡ false) → IsSpelled self.now.phase }
         ensures byte { (result ≡ true) → IsByte self.now.phase }
     {
-        match &self.phase {
-            Phase::Header | Phase::Metadata { .. } => true,
-            Phase::Optional { part, .. } => *part == Optional::Extended,
-            _ => false,
+        wants_byte(&self.phase)
+    }
+
+    /// Adds an item with this number, which has so many bytes, and takes it where it leads on within a header or a list; answers
+    /// whether it did. Where it did not, what it leads to is left to `close`.
+    #[inline(never)]
+    fn take_on(&mut self, number: u64, length: u64) -> Result<bool, Stop>
+        requires byte { number < 256 ⊎ IsSpelled self.old.phase }
+        requires some { 0 < length }
+        requires room { self.old.bytes + length + 1 < 2 ^ 64 }
+        ensures limits { self.new.limits ≡ self.old.limits }
+        ensures bytes { self.new.bytes ≤ self.old.bytes + length }
+        ensures left { IfOk result (λ taken. taken ≡ false → (self.new.phase ≡ self.old.phase) × (length_of self.new.frames.items < self.new.bytes)) }
+        ensures taken { (i : Item) → role_at (sums_of self.old) (stack_of self.old) ≡ Some i.role → i.number ≡ number → length_of i.bytes ≡ length
+            → IsTakenOn self.old.limits (sums_of self.old) (stack_of self.old) i result self.new }
+    {
+        if let Some(reason) = self.objection(number) {
+            return Err(Stop::Refused(reason));
+        }
+        self.add(number, length);
+        match self.go_on(number) {
+            Ok(taken) => Ok(taken),
+            Err(_) => Err(Stop::Memory),
         }
     }
 
@@ -380,14 +389,10 @@ impl Builder {
         ensures taken { (i : Item) → role_at (sums_of self.old) (stack_of self.old) ≡ Some i.role → i.number ≡ number → length_of i.bytes ≡ length
             → IsTaken self.old.limits (sums_of self.old) (stack_of self.old) i result self.new }
     {
-        if let Some(reason) = self.objection(number) {
-            return Err(Stop::Refused(reason));
+        match self.take_on(number, length) {
+            Ok(true) => Ok(None),
+            Ok(false) => self.close(number),
+            Err(stop) => Err(stop),
         }
-        self.add(number, length);
-        if self.go_on(number)? {
-            return Ok(None);
-        }
-        let next = self.advance(number)?;
-        self.land(next)
     }
 }

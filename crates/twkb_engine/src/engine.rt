@@ -7,6 +7,7 @@ ghost use Rattle.twkb_engine.specs.Standing.{StandsAt, IsStep, IsTakenFrom, IsFe
 use crate::awaited::Awaited;
 use crate::blob_reason::BlobReason;
 use crate::builder::Builder;
+use crate::front::GOES_ON;
 use crate::point_blob::{Made, front_blob};
 use crate::stop::Stop;
 use std::alloc::Global;
@@ -15,6 +16,9 @@ use twkb_num::{Leb128, Partial, Step};
 
 /// What is taken at once has two items at least, and so as many bytes: shorter pieces are not looked at for it.
 const SHORTEST: usize = 2;
+
+/// How many bytes of a number may be held.
+const MOST_HELD: usize = 9;
 
 /// A blob that is read byte by byte: the geometry as far as it is built, and the bytes of a number that is not whole.
 #[derive(Drop)]
@@ -121,6 +125,27 @@ impl Engine {
             Ok(found) => Ok((1, found)),
             Err(stop) => Err(stop),
         }
+    }
+
+    /// Takes a piece that is one byte of a number which goes on behind it; answers whether it did. It does what `feed` does
+    /// with that piece, in less time. Takes no memory.
+    #[inline(always)]
+    pub fn hold(&mut self, piece: &[u8]) -> bool
+        ensures limits { allowance_of self.new ≡ allowance_of self.old }
+        ensures count { count_of self.new ≤ count_of self.old + length_of piece.now }
+        ensures fed { result ≡ true → (bs : List ℕ) → StandsAt bs self.old → IsFed (allowance_of self.old) bs piece.now (Ok (1, None)) self.new }
+        ensures left { result ≡ false → self.new ≡ self.old }
+    {
+        twkb_num::laws::varints();
+        twkb_num::laws::due_answers::<Leb128>();
+        let [byte] = piece else {
+            return false;
+        };
+        if *byte < GOES_ON || self.partial.len() == MOST_HELD || self.builder.wants_byte() {
+            return false;
+        }
+        self.partial.step(*byte);
+        true
     }
 
     /// Takes bytes up to the end of a geometry, else all of them, and answers how many. An item that is kept takes memory.

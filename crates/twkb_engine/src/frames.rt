@@ -184,7 +184,7 @@ pub fn after_id(
 }
 
 /// Whether a geometry that ends behind so many bytes has the size that it declared, if any.
-fn is_exact(head: Head, bytes: u64) -> bool
+pub fn is_exact(head: Head, bytes: u64) -> bool
     ensures { result ≡ exact head.size (bytes - head.from) }
 {
     match head.size {

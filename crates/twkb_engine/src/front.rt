@@ -8,7 +8,7 @@ use twkb_num::{Leb128, Partial, Step, unzigzag};
 use twkb_points::Pt;
 
 /// A byte with this bit set goes on (TWKB, varints).
-const GOES_ON: u8 = 0x80;
+pub const GOES_ON: u8 = 0x80;
 
 /// The number that stands in front, and how many bytes it has; `None` where its varint is not whole, or is none.
 pub fn front_number(bytes: &[u8]) -> Option<(u64, usize)>
@@ -19,8 +19,19 @@ pub fn front_number(bytes: &[u8]) -> Option<(u64, usize)>
         return Some((u64::from(first), 1));
     }
     let second = *bytes.get(1)?;
+    let low = u64::from(first - GOES_ON);
     if second < GOES_ON {
-        return Some((u64::from(first - GOES_ON) + u64::from(second) * 128, 2));
+        return Some((low + u64::from(second) * 128, 2));
+    }
+    let third = *bytes.get(2)?;
+    let low = low + u64::from(second - GOES_ON) * 128;
+    if third < GOES_ON {
+        return Some((low + u64::from(third) * 16384, 3));
+    }
+    let fourth = *bytes.get(3)?;
+    let low = low + u64::from(third - GOES_ON) * 16384;
+    if fourth < GOES_ON {
+        return Some((low + u64::from(fourth) * 2097152, 4));
     }
     long_number(bytes)
 }

@@ -1,19 +1,25 @@
-//! Items that lead on, taken where they stand: coordinates within a list, and a header's bytes and parts. Nothing is moved for them.
-ghost use Rattle.std.specs.Prelude.{◌≡◌, ◌<◌, ◌⊎◌, IfOk, IfSome, List, true, false};
+//! Items that lead on, taken where they stand: coordinates within a list, a header's bytes and parts, and the last of a point that
+//! stands alone. Nothing is moved for them.
+ghost use Rattle.std.specs.Prelude.{◌≡◌, ◌<◌, ◌⊎◌, IfOk, IfSome, List, [], true, false};
 ghost use Rattle.twkb_grammar.specs.Machine.{Frame as MachineFrame, advanced};
 ghost use Rattle.twkb_points.specs.Point.{Point};
 ghost use Rattle.twkb_geom.specs.Tree.{IsPrecision};
 ghost use Rattle.twkb_engine.specs.State.{wanted, shut, point_spot, phase_of, kind_of, head_of, placed, IsSpelled};
 ghost use Rattle.twkb_engine.specs.Fitting.{PointFits, PhaseFits};
-ghost use Rattle.twkb_engine.specs.Pairs.{LeadsOn};
+ghost use Rattle.twkb_engine.specs.Pairs.{LeadsOn, EndsAlone};
+ghost use Rattle.twkb_engine.specs.declared.phase.Axis.TheVariants.{Y};
+ghost use Rattle.twkb_engine.specs.declared.phase.Phase.TheVariants.{Coordinate};
+ghost use Rattle.twkb_engine.specs.declared.place.PointPlace.TheVariants.{Point as AtPoint};
 
+use crate::frames::{Frames, is_exact};
 use crate::header::{
     Behind, begin_body, behind_metadata, behind_part, head_of_byte, head_with, kind_at,
     precision_at,
 };
-use crate::phase::{Axis, Kind, Phase};
+use crate::phase::{Axis, Kind, Phase, build};
 use crate::place::{Head, PointPlace};
 use std::alloc::AllocError;
+use twkb_geom::{Geometry, Shape};
 use twkb_points::Pt;
 
 /// Puts a point behind those that are done, where others have to follow it; answers whether it did. It takes memory.
@@ -129,4 +135,32 @@ pub fn take_in_place(
         }
         _ => Ok(take_header(phase, bytes, number)),
     }
+}
+
+/// The header of the point whose second coordinate comes next, where a point and no list is read.
+fn point_head(phase: &Phase) -> Option<Head>
+    ensures { IfSome result (λ head. phase.now ≡ Coordinate Y (AtPoint head)) }
+{
+    match phase {
+        Phase::Coordinate(Axis::Y, PointPlace::Point(head)) => Some(*head),
+        _ => None,
+    }
+}
+
+/// The point that ends with an item which leads to this position, with so many bytes behind it, where the point stands in no
+/// collection and has the size that it declared, if any; `None` elsewhere. Takes no memory.
+#[inline(always)]
+pub fn lone_point(phase: &Phase, frames: &Frames, position: Pt, bytes: u64) -> Option<Geometry>
+    requires { PhaseFits phase.now }
+    ensures alone { IfSome result (λ _. frames.now.items ≡ []) }
+    ensures ends { IfSome result (EndsAlone position bytes phase.now) }
+{
+    let head = point_head(phase)?;
+    if !frames.is_empty() {
+        return None;
+    }
+    if !is_exact(head, bytes) {
+        return None;
+    }
+    Some(build(head, Shape::Point(Some(position))))
 }

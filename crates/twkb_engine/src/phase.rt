@@ -1,9 +1,9 @@
 //! What comes next, and how the lists of a body open and close.
-ghost use Rattle.std.specs.Prelude.{◌≡◌, ◌<◌, IfOk, [], ◌++◌, length};
+ghost use Rattle.std.specs.Prelude.{◌≡◌, ◌<◌, IfOk, [], ◌++◌, length, true, false};
 ghost use Rattle.twkb_grammar.specs.Machine.{AtEnd};
 ghost use Rattle.twkb_geom.specs.Tree.{IsPrecision};
 ghost use Rattle.twkb_geom.specs.Shape.{tree_of, HasFitIds};
-ghost use Rattle.twkb_engine.specs.State.{next_of, phase_of, kind_of, head_of, shut, opening, point_spot, line_spot, area_spot, areas_spot};
+ghost use Rattle.twkb_engine.specs.State.{IsByte, IsSpelled, next_of, phase_of, kind_of, head_of, shut, opening, point_spot, line_spot, area_spot, areas_spot};
 ghost use Rattle.twkb_engine.specs.Fitting.{AreasFit, AreaFits, LineFits, PointFits, NextFits};
 
 use crate::place::{AreaPlace, AreasPlace, Head, LinePlace, PointPlace};
@@ -92,6 +92,19 @@ pub enum Phase {
 pub enum Next {
     Read(Phase),
     End(Head, Geometry),
+}
+
+/// Whether the item that comes next is a byte, and no number.
+#[inline(always)]
+pub fn wants_byte(phase: &Phase) -> bool
+    ensures spelled { (result ≡ false) → IsSpelled phase.now }
+    ensures byte { (result ≡ true) → IsByte phase.now }
+{
+    match phase {
+        Phase::Header | Phase::Metadata { .. } => true,
+        Phase::Optional { part, .. } => *part == Optional::Extended,
+        _ => false,
+    }
 }
 
 /// The geometry of a header that was read, and of the shape behind it. Takes no memory.

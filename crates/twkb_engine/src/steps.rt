@@ -1,18 +1,46 @@
-//! What follows an item.
-ghost use Rattle.std.specs.Prelude.{◌≡◌, ◌<◌, ◌≤◌, ◌+◌, ◌⊎◌, IfOk, length};
+//! What an item announces, and what follows it.
+ghost use Rattle.std.specs.Prelude.{◌≡◌, ◌<◌, ◌≤◌, ◌+◌, ◌⊎◌, ℕ, IfOk, Some, length};
 ghost use Rattle.std.specs.List.{AllByRecursion};
-ghost use Rattle.twkb_grammar.specs.Machine.{advanced};
+ghost use Rattle.twkb_grammar.specs.Fault.{nodes_by, points_by};
+ghost use Rattle.twkb_grammar.specs.Roles.{Role};
+ghost use Rattle.twkb_grammar.specs.Machine.{advanced, phase_role};
 ghost use Rattle.twkb_engine.specs.State.{next_of, phase_of, IsSpelled};
 ghost use Rattle.twkb_engine.specs.Frames.{frames_of};
 ghost use Rattle.twkb_engine.specs.Fitting.{FrameFits, PhaseFits, NextFits};
 
 use crate::frames::{Frames, after_count, after_id};
 use crate::header::{
-    behind_metadata, behind_part, go_behind, head_of_byte, head_with, kind_at, precision_at,
+    EMPTY, behind_metadata, behind_part, go_behind, has_bit, head_of_byte, head_with, kind_at,
+    precision_at,
 };
-use crate::phase::{Axis, Next, Phase, close_point, open_area, open_line};
+use crate::phase::{Axis, Kind, Many, Next, Phase, close_point, open_area, open_line};
 use std::alloc::{AllocError, Global};
 use twkb_points::Pt;
+
+/// The nodes and the points that the item announces which has this number.
+pub fn announced(phase: &Phase, number: u64) -> (u64, u64)
+    ensures nodes { (level bytes : ℕ) (r : Role) → phase_role level bytes (phase_of phase.now) ≡ Some r → result.0 ≡ nodes_by r number }
+    ensures points { (level bytes : ℕ) (r : Role) → phase_role level bytes (phase_of phase.now) ≡ Some r → result.1 ≡ points_by r number }
+{
+    match phase {
+        Phase::Metadata { kind, .. } => {
+            if *kind == Kind::Point && !has_bit(number, EMPTY) {
+                (0, 1)
+            } else {
+                (0, 0)
+            }
+        }
+        Phase::Count { many, .. } => match many {
+            Many::Points => (number, number),
+            Many::Lines | Many::Areas | Many::Geometries => (number, 0),
+        },
+        Phase::LineCount(_) => (0, number),
+        Phase::AreaCount(_) => (number, 0),
+        Phase::Header | Phase::Optional { .. } | Phase::Id { .. } | Phase::Coordinate(_, _) => (
+            0, 0,
+        ),
+    }
+}
 
 /// What follows the item of this number, with this place and so many bytes behind it. It takes memory for a list's next value.
 pub fn next(

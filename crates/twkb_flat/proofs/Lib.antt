@@ -10,4 +10,5 @@ pub mod PushLemmas
 pub mod RowLemmas
 pub mod ReadLemmas
 pub mod TakeLemmas
+pub mod BeginLemmas
 pub mod BuildLemmas

@@ -1,18 +1,20 @@
 //! The flat form of one geometry.
-ghost use Rattle.std.specs.Prelude.{◌≡◌, ◌↔◌, ◌+◌, ◌<◌, ◌++◌, ◌∷◌, [], length, slice_get, Some, OnOk, OnErr, IsTrue};
+ghost use Rattle.std.specs.Prelude.{◌≡◌, ◌↔◌, ◌+◌, ◌<◌, ◌++◌, ◌∷◌, [], length, reverse, slice_get, Some, OnOk, OnErr, IsTrue};
 ghost use Rattle.twkb_geom.specs.Tree.{saturated};
 ghost use Rattle.twkb_geom.specs.Limits.{largest_limits};
 ghost use Rattle.twkb_geom.specs.Rows.{row_points};
 ghost use Rattle.twkb_geom.specs.Accepted.{Continues};
 ghost use Rattle.twkb_geom.specs.RowLists.{AreValidRowsOfOne};
+ghost use Rattle.twkb_geom.specs.Open.{AreOpen};
 ghost use Rattle.twkb_flat.specs.Rows.{IsNode, row_with};
 
-use crate::admitting::{admits_under, open_row};
+use crate::admitting::{admits_under, front_of, open_row};
 use crate::entries::{Entry, Span, close_all};
 use crate::node::{Node, NodeId, PointId, Row};
 use crate::work::Work;
 use std::alloc::{AllocError, Global};
 use std::marker::Model;
+use std::mem::swap;
 use twkb_geom::{Kind, OpenRow};
 use twkb_points::Pt;
 
@@ -99,6 +101,14 @@ impl Flat {
         self.entries.is_empty()
     }
 
+    /// The open rows, the root first: the last row at each depth down to that of the last row.
+    /// Takes no memory.
+    pub fn open_rows(&self) -> &[OpenRow]
+        ensures { AreOpen (reverse self.now) result.now }
+    {
+        front_of(&self.open_rows, self.levels)
+    }
+
     /// Whether the row with these points of its own may be pushed: it is a root where there is no
     /// row yet, and else goes on with the geometry, by the rules of the table and within
     /// `Limits::largest()` (profile). Takes no memory.
@@ -115,8 +125,39 @@ impl Flat {
         )
     }
 
+    /// Makes a row that may begin a geometry the root, in place of all rows, with the points that
+    /// the vector holds; the vector takes the room of the form's points. Takes memory for the row
+    /// alone; after an `Err` there are no rows, and the vector is as it was.
+    #[inline(always)]
+    pub fn begin(&mut self, root: Row, points: &mut Vec<Pt>) -> Result<(), AllocError>
+        requires { Continues largest_limits [] (row_with root points.old.items) }
+        ensures begun { OnOk result (self.new ≡ row_with root points.old.items ∷ []) }
+        ensures taken { OnOk result (points.new.items ≡ []) }
+        ensures none { OnErr result (self.new ≡ []) }
+        ensures same { OnErr result (points.new.items ≡ points.old.items) }
+    {
+        self.clear();
+        let span = Span {
+            row: root,
+            first: 0,
+            points: points.len() as u32,
+        };
+        if let Err(refused) = self.entries.push(Entry { span, next: 0 }) {
+            return Err(refused.into());
+        }
+        swap(&mut self.points, points);
+        self.spine[0] = 0;
+        self.open_rows[0] = OpenRow {
+            kind: root.kind,
+            child_ids: None,
+        };
+        self.levels = 1;
+        Ok(())
+    }
+
     /// Appends a row with these points of its own, which `admits` admits. Takes memory; an `Err`
     /// changes nothing.
+    #[inline(always)]
     pub fn push(&mut self, row: Row, points: &[Pt]) -> Result<(), AllocError>
         requires { Continues largest_limits self.old (row_with row points.now) }
         ensures pushed { OnOk result (self.new ≡ self.old ++ row_with row points.now ∷ []) }

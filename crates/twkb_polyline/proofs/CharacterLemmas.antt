@@ -12,6 +12,13 @@ use Rattle.twkb_polyline.specs.Fault.{IsCharacter, GoesOn, EndsIn}
 pub goes_on : (c d : ℕ) → five_group c ≡ Some (d, true) → GoesOn c
 goes_on c d h = (grind (arith, common_steps), grind (arith, common_steps))
 
+-- a character by its group
+pub unit_more : (c d : ℕ) → five_group c ≡ Some (d, true) → (c ≡ five_unit d true) × (d < 32)
+unit_more c d h = (grind (arith, common_steps), grind (arith, common_steps))
+
+pub unit_last : (c d : ℕ) → five_group c ≡ Some (d, false) → (c ≡ five_unit d false) × (d < 32)
+unit_last c d h = (grind (arith, common_steps), grind (arith, common_steps))
+
 -- a code without a group
 pub no_character : (c : ℕ) → five_group c ≡ None → IsCharacter c → ⊥
 no_character c h known = grind (arith, common_steps)

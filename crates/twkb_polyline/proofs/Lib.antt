@@ -8,3 +8,4 @@ pub mod ScanLemmas
 pub mod StopLemmas
 pub mod OneFault
 pub mod TextOrFault
+pub mod WholeLemmas

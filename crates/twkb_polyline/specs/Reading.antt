@@ -1,5 +1,9 @@
 -- What stands at a place in a text, for the steps of a reader.
 use Rattle.std.specs.Prelude.{◌≡◌, ℕ, ℤ, ◌+◌, ◌<◌, ◌≤◌, ◌-ℤ◌, drop, length, List, ◌++◌}
+use Rattle.std.specs.Int.Digits.{AllBelowBase}
+use Rattle.twkb_num.specs.Alphabet.{five_unit}
+use Rattle.twkb_num.specs.Digits.{number_of}
+use Rattle.twkb_num.specs.Spelling.{open_units}
 use Rattle.twkb_points.specs.Point.{Point}
 use Rattle.twkb_polyline.specs.Polyline.{number_text}
 use Rattle.twkb_polyline.specs.Fault.{StartsWithNumber}
@@ -13,6 +17,16 @@ pub record IsNumberAt (text : List ℕ) (start : ℕ) (n : ℤ) (end : ℕ) : Ty
   pub further : start + length (number_text n) ≡ end
   pub some : start < end
   pub within : end ≤ length text
+
+-- Characters that go on stand from `start` to `at`, at most twelve, and their groups have this value.
+pub record IsBegun (text : List ℕ) (start at value : ℕ) : Type 0 where
+  pub groups : List ℕ
+  pub split : drop start text ≡ open_units five_unit groups ++ drop at text
+  pub below : AllBelowBase 32 groups
+  pub number : value ≡ number_of 32 groups
+  pub further : start + length groups ≡ at
+  pub few : length groups ≤ 12
+  pub within : at ≤ length text
 
 -- The differences of q from p stand from `start` on, and the text goes on at `end`.
 pub record IsPointAt (text : List ℕ) (start : ℕ) (p q : Point) (end : ℕ) : Type 0 where

@@ -6,6 +6,7 @@ ghost use Rattle.twkb_polyline.specs.Fault.{IsNumberFault, IsPointFault, IsTextF
 ghost use Rattle.twkb_polyline.specs.Reading.{IsNumberAt, IsPointAt, IsRefusedFrom};
 
 use crate::fault::{PolyFault, PolyReason};
+use crate::whole::whole_point;
 use std::alloc::Global;
 use twkb_num::{Five, Partial, Step, unzigzag};
 use twkb_points::{Cursor, Pt};
@@ -56,7 +57,7 @@ fn read_points(text: &[u8], max: u32, points: &mut Vec<Pt>) -> Result<(), PolyFa
         if points.len() - held == max as usize {
             return Err(PolyReason::TooMany.at(at));
         }
-        let (point, end) = point_at(text, at, &mut cursor)?;
+        let (point, end) = next_point(text, at, &mut cursor)?;
         points.push(point)?;
         at = end;
     }
@@ -64,6 +65,22 @@ fn read_points(text: &[u8], max: u32, points: &mut Vec<Pt>) -> Result<(), PolyFa
 }
 
 /// The point whose latitude begins at `start`, and where the text goes on.
+#[inline(always)]
+fn next_point(text: &[u8], start: usize, cursor: &mut Cursor) -> Result<(Pt, usize), PolyFault>
+    requires { start < length text.now }
+    ensures read { IfOk result (λ r. IsPointAt text.now start cursor.old r.0 r.1) }
+    ensures in_range { IfOk result (λ r. IsInRange r.0) }
+    ensures moved { IfOk result (λ r. cursor.new ≡ r.0) }
+    ensures refused { IfErr result (IsRefusedFrom start (IsPointFault cursor.old (drop start text.now))) }
+{
+    match whole_point(text, start, cursor) {
+        Some(read) => Ok(read),
+        None => point_at(text, start, cursor),
+    }
+}
+
+/// The same step by step, so that a fault is found in its place.
+#[cold]
 fn point_at(text: &[u8], start: usize, cursor: &mut Cursor) -> Result<(Pt, usize), PolyFault>
     requires { start < length text.now }
     ensures read { IfOk result (λ r. IsPointAt text.now start cursor.old r.0 r.1) }

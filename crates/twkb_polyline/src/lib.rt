@@ -5,6 +5,7 @@ mod decoding;
 mod encoding;
 mod fault;
 pub mod laws;
+mod whole;
 
 pub use decoding::{decode, decode_into};
 pub use encoding::{encode, encode_into};

@@ -3,6 +3,7 @@ use std::alloc::{AllocError, Global};
 use twkb_points::Pt;
 
 mod faults;
+mod lengths;
 mod memory;
 mod vectors;
 

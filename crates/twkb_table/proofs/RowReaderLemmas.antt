@@ -1,18 +1,20 @@
 -- What the next row is to the rows of the geometry that is being read.
-use Rattle.std.proofs.Common.{◌≡◌, ℕ, zero, suc, ◌<◌, ◌≤◌, true, List, [], ◌∷◌, ◌++◌, length, Option, Some, None, refl, sym, ◌∙◌, ap, subst, arith, length-append}
-use Rattle.std.specs.Prelude.{reverse, IfSome}
+use Rattle.std.proofs.Common.{◌≡◌, ℕ, zero, suc, ◌<◌, Bool, true, List, [], ◌∷◌, ◌++◌, length, Option, Some, None, refl, sym, ◌∙◌, ap, subst, arith, length-append}
+use Rattle.std.specs.Prelude.{reverse, is_some, ◌↔◌}
+use Rattle.std.proofs.lemmas.Bool.{false≢true}
 use Rattle.std.proofs.lemmas.List.{reverse-append, length-reverse}
 use Rattle.twkb_points.specs.Point.{Point}
 use Rattle.twkb_geom.specs.declared.open_rows.OpenRow.{OpenRow}
 use Rattle.twkb_geom.specs.Limits.{Allowance}
 use Rattle.twkb_geom.specs.Rows.{Row, row_points}
-use Rattle.twkb_geom.specs.Admits.{parent, first_child, steps_to, fits}
+use Rattle.twkb_geom.specs.Admits.{parent, first_child, steps_to, fits, id_allowed, admits_after}
 use Rattle.twkb_geom.specs.Accepted.{Accepts, Continues, since_root, point_count}
 use Rattle.twkb_geom.specs.RowLists.{AreRowsOfOne, AreValidRowsOfOne}
-use Rattle.twkb_geom.specs.Open.{AreOpen, opened}
+use Rattle.twkb_geom.specs.Open.{AreOpen}
 use Rattle.twkb_geom.proofs.LimitLaws.{accepted_rows}
-use Rattle.twkb_geom.proofs.OpenLaws.{open_more, open_none, steps_within}
-use Rattle.twkb_geom.proofs.RefusalLaws.{continues_is}
+use Rattle.twkb_geom.proofs.OpenLaws.{open_none}
+use Rattle.twkb_geom.proofs.RefusalLaws.{continues_is, continues_true, none_is}
+use Rattle.twkb_geom.proofs.RowFacts.{facts}
 use Rattle.twkb_geom.proofs.RootLimits.{continued, valid_list}
 use Rattle.twkb_geom.proofs.RowsGrow.{root_alone}
 use Rattle.twkb_geom.proofs.RowsLocal.{open_last, since_last, point_count-reverse}
@@ -21,9 +23,9 @@ use Rattle.twkb_flat.specs.declared.node.Row.{Row as Bare}
 use Rattle.twkb_table.specs.Record.{Record}
 use Rattle.twkb_table.specs.Judged.{Verdict, Accepted, Judged}
 use Rattle.twkb_table.specs.Standing.{StandsAfter}
-use Rattle.twkb_table.specs.Waiting.{may_wait}
-use Rattle.twkb_table.specs.RowReading.{limits_of, open_rows_of, Keeps}
-use Rattle.twkb_table.specs.declared.row_reader.RowReader.{RowReader}
+use Rattle.twkb_table.specs.Waiting.{may_wait, root_row}
+use Rattle.twkb_table.specs.declared.row_reader.Root.{Root}
+use Rattle.twkb_table.specs.RowReading.{with_points}
 use Rattle.twkb_table.proofs.AcceptedRecords.{judged_row, has_room}
 use Rattle.twkb_table.proofs.Verdicts.{both_true}
 
@@ -68,56 +70,63 @@ pub continues_below : (l : Allowance) (rows : List Row) (row : Row) → 0 < leng
 continues_below l [] row some a below = absurd (omega (arith, some))
 continues_below l (s ∷ rs) row some a below = (a, below)
 
--- no deeper than the open rows
-pub depth_within : (l : Allowance) (before : List Row) (os : List OpenRow) (row : Row) → Accepts l before row → AreOpen before os → row.depth ≤ length os
-depth_within l before os row a open_now = omega (arith, steps_within row.depth before (steps l before row a), open_now.all)
-
--- the open rows after it
-pub opens_next : (l : Allowance) (rows : List Row) (os : List OpenRow) (row : Row) → Accepts l (reverse rows) row → AreOpen (reverse rows) os → AreOpen (reverse (rows ++ row ∷ [])) (opened row.depth os row)
-opens_next l rows os row a open_now =
-    subst (λ xs. AreOpen xs (opened row.depth os row)) (sym (reverse-append rows (row ∷ []))) (open_more (reverse rows) os row (steps l (reverse rows) row a) open_now)
-
 -- a root after rows of one geometry begins another
 pub begins_anew : (l : Allowance) (rows : List Row) (row : Row) → Accepts l (reverse rows) row → row.depth ≡ 0 → Continues l [] row
 begins_anew l rows row a root = (root_alone l rows row a root, root)
 
--- the root that waits
-pub waiting_begins : (l : Allowance) (waits : Option Bare) (points : List Point) → may_wait l waits points ≡ true → IfSome waits (λ row. Continues l [] (row_with row points))
-waiting_begins l None points e = tt
-waiting_begins l (Some row) points e = continues_is l [] (row_with row points) e
+-- the root that waits begins a geometry
+pub waiting_begins : (l : Allowance) (waits : Option Root) (root : Root) (points : List Point) → may_wait l waits points ≡ true → waits ≡ Some root → Continues l [] (row_with (root_row root) points)
+waiting_begins l waits root points e is = continues_is l [] (row_with (root_row root) points) (subst (λ w. may_wait l w points ≡ true) is e)
+
+-- a root has no id
+root_id : (row : Row) → row.depth ≡ 0 → admits_after [] row ≡ true → row.id ≡ None
+root_id row root e =
+    let fit = (both_true (steps_to row.depth []) (fits (parent row.depth []) (first_child row.depth []) row) e).1 in
+    let id = (facts (parent row.depth []) (first_child row.depth []) row fit).id in
+    none_is row.id (subst (λ d. id_allowed (parent d []) row.kind row.id ≡ true) root id)
+
+-- what waits of a row
+abbrev pub root_of : Bare → Root
+root_of row = record { kind = row.kind; precision = row.precision }
+
+-- so its kind, precision and points are all of it
+pub root_is : (l : Allowance) (row : Bare) (points : List Point) → Continues l [] (row_with row points) → row_with row points ≡ row_with (root_row (root_of row)) points
+root_is l row points c =
+    ap (λ d. record { depth = d; kind = row.kind; id = row.id; precision = row.precision; points = points }) c.1
+    ∙ ap (λ i. record { depth = 0; kind = row.kind; id = i; precision = row.precision; points = points }) (root_id (row_with row points) c.1 c.0.admitted)
+
+-- and it may wait
+pub may_wait_as : (l : Allowance) (row : Bare) (points : List Point) → Continues l [] (row_with row points) → may_wait l (Some (root_of row)) points ≡ true
+may_wait_as l row points c = continues_true l [] (row_with (root_row (root_of row)) points) (subst (Continues l []) (root_is l row points c) c)
+
+-- a root waits where there is one
+pub some_waits : (waits : Option Root) (points : List Point) (some : Bool) → some ≡ is_some waits → (some ≡ true) ↔ (0 < length (with_points waits points))
+some_waits None points some e = (λ yes. absurd (false≢true (sym e ∙ yes)), λ lt. absurd (omega (arith, lt)))
+some_waits (Some root) points some e = (λ yes. omega arith, λ lt. e)
 
 -- no row stands where none is open
 pub stands_nowhere : StandsAfter [] [] 0 0
 stands_nowhere = record { open_rows = open_none; node_count = refl; points_held = refl }
 
--- What a reader keeps of rows of one geometry.
-pub record Kept (l : Allowance) (rows : List Row) (os : List OpenRow) : Type 0 where
+-- Rows of one geometry, of which there is one.
+pub record SomeRows (l : Allowance) (rows : List Row) : Type 0 where
   pub of_one : AreValidRowsOfOne l rows
   pub some : 0 < length rows
-  pub open_rows : AreOpen (reverse rows) os
 
-pub keeps_first : (l : Allowance) (row : Row) (before rows : List Row) (cleared os : List OpenRow) → Continues l [] row → before ≡ [] → rows ≡ before ++ row ∷ [] → cleared ≡ [] → os ≡ opened row.depth cleared row → Kept l rows os
-keeps_first l row before rows cleared os c none put clear open_now =
-    let rows_are : rows ≡ row ∷ [] = put ∙ ap (λ rs. rs ++ row ∷ []) none in
-    let open_are : os ≡ opened row.depth [] row = open_now ∙ ap (λ xs. opened row.depth xs row) clear in
-    record {
-      of_one = subst (AreValidRowsOfOne l) (sym rows_are) (continued l [] row tt c);
-      some = omega (arith, ap (λ (rs : List Row). length rs) rows_are);
-      open_rows = subst (λ rs. AreOpen (reverse rs) os) (sym rows_are) (subst (λ xs. AreOpen (row ∷ []) xs) (sym open_are) (opens_next l [] [] row c.0 open_none));
-    }
-
-pub keeps_next : (l : Allowance) (row : Row) (before rows : List Row) (was os : List OpenRow) → AreValidRowsOfOne l before → 0 < length before → AreOpen (reverse before) was → Accepts l (reverse before) row → 0 < row.depth → rows ≡ before ++ row ∷ [] → os ≡ opened row.depth was row → Kept l rows os
-keeps_next l row before rows was os v some open_before a below put open_now = record {
-  of_one = subst (AreValidRowsOfOne l) (sym put) (continued l before row v (continues_below l before row some a below));
-  some = omega (arith, ap (λ (rs : List Row). length rs) put, length-append before (row ∷ []));
-  open_rows = subst (λ rs. AreOpen (reverse rs) os) (sym put) (subst (λ xs. AreOpen (reverse (before ++ row ∷ [])) xs) (sym open_now) (opens_next l before was row a open_before));
+pub keeps_first : (l : Allowance) (row : Row) (rows : List Row) → Continues l [] row → rows ≡ row ∷ [] → SomeRows l rows
+keeps_first l row rows c put = record {
+  of_one = subst (AreValidRowsOfOne l) (sym put) (continued l [] row tt c);
+  some = omega (arith, ap (λ (rs : List Row). length rs) put);
 }
 
--- what a record is judged by what is kept, it is judged after all rows that end with those of the geometry
-pub judged_by_kept : (l : Allowance) (rows : List Row) (os shown : List OpenRow) (nodes points : ℕ) (fields : Record) (v : Verdict) → Kept l rows os → shown ≡ os → nodes ≡ length rows → points ≡ length (row_points rows)
-    → ((before : List Row) → StandsAfter before shown nodes points → Judged l before fields v) → (earlier : List Row) → Judged l (reverse (earlier ++ rows)) fields v
-judged_by_kept l rows os shown nodes points fields v kept open_rows count held j earlier =
-    j (reverse (earlier ++ rows)) (rw (open_rows, count, held) (stands_after l os rows earlier kept.of_one kept.some kept.open_rows))
+pub keeps_next : (l : Allowance) (row : Row) (before rows : List Row) → AreValidRowsOfOne l before → 0 < length before → Accepts l (reverse before) row → 0 < row.depth → rows ≡ before ++ row ∷ [] → SomeRows l rows
+keeps_next l row before rows v some a below put = record {
+  of_one = subst (AreValidRowsOfOne l) (sym put) (continued l before row v (continues_below l before row some a below));
+  some = omega (arith, ap (λ (rs : List Row). length rs) put, length-append before (row ∷ []));
+}
 
-pub kept_of : (reader : RowReader) (rows : List Row) → Keeps reader rows → Kept (limits_of reader) rows (open_rows_of reader)
-kept_of reader rows k = record { of_one = k.of_one; some = k.some; open_rows = k.open_rows }
+-- what a record is judged by the open rows of one geometry, it is judged after all rows that end with those
+pub judged_by_open : (l : Allowance) (rows : List Row) (os : List OpenRow) (nodes points : ℕ) (fields : Record) (v : Verdict) → AreValidRowsOfOne l rows → 0 < length rows → AreOpen (reverse rows) os → nodes ≡ length rows → points ≡ length (row_points rows)
+    → ((before : List Row) → StandsAfter before os nodes points → Judged l before fields v) → (earlier : List Row) → Judged l (reverse (earlier ++ rows)) fields v
+judged_by_open l rows os nodes points fields v of_one some open_now count held j earlier =
+    j (reverse (earlier ++ rows)) (rw (count, held) (stands_after l os rows earlier of_one some open_now))

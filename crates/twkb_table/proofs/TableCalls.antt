@@ -1,19 +1,17 @@
 -- What the calls of a reader of tables show, put together.
-use Rattle.std.proofs.Common.{◌≡◌, ℕ, ◌+◌, ◌^◌, ◌⊎◌, Bool, true, false, List, [], ◌∷◌, ◌++◌, length, Option, Some, None, Result, Ok, Err, refl, sym, ◌∙◌, ap, subst, arith, inl, inr}
+use Rattle.std.proofs.Common.{◌≡◌, ℕ, ◌+◌, ◌<◌, ◌^◌, ◌⊎◌, Bool, true, false, List, [], ◌∷◌, ◌++◌, length, Option, Some, None, Result, Ok, Err, refl, sym, ◌∙◌, ap, subst, arith, inl, inr}
 use Rattle.std.specs.Prelude.{IfOk, IfSome}
-use Rattle.twkb_points.specs.Point.{Point}
 use Rattle.twkb_geom.specs.Tree.{Tree, IsTree}
 use Rattle.twkb_geom.specs.Limits.{Allowance}
 use Rattle.twkb_geom.specs.Rows.{Row, rows}
 use Rattle.twkb_geom.proofs.RootLaws.{one_geometry}
-use Rattle.twkb_flat.specs.Rows.{row_with}
-use Rattle.twkb_flat.specs.declared.node.Row.{Row as Bare}
 use Rattle.twkb_table.specs.Record.{Record, header}
+use Rattle.twkb_table.specs.Named.{Named}
 use Rattle.twkb_table.specs.RowFault.{AreComplete}
 use Rattle.twkb_table.specs.CsvRecords.{AreRecordsOf, BeginWith, standing}
 use Rattle.twkb_table.specs.Numbering.{fault_of}
 use Rattle.twkb_table.specs.Standing.{IfRefused}
-use Rattle.twkb_table.specs.RowReading.{limits_of, points_held, waiting, with_points}
+use Rattle.twkb_table.specs.RowReading.{limits_of, waiting}
 use Rattle.twkb_table.specs.TableReading.{HaveGiven, StandsAfter, Extends, GivesNext, GivesTree, MeetsEnd, IsRefusedAt, Explains, IsReading, HasHeader, BeginsNext, ReadsRoot, ReadsOn, HasRead, is_ended, is_spent}
 use Rattle.twkb_table.specs.declared.judging.JudgeFault.{JudgeFault}
 use Rattle.twkb_table.specs.declared.judging.JudgeFault.TheVariants.{Memory, Refused}
@@ -79,12 +77,12 @@ the_header l remaining told records given here old new s (none, before) source s
 meets_from : {R : Type 0} (l : Allowance) (remaining : R → Option (List ℕ)) (told : Option (List ℕ)) (records seen : List Record) (given : List Tree) (reader : TableReader R) → Extends records seen → MeetsEnd l remaining told seen given reader → MeetsEnd l remaining told records given reader
 meets_from l remaining told records seen given reader x m = record { seen = m.seen; extends = extends_both records seen m.seen x m.extends; all = m.all; named = m.named; stands = m.stands }
 
-reads_from : {R : Type 0} (l : Allowance) (remaining : R → Option (List ℕ)) (told : Option (List ℕ)) (records seen : List Record) (given : List Tree) (reader : TableReader R) (r : Result (Option Bare) TableFault) → Extends records seen → ReadsRoot l remaining told seen given reader r → ReadsRoot l remaining told records given reader r
-reads_from l remaining told records seen given reader (Ok (Some root)) x b = record { seen = b.seen; extends = extends_both records seen b.seen x b.extends; reading = b.reading }
-reads_from l remaining told records seen given reader (Ok None) x m = meets_from l remaining told records seen given reader x m
+reads_from : {R : Type 0} (l : Allowance) (remaining : R → Option (List ℕ)) (told : Option (List ℕ)) (records seen : List Record) (given : List Tree) (reader : TableReader R) (r : Result Bool TableFault) → Extends records seen → ReadsRoot l remaining told seen given reader r → ReadsRoot l remaining told records given reader r
+reads_from l remaining told records seen given reader (Ok true) x b = record { seen = b.seen; extends = extends_both records seen b.seen x b.extends; reading = b.reading }
+reads_from l remaining told records seen given reader (Ok false) x m = meets_from l remaining told records seen given reader x m
 reads_from l remaining told records seen given reader (Err f) x e = explains_from l told records seen given f x e
 
-pub after_header : {R : Type 0} (l : Allowance) (remaining : R → Option (List ℕ)) (told : Option (List ℕ)) (records : List Record) (given : List Tree) (mid new : TableReader R) (r : Result (Option Bare) TableFault) → HasHeader l remaining told records given mid → ReadsRoot l remaining told (header ∷ []) [] new r
+pub after_header : {R : Type 0} (l : Allowance) (remaining : R → Option (List ℕ)) (told : Option (List ℕ)) (records : List Record) (given : List Tree) (mid new : TableReader R) (r : Result Bool TableFault) → HasHeader l remaining told records given mid → ReadsRoot l remaining told (header ∷ []) [] new r
     → ReadsRoot l remaining told records given new r
 after_header l remaining told records given mid new r h reads =
     let there : ReadsRoot l remaining told (header ∷ []) given new r = subst (λ gs. ReadsRoot l remaining told (header ∷ []) gs new r) (sym h.none) reads in
@@ -95,41 +93,33 @@ after_header l remaining told records given mid new r h reads =
 still_read : {R : Type 0} (remaining : R → Option (List ℕ)) (told : Option (List ℕ)) (records : List Record) (old new : TableReader R) → HasRead remaining told records old → new.reader ≡ old.reader → is_ended new ≡ is_ended old → HasRead remaining told records new
 still_read remaining told records old new s source ended = subst (standing remaining told records (is_ended new)) (sym source) (subst (λ e. standing remaining told records e old.reader) (sym ended) s)
 
--- the reader without it
-pub stands_still : {R : Type 0} (l : Allowance) (remaining : R → Option (List ℕ)) (told : Option (List ℕ)) (records : List Record) (given : List Tree) (old new : TableReader R) → StandsAfter l remaining told records given old → new.reader ≡ old.reader → is_ended new ≡ is_ended old → new.number ≡ old.number
-    → limits_of new.rows ≡ limits_of old.rows → waiting new.rows ≡ waiting old.rows → is_spent new ≡ is_spent old → StandsAfter l remaining told records given new
-stands_still l remaining told records given old new s source ended number limits waits spent = record {
-  source = still_read remaining told records old new s.source source ended;
-  count = number ∙ s.count;
-  limits = limits ∙ s.limits;
-  gave = subst (λ w. HaveGiven l records given w (is_ended new)) (sym waits) (subst (HaveGiven l records given (waiting old.rows)) (sym ended) s.gave);
-  unspent = spent ∙ s.unspent;
-}
+-- a root that waits is that of one geometry more
+a_tree : (l : Allowance) (records : List Record) (given : List Tree) (ws : List Row) (ended : Bool) → HaveGiven l records given ws ended → 0 < length ws → (g : Tree) × Named l records (given ++ g ∷ []) × (rows 0 g ≡ ws)
+a_tree l records given [] ended h some = absurd (omega (arith, some))
+a_tree l records given (root ∷ more) ended h some = h
 
-pub waited : {R : Type 0} (l : Allowance) (remaining : R → Option (List ℕ)) (told : Option (List ℕ)) (records : List Record) (given : List Tree) (root : Row) (old new : TableReader R) → StandsAfter l remaining told records given old → root ∷ [] ≡ waiting old.rows → new.reader ≡ old.reader → is_ended new ≡ is_ended old
-    → new.number ≡ old.number → limits_of new.rows ≡ limits_of old.rows → is_spent new ≡ is_spent old → BeginsNext l remaining told records given (root ∷ []) new
-waited l remaining told records given root old new s waits source ended number limits spent =
-    let gave = subst (λ w. HaveGiven l records given w (is_ended old)) (sym waits) s.gave in
+pub waited : {R : Type 0} (l : Allowance) (remaining : R → Option (List ℕ)) (told : Option (List ℕ)) (records : List Record) (given : List Tree) (reader : TableReader R) → StandsAfter l remaining told records given reader → 0 < length (waiting reader.rows)
+    → BeginsNext l remaining told records given (waiting reader.rows) reader
+waited l remaining told records given reader s some =
+    let next = a_tree l records given (waiting reader.rows) (is_ended reader) s.gave some in
     record {
       seen = records;
       extends = extends_none records;
       reading = record {
-        source = still_read remaining told records old new s.source source ended;
-        count = number ∙ s.count;
-        limits = limits ∙ s.limits;
-        geometry = gave.0;
-        named = gave.1;
-        rows = gave.2;
-        unspent = spent ∙ s.unspent;
+        source = s.source;
+        count = s.count;
+        limits = s.limits;
+        geometry = next.0;
+        named = next.1;
+        rows = next.2;
+        unspent = s.unspent;
       };
     }
 
--- no root waits where none is answered
-pub none_waits : (taken : Option Bare) (points : List Point) (ws : List Row) → with_points taken points ≡ ws → taken ≡ None → ws ≡ []
-none_waits taken points ws e none = sym e ∙ ap (λ t. with_points t points) none
-
-pub some_waits : (root : Bare) (points : List Point) → with_points (Some root) points ≡ [] → ⊥
-some_waits root points e = cc e
+-- no root waits
+pub none_waiting : (ws : List Row) → (0 < length ws → ⊥) → ws ≡ []
+none_waiting [] none = refl
+none_waiting (w ∷ ws) none = absurd (none (omega arith))
 
 -- ---- a geometry and its end
 
@@ -164,9 +154,9 @@ ended_by l remaining told records given so_far reader true e reads = cc e
 ended_by l remaining told records given so_far reader false e reads = reads
 
 -- a root was read
-pub root_by : {R : Type 0} (l : Allowance) (remaining : R → Option (List ℕ)) (told : Option (List ℕ)) (records : List Record) (given : List Tree) (reader : TableReader R) (found : Option Bare) (root : Bare) → found ≡ Some root → ReadsRoot l remaining told records given reader (Ok found)
-    → BeginsNext l remaining told records given (row_with root (points_held reader.rows) ∷ []) reader
-root_by l remaining told records given reader found root e reads = rw e at reads
+pub root_by : {R : Type 0} (l : Allowance) (remaining : R → Option (List ℕ)) (told : Option (List ℕ)) (records : List Record) (given : List Tree) (reader : TableReader R) (found : Bool) → found ≡ true → ReadsRoot l remaining told records given reader (Ok found)
+    → BeginsNext l remaining told records given (waiting reader.rows) reader
+root_by l remaining told records given reader found e reads = rw e at reads
 
 -- the geometry of the rows that were given
 pub tree_given : {R : Type 0} (l : Allowance) (remaining : R → Option (List ℕ)) (told : Option (List ℕ)) (records : List Record) (given : List Tree) (flat : List Row) (reader : TableReader R) (tree : Tree) → GivesNext l remaining told records given flat reader → rows 0 tree ≡ flat → IsTree tree

@@ -11,7 +11,7 @@ use Rattle.twkb_table.specs.Named.{Named}
 use Rattle.twkb_table.specs.Judged.{Accepted, Refused, Judged}
 use Rattle.twkb_table.specs.RowFault.{AreComplete, all_but_last}
 use Rattle.twkb_table.specs.CsvRecords.{AreRecordsOf, BeginWith}
-use Rattle.twkb_table.specs.RowReading.{limits_of, waiting, JudgedAfter, GoesOn, EndsBefore}
+use Rattle.twkb_table.specs.RowReading.{limits_of, waiting, BeginsFirst, JudgedAfter, GoesOn, EndsBefore}
 use Rattle.twkb_table.specs.TableReading.{HaveGiven, StandsAfter, GivesNext, MeetsEnd, IsRefusedAt, HasTooMany, IsReading, BeginsNext, HasRead, is_ended, is_spent}
 use Rattle.twkb_table.specs.declared.reason.RowReason.{RowReason}
 use Rattle.twkb_table.specs.declared.table_fault.TableFault.{TableFault}
@@ -145,13 +145,13 @@ going_on true true over e = (let same = over refl in cc same)
 going_on true false over e = cc e
 
 -- the first root
-pub begins_next : {R : Type 0} (l : Allowance) (remaining : R → Option (List ℕ)) (told : Option (List ℕ)) (records : List Record) (given : List Tree) (here : Record) (row : Row) (old new : TableReader R)
+pub begins_next : {R : Type 0} (l : Allowance) (remaining : R → Option (List ℕ)) (told : Option (List ℕ)) (records : List Record) (given : List Tree) (here : Record) (old new : TableReader R)
     → StandsAfter l remaining told records given old → waiting old.rows ≡ [] → 0 < old.number → is_ended old ≡ false → HasRead remaining told (records ++ here ∷ []) new
-    → new.number ≡ old.number + 1 → limits_of new.rows ≡ limits_of old.rows → is_spent new ≡ is_spent old → Judged (limits_of old.rows) [] here (Accepted row) → row.depth ≡ 0
-    → BeginsNext l remaining told records given (row ∷ []) new
-begins_next l remaining told records given here row old new s none some going source number limits spent j root =
-    let first = none_given l records given (is_ended old) (subst (λ w. HaveGiven l records given w (is_ended old)) none s.gave) going (omega (arith, some, s.count)) in
-    let n = root_more l records here [] row first.0 (subst (λ m. Judged m [] here (Accepted row)) s.limits j) root in
+    → new.number ≡ old.number + 1 → limits_of new.rows ≡ limits_of old.rows → is_spent new ≡ is_spent old → BeginsFirst old.rows here new.rows
+    → BeginsNext l remaining told records given (waiting new.rows) new
+begins_next l remaining told records given here old new s none some going source number limits spent first =
+    let before = none_given l records given (is_ended old) (subst (λ w. HaveGiven l records given w (is_ended old)) none s.gave) going (omega (arith, some, s.count)) in
+    let n = root_more l records here [] first.row before.0 (subst (λ m. Judged m [] here (Accepted first.row)) s.limits first.judged) first.root in
     record {
       seen = records ++ here ∷ [];
       extends = extends_one records here;
@@ -160,8 +160,8 @@ begins_next l remaining told records given here row old new s none some going so
         count = one_more old.number new.number records here number s.count;
         limits = limits ∙ s.limits;
         geometry = n.geometry;
-        named = subst (λ gs. Named l (records ++ here ∷ []) (gs ++ n.geometry ∷ [])) (sym first.1) n.named;
-        rows = n.rows_are;
+        named = subst (λ gs. Named l (records ++ here ∷ []) (gs ++ n.geometry ∷ [])) (sym before.1) n.named;
+        rows = n.rows_are ∙ sym first.waits;
         unspent = spent ∙ s.unspent;
       };
     }

@@ -1,15 +1,13 @@
 -- How a reader of rows stands in the geometry that it reads.
 use Rattle.std.specs.Prelude.{◌≡◌, ◌<◌, List, [], ◌∷◌, ◌++◌, length, reverse, Option, Some, None}
 use Rattle.twkb_points.specs.Point.{Point}
-use Rattle.twkb_geom.specs.declared.open_rows.OpenRow.{OpenRow}
 use Rattle.twkb_geom.specs.Limits.{Allowance}
 use Rattle.twkb_geom.specs.Rows.{Row as TableRow}
 use Rattle.twkb_geom.specs.RowLists.{AreValidRowsOfOne}
-use Rattle.twkb_geom.specs.Accepted.{Continues}
-use Rattle.twkb_geom.specs.Open.{AreOpen}
 use Rattle.twkb_flat.specs.Rows.{row_with}
-use Rattle.twkb_flat.specs.declared.node.Row.{Row}
 use Rattle.twkb_table.specs.Record.{Record}
+use Rattle.twkb_table.specs.Waiting.{root_row}
+use Rattle.twkb_table.specs.declared.row_reader.Root.{Root}
 use Rattle.twkb_table.specs.Judged.{Verdict, Accepted, Judged}
 use Rattle.twkb_table.specs.declared.row_reader.RowReader.{RowReader}
 
@@ -17,18 +15,14 @@ use Rattle.twkb_table.specs.declared.row_reader.RowReader.{RowReader}
 abbrev pub limits_of : RowReader → Allowance
 limits_of reader = reader.limits
 
--- the rows that are open
-abbrev pub open_rows_of : RowReader → List OpenRow
-open_rows_of reader = reader.open_rows.items
-
 -- the points of the row that was read last
 abbrev pub points_held : RowReader → List Point
 points_held reader = reader.points.items
 
--- a row that may be there, with these points
-abbrev pub with_points : Option Row → List Point → List TableRow
+-- a root that may be there, with these points
+abbrev pub with_points : Option Root → List Point → List TableRow
 with_points None points = []
-with_points (Some row) points = row_with row points ∷ []
+with_points (Some root) points = row_with (root_row root) points ∷ []
 
 -- the root that waits, if one does
 abbrev pub waiting : RowReader → List TableRow
@@ -38,15 +32,10 @@ waiting reader = with_points reader.waiting reader.points.items
 abbrev pub JudgedAfter : Allowance → List TableRow → Record → Verdict → Type 0
 JudgedAfter l rows fields v = (earlier : List TableRow) → Judged l (reverse (earlier ++ rows)) fields v
 
--- the row with these points begins a valid geometry
-abbrev pub Begins : Allowance → Row → List Point → Type 0
-Begins l row points = Continues l [] (row_with row points)
-
--- These are rows of one valid geometry, and the reader keeps their open rows.
+-- These are rows of one valid geometry, and no root waits.
 pub record Keeps (reader : RowReader) (rows : List TableRow) : Type 0 where
   pub of_one : AreValidRowsOfOne (limits_of reader) rows
   pub some : 0 < length rows
-  pub open_rows : AreOpen (reverse rows) (open_rows_of reader)
   pub none : waiting reader ≡ []
 
 -- The record is a row more of the geometry that the reader reads.
@@ -63,3 +52,10 @@ pub record EndsBefore (old : RowReader) (before : List TableRow) (fields : Recor
   pub waits : waiting new ≡ row ∷ []
   pub root : row.depth ≡ 0
   pub judged : JudgedAfter (limits_of old) before fields (Accepted row)
+
+-- The record is the root of the first geometry, and waits.
+pub record BeginsFirst (old : RowReader) (fields : Record) (new : RowReader) : Type 0 where
+  pub row : TableRow
+  pub waits : waiting new ≡ row ∷ []
+  pub root : row.depth ≡ 0
+  pub judged : Judged (limits_of old) [] fields (Accepted row)

@@ -1,15 +1,13 @@
 -- Where a reader of tables stands, and what its calls answer.
-use Rattle.std.specs.Prelude.{◌≡◌, ℕ, ◌^◌, ◌<◌, ◌⊎◌, List, [], ◌∷◌, ◌++◌, length, Option, Some, None, IfSome, Result, Ok, Err, Bool, true, false, ⊤}
+use Rattle.std.specs.Prelude.{◌≡◌, ℕ, ◌^◌, ◌<◌, ◌⊎◌, List, [], ◌∷◌, ◌++◌, length, Option, IfSome, Result, Ok, Err, Bool, true, false, ⊤}
 use Rattle.twkb_geom.specs.Tree.{Tree}
 use Rattle.twkb_geom.specs.Rows.{Row, rows}
 use Rattle.twkb_geom.specs.Limits.{Allowance, IsValid}
-use Rattle.twkb_flat.specs.Rows.{row_with}
-use Rattle.twkb_flat.specs.declared.node.Row.{Row as Bare}
 use Rattle.twkb_table.specs.Record.{Record, header}
 use Rattle.twkb_table.specs.Named.{Named}
 use Rattle.twkb_table.specs.RowFault.{AreComplete}
 use Rattle.twkb_table.specs.CsvRecords.{AreRecordsOf, BeginWith, standing}
-use Rattle.twkb_table.specs.RowReading.{limits_of, points_held, waiting}
+use Rattle.twkb_table.specs.RowReading.{limits_of, waiting}
 use Rattle.twkb_table.specs.declared.reason.RowReason.{RowReason}
 use Rattle.twkb_table.specs.declared.table_fault.TableFault.{TableFault}
 use Rattle.twkb_table.specs.declared.table_fault.TableFault.TheVariants as fault
@@ -142,10 +140,10 @@ pub record BeginsNext {R : Type 0} (l : Allowance) (remaining : R → Option (Li
   pub extends : Extends records seen
   pub reading : IsReading l remaining told seen given root reader
 
--- what the reading of a root shows
-abbrev pub ReadsRoot : {R : Type 0} → Allowance → (R → Option (List ℕ)) → Option (List ℕ) → List Record → List Tree → TableReader R → Result (Option Bare) TableFault → Type 0
-ReadsRoot l remaining told records given reader (Ok (Some root)) = BeginsNext l remaining told records given (row_with root (points_held reader.rows) ∷ []) reader
-ReadsRoot l remaining told records given reader (Ok None) = MeetsEnd l remaining told records given reader
+-- what the reading of a root shows: it waits, or the table ended
+abbrev pub ReadsRoot : {R : Type 0} → Allowance → (R → Option (List ℕ)) → Option (List ℕ) → List Record → List Tree → TableReader R → Result Bool TableFault → Type 0
+ReadsRoot l remaining told records given reader (Ok true) = BeginsNext l remaining told records given (waiting reader.rows) reader
+ReadsRoot l remaining told records given reader (Ok false) = MeetsEnd l remaining told records given reader
 ReadsRoot l remaining told records given reader (Err fault) = Explains l told records given fault
 
 -- what the reading of one record shows: a row more of the geometry, the geometry's end, or a fault

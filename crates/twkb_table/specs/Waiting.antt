@@ -5,8 +5,13 @@ use Rattle.twkb_geom.specs.Limits.{Allowance}
 use Rattle.twkb_geom.specs.Refusal.{continues}
 use Rattle.twkb_flat.specs.Rows.{row_with}
 use Rattle.twkb_flat.specs.declared.node.Row.{Row}
+use Rattle.twkb_table.specs.declared.row_reader.Root.{Root}
 
--- a row that waits begins a valid geometry
-abbrev pub may_wait : Allowance → Option Row → List Point → Bool
+-- its row
+abbrev pub root_row : Root → Row
+root_row root = record { depth = 0; kind = root.kind; id = None; precision = root.precision }
+
+-- a root that waits begins a valid geometry
+abbrev pub may_wait : Allowance → Option Root → List Point → Bool
 may_wait l None points = true
-may_wait l (Some row) points = continues l [] (row_with row points)
+may_wait l (Some root) points = continues l [] (row_with (root_row root) points)

@@ -13,6 +13,7 @@ const LEAST_PRECISION: i64 = -8;
 const GREATEST_PRECISION: i64 = 7;
 
 /// The depth from 0 to 999 whose canonical decimal the field is (profile). Takes no memory.
+#[inline(always)]
 pub fn parse_depth(field: &[u8]) -> Option<u32>
     ensures reads { Reads (IsDepthField field.now) result }
 {
@@ -23,6 +24,7 @@ pub fn parse_depth(field: &[u8]) -> Option<u32>
 }
 
 /// The number that a field of one digit spells, as most fields do.
+#[inline(always)]
 fn digit_of(field: &[u8]) -> Option<i64>
     ensures some { IfSome result (λ id. IsIdField field.now id) }
 {
@@ -33,12 +35,21 @@ fn digit_of(field: &[u8]) -> Option<i64>
 }
 
 /// The id, any i64, whose canonical decimal the field is (profile). Takes no memory.
+#[inline(always)]
 pub fn parse_id(field: &[u8]) -> Option<i64>
     ensures reads { Reads (IsIdField field.now) result }
 {
     if let Some(id) = digit_of(field) {
         return Some(id);
     }
+    read_decimal(field)
+}
+
+/// The id whose canonical decimal the field is, of any length.
+#[inline(never)]
+fn read_decimal(field: &[u8]) -> Option<i64>
+    ensures reads { Reads (IsIdField field.now) result }
+{
     let Ok(text) = str::from_utf8(field) else {
         return None;
     };
@@ -54,6 +65,7 @@ pub fn parse_id(field: &[u8]) -> Option<i64>
 }
 
 /// The precision from -8 to 7 whose canonical decimal the field is (profile). Takes no memory.
+#[inline(always)]
 pub fn parse_precision(field: &[u8]) -> Option<i8>
     ensures reads { Reads (IsPrecisionField field.now) result }
 {
@@ -66,6 +78,7 @@ pub fn parse_precision(field: &[u8]) -> Option<i8>
 }
 
 /// The id that the field spells, and no id where the field is empty (profile). Takes no memory.
+#[inline(always)]
 pub fn parse_optional_id(field: &[u8]) -> Option<Option<i64>>
     ensures reads { Reads (IsOptionalId field.now) result }
 {
@@ -79,6 +92,7 @@ pub fn parse_optional_id(field: &[u8]) -> Option<Option<i64>>
 }
 
 /// The precision that the field spells, and none where the field is empty (profile). Takes no memory.
+#[inline(always)]
 pub fn parse_optional_precision(field: &[u8]) -> Option<Option<i8>>
     ensures reads { Reads (IsOptionalPrecision field.now) result }
 {

@@ -19,6 +19,7 @@ pub(crate) struct Fields<'a> {
 }
 
 /// The field at this place, counted from 0, of a record that has it.
+#[inline(always)]
 fn field(row: &ByteRecord, place: usize) -> &[u8]
     requires { place < length (fields_of row.now) }
     ensures value { field_at (fields_of row.now) place ≡ Some result.now }
@@ -27,6 +28,7 @@ fn field(row: &ByteRecord, place: usize) -> &[u8]
 }
 
 /// The fields of a record of five.
+#[inline(always)]
 pub(crate) fn five_fields(row: &ByteRecord) -> Fields<'_>
     requires { length (fields_of row.now) ≡ 5 }
     ensures value { record_seen result ≡ fields_of row.now }

@@ -30,6 +30,7 @@ pub enum JudgeFault {
 
 /// Reads the points of a row of this kind that stands there in place of those held, or tells why it
 /// may not have them.
+#[inline(always)]
 fn read_points(
     limits: &Limits,
     standing: &Standing,
@@ -61,6 +62,7 @@ fn read_points(
 }
 
 /// The row of these fields, of this kind and standing there, or why it is none.
+#[inline(always)]
 fn judge_standing(
     limits: &Limits,
     standing: &Standing,
@@ -96,6 +98,7 @@ fn judge_standing(
 }
 
 /// What a record of these five fields is.
+#[inline(always)]
 fn judge_fields(
     limits: &Limits,
     rows: &[OpenRow],
@@ -130,6 +133,7 @@ fn judge_fields(
 /// What a record after the first is, after rows so far with these open rows, the root first, and
 /// these counts of rows and points since the last root: its row, or the first reason that holds of
 /// it (profile). The row's points replace those held in `points`, which alone takes memory.
+#[inline(always)]
 pub fn judge(
     limits: &Limits,
     rows: &[OpenRow],

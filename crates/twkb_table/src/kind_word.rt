@@ -6,6 +6,7 @@ ghost use Rattle.twkb_geom.specs.Kind.{word_of};
 use twkb_geom::Kind;
 
 /// The kind whose word the field is (profile). Takes no memory.
+#[inline(always)]
 pub fn parse_kind(field: &[u8]) -> Option<Kind>
     ensures reads { Reads (λ kind. field.now ≡ word_of kind) result }
 {

@@ -17,6 +17,7 @@ const LAST_RECORD: u32 = u32::MAX;
 
 /// Reads the record of the next number, and answers whether there was one. A table has fewer than
 /// 2^32 records (profile).
+#[inline(always)]
 pub(crate) fn next_record<R: Read>(
     reader: &mut Reader<&mut Tap<R>>,
     held: &mut ByteRecord,

@@ -11,6 +11,7 @@ use twkb_geom::OpenRow;
 
 /// Opens a row that was read: the open rows below its depth go, its parent has had a child, and
 /// the row stands last. Takes memory where more than eight rows are open; an `Err` changes nothing.
+#[inline(always)]
 pub fn open_row(rows: &mut SmallVec<OpenRow, 8>, row: &Row) -> Result<(), AllocError>
     requires { row.now.depth ≤ length rows.old.items }
     ensures opened { OnOk result ((points : List Point) → rows.new.items ≡ opened row.now.depth rows.old.items (row_with row.now points)) }

@@ -11,6 +11,7 @@ use twkb_geom::row_rules::{has_place, has_same_ids, id_allowed, is_whole, nest_k
 use twkb_geom::{Kind, Limits, Standing};
 
 /// Why a row of this kind may not stand there.
+#[inline(always)]
 pub(crate) fn check_place(limits: &Limits, standing: &Standing, kind: Kind) -> Result<(), RowReason>
     ensures passed { OnOk result ((id_field precision_field text : List ℕ) (v : Verdict) → JudgedById limits.now (place_seen standing.now) kind id_field precision_field text v → JudgedByPlace limits.now (place_seen standing.now) kind id_field precision_field text v) }
     ensures refused { IfErr result (λ reason. (id_field precision_field text : List ℕ) → JudgedByPlace limits.now (place_seen standing.now) kind id_field precision_field text (Refused reason)) }
@@ -28,6 +29,7 @@ pub(crate) fn check_place(limits: &Limits, standing: &Standing, kind: Kind) -> R
 }
 
 /// The id of a row of this kind that stands there, or why it may not have it.
+#[inline(always)]
 pub(crate) fn read_id(
     standing: &Standing,
     kind: Kind,
@@ -50,6 +52,7 @@ pub(crate) fn read_id(
 }
 
 /// The precision of a row that stands there, or why it may not have it.
+#[inline(always)]
 pub(crate) fn read_precision(standing: &Standing, field: &[u8]) -> Result<Option<i8>, RowReason>
     ensures read { IfOk result (λ precision. (l : Allowance) (kind : Kind) (id : Option ℤ) (text : List ℕ) (v : Verdict) → JudgedByPoints l (place_seen standing.now) kind id precision text v → JudgedByPrecision l (place_seen standing.now) kind id field.now text v) }
     ensures refused { IfErr result (λ reason. (l : Allowance) (kind : Kind) (id : Option ℤ) (text : List ℕ) → JudgedByPrecision l (place_seen standing.now) kind id field.now text (Refused reason)) }

@@ -81,6 +81,7 @@ impl<'a, R: Read> RecordSource<'a, R> {
 
 /// Reads the next record, and answers whether there was one. After the end each call answers that
 /// there is none.
+#[inline(always)]
 pub(crate) fn read_next<R: Read>(
     reader: &mut Reader<&mut Tap<R>>,
     held: &mut ByteRecord,
@@ -118,6 +119,7 @@ pub(crate) fn new_reader<'a, R: Read>(alloc: Global, tap: &'a mut Tap<R>) -> Rea
 }
 
 // The next record.
+#[inline(always)]
 fn read_record<R: Read>(
     reader: &mut Reader<&mut Tap<R>>,
     held: &mut ByteRecord,

@@ -3,7 +3,6 @@ ghost use Rattle.std.specs.Prelude.{◌≡◌, ◌+◌, ◌∷◌, ◌++◌, ◌
 ghost use Rattle.twkb_io.specs.Taps.{device_of};
 ghost use Rattle.twkb_geom.specs.Tree.{Tree};
 ghost use Rattle.twkb_geom.specs.Limits.{Allowance};
-ghost use Rattle.twkb_flat.specs.Rows.{row_with};
 ghost use Rattle.twkb_table.specs.Record.{Record, header};
 
 use crate::header::is_header;
@@ -16,7 +15,7 @@ use csv::{ByteRecord, Reader};
 use std::alloc::Global;
 use std::io::Read;
 use std::mem::replace;
-use twkb_flat::{Flat, Row};
+use twkb_flat::Flat;
 use twkb_geom::{Geometry, Limits};
 use twkb_io::Tap;
 
@@ -48,7 +47,7 @@ const BAD_HEADER: TableFault = TableFault::At {
 };
 
 impl<'a, R: Read> TableReader<'a, R> {
-    ghost use Rattle.twkb_table.specs.RowReading.{limits_of, points_held, waiting, Begins, Keeps};
+    ghost use Rattle.twkb_table.specs.RowReading.{waiting, Keeps};
     ghost use Rattle.twkb_table.specs.TableReading.{StandsAfter, GivesNext, GivesTree, MeetsEnd, Explains, IsReading, ReadsHeader, ReadsRoot, ReadsOn, IsOver, is_spent, records_read};
 
     /// Reads nothing yet, and takes no memory.
@@ -88,8 +87,8 @@ impl<'a, R: Read> TableReader<'a, R> {
         ensures spent { (result ≡ Err TableFault.Spent) ↔ (is_spent self.old ≡ true) }
         ensures stays { is_spent self.new ≡ is_err result }
     {
-        flat.clear();
         if self.spent {
+            flat.clear();
             return Err(TableFault::Spent);
         }
         match self.read_geometry(flat) {
@@ -129,6 +128,7 @@ impl<'a, R: Read> TableReader<'a, R> {
     }
 
     // The next geometry, read into a flat form.
+    #[inline(never)]
     fn next_tree(&mut self, flat: &mut Flat) -> Result<Option<Geometry>, TableFault>
         ensures gives { IfOk result (λ found. IfSome found (λ geometry. (l : Allowance) (told : Option (List ℕ)) (records : List Record) (given : List Tree)
             → StandsAfter l R.remaining told records given self.old → GivesTree l R.remaining told records given geometry self.new)) }
@@ -153,9 +153,9 @@ impl<'a, R: Read> TableReader<'a, R> {
         Ok(Some(geometry))
     }
 
-    // Reads the next geometry into an empty flat form.
+    // Reads the next geometry into a flat form, in place of what it holds.
+    #[inline(always)]
     fn read_geometry(&mut self, flat: &mut Flat) -> Result<bool, TableFault>
-        requires empty { flat.old ≡ [] }
         ensures gives { IfOk result (λ found. found ≡ true → (l : Allowance) (told : Option (List ℕ)) (records : List Record) (given : List Tree)
             → StandsAfter l R.remaining told records given self.old → GivesNext l R.remaining told records given flat.new self.new) }
         ensures ends { IfOk result (λ found. found ≡ false → (l : Allowance) (told : Option (List ℕ)) (records : List Record) (given : List Tree)
@@ -168,12 +168,12 @@ impl<'a, R: Read> TableReader<'a, R> {
         ensures fresh { IfErr result (λ fault. fault ≢ TableFault.Spent) }
         ensures same { is_spent self.new ≡ is_spent self.old }
     {
-        let root = match self.next_root() {
-            Ok(Some(root)) => root,
-            Ok(None) => return Ok(false),
+        match self.next_root() {
+            Ok(true) => {}
+            Ok(false) => return Ok(false),
             Err(fault) => return Err(fault),
-        };
-        let Ok(()) = self.rows.begin(root, flat) else {
+        }
+        let Ok(()) = self.rows.begin(flat) else {
             return Err(TableFault::Memory);
         };
         match self.read_rows(flat) {
@@ -182,19 +182,20 @@ impl<'a, R: Read> TableReader<'a, R> {
         }
     }
 
-    // The root of the next geometry, with its points in the buffer: the one that waits, or the first.
-    fn next_root(&mut self) -> Result<Option<Row>, TableFault>
+    // Has the root of the next geometry wait, and answers whether there is one: one waits, or the
+    // first is read.
+    #[inline(always)]
+    fn next_root(&mut self) -> Result<bool, TableFault>
         ensures reads { (l : Allowance) (told : Option (List ℕ)) (records : List Record) (given : List Tree)
             → StandsAfter l R.remaining told records given self.old → ReadsRoot l R.remaining told records given self.new result }
-        ensures begins { IfOk result (λ found. IfSome found (λ root. Begins (limits_of self.new.rows) root (points_held self.new.rows))) }
-        ensures none { OnOk result (waiting self.new.rows ≡ []) }
-        ensures over { IsOver self.old → result ≡ Ok None }
-        ensures ended { result ≡ Ok None → IsOver self.new }
+        ensures waits { result ≡ Ok true → 0 < length (waiting self.new.rows) }
+        ensures over { IsOver self.old → result ≡ Ok false }
+        ensures ended { result ≡ Ok false → IsOver self.new }
         ensures fresh { IfErr result (λ fault. fault ≢ TableFault.Spent) }
         ensures same { is_spent self.new ≡ is_spent self.old }
     {
-        if let Some(root) = self.rows.take_root() {
-            return Ok(Some(root));
+        if self.rows.has_root() {
+            return Ok(true);
         }
         if self.number == 0 {
             return self.begin_table();
@@ -203,14 +204,14 @@ impl<'a, R: Read> TableReader<'a, R> {
     }
 
     // Reads the header, and the root of the first geometry behind it.
-    fn begin_table(&mut self) -> Result<Option<Row>, TableFault>
+    #[inline(never)]
+    fn begin_table(&mut self) -> Result<bool, TableFault>
         requires first { records_read self.old ≡ 0 }
         requires none { waiting self.old.rows ≡ [] }
         ensures reads { (l : Allowance) (told : Option (List ℕ)) (records : List Record) (given : List Tree)
             → StandsAfter l R.remaining told records given self.old → ReadsRoot l R.remaining told records given self.new result }
-        ensures begins { IfOk result (λ found. IfSome found (λ root. Begins (limits_of self.new.rows) root (points_held self.new.rows))) }
-        ensures none { OnOk result (waiting self.new.rows ≡ []) }
-        ensures ended { result ≡ Ok None → IsOver self.new }
+        ensures waits { result ≡ Ok true → 0 < length (waiting self.new.rows) }
+        ensures ended { result ≡ Ok false → IsOver self.new }
         ensures fresh { IfErr result (λ fault. fault ≢ TableFault.Spent) }
         ensures same { is_spent self.new ≡ is_spent self.old }
     {
@@ -244,15 +245,15 @@ impl<'a, R: Read> TableReader<'a, R> {
     }
 
     // Reads the root of the first geometry, behind the header.
-    fn first_root(&mut self) -> Result<Option<Row>, TableFault>
+    #[inline(never)]
+    fn first_root(&mut self) -> Result<bool, TableFault>
         requires begun { 0 < records_read self.old }
         requires none { waiting self.old.rows ≡ [] }
         ensures reads { (l : Allowance) (told : Option (List ℕ)) (records : List Record) (given : List Tree)
             → StandsAfter l R.remaining told records given self.old → ReadsRoot l R.remaining told records given self.new result }
-        ensures begins { IfOk result (λ found. IfSome found (λ root. Begins (limits_of self.new.rows) root (points_held self.new.rows))) }
-        ensures none { OnOk result (waiting self.new.rows ≡ []) }
-        ensures over { IsOver self.old → result ≡ Ok None }
-        ensures ended { result ≡ Ok None → IsOver self.new }
+        ensures waits { result ≡ Ok true → 0 < length (waiting self.new.rows) }
+        ensures over { IsOver self.old → result ≡ Ok false }
+        ensures ended { result ≡ Ok false → IsOver self.new }
         ensures fresh { IfErr result (λ fault. fault ≢ TableFault.Spent) }
         ensures same { is_spent self.new ≡ is_spent self.old }
     {
@@ -263,16 +264,17 @@ impl<'a, R: Read> TableReader<'a, R> {
             &mut self.number,
         ) {
             Ok(true) => {}
-            Ok(false) => return Ok(None),
+            Ok(false) => return Ok(false),
             Err(fault) => return Err(fault),
         }
         match self.rows.read_root(&self.held) {
-            Ok(root) => Ok(Some(root)),
+            Ok(()) => Ok(true),
             Err(fault) => Err(fault_at(self.number, fault)),
         }
     }
 
     // Reads the rows of a geometry behind its first ones, up to its end.
+    #[inline(always)]
     fn read_rows(&mut self, flat: &mut Flat) -> Result<(), TableFault>
         requires keeps { Keeps self.old.rows flat.old }
         ensures gives { OnOk result ((l : Allowance) (told : Option (List ℕ)) (records : List Record) (given : List Tree)
@@ -296,6 +298,7 @@ impl<'a, R: Read> TableReader<'a, R> {
     }
 
     // Reads one record, and answers whether it is a row more of the geometry.
+    #[inline(always)]
     fn read_row(&mut self, flat: &mut Flat) -> Result<bool, TableFault>
         requires keeps { Keeps self.old.rows flat.old }
         ensures reads { (l : Allowance) (told : Option (List ℕ)) (records : List Record) (given : List Tree)

@@ -46,6 +46,7 @@ fn a_refused_record_has_its_line(rt: HostRuntime) {
     let alloc = rt.alloc();
     assert!(rt; record(alloc, RowReason::BadHeader, "bad header"));
     assert!(rt; record(alloc, RowReason::FieldCount, "not five fields"));
+    assert!(rt; record(alloc, RowReason::PolylineNotAllowed, "polyline not allowed"));
     assert!(rt; record(alloc, RowReason::PointCount, "wrong number of points"));
     assert!(rt; record(alloc, RowReason::Unsupported, "not handled yet"));
 }
@@ -89,9 +90,8 @@ fn a_refused_precision_has_its_line(rt: HostRuntime) {
 }
 
 #[test]
-fn a_refused_polyline_has_its_line(rt: HostRuntime) {
+fn a_refused_number_of_a_polyline_has_its_line(rt: HostRuntime) {
     let alloc = rt.alloc();
-    assert!(rt; record(alloc, RowReason::PolylineNotAllowed, "polyline not allowed"));
     assert!(rt;
         polyline(
             alloc,
@@ -110,6 +110,11 @@ fn a_refused_polyline_has_its_line(rt: HostRuntime) {
         )
     );
     assert!(rt; polyline(alloc, 3, PolyReason::Padded, "polyline at 3: padded number"));
+}
+
+#[test]
+fn a_refused_point_of_a_polyline_has_its_line(rt: HostRuntime) {
+    let alloc = rt.alloc();
     assert!(rt;
         polyline(
             alloc,

@@ -1,5 +1,5 @@
 //! Want of memory. Run with each growth refused in turn (`rt try --test --fail-alloc N`): a
-//! conversion gives the right form or geometry, or none, and no growth comes after `clear`.
+//! conversion gives the right form or geometry, or none, and no growth comes where rows were.
 use super::fixtures::{self, point_row, points};
 use super::geometries;
 use crate::Flat;
@@ -60,5 +60,21 @@ fn a_push_into_a_cleared_form_asks_for_no_growth(rt: HostRuntime) -> Result<(), 
     let row = point_row();
     assert!(rt; flat.admits(&row, own.as_slice()), "a row is refused");
     assert!(rt; flat.push(row, own.as_slice()).is_ok(), "a growth");
+    Ok(())
+}
+
+#[test]
+fn a_root_in_place_of_rows_asks_for_no_growth(rt: HostRuntime) -> Result<(), Fail> {
+    let alloc = rt.alloc();
+    let empty = Flat::new(alloc);
+    let mut own = points(alloc, &[(2, 1)])?;
+    let mut flat = fixtures::two_polygons(alloc)?;
+    let row = point_row();
+    assert!(rt; empty.admits(&row, own.as_slice()), "a row is refused");
+    assert!(rt; flat.begin(row, &mut own).is_ok(), "a growth");
+    assert!(rt;
+        flat.open_rows().len() == 1 && flat.point_count() == 1,
+        "another form"
+    );
     Ok(())
 }

@@ -2,65 +2,72 @@
 use crate::tests::{done, padded, read};
 use crate::{Five, Leb128, Partial, Step};
 
-// By the rule: seven bits a byte, ten bytes at most, below 2^64.
+// The answers to bytes are by the rule: seven bits a byte, ten bytes at most, below 2^64.
 #[test]
-fn answers_to_bytes(rt: HostRuntime) {
-    let rows = [
-        (b"".as_slice(), 0, Step::More),
-        (b"\x82".as_slice(), 1, Step::More),
-        (b"\x82\x00".as_slice(), 2, padded(2)),
-        (b"\x80\x00".as_slice(), 2, padded(0)),
-        (b"\xac\x82\x00".as_slice(), 3, padded(300)),
-        (
-            b"\x81\x80\x80\x80\x80\x80\x80\x80\x80\x00".as_slice(),
-            10,
-            padded(1),
-        ),
-        (
-            b"\xff\xff\xff\xff\xff\xff\xff\xff\xff".as_slice(),
-            9,
-            Step::More,
-        ),
-        (
-            b"\xff\xff\xff\xff\xff\xff\xff\xff\xff\x00".as_slice(),
-            10,
-            padded(0x7fff_ffff_ffff_ffff),
-        ),
-        (
-            b"\x80\x80\x80\x80\x80\x80\x80\x80\x80\x01".as_slice(),
-            10,
-            done(0x8000_0000_0000_0000),
-        ),
-        (
-            b"\x80\x80\x80\x80\x80\x80\x80\x80\x80\x02".as_slice(),
-            10,
-            Step::TooLong,
-        ),
-        (
-            b"\xff\xff\xff\xff\xff\xff\xff\xff\xff\x02".as_slice(),
-            10,
-            Step::TooLong,
-        ),
-        (
-            b"\xff\xff\xff\xff\xff\xff\xff\xff\xff\x7f".as_slice(),
-            10,
-            Step::TooLong,
-        ),
-        (
-            b"\x80\x80\x80\x80\x80\x80\x80\x80\x80\x80".as_slice(),
-            10,
-            Step::TooLong,
-        ),
-        (
-            b"\xff\xff\xff\xff\xff\xff\xff\xff\xff\xff".as_slice(),
-            10,
-            Step::TooLong,
-        ),
-        (b"\x00\x82".as_slice(), 1, done(0)),
+fn bytes_that_all_go_on_ask_for_more(rt: HostRuntime) {
+    let rows: [(&[u8], usize); 3] = [
+        (b"", 0),
+        (b"\x82", 1),
+        (b"\xff\xff\xff\xff\xff\xff\xff\xff\xff", 9),
     ];
-    for (bytes, taken, answer) in rows {
-        assert_eq!(rt; read::<Leb128>(bytes), (taken, answer), "bytes {bytes:?}");
+    for (bytes, taken) in rows {
+        assert_eq!(rt;
+            read::<Leb128>(bytes),
+            (taken, Step::More),
+            "bytes {bytes:?}"
+        );
     }
+}
+
+#[test]
+fn a_last_byte_of_0_is_padding(rt: HostRuntime) {
+    let rows: [(&[u8], usize, u64); 5] = [
+        (b"\x82\x00", 2, 2),
+        (b"\x80\x00", 2, 0),
+        (b"\xac\x82\x00", 3, 300),
+        (b"\x81\x80\x80\x80\x80\x80\x80\x80\x80\x00", 10, 1),
+        (
+            b"\xff\xff\xff\xff\xff\xff\xff\xff\xff\x00",
+            10,
+            0x7fff_ffff_ffff_ffff,
+        ),
+    ];
+    for (bytes, taken, value) in rows {
+        assert_eq!(rt;
+            read::<Leb128>(bytes),
+            (taken, padded(value)),
+            "bytes {bytes:?}"
+        );
+    }
+}
+
+#[test]
+fn a_tenth_byte_of_1_is_the_bit_of_2_to_the_63(rt: HostRuntime) {
+    let bytes = b"\x80\x80\x80\x80\x80\x80\x80\x80\x80\x01".as_slice();
+    assert_eq!(rt; read::<Leb128>(bytes), (10, done(0x8000_0000_0000_0000)));
+}
+
+#[test]
+fn a_tenth_byte_above_1_is_too_long(rt: HostRuntime) {
+    let rows: [&[u8]; 5] = [
+        b"\x80\x80\x80\x80\x80\x80\x80\x80\x80\x02",
+        b"\xff\xff\xff\xff\xff\xff\xff\xff\xff\x02",
+        b"\xff\xff\xff\xff\xff\xff\xff\xff\xff\x7f",
+        b"\x80\x80\x80\x80\x80\x80\x80\x80\x80\x80",
+        b"\xff\xff\xff\xff\xff\xff\xff\xff\xff\xff",
+    ];
+    for bytes in rows {
+        assert_eq!(rt;
+            read::<Leb128>(bytes),
+            (10, Step::TooLong),
+            "bytes {bytes:?}"
+        );
+    }
+}
+
+#[test]
+fn nothing_is_taken_behind_a_spelling(rt: HostRuntime) {
+    assert_eq!(rt; read::<Leb128>(b"\x00\x82"), (1, done(0)));
 }
 
 // By the rule: five bits a character from ? to ~, thirteen characters at most, below 2^64.

@@ -1,56 +1,104 @@
 //! Texts that are refused: the place, and the reason.
 use crate::{PolyFault, PolyReason, decode};
+use std::alloc::Global;
 use std::test::Fail;
 
-// By the rules of docs/FORMATS.md, by hand. In each text `A` is a number: one more than before.
+// Whether a text, with at most `max` points, is refused at an offset for a reason. The texts are by the rules of
+// docs/FORMATS.md, by hand. In each `A` is a number: one more than before.
+fn is_refused(alloc: Global, text: &[u8], max: u32, offset: usize, reason: PolyReason) -> bool {
+    decode(alloc, text, max).err() == Some(PolyFault::At { offset, reason })
+}
+
 #[test]
-fn texts_that_are_refused(rt: HostRuntime) {
-    let rows = [
-        (
-            b"_p~iF~ps|U_ulLnnqC_mqNvxq`@".as_slice(),
-            2,
-            18,
-            PolyReason::TooMany,
-        ),
-        (b"A".as_slice(), 1, 1, PolyReason::Half),
-        (b"A".as_slice(), 2, 1, PolyReason::Half),
-        (b"_".as_slice(), 2, 0, PolyReason::Cut),
-        (b"_?".as_slice(), 2, 0, PolyReason::Padded),
-        (b"A A".as_slice(), 2, 1, PolyReason::BadChar),
-        (b"~~~~~~~~~~~~~".as_slice(), 2, 0, PolyReason::TooLong),
-        (b"____________G?".as_slice(), 2, 0, PolyReason::Range),
-        (b"AA".as_slice(), 0, 0, PolyReason::TooMany),
-        (b"AA?".as_slice(), 2, 3, PolyReason::Half),
-        (b" ".as_slice(), 0, 0, PolyReason::TooMany),
-        (b" ".as_slice(), 1, 0, PolyReason::BadChar),
-        (b"AA ".as_slice(), 1, 2, PolyReason::TooMany),
-        (b"AA_".as_slice(), 1, 2, PolyReason::TooMany),
-        (b"_ ".as_slice(), 1, 1, PolyReason::BadChar),
-        (b"A_\x7f".as_slice(), 1, 2, PolyReason::BadChar),
-        (b">".as_slice(), 1, 0, PolyReason::BadChar),
-        (b"\x00".as_slice(), 1, 0, PolyReason::BadChar),
-        (b"\xff".as_slice(), 1, 0, PolyReason::BadChar),
-        (b"~~~~~~~~~~~~ ".as_slice(), 1, 12, PolyReason::BadChar),
-        (b"~~~~~~~~~~~~~ ".as_slice(), 1, 0, PolyReason::TooLong),
-        (b"~~~~~~~~~~~~".as_slice(), 1, 0, PolyReason::Cut),
-        (b"____________O".as_slice(), 1, 0, PolyReason::TooLong),
-        (b"____________N".as_slice(), 1, 0, PolyReason::Range),
-        (b"____________?".as_slice(), 1, 0, PolyReason::Padded),
-        (b"~~~~~~~~~~~~^".as_slice(), 1, 0, PolyReason::TooLong),
-        (b"`___________G?".as_slice(), 1, 0, PolyReason::Range),
-        (b"?____________G".as_slice(), 1, 1, PolyReason::Range),
-        (b"?`___________G".as_slice(), 1, 1, PolyReason::Range),
-        (b"}~~~~~~~~~~~F?A?".as_slice(), 2, 14, PolyReason::Range),
-        (b"?}~~~~~~~~~~~F?A".as_slice(), 2, 15, PolyReason::Range),
-        (b"~~~~~~~~~~~~F?@?".as_slice(), 2, 14, PolyReason::Range),
-        (b"?~~~~~~~~~~~~F?@".as_slice(), 2, 15, PolyReason::Range),
+fn a_point_too_many_is_refused_at_its_start(rt: HostRuntime) {
+    let rows: [(&[u8], u32, usize); 5] = [
+        (b"_p~iF~ps|U_ulLnnqC_mqNvxq`@", 2, 18),
+        (b"AA", 0, 0),
+        (b" ", 0, 0),
+        (b"AA ", 1, 2),
+        (b"AA_", 1, 2),
     ];
-    for (text, max, offset, reason) in rows {
-        assert_eq!(rt;
-            decode(rt.alloc(), text, max).err(),
-            Some(PolyFault::At { offset, reason }),
-            "{text:?} with at most {max} points"
-        );
+    for (text, max, offset) in rows {
+        let is_told = is_refused(rt.alloc(), text, max, offset, PolyReason::TooMany);
+        assert!(rt; is_told, "{text:?} with at most {max} points");
+    }
+}
+
+#[test]
+fn a_latitude_alone_is_refused_behind_it(rt: HostRuntime) {
+    let rows: [(&[u8], u32, usize); 3] = [(b"A", 1, 1), (b"A", 2, 1), (b"AA?", 2, 3)];
+    for (text, max, offset) in rows {
+        let is_told = is_refused(rt.alloc(), text, max, offset, PolyReason::Half);
+        assert!(rt; is_told, "{text:?} with at most {max} points");
+    }
+}
+
+#[test]
+fn a_bad_character_is_refused_where_it_stands(rt: HostRuntime) {
+    let rows: [(&[u8], u32, usize); 8] = [
+        (b"A A", 2, 1),
+        (b" ", 1, 0),
+        (b"_ ", 1, 1),
+        (b"A_\x7f", 1, 2),
+        (b">", 1, 0),
+        (b"\x00", 1, 0),
+        (b"\xff", 1, 0),
+        (b"~~~~~~~~~~~~ ", 1, 12),
+    ];
+    for (text, max, offset) in rows {
+        let is_told = is_refused(rt.alloc(), text, max, offset, PolyReason::BadChar);
+        assert!(rt; is_told, "{text:?} with at most {max} points");
+    }
+}
+
+#[test]
+fn a_cut_number_is_refused_at_its_start(rt: HostRuntime) {
+    let rows: [(&[u8], u32, usize); 2] = [(b"_", 2, 0), (b"~~~~~~~~~~~~", 1, 0)];
+    for (text, max, offset) in rows {
+        let is_told = is_refused(rt.alloc(), text, max, offset, PolyReason::Cut);
+        assert!(rt; is_told, "{text:?} with at most {max} points");
+    }
+}
+
+#[test]
+fn a_number_of_more_than_64_bits_is_refused_at_its_start(rt: HostRuntime) {
+    let rows: [(&[u8], u32, usize); 4] = [
+        (b"~~~~~~~~~~~~~", 2, 0),
+        (b"~~~~~~~~~~~~~ ", 1, 0),
+        (b"____________O", 1, 0),
+        (b"~~~~~~~~~~~~^", 1, 0),
+    ];
+    for (text, max, offset) in rows {
+        let is_told = is_refused(rt.alloc(), text, max, offset, PolyReason::TooLong);
+        assert!(rt; is_told, "{text:?} with at most {max} points");
+    }
+}
+
+#[test]
+fn a_padded_number_is_refused_at_its_start(rt: HostRuntime) {
+    let rows: [(&[u8], u32, usize); 2] = [(b"_?", 2, 0), (b"____________?", 1, 0)];
+    for (text, max, offset) in rows {
+        let is_told = is_refused(rt.alloc(), text, max, offset, PolyReason::Padded);
+        assert!(rt; is_told, "{text:?} with at most {max} points");
+    }
+}
+
+#[test]
+fn a_coordinate_out_of_range_is_refused_at_its_number(rt: HostRuntime) {
+    let rows: [(&[u8], u32, usize); 9] = [
+        (b"____________G?", 2, 0),
+        (b"____________N", 1, 0),
+        (b"`___________G?", 1, 0),
+        (b"?____________G", 1, 1),
+        (b"?`___________G", 1, 1),
+        (b"}~~~~~~~~~~~F?A?", 2, 14),
+        (b"?}~~~~~~~~~~~F?A", 2, 15),
+        (b"~~~~~~~~~~~~F?@?", 2, 14),
+        (b"?~~~~~~~~~~~~F?@", 2, 15),
+    ];
+    for (text, max, offset) in rows {
+        let is_told = is_refused(rt.alloc(), text, max, offset, PolyReason::Range);
+        assert!(rt; is_told, "{text:?} with at most {max} points");
     }
 }
 

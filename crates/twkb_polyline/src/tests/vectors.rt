@@ -1,70 +1,82 @@
 //! Lists of points and their polylines, both ways.
 use crate::tests::points_of;
 use crate::{decode, decode_into, encode, encode_into, laws};
+use std::alloc::Global;
 use std::test::Fail;
 
 const LEAST: i64 = -(1 << 62);
 
 const GREATEST: i64 = (1 << 62) - 1;
 
-// The first two rows are the published example and the published number of the Encoded Polyline
-// Algorithm Format, at five decimals; the others follow its steps by hand.
+// Whether these points have this polyline, and come back from it with room for them alone and with more.
+fn is_polyline(alloc: Global, pairs: &[(i64, i64)], text: &[u8]) -> Result<bool, Fail> {
+    let Ok(count) = u32::try_from(pairs.len()) else {
+        return Ok(false);
+    };
+    let points = points_of(alloc, pairs)?;
+    let are_all = points.len() == pairs.len();
+    let is_written = encode(alloc, &points)?.as_slice() == text;
+    let is_read = decode(alloc, text, count)?.as_slice() == points.as_slice();
+    let is_read_with_room = decode(alloc, text, u32::MAX)?.as_slice() == points.as_slice();
+    Ok(are_all && is_written && is_read && is_read_with_room)
+}
+
+// The published example and the published number of the Encoded Polyline Algorithm Format, at five decimals.
 #[test]
-fn lists_and_their_polylines(rt: HostRuntime) -> Result<(), Fail> {
+fn published_lists_and_their_polylines(rt: HostRuntime) -> Result<(), Fail> {
     let example = [
         (-12020000, 3850000),
         (-12095000, 4070000),
         (-12645300, 4325200),
     ];
-    let rows = [
+    let rows: [(&[(i64, i64)], &[u8]); 2] = [
+        (example.as_slice(), b"_p~iF~ps|U_ulLnnqC_mqNvxq`@"),
+        (&[(-17998321, 0)], b"?`~oia@"),
+    ];
+    for (pairs, text) in rows {
+        assert!(rt; is_polyline(rt.alloc(), pairs, text)?, "text of {pairs:?}");
+    }
+    Ok(())
+}
+
+// By the steps of the format, by hand.
+#[test]
+fn short_lists_and_their_polylines(rt: HostRuntime) -> Result<(), Fail> {
+    let rows: [(&[(i64, i64)], &[u8]); 6] = [
+        (&[], b""),
+        (&[(0, 0)], b"??"),
+        (&[(2, 1)], b"AC"),
+        (&[(1, 1), (5, 5)], b"AAGG"),
+        (&[(15, -16), (0, 0)], b"^]_@\\"),
+        (&[(16, 16)], b"_@_@"),
+    ];
+    for (pairs, text) in rows {
+        assert!(rt; is_polyline(rt.alloc(), pairs, text)?, "text of {pairs:?}");
+    }
+    Ok(())
+}
+
+// By the steps of the format, by hand.
+#[test]
+fn the_ends_of_the_range_and_their_polylines(rt: HostRuntime) -> Result<(), Fail> {
+    let rows: [(&[(i64, i64)], &[u8]); 5] = [
         (
-            example.as_slice(),
-            b"_p~iF~ps|U_ulLnnqC_mqNvxq`@".as_slice(),
+            &[(GREATEST, 0), (LEAST, 0)],
+            b"?}~~~~~~~~~~~F?|~~~~~~~~~~~N",
         ),
-        ([(-17998321, 0)].as_slice(), b"?`~oia@".as_slice()),
-        ([].as_slice(), b"".as_slice()),
-        ([(0, 0)].as_slice(), b"??".as_slice()),
-        ([(2, 1)].as_slice(), b"AC".as_slice()),
-        ([(1, 1), (5, 5)].as_slice(), b"AAGG".as_slice()),
-        ([(15, -16), (0, 0)].as_slice(), b"^]_@\\".as_slice()),
-        ([(16, 16)].as_slice(), b"_@_@".as_slice()),
         (
-            [(GREATEST, 0), (LEAST, 0)].as_slice(),
-            b"?}~~~~~~~~~~~F?|~~~~~~~~~~~N".as_slice(),
+            &[(0, GREATEST), (0, LEAST)],
+            b"}~~~~~~~~~~~F?|~~~~~~~~~~~N?",
         ),
+        (&[(GREATEST, GREATEST)], b"}~~~~~~~~~~~F}~~~~~~~~~~~F"),
+        (&[(LEAST, LEAST)], b"~~~~~~~~~~~~F~~~~~~~~~~~~F"),
         (
-            [(0, GREATEST), (0, LEAST)].as_slice(),
-            b"}~~~~~~~~~~~F?|~~~~~~~~~~~N?".as_slice(),
-        ),
-        (
-            [(GREATEST, GREATEST)].as_slice(),
-            b"}~~~~~~~~~~~F}~~~~~~~~~~~F".as_slice(),
-        ),
-        (
-            [(LEAST, LEAST)].as_slice(),
-            b"~~~~~~~~~~~~F~~~~~~~~~~~~F".as_slice(),
-        ),
-        (
-            [(LEAST, LEAST), (GREATEST, GREATEST)].as_slice(),
-            b"~~~~~~~~~~~~F~~~~~~~~~~~~F}~~~~~~~~~~~N}~~~~~~~~~~~N".as_slice(),
+            &[(LEAST, LEAST), (GREATEST, GREATEST)],
+            b"~~~~~~~~~~~~F~~~~~~~~~~~~F}~~~~~~~~~~~N}~~~~~~~~~~~N",
         ),
     ];
     for (pairs, text) in rows {
-        let points = points_of(rt.alloc(), pairs)?;
-        assert_eq!(rt; points.len(), pairs.len(), "points of {pairs:?}");
-        assert_eq!(rt;
-            encode(rt.alloc(), &points)?.as_slice(),
-            text,
-            "text of {pairs:?}"
-        );
-        let read = decode(rt.alloc(), text, pairs.len() as u32)?;
-        assert_eq!(rt; read.as_slice(), points.as_slice(), "points of {text:?}");
-        let roomy = decode(rt.alloc(), text, u32::MAX)?;
-        assert_eq!(rt;
-            roomy.as_slice(),
-            points.as_slice(),
-            "points of {text:?}, with room"
-        );
+        assert!(rt; is_polyline(rt.alloc(), pairs, text)?, "text of {pairs:?}");
     }
     Ok(())
 }

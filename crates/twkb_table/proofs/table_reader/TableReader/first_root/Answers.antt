@@ -1,7 +1,5 @@
 use Rattle.std.proofs.Common.{rules, refl}
 use Rattle.csv.specs.Records.{fields_of}
-use Rattle.twkb_flat.specs.Rows.{row_with}
-use Rattle.twkb_table.specs.RowReading.{points_held}
 use Rattle.twkb_table.proofs.RecordJudged.{if_refused}
 use Rattle.twkb_table.proofs.TableSteps.{going_on, begins_next, first_refused}
 use Rattle.twkb_table.proofs.TableCalls.{explained}
@@ -13,8 +11,8 @@ returns-in-Ok-clause-reads g c l told records given s =
     let source = c.in-Ok-true.ensures.more (search rules) told records s.source in
     let going = going_on _ c.in-Ok-true.field-0 c.in-Ok-true.ensures.over (search rules) in
     let number = (c.in-Ok-true.ensures.counted (search rules)).0 in
-    let judged = c.in-Ok.ensures.read in
-    begins_next l g.R.Read.remaining told records given here (row_with c.in-Ok.root (points_held c.read_root.new.self)) c.args.self.now _ s c.requires.none c.requires.begun going source number c.read_root.ensures.limits refl judged c.in-Ok.ensures.begins.1
+    let first = c.in-Ok.ensures.read in
+    begins_next l g.R.Read.remaining told records given here c.args.self.now _ s c.requires.none c.requires.begun going source number c.read_root.ensures.limits refl first
 
 pub returns-in-Err-read_root-clause-reads : goal.returns-in-Err-read_root-clause-reads
 returns-in-Err-read_root-clause-reads g c l told records given s =

@@ -3,10 +3,10 @@ use Rattle.std.proofs.lemmas.Int.{to_z-of_z}
 use Rattle.std.specs.Cmp.Lexicographic.{other_text}
 use Rattle.std.specs.Fmt.{signed_decimal}
 use Rattle.twkb_table.proofs.DecimalLemmas.{no_text, no_number, other_spelling}
-use Rattle.twkb_table.proofs.decimal.parse_id.Goals as goal
+use Rattle.twkb_table.proofs.decimal.read_decimal.Goals as goal
 
-pub returns-in_default-from_utf8 : goal.returns-in_default-from_utf8
-returns-in_default-from_utf8 c = record { reads = no_text c.args.field.now c.in_default-from_utf8.ensures.cases.0 }
+pub returns-in_default : goal.returns-in_default
+returns-in_default c = record { reads = no_text c.args.field.now c.in_default.ensures.cases.0 }
 
 pub returns-in_default-parse : goal.returns-in_default-parse
 returns-in_default-parse c =

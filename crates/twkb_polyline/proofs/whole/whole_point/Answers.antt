@@ -1,0 +1,13 @@
+use Rattle.std.proofs.Common.{ap, rules, FitsSigned, w64}
+use Rattle.std.proofs.lemmas.Int.{to_z-of_z}
+use Rattle.twkb_points.specs.Point.{Point}
+use Rattle.twkb_polyline.proofs.PointLemmas.{point_read}
+use Rattle.twkb_polyline.proofs.whole.whole_point.Goals as goal
+
+pub returns-clause-read : goal.returns-clause-read
+returns-clause-read c =
+    let fits_x : FitsSigned w64 c.in_ok-dx.dx = search rules in
+    let fits_y : FitsSigned w64 c.in_ok-dy.dy = search rules in
+    let moved = simp to_z-of_z at c.in_ok-point.ensures.point in
+    point_read c.args.text.now c.args.start c.in_ok-dy.middle c.in_ok-dx.end c.in_ok-dx.dx c.in_ok-dy.dy c.args.cursor.now c.in_ok-point.point c.in_ok-dy.ensures c.in_ok-dx.ensures
+    (ap (λ (q : Point). q.x) moved) (ap (λ (q : Point). q.y) moved)

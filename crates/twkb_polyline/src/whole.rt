@@ -1,0 +1,74 @@
+//! Points whose numbers stand whole in a text.
+ghost use Rattle.std.specs.Prelude.{◌≡◌, ◌+◌, IfSome, IfNone};
+ghost use Rattle.twkb_points.specs.Point.{IsInRange};
+ghost use Rattle.twkb_polyline.specs.Reading.{IsNumberAt, IsPointAt, IsBegun};
+
+use twkb_num::{Five, Groups, unzigzag};
+use twkb_points::{Cursor, Pt};
+
+/// Bits of a group.
+const BITS: u32 = 5;
+
+/// The shift of a thirteenth group, the last that a number may have.
+const LAST_SHIFT: u32 = 12 * BITS;
+
+/// The point whose latitude begins at `start`, and where the text goes on. `None` says nothing.
+#[inline(always)]
+pub(crate) fn whole_point(text: &[u8], start: usize, cursor: &mut Cursor) -> Option<(Pt, usize)>
+    ensures read { IfSome result (λ r. IsPointAt text.now start cursor.old r.0 r.1) }
+    ensures in_range { IfSome result (λ r. IsInRange r.0) }
+    ensures moved { IfSome result (λ r. cursor.new ≡ r.0) }
+    ensures unmoved { IfNone result (cursor.new ≡ cursor.old) }
+{
+    let (dy, middle) = whole_number(text, start)?;
+    let (dx, end) = whole_number(text, middle)?;
+    let point = cursor.add(dx, dy)?;
+    Some((point, end))
+}
+
+/// The number that begins at `start`, and where the text goes on. `None` says nothing.
+#[inline(always)]
+fn whole_number(text: &[u8], start: usize) -> Option<(i64, usize)>
+    ensures { IfSome result (λ r. IsNumberAt text.now start r.0 r.1) }
+{
+    let (first, more) = Five::from_unit(*text.get(start)?)?;
+    let first = u64::from(first);
+    if !more {
+        return Some((unzigzag(first), start + 1));
+    }
+    let (second, more) = Five::from_unit(*text.get(start + 1)?)?;
+    let value = first + (u64::from(second) << BITS);
+    if more {
+        return long_number(text, start, value);
+    }
+    if second == 0 {
+        return None;
+    }
+    Some((unzigzag(value), start + 2))
+}
+
+/// The same of a number whose first two characters go on, and have this value.
+#[inline(always)]
+fn long_number(text: &[u8], start: usize, begun: u64) -> Option<(i64, usize)>
+    requires { IsBegun text.now start (start + 2) begun }
+    ensures { IfSome result (λ r. IsNumberAt text.now start r.0 r.1) }
+{
+    let mut value = begun;
+    let mut shift = 2 * BITS;
+    for at in start + 2..text.len() {
+        let (group, more) = Five::from_unit(text[at])?;
+        let group = u64::from(group);
+        if !more {
+            if group == 0 || group > u64::MAX >> shift {
+                return None;
+            }
+            return Some((unzigzag(value + (group << shift)), at + 1));
+        }
+        if shift == LAST_SHIFT {
+            return None;
+        }
+        value += group << shift;
+        shift += BITS;
+    }
+    None
+}
