@@ -19,19 +19,8 @@ pub fn front_number(bytes: &[u8]) -> Option<(u64, usize)>
         return Some((u64::from(first), 1));
     }
     let second = *bytes.get(1)?;
-    let low = u64::from(first - GOES_ON);
     if second < GOES_ON {
-        return Some((low + u64::from(second) * 128, 2));
-    }
-    let third = *bytes.get(2)?;
-    let low = low + u64::from(second - GOES_ON) * 128;
-    if third < GOES_ON {
-        return Some((low + u64::from(third) * 16384, 3));
-    }
-    let fourth = *bytes.get(3)?;
-    let low = low + u64::from(third - GOES_ON) * 16384;
-    if fourth < GOES_ON {
-        return Some((low + u64::from(fourth) * 2097152, 4));
+        return Some((u64::from(first - GOES_ON) + u64::from(second) * 128, 2));
     }
     long_number(bytes)
 }
