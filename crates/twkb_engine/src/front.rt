@@ -1,6 +1,7 @@
 //! What stands whole in front of bytes: a number, or a point by its two steps.
 ghost use Rattle.std.specs.Prelude.{◌≡◌, ◌++◌, ◌∷◌, [], IfSome, take};
 ghost use Rattle.twkb_num.specs.Varint.{IsVarint};
+ghost use Rattle.twkb_points.specs.Point.{origin};
 ghost use Rattle.twkb_engine.specs.Front.{NumberInFront, PointInFront};
 
 use crate::motion::{moved_x, moved_y};
@@ -41,6 +42,28 @@ fn long_number(bytes: &[u8]) -> Option<(u64, usize)>
     None
 }
 
+/// The same, without a loop up to four bytes, as most numbers of a place on the earth have.
+#[inline(always)]
+pub fn place_number(bytes: &[u8]) -> Option<(u64, usize)>
+    ensures { IfSome result (λ front. NumberInFront bytes.now front.0 front.1) }
+{
+    let [first, second, third, fourth, ..] = bytes else {
+        return front_number(bytes);
+    };
+    if *first < GOES_ON || *second < GOES_ON {
+        return front_number(bytes);
+    }
+    let low = u64::from(*first - GOES_ON) + u64::from(*second - GOES_ON) * 128;
+    if *third < GOES_ON {
+        return Some((low + u64::from(*third) * 16_384, 3));
+    }
+    let low = low + u64::from(*third - GOES_ON) * 16_384;
+    if *fourth < GOES_ON {
+        return Some((low + u64::from(*fourth) * 2_097_152, 4));
+    }
+    long_number(bytes)
+}
+
 /// The point that two steps in front lead to, and how many bytes they have; `None` where they are not whole, or lead out of
 /// range.
 pub fn front_point(from: Pt, bytes: &[u8]) -> Option<(Pt, usize)>
@@ -50,5 +73,16 @@ pub fn front_point(from: Pt, bytes: &[u8]) -> Option<(Pt, usize)>
     let (y, height) = front_number(&bytes[width..])?;
     let beside = moved_x(from, unzigzag(x))?;
     let to = moved_y(beside, unzigzag(y))?;
+    Some((to, width + height))
+}
+
+/// The same for a geometry's first point, whose steps count from the origin.
+#[inline(always)]
+pub fn first_point(bytes: &[u8]) -> Option<(Pt, usize)>
+    ensures { IfSome result (λ front. PointInFront origin bytes.now front.0 front.1) }
+{
+    let (x, width) = place_number(bytes)?;
+    let (y, height) = place_number(&bytes[width..])?;
+    let to = Pt::try_new(unzigzag(x), unzigzag(y))?;
     Some((to, width + height))
 }

@@ -3,9 +3,8 @@ ghost use Rattle.std.specs.Prelude.{◌≡◌, ◌<◌, ◌≤◌, IfSome, take,
 ghost use Rattle.twkb_grammar.specs.Blob.{Blob};
 ghost use Rattle.twkb_engine.specs.Front.{SizedPoint, PointBlob};
 
-use crate::front::{front_number, front_point};
+use crate::front::{first_point, front_number};
 use crate::header::precision_at;
-use crate::motion::origin;
 use crate::phase::build;
 use crate::place::Head;
 use twkb_geom::{Geometry, Limits, Shape};
@@ -42,7 +41,7 @@ fn sized_point(bytes: &[u8]) -> Option<Sized>
     ensures { IfSome result (λ point. SizedPoint bytes.now point.to point.used) }
 {
     let (size, width) = front_number(bytes)?;
-    let (to, count) = front_point(origin(), &bytes[width..])?;
+    let (to, count) = first_point(&bytes[width..])?;
     if size != count as u64 {
         return None;
     }
