@@ -1,5 +1,5 @@
 -- What a byte that is fed adds to the notes.
-use Rattle.std.proofs.Common.{◌≡◌, ◌⊎◌, inl, inr, ℕ, suc, ◌+◌, ◌-◌, ◌<◌, ◌≤◌, ◌^◌, List, [], ◌∷◌, ◌++◌, length, refl, sym, ap, ◌∙◌, subst, arith, min, take, Option, Some, None, Err}
+use Rattle.std.proofs.Common.{◌≡◌, inl, inr, ℕ, ◌+◌, ◌<◌, ◌^◌, List, [], ◌∷◌, ◌++◌, length, refl, sym, ap, ◌∙◌, subst, arith, Err}
 use Rattle.twkb_num.specs.Varint.{IsOpenVarint}
 use Rattle.twkb_geom.specs.Tree.{Tree, flat, saturated}
 use Rattle.twkb_geom.specs.Limits.{Allowance, IsAllowance}
@@ -7,14 +7,14 @@ use Rattle.twkb_grammar.specs.Roles.{Item, join}
 use Rattle.twkb_grammar.specs.Blob.{Blob}
 use Rattle.twkb_grammar.specs.Machine as machine
 use Rattle.twkb_grammar.specs.Machine.{Sums, Stack, nothing, started}
-use Rattle.twkb_grammar.specs.Reading.{Reached, Stands, frame_count, open_after}
+use Rattle.twkb_grammar.specs.Reading.{Stands, frame_count}
 use Rattle.twkb_grammar.specs.Spans.{spans_of_blob}
 use Rattle.twkb_grammar.specs.Noting.{Notes, no_notes, noted, note_byte, note_ends_to, notes_of, IsCalm}
 use Rattle.twkb_grammar.proofs.Streams.{first_item}
 use Rattle.twkb_grammar.proofs.Frames.{reached_frames, reached_few}
 use Rattle.twkb_grammar.proofs.NotedEnds.{all_open}
 use Rattle.twkb_grammar.proofs.Following.{goes_on, ends_blob}
-use Rattle.twkb_engine.specs.State.{phase_of, IsSpelled}
+use Rattle.twkb_engine.specs.State.{phase_of}
 use Rattle.twkb_engine.specs.Frames.{frames_of}
 use Rattle.twkb_engine.specs.Open.{open_inside, awaited_at}
 use Rattle.twkb_engine.specs.Decoding.{sums_of, stack_of}

@@ -54,9 +54,13 @@ impl Session {
         if taken > MAX_BYTES || piece.len() as u64 > MAX_BYTES - taken {
             return Err(BlobFault::Device(InFault::TooLong));
         }
-        if self.engine.hold(piece) {
-            self.spent = false;
-            return Ok((1, None));
+        match self.engine.take_byte(piece) {
+            Ok(true) => {
+                self.spent = false;
+                return Ok((1, None));
+            }
+            Ok(false) => {}
+            Err(stop) => return Err(fault_at(self.start + self.engine.offset(), stop)),
         }
         match self.engine.feed(piece) {
             Ok((used, None)) => {
@@ -68,10 +72,7 @@ impl Session {
                 self.spent = false;
                 Ok((used, Some(geometry)))
             }
-            Err(stop) => {
-                let offset = self.start + self.engine.offset();
-                Err(fault_at(offset, stop))
-            }
+            Err(stop) => Err(fault_at(self.start + self.engine.offset(), stop)),
         }
     }
 

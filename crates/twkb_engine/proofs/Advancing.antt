@@ -1,13 +1,12 @@
 -- An item is added.
-use Rattle.std.proofs.Common.{◌≡◌, ℕ, ◌+◌, ◌≤◌, List, length, refl, sym, ap, ◌∙◌, subst, Option, Result, Ok, Some, None}
+use Rattle.std.proofs.Common.{◌≡◌, ℕ, ◌+◌, length, refl, subst, Some, None}
 use Rattle.twkb_points.specs.Point.{Point}
 use Rattle.twkb_geom.specs.Limits.{Allowance}
 use Rattle.twkb_grammar.specs.Fault.{nodes_by, points_by, moved}
 use Rattle.twkb_grammar.specs.Roles.{Item, Role, Header, Metadata, Id, X, Y, Count}
 use Rattle.twkb_grammar.specs.PlainReader.{objection}
-use Rattle.twkb_grammar.specs.Machine.{Sums, Stack, added, stack_after, advanced, role_at, phase_role, kind_number, first_count, listed}
-use Rattle.twkb_grammar.specs.Machine as machine
-use Rattle.twkb_engine.specs.State.{phase_of, next_of, kind_of, many_of, role_of_part}
+use Rattle.twkb_grammar.specs.Machine.{Sums, Stack, added, role_at, phase_role, kind_number, first_count, listed}
+use Rattle.twkb_engine.specs.State.{phase_of, kind_of, many_of, role_of_part}
 use Rattle.twkb_engine.specs.Decoding.{refusal, objection_at}
 use Rattle.twkb_engine.specs.declared.phase.Axis.TheVariants as axis
 use Rattle.twkb_engine.specs.declared.phase.Phase.{Phase}

@@ -1,5 +1,5 @@
 -- A value is done, and closes what it stands in.
-use Rattle.std.proofs.Common.{◌≡◌, ℕ, zero, suc, ◌+◌, ◌-◌, ◌<◌, List, [], ◌∷◌, ◌++◌, length, refl, sym, subst, length-append, arith}
+use Rattle.std.proofs.Common.{◌≡◌, ℕ, zero, suc, ◌+◌, ◌-◌, List, [], ◌∷◌, ◌++◌, length, refl, subst, length-append, arith}
 use Rattle.twkb_grammar.specs.Machine.{Nested}
 use Rattle.twkb_engine.specs.State.{Spot, one_of, wanted, shut, opening}
 use Rattle.twkb_engine.specs.Fitting.{AreaFits, AreaAwaits, LineFits, LineAwaits}

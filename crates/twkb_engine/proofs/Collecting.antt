@@ -1,17 +1,15 @@
 -- Collections begin, go on and end.
-use Rattle.std.proofs.Common.{true, Ok, length, ◌≡◌, ℕ, zero, suc, ◌+◌, ◌-◌, ◌<◌, List, [], ◌∷◌, ◌++◌, refl, ap, sym, subst, ◌∙◌, arith, Some, None}
-use Rattle.std.specs.Prelude.{ℤ}
+use Rattle.std.proofs.Common.{true, Ok, length, ◌≡◌, ℕ, zero, suc, ◌+◌, ◌-◌, ◌<◌, List, [], ◌∷◌, ◌++◌, refl, ap, ◌∙◌, arith}
 use Rattle.std.specs.List.{AllByRecursion}
-use Rattle.twkb_geom.specs.Tree.{Tree, Ids, ◌▷◌, collection, trees}
+use Rattle.twkb_geom.specs.Tree.{Tree, ◌▷◌, collection, trees}
 use Rattle.twkb_grammar.specs.PlainReader.{is_exact as exact}
 use Rattle.twkb_grammar.specs.Reading.{past_end}
 use Rattle.twkb_grammar.specs.Machine.{Stack, members_begin, ManyGeometries, Many, AtHeader, AtId, snoc}
 use Rattle.twkb_grammar.specs.Machine as machine
-use Rattle.twkb_engine.specs.State.{head_of, many_of}
-use Rattle.twkb_engine.specs.Frames.{frame_of, frames_of, frames_from, id_taken}
+use Rattle.twkb_engine.specs.State.{head_of}
+use Rattle.twkb_engine.specs.Frames.{frame_of, frames_of, frames_from}
 use Rattle.twkb_engine.specs.Fitting.{FrameFits}
 use Rattle.twkb_engine.specs.declared.frames.Frame.{Frame}
-use Rattle.twkb_engine.specs.declared.place.Head.{Head}
 
 less_one : (k : ℕ) → suc k - 1 ≡ k
 less_one k = omega arith

@@ -1,5 +1,5 @@
 -- An engine takes the bytes of a piece, and comes to the end of the bytes.
-use Rattle.std.proofs.Common.{◌≡◌, ◌⊎◌, inl, inr, ℕ, ◌+◌, ◌-◌, ◌<◌, ◌≤◌, List, [], ◌∷◌, ◌++◌, length, take, drop, get_or, refl, sym, ap, ◌∙◌, subst, append_assoc, Option, Result, Some, None, Ok, Err, arith}
+use Rattle.std.proofs.Common.{◌≡◌, ◌⊎◌, inl, inr, ℕ, ◌+◌, ◌-◌, ◌<◌, ◌≤◌, List, [], ◌∷◌, ◌++◌, length, take, drop, get_or, refl, sym, ap, ◌∙◌, subst, append_assoc, Option, Result, Some, Ok, Err, arith}
 use Rattle.std.proofs.Math.Seq.{take-suc, take-add}
 use Rattle.std.proofs.lemmas.List.{append-nil, length-drop, take_rest}
 use Rattle.twkb_geom.specs.Tree.{Tree}
@@ -8,7 +8,7 @@ use Rattle.twkb_grammar.specs.Fault.{FirstFault}
 use Rattle.twkb_grammar.specs.Blob.{Blob}
 use Rattle.twkb_engine.specs.State.{IsSpelled}
 use Rattle.twkb_engine.specs.Frames.{reason_of}
-use Rattle.twkb_engine.specs.Standing.{StandsAt, IsStep, IsTakenFrom, IsFed, MadeIn, RefusedIn, offset_in}
+use Rattle.twkb_engine.specs.Standing.{IsStep, IsTakenFrom, IsFed, offset_in}
 use Rattle.twkb_engine.specs.declared.engine.Engine.{Engine}
 use Rattle.twkb_engine.specs.declared.phase.Phase.{Phase}
 use Rattle.twkb_engine.specs.declared.stop.Stop.{Stop}
@@ -52,6 +52,16 @@ refused limits own bs piece used (Refused r) d same within (count, some, few, h)
   within = one_within piece used count within few;
   fault = λ more. subst (λ l. FirstFault l ((bs ++ take (used + count) piece) ++ more) (offset_in d) (reason_of r)) same
       (subst (λ l. FirstFault own (l ++ more) (offset_in d) (reason_of r)) (one_front bs piece used count) (h more));
+}
+
+-- a byte of an item that is refused, as a piece
+pub byte_refused : (limits : Allowance) (bs piece : List ℕ) (stop : Stop) (d : Engine) → 1 ≤ length piece → IsStep limits (bs ++ get_or piece 0 0 ∷ []) (Err stop) d → IsFed limits bs piece (Err stop) d
+byte_refused limits bs piece Memory d some h = tt
+byte_refused limits bs piece (Refused r) d some h = record {
+  used = 1;
+  some = omega arith;
+  within = some;
+  fault = λ more. subst (λ l. FirstFault limits ((bs ++ l) ++ more) (offset_in d) (reason_of r)) (sym (first_byte piece some)) (h more);
 }
 
 -- a list of length 0

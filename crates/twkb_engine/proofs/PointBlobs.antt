@@ -1,13 +1,13 @@
 -- A point behind its header and its size is a blob.
-use Rattle.std.proofs.Common.{◌≡◌, ℕ, ◌+◌, ◌-◌, ◌*◌, ◌/◌, ◌%◌, ◌<◌, ◌≤◌, List, [], ◌∷◌, ◌++◌, length, take, drop, get_or, ℤ, true, refl, sym, ap, ◌∙◌, subst, append-nil, Option, Some, None, Ok, IfSome, arith}
+use Rattle.std.proofs.Common.{◌≡◌, ℕ, ◌+◌, ◌-◌, ◌/◌, ◌%◌, ◌<◌, List, [], ◌∷◌, ◌++◌, length, take, drop, get_or, ℤ, refl, sym, ap, ◌∙◌, subst, append-nil, Option, Some, None, Ok, IfSome, arith}
 use Rattle.std.proofs.Math.Seq.{take-suc, take-add}
 use Rattle.std.proofs.lemmas.List.{length-drop, length-take-le, take_rest}
 use Rattle.twkb_num.specs.Zigzag.{zigzag_of, unzigzag_of}
 use Rattle.twkb_num.proofs.ZigzagLemmas.{zigzag_of-unzigzag_of}
-use Rattle.twkb_points.specs.Point.{Point, IsInRange, origin, moved_by}
+use Rattle.twkb_points.specs.Point.{Point, IsInRange, origin}
 use Rattle.twkb_points.specs.Differences.{differences}
 use Rattle.twkb_points.proofs.DifferenceLemmas.{differences-points_of}
-use Rattle.twkb_geom.specs.Tree.{Tree, simple, point, IsPrecision}
+use Rattle.twkb_geom.specs.Tree.{simple, point, IsPrecision}
 use Rattle.twkb_geom.specs.Limits.{Allowance, IsAllowance}
 use Rattle.twkb_grammar.specs.Roles.{Item, Header, Metadata, Size, X, Y, AreFields, item}
 use Rattle.twkb_grammar.specs.Items.{header_byte, end_item, filled, OfPoint}

@@ -1,15 +1,14 @@
 -- Points of a list lead a reader on.
-use Rattle.std.proofs.Common.{◌≡◌, ℕ, zero, suc, ◌+◌, ◌-◌, ◌≤◌, List, [], ◌∷◌, ◌++◌, length, take, drop, true, refl, sym, ap, ◌∙◌, subst, append_assoc, append-nil, length-append, Option, Some, None, arith}
+use Rattle.std.proofs.Common.{◌≡◌, ℕ, zero, suc, ◌+◌, ◌-◌, ◌≤◌, List, [], ◌∷◌, ◌++◌, length, take, drop, true, refl, sym, ap, ◌∙◌, subst, append_assoc, append-nil, length-append, None, arith}
 use Rattle.std.specs.Prelude.{not, ◌+ℤ◌}
 use Rattle.std.proofs.Math.Seq.{take-add}
 use Rattle.std.proofs.lemmas.List.{length-drop, take_rest}
 use Rattle.twkb_num.specs.Zigzag.{unzigzag_of}
 use Rattle.twkb_points.specs.Point.{Point, point_at}
-use Rattle.twkb_geom.specs.Limits.{Allowance}
-use Rattle.twkb_grammar.specs.Fault.{Reason, CoordinateRange}
+use Rattle.twkb_grammar.specs.Fault.{CoordinateRange}
 use Rattle.twkb_grammar.specs.Roles.{Item, X, Y}
-use Rattle.twkb_grammar.specs.Machine.{Sums, Frame, Phase, AtBody, WantY, added}
-use Rattle.twkb_grammar.specs.PlainReader.{in_range, unless, objection}
+use Rattle.twkb_grammar.specs.Machine.{Phase, AtBody, WantY, added}
+use Rattle.twkb_grammar.specs.PlainReader.{in_range, unless}
 use Rattle.twkb_grammar.specs.Reading.{Reached, Leads}
 use Rattle.twkb_grammar.proofs.Reaching.{leads}
 use Rattle.twkb_engine.specs.State.{Spot, one_of, wanted}

@@ -1,21 +1,23 @@
 -- An engine takes a byte.
-use Rattle.std.proofs.Common.{◌≡◌, ◌⊎◌, inl, inr, ℕ, ◌+◌, ◌<◌, ◌≤◌, ◌^◌, List, [], ◌∷◌, ◌++◌, length, refl, sym, ap, ◌∙◌, subst, append_assoc, length-append, get_or, Option, Some, None, Result, Ok, Err, arith}
+use Rattle.std.proofs.Common.{◌≡◌, ◌⊎◌, inl, inr, ℕ, ◌+◌, ◌<◌, ◌≤◌, List, [], ◌∷◌, ◌++◌, length, refl, sym, ap, ◌∙◌, subst, append_assoc, length-append, get_or, true, Option, Some, None, Result, Ok, Err, arith}
 use Rattle.std.proofs.lemmas.List.{append-nil}
 use Rattle.std.specs.List.{AllByRecursion}
 use Rattle.twkb_num.specs.Varint.{IsVarint, IsOpenVarint}
 use Rattle.twkb_geom.specs.Tree.{Tree}
 use Rattle.twkb_geom.specs.Limits.{Allowance}
 use Rattle.twkb_grammar.specs.Fault as fault
-use Rattle.twkb_grammar.specs.Fault.{FirstFault, IsTooLong, IsCut}
-use Rattle.twkb_grammar.specs.Roles.{Item, Role, IsNumber, End}
+use Rattle.twkb_grammar.specs.Fault.{FirstFault, IsTooLong, IsCut, BadVarint}
+use Rattle.twkb_grammar.specs.Roles.{Item, IsNumber, End}
 use Rattle.twkb_grammar.specs.Blob.{Blob}
 use Rattle.twkb_grammar.specs.PlainReader.{objection}
-use Rattle.twkb_grammar.specs.Machine.{Sums, Stack, Finished, nothing, started, added, phase_role}
+use Rattle.twkb_grammar.specs.Machine.{Sums, Stack, Finished, nothing, started, added, role_at}
 use Rattle.twkb_grammar.specs.Reading.{Reached, Gives, Landed, Leads}
-use Rattle.twkb_engine.specs.State.{phase_of, IsSpelled, IsByte}
-use Rattle.twkb_engine.specs.Frames.{reason_of}
+use Rattle.twkb_grammar.proofs.Reaching.{leads, reached_nothing, reached_blob, reached_long}
+use Rattle.twkb_engine.specs.State.{IsSpelled, IsByte}
+use Rattle.twkb_engine.specs.Frames.{reason_of, frames_of}
 use Rattle.twkb_engine.specs.Decoding.{sums_of, stack_of}
 use Rattle.twkb_engine.specs.Taking.{way, IsLanded, IsRefused, IsTaken, IsTakenBy}
+use Rattle.twkb_engine.specs.Pairs.{stands_within}
 use Rattle.twkb_engine.specs.Standing.{StandsAt, IsStep, allowance_of, held_in, offset_in}
 use Rattle.twkb_engine.specs.declared.engine.Engine.{Engine}
 use Rattle.twkb_engine.specs.declared.phase.Axis.TheVariants as axis
@@ -160,3 +162,37 @@ held_more bs u d p spelled held s = record {
   reached = s.reached;
   spelled = inl spelled;
 }
+
+-- a coordinate's place is a number's
+pub spelled_within : (p : Phase) → stands_within p ≡ true → IsSpelled p
+spelled_within phase.Header e = cc
+spelled_within (phase.Metadata k precision) e = cc
+spelled_within (phase.Optional k head part.Extended) e = cc
+spelled_within _ e = tt
+
+-- what the grammar says of the last byte of a number, and the code of what it did with the number
+pub number_stepped : (bs : List ℕ) (u value : ℕ) (d e : Engine) (r : Result (Option Tree) Stop) → StandsAt bs d → IsSpelled d.builder.phase → IsVarint (held_in d ++ u ∷ []) value → allowance_of e ≡ allowance_of d → held_in e ≡ []
+    → ((i : Item) → role_at (sums_of d.builder) (stack_of d.builder) ≡ Some i.role → i.number ≡ value → length i.bytes ≡ length (held_in d) + 1 → IsTaken (allowance_of d) (sums_of d.builder) (stack_of d.builder) i r e.builder)
+    → IsStep (allowance_of d) (bs ++ u ∷ []) r e
+number_stepped bs u value d e r s spelled v same none taken =
+    let b = d.builder in
+    let limits = allowance_of d in
+    let level = length (frames_of b.frames.items) in
+    let role = has_role level b.bytes b.phase in
+    let whole : List ℕ = held_in d ++ u ∷ [] in
+    let i : Item = record { role = role.0; number = value; bytes = whole } in
+    let w = number_written level b.bytes value whole b.phase v spelled in
+    let lead = leads limits s.front (sums_of b) (stack_of b) i s.reached role.1 w in
+    let at : s.front ++ whole ≡ bs ++ u ∷ [] = sym (ap (λ l. l ++ u ∷ []) s.whole ∙ append_assoc s.front (held_in d) (u ∷ [])) in
+    subst (λ l. IsStep limits l r e) at
+    (stepped limits s.front (sums_of b) (stack_of b) i r e (reached_blob limits) (reached_nothing limits b.sound) same none (objection limits (sums_of b) i.role i.number) refl lead
+    (taken i role.1 refl (length-append (held_in d) (u ∷ []))))
+
+-- what the grammar says of a byte behind nine that go on
+pub long_refused : (bs more : List ℕ) (u : ℕ) (d : Engine) → StandsAt bs d → IsSpelled d.builder.phase → IsOpenVarint (held_in d) → length (held_in d) ≡ 9 → 2 ≤ u → FirstFault (allowance_of d) ((bs ++ u ∷ []) ++ more) (offset_in d) BadVarint
+long_refused bs more u d s spelled begun nine above =
+    let b = d.builder in
+    let level = length (frames_of b.frames.items) in
+    let role = has_role level b.bytes b.phase in
+    subst (λ l. FirstFault b.limits l b.bytes BadVarint) (held_bytes bs s.front (held_in d) more u s.whole)
+    (reached_long b.limits s.front (sums_of b) (stack_of b) (held_in d ++ u ∷ more) role.0 s.reached role.1 (is_number level b.bytes b.phase spelled) (too_long (held_in d) u more begun nine above))

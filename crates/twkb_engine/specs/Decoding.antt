@@ -1,5 +1,5 @@
 -- A builder as a state of the item machine, and why it refuses an item.
-use Rattle.std.specs.Prelude.{◌≡◌, ℕ, ◌+◌, ◌%◌, ◌||◌, nat_eq, nat_lt, Option, Some, None}
+use Rattle.std.specs.Prelude.{ℕ, ◌%◌, ◌||◌, nat_eq, nat_lt, Option, Some, None}
 use Rattle.twkb_geom.specs.Limits.{Allowance}
 use Rattle.twkb_grammar.specs.Fault as fault
 use Rattle.twkb_grammar.specs.PlainReader.{objection, unless}

@@ -1,6 +1,5 @@
 -- What the parts of an unfinished geometry keep, so that a geometry can be made of them once they are done.
-use Rattle.std.specs.Prelude.{◌≡◌, ℕ, ◌+◌, ◌<◌, List, [], ◌∷◌, length, Some, None, ⊤}
-use Rattle.std.specs.List.{AllByRecursion}
+use Rattle.std.specs.Prelude.{◌≡◌, ℕ, ◌+◌, length, ⊤}
 use Rattle.twkb_geom.specs.Tree.{IsPrecision, HasIds}
 use Rattle.twkb_engine.specs.declared.place.AreasPlace.{AreasPlace}
 use Rattle.twkb_engine.specs.declared.place.AreaPlace.{AreaPlace}

@@ -1,5 +1,5 @@
 -- The engine's fields as a state of the item machine of the grammar.
-use Rattle.std.specs.Prelude.{ℕ, zero, suc, ◌+◌, ℤ, List, [], ◌∷◌, ◌++◌, Option, Some, None, ⊤}
+use Rattle.std.specs.Prelude.{ℕ, zero, suc, List, [], ◌∷◌, ◌++◌, None, ⊤}
 use Rattle.twkb_geom.specs.Tree.{Ids}
 use Rattle.twkb_grammar.specs.Bits.{bit}
 use Rattle.twkb_grammar.specs.Roles as role

@@ -1,5 +1,5 @@
 -- What the taking of an item answers.
-use Rattle.std.specs.Prelude.{◌≡◌, ℕ, [], Bool, true, false, Option, Some, None, Result, Ok, Err, ⊤}
+use Rattle.std.specs.Prelude.{◌≡◌, [], Bool, true, false, Option, Some, None, Result, Ok, Err, ⊤}
 use Rattle.twkb_geom.specs.Tree.{Tree}
 use Rattle.twkb_geom.specs.Limits.{Allowance}
 use Rattle.twkb_grammar.specs.Fault as fault

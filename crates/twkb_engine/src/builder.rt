@@ -9,10 +9,10 @@ ghost use Rattle.twkb_grammar.specs.Roles.{Role, Metadata, Count, Item};
 ghost use Rattle.twkb_grammar.specs.Machine.{role_at, kind_number, first_count, added, advanced, nothing, started};
 ghost use Rattle.twkb_grammar.specs.PlainReader.{is_exact as exact};
 ghost use Rattle.twkb_grammar.specs.Reading.{past_end, ends, Reached};
-ghost use Rattle.twkb_engine.specs.State.{next_of, phase_of, kind_of, many_of, IsSpelled, IsByte};
+ghost use Rattle.twkb_engine.specs.State.{next_of, phase_of, kind_of, many_of, IsSpelled};
 ghost use Rattle.twkb_engine.specs.Frames.{frames_of};
 ghost use Rattle.twkb_engine.specs.Open.{open_of, awaited_at};
-ghost use Rattle.twkb_engine.specs.Pairs.{LeadsOn};
+ghost use Rattle.twkb_engine.specs.Pairs.{LeadsOn, stands_within};
 ghost use Rattle.twkb_engine.specs.Fitting.{FrameFits, PhaseFits, NextFits};
 ghost use Rattle.twkb_engine.specs.FittingProps.{phase_prop, frames_prop, allowance_prop};
 
@@ -23,7 +23,7 @@ use crate::header::{EMPTY, bad_type, has_bit};
 use crate::in_place::{lone_point, take_in_place};
 use crate::motion::{moved_x, moved_y, origin};
 use crate::pairs::take_points;
-use crate::phase::{Axis, Kind, Many, Next, Optional, Phase, wants_byte};
+use crate::phase::{Axis, Kind, Many, Next, Optional, Phase};
 use crate::place::Head;
 use crate::steps::{announced, next};
 use crate::stop::Stop;
@@ -261,6 +261,7 @@ impl Builder {
         ensures frames { self.new.frames ≡ self.old.frames }
         ensures taken { IfOk result (λ taken. taken ≡ true → LeadsOn self.old.position self.old.bytes number self.old.phase self.new.phase) }
         ensures left { IfOk result (λ taken. taken ≡ false → self.new.phase ≡ self.old.phase) }
+        ensures within { stands_within self.old.phase ≡ true → IfOk result (λ taken. taken ≡ true) }
     {
         take_in_place(&mut self.phase, self.position, self.bytes, number)
     }
@@ -347,24 +348,24 @@ impl Builder {
         self.land(next)
     }
 
-    /// Whether the next item is a byte, and no number.
-    pub fn wants_byte(&self) -> bool
-        ensures spelled { (result ≡ false) → IsSpelled self.now.phase }
-        ensures byte { (result ≡ true) → IsByte self.now.phase }
+    /// What the next item is for.
+    pub fn phase(&self) -> &Phase
+        ensures { result.now ≡ self.now.phase }
     {
-        wants_byte(&self.phase)
+        &self.phase
     }
 
     /// Adds an item with this number, which has so many bytes, and takes it where it leads on within a header or a list; answers
     /// whether it did. Where it did not, what it leads to is left to `close`.
     #[inline(never)]
-    fn take_on(&mut self, number: u64, length: u64) -> Result<bool, Stop>
+    pub fn take_on(&mut self, number: u64, length: u64) -> Result<bool, Stop>
         requires byte { number < 256 ⊎ IsSpelled self.old.phase }
         requires some { 0 < length }
         requires room { self.old.bytes + length + 1 < 2 ^ 64 }
         ensures limits { self.new.limits ≡ self.old.limits }
         ensures bytes { self.new.bytes ≤ self.old.bytes + length }
         ensures left { IfOk result (λ taken. taken ≡ false → (self.new.phase ≡ self.old.phase) × (length_of self.new.frames.items < self.new.bytes)) }
+        ensures within { stands_within self.old.phase ≡ true → IfOk result (λ taken. taken ≡ true) }
         ensures taken { (i : Item) → role_at (sums_of self.old) (stack_of self.old) ≡ Some i.role → i.number ≡ number → length_of i.bytes ≡ length
             → IsTakenOn self.old.limits (sums_of self.old) (stack_of self.old) i result self.new }
     {

@@ -1,13 +1,16 @@
 //! A blob that is read byte by byte.
-ghost use Rattle.std.specs.Prelude.{◌≡◌, IfOk, IfErr, IfSome, Ok, Some, take, ◌+◌, ◌<◌, ◌≤◌, ◌^◌, ◌++◌, ◌∷◌, [], List, ℕ, true, false, length as length_of};
+ghost use Rattle.std.specs.Prelude.{◌≡◌, IfOk, IfErr, IfSome, Ok, Err, Some, take, ◌+◌, ◌<◌, ◌≤◌, ◌^◌, ◌++◌, ◌∷◌, [], List, ℕ, true, false, length as length_of};
 ghost use Rattle.twkb_num.specs.Varint.{IsOpenVarint};
 ghost use Rattle.twkb_engine.specs.Decoding.{stack_of};
+ghost use Rattle.twkb_engine.specs.Pairs.{stands_within as within_list};
 ghost use Rattle.twkb_engine.specs.Standing.{StandsAt, IsStep, IsTakenFrom, IsFed, IsEnd, count_of, offset_in, points_in, awaited_in, held_in, open_in, allowance_of};
 
 use crate::awaited::Awaited;
 use crate::blob_reason::BlobReason;
 use crate::builder::Builder;
 use crate::front::GOES_ON;
+use crate::in_place::stands_within;
+use crate::phase::wants_byte;
 use crate::point_blob::{Made, front_blob};
 use crate::stop::Stop;
 use std::alloc::Global;
@@ -52,7 +55,7 @@ impl Engine {
         twkb_num::laws::long_varints();
         twkb_grammar::laws::reading();
         let length = self.partial.len() as u64 + 1;
-        if self.builder.wants_byte() {
+        if wants_byte(self.builder.phase()) {
             return self.builder.take(u64::from(byte), 1);
         }
         match self.partial.step(byte) {
@@ -122,15 +125,15 @@ impl Engine {
             return Ok((used, None));
         }
         match self.step(rest[0]) {
-            Ok(found) => Ok((1, found)),
+            Ok(None) => Ok((1, None)),
+            Ok(Some(geometry)) => Ok((1, Some(geometry))),
             Err(stop) => Err(stop),
         }
     }
 
-    /// Takes a piece that is one byte of a number which goes on behind it; answers whether it did. It does what `feed` does
-    /// with that piece, in less time. Takes no memory.
+    /// Takes a piece that is one byte of a number which goes on behind it; answers whether it did. Takes no memory.
     #[inline(always)]
-    pub fn hold(&mut self, piece: &[u8]) -> bool
+    fn hold(&mut self, piece: &[u8]) -> bool
         ensures limits { allowance_of self.new ≡ allowance_of self.old }
         ensures count { count_of self.new ≤ count_of self.old + length_of piece.now }
         ensures fed { result ≡ true → (bs : List ℕ) → StandsAt bs self.old → IsFed (allowance_of self.old) bs piece.now (Ok (1, None)) self.new }
@@ -141,11 +144,63 @@ impl Engine {
         let [byte] = piece else {
             return false;
         };
-        if *byte < GOES_ON || self.partial.len() == MOST_HELD || self.builder.wants_byte() {
+        if *byte < GOES_ON || self.partial.len() == MOST_HELD || wants_byte(self.builder.phase()) {
             return false;
         }
         self.partial.step(*byte);
         true
+    }
+
+    /// Takes a byte of a coordinate that ends no list and no geometry.
+    #[inline(never)]
+    fn step_within(&mut self, byte: u8) -> Result<(), Stop>
+        requires room { count_of self.old < 2 ^ 63 }
+        requires within { within_list self.old.builder.phase ≡ true }
+        ensures limits { allowance_of self.new ≡ allowance_of self.old }
+        ensures count { count_of self.new ≤ count_of self.old + 1 }
+        ensures done { IfOk result (λ _. (bs : List ℕ) → StandsAt bs self.old → StandsAt (bs ++ byte ∷ []) self.new) }
+        ensures refused { IfErr result (λ stop. (bs : List ℕ) → StandsAt bs self.old → IsStep (allowance_of self.old) (bs ++ byte ∷ []) (Err stop) self.new) }
+    {
+        twkb_num::laws::varints();
+        twkb_num::laws::long_varints();
+        let length = self.partial.len() as u64 + 1;
+        match self.partial.step(byte) {
+            Step::More => Ok(()),
+            Step::Done { value, .. } => {
+                match self.builder.take_on(value, length) {
+                    Ok(_) => Ok(()),
+                    Err(stop) => Err(stop),
+                }
+            }
+            Step::TooLong => Err(Stop::Refused(BlobReason::BadVarint)),
+            Step::BadUnit => Err(Stop::Refused(BlobReason::BadVarint)),
+        }
+    }
+
+    /// Takes a piece that is one byte, where that goes on with a number, or is one of a coordinate that ends no list and no
+    /// geometry; answers whether it did. It does what `feed` does with that piece, in less time. A point takes memory.
+    #[inline(always)]
+    pub fn take_byte(&mut self, piece: &[u8]) -> Result<bool, Stop>
+        requires room { count_of self.old + length_of piece.now ≤ 2 ^ 63 }
+        ensures limits { allowance_of self.new ≡ allowance_of self.old }
+        ensures count { count_of self.new ≤ count_of self.old + length_of piece.now }
+        ensures taken { IfOk result (λ taken. taken ≡ true → (bs : List ℕ) → StandsAt bs self.old → IsFed (allowance_of self.old) bs piece.now (Ok (1, None)) self.new) }
+        ensures left { IfOk result (λ taken. taken ≡ false → self.new ≡ self.old) }
+        ensures refused { IfErr result (λ stop. (bs : List ℕ) → StandsAt bs self.old → IsFed (allowance_of self.old) bs piece.now (Err stop) self.new) }
+    {
+        if self.hold(piece) {
+            return Ok(true);
+        }
+        let [byte] = piece else {
+            return Ok(false);
+        };
+        if !stands_within(self.builder.phase()) {
+            return Ok(false);
+        }
+        match self.step_within(*byte) {
+            Ok(()) => Ok(true),
+            Err(stop) => Err(stop),
+        }
     }
 
     /// Takes bytes up to the end of a geometry, else all of them, and answers how many. An item that is kept takes memory.

@@ -6,7 +6,7 @@ ghost use Rattle.twkb_points.specs.Point.{Point};
 ghost use Rattle.twkb_geom.specs.Tree.{IsPrecision};
 ghost use Rattle.twkb_engine.specs.State.{wanted, shut, point_spot, phase_of, kind_of, head_of, placed, IsSpelled};
 ghost use Rattle.twkb_engine.specs.Fitting.{PointFits, PhaseFits};
-ghost use Rattle.twkb_engine.specs.Pairs.{LeadsOn, EndsAlone};
+ghost use Rattle.twkb_engine.specs.Pairs.{LeadsOn, EndsAlone, has_more as more_follow, stands_within as within_list};
 ghost use Rattle.twkb_engine.specs.declared.phase.Axis.TheVariants.{Y};
 ghost use Rattle.twkb_engine.specs.declared.phase.Phase.TheVariants.{Coordinate};
 ghost use Rattle.twkb_engine.specs.declared.place.PointPlace.TheVariants.{Point as AtPoint};
@@ -22,11 +22,33 @@ use std::alloc::AllocError;
 use twkb_geom::{Geometry, Shape};
 use twkb_points::Pt;
 
+/// Whether points of a list have to follow the one that is read.
+fn has_more(place: &PointPlace) -> bool
+    ensures { result ≡ more_follow place.now }
+{
+    match place {
+        PointPlace::InLine { left, .. } => *left > 0,
+        PointPlace::Point(_) => false,
+    }
+}
+
+/// Whether the next item is a coordinate that ends no list and no geometry.
+#[inline(always)]
+pub fn stands_within(phase: &Phase) -> bool
+    ensures { result ≡ within_list phase.now }
+{
+    match phase {
+        Phase::Coordinate(axis, place) => *axis == Axis::X || has_more(place),
+        _ => false,
+    }
+}
+
 /// Puts a point behind those that are done, where others have to follow it; answers whether it did. It takes memory.
 fn put_point(place: &mut PointPlace, point: Pt) -> Result<bool, AllocError>
     requires { PointFits place.old }
     ensures put { IfOk result (λ put. put ≡ true → wanted (point_spot place.new) ≡ shut (point_spot place.old) point) }
     ensures left { IfOk result (λ put. put ≡ false → place.new ≡ place.old) }
+    ensures more { more_follow place.old ≡ true → IfOk result (λ put. put ≡ true) }
     ensures fits { PointFits place.new }
 {
     match place {
@@ -119,6 +141,7 @@ pub fn take_in_place(
     requires fits { PhaseFits phase.old }
     ensures taken { IfOk result (λ taken. taken ≡ true → LeadsOn position bytes number phase.old phase.new) }
     ensures left { IfOk result (λ taken. taken ≡ false → phase.new ≡ phase.old) }
+    ensures within { within_list phase.old ≡ true → IfOk result (λ taken. taken ≡ true) }
     ensures fits { PhaseFits phase.new }
 {
     match phase {

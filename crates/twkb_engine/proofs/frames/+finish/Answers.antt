@@ -1,4 +1,4 @@
-use Rattle.std.proofs.Common.{◌≡◌, rules, refl, sym, ap, subst, ◌∙◌, arith}
+use Rattle.std.proofs.Common.{◌≡◌, rules, refl, subst, ◌∙◌, arith}
 use Rattle.twkb_geom.specs.Tree.{HasIds}
 use Rattle.twkb_engine.specs.State.{head_of}
 use Rattle.twkb_engine.specs.Frames.{IsFinish}

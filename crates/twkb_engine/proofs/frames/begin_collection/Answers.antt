@@ -1,5 +1,4 @@
 use Rattle.std.proofs.Common.{rules}
-use Rattle.twkb_engine.specs.Fitting.{FrameFits}
 use Rattle.twkb_engine.proofs.Collecting.{collection_begun, fits_pushed}
 use Rattle.twkb_engine.proofs.Closing.{fits_first}
 use Rattle.twkb_engine.proofs.frames.begin_collection.Goals as goal

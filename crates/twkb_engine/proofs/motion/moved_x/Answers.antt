@@ -1,4 +1,4 @@
-use Rattle.std.proofs.Common.{◌≡◌, SFits, w64, subst, sym, ℤ, ap, ◌∙◌, rules}
+use Rattle.std.proofs.Common.{◌≡◌, SFits, w64, subst, sym, ap, ◌∙◌, rules}
 use Rattle.std.specs.Prelude.{◌+ℤ◌}
 use Rattle.std.proofs.lemmas.Int.{to_z-of_z}
 use Rattle.twkb_points.specs.Point.{IsCoordinate}

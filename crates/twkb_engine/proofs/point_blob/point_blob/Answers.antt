@@ -1,4 +1,4 @@
-use Rattle.std.proofs.Common.{rules, ◌≡◌, ◌<◌, ◌/◌, ◌%◌, ◌∙◌, sym, ap, subst, length, get_or, SFits, w8}
+use Rattle.std.proofs.Common.{rules, ◌≡◌, ◌<◌, ◌/◌, ◌%◌, ◌∙◌, sym, ap, length, get_or, SFits, w8}
 use Rattle.std.proofs.lemmas.Int.{to_z-of_z}
 use Rattle.twkb_num.specs.Zigzag.{unzigzag_of}
 use Rattle.twkb_engine.proofs.PointBlobs.{point_blob_is}

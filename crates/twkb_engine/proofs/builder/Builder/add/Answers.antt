@@ -1,6 +1,5 @@
-use Rattle.std.proofs.Common.{rules, arith, length, ◌≡◌, ◌+◌, sym, ap, subst, ◌∙◌, IfSome}
+use Rattle.std.proofs.Common.{arith, length, ◌≡◌, ◌+◌, sym, ap, subst, ◌∙◌, IfSome}
 use Rattle.twkb_grammar.specs.Fault.{nodes_by, points_by, moved}
-use Rattle.twkb_engine.specs.State.{phase_of}
 use Rattle.twkb_engine.proofs.Keeping.{nodes_kept, points_kept}
 use Rattle.twkb_engine.specs.Frames.{frames_of}
 use Rattle.twkb_engine.specs.Decoding.{sums_of, stack_of}

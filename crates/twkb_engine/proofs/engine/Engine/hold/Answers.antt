@@ -2,6 +2,7 @@ use Rattle.std.proofs.Common.{◌≡◌, ◌++◌, ◌∷◌, [], ℕ, List, len
 use Rattle.twkb_num.specs.Varint.{IsOpenVarint}
 use Rattle.twkb_num.specs.Answer.{held_after}
 use Rattle.twkb_num.specs.declared.partial.Step.TheVariants.{More}
+use Rattle.twkb_engine.specs.State.{IsSpelled}
 use Rattle.twkb_engine.specs.Standing.{StandsAt}
 use Rattle.twkb_engine.proofs.Stepping.{one_byte, open_more, held_more}
 use Rattle.twkb_engine.proofs.engine.Engine.hold.Goals as goal
@@ -17,4 +18,4 @@ returns-clause-fed c = λ _ bs s.
     let due : c.step.result ≡ More = c.due_answers.ensures.more held u c.step.result ((c.varints.ensures.begun (held ++ u ∷ [])).0 more) c.step.ensures.answer in
     let kept : c.step.new.self ≡ held ++ u ∷ [] = c.step.ensures.held ∙ ap (λ a. held_after held u a) due in
     subst (λ l. (1 ≡ length l) × StandsAt (bs ++ l) (record { builder = d.builder; partial = c.step.new.self })) (sym (one_byte c.args.piece.now c.in-len1.len_at_least c.in-len1.len_below))
-    (refl, held_more bs u d c.step.new.self (c.wants_byte.ensures.spelled c.if-wants_byte.false) kept s)
+    (refl, held_more bs u d c.step.new.self (subst IsSpelled c.phase.ensures (c.wants_byte.ensures.spelled c.if-wants_byte.false)) kept s)

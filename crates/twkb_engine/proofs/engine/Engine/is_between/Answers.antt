@@ -1,4 +1,4 @@
-use Rattle.std.proofs.Common.{◌≡◌, ◌<◌, refl, sym, ap, subst, ◌∙◌, length, List, [], ◌++◌, ℕ, arith}
+use Rattle.std.proofs.Common.{◌≡◌, ◌<◌, sym, ap, subst, ◌∙◌, length, [], ◌++◌, arith}
 use Rattle.std.proofs.lemmas.List.{append-nil}
 use Rattle.twkb_grammar.specs.Fault.{FirstFault, Truncated}
 use Rattle.twkb_engine.specs.Frames.{frames_of}
