@@ -11,7 +11,6 @@ pub mod JudgedRows
 pub mod LineLemmas
 pub mod NextRecord
 pub mod OneVerdict
-pub mod OpenedLemmas
 pub mod ReadBack
 pub mod ReadingLaws
 pub mod RecordFacts

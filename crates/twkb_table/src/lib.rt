@@ -8,7 +8,6 @@ mod judging;
 mod kind_word;
 pub mod laws;
 mod numbering;
-mod open_rows;
 mod places;
 mod printing;
 mod reason;
@@ -25,7 +24,6 @@ pub use decimal::{
 pub use header::header_text;
 pub use judging::{JudgeFault, judge};
 pub use kind_word::parse_kind;
-pub use open_rows::open_row;
 pub use printing::{put_rows, rows_text};
 pub use reason::RowReason;
 pub use record_source::{RecordSource, SourceFault};
