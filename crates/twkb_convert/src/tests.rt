@@ -1,4 +1,5 @@
 //! What no clause says: that calls succeed, and worked tables and streams.
+mod laws;
 mod memory;
 mod pack_devices;
 mod packing;

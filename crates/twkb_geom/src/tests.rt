@@ -5,3 +5,4 @@ mod limits;
 mod parts;
 mod recursion;
 mod refusals;
+mod rows;
