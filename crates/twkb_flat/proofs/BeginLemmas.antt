@@ -1,15 +1,14 @@
 -- What a root leaves that is put in place of all rows.
-use Rattle.std.proofs.Common.{◌≡◌, ℕ, ◌+◌, ◌-◌, ◌<◌, List, [], ◌∷◌, ◌++◌, map, length, take, drop, set, refl, sym, ap, ◌∙◌, subst, arith}
+use Rattle.std.proofs.Common.{◌≡◌, ℕ, ◌+◌, ◌-◌, List, [], ◌∷◌, ◌++◌, map, length, take, drop, set, refl, sym, ap, ◌∙◌, subst, arith}
 use Rattle.std.proofs.lemmas.List.{length-map, length-set, length-take}
 use Rattle.twkb_points.specs.Point.{Point}
 use Rattle.twkb_geom.specs.declared.open_rows.OpenRow.{OpenRow}
 use Rattle.twkb_geom.specs.Limits.{largest_limits}
 use Rattle.twkb_geom.specs.Accepted.{Continues}
 use Rattle.twkb_flat.specs.declared.node.Row.{Row}
-use Rattle.twkb_flat.specs.declared.entries.Span.{Span}
 use Rattle.twkb_flat.specs.declared.entries.Entry.{Entry}
 use Rattle.twkb_flat.specs.Rows.{row_with}
-use Rattle.twkb_flat.specs.Entries.{IsFlat, Laid, listed, span_of, next_of, closed}
+use Rattle.twkb_flat.specs.Entries.{IsFlat, listed, span_of, next_of, closed}
 use Rattle.twkb_flat.proofs.OpenRowLemmas.{entered, root_opened}
 use Rattle.twkb_flat.proofs.PushLemmas.{Pushed, Opens, flat_after, view_after}
 use Rattle.twkb_flat.proofs.RowLemmas.{flat_points, some_rows}

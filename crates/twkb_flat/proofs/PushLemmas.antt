@@ -125,3 +125,20 @@ flat_after es mid after ps qs now spine os new_open count first total row rows f
     let made = pushed_flat es after ps qs spine os new_open count row rows flat view continues opens (p.spans ∙ ap (map span_of) mids) nexts in
     subst (λ (xs : List Point). IsFlat after xs (set spine row.depth total) new_open (row.depth + 1)) (sym p.now_is)
     (subst (λ (n : ℕ). IsFlat after (ps ++ qs) (set spine row.depth n) new_open (row.depth + 1)) p.total_is made)
+
+-- the same where the row's points are counted by what all points became
+pub pushed_as : (es put mid after : List Entry) (ps qs now : List Point) (spine : List ℕ) (count first total size : ℕ) (row : Row)
+    → length ps ≡ first → length es ≡ total → size ≡ length now → now ≡ ps ++ qs
+    → put ≡ es ++ record { span = record { row = row; first = first; points = size - first }; next = 0 } ∷ [] → mid ≡ put → map span_of after ≡ map span_of mid
+    → map next_of after ≡ closed (map next_of mid) (take (count - row.depth) (drop row.depth spine)) total
+    → Pushed es mid after ps qs now spine count first total row
+pushed_as es put mid after ps qs now spine count first total size row first_is total_is size_is now_is put_is mid_is spans nexts =
+    let own : size - first ≡ length qs = omega (arith, size_is, first_is, ap length now_is, length-append ps qs) in
+    record {
+      first_is = first_is;
+      total_is = total_is;
+      mid_is = mid_is ∙ put_is ∙ ap (λ (n : ℕ). es ++ record { span = record { row = row; first = first; points = n }; next = 0 } ∷ []) own;
+      spans = spans;
+      nexts = nexts;
+      now_is = now_is;
+    }

@@ -126,14 +126,6 @@ pub fn admits_under(
     admits_at(&Limits::largest(), &standing, row, own.len())
 }
 
-/// The first rows, as many as `levels`.
-pub fn front_of(rows: &[OpenRow], levels: u32) -> &[OpenRow]
-    requires { levels ≤ length rows.now }
-    ensures { result.now ≡ take levels rows.now }
-{
-    &rows[..levels as usize]
-}
-
 /// Opens a row: its parent has had a child, and the row stands at its depth.
 pub fn open_row(rows: &mut [OpenRow], row: &Row)
     requires { row.now.depth < length rows.old }

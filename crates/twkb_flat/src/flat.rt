@@ -1,16 +1,17 @@
 //! The flat form of one geometry.
-ghost use Rattle.std.specs.Prelude.{◌≡◌, ◌↔◌, ◌+◌, ◌<◌, ◌++◌, ◌∷◌, [], length, reverse, slice_get, Some, OnOk, OnErr, IsTrue};
+ghost use Rattle.std.specs.Prelude.{◌≡◌, ◌↔◌, ◌+◌, ◌<◌, ◌++◌, ◌∷◌, [], List, length, slice_get, Some, OnOk, OnErr, IfErr, IsTrue};
+ghost use Rattle.twkb_points.specs.Point.{Point};
 ghost use Rattle.twkb_geom.specs.Tree.{saturated};
 ghost use Rattle.twkb_geom.specs.Limits.{largest_limits};
 ghost use Rattle.twkb_geom.specs.Rows.{row_points};
 ghost use Rattle.twkb_geom.specs.Accepted.{Continues};
 ghost use Rattle.twkb_geom.specs.RowLists.{AreValidRowsOfOne};
-ghost use Rattle.twkb_geom.specs.Open.{AreOpen};
 ghost use Rattle.twkb_flat.specs.Rows.{IsNode, row_with};
 
-use crate::admitting::{admits_under, front_of, open_row};
+use crate::admitting::{admits_under, open_row};
 use crate::entries::{Entry, Span, close_all};
 use crate::node::{Node, NodeId, PointId, Row};
+use crate::point_source::{Copied, PointSource};
 use crate::work::Work;
 use std::alloc::{AllocError, Global};
 use std::marker::Model;
@@ -101,14 +102,6 @@ impl Flat {
         self.entries.is_empty()
     }
 
-    /// The open rows, the root first: the last row at each depth down to that of the last row.
-    /// Takes no memory.
-    pub fn open_rows(&self) -> &[OpenRow]
-        ensures { AreOpen (reverse self.now) result.now }
-    {
-        front_of(&self.open_rows, self.levels)
-    }
-
     /// Whether the row with these points of its own may be pushed: it is a root where there is no
     /// row yet, and else goes on with the geometry, by the rules of the table and within
     /// `Limits::largest()` (profile). Takes no memory.
@@ -163,18 +156,33 @@ impl Flat {
         ensures pushed { OnOk result (self.new ≡ self.old ++ row_with row points.now ∷ []) }
         ensures same { OnErr result (self.new ≡ self.old) }
     {
+        self.push_from(row, &Copied { points })
+    }
+
+    /// Appends a row whose points the source appends to those of the form, with no list between;
+    /// `admits` admits it with whatever points the source may give. Takes memory; an `Err` changes
+    /// nothing.
+    #[inline(always)]
+    pub fn push_from<S: PointSource>(&mut self, row: Row, source: &S) -> Result<(), S::Fault>
+        requires { (own : List Point) → S.gives source.now own → Continues largest_limits self.old (row_with row own) }
+        ensures pushed { OnOk result ((own : List Point) × (self.new ≡ self.old ++ row_with row own ∷ []) × S.gives source.now own) }
+        ensures refused { IfErr result (S.refuses source.now) }
+        ensures same { OnErr result (self.new ≡ self.old) }
+    {
         let next = self.entries.len() as u32;
         let first = self.points.len() as u32;
+        if let Err(fault) = source.append_to(&mut self.points) {
+            return Err(fault);
+        }
         let span = Span {
             row,
             first,
-            points: points.len() as u32,
+            points: self.points.len() as u32 - first,
         };
-        self.points.extend_from_slice(points)?;
-        if let Err(refused) = self.entries.push(Entry { span, next: 0 }) {
+        let Ok(()) = self.entries.push(Entry { span, next: 0 }) else {
             self.points.truncate(first as usize);
-            return Err(refused.into());
-        }
+            return Err(source.want_of_memory());
+        };
         let depth = row.depth as usize;
         close_all(
             &mut self.entries,

@@ -9,11 +9,13 @@ mod flat;
 pub mod laws;
 mod node;
 mod parts;
+mod point_source;
 mod reading;
 mod work;
 
 pub use flat::Flat;
 pub use node::{Node, NodeId, PointId, Row};
+pub use point_source::PointSource;
 pub use work::Work;
 
 #[cfg(test)]

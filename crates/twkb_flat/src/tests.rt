@@ -6,3 +6,4 @@ mod geometries;
 mod laws;
 mod memory;
 mod nodes;
+mod pushing;

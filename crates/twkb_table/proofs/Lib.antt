@@ -7,10 +7,12 @@ pub mod Deciding
 pub mod FaultLaws
 pub mod FieldLemmas
 pub mod Growing
+pub mod HeadLemmas
 pub mod JudgedRows
 pub mod LineLemmas
 pub mod NextRecord
 pub mod OneVerdict
+pub mod OpenedLemmas
 pub mod ReadBack
 pub mod ReadingLaws
 pub mod RecordFacts

@@ -1,5 +1,5 @@
 -- What the next row is to the rows of the geometry that is being read.
-use Rattle.std.proofs.Common.{◌≡◌, ℕ, zero, suc, ◌<◌, Bool, true, List, [], ◌∷◌, ◌++◌, length, Option, Some, None, refl, sym, ◌∙◌, ap, subst, arith, length-append}
+use Rattle.std.proofs.Common.{◌≡◌, ℕ, zero, suc, ◌<◌, ◌≤◌, Bool, true, List, [], ◌∷◌, ◌++◌, length, Option, Some, None, refl, sym, ◌∙◌, ap, subst, arith, length-append}
 use Rattle.std.specs.Prelude.{reverse, is_some, ◌↔◌}
 use Rattle.std.proofs.lemmas.Bool.{false≢true}
 use Rattle.std.proofs.lemmas.List.{reverse-append, length-reverse}
@@ -10,9 +10,9 @@ use Rattle.twkb_geom.specs.Rows.{Row, row_points}
 use Rattle.twkb_geom.specs.Admits.{parent, first_child, steps_to, fits, id_allowed, admits_after}
 use Rattle.twkb_geom.specs.Accepted.{Accepts, Continues, since_root, point_count}
 use Rattle.twkb_geom.specs.RowLists.{AreRowsOfOne, AreValidRowsOfOne}
-use Rattle.twkb_geom.specs.Open.{AreOpen}
+use Rattle.twkb_geom.specs.Open.{AreOpen, opened}
 use Rattle.twkb_geom.proofs.LimitLaws.{accepted_rows}
-use Rattle.twkb_geom.proofs.OpenLaws.{open_none}
+use Rattle.twkb_geom.proofs.OpenLaws.{open_more, open_none, steps_within}
 use Rattle.twkb_geom.proofs.RefusalLaws.{continues_is, continues_true, none_is}
 use Rattle.twkb_geom.proofs.RowFacts.{facts}
 use Rattle.twkb_geom.proofs.RootLimits.{continued, valid_list}
@@ -108,21 +108,35 @@ some_waits (Some root) points some e = (λ yes. omega arith, λ lt. e)
 pub stands_nowhere : StandsAfter [] [] 0 0
 stands_nowhere = record { open_rows = open_none; node_count = refl; points_held = refl }
 
--- Rows of one geometry, of which there is one.
-pub record SomeRows (l : Allowance) (rows : List Row) : Type 0 where
+-- no deeper than the open rows
+pub depth_within : (l : Allowance) (before : List Row) (os : List OpenRow) (row : Row) → Accepts l before row → AreOpen before os → row.depth ≤ length os
+depth_within l before os row a open_now = omega (arith, steps_within row.depth before (steps l before row a), open_now.all)
+
+-- the open rows after it
+opens_next : (l : Allowance) (rows : List Row) (os : List OpenRow) (row : Row) → Accepts l (reverse rows) row → AreOpen (reverse rows) os → AreOpen (reverse (rows ++ row ∷ [])) (opened row.depth os row)
+opens_next l rows os row a open_now =
+    subst (λ xs. AreOpen xs (opened row.depth os row)) (sym (reverse-append rows (row ∷ []))) (open_more (reverse rows) os row (steps l (reverse rows) row a) open_now)
+
+-- Rows of one geometry, of which there is one, and their open rows.
+pub record Kept (l : Allowance) (rows : List Row) (os : List OpenRow) : Type 0 where
   pub of_one : AreValidRowsOfOne l rows
   pub some : 0 < length rows
+  pub open_rows : AreOpen (reverse rows) os
 
-pub keeps_first : (l : Allowance) (row : Row) (rows : List Row) → Continues l [] row → rows ≡ row ∷ [] → SomeRows l rows
-keeps_first l row rows c put = record {
-  of_one = subst (AreValidRowsOfOne l) (sym put) (continued l [] row tt c);
-  some = omega (arith, ap (λ (rs : List Row). length rs) put);
-}
+pub keeps_first : (l : Allowance) (row : Row) (rows : List Row) (cleared os : List OpenRow) → Continues l [] row → rows ≡ row ∷ [] → cleared ≡ [] → os ≡ opened row.depth cleared row → Kept l rows os
+keeps_first l row rows cleared os c put clear open_now =
+    let open_are : os ≡ opened row.depth [] row = open_now ∙ ap (λ xs. opened row.depth xs row) clear in
+    record {
+      of_one = subst (AreValidRowsOfOne l) (sym put) (continued l [] row tt c);
+      some = omega (arith, ap (λ (rs : List Row). length rs) put);
+      open_rows = subst (λ rs. AreOpen (reverse rs) os) (sym put) (subst (λ xs. AreOpen (row ∷ []) xs) (sym open_are) (opens_next l [] [] row c.0 open_none));
+    }
 
-pub keeps_next : (l : Allowance) (row : Row) (before rows : List Row) → AreValidRowsOfOne l before → 0 < length before → Accepts l (reverse before) row → 0 < row.depth → rows ≡ before ++ row ∷ [] → SomeRows l rows
-keeps_next l row before rows v some a below put = record {
+pub keeps_next : (l : Allowance) (row : Row) (before rows : List Row) (was os : List OpenRow) → AreValidRowsOfOne l before → 0 < length before → AreOpen (reverse before) was → Accepts l (reverse before) row → 0 < row.depth → rows ≡ before ++ row ∷ [] → os ≡ opened row.depth was row → Kept l rows os
+keeps_next l row before rows was os v some open_before a below put open_now = record {
   of_one = subst (AreValidRowsOfOne l) (sym put) (continued l before row v (continues_below l before row some a below));
   some = omega (arith, ap (λ (rs : List Row). length rs) put, length-append before (row ∷ []));
+  open_rows = subst (λ rs. AreOpen (reverse rs) os) (sym put) (subst (λ xs. AreOpen (reverse (before ++ row ∷ [])) xs) (sym open_now) (opens_next l before was row a open_before));
 }
 
 -- what a record is judged by the open rows of one geometry, it is judged after all rows that end with those

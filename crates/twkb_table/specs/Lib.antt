@@ -1,6 +1,7 @@
 pub mod CsvRecords
 pub mod Fields
 pub mod FiveFields
+pub mod Head
 pub mod Judged
 pub mod Named
 pub mod Numbering

@@ -4,6 +4,8 @@ use Rattle.twkb_points.specs.Point.{Point}
 use Rattle.twkb_geom.specs.Limits.{Allowance}
 use Rattle.twkb_geom.specs.Rows.{Row as TableRow}
 use Rattle.twkb_geom.specs.RowLists.{AreValidRowsOfOne}
+use Rattle.twkb_geom.specs.declared.open_rows.OpenRow.{OpenRow}
+use Rattle.twkb_geom.specs.Open.{AreOpen}
 use Rattle.twkb_flat.specs.Rows.{row_with}
 use Rattle.twkb_table.specs.Record.{Record}
 use Rattle.twkb_table.specs.Waiting.{root_row}
@@ -15,9 +17,9 @@ use Rattle.twkb_table.specs.declared.row_reader.RowReader.{RowReader}
 abbrev pub limits_of : RowReader → Allowance
 limits_of reader = reader.limits
 
--- the points of the row that was read last
-abbrev pub points_held : RowReader → List Point
-points_held reader = reader.points.items
+-- the rows that are open
+abbrev pub open_rows_of : RowReader → List OpenRow
+open_rows_of reader = reader.open_rows.items
 
 -- a root that may be there, with these points
 abbrev pub with_points : Option Root → List Point → List TableRow
@@ -32,10 +34,11 @@ waiting reader = with_points reader.waiting reader.points.items
 abbrev pub JudgedAfter : Allowance → List TableRow → Record → Verdict → Type 0
 JudgedAfter l rows fields v = (earlier : List TableRow) → Judged l (reverse (earlier ++ rows)) fields v
 
--- These are rows of one valid geometry, and no root waits.
+-- These are rows of one valid geometry, the reader keeps their open rows, and no root waits.
 pub record Keeps (reader : RowReader) (rows : List TableRow) : Type 0 where
   pub of_one : AreValidRowsOfOne (limits_of reader) rows
   pub some : 0 < length rows
+  pub open_rows : AreOpen (reverse rows) (open_rows_of reader)
   pub none : waiting reader ≡ []
 
 -- The record is a row more of the geometry that the reader reads.

@@ -3,11 +3,13 @@
 
 mod decimal;
 mod fields;
+mod head;
 mod header;
 mod judging;
 mod kind_word;
 pub mod laws;
 mod numbering;
+mod open_rows;
 mod places;
 mod printing;
 mod reason;

@@ -1,18 +1,21 @@
 //! Rows of a table, read into the flat form one geometry after another.
-ghost use Rattle.std.specs.Prelude.{◌≡◌, ◌<◌, ◌↔◌, [], length, reverse, true, false, OnOk, IfOk, IfErr, IsTrue};
+ghost use Rattle.std.specs.Prelude.{◌≡◌, ◌<◌, ◌↔◌, [], length, true, false, OnOk, IfOk, IfErr, IsTrue};
 ghost use Rattle.csv.specs.Records.{fields_of};
 ghost use Rattle.twkb_geom.specs.Limits.{IsAllowance};
-ghost use Rattle.twkb_geom.specs.Accepted.{Accepts};
-ghost use Rattle.twkb_flat.specs.Rows.{row_with};
-ghost use Rattle.twkb_table.specs.Judged.{Judged, Accepted, Refused};
+ghost use Rattle.twkb_table.specs.Judged.{Verdict, Judged, Refused};
 ghost use Rattle.twkb_table.specs.Standing.{IfRefused};
+ghost use Rattle.twkb_table.specs.Head.{JudgedAs};
 ghost use Rattle.twkb_table.specs.Waiting.{may_wait};
 
-use crate::judging::{JudgeFault, judge};
+use crate::head::Head;
+use crate::judging::{JudgeFault, judge, judge_head};
+use crate::open_rows::open_row;
+use crate::reason::RowReason;
 use csv::ByteRecord;
+use smallvec::SmallVec;
 use std::alloc::{AllocError, Global};
-use twkb_flat::{Flat, Row};
-use twkb_geom::{Kind, Limits};
+use twkb_flat::{Flat, PointSource, Row};
+use twkb_geom::{Kind, Limits, OpenRow};
 use twkb_points::Pt;
 
 /// A root that waits: each root stands at depth 0, and has no id.
@@ -22,18 +25,19 @@ pub(crate) struct Root {
     precision: Option<i8>,
 }
 
-/// What a reader keeps of a table's rows: the root of the next geometry while it waits, and the
-/// points of the row that was read last, in a buffer that serves all rows.
+/// What a reader keeps of a table's rows: those that are open in the geometry that it reads, and
+/// the root of the next geometry while it waits, with its points in a buffer that serves all roots.
 #[derive(Drop)]
 pub(crate) struct RowReader {
     limits: Limits,
+    open_rows: SmallVec<OpenRow, 8>,
     waiting: Option<Root>,
     points: Vec<Pt>,
     ghost waits: { may_wait limits waiting points.items ≡ true },
 }
 
 impl RowReader {
-    ghost use Rattle.twkb_table.specs.RowReading.{limits_of, points_held, waiting, BeginsFirst, JudgedAfter, Keeps, GoesOn, EndsBefore};
+    ghost use Rattle.twkb_table.specs.RowReading.{limits_of, waiting, BeginsFirst, JudgedAfter, Keeps, GoesOn, EndsBefore};
 
     /// Keeps nothing yet. Takes no memory.
     pub(crate) fn new(alloc: Global, limits: Limits) -> RowReader
@@ -42,6 +46,7 @@ impl RowReader {
     {
         RowReader {
             limits,
+            open_rows: SmallVec::new(alloc),
             waiting: None,
             points: Vec::new(alloc),
         }
@@ -96,6 +101,11 @@ impl RowReader {
             id: None,
             precision: root.precision,
         };
+        self.open_rows.clear();
+        self.open_rows.push(OpenRow {
+            kind: root.kind,
+            child_ids: None,
+        })?;
         flat.begin(row, &mut self.points)?;
         Ok(())
     }
@@ -115,11 +125,18 @@ impl RowReader {
         ensures limits { limits_of self.new ≡ limits_of self.old }
         ensures sound { IsAllowance (limits_of self.old) }
     {
-        let row = match self.judge_next(here, flat) {
-            Ok(row) => row,
-            Err(fault) => return Err(fault),
+        self.limits.nest();
+        self.waiting = None;
+        let head = match self.judge_next(here, flat) {
+            Ok(head) => head,
+            Err(reason) => return Err(JudgeFault::Refused(reason)),
         };
+        let row = head.row();
         if row.depth == 0 {
+            self.points.clear();
+            if let Err(fault) = head.append_to(&mut self.points) {
+                return Err(fault);
+            }
             let root = Root {
                 kind: row.kind,
                 precision: row.precision,
@@ -127,34 +144,24 @@ impl RowReader {
             self.waiting = Some(root);
             return Ok(false);
         }
-        let Ok(()) = flat.push(row, self.points.as_slice()) else {
+        if let Err(fault) = flat.push_from(row, &head) {
+            return Err(fault);
+        }
+        let Ok(()) = open_row(&mut self.open_rows, &row) else {
             return Err(JudgeFault::Memory);
         };
         Ok(true)
     }
 
-    // Judges a record after the rows of the flat form.
+    // Judges a record after the rows of the flat form, but for its points.
     #[inline(always)]
-    fn judge_next(&mut self, here: &ByteRecord, flat: &Flat) -> Result<Row, JudgeFault>
-        requires keeps { Keeps self.old flat.now }
-        ensures read { IfOk result (λ row. JudgedAfter (limits_of self.old) flat.now (fields_of here.now) (Accepted (row_with row (points_held self.new)))) }
-        ensures accepts { IfOk result (λ row. Accepts (limits_of self.old) (reverse flat.now) (row_with row (points_held self.new))) }
-        ensures refused { IfErr result (IfRefused (λ reason. JudgedAfter (limits_of self.old) flat.now (fields_of here.now) (Refused reason))) }
-        ensures none { waiting self.new ≡ [] }
-        ensures limits { limits_of self.new ≡ limits_of self.old }
-        ensures sound { IsAllowance (limits_of self.old) }
+    fn judge_next<'a>(&self, here: &'a ByteRecord, flat: &Flat) -> Result<Head<'a>, RowReason>
+        requires keeps { Keeps self.now flat.now }
+        ensures read { IfOk result (λ head. (v : Verdict) → JudgedAs head v → JudgedAfter (limits_of self.now) flat.now (fields_of here.now) v) }
+        ensures refused { IfErr result (λ reason. JudgedAfter (limits_of self.now) flat.now (fields_of here.now) (Refused reason)) }
     {
-        self.limits.nest();
-        self.waiting = None;
         let nodes = flat.node_count();
         let count = flat.point_count();
-        judge(
-            &self.limits,
-            flat.open_rows(),
-            nodes,
-            count,
-            here,
-            &mut self.points,
-        )
+        judge_head(&self.limits, self.open_rows.as_slice(), nodes, count, here)
     }
 }

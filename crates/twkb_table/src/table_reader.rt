@@ -69,8 +69,8 @@ impl<'a, R: Read> TableReader<'a, R> {
     /// Reads the next geometry into a flat form, in place of what it holds, and answers whether
     /// there was one; after a false and after an `Err` the form is empty. A geometry is given once
     /// the next root was accepted, or at the table's end. After the end each call answers false, and
-    /// after an `Err` each call answers `Spent`. Takes memory for one record and one row's points,
-    /// and for the flat form.
+    /// after an `Err` each call answers `Spent`. Takes memory for one record, one root's points and
+    /// the open rows beyond eight, and for the flat form.
     pub fn next_flat(&mut self, flat: &mut Flat) -> Result<bool, TableFault>
         ensures gives { IfOk result (λ found. found ≡ true → (l : Allowance) (told : Option (List ℕ)) (records : List Record) (given : List Tree)
             → StandsAfter l R.remaining told records given self.old → GivesNext l R.remaining told records given flat.new self.new) }

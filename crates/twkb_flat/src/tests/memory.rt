@@ -73,7 +73,7 @@ fn a_root_in_place_of_rows_asks_for_no_growth(rt: HostRuntime) -> Result<(), Fai
     assert!(rt; empty.admits(&row, own.as_slice()), "a row is refused");
     assert!(rt; flat.begin(row, &mut own).is_ok(), "a growth");
     assert!(rt;
-        flat.open_rows().len() == 1 && flat.point_count() == 1,
+        flat.node_count() == 1 && flat.point_count() == 1,
         "another form"
     );
     Ok(())

@@ -167,3 +167,25 @@ fn a_refused_growth_is_told(rt: HostRuntime) {
         assert!(rt; is_told(&outcome) && is_front(&outcome));
     }
 }
+
+/// A line in nine collections, and a point behind it in one.
+const DEEP: &[u8] =
+    b"depth,kind,id,precision,polyline\n0,collection,,0,\n1,collection,,0,\n2,collection,,0,\n3,collection,,0,\n4,collection,,0,\n5,collection,,0,\n6,collection,,0,\n7,collection,,0,\n8,collection,,0,\n9,linestring,,0,AAGG\n1,point,,-8,AC\n";
+
+/// Whether `DEEP` was read whole, or no memory was found before its geometry.
+fn is_deep(outcome: &Outcome) -> bool {
+    match outcome.fault {
+        None => outcome.count == 1 && DEEP.get(ENDS[0]..) == Some(outcome.rows.as_slice()),
+        Some(TableFault::Memory | TableFault::Source) => outcome.count == 0,
+        _ => false,
+    }
+}
+
+// The same, with the growth for the rows that are open below the eighth.
+#[test]
+fn a_refused_growth_of_the_open_rows_is_told(rt: HostRuntime) {
+    let mut tap = Tap::new(DEEP);
+    if let Some(outcome) = read_all(rt.alloc(), Limits::standard(), &mut tap) {
+        assert!(rt; is_deep(&outcome));
+    }
+}

@@ -1,6 +1,5 @@
-use Rattle.twkb_table.specs.Judged.{Accepted, Refused}
-use Rattle.twkb_flat.specs.Rows.{row_with}
-use Rattle.twkb_table.proofs.RecordJudged.{bad_kind, bad_place, judged_of, if_ok, if_err, if_refused}
+use Rattle.twkb_table.specs.Judged.{Refused}
+use Rattle.twkb_table.proofs.RecordJudged.{bad_kind, bad_place, judged_of, if_ok, if_err}
 use Rattle.twkb_table.proofs.judging.judge_fields.Goals as goal
 
 pub returns-in_default-parse_kind-clause-refused : goal.returns-in_default-parse_kind-clause-refused
@@ -13,8 +12,8 @@ returns-in_default-at-clause-refused c =
 
 pub returns-clause-read : goal.returns-clause-read
 returns-clause-read c =
-    if_ok _ _ c.judge_standing.result (λ read j before stands. judged_of c.args.limits.now before c.args.rows.now c.args.nodes c.args.held _ _ _ _ _ c.in-Some.depth c.in-Some-parse_kind.kind c.in-Some-at.standing (Accepted (row_with read c.judge_standing.new.points.items)) c.in-Some.ensures.reads c.in-Some-parse_kind.ensures.reads c.in-Some-at.ensures.stands j stands) c.judge_standing.ensures.read
+    if_ok _ _ c.judge_standing.result (λ head h v j before stands. judged_of c.args.limits.now before c.args.rows.now c.args.nodes c.args.held _ _ _ _ _ c.in-Some.depth c.in-Some-parse_kind.kind c.in-Some-at.standing v c.in-Some.ensures.reads c.in-Some-parse_kind.ensures.reads c.in-Some-at.ensures.stands (h v j) stands) c.judge_standing.ensures.read
 
 pub returns-clause-refused : goal.returns-clause-refused
 returns-clause-refused c =
-    if_err _ _ c.judge_standing.result (λ fault h. if_refused _ _ fault (λ reason j before stands. judged_of c.args.limits.now before c.args.rows.now c.args.nodes c.args.held _ _ _ _ _ c.in-Some.depth c.in-Some-parse_kind.kind c.in-Some-at.standing (Refused reason) c.in-Some.ensures.reads c.in-Some-parse_kind.ensures.reads c.in-Some-at.ensures.stands j stands) h) c.judge_standing.ensures.refused
+    if_err _ _ c.judge_standing.result (λ reason j before stands. judged_of c.args.limits.now before c.args.rows.now c.args.nodes c.args.held _ _ _ _ _ c.in-Some.depth c.in-Some-parse_kind.kind c.in-Some-at.standing (Refused reason) c.in-Some.ensures.reads c.in-Some-parse_kind.ensures.reads c.in-Some-at.ensures.stands j stands) c.judge_standing.ensures.refused

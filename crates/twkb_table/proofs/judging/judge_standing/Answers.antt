@@ -1,7 +1,4 @@
-use Rattle.twkb_table.specs.Judged.{Accepted, Refused}
-use Rattle.twkb_table.proofs.RecordJudged.{if_refused}
-use Rattle.twkb_flat.specs.Rows.{row_with}
-use Rattle.twkb_flat.specs.declared.node.Row.{Row}
+use Rattle.twkb_table.specs.Judged.{Refused}
 use Rattle.twkb_table.proofs.judging.judge_standing.Goals as goal
 
 pub returns-in-Err-clause-refused : goal.returns-in-Err-clause-refused
@@ -19,19 +16,8 @@ returns-in-Err-read_precision-clause-refused c =
     (c.in-Ok.ensures.read c.args.limits.now c.args.precision_field.now c.args.text.now v
     (c.in-Err-read_precision.ensures.refused c.args.limits.now c.args.kind c.in-Ok.id c.args.text.now))
 
-pub returns-in-Err-read_points-clause-refused : goal.returns-in-Err-read_points-clause-refused
-returns-in-Err-read_points-clause-refused c =
-    if_refused _ _ c.in-Err-read_points.fault (λ reason j. (let v = Refused reason in
-    c.in_default.ensures.passed c.args.id_field.now c.args.precision_field.now c.args.text.now v
-    (c.in-Ok.ensures.read c.args.limits.now c.args.precision_field.now c.args.text.now v
-    (c.in-Ok-read_precision.ensures.read c.args.limits.now c.args.kind c.in-Ok.id c.args.text.now v
-    (j c.in-Ok.id c.in-Ok-read_precision.precision))))) c.in-Err-read_points.ensures.refused
-
 pub returns-clause-read : goal.returns-clause-read
-returns-clause-read c =
-    let row : Row = record { depth = c.args.standing.now.depth; kind = c.args.kind; id = c.in-Ok.id; precision = c.in-Ok-read_precision.precision } in
-    let v = Accepted (row_with row c.read_points.new.points.items) in
+returns-clause-read c v j =
     c.in_default.ensures.passed c.args.id_field.now c.args.precision_field.now c.args.text.now v
     (c.in-Ok.ensures.read c.args.limits.now c.args.precision_field.now c.args.text.now v
-    (c.in-Ok-read_precision.ensures.read c.args.limits.now c.args.kind c.in-Ok.id c.args.text.now v
-    (c.in_default-read_points.ensures.read c.in-Ok.id c.in-Ok-read_precision.precision)))
+    (c.in-Ok-read_precision.ensures.read c.args.limits.now c.args.kind c.in-Ok.id c.args.text.now v j))

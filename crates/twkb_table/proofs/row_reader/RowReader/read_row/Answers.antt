@@ -1,42 +1,71 @@
-use Rattle.std.proofs.Common.{◌≡◌, ◌<◌, [], ◌∷◌, ◌++◌, refl, sym, ap, arith}
-use Rattle.twkb_geom.proofs.LargestLimits.{continues_largest}
+use Rattle.std.proofs.Common.{◌<◌, [], ◌∷◌, refl, sym, ap, arith}
+use Rattle.std.specs.Prelude.{reverse}
+use Rattle.csv.specs.Records.{fields_of}
 use Rattle.twkb_geom.specs.Rows.{Row}
+use Rattle.twkb_geom.proofs.LargestLimits.{continues_largest}
 use Rattle.twkb_flat.specs.Rows.{row_with}
-use Rattle.twkb_table.proofs.RowReaderLemmas.{begins_anew, continues_below, keeps_next, may_wait_as, root_is}
+use Rattle.twkb_table.specs.Judged.{Refused}
+use Rattle.twkb_table.proofs.HeadLemmas.{given_row, comes_next}
+use Rattle.twkb_table.proofs.RecordJudged.{if_refused}
+use Rattle.twkb_table.proofs.RowReaderLemmas.{begins_anew, continues_below, depth_within, keeps_next, may_wait_as, root_is}
 use Rattle.twkb_table.proofs.row_reader.RowReader.read_row.Goals as goal
 
-pub invariant_of-self : goal.invariant_of-self
-invariant_of-self c =
+pub returns-in-Err-append_to-clause-refused : goal.returns-in-Err-append_to-clause-refused
+returns-in-Err-append_to-clause-refused c =
+    if_refused _ _ c.in-Err-append_to.fault (λ reason j. c.in-Ok.ensures.read (Refused reason) j) c.in-Err-append_to.ensures.refused
+
+pub invariant_of-self-then-row-eq0 : goal.invariant_of-self-then-row-eq0
+invariant_of-self-then-row-eq0 c =
     let l = c.args.self.now.limits in
-    let points = c.judge_next.new.self.points.items in
-    record { waits = rw c.judge_next.ensures.limits (may_wait_as l c.in-Ok.row points (begins_anew l c.args.flat.now (row_with c.in-Ok.row points) c.in-Ok.ensures.accepts c.if-row-eq0.true)) }
+    let own = c.in_default.ensures.given in
+    let points = c.append_to.new.points.items in
+    let row_is = given_row c.in-Ok.head c.row-row.result c.clear.new.self.items points own.0 c.row-row.ensures c.clear.ensures.items own.1 in
+    let next = comes_next l c.args.flat.now (fields_of c.args.here.now) c.in-Ok.head (row_with c.row-row.result points) own.0 c.requires.keeps.of_one c.in-Ok.ensures.read row_is own.2 in
+    record { waits = may_wait_as l c.row-row.result points (begins_anew l c.args.flat.now (row_with c.row-row.result points) next.accepts c.if-row-eq0.true) }
 
 pub returns-then-row-eq0-clause-root : goal.returns-then-row-eq0-clause-root
 returns-then-row-eq0-clause-root c over =
     let l = c.args.self.now.limits in
-    let points = c.judge_next.new.self.points.items in
-    let row = row_with c.in-Ok.row points in
-    let begins = begins_anew l c.args.flat.now row c.in-Ok.ensures.accepts c.if-row-eq0.true in
-    (record { row = row; waits = ap (λ (r : Row). r ∷ []) (sym (root_is l c.in-Ok.row points begins)); root = c.if-row-eq0.true; judged = c.in-Ok.ensures.read }, refl)
+    let own = c.in_default.ensures.given in
+    let points = c.append_to.new.points.items in
+    let row = row_with c.row-row.result points in
+    let row_is = given_row c.in-Ok.head c.row-row.result c.clear.new.self.items points own.0 c.row-row.ensures c.clear.ensures.items own.1 in
+    let next = comes_next l c.args.flat.now (fields_of c.args.here.now) c.in-Ok.head row own.0 c.requires.keeps.of_one c.in-Ok.ensures.read row_is own.2 in
+    let begins = begins_anew l c.args.flat.now row next.accepts c.if-row-eq0.true in
+    (record { row = row; waits = ap (λ (r : Row). r ∷ []) (sym (root_is l c.row-row.result points begins)); root = c.if-row-eq0.true; judged = next.judged }, refl)
 
-pub push-requires : goal.push-requires
-push-requires c =
+pub push_from-requires : goal.push_from-requires
+push_from-requires c own given =
     let l = c.args.self.now.limits in
-    let row = row_with c.in-Ok.row c.judge_next.new.self.points.items in
-    let below : 0 < c.in-Ok.row.depth = omega (arith, c.if-row-eq0.false) in
-    rw c.as_slice.ensures.value (continues_largest l c.args.flat.now row c.judge_next.ensures.sound (continues_below l c.args.flat.now row c.requires.keeps.some c.in-Ok.ensures.accepts below))
+    let row = row_with c.row-row.result own in
+    let below : 0 < c.row-row.result.depth = omega (arith, c.if-row-eq0.false) in
+    let next = comes_next l c.args.flat.now (fields_of c.args.here.now) c.in-Ok.head row own c.requires.keeps.of_one c.in-Ok.ensures.read (ap (λ r. row_with r own) (sym c.row-row.ensures)) given in
+    continues_largest l c.args.flat.now row c.nest.ensures.sound (continues_below l c.args.flat.now row c.requires.keeps.some next.accepts below)
+
+pub returns-in-Err-push_from-clause-refused : goal.returns-in-Err-push_from-clause-refused
+returns-in-Err-push_from-clause-refused c =
+    if_refused _ _ c.in-Err-push_from.fault (λ reason j. c.in-Ok.ensures.read (Refused reason) j) c.in-Err-push_from.ensures.refused
+
+pub open_row-requires : goal.open_row-requires
+open_row-requires c =
+    let l = c.args.self.now.limits in
+    let own = c.in_default-push_from.ensures.pushed in
+    let row = row_with c.row-row.result own.0 in
+    let next = comes_next l c.args.flat.now (fields_of c.args.here.now) c.in-Ok.head row own.0 c.requires.keeps.of_one c.in-Ok.ensures.read (ap (λ r. row_with r own.0) (sym c.row-row.ensures)) own.2 in
+    depth_within l (reverse c.args.flat.now) c.args.self.now.open_rows.items row next.accepts c.requires.keeps.open_rows
 
 pub returns-clause-more : goal.returns-clause-more
 returns-clause-more c more =
     let l = c.args.self.now.limits in
-    let row = row_with c.in-Ok.row c.judge_next.new.self.points.items in
-    let below : 0 < c.in-Ok.row.depth = omega (arith, c.if-row-eq0.false) in
-    let put : c.push.new.self ≡ c.args.flat.now ++ row ∷ [] = rw c.as_slice.ensures.value at c.in-Ok-push.ensures.pushed in
-    let kept = keeps_next l row c.args.flat.now c.push.new.self c.requires.keeps.of_one c.requires.keeps.some c.in-Ok.ensures.accepts below put in
+    let own = c.in_default-push_from.ensures.pushed in
+    let row = row_with c.row-row.result own.0 in
+    let below : 0 < c.row-row.result.depth = omega (arith, c.if-row-eq0.false) in
+    let next = comes_next l c.args.flat.now (fields_of c.args.here.now) c.in-Ok.head row own.0 c.requires.keeps.of_one c.in-Ok.ensures.read (ap (λ r. row_with r own.0) (sym c.row-row.ensures)) own.2 in
+    let kept = keeps_next l row c.args.flat.now c.push_from.new.self c.args.self.now.open_rows.items c.open_row.new.rows.items c.requires.keeps.of_one c.requires.keeps.some c.requires.keeps.open_rows next.accepts below own.1 (c.in-Ok-open_row.ensures.opened own.0) in
     record {
       row = row;
-      rows = put;
+      rows = own.1;
       below = below;
-      judged = c.in-Ok.ensures.read;
-      keeps = record { of_one = rw c.judge_next.ensures.limits kept.of_one; some = kept.some; none = c.judge_next.ensures.none };
+      judged = next.judged;
+      keeps = record { of_one = kept.of_one; some = kept.some; open_rows = kept.open_rows; none = refl };
     }

@@ -1,0 +1,54 @@
+//! Where the points of a row come from.
+ghost use Rattle.std.specs.Prelude.{◌≡◌, ◌++◌, List, OnOk, OnErr, IfErr};
+ghost use Rattle.twkb_points.specs.Point.{Point};
+
+use std::alloc::AllocError;
+use twkb_points::Pt;
+
+/// What appends the points of one row to those of a flat form.
+pub trait PointSource {
+    /// Why it appends none.
+    type Fault;
+
+    // These are points that it may append.
+    ghost gives: { Self → List Point → Type 0 };
+
+    // This is a fault that it may answer.
+    ghost refuses: { Self → Self.Fault → Type 0 };
+
+    /// Appends the points of the row; an `Err` changes nothing.
+    fn append_to(&self, points: &mut Vec<Pt>) -> Result<(), Self::Fault>
+        ensures given { OnOk result ((own : List Point) × (points.new.items ≡ points.old.items ++ own) × gives self.now own) }
+        ensures refused { IfErr result (refuses self.now) }
+        ensures same { OnErr result (points.new.items ≡ points.old.items) };
+
+    /// What it answers where memory is refused.
+    fn want_of_memory(&self) -> Self::Fault
+        ensures { refuses self.now result };
+}
+
+/// Points that stand in a list, and are copied.
+#[derive(Clone, Copy)]
+pub(crate) struct Copied<'a> {
+    pub points: &'a [Pt],
+}
+
+impl PointSource for Copied<'_> {
+    ghost use Rattle.std.specs.Prelude.{◌≡◌, ⊤};
+
+    type Fault = AllocError;
+
+    ghost gives = { λ source own. own ≡ source.points.now };
+
+    ghost refuses = { λ source fault. ⊤ };
+
+    #[inline(always)]
+    fn append_to(&self, points: &mut Vec<Pt>) -> Result<(), AllocError> {
+        points.extend_from_slice(self.points)
+    }
+
+    #[inline(always)]
+    fn want_of_memory(&self) -> AllocError {
+        AllocError
+    }
+}

@@ -1,0 +1,33 @@
+-- The row of a head with the points that it gave.
+use Rattle.std.proofs.Common.{◌≡◌, List, [], ◌++◌, sym, ◌∙◌, ap, subst}
+use Rattle.std.specs.Prelude.{reverse}
+use Rattle.twkb_points.specs.Point.{Point}
+use Rattle.twkb_geom.specs.Limits.{Allowance}
+use Rattle.twkb_geom.specs.Rows.{Row}
+use Rattle.twkb_geom.specs.RowLists.{AreValidRowsOfOne}
+use Rattle.twkb_geom.specs.Accepted.{Accepts}
+use Rattle.twkb_flat.specs.Rows.{row_with}
+use Rattle.twkb_flat.specs.declared.node.Row.{Row as Bare}
+use Rattle.twkb_table.specs.Record.{Record}
+use Rattle.twkb_table.specs.Judged.{Verdict, Accepted}
+use Rattle.twkb_table.specs.Head.{head_row, JudgedAs}
+use Rattle.twkb_table.specs.RowReading.{JudgedAfter}
+use Rattle.twkb_table.specs.declared.head.Head.{Head}
+use Rattle.twkb_table.proofs.RowReaderLemmas.{accepts_next}
+
+-- points that were put behind none are all that are held
+pub given_row : (head : Head) (row : Bare) (cleared points own : List Point) → row ≡ head_row head → cleared ≡ [] → points ≡ cleared ++ own → row_with (head_row head) own ≡ row_with row points
+given_row head row cleared points own row_is none put =
+    ap (row_with (head_row head)) (sym (put ∙ ap (λ (xs : List Point). xs ++ own) none)) ∙ ap (λ r. row_with r points) (sym row_is)
+
+-- A row that a record is judged after the rows of one geometry, and that they accept.
+pub record ComesNext (l : Allowance) (rows : List Row) (fields : Record) (row : Row) : Type 0 where
+  pub judged : JudgedAfter l rows fields (Accepted row)
+  pub accepts : Accepts l (reverse rows) row
+
+-- where the record is what the points make of it, it is the row with the points that were given
+pub comes_next : (l : Allowance) (rows : List Row) (fields : Record) (head : Head) (row : Row) (own : List Point) → AreValidRowsOfOne l rows → ((v : Verdict) → JudgedAs head v → JudgedAfter l rows fields v)
+    → row_with (head_row head) own ≡ row → JudgedAs head (Accepted (row_with (head_row head) own)) → ComesNext l rows fields row
+comes_next l rows fields head row own of_one read row_is given =
+    let judged : JudgedAfter l rows fields (Accepted row) = subst (λ r. JudgedAfter l rows fields (Accepted r)) row_is (read (Accepted (row_with (head_row head) own)) given) in
+    record { judged = judged; accepts = accepts_next l rows fields row of_one (judged []) }

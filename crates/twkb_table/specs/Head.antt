@@ -1,0 +1,13 @@
+-- A row that was read but for its points, and what its points make of its record.
+use Rattle.twkb_flat.specs.declared.node.Row.{Row}
+use Rattle.twkb_table.specs.Judged.{Verdict, JudgedByPoints}
+use Rattle.twkb_table.specs.Standing.{place_seen}
+use Rattle.twkb_table.specs.declared.head.Head.{Head}
+
+-- its row
+abbrev pub head_row : Head → Row
+head_row head = record { depth = head.standing.depth; kind = head.kind; id = head.id; precision = head.precision }
+
+-- what the text of its points makes of its record
+abbrev pub JudgedAs : Head → Verdict → Type 0
+JudgedAs head v = JudgedByPoints head.limits (place_seen head.standing) head.kind head.id head.precision head.text.now v

@@ -1,0 +1,79 @@
+//! A row that was read but for its points.
+use crate::judging::JudgeFault;
+use crate::reason::RowReason;
+use twkb_flat::{PointSource, Row};
+use twkb_geom::row_rules::{count_fits, has_points, is_whole};
+use twkb_geom::{Kind, Limits, Standing};
+use twkb_points::Pt;
+use twkb_polyline::{PolyFault, decode_into};
+
+/// A row that was read but for its points: where it stands, what its fields say, and the text of
+/// its points.
+#[derive(Clone, Copy)]
+pub(crate) struct Head<'a> {
+    pub limits: Limits,
+    pub standing: Standing,
+    pub kind: Kind,
+    pub id: Option<i64>,
+    pub precision: Option<i8>,
+    pub text: &'a [u8],
+}
+
+impl Head<'_> {
+    ghost use Rattle.std.specs.Prelude.{◌≡◌};
+    ghost use Rattle.twkb_table.specs.Head.{head_row};
+
+    /// The row itself.
+    #[inline(always)]
+    pub(crate) fn row(&self) -> Row
+        ensures { result ≡ head_row self.now }
+    {
+        Row {
+            depth: self.standing.depth,
+            kind: self.kind,
+            id: self.id,
+            precision: self.precision,
+        }
+    }
+}
+
+impl PointSource for Head<'_> {
+    ghost use Rattle.twkb_flat.specs.Rows.{row_with};
+    ghost use Rattle.twkb_table.specs.Judged.{Accepted, Refused};
+    ghost use Rattle.twkb_table.specs.Standing.{IfRefused};
+    ghost use Rattle.twkb_table.specs.Head.{head_row, JudgedAs};
+
+    type Fault = JudgeFault;
+
+    ghost gives = { λ head own. JudgedAs head (Accepted (row_with (head_row head) own)) };
+
+    ghost refuses = { λ head. IfRefused (λ reason. JudgedAs head (Refused reason)) };
+
+    #[inline(always)]
+    fn append_to(&self, points: &mut Vec<Pt>) -> Result<(), JudgeFault> {
+        if !self.text.is_empty() && !has_points(self.kind) {
+            return Err(JudgeFault::Refused(RowReason::PolylineNotAllowed));
+        }
+        let left = self.limits.points().saturating_sub(self.standing.points);
+        let held = points.len();
+        match decode_into(self.text, left, points) {
+            Ok(()) => {}
+            Err(PolyFault::Memory) => return Err(JudgeFault::Memory),
+            Err(PolyFault::At { offset, reason }) => {
+                return Err(JudgeFault::Refused(RowReason::Polyline(offset, reason)));
+            }
+        }
+        let whole = is_whole(self.standing.parent);
+        if count_fits(self.kind, whole, points.len() - held) {
+            Ok(())
+        } else {
+            points.truncate(held);
+            Err(JudgeFault::Refused(RowReason::PointCount))
+        }
+    }
+
+    #[inline(always)]
+    fn want_of_memory(&self) -> JudgeFault {
+        JudgeFault::Memory
+    }
+}
