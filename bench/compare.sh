@@ -4,7 +4,8 @@
 #   compare.sh reading        blobs of lines of 1000 points and of single points: by a reader, by a session that is fed whole
 #                             pieces, and by one that is fed byte by byte; the memory of 10,000 sessions in the middle of a blob
 #   compare.sh writing        lines of 1000 points, held already, below 0, 8, 16 and 32 collections: measured and written
-#   compare.sh tables [MB]    single points, lines of 1000 points, multipolygons, collections 8 deep: by the reader of tables,
+#   compare.sh tables [MB [ROUNDS]]
+#                             single points, lines of 1000 points, multipolygons, collections 8 deep: by the reader of tables,
 #                             and by that of `csv` alone
 #
 # The program bench/NAME/main.rt.in is no crate of the repository: it is proved and built in a copy, which is removed. Not part
@@ -20,7 +21,7 @@ writing)
     ;;
 tables) libraries="csv twkb_io twkb_geom twkb_flat twkb_table" words="records" loops="table_loop" ;;
 *)
-    echo "compare.sh reading, compare.sh writing, or compare.sh tables [MB]" >&2
+    echo "compare.sh reading, compare.sh writing, or compare.sh tables [MB [ROUNDS]]" >&2
     exit 2
     ;;
 esac
