@@ -1,5 +1,6 @@
 -- The command line is one of which `clap` says the matches.
-use Rattle.std.proofs.Common.{◌≡◌, true, refl, subst}
+use Rattle.std.proofs.Common.{◌≡◌, true, refl, subst, map, codes, [], ◌∷◌}
+use Rattle.std.specs.Borrow.{Bor}
 use Rattle.clap.specs.Words.{App, FailsBy, HasMatchesOf, Text, fault_of, is_simple, is_simple_and_free, kind_of, subcommand_of, subcommand_rows_of, takes}
 use Rattle.clap.specs.declared.error.Error.{Error}
 use Rattle.clap.specs.declared.error.kind.ErrorKind.TheVariants as kind
@@ -7,32 +8,37 @@ use Rattle.clap.specs.declared.parser.matches.ArgMatches.{ArgMatches}
 use Rattle.std.specs.Prelude.{List, Result, IfErr, IfOk}
 use Rattle.std.proofs.lemmas.Result.{IfOk-weaker}
 use Rattle.clap.proofs.OnLiterals.{clap_on_literals}
-use Rattle.polytwkb.specs.CommandLine.{command_line}
+use Rattle.polytwkb.specs.CommandLine.{IsCommandLine, command_line}
 
-pub simple_line : is_simple command_line ≡ true
+pub simple_line : (styles : Bor (List (Bor Text))) → is_simple (command_line styles) ≡ true
 unfolding clap_on_literals command_line
-simple_line = refl
+simple_line styles = refl
 
-pub free_line : is_simple_and_free command_line ≡ true
+pub free_line : (styles : Bor (List (Bor Text))) → is_simple_and_free (command_line styles) ≡ true
 unfolding clap_on_literals command_line
-free_line = refl
+free_line styles = refl
 
 -- a parse of this line fails where the words do not fit, or for memory
-pub passes_line : {T : Type 0} (result : Result T Error) (app : App) (words : List Text) → app ≡ command_line
+pub passes_line : {T : Type 0} (styles : Bor (List (Bor Text))) (result : Result T Error) (app : App) (words : List Text) → app ≡ command_line styles
     → IfErr result (λ e. takes app words ≡ true → kind_of e ≡ kind.OutOfMemory)
-    → IfErr result (λ e. takes command_line words ≡ true → kind_of e ≡ kind.OutOfMemory)
-passes_line {T} result app words line passes =
+    → IfErr result (λ e. takes (command_line styles) words ≡ true → kind_of e ≡ kind.OutOfMemory)
+passes_line {T} styles result app words line passes =
     let P : App → Type 0 = λ a. IfErr result (λ e. takes a words ≡ true → kind_of e ≡ kind.OutOfMemory) in
     subst P line passes
 
-pub kinds_line : {T : Type 0} (result : Result T Error) (app : App) (words : List Text) → app ≡ command_line
-    → (is_simple_and_free app ≡ true → FailsBy (fault_of app words) result) → FailsBy (fault_of command_line words) result
-kinds_line {T} result app words line kinds =
+pub kinds_line : {T : Type 0} (styles : Bor (List (Bor Text))) (result : Result T Error) (app : App) (words : List Text) → app ≡ command_line styles
+    → (is_simple_and_free app ≡ true → FailsBy (fault_of app words) result) → FailsBy (fault_of (command_line styles) words) result
+kinds_line {T} styles result app words line kinds =
     let P : App → Type 0 = λ a. is_simple_and_free a ≡ true → FailsBy (fault_of a words) result in
-    subst P line kinds free_line
+    subst P line kinds (free_line styles)
 
-pub matches_line : (result : Result ArgMatches Error) (app : App) (words : List Text) → app ≡ command_line
-    → IfOk result (HasMatchesOf app words) → IfOk result (λ m. subcommand_rows_of m ≡ subcommand_of command_line words)
-matches_line result app words line matches =
+pub matches_line : (styles : Bor (List (Bor Text))) (result : Result ArgMatches Error) (app : App) (words : List Text) → app ≡ command_line styles
+    → IfOk result (HasMatchesOf app words) → IfOk result (λ m. subcommand_rows_of m ≡ subcommand_of (command_line styles) words)
+matches_line styles result app words line matches =
     let P : App → Type 0 = λ a. IfOk result (HasMatchesOf a words) in
-    IfOk-weaker result _ _ (λ m h. (h simple_line).1) (subst P line matches)
+    IfOk-weaker result _ _ (λ m h. (h (simple_line styles)).1) (subst P line matches)
+
+-- what holds of the line where the styles have these names holds of a command line
+pub line_of_styles : {P : App → Type 0} (styles : Bor (List (Bor Text))) → map (λ name. name.now) styles.now ≡ codes "full" ∷ codes "plain" ∷ []
+    → P (command_line styles) → (line : App) × IsCommandLine line × P line
+line_of_styles styles names holds = (command_line styles, record { styles = styles; names = names; is = refl }, holds)

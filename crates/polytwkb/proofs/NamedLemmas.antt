@@ -1,5 +1,6 @@
 -- Words that the command line takes name a conversion.
 use Rattle.std.proofs.Common.{◌≡◌, ◌⊎◌, inl, inr, List, [], ◌∷◌, Option, Some, None, Bool, true, false, not, ◌&&◌, refl, sym, subst, map, codes}
+use Rattle.std.specs.Borrow.{Bor}
 use Rattle.std.specs.Prelude.{is_some, option_map, find, cond, Result, Ok, Err, IfOk}
 use Rattle.std.specs.List.{list_any}
 use Rattle.clap.specs.Kinds.{FailsBy, Kinds, check_kinds, or_else}
@@ -80,26 +81,31 @@ no_fault_names a words needed none = entered_named (built a) _ (level_entered (b
 
 -- ---- the command line
 
-needed_line : (built command_line).top.subcommand_required ≡ true
+needed_line : (styles : Bor (List (Bor Text))) → (built (command_line styles)).top.subcommand_required ≡ true
 unfolding clap_on_literals command_line
-needed_line = refl
+needed_line styles = refl
 
-names_line : names_in (built command_line).subs ≡ codes "pack" ∷ codes "unpack" ∷ []
+abbrev conversion_names : List Text
+conversion_names = codes "pack" ∷ codes "unpack" ∷ codes "show" ∷ []
+
+names_line : (styles : Bor (List (Bor Text))) → names_in (built (command_line styles)).subs ≡ conversion_names
 unfolding clap_on_literals command_line
-names_line = refl
+names_line styles = refl
 
-name_of_conversion : (used : Option (Text × List Row)) → NamesOneOf (codes "pack" ∷ codes "unpack" ∷ []) used → NamesConversion used
+name_of_conversion : (used : Option (Text × List Row)) → NamesOneOf conversion_names used → NamesConversion used
 name_of_conversion None named = named
 name_of_conversion (Some p) (inl is) = (conversion.Pack, sym is)
 name_of_conversion (Some p) (inr (inl is)) = (conversion.Unpack, sym is)
-name_of_conversion (Some p) (inr (inr none)) = absurd none
+name_of_conversion (Some p) (inr (inr (inl is))) = (conversion.Show, sym is)
+name_of_conversion (Some p) (inr (inr (inr none))) = absurd none
 
 -- words that the command line takes name a conversion
-pub names_conversion : (words : List Text) → fault_of command_line words ≡ [] → NamesConversion (subcommand_of command_line words)
-names_conversion words none =
-    name_of_conversion _ (subst (λ names. NamesOneOf names (subcommand_of command_line words)) names_line (no_fault_names command_line words needed_line none))
+pub names_conversion : (styles : Bor (List (Bor Text))) (words : List Text) → fault_of (command_line styles) words ≡ [] → NamesConversion (subcommand_of (command_line styles) words)
+names_conversion styles words none =
+    name_of_conversion _ (subst (λ names. NamesOneOf names (subcommand_of (command_line styles) words)) (names_line styles)
+    (no_fault_names (command_line styles) words (needed_line styles) none))
 
-pub named_line : (result : Result ArgMatches Error) (words : List Text) → FailsBy (fault_of command_line words) result
-    → IfOk result (λ m. subcommand_rows_of m ≡ subcommand_of command_line words) → IfOk result (λ m. NamesConversion (subcommand_rows_of m))
-named_line (Ok m) words none is = subst NamesConversion (sym is) (names_conversion words none)
-named_line (Err e) words kinds is = tt
+pub named_line : (styles : Bor (List (Bor Text))) (result : Result ArgMatches Error) (words : List Text) → FailsBy (fault_of (command_line styles) words) result
+    → IfOk result (λ m. subcommand_rows_of m ≡ subcommand_of (command_line styles) words) → IfOk result (λ m. NamesConversion (subcommand_rows_of m))
+named_line styles (Ok m) words none is = subst NamesConversion (sym is) (names_conversion styles words none)
+named_line styles (Err e) words kinds is = tt

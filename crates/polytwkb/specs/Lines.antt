@@ -37,7 +37,6 @@ row_words row.PrecisionNotAllowed = codes "precision not allowed"
 row_words row.PolylineNotAllowed = codes "polyline not allowed"
 row_words (row.Polyline offset reason) = codes "polyline at "
 row_words row.PointCount = codes "wrong number of points"
-row_words row.Unsupported = codes "not handled yet"
 
 -- what is wrong with a text of points, and where
 abbrev pub text_reason : ℕ → PolyReason → List ℕ

@@ -1,21 +1,23 @@
 -- What the words ask for.
-use Rattle.std.specs.Prelude.{◌≡◌, ◌≢◌, ◌≤◌, ⊤, List, [], Option, Some, None, codes}
+use Rattle.std.specs.Prelude.{◌≡◌, ◌≢◌, ◌≤◌, ◌↔◌, ⊤, List, [], Option, Some, None, codes}
 use Rattle.std.specs.Str.Parse.{IsNumeral, digits_value, without_leading_plus}
-use Rattle.clap.specs.Words.{IsAmong, Kinds, Row, Text, one_of, subcommand_of}
+use Rattle.clap.specs.Words.{App, IsAmong, Kinds, Row, Text, first_of, one_of, subcommand_of}
 use Rattle.clap.specs.declared.error.kind.ErrorKind.{ErrorKind}
-use Rattle.clap.specs.declared.error.kind.ErrorKind.TheVariants.{DisplayHelp}
+use Rattle.clap.specs.declared.error.kind.ErrorKind.TheVariants.{DisplayHelp, DisplayVersion}
 use Rattle.twkb_geom.specs.Limits.{Allowance, standard_limits}
+use Rattle.twkb_grammar.specs.declared.style.Style.{Style}
+use Rattle.twkb_grammar.specs.declared.style.Style.TheVariants.{Full, Plain}
 use Rattle.polytwkb.specs.declared.words.Conversion.{Conversion}
 use Rattle.polytwkb.specs.declared.words.Conversion.TheVariants as conversion
 use Rattle.polytwkb.specs.declared.words.Refusal.{Refusal}
 use Rattle.polytwkb.specs.declared.words.Refusal.TheVariants as refusal
 use Rattle.polytwkb.specs.declared.words.Request.{Request}
-use Rattle.polytwkb.specs.CommandLine.{command_line}
 
 -- the word of a conversion
 abbrev pub name_of : Conversion → Text
 name_of conversion.Pack = codes "pack"
 name_of conversion.Unpack = codes "unpack"
+name_of conversion.Show = codes "show"
 
 -- the text is a number from 0 to 32
 abbrev pub IsNest : Text → Type 0
@@ -31,10 +33,16 @@ abbrev pub GivesNoNest : Option Text → Type 0
 GivesNoNest None = ⊥
 GivesNoNest (Some digits) = IsNest digits → ⊥
 
--- the rows of a subcommand name this conversion, with these limits
+-- the style that the option gives: plain for `plain`, and full for `full` or where it gives none
+abbrev pub IsStyle : Option Text → Style → Type 0
+IsStyle None style = style ≡ Full
+IsStyle (Some name) style = (style ≡ Plain) ↔ (name ≡ codes "plain")
+
+-- the rows of a subcommand name this conversion, with these limits and this style
 abbrev pub IsAskedBy : Option (Text × List Row) → Request → Type 0
 IsAskedBy None request = ⊥
-IsAskedBy (Some (name, rows)) request = (name ≡ name_of request.conversion) × AreLimits (one_of (codes "max-nest") rows) request.limits
+IsAskedBy (Some (name, rows)) request =
+    (name ≡ name_of request.conversion) × AreLimits (one_of (codes "max-nest") rows) request.limits × IsStyle (first_of (codes "style") rows) request.style
 
 -- the option of a subcommand gives a text that is no number from 0 to 32
 abbrev pub HasNoNest : Option (Text × List Row) → Type 0
@@ -50,31 +58,34 @@ abbrev pub NamesConversion : Option (Text × List Row) → Type 0
 NamesConversion None = ⊥
 NamesConversion (Some (name, rows)) = IsConversionName name
 
--- the words name this conversion, with these limits
-abbrev pub AsksFor : List Text → Request → Type 0
-AsksFor words request = IsAskedBy (subcommand_of command_line words) request
+-- the words name this conversion, with these limits and this style
+abbrev pub AsksFor : App → List Text → Request → Type 0
+AsksFor line words request = IsAskedBy (subcommand_of line words) request
 
 -- `clap` takes the words, and yet the number of the option is none from 0 to 32
-abbrev pub NamesNoNest : List Text → Type 0
-NamesNoNest words = HasNoNest (subcommand_of command_line words)
+abbrev pub NamesNoNest : App → List Text → Type 0
+NamesNoNest line words = HasNoNest (subcommand_of line words)
 
 -- why words that `clap` takes are refused: no memory was found, or the option's number is none from 0 to 32
-abbrev pub IsLateRefusal : List Text → Refusal → Type 0
-IsLateRefusal words refusal.Memory = ⊤
-IsLateRefusal words refusal.Nest = NamesNoNest words
-IsLateRefusal words (refusal.Help text) = ⊥
-IsLateRefusal words (refusal.Usage text) = ⊥
+abbrev pub IsLateRefusal : App → List Text → Refusal → Type 0
+IsLateRefusal line words refusal.Memory = ⊤
+IsLateRefusal line words refusal.Nest = NamesNoNest line words
+IsLateRefusal line words (refusal.Help text) = ⊥
+IsLateRefusal line words (refusal.Version text) = ⊥
+IsLateRefusal line words (refusal.Usage text) = ⊥
 
 -- the refusal that an error of this kind is, unless no memory was found
 abbrev pub IsRefusal : ErrorKind → Refusal → Type 0
 IsRefusal kind refusal.Memory = ⊤
 IsRefusal kind refusal.Nest = ⊥
 IsRefusal kind (refusal.Help text) = kind ≡ DisplayHelp
-IsRefusal kind (refusal.Usage text) = kind ≢ DisplayHelp
+IsRefusal kind (refusal.Version text) = kind ≡ DisplayVersion
+IsRefusal kind (refusal.Usage text) = (kind ≢ DisplayHelp) × (kind ≢ DisplayVersion)
 
--- the refusal of words that may have these kinds of error: help where it was asked for, unless no memory was found
+-- the refusal of words that may have these kinds of error: help or the version where it was asked for, unless no memory was found
 abbrev pub IsRefusalAmong : Kinds → Refusal → Type 0
 IsRefusalAmong kinds refusal.Memory = ⊤
 IsRefusalAmong kinds refusal.Nest = kinds ≡ []
 IsRefusalAmong kinds (refusal.Help text) = IsAmong DisplayHelp kinds
-IsRefusalAmong kinds (refusal.Usage text) = (kind : ErrorKind) × IsAmong kind kinds × (kind ≢ DisplayHelp)
+IsRefusalAmong kinds (refusal.Version text) = IsAmong DisplayVersion kinds
+IsRefusalAmong kinds (refusal.Usage text) = (kind : ErrorKind) × IsAmong kind kinds × (kind ≢ DisplayHelp) × (kind ≢ DisplayVersion)

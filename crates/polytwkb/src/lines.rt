@@ -48,7 +48,6 @@ fn row_fault(reason: RowReason) -> &'static [u8]
         RowReason::PolylineNotAllowed => b"polyline not allowed",
         RowReason::Polyline(_, _) => b"polyline at ",
         RowReason::PointCount => b"wrong number of points",
-        RowReason::Unsupported => b"not handled yet",
     }
 }
 

@@ -1,20 +1,18 @@
 //! A run of the command, over any devices.
-ghost use Rattle.std.specs.Prelude.{◌≡◌, ◌≢◌, ◌⊎◌, ◌∷◌, true, [], map, string_bytes};
-ghost use Rattle.clap.specs.Words.{IsAmong, fault_of, takes};
-ghost use Rattle.clap.specs.declared.error.kind.ErrorKind.TheVariants.{DisplayHelp};
-ghost use Rattle.polytwkb.specs.CommandLine.{command_line};
-ghost use Rattle.polytwkb.specs.Runs.{Answers, CarriesOut, Converts, LacksMemory, RefusesNest};
+ghost use Rattle.std.specs.Prelude.{◌≡◌, ◌≢◌, map, string_bytes};
+ghost use Rattle.clap.specs.Words.{App};
+ghost use Rattle.clap.specs.declared.error.kind.ErrorKind.TheVariants.{DisplayHelp, DisplayVersion};
+ghost use Rattle.polytwkb.specs.CommandLine.{IsCommandLine, command_line};
+ghost use Rattle.polytwkb.specs.Runs.{CarriesOut, Converts, RunsRefused, RunsTaken, RunsTold};
 ghost use Rattle.polytwkb.specs.Lines.{line_of, no_text_line};
 ghost use Rattle.polytwkb.specs.Printing.{IsPrinted};
-ghost use Rattle.polytwkb.specs.Words.{AsksFor};
-ghost use Rattle.polytwkb.specs.declared.words.Request.{Request as Asked};
 
 use crate::lines::{print_line, print_text};
 use crate::status::{DONE, MEMORY, USAGE, status};
 use crate::words::{Conversion, Refusal, Request, read_words};
 use std::alloc::Global;
 use std::io::{ErrorKind, Read, Write};
-use twkb_convert::{Cause, ConvertFault, Report, pack, unpack};
+use twkb_convert::{Cause, ConvertFault, Report, pack_styled, show, unpack};
 use twkb_io::Tap;
 
 // Converts what is asked for.
@@ -24,11 +22,12 @@ fn convert<R: Read, W: Write>(
     reader: &mut Tap<R>,
     writer: &mut Tap<W>,
 ) -> Result<Report, ConvertFault>
-    ensures { Converts request.conversion request.limits R.remaining W.contents reader.old writer.old reader.new writer.new result }
+    ensures { Converts request.conversion request.limits request.style R.remaining W.contents reader.old writer.old reader.new writer.new result }
 {
     match request.conversion {
-        Conversion::Pack => pack(alloc, reader, writer, request.limits),
+        Conversion::Pack => pack_styled(alloc, reader, writer, request.limits, request.style),
         Conversion::Unpack => unpack(alloc, reader, writer, request.limits),
+        Conversion::Show => show(alloc, reader, writer, request.limits),
     }
 }
 
@@ -49,6 +48,14 @@ fn carry_out<R: Read, W: Write, E: Write>(
             status(&stop.cause)
         }
     }
+}
+
+// Prints what was asked for, and answers the status.
+fn tell<W: Write>(writer: &mut Tap<W>, text: &str) -> u8
+    ensures { result ≡ 0 }
+{
+    print_text(writer, text);
+    DONE
 }
 
 /// Says that no memory was found, and answers the status. Takes no memory.
@@ -74,9 +81,9 @@ pub fn lack_words<E: Write>(errors: &mut Tap<E>, kind: ErrorKind) -> u8
 }
 
 /// Runs the command with its words, of which the first is the program's name, and answers its
-/// status: 0 where all was converted or help was asked for, 1 where the input is refused or a length
-/// passes its bound, 2 where the words are refused, 3 where a device failed, 4 for want of memory.
-/// A fault is told to `errors`; a failure there changes nothing else.
+/// status: 0 where all was converted, or where help or the version was asked for, 1 where the input
+/// is refused or a length passes its bound, 2 where the words are refused, 3 where a device failed,
+/// 4 for want of memory. A fault is told to `errors`; a failure there changes nothing else.
 pub fn run<R: Read, W: Write, E: Write>(
     alloc: Global,
     words: &[String],
@@ -84,28 +91,38 @@ pub fn run<R: Read, W: Write, E: Write>(
     writer: &mut Tap<W>,
     errors: &mut Tap<E>,
 ) -> u8
-    ensures accepted { takes command_line (map string_bytes words.now) ≡ true
-        → ((request : Asked) × AsksFor (map string_bytes words.now) request × CarriesOut R.remaining W.contents E.contents request reader.old writer.old errors.old reader.new writer.new errors.new result)
-        ⊎ LacksMemory E.contents reader.old writer.old errors.old reader.new writer.new errors.new result
-        ⊎ RefusesNest E.contents (map string_bytes words.now) reader.old writer.old errors.old reader.new writer.new errors.new result }
-    ensures help { fault_of command_line (map string_bytes words.now) ≡ DisplayHelp ∷ []
-        → (Answers 0 reader.old reader.new result × (errors.new ≡ errors.old))
-        ⊎ LacksMemory E.contents reader.old writer.old errors.old reader.new writer.new errors.new result }
-    ensures usage { fault_of command_line (map string_bytes words.now) ≢ [] → (IsAmong DisplayHelp (fault_of command_line (map string_bytes words.now)) → ⊥)
-        → (Answers 2 reader.old reader.new result × (writer.new ≡ writer.old))
-        ⊎ LacksMemory E.contents reader.old writer.old errors.old reader.new writer.new errors.new result }
+    ensures accepted { (line : App) × IsCommandLine line × RunsTaken R.remaining W.contents E.contents line (map string_bytes words.now) reader.old writer.old errors.old reader.new writer.new errors.new result }
+    ensures help { (line : App) × IsCommandLine line × RunsTold R.remaining W.contents E.contents line (map string_bytes words.now) reader.old writer.old errors.old reader.new writer.new errors.new result DisplayHelp }
+    ensures version { (line : App) × IsCommandLine line × RunsTold R.remaining W.contents E.contents line (map string_bytes words.now) reader.old writer.old errors.old reader.new writer.new errors.new result DisplayVersion }
+    ensures usage { (line : App) × IsCommandLine line × RunsRefused R.remaining W.contents E.contents line (map string_bytes words.now) reader.old writer.old errors.old reader.new writer.new errors.new result }
 {
-    match read_words(alloc, words) {
+    let styles = ["full", "plain"];
+    run_line(alloc, styles.as_slice(), words, reader, writer, errors)
+}
+
+// Runs the command, where the styles have these names.
+fn run_line<R: Read, W: Write, E: Write>(
+    alloc: Global,
+    styles: &[&str],
+    words: &[String],
+    reader: &mut Tap<R>,
+    writer: &mut Tap<W>,
+    errors: &mut Tap<E>,
+) -> u8
+    ensures accepted { RunsTaken R.remaining W.contents E.contents (command_line styles.entry) (map string_bytes words.now) reader.old writer.old errors.old reader.new writer.new errors.new result }
+    ensures help { RunsTold R.remaining W.contents E.contents (command_line styles.entry) (map string_bytes words.now) reader.old writer.old errors.old reader.new writer.new errors.new result DisplayHelp }
+    ensures version { RunsTold R.remaining W.contents E.contents (command_line styles.entry) (map string_bytes words.now) reader.old writer.old errors.old reader.new writer.new errors.new result DisplayVersion }
+    ensures usage { RunsRefused R.remaining W.contents E.contents (command_line styles.entry) (map string_bytes words.now) reader.old writer.old errors.old reader.new writer.new errors.new result }
+{
+    match read_words(alloc, styles, words) {
         Ok(request) => carry_out(alloc, request, reader, writer, errors),
         Err(Refusal::Memory) => lack_memory(errors),
         Err(Refusal::Nest) => {
             print_text(errors, "polytwkb: --max-nest takes a number from 0 to 32\n");
             USAGE
         }
-        Err(Refusal::Help(text)) => {
-            print_text(writer, &text);
-            DONE
-        }
+        Err(Refusal::Help(text)) => tell(writer, &text),
+        Err(Refusal::Version(text)) => tell(writer, &text),
         Err(Refusal::Usage(text)) => {
             print_text(errors, &text);
             USAGE

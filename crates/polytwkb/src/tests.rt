@@ -3,6 +3,7 @@ mod causes;
 mod devices;
 mod memory;
 mod packing;
+mod showing;
 mod unpacking;
 mod usage;
 mod words;

@@ -1,13 +1,15 @@
 //! From the words of a command line to a request.
 ghost use Rattle.std.specs.Prelude.{◌≡◌, true, false, [], map, string_bytes, codes, IfNone, IfOk, IfErr, IfSome, OnOk};
-ghost use Rattle.clap.specs.Words.{FailsBy, app_of, fault_of, found_of, kind_of, new_app, one_text, rule_of, shape_of, subcommand_of, subcommand_rows_of, takes};
+ghost use Rattle.clap.specs.Words.{FailsBy, app_of, fault_of, first_value, found_of, kind_of, new_app, one_text, rule_of, shape_of, subcommand_of, subcommand_rows_of, takes};
 ghost use Rattle.clap.specs.declared.builder.command.Command.TheViews.{out-Command};
-ghost use Rattle.polytwkb.specs.CommandLine.{command_line, conversion_shape, max_nest};
-ghost use Rattle.polytwkb.specs.Words.{AreLimits, AsksFor, GivesNoNest, HasNoNest, IsAskedBy, IsConversionName, IsLateRefusal, IsRefusal, IsRefusalAmong, NamesConversion, name_of};
+ghost use Rattle.polytwkb.specs.CommandLine.{command_line, conversion_shape, max_nest, pack_shape, program as program_app, style_option};
+ghost use Rattle.polytwkb.specs.Words.{AreLimits, AsksFor, GivesNoNest, HasNoNest, IsAskedBy, IsConversionName, IsLateRefusal, IsRefusal, IsRefusalAmong, IsStyle, NamesConversion, name_of};
 
+use crate::help;
 use clap::error::ErrorKind;
 use clap::{Arg, ArgMatches, Command, Error, value_parser};
 use std::alloc::{AllocError, Global};
+use twkb_convert::Style;
 use twkb_geom::Limits;
 
 /// What a request converts.
@@ -17,6 +19,8 @@ pub enum Conversion {
     Pack,
     /// A stream to a table.
     Unpack,
+    /// A stream to lines of its headers.
+    Show,
 }
 
 /// What the words ask for.
@@ -24,6 +28,8 @@ pub enum Conversion {
 pub struct Request {
     pub conversion: Conversion,
     pub limits: Limits,
+    /// The style of packed blobs.
+    pub style: Style,
 }
 
 /// Why the words ask for no conversion.
@@ -35,6 +41,8 @@ pub enum Refusal {
     Nest,
     /// Help was asked for: this is it.
     Help(String),
+    /// The version was asked for: this is it.
+    Version(String),
     /// The words are refused, with this text.
     Usage(String),
 }
@@ -48,8 +56,19 @@ fn max_nest_option<'a>(alloc: Global) -> Arg<'a>
         .long("max-nest")
         .value_name("N")
         .value_parser(value_parser!(u32).range(0..=32));
-    let help = "How many collections may stand round a member, 0 to 32 [default: 16]";
-    described(nest, help)
+    described(nest, help::MAX_NEST)
+}
+
+/// The option `--style`, which takes one of these names.
+fn style_choice<'a>(alloc: Global, styles: &'a [&'a str]) -> Arg<'a>
+    ensures rule { rule_of result ≡ style_option styles.entry }
+    ensures local { result.global ≡ false }
+{
+    let style = Arg::new(alloc, "style")
+        .long("style")
+        .value_name("STYLE")
+        .value_parser(styles);
+    described(style, help::STYLE)
 }
 
 /// The option with what help says of it.
@@ -80,37 +99,60 @@ fn conversion_command<'a>(
     subcommand(alloc, name, about).arg(max_nest_option(alloc))
 }
 
-/// The program's command, without its subcommands.
-fn program<'a>(alloc: Global) -> Command<'a>
+/// The subcommand `pack`, which has the option `--style` too.
+fn pack_command<'a>(alloc: Global, styles: &'a [&'a str]) -> Result<Command<'a>, AllocError>
+    ensures shape { IfOk result (λ command. shape_of command ≡ pack_shape styles.entry) }
+    ensures local { IfOk result (λ command. (out-Command command).has_globals ≡ false) }
+{
+    subcommand(alloc, "pack", help::PACK)
+        .arg(max_nest_option(alloc))?
+        .arg(style_choice(alloc, styles))
+}
+
+/// The program's command, with what help says of it.
+fn described_program<'a>(alloc: Global) -> Command<'a>
     ensures app { app_of result ≡ new_app (codes "polytwkb") }
     ensures local { (out-Command result).has_globals ≡ false }
 {
-    let about = "Converts between tables of encoded polylines and streams of TWKB blobs";
-    Command::new(alloc, "polytwkb").about(about)
+    Command::new(alloc, "polytwkb")
+        .about(help::PROGRAM)
+        .after_long_help(help::MORE)
+}
+
+/// The program's command, without its subcommands.
+fn program<'a>(alloc: Global) -> Command<'a>
+    ensures app { app_of result ≡ program_app }
+    ensures local { (out-Command result).has_globals ≡ false }
+{
+    described_program(alloc)
+        .version(help::VERSION)
+        .subcommand_required(true)
+        .disable_help_subcommand(true)
 }
 
 /// The command line: one of the subcommands.
 #[tactic(auto, unfolding(crate::specs::CommandLine::command_line))]
-fn command<'a>(alloc: Global) -> Result<Command<'a>, AllocError>
-    ensures { IfOk result (λ command. app_of command ≡ command_line) }
+fn command<'a>(alloc: Global, styles: &'a [&'a str]) -> Result<Command<'a>, AllocError>
+    ensures { IfOk result (λ command. app_of command ≡ command_line styles.entry) }
 {
-    let about_pack = "Reads a table of encoded polylines and writes a stream of TWKB blobs";
-    let about_unpack = "Reads a stream of TWKB blobs and writes a table of encoded polylines";
     program(alloc)
-        .subcommand_required(true)
-        .disable_help_subcommand(true)
-        .subcommand(conversion_command(alloc, "pack", about_pack)?)?
-        .subcommand(conversion_command(alloc, "unpack", about_unpack)?)
+        .subcommand(pack_command(alloc, styles)?)?
+        .subcommand(conversion_command(alloc, "unpack", help::UNPACK)?)?
+        .subcommand(conversion_command(alloc, "show", help::SHOW)?)
 }
 
 /// The matches of the words.
-fn matches_of<'a>(alloc: Global, words: &'a [String]) -> Result<ArgMatches<'a>, Error>
-    ensures ok { IfOk result (λ m. subcommand_rows_of m ≡ subcommand_of command_line (map string_bytes words.entry.now)) }
+fn matches_of<'a>(
+    alloc: Global,
+    styles: &'a [&'a str],
+    words: &'a [String],
+) -> Result<ArgMatches<'a>, Error>
+    ensures ok { IfOk result (λ m. subcommand_rows_of m ≡ subcommand_of (command_line styles.entry) (map string_bytes words.entry.now)) }
     ensures named { IfOk result (λ m. NamesConversion (subcommand_rows_of m)) }
-    ensures passes { IfErr result (λ e. takes command_line (map string_bytes words.entry.now) ≡ true → kind_of e ≡ ErrorKind.OutOfMemory) }
-    ensures kinds { FailsBy (fault_of command_line (map string_bytes words.entry.now)) result }
+    ensures passes { IfErr result (λ e. takes (command_line styles.entry) (map string_bytes words.entry.now) ≡ true → kind_of e ≡ ErrorKind.OutOfMemory) }
+    ensures kinds { FailsBy (fault_of (command_line styles.entry) (map string_bytes words.entry.now)) result }
 {
-    command(alloc)?.try_get_matches_from(words)
+    command(alloc, styles)?.try_get_matches_from(words)
 }
 
 /// The conversion of a name.
@@ -121,6 +163,7 @@ fn conversion_of(name: &str) -> Conversion
     match name {
         "pack" => Conversion::Pack,
         "unpack" => Conversion::Unpack,
+        "show" => Conversion::Show,
         _ => unreachable!(),
     }
 }
@@ -138,6 +181,16 @@ fn limits_of(matches: &ArgMatches<'_>) -> Option<Limits>
     }
 }
 
+/// The style that the matches of a subcommand give.
+fn style_of(matches: &ArgMatches<'_>) -> Style
+    ensures { IsStyle (first_value (found_of matches.now) (codes "style")) result }
+{
+    match matches.get_str("style") {
+        Some("plain") => Style::Plain,
+        _ => Style::Full,
+    }
+}
+
 /// What the matches of the words ask for.
 fn request_of(matches: &ArgMatches<'_>) -> Option<Request>
     requires { NamesConversion (subcommand_rows_of matches.now) }
@@ -150,7 +203,12 @@ fn request_of(matches: &ArgMatches<'_>) -> Option<Request>
             let Some(limits) = limits_of(inner) else {
                 return None;
             };
-            Some(Request { conversion, limits })
+            let style = style_of(inner);
+            Some(Request {
+                conversion,
+                limits,
+                style,
+            })
         }
         None => unreachable!(),
     }
@@ -168,21 +226,21 @@ fn refusal_of(alloc: Global, error: &Error) -> Refusal
     let Ok(text) = format!(in alloc; "{error}") else {
         return Refusal::Memory;
     };
-    if kind == ErrorKind::DisplayHelp {
-        Refusal::Help(text)
-    } else {
-        Refusal::Usage(text)
+    match kind {
+        ErrorKind::DisplayHelp => Refusal::Help(text),
+        ErrorKind::DisplayVersion => Refusal::Version(text),
+        _ => Refusal::Usage(text),
     }
 }
 
-/// What the words ask for; the first is the program's name.
-pub fn read_words(alloc: Global, words: &[String]) -> Result<Request, Refusal>
-    ensures ok { IfOk result (AsksFor (map string_bytes words.now)) }
-    ensures refused { IfErr result (IsRefusalAmong (fault_of command_line (map string_bytes words.now))) }
-    ensures fits { OnOk result (fault_of command_line (map string_bytes words.now) ≡ []) }
-    ensures accepted { takes command_line (map string_bytes words.now) ≡ true → IfErr result (IsLateRefusal (map string_bytes words.now)) }
+/// What the words ask for, where the styles have these names; the first is the program's name.
+pub fn read_words(alloc: Global, styles: &[&str], words: &[String]) -> Result<Request, Refusal>
+    ensures ok { IfOk result (AsksFor (command_line styles.entry) (map string_bytes words.now)) }
+    ensures refused { IfErr result (IsRefusalAmong (fault_of (command_line styles.entry) (map string_bytes words.now))) }
+    ensures fits { OnOk result (fault_of (command_line styles.entry) (map string_bytes words.now) ≡ []) }
+    ensures accepted { takes (command_line styles.entry) (map string_bytes words.now) ≡ true → IfErr result (IsLateRefusal (command_line styles.entry) (map string_bytes words.now)) }
 {
-    let matches = match matches_of(alloc, words) {
+    let matches = match matches_of(alloc, styles, words) {
         Ok(matches) => matches,
         Err(error) => return Err(refusal_of(alloc, &error)),
     };

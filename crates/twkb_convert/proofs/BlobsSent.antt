@@ -1,5 +1,5 @@
--- Blobs whose rows were sent, one after another.
-use Rattle.std.proofs.Common.{◌≡◌, ◌∙◌, ◌+◌, ◌≤◌, ℕ, List, [], ◌∷◌, ◌++◌, Option, Some, None, length, ap, arith, refl, sym, subst, inl, inr, length-append, false}
+-- Blobs whose texts were sent, one after another.
+use Rattle.std.proofs.Common.{◌≡◌, ◌∙◌, ◌+◌, ℕ, List, [], ◌∷◌, ◌++◌, Option, Some, None, length, ap, arith, refl, sym, subst, inl, inr, length-append, false}
 use Rattle.std.specs.Prelude.{IfSome}
 use Rattle.std.proofs.lemmas.List.{append-nil}
 use Rattle.std.proofs.KnownBytes.{Consumes-nil, Consumes-trans, Consumes-whole}
@@ -11,32 +11,23 @@ use Rattle.twkb_io.specs.Outputs.{Sent, Took, is_spent, output_failures, sent_of
 use Rattle.twkb_io.specs.OutputLaws.{refused_join, took_join, took_nothing}
 use Rattle.twkb_io.specs.declared.output.Output.{Output}
 use Rattle.twkb_io.specs.declared.output.OutFault.{OutFault}
-use Rattle.twkb_geom.specs.Tree.{Tree}
 use Rattle.twkb_geom.specs.Limits.{Allowance}
-use Rattle.twkb_grammar.specs.Blob.{Blob, Stream}
-use Rattle.twkb_grammar.proofs.Streams.{blob_some, stream-append}
 use Rattle.twkb_convert.specs.BlobReading.{Misses, RefusesBlob, Used, given, limits_of, rest_of, told_of}
 use Rattle.twkb_blob.specs.declared.reader.Reader.{Reader}
 use Rattle.twkb_blob.specs.declared.fault.BlobFault.{BlobFault}
 use Rattle.twkb_blob.specs.declared.fault.BlobFault.TheVariants as blob
 use Rattle.twkb_io.specs.declared.input.InFault.TheVariants as input
-use Rattle.twkb_convert.specs.Outputs.{rows_text}
-use Rattle.twkb_convert.specs.RowSending.{CutBlob, CutBlobs, EndsBlobs, Explains, ExplainsStream, Follows, SentAll, SentBlob, SentBlobs, StopsBlob, StopsRead, UnlessOutput, is_write}
-use Rattle.twkb_convert.specs.declared.row_sending.Obstacle.{Obstacle}
-use Rattle.twkb_convert.specs.declared.row_sending.Obstacle.TheVariants as obstacle
-use Rattle.twkb_convert.proofs.RowTexts.{rows_text-append, rows_text_some}
+use Rattle.twkb_blob.specs.declared.spans.Located.{Located}
+use Rattle.twkb_convert.specs.LocatedBlobs.{LocatedStream, TellsSpans}
+use Rattle.twkb_convert.specs.Listings.{blob_text, blobs_text}
+use Rattle.twkb_convert.specs.declared.listing.Listing.{Listing}
+use Rattle.twkb_convert.specs.BlobSending.{CutBlob, CutBlobs, EndsBlobs, Explains, ExplainsStream, Follows, SentAll, SentBlob, SentBlobs, StopsBlob, StopsRead, UnlessOutput, is_write}
+use Rattle.twkb_convert.specs.declared.halt.Obstacle.{Obstacle}
+use Rattle.twkb_convert.specs.declared.halt.Obstacle.TheVariants as obstacle
+use Rattle.twkb_convert.proofs.LocatedLemmas.{located-append, located-one}
+use Rattle.twkb_convert.proofs.ListingTexts.{blob_text_some, blobs_text-append, blobs_text-one}
 
 -- ---- bytes
-
-pub blob_long : (l : Allowance) (bytes : List ℕ) (g : Tree) → Blob l bytes g → 1 ≤ length bytes
-blob_long l [] g b = absurd (blob_some l g [] b refl)
-blob_long l (x ∷ bytes) g b = omega arith
-
--- a stream has a byte at least for each geometry
-pub stream_long : (l : Allowance) (bytes : List ℕ) (gs : List Tree) → Stream l bytes gs → length gs ≤ length bytes
-stream_long l bytes [] s = omega arith
-stream_long l bytes (g ∷ gs) s =
-    omega (arith, blob_long l s.0 g s.3, stream_long l s.1 gs s.4, ap length s.2, length-append s.0 s.1)
 
 pub consumes_begins : (old new : Option (List ℕ)) (bytes : List ℕ) → Consumes old new bytes → BeginsWith old bytes
 consumes_begins None new bytes c = tt
@@ -90,12 +81,21 @@ module _ {R : Type 0} {read : Ghosts R} where
     told = stops.told;
   }
 
--- ---- rows sent
+-- ---- blobs
 
-module _ {R W : Type 0} {read : Ghosts R} (contents : W → Option (List ℕ)) where
-  pub sent_none : (from : Reader R read) (old : Output W) → SentBlobs contents from old from old 0
+-- one blob more behind others
+one_more : (l m : Allowance) (before after : ℕ) (bytes front : List ℕ) (bs : List Located) (b : Located) → LocatedStream l before bytes bs → m ≡ l → after ≡ before + length bytes
+    → TellsSpans m after front b → LocatedStream l before (bytes ++ front) (bs ++ b ∷ [])
+one_more l m before after bytes front bs b blobs same place tells =
+    let here : TellsSpans l (before + length bytes) front b = subst (λ n. TellsSpans l n front b) place (subst (λ a. TellsSpans a after front b) same tells) in
+    located-append l before bytes front bs (b ∷ []) blobs (located-one l (before + length bytes) front b here)
+
+-- ---- texts sent
+
+module _ {R W : Type 0} {read : Ghosts R} (what : Listing) (contents : W → Option (List ℕ)) where
+  pub sent_none : (from : Reader R read) (old : Output W) → SentBlobs what contents from old from old 0
   sent_none from old = record {
-    trees = [];
+    found = [];
     bytes = [];
     blobs = refl;
     used = record { consumed = Consumes-nil (rest_of from); counted = omega arith };
@@ -103,25 +103,24 @@ module _ {R W : Type 0} {read : Ghosts R} (contents : W → Option (List ℕ)) w
     count = refl;
   }
 
-  pub sent_more : (from mid to : Reader R read) (old out new : Output W) (done : ℕ) → SentBlobs contents from old mid out done → limits_of mid ≡ limits_of from
-      → SentBlob contents mid out to new → SentBlobs contents from old to new (done + 1)
+  pub sent_more : (from mid to : Reader R read) (old out new : Output W) (done : ℕ) → SentBlobs what contents from old mid out done → limits_of mid ≡ limits_of from
+      → SentBlob what contents mid out to new → SentBlobs what contents from old to new (done + 1)
   sent_more from mid to old out new done sent same one =
-      let here : Blob (limits_of from) one.gives.front one.tree = subst (λ l. Blob l one.gives.front one.tree) same one.gives.blob in
       record {
-        trees = sent.trees ++ one.tree ∷ [];
+        found = sent.found ++ one.found ∷ [];
         bytes = sent.bytes ++ one.gives.front;
-        blobs = stream-append (limits_of from) sent.bytes one.gives.front sent.trees (one.tree ∷ []) sent.blobs
-            (one.gives.front, [], sym (append-nil one.gives.front), here, refl);
+        blobs = one_more (limits_of from) (limits_of mid) (given from) (given mid) sent.bytes one.gives.front sent.found one.found sent.blobs same sent.used.counted one.gives.tells;
         used = used_join (rest_of from) (rest_of mid) (rest_of to) (given from) (given mid) (given to) sent.bytes one.gives.front sent.used one.gives.used;
-        took = subst (λ text. Took contents old text new) (sym (rows_text-append sent.trees (one.tree ∷ [])))
-            (took_join contents old out new (rows_text sent.trees) (rows_text (one.tree ∷ [])) sent.took one.took);
-        count = omega (arith, sent.count, length-append sent.trees (one.tree ∷ []));
+        took = subst (λ text. Took contents old text new)
+            (ap (λ t. blobs_text what sent.found ++ t) (sym (blobs_text-one what one.found)) ∙ sym (blobs_text-append what sent.found (one.found ∷ [])))
+            (took_join contents old out new (blobs_text what sent.found) (blob_text what one.found) sent.took one.took);
+        count = omega (arith, sent.count, length-append sent.found (one.found ∷ []));
       }
 
-  pub sent_all : (remaining : R → Option (List ℕ)) (from mid to : Reader R read) (old out : Output W) (done : ℕ) → SentBlobs contents from old mid out done
-      → EndsBlobs remaining mid to → SentAll contents from old out done
+  pub sent_all : (remaining : R → Option (List ℕ)) (from mid to : Reader R read) (old out : Output W) (done : ℕ) → SentBlobs what contents from old mid out done
+      → EndsBlobs remaining mid to → SentAll what contents from old out done
   sent_all remaining from mid to old out done sent ends = record {
-    trees = sent.trees;
+    found = sent.found;
     bytes = sent.bytes;
     blobs = sent.blobs;
     all = Consumes-whole (rest_of from) (rest_of mid) sent.bytes (λ bytes. bytes ≡ sent.bytes) sent.used.consumed ends.empty refl;
@@ -129,61 +128,61 @@ module _ {R W : Type 0} {read : Ghosts R} (contents : W → Option (List ℕ)) w
     count = sent.count;
   }
 
-  -- no rows were sent behind those of whole blobs
-  cut_none : (from mid to : Reader R read) (old out new : Output W) (done : ℕ) (why : Obstacle) (sent : SentBlobs contents from old mid out done) → new ≡ out → is_spent out ≡ false
+  -- no text was sent behind those of whole blobs
+  cut_none : (from mid to : Reader R read) (old out new : Output W) (done : ℕ) (why : Obstacle) (sent : SentBlobs what contents from old mid out done) → new ≡ out → is_spent out ≡ false
       → is_write why ≡ false → ((fact : Type 0) → fact → UnlessOutput why fact)
-      → Explains (limits_of from) (rest_of from) (told_of to) (given from) sent.bytes why (sent_of old) (rows_text (sent.trees ++ [])) [] []
-      → CutBlobs contents from old to new (record { done = done; obstacle = why })
+      → Explains (limits_of from) (rest_of from) (told_of to) (given from) sent.bytes why (sent_of old) (blobs_text what (sent.found ++ [])) [] []
+      → CutBlobs what contents from old to new (record { done = done; obstacle = why })
   cut_none from mid to old out new done why sent same fresh no_write unless explains = record {
-    whole = sent.trees;
+    whole = sent.found;
     later = [];
     bytes = sent.bytes;
-    blobs = subst (λ gs. Stream (limits_of from) sent.bytes gs) (sym (append-nil sent.trees)) sent.blobs;
+    blobs = subst (λ bs. LocatedStream (limits_of from) (given from) sent.bytes bs) (sym (append-nil sent.found)) sent.blobs;
     begins = consumes_begins (rest_of from) (rest_of mid) sent.bytes sent.used.consumed;
     front = [];
     left = [];
     cut = refl;
     one = inl refl;
-    sends = subst (λ o. Sent contents old (rows_text sent.trees ++ []) o) (sym same) (subst (λ text. Sent contents old text out) (sym (append-nil (rows_text sent.trees))) sent.took.sends);
+    sends = subst (λ o. Sent contents old (blobs_text what sent.found ++ []) o) (sym same) (subst (λ text. Sent contents old text out) (sym (append-nil (blobs_text what sent.found))) sent.took.sends);
     count = sent.count;
     explains = explains;
     failures = ap output_failures same ∙ (sent.took.failures ∙ ap (λ b. count_failure b (output_failures old)) (sym no_write));
     unspent = unless (is_spent new ≡ false) (ap is_spent same ∙ fresh);
   }
 
-  -- a front of the rows of one more blob was sent
-  cut_one : (from mid to : Reader R read) (old out new : Output W) (done : ℕ) (why : OutFault) (sent : SentBlobs contents from old mid out done) → limits_of mid ≡ limits_of from
-      → CutBlob contents mid out to why new → CutBlobs contents from old to new (record { done = done; obstacle = obstacle.Output why })
+  -- a front of the text of one more blob was sent
+  cut_one : (from mid to : Reader R read) (old out new : Output W) (done : ℕ) (why : OutFault) (sent : SentBlobs what contents from old mid out done) → limits_of mid ≡ limits_of from
+      → CutBlob what contents mid out to why new → CutBlobs what contents from old to new (record { done = done; obstacle = obstacle.Output why })
   cut_one from mid to old out new done why sent same one =
-      let here : Blob (limits_of from) one.gives.front one.tree = subst (λ l. Blob l one.gives.front one.tree) same one.gives.blob in
       let all = used_join (rest_of from) (rest_of mid) (rest_of to) (given from) (given mid) (given to) sent.bytes one.gives.front sent.used one.gives.used in
-      let refused = refused_join contents old out new (rows_text sent.trees) one.front why sent.took one.refused in
-      let not_all : one.left ≡ [] → ⊥ = λ none. (let less = one.short (rows_text_some one.tree) in
+      let refused = refused_join contents old out new (blobs_text what sent.found) one.front why sent.took one.refused in
+      let not_all : one.left ≡ [] → ⊥ = λ none. (let less = one.short (blob_text_some what (limits_of mid) (given mid) one.gives.front one.found one.gives.tells) in
       omega (arith, less, one.refused.sends.sent, ap length none, ap length one.cut, length-append one.front one.left)) in
-      let text : rows_text (sent.trees ++ one.tree ∷ []) ≡ rows_text sent.trees ++ rows_text (one.tree ∷ []) = rows_text-append sent.trees (one.tree ∷ []) in
+      let single : blobs_text what (one.found ∷ []) ≡ blob_text what one.found = blobs_text-one what one.found in
+      let text : blobs_text what (sent.found ++ one.found ∷ []) ≡ blobs_text what sent.found ++ blobs_text what (one.found ∷ []) = blobs_text-append what sent.found (one.found ∷ []) in
       record {
-        whole = sent.trees;
-        later = one.tree ∷ [];
+        whole = sent.found;
+        later = one.found ∷ [];
         bytes = sent.bytes ++ one.gives.front;
-        blobs = stream-append (limits_of from) sent.bytes one.gives.front sent.trees (one.tree ∷ []) sent.blobs
-            (one.gives.front, [], sym (append-nil one.gives.front), here, refl);
+        blobs = one_more (limits_of from) (limits_of mid) (given from) (given mid) sent.bytes one.gives.front sent.found one.found sent.blobs same sent.used.counted one.gives.tells;
         begins = consumes_begins (rest_of from) (rest_of to) (sent.bytes ++ one.gives.front) all.consumed;
         front = one.front;
         left = one.left;
-        cut = one.cut;
-        one = inr (one.tree, refl, not_all);
+        cut = single ∙ one.cut;
+        one = inr (one.found, refl, not_all);
         sends = refused.sends;
         count = sent.count;
         explains = (
-          λ long. let far = one.too_long long in omega (arith, far, sent.took.sends.sent, ap length text, length-append (rows_text sent.trees) (rows_text (one.tree ∷ []))),
+          λ long. let far = one.too_long long in
+              omega (arith, far, sent.took.sends.sent, ap length text, ap length single, length-append (blobs_text what sent.found) (blobs_text what (one.found ∷ []))),
           one.unspent,
         );
         failures = refused.failures;
         unspent = tt;
       }
 
-  pub cut_blobs : (from mid to : Reader R read) (old out new : Output W) (done : ℕ) (why : Obstacle) → SentBlobs contents from old mid out done → limits_of mid ≡ limits_of from
-      → is_spent out ≡ false → StopsBlob contents mid out why to new → CutBlobs contents from old to new (record { done = done; obstacle = why })
+  pub cut_blobs : (from mid to : Reader R read) (old out new : Output W) (done : ℕ) (why : Obstacle) → SentBlobs what contents from old mid out done → limits_of mid ≡ limits_of from
+      → is_spent out ≡ false → StopsBlob what contents mid out why to new → CutBlobs what contents from old to new (record { done = done; obstacle = why })
   cut_blobs from mid to old out new done (obstacle.Stream why) sent same fresh stops =
       let misses : Misses (limits_of from) (rest_of mid) (given mid) (told_of to) why = subst (λ l. Misses l (rest_of mid) (given mid) (told_of to) why) same stops.1 in
       cut_none from mid to old out new done (obstacle.Stream why) sent stops.0 fresh refl (λ fact held. held)

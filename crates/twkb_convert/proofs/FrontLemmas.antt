@@ -18,7 +18,7 @@ use Rattle.twkb_geom.proofs.RootLaws.{below_root}
 use Rattle.twkb_grammar.specs.Blob.{Stream}
 use Rattle.twkb_grammar.specs.Fault.{FirstFault, Reason}
 use Rattle.twkb_grammar.specs.Written.{canonical_blob, canonical_stream}
-use Rattle.twkb_grammar.specs.declared.style.Style.TheVariants.{Full}
+use Rattle.twkb_grammar.specs.declared.style.Style.{Style}
 use Rattle.twkb_grammar.proofs.One.{peel, one_blob_lem}
 use Rattle.twkb_grammar.proofs.OneFault.{no_fault}
 use Rattle.twkb_grammar.proofs.Streams.{behind_stream}
@@ -60,7 +60,7 @@ reached_first cfg s xs (r ∷ rs) (q ∷ qs) a state left b =
     (tail.0, ap (λ x. x ∷ rs) (a.2.2 ∙ ap (λ (p : Read). p.0) same ∙ sym b.2) ∙ ap (λ l. q ∷ l) tail.1)
 
 -- the records that a text begins with come first among its records
-first_records : (text : List ℕ) (records seen : List Record) → AreRecordsOf text records → BeginWith text seen → (more : List Record) × (records ≡ seen ++ more)
+pub first_records : (text : List ℕ) (records seen : List Record) → AreRecordsOf text records → BeginWith text seen → (more : List Record) × (records ≡ seen ++ more)
 first_records text records seen all begins = reached_first default_config StartRecord (strip_bom text) records seen all begins.0 begins.1 begins.2
 
 -- of two fronts of a list, one goes on from the other
@@ -171,20 +171,20 @@ ready_complete l text records (s ∷ seen) number reason trees gs hs allowed all
         let front = table_front l (f.0.before ++ f.0.here ∷ []) more trees (never_none f.0.before f.0.here) (subst (λ r. Named l r trees) longer named) in
         absurd (f.0.none front.0 front.1)
 
-ready_packed : (l : Allowance) (text : List ℕ) (records : List Record) (gs : List Tree) (bytes : List ℕ) → IsAllowance l → AreRecordsOf text records → MayBeWritten l (Some text) gs → PackTo l records bytes
-    → (hs : List Tree) × (bytes ≡ canonical_stream Full hs) × BeginTrees gs hs
-ready_packed l text records gs bytes allowed all may (inl (hs, named, e)) =
+ready_packed : (style : Style) (l : Allowance) (text : List ℕ) (records : List Record) (gs : List Tree) (bytes : List ℕ) → IsAllowance l → AreRecordsOf text records → MayBeWritten l (Some text) gs → PackTo style l records bytes
+    → (hs : List Tree) × (bytes ≡ canonical_stream style hs) × BeginTrees gs hs
+ready_packed style l text records gs bytes allowed all may (inl (hs, named, e)) =
     (hs, e, ready_named l text records may.records may.geometries gs hs allowed all may.begins may.named may.ready named)
-ready_packed l text records gs bytes allowed all may (inr (number, reason, hs, complete, e)) =
+ready_packed style l text records gs bytes allowed all may (inr (number, reason, hs, complete, e)) =
     (hs, e, ready_complete l text records may.records number reason may.geometries gs hs allowed all may.begins may.named may.ready complete)
 
-pub pack_front : (l : Allowance) (text : List ℕ) (records : List Record) (whole later : List Tree) (front rest bytes : List ℕ) → IsAllowance l → AreRecordsOf text records
-    → MayBeWritten l (Some text) (whole ++ later) → canonical_stream Full later ≡ front ++ rest → PackTo l records bytes → (more : List ℕ) × (bytes ≡ (canonical_stream Full whole ++ front) ++ more)
-pack_front l text records whole later front rest bytes allowed all may cut packs =
-    let (hs, e, (others, first)) = ready_packed l text records (whole ++ later) bytes allowed all may packs in
-    let stream = canonical_stream Full in (
+pub pack_front : (style : Style) (l : Allowance) (text : List ℕ) (records : List Record) (whole later : List Tree) (front rest bytes : List ℕ) → IsAllowance l → AreRecordsOf text records
+    → MayBeWritten l (Some text) (whole ++ later) → canonical_stream style later ≡ front ++ rest → PackTo style l records bytes → (more : List ℕ) × (bytes ≡ (canonical_stream style whole ++ front) ++ more)
+pack_front style l text records whole later front rest bytes allowed all may cut packs =
+    let (hs, e, (others, first)) = ready_packed style l text records (whole ++ later) bytes allowed all may packs in
+    let stream = canonical_stream style in (
       rest ++ stream others,
-      e ∙ ap stream first ∙ flat_map-append (canonical_blob Full) (whole ++ later) others ∙ ap (λ b. b ++ stream others) (flat_map-append (canonical_blob Full) whole later)
+      e ∙ ap stream first ∙ flat_map-append (canonical_blob style) (whole ++ later) others ∙ ap (λ b. b ++ stream others) (flat_map-append (canonical_blob style) whole later)
           ∙ append_assoc (stream whole) (stream later) (stream others) ∙ ap (λ b. stream whole ++ (b ++ stream others)) cut
           ∙ ap (λ b. stream whole ++ b) (append_assoc front rest (stream others)) ∙ sym (append_assoc (stream whole) front (rest ++ stream others)),
     )

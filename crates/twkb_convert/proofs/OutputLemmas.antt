@@ -4,7 +4,7 @@ use Rattle.std.proofs.Common.{◌≡◌, ◌∙◌, ℕ, List, ap, refl, sym, in
 use Rattle.twkb_geom.specs.Tree.{Tree}
 use Rattle.twkb_geom.specs.Limits.{Allowance, IsAllowance}
 use Rattle.twkb_grammar.specs.Written.{canonical_stream}
-use Rattle.twkb_grammar.specs.declared.style.Style.TheVariants.{Full}
+use Rattle.twkb_grammar.specs.declared.style.Style.{Style}
 use Rattle.twkb_table.specs.Record.{Record}
 use Rattle.twkb_table.specs.Named.{Named, NamesNone}
 use Rattle.twkb_table.specs.RowFault.{AreComplete, RowFault}
@@ -16,21 +16,21 @@ use Rattle.twkb_convert.specs.Outputs.{PackTo}
 use Rattle.twkb_convert.proofs.RoundTrips.{packed_records}
 
 -- records with a fault name nothing
-complete_none : (l : Allowance) (records : List Record) (number : ℕ) (reason : RowReason) (gs : List Tree) → AreComplete l records number reason gs → NamesNone l records
+pub complete_none : (l : Allowance) (records : List Record) (number : ℕ) (reason : RowReason) (gs : List Tree) → AreComplete l records number reason gs → NamesNone l records
 complete_none l records number reason gs (inl f) = fault_none l records number reason (inl (f.0, f.1, f.2))
 complete_none l records number reason gs (inr f) = fault_none l records number reason (inr f.0)
 
-some_of : (l : Allowance) (records : List Record) → ((gs : List Tree) × Named l records gs) ⊎ ((number : ℕ) × (reason : RowReason) × RowFault l records number reason) → (bytes : List ℕ) × PackTo l records bytes
-some_of l records (inl (gs, named)) = (canonical_stream Full gs, inl (gs, named, refl))
-some_of l records (inr (number, reason, fault)) =
+some_of : (style : Style) (l : Allowance) (records : List Record) → ((gs : List Tree) × Named l records gs) ⊎ ((number : ℕ) × (reason : RowReason) × RowFault l records number reason) → (bytes : List ℕ) × PackTo style l records bytes
+some_of style l records (inl (gs, named)) = (canonical_stream style gs, inl (gs, named, refl))
+some_of style l records (inr (number, reason, fault)) =
     let complete = some_complete l records number reason fault in
-    (canonical_stream Full complete.0, inr (number, reason, complete.0, complete.1, refl))
+    (canonical_stream style complete.0, inr (number, reason, complete.0, complete.1, refl))
 
-pub some_output : (l : Allowance) (records : List Record) → IsAllowance l → (bytes : List ℕ) × PackTo l records bytes
-some_output l records cap = some_of l records (named_or_fault l records cap)
+pub some_output : (style : Style) (l : Allowance) (records : List Record) → IsAllowance l → (bytes : List ℕ) × PackTo style l records bytes
+some_output style l records cap = some_of style l records (named_or_fault l records cap)
 
-pub one_output : (l : Allowance) (records : List Record) (a b : List ℕ) → IsAllowance l → PackTo l records a → PackTo l records b → a ≡ b
-one_output l records a b cap (inl (gs, named, out)) packed = out ∙ sym (packed_records l records b gs cap named packed)
-one_output l records a b cap (inr (m, why, gs, complete, out)) (inl (hs, named, other)) = absurd (complete_none l records m why gs complete hs named)
-one_output l records a b cap (inr (m, why, gs, complete, out)) (inr (n, reason, hs, others, other)) =
-    out ∙ ap (canonical_stream Full) (one_complete l records m n why reason gs hs cap complete others) ∙ sym other
+pub one_output : (style : Style) (l : Allowance) (records : List Record) (a b : List ℕ) → IsAllowance l → PackTo style l records a → PackTo style l records b → a ≡ b
+one_output style l records a b cap (inl (gs, named, out)) packed = out ∙ sym (packed_records style l records b gs cap named packed)
+one_output style l records a b cap (inr (m, why, gs, complete, out)) (inl (hs, named, other)) = absurd (complete_none l records m why gs complete hs named)
+one_output style l records a b cap (inr (m, why, gs, complete, out)) (inr (n, reason, hs, others, other)) =
+    out ∙ ap (canonical_stream style) (one_complete l records m n why reason gs hs cap complete others) ∙ sym other

@@ -10,7 +10,7 @@ use Rattle.twkb_geom.specs.Limits.{Allowance, IsAllowance}
 use Rattle.twkb_geom.specs.RowLists.{AreValid}
 use Rattle.twkb_grammar.specs.Blob.{Stream}
 use Rattle.twkb_grammar.specs.Written.{canonical_stream}
-use Rattle.twkb_grammar.specs.declared.style.Style.TheVariants.{Full}
+use Rattle.twkb_grammar.specs.declared.style.Style.{Style}
 use Rattle.twkb_grammar.proofs.Streams.{no_stream, one_stream, written_stream}
 use Rattle.twkb_table.specs.Record.{Record, table}
 use Rattle.twkb_table.specs.Named.{Named}
@@ -57,9 +57,9 @@ is_named l records number reason gs hs named (inl (none, first, bad, e)) = fault
 is_named l records number reason gs hs named (inr (fault, e)) = fault_none l records number reason (inr fault) gs named
 
 -- what records are packed to that name geometries
-pub packed_records : (l : Allowance) (records : List Record) (bytes : List ℕ) (gs : List Tree) → IsAllowance l → Named l records gs → PackTo l records bytes → bytes ≡ canonical_stream Full gs
-packed_records l records bytes gs allowed named (inl (hs, other, e)) = e ∙ ap (canonical_stream Full) (one_table l records hs gs allowed other named)
-packed_records l records bytes gs allowed named (inr (number, reason, hs, complete, e)) = absurd (is_named l records number reason gs hs named complete)
+pub packed_records : (style : Style) (l : Allowance) (records : List Record) (bytes : List ℕ) (gs : List Tree) → IsAllowance l → Named l records gs → PackTo style l records bytes → bytes ≡ canonical_stream style gs
+packed_records style l records bytes gs allowed named (inl (hs, other, e)) = e ∙ ap (canonical_stream style) (one_table l records hs gs allowed other named)
+packed_records style l records bytes gs allowed named (inr (number, reason, hs, complete, e)) = absurd (is_named l records number reason gs hs named complete)
 
 -- ---- both ways
 
@@ -67,19 +67,19 @@ valid_stream : (l : Allowance) (bytes : List ℕ) (gs : List Tree) → Stream l 
 valid_stream l bytes [] s = tt
 valid_stream l bytes (g ∷ gs) s = (s.3.valid, valid_stream l s.1 gs s.4)
 
-pub unpack_of_pack : (l : Allowance) (packed : List ℕ) (records : List Record) (gs : List Tree) (bytes text : List ℕ) → IsAllowance l
-    → AreRecordsOf packed records → Named l records gs → PackTo l records bytes → UnpackTo l bytes text → AreRecordsOf text records
-unpack_of_pack l packed records gs bytes text allowed are named packs unpacks =
-    let stream : Stream l bytes gs = subst (λ b. Stream l b gs) (sym (packed_records l records bytes gs allowed named packs)) (written_stream l Full gs allowed named.valid) in
+pub unpack_of_pack : (style : Style) (l : Allowance) (packed : List ℕ) (records : List Record) (gs : List Tree) (bytes text : List ℕ) → IsAllowance l
+    → AreRecordsOf packed records → Named l records gs → PackTo style l records bytes → UnpackTo l bytes text → AreRecordsOf text records
+unpack_of_pack style l packed records gs bytes text allowed are named packs unpacks =
+    let stream : Stream l bytes gs = subst (λ b. Stream l b gs) (sym (packed_records style l records bytes gs allowed named packs)) (written_stream l style gs allowed named.valid) in
     let same : text ≡ table_text gs = unpacked_stream l bytes text gs stream unpacks in
     let read : AreRecordsOf (table_text gs) (table gs) = text_read l (table gs) gs allowed (record { table_of = refl; valid = named.valid }) in
     subst (λ r. AreRecordsOf text r) (sym named.table_of) (subst (λ t. AreRecordsOf t (table gs)) (sym same) read)
 
-pub pack_of_unpack : (l : Allowance) (bytes : List ℕ) (gs : List Tree) (text : List ℕ) (records : List Record) (packed : List ℕ) → IsAllowance l
-    → Stream l bytes gs → UnpackTo l bytes text → AreRecordsOf text records → PackTo l records packed → packed ≡ canonical_stream Full gs
-pack_of_unpack l bytes gs text records packed allowed stream unpacks are packs =
+pub pack_of_unpack : (style : Style) (l : Allowance) (bytes : List ℕ) (gs : List Tree) (text : List ℕ) (records : List Record) (packed : List ℕ) → IsAllowance l
+    → Stream l bytes gs → UnpackTo l bytes text → AreRecordsOf text records → PackTo style l records packed → packed ≡ canonical_stream style gs
+pack_of_unpack style l bytes gs text records packed allowed stream unpacks are packs =
     let same : text ≡ table_text gs = unpacked_stream l bytes text gs stream unpacks in
     let named : Named l (table gs) gs = record { table_of = refl; valid = valid_stream l bytes gs stream } in
     let read : AreRecordsOf (table_text gs) (table gs) = text_read l (table gs) gs allowed named in
     let one : records ≡ table gs = one_records text records (table gs) are (subst (λ t. AreRecordsOf t (table gs)) (sym same) read) in
-    packed_records l records packed gs allowed (subst (λ r. Named l r gs) (sym one) named) packs
+    packed_records style l records packed gs allowed (subst (λ r. Named l r gs) (sym one) named) packs

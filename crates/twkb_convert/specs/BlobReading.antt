@@ -6,9 +6,7 @@ use Rattle.std.specs.declared.io.traits.Read.{Ghosts}
 use Rattle.twkb_io.specs.declared.tap.Tap.{Tap}
 use Rattle.twkb_io.specs.declared.input.InFault.TheVariants as input
 use Rattle.twkb_io.specs.Inputs as Inputs
-use Rattle.twkb_geom.specs.Tree.{Tree}
 use Rattle.twkb_geom.specs.Limits.{Allowance}
-use Rattle.twkb_grammar.specs.Blob.{Blob}
 use Rattle.twkb_grammar.specs.Fault.{FirstFault}
 use Rattle.twkb_engine.specs.declared.blob_reason.BlobReason.{BlobReason}
 use Rattle.twkb_engine.specs.Frames.{reason_of}
@@ -16,6 +14,8 @@ use Rattle.twkb_blob.specs.Readers.{AreCutOff, reader_input, reader_limits, told
 use Rattle.twkb_blob.specs.declared.fault.BlobFault.{BlobFault}
 use Rattle.twkb_blob.specs.declared.fault.BlobFault.TheVariants as stop
 use Rattle.twkb_blob.specs.declared.reader.Reader.{Reader}
+use Rattle.twkb_blob.specs.declared.spans.Located.{Located}
+use Rattle.twkb_convert.specs.LocatedBlobs.{TellsSpans}
 
 -- the tap that was lent
 abbrev pub reader_tap : {R : Type 0} {read : Ghosts R} → Reader R read → MutBor (Tap R)
@@ -50,10 +50,10 @@ pub record Used (old : Option (List ℕ)) (before : ℕ) (bytes : List ℕ) (new
   pub consumed : Consumes old new bytes
   pub counted : after ≡ before + length bytes
 
--- The bytes of one blob were used.
-pub record GivesBlob (limits : Allowance) (old : Option (List ℕ)) (before : ℕ) (g : Tree) (new : Option (List ℕ)) (after : ℕ) : Type 0 where
+-- The bytes of one blob were used, and tell these spans at the place where it stood.
+pub record GivesBlob (limits : Allowance) (old : Option (List ℕ)) (before : ℕ) (b : Located) (new : Option (List ℕ)) (after : ℕ) : Type 0 where
   pub front : List ℕ
-  pub blob : Blob limits front g
+  pub tells : TellsSpans limits before front b
   pub used : Used old before front new after
 
 -- What is left has a first fault; the offset counts the bytes given out before it.

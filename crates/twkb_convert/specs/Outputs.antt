@@ -6,19 +6,19 @@ use Rattle.twkb_geom.specs.Rows.{rows_of}
 use Rattle.twkb_grammar.specs.Blob.{Stream}
 use Rattle.twkb_grammar.specs.Fault.{Reason, StreamFault}
 use Rattle.twkb_grammar.specs.Written.{canonical_stream}
-use Rattle.twkb_grammar.specs.declared.style.Style.TheVariants.{Full}
+use Rattle.twkb_grammar.specs.declared.style.Style.{Style}
 use Rattle.twkb_table.specs.Record.{Record, record_of, table}
 use Rattle.twkb_table.specs.Text.{csvtext}
 use Rattle.twkb_table.specs.Named.{Named}
 use Rattle.twkb_table.specs.RowFault.{AreComplete}
 use Rattle.twkb_table.specs.declared.reason.RowReason.{RowReason}
 
--- The records of a table are packed to these bytes: the canonical stream of the geometries that they name or, where they are refused at
--- a record, of those that the refusal leaves complete (profile).
-abbrev pub PackTo : Allowance → List Record → List ℕ → Type 0
-PackTo l records bytes =
-    ((gs : List Tree) × Named l records gs × (bytes ≡ canonical_stream Full gs))
-    ⊎ ((number : ℕ) × (reason : RowReason) × (gs : List Tree) × AreComplete l records number reason gs × (bytes ≡ canonical_stream Full gs))
+-- The records of a table are packed to these bytes in a style: the canonical stream of the geometries that they name or, where they are
+-- refused at a record, of those that the refusal leaves complete (profile).
+abbrev pub PackTo : Style → Allowance → List Record → List ℕ → Type 0
+PackTo style l records bytes =
+    ((gs : List Tree) × Named l records gs × (bytes ≡ canonical_stream style gs))
+    ⊎ ((number : ℕ) × (reason : RowReason) × (gs : List Tree) × AreComplete l records number reason gs × (bytes ≡ canonical_stream style gs))
 
 -- the lines of the rows of geometries, without the header (profile)
 abbrev pub rows_text : List Tree → List ℕ
@@ -36,5 +36,5 @@ UnpackTo l bytes text =
     ⊎ ((offset : ℕ) × (reason : Reason) × (gs : List Tree) × StreamFault l bytes gs offset reason × (text ≡ table_text gs))
 
 -- At most one more geometry was begun, and bytes of its output are left to be written: so those before it are all whose output is whole.
-abbrev pub AtMostOneCut : List Tree → List ℕ → Type 0
-AtMostOneCut later left = (later ≡ []) ⊎ ((g : Tree) × (later ≡ g ∷ []) × (left ≢ []))
+abbrev pub AtMostOneCut : {A : Type 0} → List A → List ℕ → Type 0
+AtMostOneCut {A} later left = (later ≡ []) ⊎ ((one : A) × (later ≡ one ∷ []) × (left ≢ []))

@@ -1,15 +1,13 @@
--- Where and why a table is refused while points alone are converted.
-use Rattle.std.specs.Prelude.{◌≡◌, ℕ, ◌+◌, ◌⊎◌, List, [], ◌∷◌, ◌++◌, length, Option, IfSome}
+-- Where and why a table is refused, and which geometries may be written before.
+use Rattle.std.specs.Prelude.{◌≡◌, ℕ, ◌^◌, ◌⊎◌, List, [], length, Option, IfSome}
 use Rattle.twkb_geom.specs.Tree.{Tree}
 use Rattle.twkb_geom.specs.Limits.{Allowance}
 use Rattle.twkb_table.specs.Record.{Record}
 use Rattle.twkb_table.specs.Named.{Named}
 use Rattle.twkb_table.specs.RowFault.{AreComplete, all_but_last}
 use Rattle.twkb_table.specs.declared.reason.RowReason.{RowReason}
-use Rattle.twkb_table.specs.declared.reason.RowReason.TheVariants.{Unsupported}
 use Rattle.twkb_table.specs.CsvRecords.{AreRecordsOf, BeginWith}
 use Rattle.twkb_table.specs.TableReading.{NameSoFar}
-use Rattle.twkb_convert.specs.PointRows.{NamesOtherKind}
 
 -- The records of the text begin with some that are refused at the record of this number, for this reason, and these geometries are
 -- complete. Where there is no record, the text has none.
@@ -19,21 +17,9 @@ pub record IsRefusedAt (l : Allowance) (told : Option (List ℕ)) (number : ℕ)
   pub none : seen ≡ [] → IfSome told (λ text. AreRecordsOf text [])
   pub fault : AreComplete l seen number reason gs
 
--- The records of the text begin with some that name geometries, and a row of another kind; these geometries are complete.
-pub record IsUnsupportedAt (l : Allowance) (told : Option (List ℕ)) (number : ℕ) (gs : List Tree) : Type 0 where
-  pub before : List Record
-  pub here : Record
-  pub begins : IfSome told (λ text. BeginWith text (before ++ here ∷ []))
-  pub place : number ≡ length before + 1
-  pub geometries : List Tree
-  pub named : Named l before geometries
-  pub other : NamesOtherKind here
-  pub complete : gs ≡ all_but_last geometries
-
--- a table is refused at a record, and these geometries are complete
-abbrev pub IsRefusedTable : Allowance → Option (List ℕ) → ℕ → RowReason → List Tree → Type 0
-IsRefusedTable l told number reason gs =
-    IsRefusedAt l told number reason gs ⊎ ((reason ≡ Unsupported) × IsUnsupportedAt l told number gs)
+-- the records of the text begin with 2 ^ 32
+abbrev pub HasTooMany : Option (List ℕ) → Type 0
+HasTooMany told = (seen : List Record) × IfSome told (λ text. BeginWith text seen) × (length seen ≡ 2 ^ 32)
 
 -- After these records, the first of a text, these geometries may be written: all but the last of those that they name, and the last where
 -- the text has no more records.

@@ -1,96 +1,17 @@
 -- What a stream was unpacked to, and where it stopped.
-use Rattle.std.specs.Prelude.{◌≡◌, ◌≢◌, ℕ, ◌^◌, ◌<◌, ◌⊎◌, List, [], ◌++◌, length, Option, IfSome, Bool, true, false, ⊤}
-use Rattle.std.specs.Io.KnownBytes.{Appends, IsAtEnd}
-use Rattle.twkb_io.specs.Taps.{count_failure, device_of, failures_of}
-use Rattle.twkb_io.specs.Copies.{BeginsWith}
+use Rattle.std.specs.Prelude.{ℕ, List, Option}
 use Rattle.twkb_io.specs.declared.tap.Tap.{Tap}
-use Rattle.twkb_io.specs.declared.input.InFault.TheVariants as input
-use Rattle.twkb_io.specs.declared.output.OutFault.TheVariants as out
-use Rattle.twkb_geom.specs.Tree.{Tree}
 use Rattle.twkb_geom.specs.Limits.{Allowance}
 use Rattle.twkb_grammar.specs.Blob.{Stream}
-use Rattle.twkb_grammar.specs.Fault.{StreamFault}
-use Rattle.twkb_engine.specs.Frames.{reason_of}
-use Rattle.twkb_blob.specs.declared.fault.BlobFault.TheVariants as blob
-use Rattle.twkb_convert.specs.BlobReading.{GaveOnly}
-use Rattle.twkb_convert.specs.Outputs.{AtMostOneCut, table_text}
-use Rattle.twkb_convert.specs.RowSending.{HoldsRows}
-use Rattle.twkb_convert.specs.declared.row_sending.Obstacle.{Obstacle}
-use Rattle.twkb_convert.specs.declared.row_sending.Obstacle.TheVariants as obstacle
+use Rattle.twkb_convert.specs.Outputs.{table_text}
+use Rattle.twkb_convert.specs.Listed.{Listed, StoppedListing}
 use Rattle.twkb_convert.specs.declared.report.Report.{Report}
 use Rattle.twkb_convert.specs.declared.report.ConvertFault.{ConvertFault}
-use Rattle.twkb_convert.specs.declared.report.Cause.{Cause}
-use Rattle.twkb_convert.specs.declared.report.Cause.TheVariants as cause
 
--- All bytes of the reader are a stream, and the writer took the text of its table; no device failed, and the reader is at its end.
-pub record Unpacked {R W : Type 0} (l : Allowance) (remaining : R → Option (List ℕ)) (contents : W → Option (List ℕ)) (reader : Tap R) (writer : Tap W) (report : Report)
-    (read : Tap R) (written : Tap W) : Type 0 where
-  pub trees : List Tree
-  pub stream : IfSome (remaining (device_of reader)) (λ bytes. Stream l bytes trees)
-  pub appends : Appends (contents (device_of writer)) (contents (device_of written)) (table_text trees)
-  pub geometries : report.geometries ≡ length trees
-  pub bytes : report.bytes ≡ length (table_text trees)
-  pub end : IfSome (remaining (device_of reader)) (λ bytes. IsAtEnd (remaining (device_of read)))
-  pub reads : failures_of read ≡ failures_of reader
-  pub writes : failures_of written ≡ failures_of writer
-
--- whether a device failed tells whether the cause is one, and which: a failed write or flush comes before a failed read
-abbrev pub IsDeviceCause : Bool → Bool → Cause → Type 0
-IsDeviceCause read true why = why ≡ cause.WriteDevice
-IsDeviceCause true false why = why ≡ cause.ReadDevice
-IsDeviceCause false false why = (why ≢ cause.ReadDevice) × (why ≢ cause.WriteDevice)
-
--- The taps counted whether a read failed, and whether a write or a flush did.
-pub record DevicesTell {R W : Type 0} (reader : Tap R) (writer : Tap W) (why : Cause) (read : Tap R) (written : Tap W) : Type 0 where
-  pub read_failed : Bool
-  pub write_failed : Bool
-  pub reads : failures_of read ≡ count_failure read_failed (failures_of reader)
-  pub writes : failures_of written ≡ count_failure write_failed (failures_of writer)
-  pub tell : IsDeviceCause read_failed write_failed why
-
--- What a cause says of the bytes that are told at the start and at the end, of those of the blobs that were read, of the geometries whose
--- table was written, of another whose rows were not written whole, and of the text that is left to be written for all these. After a
--- failed read the table of every whole blob in the bytes that were read is written.
-abbrev pub ExplainsCause : Allowance → Option (List ℕ) → Option (List ℕ) → List ℕ → Cause → List Tree → List Tree → List ℕ → Type 0
-ExplainsCause l old told bytes (cause.Row number reason) whole later left = ⊥
-ExplainsCause l old told bytes (cause.Blob offset reason) whole later left =
-    (later ≡ []) × (left ≡ []) × IfSome old (λ all. StreamFault l all whole offset (reason_of reason))
-ExplainsCause l old told bytes cause.ReadDevice whole later left = (later ≡ []) × (left ≡ []) × GaveOnly l old bytes told
-ExplainsCause l old told bytes cause.WriteDevice whole later left = ⊤
-ExplainsCause l old told bytes cause.Memory whole later left = (later ≡ []) × (left ≡ [])
-ExplainsCause l old told bytes cause.TooLong whole later left =
-    IfSome old (λ all. 2 ^ 62 < length all) ⊎ (2 ^ 62 < length (table_text (whole ++ later)))
-ExplainsCause l old told bytes cause.TooManyRecords whole later left = ⊥
+-- All bytes of the reader are a stream, and the writer took the text of its table.
+abbrev pub Unpacked : {R W : Type 0} → Allowance → (R → Option (List ℕ)) → (W → Option (List ℕ)) → Tap R → Tap W → Report → Tap R → Tap W → Type 0
+Unpacked l = Listed (Stream l) table_text
 
 -- The bytes of the reader begin with blobs, and the writer took a front of the text of their table, with the rows of the first of them.
-pub record StoppedUnpacking {R W : Type 0} (l : Allowance) (remaining : R → Option (List ℕ)) (contents : W → Option (List ℕ)) (reader : Tap R) (writer : Tap W) (fault : ConvertFault)
-    (read : Tap R) (written : Tap W) : Type 0 where
-  pub whole : List Tree
-  pub later : List Tree
-  pub bytes : List ℕ
-  pub blobs : Stream l bytes (whole ++ later)
-  pub begins : BeginsWith (remaining (device_of reader)) bytes
-  pub text : List ℕ
-  pub left : List ℕ
-  pub cut : table_text (whole ++ later) ≡ text ++ left
-  pub one : AtMostOneCut later left
-  pub holds : HoldsRows text whole
-  pub appends : Appends (contents (device_of writer)) (contents (device_of written)) text
-  pub done : fault.done ≡ length whole
-  pub sent : fault.sent ≡ length text
-  pub explains : ExplainsCause l (remaining (device_of reader)) (remaining (device_of read)) bytes fault.cause whole later left
-  pub devices : DevicesTell reader writer fault.cause read written
-
--- the cause that an obstacle is
-abbrev pub cause_for : Obstacle → Cause
-cause_for (obstacle.Stream blob.Memory) = cause.Memory
-cause_for (obstacle.Stream (blob.Device input.Read)) = cause.ReadDevice
-cause_for (obstacle.Stream (blob.Device input.TooLong)) = cause.TooLong
-cause_for (obstacle.Stream (blob.Device input.Spent)) = cause.TooLong
-cause_for (obstacle.Stream blob.Spent) = cause.TooLong
-cause_for (obstacle.Stream (blob.At offset reason)) = cause.Blob offset reason
-cause_for obstacle.Memory = cause.Memory
-cause_for (obstacle.Output out.Write) = cause.WriteDevice
-cause_for (obstacle.Output out.Stuck) = cause.WriteDevice
-cause_for (obstacle.Output out.TooLong) = cause.TooLong
-cause_for (obstacle.Output out.Spent) = cause.TooLong
+abbrev pub StoppedUnpacking : {R W : Type 0} → Allowance → (R → Option (List ℕ)) → (W → Option (List ℕ)) → Tap R → Tap W → ConvertFault → Tap R → Tap W → Type 0
+StoppedUnpacking l = StoppedListing (Stream l) (λ trees. trees) table_text l

@@ -2,40 +2,54 @@
 ghost use Rattle.std.specs.Prelude.{◌≡◌, ◌++◌, ℕ, List, Some};
 ghost use Rattle.twkb_geom.specs.Tree.{Tree};
 ghost use Rattle.twkb_geom.specs.Limits.{Allowance, IsAllowance};
+ghost use Rattle.twkb_grammar.specs.Bits.{AreBytes};
 ghost use Rattle.twkb_grammar.specs.Blob.{Stream};
 ghost use Rattle.twkb_grammar.specs.Written.{canonical_stream};
-ghost use Rattle.twkb_grammar.specs.declared.style.Style.TheVariants.{Full};
+ghost use Rattle.twkb_grammar.specs.declared.style.Style.{Style};
 ghost use Rattle.twkb_table.specs.Record.{Record};
-ghost use Rattle.twkb_table.specs.Named.{Named};
+ghost use Rattle.twkb_table.specs.Named.{Named, NamesNone};
+ghost use Rattle.twkb_table.specs.RowFault.{AreComplete};
+ghost use Rattle.twkb_table.specs.declared.reason.RowReason.{RowReason};
 ghost use Rattle.twkb_table.specs.CsvRecords.{AreRecordsOf};
+ghost use Rattle.twkb_blob.specs.declared.spans.Located.{Located};
+ghost use Rattle.twkb_convert.specs.LocatedBlobs.{LocatedStream, ShowTo, geometries_of, lines_text};
 ghost use Rattle.twkb_convert.specs.Outputs.{PackTo, UnpackTo, table_text};
-ghost use Rattle.twkb_convert.specs.RefusedRows.{MayBeWritten};
+ghost use Rattle.twkb_convert.specs.RefusedRows.{IsRefusedAt, MayBeWritten};
 
 /// Where the records of a text name geometries, the reader of `csv` reads the same records from
-/// what the stream is unpacked to that they are packed to.
+/// what the stream is unpacked to that they are packed to, in either style.
 pub fn unpack_of_pack()
-    ensures { (l : Allowance) (table : List ℕ) (records : List Record) (gs : List Tree) (bytes text : List ℕ) → IsAllowance l
-        → AreRecordsOf table records → Named l records gs → PackTo l records bytes → UnpackTo l bytes text → AreRecordsOf text records }
+    ensures { (style : Style) (l : Allowance) (table : List ℕ) (records : List Record) (gs : List Tree) (bytes text : List ℕ) → IsAllowance l
+        → AreRecordsOf table records → Named l records gs → PackTo style l records bytes → UnpackTo l bytes text → AreRecordsOf text records }
 {}
 
 /// Where bytes are a stream of geometries, the records of what it is unpacked to are packed to the
 /// canonical stream of these geometries.
 pub fn pack_of_unpack()
-    ensures { (l : Allowance) (bytes : List ℕ) (gs : List Tree) (text : List ℕ) (records : List Record) (packed : List ℕ) → IsAllowance l
-        → Stream l bytes gs → UnpackTo l bytes text → AreRecordsOf text records → PackTo l records packed → packed ≡ canonical_stream Full gs }
+    ensures { (style : Style) (l : Allowance) (bytes : List ℕ) (gs : List Tree) (text : List ℕ) (records : List Record) (packed : List ℕ) → IsAllowance l
+        → Stream l bytes gs → UnpackTo l bytes text → AreRecordsOf text records → PackTo style l records packed → packed ≡ canonical_stream style gs }
 {}
 
-/// Any records are packed to one output.
+/// Any records are packed to one output in a style.
 pub fn one_packed_output()
-    ensures some { (l : Allowance) (records : List Record) → IsAllowance l → (bytes : List ℕ) × PackTo l records bytes }
-    ensures one { (l : Allowance) (records : List Record) (a b : List ℕ) → IsAllowance l → PackTo l records a → PackTo l records b → a ≡ b }
+    ensures some { (style : Style) (l : Allowance) (records : List Record) → IsAllowance l → (bytes : List ℕ) × PackTo style l records bytes }
+    ensures one { (style : Style) (l : Allowance) (records : List Record) (a b : List ℕ) → IsAllowance l → PackTo style l records a → PackTo style l records b → a ≡ b }
+{}
+
+/// A refused record of a text, as a stop of `pack` tells it, is the first of all its records that is
+/// refused, with the geometries that this leaves complete; so the records name no geometries.
+pub fn refused_table()
+    ensures complete { (l : Allowance) (text : List ℕ) (records : List Record) (number : ℕ) (reason : RowReason) (gs : List Tree)
+        → AreRecordsOf text records → IsRefusedAt l (Some text) number reason gs → AreComplete l records number reason gs }
+    ensures none { (l : Allowance) (text : List ℕ) (records : List Record) (number : ℕ) (reason : RowReason) (gs : List Tree)
+        → AreRecordsOf text records → IsRefusedAt l (Some text) number reason gs → NamesNone l records }
 {}
 
 /// What a stop of `pack` says was written is a front of what the records of the text are packed
 /// to: the blobs of the first of the geometries that may be written, and a front of the next one's.
 pub fn pack_front()
-    ensures { (l : Allowance) (text : List ℕ) (records : List Record) (whole later : List Tree) (front rest bytes : List ℕ) → IsAllowance l → AreRecordsOf text records
-        → MayBeWritten l (Some text) (whole ++ later) → canonical_stream Full later ≡ front ++ rest → PackTo l records bytes → (more : List ℕ) × (bytes ≡ (canonical_stream Full whole ++ front) ++ more) }
+    ensures { (style : Style) (l : Allowance) (text : List ℕ) (records : List Record) (whole later : List Tree) (front rest bytes : List ℕ) → IsAllowance l → AreRecordsOf text records
+        → MayBeWritten l (Some text) (whole ++ later) → canonical_stream style later ≡ front ++ rest → PackTo style l records bytes → (more : List ℕ) × (bytes ≡ (canonical_stream style whole ++ front) ++ more) }
 {}
 
 /// What a stop of `unpack` says was written is a front of what the bytes are unpacked to: a front
@@ -43,4 +57,23 @@ pub fn pack_front()
 pub fn unpack_front()
     ensures { (l : Allowance) (all bytes rest : List ℕ) (gs : List Tree) (text written left : List ℕ) → all ≡ bytes ++ rest → Stream l bytes gs
         → table_text gs ≡ written ++ left → UnpackTo l all text → (more : List ℕ) × (text ≡ written ++ more) }
+{}
+
+/// A stream tells one list of its blobs with their spans.
+pub fn one_located_stream()
+    ensures some { (l : Allowance) (offset : ℕ) (bytes : List ℕ) (gs : List Tree) → Stream l bytes gs → (bs : List Located) × LocatedStream l offset bytes bs × (geometries_of bs ≡ gs) }
+    ensures one { (l : Allowance) (offset : ℕ) (bytes : List ℕ) (bs cs : List Located) → LocatedStream l offset bytes bs → LocatedStream l offset bytes cs → bs ≡ cs }
+{}
+
+/// Any bytes are shown by one text.
+pub fn one_shown_output()
+    ensures some { (l : Allowance) (bytes : List ℕ) → IsAllowance l → AreBytes bytes → (text : List ℕ) × ShowTo l bytes text }
+    ensures one { (l : Allowance) (bytes text other : List ℕ) → ShowTo l bytes text → ShowTo l bytes other → text ≡ other }
+{}
+
+/// What a stop of `show` says was written is a front of what the bytes are shown by: a front of the
+/// lines of the blobs that they begin with.
+pub fn show_front()
+    ensures { (l : Allowance) (all bytes rest : List ℕ) (bs : List Located) (text written left : List ℕ) → all ≡ bytes ++ rest → LocatedStream l 0 bytes bs
+        → lines_text bs ≡ written ++ left → ShowTo l all text → (more : List ℕ) × (text ≡ written ++ more) }
 {}

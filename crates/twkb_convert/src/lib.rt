@@ -1,20 +1,29 @@
 //! Whole conversions between tables and streams.
 #![tactic(auto)]
 
+mod blob_sending;
+mod blob_text;
+mod blob_writing;
 mod draining;
-mod fields;
+mod halt;
+mod handed;
 pub mod laws;
+mod listing;
 mod packing;
-mod point_blob;
-mod point_row;
 mod report;
-mod row_sending;
 mod sending;
+mod showing;
+mod span_line;
+mod stream_listing;
+mod table_sending;
 mod unpacking;
 
-pub use packing::pack;
+pub use packing::{pack, pack_counted, pack_styled};
 pub use report::{Cause, ConvertFault, Report};
+pub use showing::show;
 pub use twkb_blob::BlobReason;
+pub use twkb_flat::Work;
+pub use twkb_writer::Style;
 pub use unpacking::unpack;
 
 #[cfg(test)]

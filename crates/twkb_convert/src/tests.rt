@@ -1,9 +1,11 @@
 //! What no clause says: that calls succeed, and worked tables and streams.
+mod geometries;
 mod laws;
 mod memory;
 mod pack_devices;
 mod packing;
 mod refusing;
+mod showing;
 mod unpack_devices;
 mod unpacking;
 

@@ -53,7 +53,4 @@ pub enum RowReason {
     /// A point has not as many points as it may have.
     #[error("wrong number of points")]
     PointCount,
-    /// A kind other than `point`: points alone are converted so far.
-    #[error("not handled yet")]
-    Unsupported,
 }

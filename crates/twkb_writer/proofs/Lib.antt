@@ -1,10 +1,12 @@
 pub mod BelowLemmas
+pub mod DepthLemmas
 pub mod HeaderLemmas
 pub mod LevelLemmas
 pub mod MeasuringBodies
 pub mod MeasuringBounds
 pub mod MeasuringCaps
 pub mod MeasuringEntries
+pub mod MeasuringOne
 pub mod MeasuringParts
 pub mod MeasuringPass
 pub mod MeasuringPoints

@@ -1,4 +1,5 @@
 pub mod Bytes
+pub mod Depths
 pub mod Encoding
 pub mod Levels
 pub mod Measuring

@@ -1,6 +1,7 @@
 //! Canonical blobs of flat forms: their sizes, and their bytes to a sink.
 #![tactic(auto)]
 
+mod depths;
 mod encoding;
 mod header;
 mod lengths;
@@ -17,12 +18,14 @@ mod tails;
 mod tree_measuring;
 mod writing;
 
+pub use depths::Depths;
 pub use encoding::{EncodeFault, encode, encode_styled};
-pub use measuring::measure_flat;
+pub use measuring::{measure_flat, measure_into};
+pub use piece::Piece;
 pub use sizes::Sizes;
 pub use tree_measuring::measure;
 pub use twkb_grammar::Style;
-pub use writing::write_flat;
+pub use writing::{write_flat, write_through};
 
 #[cfg(test)]
 mod tests;

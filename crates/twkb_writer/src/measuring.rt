@@ -1,5 +1,5 @@
 //! The sizes of a flat form, in one pass over its rows from the last to the first.
-ghost use Rattle.std.specs.Prelude.{◌≡◌, ◌+◌, ◌++◌, ◌*◌, ◌<◌, ◌≤◌, ◌^◌, ℕ, List, length, drop, slice_index_or, IfOk};
+ghost use Rattle.std.specs.Prelude.{◌≡◌, ◌+◌, ◌++◌, ◌*◌, ◌<◌, ◌≤◌, ◌^◌, ℕ, List, length, drop, slice_index_or, IfOk, OnOk};
 ghost use Rattle.twkb_points.specs.Point.{Point};
 ghost use Rattle.twkb_geom.specs.Rows.{row_points};
 ghost use Rattle.twkb_flat.specs.Rows.{IsNode};
@@ -9,15 +9,13 @@ ghost use Rattle.twkb_writer.specs.Reads.{Reads};
 ghost use Rattle.twkb_writer.specs.Sizes.{AreSizes};
 ghost use Rattle.twkb_writer.specs.Tails.{tail_of};
 
+use crate::depths::Depths;
 use crate::levels::Level;
 use crate::sizes::{Entry, Sizes};
 use crate::tails::Tail;
 use std::alloc::{AllocError, Global};
 use twkb_flat::{Flat, Node, NodeId, PointId, Work};
 use twkb_grammar::Style;
-
-/// How many depths a row may have, and one below them.
-const LEVELS: usize = 36;
 
 /// The points of a row before those up to the end of its geometry, each read once.
 fn take_points(flat: &Flat, id: NodeId, node: &Node, tail: Tail, work: &mut Work) -> Tail
@@ -37,6 +35,7 @@ fn take_points(flat: &Flat, id: NodeId, node: &Node, tail: Tail, work: &mut Work
 }
 
 /// The rows at a row's depth with this row before them, and its entry where it is a geometry of its own.
+#[inline(always)]
 fn measure_row(
     style: Style,
     node: &Node,
@@ -73,33 +72,31 @@ fn measure_row(
 
 /// Takes a row in: sets what the rows at its depth come to, with this row before them, and leaves none below. Gives its
 /// entry, where it is a geometry of its own.
-fn take_row(style: Style, node: &Node, points: &Tail, levels: &mut [Level; LEVELS]) -> Option<Entry>
+fn take_row(style: Style, node: &Node, points: &Tail, levels: &mut Depths) -> Option<Entry>
     requires deep { node.now.row.depth < 35 }
     requires small { (k : ℕ) → k < 36 → IsSmall (slice_index_or levels.old k blank) }
     requires points { points.now.bytes ≤ 2 ^ 40 }
     ensures { TakenRow style node.now points.now levels.old levels.new result }
 {
     let depth = node.row.depth as usize;
-    let below = levels[depth + 1];
-    let others = levels[depth];
+    let below = levels.at(depth + 1);
+    let others = levels.at(depth);
     let (level, entry) = measure_row(style, node, &below, points, others);
-    levels[depth + 1] = Level::blank();
-    levels[depth] = level;
+    levels.put(depth, level);
     entry
 }
 
 /// Keeps an entry, where there is one; the first makes room for `most`, the only growth.
-fn keep(entries: Vec<Entry>, entry: Option<Entry>, most: usize) -> Result<Vec<Entry>, AllocError>
-    ensures { IfOk result (λ kept. kept.items ≡ entries.items ++ option_list entry) }
+fn keep(entries: &mut Vec<Entry>, entry: Option<Entry>, most: usize) -> Result<(), AllocError>
+    ensures { OnOk result (entries.new.items ≡ entries.old.items ++ option_list entry) }
 {
-    let mut entries = entries;
-    if let Some(entry) = entry {
-        if entries.is_empty() {
-            entries.reserve(most)?;
-        }
-        entries.extend_from_slice(&[entry])?;
+    let Some(entry) = entry else {
+        return Ok(());
+    };
+    if entries.is_empty() {
+        entries.reserve(most)?;
     }
-    Ok(entries)
+    entries.extend_from_slice(&[entry])
 }
 
 /// The points up to the end of their geometry before a row whose points these are, with those after it.
@@ -110,6 +107,76 @@ fn before_row(node: &Node, points: Tail) -> Tail
         Some(_) => Tail::none(),
         None => points,
     }
+}
+
+/// The entry of a flat form of one row, which needs no levels.
+fn measure_one(flat: &Flat, style: Style, work: &mut Work) -> Option<Entry>
+    requires { length flat.now ≡ 1 }
+    ensures sizes { AreSizes style flat.now (option_list result) }
+    ensures reads { Reads work.old 1 (length (row_points flat.now)) work.new }
+{
+    // a proof learns by counting them that the rows are valid
+    let _total = flat.node_count();
+    let id = NodeId(0);
+    let node = flat.node(id, work);
+    let points = take_points(flat, id, &node, Tail::none(), work);
+    let (_, entry) = measure_row(style, &node, &Level::blank(), &points, Level::blank());
+    entry
+}
+
+/// Makes sizes those of a flat form of one row.
+fn measure_alone(
+    flat: &Flat,
+    style: Style,
+    sizes: &mut Sizes,
+    work: &mut Work,
+) -> Result<(), AllocError>
+    requires { length flat.now ≡ 1 }
+    ensures sizes { OnOk result (AreSizes style flat.now sizes.new) }
+    ensures work { OnOk result (Counted work.old (length (row_points flat.now)) (length flat.now) (length sizes.new) work.new) }
+{
+    let entry = measure_one(flat, style, work);
+    sizes.entries.clear();
+    keep(&mut sizes.entries, entry, 1)?;
+    work.points = work.points.saturating_add(flat.point_count() as u64);
+    work.nodes = work.nodes.saturating_add(1);
+    work.entries = work.entries.saturating_add(sizes.entries.len() as u64);
+    Ok(())
+}
+
+/// Makes sizes those of a flat form in a style, in place of what they were: one entry for each TWKB geometry in preorder,
+/// and none where there is no node. Reads each node and each point once, in one pass at any nesting; counts them and the
+/// entries. Takes memory for the entries, where their room does not suffice.
+pub fn measure_into(
+    flat: &Flat,
+    style: Style,
+    depths: &mut Depths,
+    sizes: &mut Sizes,
+    work: &mut Work,
+) -> Result<(), AllocError>
+    ensures sizes { OnOk result (AreSizes style flat.now sizes.new) }
+    ensures work { OnOk result (Counted work.old (length (row_points flat.now)) (length flat.now) (length sizes.new) work.new) }
+{
+    let total = flat.node_count();
+    if total == 1 {
+        return measure_alone(flat, style, sizes, work);
+    }
+    depths.clear();
+    sizes.entries.clear();
+    let mut tail = Tail::none();
+    for back in 0..total {
+        let id = NodeId(total - 1 - back);
+        let node = flat.node(id, work);
+        let points = take_points(flat, id, &node, tail, work);
+        let entry = take_row(style, &node, &points, depths);
+        tail = before_row(&node, points);
+        keep(&mut sizes.entries, entry, id.0 as usize + 1)?;
+    }
+    sizes.entries.reverse();
+    work.points = work.points.saturating_add(flat.point_count() as u64);
+    work.nodes = work.nodes.saturating_add(total as u64);
+    work.entries = work.entries.saturating_add(sizes.entries.len() as u64);
+    Ok(())
 }
 
 /// The sizes of a flat form in a style, one entry for each TWKB geometry in preorder, and none where there is no node.
@@ -124,21 +191,8 @@ pub fn measure_flat(
     ensures sizes { IfOk result (λ sizes. AreSizes style flat.now sizes) }
     ensures work { IfOk result (λ sizes. Counted work.old (length (row_points flat.now)) (length flat.now) (length sizes) work.new) }
 {
-    let total = flat.node_count();
-    let mut entries = Vec::new(alloc);
-    let mut levels = [Level::blank(); LEVELS];
-    let mut tail = Tail::none();
-    for back in 0..total {
-        let id = NodeId(total - 1 - back);
-        let node = flat.node(id, work);
-        let points = take_points(flat, id, &node, tail, work);
-        let entry = take_row(style, &node, &points, &mut levels);
-        tail = before_row(&node, points);
-        entries = keep(entries, entry, id.0 as usize + 1)?;
-    }
-    entries.reverse();
-    work.points = work.points.saturating_add(flat.point_count() as u64);
-    work.nodes = work.nodes.saturating_add(total as u64);
-    work.entries = work.entries.saturating_add(entries.len() as u64);
-    Ok(Sizes { entries })
+    let mut depths = Depths::new();
+    let mut sizes = Sizes::new(alloc);
+    measure_into(flat, style, &mut depths, &mut sizes, work)?;
+    Ok(sizes)
 }

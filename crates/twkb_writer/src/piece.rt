@@ -16,7 +16,7 @@ const GOES_ON: u8 = 0x80;
 
 /// What gathers bytes until it has no room for a step more. A contract sees the bytes that it holds.
 #[derive(Drop)]
-pub(crate) struct Piece {
+pub struct Piece {
     bytes: [u8; ROOM],
     len: usize,
 }
@@ -43,8 +43,8 @@ fn lead_byte(number: u64) -> u8
 }
 
 impl Piece {
-    /// A piece without bytes.
-    pub(crate) fn new() -> Piece
+    /// A piece without bytes. Takes no memory.
+    pub fn new() -> Piece
         ensures { result ≡ [] }
     {
         Piece {

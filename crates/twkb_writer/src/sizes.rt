@@ -1,6 +1,7 @@
 //! The sizes of a flat form.
-ghost use Rattle.std.specs.Prelude.{◌≡◌, length};
+ghost use Rattle.std.specs.Prelude.{◌≡◌, [], length};
 
+use std::alloc::Global;
 use std::marker::Model;
 use twkb_points::Bounds;
 
@@ -33,6 +34,15 @@ impl Model for Sizes {
 }
 
 impl Sizes {
+    /// No entries. Takes no memory.
+    pub fn new(alloc: Global) -> Sizes
+        ensures { result ≡ [] }
+    {
+        Sizes {
+            entries: Vec::new(alloc),
+        }
+    }
+
     /// How many TWKB geometries were measured. Takes no memory.
     pub fn len(&self) -> usize
         ensures { result ≡ length self.now }

@@ -17,6 +17,36 @@ use twkb_io::Sink;
 
 /// Writes the canonical blob of a flat form in a style, with its sizes in that style: exactly these bytes where it answers
 /// `Ok`, else a front of them. Writes nothing for a flat form without rows. Reads each point once at most and each node
+/// twice at most, at any nesting, and adds nothing else to the counted work. The bytes go through the piece, whatever it
+/// holds. Takes no memory.
+pub fn write_through<S: Sink>(
+    flat: &Flat,
+    style: Style,
+    sizes: &Sizes,
+    piece: &mut Piece,
+    sink: &mut S,
+    work: &mut Work,
+) -> Result<(), S::Fault>
+    requires { AreSizes style flat.now sizes.now }
+
+    // the blob, or a front of it
+    ensures ok { OnOk result ((g : Tree) → IsTree g → rows 0 g ≡ flat.now → S.took sink.old (canonical_blob style g) sink.new) }
+    ensures err { IfErr result (λ fault. (g : Tree) → IsTree g → rows 0 g ≡ flat.now → TookFront S.refused sink.old (canonical_blob style g) fault sink.new) }
+    ensures nothing { flat.now ≡ [] → (IsOk result) × (sink.new ≡ sink.old) }
+
+    // the work
+    ensures reads { OnOk result (Reads work.old (2 * length flat.now) (length (row_points flat.now)) work.new) }
+{
+    if flat.is_empty() {
+        return Ok(());
+    }
+    piece.clear();
+    put_rows(flat, style, sizes, sink, piece, work)?;
+    flush(sink, piece)
+}
+
+/// Writes the canonical blob of a flat form in a style, with its sizes in that style: exactly these bytes where it answers
+/// `Ok`, else a front of them. Writes nothing for a flat form without rows. Reads each point once at most and each node
 /// twice at most, at any nesting, and adds nothing else to the counted work. Takes no memory.
 pub fn write_flat<S: Sink>(
     flat: &Flat,
@@ -35,10 +65,5 @@ pub fn write_flat<S: Sink>(
     // the work
     ensures reads { OnOk result (Reads work.old (2 * length flat.now) (length (row_points flat.now)) work.new) }
 {
-    if flat.is_empty() {
-        return Ok(());
-    }
-    let mut piece = Piece::new();
-    put_rows(flat, style, sizes, sink, &mut piece, work)?;
-    flush(sink, &piece)
+    write_through(flat, style, sizes, &mut Piece::new(), sink, work)
 }

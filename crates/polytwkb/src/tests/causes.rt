@@ -48,7 +48,6 @@ fn a_refused_record_has_its_line(rt: HostRuntime) {
     assert!(rt; record(alloc, RowReason::FieldCount, "not five fields"));
     assert!(rt; record(alloc, RowReason::PolylineNotAllowed, "polyline not allowed"));
     assert!(rt; record(alloc, RowReason::PointCount, "wrong number of points"));
-    assert!(rt; record(alloc, RowReason::Unsupported, "not handled yet"));
 }
 
 #[test]

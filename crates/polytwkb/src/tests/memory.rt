@@ -35,3 +35,9 @@ fn a_cut_stream_leaves_a_front_of_its_table(rt: HostRuntime) {
     let table = b"depth,kind,id,precision,polyline\n0,point,,0,AC\n";
     assert!(rt; ends_short(rt.alloc(), "polytwkb unpack", STREAM, table));
 }
+
+#[test]
+fn a_cut_stream_leaves_a_front_of_its_lines(rt: HostRuntime) {
+    let lines = b"0 0 point 0 00 4 1\n";
+    assert!(rt; ends_short(rt.alloc(), "polytwkb show", STREAM, lines));
+}

@@ -47,3 +47,38 @@ fn a_refused_polyline_ends_with_1_and_its_line(rt: HostRuntime) {
     let line = "polytwkb: record 2: polyline at 1: latitude without longitude\n";
     assert!(rt; refuses(rt.alloc(), table, b"", line));
 }
+
+// A collection of a point with id 7 and an empty linestring with id -1.
+const COLLECTION: &str = "0,collection,,0,\n1,point,7,0,AA\n1,linestring,-1,0,\n";
+
+#[test]
+fn a_collection_is_packed_with_0(rt: HostRuntime) {
+    let alloc = rt.alloc();
+    let full = b"\x07\x07\x0F\x02\x00\x02\x00\x02\x0E\x01\x01\x02\x02\x02\x02\x02\x12\x00";
+    assert!(rt; line_packs(alloc, "polytwkb pack", COLLECTION, full));
+    assert!(rt; line_packs(alloc, "polytwkb pack --style full", COLLECTION, full));
+    let plain = b"\x07\x04\x02\x0E\x01\x01\x00\x02\x02\x02\x10";
+    assert!(rt; line_packs(alloc, "polytwkb pack --style plain", COLLECTION, plain));
+}
+
+#[test]
+fn a_point_is_packed_plain(rt: HostRuntime) {
+    let alloc = rt.alloc();
+    let plain = b"\x01\x00\x04\x02";
+    assert!(rt;
+        line_packs(
+            alloc,
+            "polytwkb pack --style plain",
+            "0,point,,0,AC\n",
+            plain
+        )
+    );
+    assert!(rt;
+        line_packs(
+            alloc,
+            "polytwkb pack --style=plain --max-nest 0",
+            "0,point,,0,AC\n",
+            plain
+        )
+    );
+}

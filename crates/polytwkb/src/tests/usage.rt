@@ -44,8 +44,19 @@ fn words_that_are_unknown_end_with_2(rt: HostRuntime) {
     assert!(rt; is_refused(alloc, "polytwkb pack --unknown"));
     assert!(rt; is_refused(alloc, "polytwkb pack more"));
     assert!(rt; is_refused(alloc, "polytwkb help"));
-    assert!(rt; is_refused(alloc, "polytwkb show"));
+    assert!(rt; is_refused(alloc, "polytwkb pack --version"));
     assert!(rt; is_refused(alloc, "polytwkb --max-nest 3"));
+}
+
+#[test]
+fn a_style_that_is_none_ends_with_2(rt: HostRuntime) {
+    let alloc = rt.alloc();
+    assert!(rt; is_refused(alloc, "polytwkb pack --style thin"));
+    assert!(rt; is_refused(alloc, "polytwkb pack --style Plain"));
+    assert!(rt; is_refused(alloc, "polytwkb pack --style"));
+    assert!(rt; is_refused(alloc, "polytwkb pack --style plain --style plain"));
+    assert!(rt; is_refused(alloc, "polytwkb unpack --style plain"));
+    assert!(rt; is_refused(alloc, "polytwkb show --style full"));
 }
 
 #[test]
@@ -67,6 +78,53 @@ fn help_goes_to_standard_output_with_0(rt: HostRuntime) {
     assert!(rt; is_helped(alloc, "polytwkb --help"));
     assert!(rt; is_helped(alloc, "polytwkb -h"));
     assert!(rt; is_helped(alloc, "polytwkb pack --help"));
+    assert!(rt; is_helped(alloc, "polytwkb show -h"));
+    assert!(rt; is_helped(alloc, "polytwkb --version"));
+}
+
+// What a line writes to standard output.
+fn written(alloc: Global, line: &str) -> Vec<u8> {
+    let mut reader = Tap::new(b"".as_slice());
+    let mut writer = Tap::new(Vec::new(alloc));
+    let mut errors = Tap::new(Vec::new(alloc));
+    let _ = run_line(alloc, line, &mut reader, &mut writer, &mut errors);
+    writer.into_inner()
+}
+
+// Whether help of a line has this text in it.
+fn tells(alloc: Global, line: &str, text: &str) -> bool {
+    let help = written(alloc, line);
+    match str::from_utf8(&help) {
+        Ok(help) => help.contains(text),
+        Err(_) => false,
+    }
+}
+
+#[test]
+fn help_teaches(rt: HostRuntime) {
+    let alloc = rt.alloc();
+    assert!(rt;
+        tells(
+            alloc,
+            "polytwkb --help",
+            "depth,kind,id,precision,polyline\n"
+        )
+    );
+    assert!(rt; tells(alloc, "polytwkb --help", "1,point,7,5,_p~iF~ps|U\n"));
+    assert!(rt; tells(alloc, "polytwkb --help", "Status: 0 all was done, 1 "));
+    assert!(rt;
+        tells(
+            alloc,
+            "polytwkb pack --help",
+            "[possible values: full, plain]"
+        )
+    );
+}
+
+#[test]
+fn the_version_is_told(rt: HostRuntime) {
+    let alloc = rt.alloc();
+    assert!(rt; written(alloc, "polytwkb --version").as_slice() == b"polytwkb 0.1.0\n".as_slice());
 }
 
 #[test]

@@ -73,13 +73,6 @@ fn the_polyline_comes_last(rt: HostRuntime) {
 }
 
 #[test]
-fn other_kinds_are_not_handled_yet(rt: HostRuntime) {
-    let alloc = rt.alloc();
-    assert!(rt; only(alloc, "0,polygon,,0,AC\n", RowReason::Unsupported));
-    assert!(rt; only(alloc, "1,ring,x,8,A\n", RowReason::Unsupported));
-}
-
-#[test]
 fn a_point_without_room_for_it_is_one_too_many(rt: HostRuntime) {
     let alloc = rt.alloc();
     let limits = Limits::try_new(16, 1, 0).unwrap_or(Limits::standard());

@@ -6,11 +6,11 @@ pub returns : goal.returns
 returns c =
     let line = c.in_ok-command.ensures in
     let parse = c.try_get_matches_from in
-    let matches = matches_line parse.result _ _ line parse.ensures.matches in
-    let kinds = kinds_line parse.result _ _ line parse.ensures.kinds in
+    let matches = matches_line _ parse.result _ _ line parse.ensures.matches in
+    let kinds = kinds_line _ parse.result _ _ line parse.ensures.kinds in
     record {
       ok = matches;
-      named = named_line parse.result _ kinds matches;
-      passes = passes_line parse.result _ _ line parse.ensures.passes;
+      named = named_line _ parse.result _ kinds matches;
+      passes = passes_line _ parse.result _ _ line parse.ensures.passes;
       kinds = kinds;
     }

@@ -1,0 +1,147 @@
+-- What a caller of a conversion of a stream learns of a stop.
+use Rattle.std.proofs.Common.{◌≡◌, ◌∙◌, ◌+◌, ◌<◌, ◌^◌, ℕ, List, [], ◌++◌, Option, Some, None, Bool, true, false, length, ap, arith, refl, sym, subst, inl, inr}
+use Rattle.std.specs.Prelude.{IfSome, ◌⊎◌}
+use Rattle.std.proofs.lemmas.List.{append-nil}
+use Rattle.std.specs.Io.KnownBytes.{Appends}
+use Rattle.std.specs.declared.io.traits.Read.{Ghosts}
+use Rattle.twkb_io.specs.Copies.{BeginsWith}
+use Rattle.twkb_io.specs.Taps.{count_failure, device_of, failures_of}
+use Rattle.twkb_io.specs.Outputs.{output_tap, sent_of}
+use Rattle.twkb_io.specs.declared.tap.Tap.{Tap}
+use Rattle.twkb_io.specs.declared.output.Output.{Output}
+use Rattle.twkb_io.specs.declared.input.InFault.TheVariants as input
+use Rattle.twkb_io.specs.declared.output.OutFault.TheVariants as out
+use Rattle.twkb_geom.specs.Tree.{Tree}
+use Rattle.twkb_geom.specs.Limits.{Allowance}
+use Rattle.twkb_grammar.specs.Blob.{Stream}
+use Rattle.twkb_grammar.specs.Fault.{StreamFault}
+use Rattle.twkb_engine.specs.Frames.{reason_of}
+use Rattle.twkb_convert.specs.BlobReading.{RefusesBlob, given, limits_of, reader_failures, reader_tap, rest_of, told_of}
+use Rattle.twkb_engine.specs.declared.blob_reason.BlobReason.{BlobReason}
+use Rattle.twkb_blob.specs.declared.reader.Reader.{Reader}
+use Rattle.twkb_blob.specs.declared.fault.BlobFault.TheVariants as blob
+use Rattle.twkb_blob.specs.declared.spans.Located.{Located}
+use Rattle.twkb_convert.specs.LocatedBlobs.{LocatedStream, geometries_of}
+use Rattle.twkb_convert.specs.Listings.{listing_text}
+use Rattle.twkb_convert.specs.BlobSending.{CutListing, Explains, StopsRead, is_read, is_write}
+use Rattle.twkb_convert.specs.Listed.{ExplainsCause, IsDeviceCause, StoppedListing, cause_for}
+use Rattle.twkb_convert.specs.declared.listing.Listing.{Listing}
+use Rattle.twkb_convert.specs.declared.halt.Obstacle.{Obstacle}
+use Rattle.twkb_convert.specs.declared.halt.Obstacle.TheVariants as obstacle
+use Rattle.twkb_convert.specs.declared.halt.Halt.{Halt}
+use Rattle.twkb_convert.specs.declared.report.Cause.{Cause}
+use Rattle.twkb_convert.specs.declared.report.Cause.TheVariants as causes
+use Rattle.twkb_convert.proofs.LocatedLemmas.{located-stream}
+
+-- ---- devices
+
+neither : (failed : Bool) (why : Cause) → (failed ≡ false) ⊎ (false ≡ true) → (why ≡ causes.ReadDevice → ⊥) → (why ≡ causes.WriteDevice → ⊥) → IsDeviceCause failed false why
+neither false why told no_read no_write = (no_read, no_write)
+neither true why (inl e) no_read no_write = cc e
+neither true why (inr e) no_read no_write = cc e
+
+wrote : (failed : Bool) → IsDeviceCause failed true causes.WriteDevice
+wrote false = refl
+wrote true = refl
+
+was_read : (failed : Bool) → (failed ≡ true) ⊎ (false ≡ true) → IsDeviceCause failed false causes.ReadDevice
+was_read true told = refl
+was_read false (inl e) = cc e
+was_read false (inr e) = cc e
+
+tell : (why : Obstacle) (failed : Bool) → (failed ≡ is_read why) ⊎ (is_write why ≡ true) → IsDeviceCause failed (is_write why) (cause_for why)
+tell (obstacle.Stream blob.Memory) failed told = neither failed causes.Memory told (λ e. cc e) (λ e. cc e)
+tell (obstacle.Stream (blob.Device input.Read)) failed told = was_read failed told
+tell (obstacle.Stream (blob.Device input.TooLong)) failed told = neither failed causes.TooLong told (λ e. cc e) (λ e. cc e)
+tell (obstacle.Stream (blob.Device input.Spent)) failed told = neither failed causes.TooLong told (λ e. cc e) (λ e. cc e)
+tell (obstacle.Stream blob.Spent) failed told = neither failed causes.TooLong told (λ e. cc e) (λ e. cc e)
+tell (obstacle.Stream (blob.At offset reason)) failed told = neither failed (causes.Blob offset reason) told (λ e. cc e) (λ e. cc e)
+tell obstacle.Memory failed told = neither failed causes.Memory told (λ e. cc e) (λ e. cc e)
+tell (obstacle.Output out.Write) failed told = wrote failed
+tell (obstacle.Output out.Stuck) failed told = wrote failed
+tell (obstacle.Output out.TooLong) failed told = neither failed causes.TooLong told (λ e. cc e) (λ e. cc e)
+tell (obstacle.Output out.Spent) failed told = neither failed causes.TooLong told (λ e. cc e) (λ e. cc e)
+
+-- ---- causes
+
+long_input : (known : Option (List ℕ)) (before : ℕ) → before ≡ 0 → IfSome known (λ all. 2 ^ 62 < before + length all) → IfSome known (λ all. 2 ^ 62 < length all)
+long_input None before start long = tt
+long_input (Some all) before start long = omega (arith, start, long)
+
+-- blobs, and a first fault behind them
+stream_fault : (l : Allowance) (told : Option (List ℕ)) (before : ℕ) (bytes : List ℕ) (trees : List Tree) (offset : ℕ) (reason : BlobReason) → before ≡ 0 → Stream l bytes trees
+    → IfSome told (λ all. (left : List ℕ) × (all ≡ bytes ++ left) × RefusesBlob l left (before + length bytes) offset reason) → IfSome told (λ all. StreamFault l all trees offset (reason_of reason))
+stream_fault l None before bytes trees offset reason start blobs refused = tt
+stream_fault l (Some all) before bytes trees offset reason start blobs (left, whole, refused) = record {
+  front = bytes;
+  rest = left;
+  within = refused.within;
+  whole = whole;
+  blobs = blobs;
+  first = refused.first;
+  place = omega (arith, refused.place, start);
+}
+
+none_later : (l : Allowance) (offset : ℕ) (bytes : List ℕ) (whole later : List Located) → LocatedStream l offset bytes (whole ++ later) → later ≡ [] → Stream l bytes (geometries_of whole)
+none_later l offset bytes whole later blobs none =
+    located-stream l offset bytes whole (subst (λ bs. LocatedStream l offset bytes bs) (ap (λ bs. whole ++ bs) none ∙ append-nil whole) blobs)
+
+caused : (what : Listing) (l : Allowance) (old told : Option (List ℕ)) (before : ℕ) (bytes : List ℕ) (why : Obstacle) (sent : ℕ) (whole later : List Located) (left : List ℕ)
+    → before ≡ 0 → sent ≡ 0 → LocatedStream l before bytes (whole ++ later)
+    → Explains l old told before bytes why sent (listing_text what (whole ++ later)) later left
+    → ExplainsCause geometries_of (listing_text what) l old told bytes (cause_for why) whole later left
+caused what l old told before bytes (obstacle.Stream blob.Memory) sent whole later left start none blobs e = (e.0, e.1)
+caused what l old told before bytes (obstacle.Stream blob.Spent) sent whole later left start none blobs e = absurd e.2
+caused what l old told before bytes (obstacle.Stream (blob.Device input.Read)) sent whole later left start none blobs e = e
+caused what l old told before bytes (obstacle.Stream (blob.Device input.TooLong)) sent whole later left start none blobs e = inl (long_input old before start e.2)
+caused what l old told before bytes (obstacle.Stream (blob.Device input.Spent)) sent whole later left start none blobs e = absurd e.2
+caused what l old told before bytes (obstacle.Stream (blob.At offset reason)) sent whole later left start none blobs e =
+    (e.0, e.1, stream_fault l old before bytes (geometries_of whole) offset reason start (none_later l before bytes whole later blobs e.0) e.2)
+caused what l old told before bytes obstacle.Memory sent whole later left start none blobs e = e
+caused what l old told before bytes (obstacle.Output out.Write) sent whole later left start none blobs e = tt
+caused what l old told before bytes (obstacle.Output out.Stuck) sent whole later left start none blobs e = tt
+caused what l old told before bytes (obstacle.Output out.TooLong) sent whole later left start none blobs e = inr (let far = e.0 refl in omega (arith, far, none))
+caused what l old told before bytes (obstacle.Output out.Spent) sent whole later left start none blobs e = absurd (e.1 refl)
+
+-- ---- the stop
+
+module _ {R W : Type 0} {read : Ghosts R} (what : Listing) (remaining : R → Option (List ℕ)) (contents : W → Option (List ℕ)) where
+  pub stopped : (l : Allowance) (reader after : Tap R) (writer written : Tap W) (from to : Reader R read) (old new : Output W) (halt : Halt) (sent : ℕ) (why : Cause)
+      → limits_of from ≡ l → rest_of from ≡ remaining (device_of reader) → given from ≡ 0 → reader_failures from ≡ failures_of reader
+      → (output_tap old).now ≡ writer → sent_of old ≡ 0 → sent ≡ sent_of new → why ≡ cause_for halt.obstacle
+      → (reader_tap to).now ≡ after → (output_tap new).now ≡ written → told_of to ≡ remaining (device_of after)
+      → CutListing what contents from old to new halt → StopsRead from halt.obstacle to
+      → StoppedListing (LocatedStream l 0) geometries_of (listing_text what) l remaining contents reader writer (record { done = halt.done; sent = sent; cause = why }) after written
+  stopped l reader after writer written from to old new halt sent why limits told start failures lent none count is_cause ends closes later_told cut stops =
+      let total : sent ≡ length cut.text = omega (arith, count, cut.sends.sent, none) in
+      let all = listing_text what (cut.whole ++ cut.later) in
+      let within : LocatedStream l (given from) cut.bytes (cut.whole ++ cut.later) = subst (λ a. LocatedStream a (given from) cut.bytes (cut.whole ++ cut.later)) limits cut.blobs in
+      let known : Explains l (remaining (device_of reader)) (remaining (device_of after)) (given from) cut.bytes halt.obstacle (sent_of old) all cut.later cut.left =
+      subst (λ a. Explains a (remaining (device_of reader)) (remaining (device_of after)) (given from) cut.bytes halt.obstacle (sent_of old) all cut.later cut.left) limits
+      (subst (λ k. Explains (limits_of from) k (remaining (device_of after)) (given from) cut.bytes halt.obstacle (sent_of old) all cut.later cut.left) told
+      (subst (λ k. Explains (limits_of from) (rest_of from) k (given from) cut.bytes halt.obstacle (sent_of old) all cut.later cut.left) later_told cut.explains)) in
+      record {
+        whole = cut.whole;
+        later = cut.later;
+        bytes = cut.bytes;
+        blobs = subst (λ n. LocatedStream l n cut.bytes (cut.whole ++ cut.later)) start within;
+        begins = subst (λ k. BeginsWith k cut.bytes) told cut.begins;
+        text = cut.text;
+        left = cut.left;
+        cut = cut.cut;
+        one = cut.one;
+        holds = cut.holds;
+        appends = subst (λ t. Appends (contents (device_of t)) (contents (device_of written)) cut.text) lent
+            (subst (λ t. Appends (contents (device_of (output_tap old).now)) (contents (device_of t)) cut.text) closes cut.sends.appends);
+        done = cut.count;
+        sent = total;
+        explains = subst (λ c. ExplainsCause geometries_of (listing_text what) l (remaining (device_of reader)) (remaining (device_of after)) cut.bytes c cut.whole cut.later cut.left) (sym is_cause)
+            (caused what l (remaining (device_of reader)) (remaining (device_of after)) (given from) cut.bytes halt.obstacle (sent_of old) cut.whole cut.later cut.left start none within known);
+        devices = record {
+          read_failed = stops.has_failed;
+          write_failed = is_write halt.obstacle;
+          reads = ap failures_of (sym ends) ∙ (stops.follows.failures ∙ ap (count_failure stops.has_failed) failures);
+          writes = ap failures_of (sym closes) ∙ (cut.failures ∙ ap (λ t. count_failure (is_write halt.obstacle) (failures_of t)) lent);
+          tell = subst (λ c. IsDeviceCause stops.has_failed (is_write halt.obstacle) c) (sym is_cause) (tell halt.obstacle stops.has_failed stops.told);
+        };
+      }

@@ -1,0 +1,43 @@
+-- A record that is refused in a beginning of a text is refused in all of it.
+use Rattle.std.proofs.Common.{◌≡◌, ◌∙◌, ℕ, List, [], ◌∷◌, ◌++◌, Some, refl, ap, sym, subst, inl, inr, append_assoc}
+use Rattle.twkb_geom.specs.Tree.{Tree}
+use Rattle.twkb_geom.specs.Limits.{Allowance}
+use Rattle.twkb_table.specs.Record.{Record}
+use Rattle.twkb_table.specs.Named.{NamesNone}
+use Rattle.twkb_table.specs.RowFault.{AreComplete}
+use Rattle.twkb_table.specs.CsvRecords.{AreRecordsOf}
+use Rattle.twkb_table.specs.declared.reason.RowReason.{RowReason}
+use Rattle.twkb_convert.specs.RefusedRows.{IsRefusedAt}
+use Rattle.twkb_convert.proofs.FrontLemmas.{first_records}
+use Rattle.twkb_convert.proofs.OutputLemmas.{complete_none}
+use Rattle.twkb_convert.proofs.RoundTrips.{one_records}
+
+-- more records change no refusal, unless there were none
+complete_more : (l : Allowance) (seen more : List Record) (number : ℕ) (reason : RowReason) (gs : List Tree) → (seen ≡ [] → more ≡ []) → AreComplete l seen number reason gs → AreComplete l (seen ++ more) number reason gs
+complete_more l [] more number reason gs only (inl first) = subst (λ rs. AreComplete l rs number reason gs) (sym (only refl)) (inl first)
+complete_more l (s ∷ seen) more number reason gs only (inl first) = inl first
+complete_more l seen more number reason gs only (inr (later, same)) =
+    inr (
+      record {
+        before = later.before;
+        here = later.here;
+        more = later.more ++ more;
+        split = ap (λ rs. rs ++ more) later.split ∙ append_assoc later.before (later.here ∷ later.more) more;
+        place = later.place;
+        geometries = later.geometries;
+        named = later.named;
+        none = later.none;
+        judged = later.judged;
+      },
+      same,
+    )
+
+pub refused_all : (l : Allowance) (text : List ℕ) (records : List Record) (number : ℕ) (reason : RowReason) (gs : List Tree) → AreRecordsOf text records → IsRefusedAt l (Some text) number reason gs
+    → AreComplete l records number reason gs
+refused_all l text records number reason gs all refused =
+    let (more, whole) = first_records text records refused.seen all refused.begins in
+    let only : refused.seen ≡ [] → more ≡ [] = λ none. sym (whole ∙ ap (λ rs. rs ++ more) none) ∙ one_records text records [] all (refused.none none) in
+    subst (λ rs. AreComplete l rs number reason gs) (sym whole) (complete_more l refused.seen more number reason gs only refused.fault)
+
+pub refused_none : (l : Allowance) (text : List ℕ) (records : List Record) (number : ℕ) (reason : RowReason) (gs : List Tree) → AreRecordsOf text records → IsRefusedAt l (Some text) number reason gs → NamesNone l records
+refused_none l text records number reason gs all refused = complete_none l records number reason gs (refused_all l text records number reason gs all refused)

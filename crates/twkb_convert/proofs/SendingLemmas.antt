@@ -1,0 +1,231 @@
+-- Where the sending of a table stops.
+use Rattle.std.proofs.Common.{◌≡◌, ◌∙◌, ◌+◌, ◌<◌, ◌≤◌, ◌^◌, ℕ, Bool, true, false, List, [], ◌∷◌, ◌++◌, Option, Some, None, Err, length, ap, arith, refl, sym, subst, inl, inr, length-append}
+use Rattle.std.specs.Prelude.{IfSome}
+use Rattle.std.proofs.lemmas.List.{append-nil}
+use Rattle.std.proofs.lemmas.Grind.{flat_map-append}
+use Rattle.twkb_io.specs.Outputs.{Refused, Sent, Took, sent_of}
+use Rattle.twkb_io.specs.OutputLaws.{refused_join, took_join}
+use Rattle.twkb_io.specs.declared.output.Output.{Output}
+use Rattle.twkb_io.specs.declared.output.OutFault.{OutFault}
+use Rattle.twkb_io.specs.declared.output.OutFault.TheVariants as out
+use Rattle.twkb_geom.specs.Tree.{Tree, simple, collection}
+use Rattle.twkb_geom.specs.Rows.{Row}
+use Rattle.twkb_geom.specs.Limits.{Allowance}
+use Rattle.twkb_flat.specs.declared.work.Work.{Work}
+use Rattle.twkb_grammar.specs.Written.{canonical_blob, canonical_stream}
+use Rattle.twkb_grammar.specs.declared.style.Style.{Style}
+use Rattle.twkb_table.specs.Record.{Record}
+use Rattle.twkb_table.specs.CsvRecords.{AreRecordsOf, BeginWith, standing}
+use Rattle.twkb_table.specs.RowFault.{all_but_last}
+use Rattle.twkb_table.specs.RowReading.{waiting}
+use Rattle.twkb_table.specs.TableReading as Table
+use Rattle.twkb_table.specs.TableReading.{HaveGiven, StandsAfter, is_ended}
+use Rattle.twkb_table.specs.declared.table_fault.TableFault.{TableFault}
+use Rattle.twkb_table.specs.declared.table_fault.TableFault.TheVariants as fault
+use Rattle.twkb_table.specs.declared.table_reader.TableReader.{TableReader}
+use Rattle.twkb_table.proofs.TableReaderLemmas.{all_but_last-last, names_so_far, text_begins}
+use Rattle.twkb_convert.specs.RefusedRows.{MayBeWritten}
+use Rattle.twkb_convert.specs.Sending.{CutsOne, Explains, SendsNext, SendsOne, SentAll, SentSoFar, Stopped, UnlessOutput, is_write}
+use Rattle.twkb_convert.specs.declared.sending.Why.{Why}
+use Rattle.twkb_convert.specs.declared.sending.Why.TheVariants as why
+use Rattle.twkb_convert.specs.declared.sending.Tally.{Tally}
+use Rattle.twkb_convert.proofs.WorkLemmas.{work_more}
+
+-- ---- what may be written
+
+-- all records of a text are a beginning of them
+begins_all : (told : Option (List ℕ)) (records : List Record) → IfSome told (λ text. AreRecordsOf text records) → IfSome told (λ text. BeginWith text records)
+begins_all None records all = tt
+begins_all (Some text) records all = (all.0, all.1, all.2)
+
+ready_gave : (l : Allowance) (told : Option (List ℕ)) (records : List Record) (given : List Tree) (waits : List Row) (ended : Bool) → IfSome told (λ text. BeginWith text records)
+    → (ended ≡ true → IfSome told (λ text. AreRecordsOf text records)) → HaveGiven l records given waits ended → MayBeWritten l told given
+ready_gave l told records given [] ended begins all (named, inl none) =
+    record { records = records; geometries = given; begins = begins; named = named; ready = inl (none ∙ ap all_but_last (sym none)) }
+ready_gave l told records given [] ended begins all (named, inr over) =
+    record { records = records; geometries = given; begins = begins; named = named; ready = inr (all over, refl) }
+ready_gave l told records given (root ∷ more) ended begins all (last, named, same) = record {
+  records = records;
+  geometries = given ++ last ∷ [];
+  begins = begins;
+  named = names_so_far l records (given ++ last ∷ []) named;
+  ready = inl (sym (all_but_last-last given last));
+}
+
+-- the geometries that a table gave may be written
+pub ready_after : {R : Type 0} (l : Allowance) (remaining : R → Option (List ℕ)) (told : Option (List ℕ)) (records : List Record) (given : List Tree) (table : TableReader R)
+    → StandsAfter l remaining told records given table → MayBeWritten l told given
+ready_after l remaining told records given table s =
+    ready_gave l told records given (waiting table.rows) (is_ended table) (text_begins remaining told records table s.source)
+    (λ over. subst (λ e. standing remaining told records e table.reader) over s.source) s.gave
+
+-- ---- geometries sent
+
+stream_one : (style : Style) (gs : List Tree) (g : Tree) → canonical_stream style (gs ++ g ∷ []) ≡ canonical_stream style gs ++ canonical_blob style g
+stream_one style gs g = flat_map-append (canonical_blob style) gs (g ∷ []) ∙ ap (λ l. canonical_stream style gs ++ l) (append-nil (canonical_blob style g))
+
+module _ {R W : Type 0} (style : Style) (l : Allowance) (remaining : R → Option (List ℕ)) (contents : W → Option (List ℕ)) (told : Option (List ℕ)) where
+  -- one more
+  pub sent_more : (from to : TableReader R) (old mid new : Output W) (done : ℕ) (before after : Work) (s : SentSoFar style l remaining contents told from old mid done before)
+      → SendsOne style l remaining contents told s.geometries to mid before new after → SentSoFar style l remaining contents told to old new (done + 1) after
+  sent_more from to old mid new done before after s one = record {
+    records = one.seen;
+    geometries = s.geometries ++ one.geometry ∷ [];
+    stands = one.stands;
+    took = rw (stream_one style s.geometries one.geometry) (took_join contents old mid new _ _ s.took one.writes.took);
+    count = (let c = s.count in omega (arith, c, length-append s.geometries (one.geometry ∷ [])));
+    work_of = work_more s.geometries one.geometry before after s.work_of one.writes.work;
+  }
+
+pub sent_whole : {W : Type 0} (contents : W → Option (List ℕ)) (old new : Output W) (bytes : List ℕ) → Sent contents old bytes new → Sent contents old (bytes ++ []) new
+sent_whole contents old new bytes sends = rw (append-nil bytes) sends
+
+-- ---- stops
+
+explains_fault : (style : Style) (l : Allowance) (told : Option (List ℕ)) (records : List Record) (given : List Tree) (f : TableFault) (sent : ℕ) → Table.Explains l told records given f
+    → Explains style l told (why.Table f) sent given [] []
+explains_fault style l told records given (fault.At number reason) sent e =
+    (refl, refl, record { seen = e.seen; begins = e.begins; none = e.none; fault = e.complete })
+explains_fault style l told records given fault.TooManyRecords sent e = (refl, refl, (e.seen, e.begins, e.many))
+explains_fault style l told records given fault.Source sent e = (refl, refl)
+explains_fault style l told records given fault.Memory sent e = (refl, refl)
+explains_fault style l told records given fault.Spent sent e = e
+
+module _ {R W : Type 0} (style : Style) (l : Allowance) (remaining : R → Option (List ℕ)) (contents : W → Option (List ℕ)) (told : Option (List ℕ)) where
+  -- where the output took all that it was handed
+  stopped_between : (from : TableReader R) (old mid new : Output W) (done : ℕ) (work : Work) (stop : Why) (s : SentSoFar style l remaining contents told from old mid done work)
+      → new ≡ mid → is_write stop ≡ false → ((P : Type 0) → P → UnlessOutput stop P) → Explains style l told stop (sent_of old) s.geometries [] []
+      → Stopped style l contents told old new (record { done = done; why = stop })
+  stopped_between from old mid new done work stop s same quiet kept explains =
+      let took = subst (λ o. Took contents old (canonical_stream style s.geometries) o) (sym same) s.took in
+      let ready : MayBeWritten l told (s.geometries ++ []) = subst (λ gs. MayBeWritten l told gs) (sym (append-nil s.geometries)) (ready_after l remaining told s.records s.geometries from s.stands) in
+      record {
+        whole = s.geometries;
+        later = [];
+        front = [];
+        rest = [];
+        ready = ready;
+        cut = refl;
+        one = inl refl;
+        sends = sent_whole contents old new (canonical_stream style s.geometries) took.sends;
+        count = s.count;
+        explains = explains;
+        failures = rw quiet took.failures;
+        unspent = kept _ took.spent;
+      }
+
+  -- where it refused a front of a blob
+  stopped_inside : (from : TableReader R) (old mid new : Output W) (done : ℕ) (work : Work) (f : OutFault) (s : SentSoFar style l remaining contents told from old mid done work)
+      → CutsOne style l contents told s.geometries mid f new → Stopped style l contents told old new (record { done = done; why = why.Output f })
+  stopped_inside from old mid new done work f s one =
+      let all = refused_join contents old mid new (canonical_stream style s.geometries) one.sends.front f s.took one.sends.refused in
+      record {
+        whole = s.geometries;
+        later = one.geometry ∷ [];
+        front = one.sends.front;
+        rest = one.sends.rest;
+        ready = one.ready;
+        cut = append-nil (canonical_blob style one.geometry) ∙ one.sends.cut;
+        one = inr (one.geometry, refl, one.sends.left);
+        sends = all.sends;
+        count = s.count;
+        explains = (
+          λ far. (let most = one.sends.too_long far in let before = s.took.sends.sent in
+              omega (arith, most, before, ap length (stream_one style s.geometries one.geometry), length-append (canonical_stream style s.geometries) (canonical_blob style one.geometry))),
+          one.sends.unspent,
+        );
+        failures = all.failures;
+        unspent = tt;
+      }
+
+  pub stopped_next : (from to : TableReader R) (old mid new : Output W) (done : ℕ) (before after : Work) (stop : Why) (s : SentSoFar style l remaining contents told from old mid done before)
+      → SendsNext style l remaining contents told s.records s.geometries to mid before new after (Err stop) → Stopped style l contents told old new (record { done = done; why = stop })
+  stopped_next from to old mid new done before after (why.Table f) s (same, explains) =
+      stopped_between from old mid new done before (why.Table f) s same refl (λ P p. p) (explains_fault style l told s.records s.geometries f (sent_of old) explains)
+  stopped_next from to old mid new done before after why.Memory s same = stopped_between from old mid new done before why.Memory s same refl (λ P p. p) (refl, refl)
+  stopped_next from to old mid new done before after why.Undrained s sends = absurd sends
+  stopped_next from to old mid new done before after (why.Output f) s one = stopped_inside from old mid new done before f s one
+
+-- ---- no end
+
+blob_long : (style : Style) (g : Tree) → 0 < length (canonical_blob style g)
+blob_long style (simple p s) = omega arith
+blob_long style (collection p ids gs) = omega arith
+
+-- a blob has a byte
+stream_long : (style : Style) (gs : List Tree) → length gs ≤ length (canonical_stream style gs)
+stream_long style [] = omega arith
+stream_long style (g ∷ gs) = omega (arith, length-append (canonical_blob style g) (canonical_stream style gs), blob_long style g, stream_long style gs)
+
+-- as many geometries as can be counted are more bytes than can be sent
+pub stopped_uncounted : {R W : Type 0} (style : Style) (l : Allowance) (remaining : R → Option (List ℕ)) (contents : W → Option (List ℕ)) (told : Option (List ℕ)) (table : TableReader R) (old new : Output W)
+    (done last : ℕ) (work : Work) → SentSoFar style l remaining contents told table old new done work → done ≡ last → 2 ^ 62 < last
+    → Stopped style l contents told old new (record { done = last; why = why.Output out.TooLong })
+stopped_uncounted style l remaining contents told table old new done last work s at_last many = record {
+  whole = s.geometries;
+  later = [];
+  front = [];
+  rest = [];
+  ready = subst (λ gs. MayBeWritten l told gs) (sym (append-nil s.geometries)) (ready_after l remaining told s.records s.geometries table s.stands);
+  cut = refl;
+  one = inl refl;
+  sends = sent_whole contents old new (canonical_stream style s.geometries) s.took.sends;
+  count = sym at_last ∙ s.count;
+  explains = (
+    λ far. (let c = s.count in omega (arith, many, at_last, c, stream_long style s.geometries, ap (λ gs. length (canonical_stream style gs)) (append-nil s.geometries))),
+    λ spent. cc spent,
+  );
+  failures = s.took.failures;
+  unspent = tt;
+}
+
+-- ---- the reader's end, and the flush
+
+module _ {W : Type 0} (style : Style) (l : Allowance) (contents : W → Option (List ℕ)) (told : Option (List ℕ)) where
+  -- all geometries of a table may be written
+  pub all_ready : (old new : Output W) (tally : Tally) (all : SentAll style l contents told old new tally) → MayBeWritten l told (all.geometries ++ [])
+  all_ready old new tally all = record {
+    records = all.records;
+    geometries = all.geometries;
+    begins = begins_all told all.records all.all;
+    named = names_so_far l all.records all.geometries all.named;
+    ready = inr (all.all, append-nil all.geometries);
+  }
+
+  -- the whole table was sent, and the reader was not read to its end
+  pub stopped_undrained : (old new : Output W) (tally : Tally) → SentAll style l contents told old new tally
+      → Stopped style l contents told old new (record { done = tally.geometries; why = why.Undrained })
+  stopped_undrained old new tally all = record {
+    whole = all.geometries;
+    later = [];
+    front = [];
+    rest = [];
+    ready = all_ready old new tally all;
+    cut = refl;
+    one = inl refl;
+    sends = sent_whole contents old new (canonical_stream style all.geometries) all.took.sends;
+    count = all.count;
+    explains = (refl, refl, (all.records, all.all, all.named));
+    failures = all.took.failures;
+    unspent = all.took.spent;
+  }
+
+  -- a flush that failed after the whole table
+  pub flush_failed : (old mid new : Output W) (tally : Tally) (f : OutFault) → SentAll style l contents told old mid tally → Refused contents mid [] f new → (f ≡ out.TooLong → ⊥) → (f ≡ out.Spent → ⊥)
+      → Stopped style l contents told old new (record { done = tally.geometries; why = why.Output f })
+  flush_failed old mid new tally f all failed short unspent =
+      let refused = refused_join contents old mid new (canonical_stream style all.geometries) [] f all.took failed in
+      record {
+        whole = all.geometries;
+        later = [];
+        front = [];
+        rest = [];
+        ready = all_ready old mid tally all;
+        cut = refl;
+        one = inl refl;
+        sends = refused.sends;
+        count = all.count;
+        explains = (λ far. absurd (short far), unspent);
+        failures = refused.failures;
+        unspent = tt;
+      }

@@ -1,0 +1,104 @@
+-- A stream that was written as a table, without the spans of its blobs.
+use Rattle.std.specs.Prelude.{IfSome, IfOk, IfErr, Result, Ok, Err}
+use Rattle.std.proofs.Common.{◌≡◌, ◌∙◌, ◌<◌, ◌^◌, ℕ, List, ◌++◌, Option, Some, None, length, ap, sym, subst, inl, inr}
+use Rattle.std.specs.Io.KnownBytes.{Appends}
+use Rattle.std.proofs.lemmas.List.{map-append, length-map}
+use Rattle.twkb_io.specs.declared.tap.Tap.{Tap}
+use Rattle.twkb_io.specs.Taps.{device_of}
+use Rattle.twkb_geom.specs.Tree.{Tree}
+use Rattle.twkb_geom.specs.Limits.{Allowance}
+use Rattle.twkb_grammar.specs.Blob.{Stream}
+use Rattle.twkb_blob.specs.declared.spans.Located.{Located}
+use Rattle.twkb_convert.specs.Outputs.{AtMostOneCut, table_text}
+use Rattle.twkb_convert.specs.LocatedBlobs.{LocatedStream, geometries_of}
+use Rattle.twkb_convert.specs.Listings.{listing_text}
+use Rattle.twkb_convert.specs.BlobSending.{HoldsWhole}
+use Rattle.twkb_convert.specs.Listed.{ExplainsCause, Listed, StoppedListing}
+use Rattle.twkb_convert.specs.Unpacked.{StoppedUnpacking, Unpacked}
+use Rattle.twkb_convert.specs.declared.listing.Listing.TheVariants as listing
+use Rattle.twkb_convert.specs.declared.report.Report.{Report}
+use Rattle.twkb_convert.specs.declared.report.ConvertFault.{ConvertFault}
+use Rattle.twkb_convert.specs.declared.report.Cause.{Cause}
+use Rattle.twkb_convert.specs.declared.report.Cause.TheVariants as causes
+use Rattle.twkb_convert.proofs.LocatedLemmas.{located-stream}
+use Rattle.twkb_convert.proofs.ListingTexts.{table_of_blobs}
+
+joined : (bs cs : List Located) → geometries_of (bs ++ cs) ≡ geometries_of bs ++ geometries_of cs
+joined bs cs = map-append (λ (b : Located). b.geometry) bs cs
+
+known_stream : (l : Allowance) (known : Option (List ℕ)) (bs : List Located) → IfSome known (λ bytes. LocatedStream l 0 bytes bs) → IfSome known (λ bytes. Stream l bytes (geometries_of bs))
+known_stream l None bs s = tt
+known_stream l (Some bytes) bs s = located-stream l 0 bytes bs s
+
+cut_without : (later : List Located) (left : List ℕ) → AtMostOneCut later left → AtMostOneCut (geometries_of later) left
+cut_without later left (inl none) = inl (ap geometries_of none)
+cut_without later left (inr one) = inr (one.0.geometry, ap geometries_of one.1, one.2)
+
+holds_without : (text : List ℕ) (whole : List Located) → HoldsWhole (listing_text listing.Table) text whole → HoldsWhole table_text text (geometries_of whole)
+holds_without text whole (inl none) = inl (ap geometries_of none)
+holds_without text whole (inr more) = inr (more.0, more.1 ∙ ap (λ t. t ++ more.0) (table_of_blobs whole))
+
+-- the text of the table of all these
+all_text : (whole later : List Located) → listing_text listing.Table (whole ++ later) ≡ table_text (geometries_of whole ++ geometries_of later)
+all_text whole later = table_of_blobs (whole ++ later) ∙ ap table_text (joined whole later)
+
+explains_without : (l : Allowance) (old told : Option (List ℕ)) (bytes : List ℕ) (why : Cause) (whole later : List Located) (left : List ℕ)
+    → ExplainsCause geometries_of (listing_text listing.Table) l old told bytes why whole later left
+    → ExplainsCause (λ (trees : List Tree). trees) table_text l old told bytes why (geometries_of whole) (geometries_of later) left
+explains_without l old told bytes (causes.Row number reason) whole later left e = e
+explains_without l old told bytes (causes.Blob offset reason) whole later left e = (ap geometries_of e.0, e.1, e.2)
+explains_without l old told bytes causes.ReadDevice whole later left e = (ap geometries_of e.0, e.1, e.2)
+explains_without l old told bytes causes.WriteDevice whole later left e = tt
+explains_without l old told bytes causes.Memory whole later left e = (ap geometries_of e.0, e.1)
+explains_without l old told bytes causes.TooLong whole later left (inl long) = inl long
+explains_without l old told bytes causes.TooLong whole later left (inr long) = inr (subst (λ (t : List ℕ). 2 ^ 62 < length t) (all_text whole later) long)
+explains_without l old told bytes causes.TooManyRecords whole later left e = e
+
+module _ {R W : Type 0} (l : Allowance) (remaining : R → Option (List ℕ)) (contents : W → Option (List ℕ)) (reader : Tap R) (writer : Tap W) where
+  unpacked : (report : Report) (read : Tap R) (written : Tap W) → Listed (LocatedStream l 0) (listing_text listing.Table) remaining contents reader writer report read written
+      → Unpacked l remaining contents reader writer report read written
+  unpacked report read written listed =
+      let text = table_of_blobs listed.found in
+      record {
+        found = geometries_of listed.found;
+        stream = known_stream l (remaining (device_of reader)) listed.found listed.stream;
+        appends = subst (λ t. Appends (contents (device_of writer)) (contents (device_of written)) t) text listed.appends;
+        geometries = listed.geometries ∙ sym (length-map listed.found (λ (b : Located). b.geometry));
+        bytes = listed.bytes ∙ ap length text;
+        end = listed.end;
+        reads = listed.reads;
+        writes = listed.writes;
+      }
+
+  stopped_unpacking : (fault : ConvertFault) (read : Tap R) (written : Tap W)
+      → StoppedListing (LocatedStream l 0) geometries_of (listing_text listing.Table) l remaining contents reader writer fault read written
+      → StoppedUnpacking l remaining contents reader writer fault read written
+  stopped_unpacking fault read written stopped = record {
+    whole = geometries_of stopped.whole;
+    later = geometries_of stopped.later;
+    bytes = stopped.bytes;
+    blobs = subst (λ gs. Stream l stopped.bytes gs) (joined stopped.whole stopped.later) (located-stream l 0 stopped.bytes (stopped.whole ++ stopped.later) stopped.blobs);
+    begins = stopped.begins;
+    text = stopped.text;
+    left = stopped.left;
+    cut = sym (all_text stopped.whole stopped.later) ∙ stopped.cut;
+    one = cut_without stopped.later stopped.left stopped.one;
+    holds = holds_without stopped.text stopped.whole stopped.holds;
+    appends = stopped.appends;
+    done = stopped.done ∙ sym (length-map stopped.whole (λ (b : Located). b.geometry));
+    sent = stopped.sent;
+    explains = explains_without l (remaining (device_of reader)) (remaining (device_of read)) stopped.bytes fault.cause stopped.whole stopped.later stopped.left stopped.explains;
+    devices = stopped.devices;
+  }
+
+  pub table_unpacked : (answer : Result Report ConvertFault) (read : Tap R) (written : Tap W)
+      → IfOk answer (λ report. Listed (LocatedStream l 0) (listing_text listing.Table) remaining contents reader writer report read written)
+      → IfOk answer (λ report. Unpacked l remaining contents reader writer report read written)
+  table_unpacked (Ok report) read written listed = unpacked report read written listed
+  table_unpacked (Err fault) read written listed = tt
+
+  pub table_stopped : (answer : Result Report ConvertFault) (read : Tap R) (written : Tap W)
+      → IfErr answer (λ fault. StoppedListing (LocatedStream l 0) geometries_of (listing_text listing.Table) l remaining contents reader writer fault read written)
+      → IfErr answer (λ fault. StoppedUnpacking l remaining contents reader writer fault read written)
+  table_stopped (Ok report) read written stopped = tt
+  table_stopped (Err fault) read written stopped = stopped_unpacking fault read written stopped

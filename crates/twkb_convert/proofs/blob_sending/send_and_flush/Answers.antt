@@ -1,0 +1,8 @@
+use Rattle.std.proofs.Common.{rules}
+use Rattle.twkb_convert.proofs.ListingSent.{cut_by_flush}
+use Rattle.twkb_convert.proofs.blob_sending.send_and_flush.Goals as goal
+
+pub returns-in-Err-flush-2-clause-err : goal.returns-in-Err-flush-2-clause-err
+returns-in-Err-flush-2-clause-err g c =
+    let flushed = c.in-Err-flush-2.ensures in
+    cut_by_flush c.args.what g.W.Write.contents _ _ _ _ _ c.in-Ok.done c.in-Err-flush-2.fault c.in-Ok.ensures.ok flushed.err (search rules) (search rules)

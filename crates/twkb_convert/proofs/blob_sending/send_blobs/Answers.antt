@@ -1,0 +1,32 @@
+use Rattle.std.proofs.Common.{◌∙◌, arith, rules}
+use Rattle.twkb_convert.proofs.BlobsSent.{cut_blobs, follows_trans, sent_more}
+use Rattle.twkb_convert.proofs.LocatedLemmas.{blob_long, located_long}
+use Rattle.twkb_convert.proofs.blob_sending.send_blobs.Goals as goal
+
+pub overflow_add-done : goal.overflow_add-done
+overflow_add-done g c =
+    let sent = c.loop-done.invariant.sent in
+    omega (arith, sent.count, located_long _ _ sent.bytes sent.found sent.blobs, sent.used.counted, c.loop-done.invariant.follows.within)
+
+pub loop-done-smaller : goal.loop-done-smaller
+loop-done-smaller g c =
+    let one = c.in-Ok-true.ensures.more (search rules) in
+    omega (arith, one.gives.used.counted, blob_long _ one.gives.front one.found.geometry one.gives.tells.blob, c.in-Ok-true.ensures.follows.within)
+
+pub loop-done-preserved : goal.loop-done-preserved
+loop-done-preserved g c =
+    let kept = c.loop-done.invariant in
+    let one = c.in-Ok-true.ensures.more (search rules) in
+    record {
+      sent = sent_more c.args.what g.W.Write.contents _ _ _ _ _ _ c.loop-done.done kept.sent kept.follows.limits one;
+      follows = follows_trans _ _ _ _ kept.follows c.in-Ok-true.ensures.follows;
+      reader = c.in-Ok-true.ensures.fresh;
+      going_on = c.in-Ok-true.ensures.going_on (search rules);
+      input = c.in-Ok-true.ensures.input (search rules);
+      output = one.took.spent ∙ kept.output;
+    }
+
+pub returns-in-Err-clause-err : goal.returns-in-Err-clause-err
+returns-in-Err-clause-err g c =
+    let kept = c.loop-done.invariant in
+    cut_blobs c.args.what g.W.Write.contents _ _ _ _ _ _ c.loop-done.done c.in-Err.obstacle kept.sent kept.follows.limits kept.output c.in-Err.ensures.err

@@ -1,0 +1,5 @@
+use Rattle.twkb_convert.proofs.RefusedLemmas.{refused_all, refused_none}
+use Rattle.twkb_convert.proofs.laws.refused_table.Goals as goal
+
+pub returns : goal.returns
+returns c = record { complete = refused_all; none = refused_none }

@@ -1,0 +1,5 @@
+use Rattle.twkb_convert.proofs.ShownLemmas.{show_front}
+use Rattle.twkb_convert.proofs.laws.show_front.Goals as goal
+
+pub returns : goal.returns
+returns c = show_front

@@ -1,0 +1,141 @@
+//! The texts of a stream's blobs, sent one after another.
+ghost use Rattle.std.specs.Prelude.{◌≡◌, ◌≤◌, false, true, IfOk, IfErr};
+ghost use Rattle.twkb_io.specs.Outputs as Outputs;
+ghost use Rattle.twkb_geom.specs.Limits.{largest_limits};
+ghost use Rattle.twkb_blob.specs.Readers.{has_ended, is_spent};
+ghost use Rattle.twkb_convert.specs.BlobReading.{is_input_spent, limits_of};
+ghost use Rattle.twkb_convert.specs.BlobSending.{CutBlobs, CutListing, EndsBlobs, Follows, IsEnded, SentAll, SentBlob, SentListing, StopsBlob, StopsRead};
+
+use crate::blob_text::next_text;
+use crate::halt::{Halt, Obstacle};
+use crate::listing::{Listing, first_text};
+use std::alloc::Global;
+use std::io::{Read, Write};
+use twkb_blob::Reader;
+use twkb_io::{Output, Sink};
+
+/// Sends what is written of a stream, and flushes the output where it refused no put.
+pub(crate) fn send_and_flush<R: Read, W: Write>(
+    what: Listing,
+    alloc: Global,
+    reader: &mut Reader<'_, R>,
+    output: &mut Output<'_, W>,
+) -> Result<u64, Halt>
+    requires reader { is_spent reader.old ≡ false }
+    requires going_on { has_ended reader.old ≡ false }
+    requires input { is_input_spent reader.old ≡ false }
+    requires nest { (limits_of reader.old).nest ≤ largest_limits.nest }
+    requires output { Outputs.is_spent output.old ≡ false }
+    ensures ok { IfOk result (λ done. SentListing what W.contents reader.old output.old output.new done) }
+    ensures unfailed { IfOk result (λ done. Follows reader.old reader.new false × IsEnded R.remaining reader.old reader.new) }
+    ensures err { IfErr result (λ halt. CutListing what W.contents reader.old output.old reader.new output.new halt) }
+    ensures stops { IfErr result (λ halt. StopsRead reader.old halt.obstacle reader.new) }
+{
+    let done = match send_listing(what, alloc, reader, output) {
+        Ok(done) => done,
+        Err(halt) => {
+            if let Obstacle::Output(_) = halt.obstacle {
+                return Err(halt);
+            }
+            if let Err(fault) = output.flush() {
+                return Err(Halt {
+                    done: halt.done,
+                    obstacle: Obstacle::Output(fault),
+                });
+            }
+            return Err(halt);
+        }
+    };
+    if let Err(fault) = output.flush() {
+        return Err(Halt {
+            done,
+            obstacle: Obstacle::Output(fault),
+        });
+    }
+    Ok(done)
+}
+
+// Sends what stands before the first blob, and then the text of each blob.
+fn send_listing<R: Read, W: Write>(
+    what: Listing,
+    alloc: Global,
+    reader: &mut Reader<'_, R>,
+    output: &mut Output<'_, W>,
+) -> Result<u64, Halt>
+    requires reader { is_spent reader.old ≡ false }
+    requires going_on { has_ended reader.old ≡ false }
+    requires input { is_input_spent reader.old ≡ false }
+    requires nest { (limits_of reader.old).nest ≤ largest_limits.nest }
+    requires output { Outputs.is_spent output.old ≡ false }
+    ensures ok { IfOk result (λ done. SentListing what W.contents reader.old output.old output.new done) }
+    ensures unfailed { IfOk result (λ done. Follows reader.old reader.new false × IsEnded R.remaining reader.old reader.new) }
+    ensures err { IfErr result (λ halt. CutListing what W.contents reader.old output.old reader.new output.new halt) }
+    ensures stops { IfErr result (λ halt. StopsRead reader.old halt.obstacle reader.new) }
+{
+    match output.put(first_text(what)) {
+        Ok(()) => send_blobs(what, alloc, reader, output),
+        Err(fault) => Err(Halt {
+            done: 0,
+            obstacle: Obstacle::Output(fault),
+        }),
+    }
+}
+
+// Sends the text of each blob before a byte of the next one is asked for.
+fn send_blobs<R: Read, W: Write>(
+    what: Listing,
+    alloc: Global,
+    reader: &mut Reader<'_, R>,
+    output: &mut Output<'_, W>,
+) -> Result<u64, Halt>
+    requires reader { is_spent reader.old ≡ false }
+    requires going_on { has_ended reader.old ≡ false }
+    requires input { is_input_spent reader.old ≡ false }
+    requires nest { (limits_of reader.old).nest ≤ largest_limits.nest }
+    requires output { Outputs.is_spent output.old ≡ false }
+    ensures ok { IfOk result (λ done. SentAll what W.contents reader.old output.old output.new done) }
+    ensures unfailed { IfOk result (λ done. Follows reader.old reader.new false × IsEnded R.remaining reader.old reader.new) }
+    ensures err { IfErr result (λ halt. CutBlobs what W.contents reader.old output.old reader.new output.new halt) }
+    ensures stops { IfErr result (λ halt. StopsRead reader.old halt.obstacle reader.new) }
+{
+    let mut text = Vec::new(alloc);
+    let mut done = 0;
+    loop {
+        match send_blob(what, alloc, reader, &mut text, output) {
+            Ok(true) => done += 1,
+            Ok(false) => return Ok(done),
+            Err(obstacle) => return Err(Halt { done, obstacle }),
+        }
+    }
+}
+
+// Sends the text of the next blob in one piece, and answers whether there was one.
+fn send_blob<R: Read, W: Write>(
+    what: Listing,
+    alloc: Global,
+    reader: &mut Reader<'_, R>,
+    text: &mut Vec<u8>,
+    output: &mut Output<'_, W>,
+) -> Result<bool, Obstacle>
+    requires reader { is_spent reader.old ≡ false }
+    requires going_on { has_ended reader.old ≡ false }
+    requires input { is_input_spent reader.old ≡ false }
+    requires nest { (limits_of reader.old).nest ≤ largest_limits.nest }
+    requires output { Outputs.is_spent output.old ≡ false }
+    ensures more { IfOk result (λ found. found ≡ true → SentBlob what W.contents reader.old output.old reader.new output.new) }
+    ensures fresh { IfOk result (λ found. is_spent reader.new ≡ false) }
+    ensures going_on { IfOk result (λ found. found ≡ true → has_ended reader.new ≡ false) }
+    ensures input { IfOk result (λ found. found ≡ true → is_input_spent reader.new ≡ false) }
+    ensures end { IfOk result (λ found. found ≡ false → EndsBlobs R.remaining reader.old reader.new × (output.new ≡ output.old)) }
+    ensures follows { IfOk result (λ found. Follows reader.old reader.new false) }
+    ensures err { IfErr result (λ obstacle. StopsBlob what W.contents reader.old output.old obstacle reader.new output.new) }
+    ensures stops { IfErr result (λ obstacle. StopsRead reader.old obstacle reader.new) }
+{
+    if !next_text(what, alloc, reader, text)? {
+        return Ok(false);
+    }
+    if let Err(fault) = output.put(text.as_slice()) {
+        return Err(Obstacle::Output(fault));
+    }
+    Ok(true)
+}

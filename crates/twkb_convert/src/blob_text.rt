@@ -1,0 +1,102 @@
+//! The text of the next blob of a stream.
+ghost use Rattle.std.specs.Prelude.{◌≡◌, ◌≤◌, false, true, IfOk, IfErr};
+ghost use Rattle.twkb_geom.specs.Limits.{largest_limits};
+ghost use Rattle.twkb_blob.specs.Readers.{has_ended, is_spent};
+ghost use Rattle.twkb_convert.specs.BlobReading.{is_input_spent, limits_of};
+ghost use Rattle.twkb_convert.specs.BlobSending.{EndsBlobs, Follows, GivesText, StopsRead, StopsText};
+
+use crate::halt::Obstacle;
+use crate::listing::Listing;
+use crate::span_line::put_lines;
+use std::alloc::Global;
+use std::io::Read;
+use twkb_blob::Reader;
+use twkb_table::put_rows;
+
+/// Reads the next blob, if there is one, and makes the text what is written of it.
+pub(crate) fn next_text<R: Read>(
+    what: Listing,
+    alloc: Global,
+    reader: &mut Reader<'_, R>,
+    text: &mut Vec<u8>,
+) -> Result<bool, Obstacle>
+    requires reader { is_spent reader.old ≡ false }
+    requires going_on { has_ended reader.old ≡ false }
+    requires input { is_input_spent reader.old ≡ false }
+    requires nest { (limits_of reader.old).nest ≤ largest_limits.nest }
+    ensures more { IfOk result (λ found. found ≡ true → GivesText what reader.old reader.new text.new.items) }
+    ensures fresh { IfOk result (λ found. is_spent reader.new ≡ false) }
+    ensures going_on { IfOk result (λ found. found ≡ true → has_ended reader.new ≡ false) }
+    ensures input { IfOk result (λ found. found ≡ true → is_input_spent reader.new ≡ false) }
+    ensures end { IfOk result (λ found. found ≡ false → EndsBlobs R.remaining reader.old reader.new) }
+    ensures follows { IfOk result (λ found. Follows reader.old reader.new false) }
+    ensures err { IfErr result (λ obstacle. StopsText reader.old obstacle reader.new) }
+    ensures stops { IfErr result (λ obstacle. StopsRead reader.old obstacle reader.new) }
+{
+    match what {
+        Listing::Table => next_rows(alloc, reader, text),
+        Listing::Headers => next_lines(alloc, reader, text),
+    }
+}
+
+// Makes the text that of the rows of the next blob's geometry.
+fn next_rows<R: Read>(
+    alloc: Global,
+    reader: &mut Reader<'_, R>,
+    text: &mut Vec<u8>,
+) -> Result<bool, Obstacle>
+    requires reader { is_spent reader.old ≡ false }
+    requires going_on { has_ended reader.old ≡ false }
+    requires input { is_input_spent reader.old ≡ false }
+    requires nest { (limits_of reader.old).nest ≤ largest_limits.nest }
+    ensures more { IfOk result (λ found. found ≡ true → GivesText Listing.Table reader.old reader.new text.new.items) }
+    ensures fresh { IfOk result (λ found. is_spent reader.new ≡ false) }
+    ensures going_on { IfOk result (λ found. found ≡ true → has_ended reader.new ≡ false) }
+    ensures input { IfOk result (λ found. found ≡ true → is_input_spent reader.new ≡ false) }
+    ensures end { IfOk result (λ found. found ≡ false → EndsBlobs R.remaining reader.old reader.new) }
+    ensures follows { IfOk result (λ found. Follows reader.old reader.new false) }
+    ensures err { IfErr result (λ obstacle. StopsText reader.old obstacle reader.new) }
+    ensures stops { IfErr result (λ obstacle. StopsRead reader.old obstacle reader.new) }
+{
+    let geometry = match reader.next(alloc) {
+        Ok(Some(geometry)) => geometry,
+        Ok(None) => return Ok(false),
+        Err(fault) => return Err(Obstacle::Stream(fault)),
+    };
+    text.clear();
+    if put_rows(&geometry, text).is_err() {
+        return Err(Obstacle::Memory);
+    }
+    Ok(true)
+}
+
+// Makes the text that of the headers of the next blob.
+fn next_lines<R: Read>(
+    alloc: Global,
+    reader: &mut Reader<'_, R>,
+    text: &mut Vec<u8>,
+) -> Result<bool, Obstacle>
+    requires reader { is_spent reader.old ≡ false }
+    requires going_on { has_ended reader.old ≡ false }
+    requires input { is_input_spent reader.old ≡ false }
+    requires nest { (limits_of reader.old).nest ≤ largest_limits.nest }
+    ensures more { IfOk result (λ found. found ≡ true → GivesText Listing.Headers reader.old reader.new text.new.items) }
+    ensures fresh { IfOk result (λ found. is_spent reader.new ≡ false) }
+    ensures going_on { IfOk result (λ found. found ≡ true → has_ended reader.new ≡ false) }
+    ensures input { IfOk result (λ found. found ≡ true → is_input_spent reader.new ≡ false) }
+    ensures end { IfOk result (λ found. found ≡ false → EndsBlobs R.remaining reader.old reader.new) }
+    ensures follows { IfOk result (λ found. Follows reader.old reader.new false) }
+    ensures err { IfErr result (λ obstacle. StopsText reader.old obstacle reader.new) }
+    ensures stops { IfErr result (λ obstacle. StopsRead reader.old obstacle reader.new) }
+{
+    let located = match reader.next_located(alloc) {
+        Ok(Some(located)) => located,
+        Ok(None) => return Ok(false),
+        Err(fault) => return Err(Obstacle::Stream(fault)),
+    };
+    text.clear();
+    if put_lines(located.spans.as_slice(), text).is_err() {
+        return Err(Obstacle::Memory);
+    }
+    Ok(true)
+}

@@ -1,0 +1,58 @@
+//! A stream of blobs between a reader and a writer.
+ghost use Rattle.std.specs.Prelude.{◌≡◌, IfOk, IfErr};
+ghost use Rattle.twkb_convert.specs.LocatedBlobs.{LocatedStream, geometries_of};
+ghost use Rattle.twkb_convert.specs.Listings.{listing_text};
+ghost use Rattle.twkb_convert.specs.Listed.{Listed, StoppedListing, cause_for};
+
+use crate::blob_sending::send_and_flush;
+use crate::halt::Obstacle;
+use crate::listing::Listing;
+use crate::report::{Cause, ConvertFault, Report};
+use std::alloc::Global;
+use std::io::{Read, Write};
+use twkb_blob::{BlobFault, Reader};
+use twkb_geom::Limits;
+use twkb_io::{InFault, Input, OutFault, Output, Tap};
+
+/// Writes what is to be written of a stream of blobs, each blob's text before a byte of the next one
+/// is asked for. The writer is flushed last, where it refused no write.
+pub(crate) fn list_stream<R: Read, W: Write>(
+    what: Listing,
+    alloc: Global,
+    reader: &mut Tap<R>,
+    writer: &mut Tap<W>,
+    limits: Limits,
+) -> Result<Report, ConvertFault>
+    ensures ok { IfOk result (λ report. Listed (LocatedStream limits 0) (listing_text what) R.remaining W.contents reader.old writer.old report reader.new writer.new) }
+    ensures err { IfErr result (λ fault. StoppedListing (LocatedStream limits 0) geometries_of (listing_text what) limits R.remaining W.contents reader.old writer.old fault reader.new writer.new) }
+{
+    let mut output = Output::new(writer);
+    let mut blobs = Reader::new(Input::new(reader), limits);
+    let listing = send_and_flush(what, alloc, &mut blobs, &mut output);
+    let sent = output.sent();
+    match listing {
+        Ok(done) => Ok(Report {
+            geometries: done,
+            bytes: sent,
+        }),
+        Err(halt) => Err(ConvertFault {
+            done: halt.done,
+            sent,
+            cause: cause_of(halt.obstacle),
+        }),
+    }
+}
+
+// What an obstacle is to a caller. A call after a refused one is never made.
+fn cause_of(obstacle: Obstacle) -> Cause
+    ensures { result ≡ cause_for obstacle }
+{
+    match obstacle {
+        Obstacle::Stream(BlobFault::At { offset, reason }) => Cause::Blob { offset, reason },
+        Obstacle::Stream(BlobFault::Device(InFault::Read)) => Cause::ReadDevice,
+        Obstacle::Output(OutFault::Write | OutFault::Stuck) => Cause::WriteDevice,
+        Obstacle::Stream(BlobFault::Device(_) | BlobFault::Spent) => Cause::TooLong,
+        Obstacle::Memory | Obstacle::Stream(BlobFault::Memory) => Cause::Memory,
+        Obstacle::Output(OutFault::TooLong | OutFault::Spent) => Cause::TooLong,
+    }
+}

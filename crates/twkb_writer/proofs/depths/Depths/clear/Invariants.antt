@@ -1,0 +1,9 @@
+-- There are no rows from here on.
+use Rattle.twkb_writer.specs.Depths.{IsBlankFrom}
+use Rattle.twkb_writer.proofs.depths.Depths.clear.Given as goal
+
+abbrev pub invariant-loop-self : goal.invariant-loop-self
+invariant-loop-self l = IsBlankFrom l.self-inside.used l.self-inside.levels
+
+abbrev pub decreases-loop-self : goal.decreases-loop-self
+decreases-loop-self l = l.self-inside.used

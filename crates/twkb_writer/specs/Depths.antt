@@ -1,0 +1,10 @@
+-- What the rows at each depth come to.
+use Rattle.std.specs.Prelude.{ℕ, ◌≡◌, ◌<◌, ◌≤◌, List, length, slice_index_or}
+use Rattle.twkb_writer.specs.declared.levels.Level.{Level}
+use Rattle.twkb_writer.specs.Levels.{blank}
+
+-- one level for each of 36 depths, and no rows from a depth on
+pub record IsBlankFrom (used : ℕ) (levels : List Level) : Type 0 where
+  pub size : length levels ≡ 36
+  pub within : used ≤ 36
+  pub blanks : (k : ℕ) → used ≤ k → k < 36 → slice_index_or levels k blank ≡ blank
