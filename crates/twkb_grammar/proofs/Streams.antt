@@ -167,15 +167,15 @@ one_more limits bytes rest g b (inr (gs, o, r, f)) = inr (
   },
 )
 
-blob_long : (limits : Allowance) (g : Tree) (bytes : List ℕ) → Blob limits bytes g → 1 ≤ length bytes
-blob_long limits g [] b = absurd (blob_some limits g [] b refl)
-blob_long limits g (x ∷ bytes) b = omega arith
+pub blob_long : (limits : Allowance) (bytes : List ℕ) (g : Tree) → Blob limits bytes g → 1 ≤ length bytes
+blob_long limits [] g b = absurd (blob_some limits g [] b refl)
+blob_long limits (x ∷ bytes) g b = omega arith
 
 -- the answer for some bytes, from that for fewer
 decided : (limits : Allowance) (bytes : List ℕ) → AreBytes bytes → ((rest : List ℕ) → AreBytes rest → length rest + 1 ≤ length bytes → StreamOr limits rest) → (a : Answer) → Outcome limits bytes a → StreamOr limits bytes
 decided limits bytes are again (Made g rest) b =
     let long : length bytes ≡ length b.front + length rest = ap length b.whole ∙ length-append b.front rest in
-    one_more limits bytes rest g b (again rest (bytes_left b.front rest (subst AreBytes b.whole are)) (omega (arith, long, blob_long limits g b.front b.blob)))
+    one_more limits bytes rest g b (again rest (bytes_left b.front rest (subst AreBytes b.whole are)) (omega (arith, long, blob_long limits b.front g b.blob)))
 decided limits bytes are again (RefusedAt o r) f = inr ([], o, r, record { front = []; rest = bytes; within = o; whole = refl; blobs = refl; first = f; place = omega arith })
 decided limits bytes are again GoesOn o = absurd o
 

@@ -29,6 +29,11 @@ pub fn one_blob()
     ensures { (limits : Allowance) (a b x y : List ℕ) (g h : Tree) → Blob limits a g → Blob limits b h → a ++ x ≡ b ++ y → (g ≡ h) × (a ≡ b) }
 {}
 
+/// A blob has at least one byte.
+pub fn some_byte()
+    ensures { (limits : Allowance) (bytes : List ℕ) (g : Tree) → Blob limits bytes g → 1 ≤ length bytes }
+{}
+
 /// A stream has one reading, and is cut into blobs in one way: where a stream begins with a stream, its geometries begin with those, and a stream follows.
 pub fn one_stream()
     ensures one_reading { (limits : Allowance) (bytes : List ℕ) (gs hs : List Tree) → Stream limits bytes gs → Stream limits bytes hs → gs ≡ hs }

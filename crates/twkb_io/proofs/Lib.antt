@@ -2,4 +2,5 @@
 pub mod CopyLemmas
 pub mod FrontLemmas
 pub mod HeldLemmas
+pub mod OutputLemmas
 pub mod PassingLemmas

@@ -1,12 +1,13 @@
--- Two sends send the join.
-use Rattle.std.specs.Prelude.{ℕ, List, [], ◌++◌, Option, Some, None}
-use Rattle.std.proofs.Common.{sym, ◌∙◌, refl, add-zero}
+-- Two sends send the join, and a send that is cut is cut in the whole.
+use Rattle.std.specs.Prelude.{ℕ, ◌≡◌, ◌≤◌, ◌+◌, List, [], ◌∷◌, ◌++◌, length, Option, Some, None}
+use Rattle.std.proofs.Common.{sym, ap, ◌∙◌, refl, add-zero, arith, append_assoc, length-append}
 use Rattle.std.proofs.lemmas.List.{append-nil}
 use Rattle.std.specs.Io.KnownBytes.{Appends}
 use Rattle.twkb_io.specs.SinkLaws.{lengths_join, lists_join}
+use Rattle.twkb_io.specs.Sinks.{TookFront}
 use Rattle.twkb_io.specs.declared.output.Output.{Output}
 use Rattle.twkb_io.specs.declared.output.OutFault.{OutFault}
-use Rattle.twkb_io.specs.Outputs.{Refused, Sent, Took, sent_of, written}
+use Rattle.twkb_io.specs.Outputs.{Cut, Refused, Sent, Took, sent_of, written}
 
 pub appends_nothing : (known : Option (List ℕ)) → Appends known known []
 appends_nothing None = tt
@@ -47,4 +48,40 @@ refused_join contents a b c xs ys e first second = record {
   sends = sent_join contents a b c xs ys first.sends second.sends;
   failures = rw first.failures at second.failures;
   spent = second.spent;
+}
+
+pub cut_join : {W : Type 0} (contents : W → Option (List ℕ)) (a b c : Output W) (xs ys : List ℕ) (e : OutFault)
+    → Took contents a xs b → Cut contents b ys e c → Cut contents a (xs ++ ys) e c
+cut_join contents a b c xs ys e first second = record {
+  front = xs ++ second.front;
+  rest = second.rest;
+  whole = ap (λ l. xs ++ l) second.whole ∙ sym (append_assoc xs second.front second.rest);
+  refused = refused_join contents a b c xs second.front e first second.refused;
+  left = λ fresh. second.left (first.spent ∙ fresh);
+  unspent = λ fresh. second.unspent (first.spent ∙ fresh);
+  too_long = λ far. (let most = second.too_long far in let sent = first.sends.sent in omega (arith, most, sent, length-append xs ys));
+}
+
+pub cut_within : {W : Type 0} (contents : W → Option (List ℕ)) (a b : Output W) (xs : List ℕ) (e : OutFault)
+    → Cut contents a xs e b → (sent_of a ≤ sent_of b) × (sent_of b ≤ sent_of a + length xs)
+cut_within contents a b xs e cut =
+    let sent = cut.refused.sends.sent in
+    let parts = ap length cut.whole ∙ length-append cut.front cut.rest in
+    (omega (arith, sent), omega (arith, sent, parts))
+
+first_none : (xs ys : List ℕ) → xs ++ ys ≡ [] → xs ≡ []
+first_none [] ys none = refl
+first_none (x ∷ xs) ys none = cc none
+
+-- where a front of some bytes was handed over and cut, they are cut
+pub cut_front : {W : Type 0} (contents : W → Option (List ℕ)) (a b : Output W) (xs : List ℕ) (e : OutFault)
+    → TookFront (Cut contents) a xs e b → Cut contents a xs e b
+cut_front contents a b xs e (handed, unhanded, parts, cut) = record {
+  front = cut.front;
+  rest = cut.rest ++ unhanded;
+  whole = parts ∙ ap (λ l. l ++ unhanded) cut.whole ∙ append_assoc cut.front cut.rest unhanded;
+  refused = cut.refused;
+  left = λ fresh none. cut.left fresh (first_none cut.rest unhanded none);
+  unspent = cut.unspent;
+  too_long = λ far. (let most = cut.too_long far in omega (arith, most, ap length parts, length-append handed unhanded));
 }

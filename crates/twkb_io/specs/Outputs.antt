@@ -1,5 +1,5 @@
 -- What an output sent, and what a put did to it.
-use Rattle.std.specs.Prelude.{ℕ, ◌≡◌, ◌+◌, List, length, Option, Bool, true, false}
+use Rattle.std.specs.Prelude.{ℕ, ◌≡◌, ◌≢◌, ◌+◌, ◌^◌, ◌<◌, List, [], ◌++◌, length, Option, Bool, true, false}
 use Rattle.std.specs.Io.KnownBytes.{Appends}
 use Rattle.std.specs.Borrow.{MutBor}
 use Rattle.twkb_io.specs.declared.tap.Tap.{Tap}
@@ -46,8 +46,19 @@ pub record Took {W : Type 0} (contents : W → Option (List ℕ)) (old : Output 
   pub failures : output_failures new ≡ output_failures old
   pub spent : is_spent new ≡ is_spent old
 
--- the last put was refused with this fault, and these bytes were taken before
+-- the last call was refused with this fault, and these are the bytes that were taken
 pub record Refused {W : Type 0} (contents : W → Option (List ℕ)) (old : Output W) (bytes : List ℕ) (e : OutFault) (new : Output W) : Type 0 where
   pub sends : Sent contents old bytes new
   pub failures : output_failures new ≡ count_failure (is_device e) (output_failures old)
   pub spent : is_spent new ≡ true
+
+-- Of the bytes that were handed over the writer took a front, and the last put was refused with this fault. Bytes are left, unless the output
+-- was refused before; where they were too many, it is all of them that would have passed the bound.
+pub record Cut {W : Type 0} (contents : W → Option (List ℕ)) (old : Output W) (bytes : List ℕ) (e : OutFault) (new : Output W) : Type 0 where
+  pub front : List ℕ
+  pub rest : List ℕ
+  pub whole : bytes ≡ front ++ rest
+  pub refused : Refused contents old front e new
+  pub left : is_spent old ≡ false → rest ≢ []
+  pub unspent : is_spent old ≡ false → e ≢ fault.Spent
+  pub too_long : e ≡ fault.TooLong → 2 ^ 62 < sent_of old + length bytes

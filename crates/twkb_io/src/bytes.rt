@@ -33,7 +33,7 @@ impl Bytes {
 
 impl Sink for Bytes {
     ghost use Rattle.twkb_io.specs.Bytes.{bytes_of};
-    ghost use Rattle.twkb_io.specs.SinkLaws.{lists_join};
+    ghost use Rattle.twkb_io.specs.SinkLaws.{lengths_within, lists_join};
     ghost use Rattle.std.proofs.Common.{sym, ap, ◌∙◌, length-append};
     ghost use Rattle.std.proofs.lemmas.List.{append-nil};
 
@@ -53,7 +53,7 @@ impl Sink for Bytes {
 
     ghost adds_up = { λ a b xs took. ap length took ∙ length-append (bytes_of a) xs };
 
-    ghost adds_up_refused = { λ a b xs fault refused. ap length refused ∙ length-append (bytes_of a) xs };
+    ghost adds_no_more = { λ a b xs fault refused. lengths_within (length (bytes_of a)) (length (bytes_of b)) xs (ap length refused ∙ length-append (bytes_of a) xs) };
 
     fn put(&mut self, bytes: &[u8]) -> Result<(), AllocError>
         ensures ok { OnOk result (bytes_of self.new ≡ bytes_of self.old ++ bytes.now) }

@@ -39,7 +39,7 @@ impl Count {
 
 impl Sink for Count {
     ghost use Rattle.twkb_io.specs.Counts.{total_of};
-    ghost use Rattle.twkb_io.specs.SinkLaws.{lengths_join};
+    ghost use Rattle.twkb_io.specs.SinkLaws.{lengths_join, lengths_within};
     ghost use Rattle.std.proofs.Common.{sym, add-zero};
 
     type Fault = CountFull;
@@ -58,7 +58,7 @@ impl Sink for Count {
 
     ghost adds_up = { λ a b xs took. took };
 
-    ghost adds_up_refused = { λ a b xs fault refused. refused };
+    ghost adds_no_more = { λ a b xs fault refused. lengths_within (total_of a) (total_of b) xs refused };
 
     fn put(&mut self, bytes: &[u8]) -> Result<(), CountFull>
         ensures ok { OnOk result (total_of self.new ≡ total_of self.old + length bytes.now) }

@@ -118,14 +118,14 @@ impl<'a, W: Write> Output<'a, W> {
 }
 
 impl<'a, W: Write> Sink for Output<'a, W> {
-    ghost use Rattle.twkb_io.specs.Outputs.{Refused, Took, is_device, is_spent, output_failures, output_tap, sent_of, written};
-    ghost use Rattle.twkb_io.specs.OutputLaws.{refused_join, took_join, took_nothing};
+    ghost use Rattle.twkb_io.specs.Outputs.{Cut, Took, is_spent, output_tap, sent_of};
+    ghost use Rattle.twkb_io.specs.OutputLaws.{cut_join, cut_within, took_join, took_nothing};
 
     type Fault = OutFault;
 
     ghost took = { Took W.contents };
 
-    ghost refused = { Refused W.contents };
+    ghost refused = { Cut W.contents };
 
     ghost taken = { sent_of };
 
@@ -133,17 +133,18 @@ impl<'a, W: Write> Sink for Output<'a, W> {
 
     ghost takes_join = { took_join W.contents };
 
-    ghost refuses_join = { refused_join W.contents };
+    ghost refuses_join = { cut_join W.contents };
 
     ghost adds_up = { λ a b xs took. took.sends.sent };
 
-    ghost adds_up_refused = { λ a b xs fault refused. refused.sends.sent };
+    ghost adds_no_more = { cut_within W.contents };
 
     /// Sends the bytes, with as many writes as the writer needs. After an `Err` each call answers
     /// `Spent`.
     fn put(&mut self, bytes: &[u8]) -> Result<(), OutFault>
         ensures ok { OnOk result (Took W.contents self.old bytes.now self.new) }
-        ensures err { IfErr result (λ fault. TookFront (Refused W.contents) self.old bytes.now fault self.new) }
+        ensures err { IfErr result (λ fault. TookFront (Cut W.contents) self.old bytes.now fault self.new) }
+        ensures cut { IfErr result (λ fault. Cut W.contents self.old bytes.now fault self.new) }
         ensures spent { (result ≡ Err OutFault.Spent) ↔ (is_spent self.old ≡ true) }
         ensures too_long { (result ≡ Err OutFault.TooLong) ↔ ((is_spent self.old ≡ false) × (2 ^ 62 < sent_of self.old + length bytes.now)) }
         ensures untouched { result ≡ Err OutFault.TooLong → (output_tap self.new ≡ output_tap self.old) × (sent_of self.new ≡ sent_of self.old) }

@@ -1,5 +1,5 @@
 //! What takes bytes.
-ghost use Rattle.std.specs.Prelude.{◌≡◌, ◌+◌, ◌++◌, ℕ, List, [], length, OnOk, IfErr};
+ghost use Rattle.std.specs.Prelude.{◌≡◌, ◌≤◌, ◌+◌, ◌++◌, ℕ, List, [], length, OnOk, IfErr};
 ghost use Rattle.twkb_io.specs.Sinks.{TookFront};
 
 /// What takes bytes in order. A put is taken whole, or a front of it is taken and the put refused.
@@ -10,7 +10,7 @@ pub trait Sink {
     // From the first state to the second each put was taken, and these are the bytes.
     ghost took: { Self → List ℕ → Self → Type 0 };
 
-    // From the first state to the second these bytes were taken, and the last put was refused.
+    // From the first state to the second these bytes were handed over, and the last put was refused.
     ghost refused: { Self → List ℕ → Self.Fault → Self → Type 0 };
 
     // How many bytes were taken.
@@ -33,6 +33,6 @@ pub trait Sink {
     // The length taken adds up.
     ghost adds_up: { (a b : Self) (xs : List ℕ) → took a xs b → taken b ≡ taken a + length xs };
 
-    // The same after a refusal.
-    ghost adds_up_refused: { (a b : Self) (xs : List ℕ) (fault : Self.Fault) → refused a xs fault b → taken b ≡ taken a + length xs };
+    // After a refusal no more was taken than was handed over, and none is given back.
+    ghost adds_no_more: { (a b : Self) (xs : List ℕ) (fault : Self.Fault) → refused a xs fault b → (taken a ≤ taken b) × (taken b ≤ taken a + length xs) };
 }

@@ -22,6 +22,7 @@ pub mod PrecisionLemmas
 pub mod PutLemmas
 pub mod ReadLemmas
 pub mod RowStep
+pub mod SizeCounts
 pub mod TreeBytes
 pub mod TreeLevels
 pub mod WalkLemmas

@@ -4,6 +4,7 @@
 mod depths;
 mod encoding;
 mod header;
+pub mod laws;
 mod lengths;
 mod levels;
 mod measuring;

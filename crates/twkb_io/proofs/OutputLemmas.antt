@@ -1,0 +1,30 @@
+-- Where a put is cut.
+use Rattle.std.proofs.Common.{◌≡◌, ◌∙◌, ℕ, List, [], ◌++◌, Option, true, false, sym, ap, subst, append-nil, refl}
+use Rattle.std.specs.Prelude.{◌≢◌}
+use Rattle.twkb_io.specs.Sinks.{TookFront}
+use Rattle.twkb_io.specs.Outputs.{Cut, Refused, Took, is_device}
+use Rattle.twkb_io.specs.OutputLaws.{refused_join}
+use Rattle.twkb_io.specs.declared.output.Output.{Output}
+use Rattle.twkb_io.specs.declared.output.OutFault.{OutFault}
+use Rattle.twkb_io.specs.declared.output.OutFault.TheVariants as fault
+
+no_device : (e other : OutFault) → is_device e ≡ true → is_device other ≡ false → e ≢ other
+no_device e other device none same = let both = sym device ∙ ap is_device same ∙ none in cc both
+
+module _ {W : Type 0} (contents : W → Option (List ℕ)) where
+  -- a cut put was handed over whole
+  pub front_cut : (a b : Output W) (bytes : List ℕ) (e : OutFault) → Cut contents a bytes e b → TookFront (Cut contents) a bytes e b
+  front_cut a b bytes e cut = (bytes, [], sym (append-nil bytes), cut)
+
+  -- behind a front that was sent, by the device
+  pub cut_inside : (a m b : Output W) (bytes front rest : List ℕ) (e : OutFault) → bytes ≡ front ++ rest → rest ≢ [] → Took contents a front m → Refused contents m [] e b → is_device e ≡ true
+      → Cut contents a bytes e b
+  cut_inside a m b bytes front rest e parts some took refused device = record {
+    front = front;
+    rest = rest;
+    whole = parts;
+    refused = subst (λ (l : List ℕ). Refused contents a l e b) (append-nil front) (refused_join contents a m b front [] e took refused);
+    left = λ fresh. some;
+    unspent = λ fresh. no_device e fault.Spent device refl;
+    too_long = λ far. absurd (no_device e fault.TooLong device refl far);
+  }

@@ -1,0 +1,5 @@
+use Rattle.twkb_writer.proofs.SizeCounts as counts
+use Rattle.twkb_writer.proofs.laws.one_size_each.Goals as goal
+
+pub returns : goal.returns
+returns c = counts.one_size_each
