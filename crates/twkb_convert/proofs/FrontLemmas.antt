@@ -10,10 +10,10 @@ use Rattle.csv.specs.declared.parser.State.{State}
 use Rattle.csv.specs.declared.parser.State.TheVariants.{StartRecord}
 use Rattle.twkb_geom.specs.Tree.{Tree}
 use Rattle.twkb_geom.specs.Limits.{Allowance, IsAllowance}
-use Rattle.twkb_geom.specs.Rows.{Row, own_row, rows, rows_of}
-use Rattle.twkb_geom.specs.RowLists.{AreGeometries, IsAtRoot}
+use Rattle.twkb_geom.specs.Rows.{Row, rows, rows_of}
+use Rattle.twkb_geom.specs.RowLists.{AreGeometries}
 use Rattle.twkb_geom.proofs.LimitLaws.{valid_front}
-use Rattle.twkb_geom.proofs.RootEnd.{first_ended, roots_first}
+use Rattle.twkb_geom.proofs.RootEnd.{at_root, first_ended}
 use Rattle.twkb_geom.proofs.RootLaws.{below_root}
 use Rattle.twkb_grammar.specs.Blob.{Stream}
 use Rattle.twkb_grammar.specs.Fault.{FirstFault, Reason}
@@ -24,7 +24,6 @@ use Rattle.twkb_grammar.proofs.OneFault.{no_fault}
 use Rattle.twkb_grammar.proofs.Streams.{behind_stream}
 use Rattle.twkb_table.specs.Record.{Record, header, record_of}
 use Rattle.twkb_table.specs.Named.{Named}
-use Rattle.twkb_table.specs.Text.{csvtext}
 use Rattle.twkb_table.specs.RowFault.{AreComplete, HasNoHeader, all_but_last}
 use Rattle.twkb_table.specs.declared.reason.RowReason.{RowReason}
 use Rattle.twkb_table.proofs.FaultLaws.{later_none}
@@ -36,7 +35,7 @@ use Rattle.twkb_table.specs.TableReading.{NameSoFar}
 use Rattle.twkb_convert.specs.Outputs.{PackTo, UnpackTo, rows_text, table_text}
 use Rattle.twkb_convert.specs.RefusedRows.{MayBeWritten}
 use Rattle.twkb_convert.proofs.RoundTrips.{one_records}
-use Rattle.twkb_convert.proofs.RowTexts.{rows_text-append, table_text-rows}
+use Rattle.twkb_convert.proofs.RowTexts.{table_text-append}
 
 -- these geometries are followed by others in the list
 abbrev BeginTrees : List Tree → List Tree → Type 0
@@ -81,14 +80,7 @@ one_goes_on (a ∷ xs) (b ∷ ys) x rest more e = go (one_goes_on xs ys x rest m
 
 -- ---- geometries
 
--- a geometry has a row, and it is a root
-at_root : (g : Tree) (gs : List Tree) (more : List Row) → AreGeometries (g ∷ gs) → IsAtRoot (rows_of (g ∷ gs) ++ more)
-at_root g gs more are =
-    let (below, e, deep) = below_root g are.0 in
-    let head : rows_of (g ∷ gs) ≡ own_row None 0 g ∷ (below ++ rows_of gs) = ap (λ rs. rs ++ rows_of gs) e in
-    let root : IsAtRoot (own_row None 0 g ∷ (below ++ rows_of gs)) = subst IsAtRoot head (roots_first (g ∷ gs) are) in
-    subst (λ rs. IsAtRoot (rs ++ more)) (sym head) root
-
+-- a geometry has a row
 no_row : (g : Tree) (gs : List Tree) (more : List Row) → AreGeometries (g ∷ gs) → [] ≡ rows_of (g ∷ gs) ++ more → ⊥
 no_row g gs more are e = let (below, first, deep) = below_root g are.0 in cc (e ∙ ap (λ rs. (rs ++ rows_of gs) ++ more) first)
 
@@ -211,7 +203,4 @@ pub unpack_front : (l : Allowance) (all bytes rest : List ℕ) (gs : List Tree) 
     → (more : List ℕ) × (text ≡ written ++ more)
 unpack_front l all bytes rest gs text written left whole s cut unpacks =
     let (hs, e, (others, first)) = blobs_unpacked l all bytes rest gs text whole s unpacks in
-    let line = csvtext (header ∷ []) in
-    let longer : table_text (gs ++ others) ≡ table_text gs ++ rows_text others =
-    sym (table_text-rows (gs ++ others)) ∙ ap (λ k. line ++ k) (rows_text-append gs others) ∙ sym (append_assoc line (rows_text gs) (rows_text others)) ∙ ap (λ k. k ++ rows_text others) (table_text-rows gs) in
-    (left ++ rows_text others, e ∙ ap table_text first ∙ longer ∙ ap (λ k. k ++ rows_text others) cut ∙ append_assoc written left (rows_text others))
+    (left ++ rows_text others, e ∙ ap table_text first ∙ table_text-append gs others ∙ ap (λ k. k ++ rows_text others) cut ∙ append_assoc written left (rows_text others))

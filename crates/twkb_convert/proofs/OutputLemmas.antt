@@ -1,10 +1,14 @@
--- Any records are packed to one output.
+-- Any records are packed to one output, and any bytes are unpacked to one.
 use Rattle.std.specs.Prelude.{◌⊎◌}
 use Rattle.std.proofs.Common.{◌≡◌, ◌∙◌, ℕ, List, ap, refl, sym, inl, inr}
 use Rattle.twkb_geom.specs.Tree.{Tree}
 use Rattle.twkb_geom.specs.Limits.{Allowance, IsAllowance}
+use Rattle.twkb_grammar.specs.Bits.{AreBytes}
+use Rattle.twkb_grammar.specs.Blob.{Stream}
+use Rattle.twkb_grammar.specs.Fault.{Reason, StreamFault}
 use Rattle.twkb_grammar.specs.Written.{canonical_stream}
 use Rattle.twkb_grammar.specs.declared.style.Style.{Style}
+use Rattle.twkb_grammar.proofs.Streams.{one_stream_fault, stream_or_fault}
 use Rattle.twkb_table.specs.Record.{Record}
 use Rattle.twkb_table.specs.Named.{Named, NamesNone}
 use Rattle.twkb_table.specs.RowFault.{AreComplete, RowFault}
@@ -12,8 +16,8 @@ use Rattle.twkb_table.specs.declared.reason.RowReason.{RowReason}
 use Rattle.twkb_table.proofs.Complete.{one_complete, some_complete}
 use Rattle.twkb_table.proofs.Deciding.{named_or_fault}
 use Rattle.twkb_table.proofs.FaultLaws.{fault_none}
-use Rattle.twkb_convert.specs.Outputs.{PackTo}
-use Rattle.twkb_convert.proofs.RoundTrips.{packed_records}
+use Rattle.twkb_convert.specs.Outputs.{PackTo, UnpackTo, table_text}
+use Rattle.twkb_convert.proofs.RoundTrips.{packed_records, unpacked_stream}
 
 -- records with a fault name nothing
 pub complete_none : (l : Allowance) (records : List Record) (number : ℕ) (reason : RowReason) (gs : List Tree) → AreComplete l records number reason gs → NamesNone l records
@@ -34,3 +38,18 @@ one_output style l records a b cap (inl (gs, named, out)) packed = out ∙ sym (
 one_output style l records a b cap (inr (m, why, gs, complete, out)) (inl (hs, named, other)) = absurd (complete_none l records m why gs complete hs named)
 one_output style l records a b cap (inr (m, why, gs, complete, out)) (inr (n, reason, hs, others, other)) =
     out ∙ ap (canonical_stream style) (one_complete l records m n why reason gs hs cap complete others) ∙ sym other
+
+-- ---- tables
+
+some_table_of : (l : Allowance) (bytes : List ℕ) → ((gs : List Tree) × Stream l bytes gs) ⊎ ((gs : List Tree) × (offset : ℕ) × (reason : Reason) × StreamFault l bytes gs offset reason) → (text : List ℕ) × UnpackTo l bytes text
+some_table_of l bytes (inl (gs, stream)) = (table_text gs, inl (gs, stream, refl))
+some_table_of l bytes (inr (gs, offset, reason, fault)) = (table_text gs, inr (offset, reason, gs, fault, refl))
+
+pub some_table : (l : Allowance) (bytes : List ℕ) → IsAllowance l → AreBytes bytes → (text : List ℕ) × UnpackTo l bytes text
+some_table l bytes cap are = some_table_of l bytes (stream_or_fault l bytes cap are)
+
+pub one_table : (l : Allowance) (bytes a b : List ℕ) → UnpackTo l bytes a → UnpackTo l bytes b → a ≡ b
+one_table l bytes a b (inl (gs, stream, out)) unpacked = out ∙ sym (unpacked_stream l bytes b gs stream unpacked)
+one_table l bytes a b (inr first) (inl (hs, stream, other)) = unpacked_stream l bytes a hs stream (inr first) ∙ sym other
+one_table l bytes a b (inr (m, why, gs, fault, out)) (inr (n, reason, hs, others, other)) =
+    out ∙ ap table_text (one_stream_fault l bytes gs hs m n why reason fault others).0 ∙ sym other

@@ -1,12 +1,13 @@
 -- Texts of rows, joined.
-use Rattle.std.proofs.Common.{◌≡◌, ◌∙◌, ◌<◌, List, [], ◌∷◌, ◌++◌, ap, arith, sym, length, length-append, None}
+use Rattle.std.proofs.Common.{◌≡◌, ◌∙◌, ◌<◌, List, [], ◌∷◌, ◌++◌, ap, arith, sym, length, length-append, append_assoc, None}
 use Rattle.std.specs.Prelude.{map}
-use Rattle.std.proofs.lemmas.List.{append-nil, map-append}
+use Rattle.std.proofs.lemmas.List.{append-nil}
 use Rattle.std.proofs.lemmas.Grind.{flat_map-append}
 use Rattle.twkb_geom.specs.Tree.{Tree, simple, collection}
 use Rattle.twkb_geom.specs.Rows.{member_rows, own_row, rows, rows_below, rows_of}
 use Rattle.twkb_table.specs.Record.{Record, header, record_of}
 use Rattle.twkb_table.specs.Text.{csvtext, joined}
+use Rattle.twkb_table.proofs.PartsLemmas.{records-append}
 use Rattle.twkb_convert.specs.Outputs.{rows_text, table_text}
 
 -- the rows of one geometry
@@ -15,13 +16,17 @@ rows_text-one g = ap (λ l. csvtext (map record_of l)) (sym (append-nil (rows 0 
 
 -- the rows of geometries, and of others behind them
 pub rows_text-append : (gs hs : List Tree) → rows_text (gs ++ hs) ≡ rows_text gs ++ rows_text hs
-rows_text-append gs hs =
-    ap (λ rs. csvtext (map record_of rs)) (flat_map-append (rows 0) gs hs)
-    ∙ ap csvtext (map-append record_of (rows_of gs) (rows_of hs)) ∙ flat_map-append _ (map record_of (rows_of gs)) (map record_of (rows_of hs))
+rows_text-append gs hs = ap csvtext (records-append gs hs) ∙ flat_map-append _ (map record_of (rows_of gs)) (map record_of (rows_of hs))
 
 -- the header's line, and the rows
 pub table_text-rows : (gs : List Tree) → csvtext (header ∷ []) ++ rows_text gs ≡ table_text gs
 table_text-rows gs = ap (λ l. l ++ rows_text gs) (append-nil (joined header ++ 10 ∷ []))
+
+-- the table of geometries, and the rows of others behind them
+pub table_text-append : (gs hs : List Tree) → table_text (gs ++ hs) ≡ table_text gs ++ rows_text hs
+table_text-append gs hs =
+    let line = csvtext (header ∷ []) in
+    sym (table_text-rows (gs ++ hs)) ∙ ap (λ k. line ++ k) (rows_text-append gs hs) ∙ sym (append_assoc line (rows_text gs) (rows_text hs)) ∙ ap (λ k. k ++ rows_text hs) (table_text-rows gs)
 
 -- a line has its end
 line_some : (r : Record) (rs : List Record) → 0 < length (csvtext (r ∷ rs))

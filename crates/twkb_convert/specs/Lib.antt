@@ -15,3 +15,4 @@ pub mod Listed
 pub mod Unpacked
 pub mod Shown
 pub mod Packed
+pub mod Parts

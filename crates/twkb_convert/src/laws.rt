@@ -1,20 +1,27 @@
 //! Laws of both conversions, each the contract of a function that does nothing.
-ghost use Rattle.std.specs.Prelude.{◌≡◌, ◌++◌, ℕ, List, Some};
+ghost use Rattle.std.specs.Prelude.{◌≡◌, ◌++◌, ◌∷◌, [], ℕ, List, length, Option, Some};
+ghost use Rattle.std.specs.Io.KnownBytes.{Appends};
 ghost use Rattle.twkb_geom.specs.Tree.{Tree};
 ghost use Rattle.twkb_geom.specs.Limits.{Allowance, IsAllowance};
 ghost use Rattle.twkb_grammar.specs.Bits.{AreBytes};
 ghost use Rattle.twkb_grammar.specs.Blob.{Stream};
 ghost use Rattle.twkb_grammar.specs.Written.{canonical_stream};
 ghost use Rattle.twkb_grammar.specs.declared.style.Style.{Style};
-ghost use Rattle.twkb_table.specs.Record.{Record};
+ghost use Rattle.twkb_table.specs.Record.{Record, header};
 ghost use Rattle.twkb_table.specs.Named.{Named, NamesNone};
+ghost use Rattle.twkb_table.specs.Parts.{BeginAtRoot};
 ghost use Rattle.twkb_table.specs.RowFault.{AreComplete};
 ghost use Rattle.twkb_table.specs.declared.reason.RowReason.{RowReason};
 ghost use Rattle.twkb_table.specs.CsvRecords.{AreRecordsOf};
+ghost use Rattle.twkb_table.specs.Text.{csvtext};
 ghost use Rattle.twkb_blob.specs.declared.spans.Located.{Located};
 ghost use Rattle.twkb_convert.specs.LocatedBlobs.{LocatedStream, ShowTo, geometries_of, lines_text};
 ghost use Rattle.twkb_convert.specs.Outputs.{PackTo, UnpackTo, table_text};
+ghost use Rattle.twkb_convert.specs.Packed.{StoppedIn};
+ghost use Rattle.twkb_convert.specs.Parts.{all_moved};
 ghost use Rattle.twkb_convert.specs.RefusedRows.{IsRefusedAt, MayBeWritten};
+ghost use Rattle.twkb_convert.specs.declared.report.Cause.{Cause};
+ghost use Rattle.twkb_convert.specs.declared.report.ConvertFault.{ConvertFault};
 
 /// Where the records of a text name geometries, the reader of `csv` reads the same records from
 /// what the stream is unpacked to that they are packed to, in either style.
@@ -45,11 +52,26 @@ pub fn refused_table()
         → AreRecordsOf text records → IsRefusedAt l (Some text) number reason gs → NamesNone l records }
 {}
 
+/// What is written before a refused record, as a stop of `pack` tells it, is all that the records of
+/// the text are packed to.
+pub fn refused_output()
+    ensures output { (style : Style) (l : Allowance) (text : List ℕ) (records : List Record) (number : ℕ) (reason : RowReason) (gs : List Tree)
+        → AreRecordsOf text records → IsRefusedAt l (Some text) number reason gs → PackTo style l records (canonical_stream style gs) }
+    ensures written { (style : Style) (l : Allowance) (text : List ℕ) (records : List Record) (before after : Option (List ℕ)) (fault : ConvertFault) (number : ℕ) (reason : RowReason)
+        → AreRecordsOf text records → StoppedIn style l (Some text) before after fault → fault.cause ≡ Cause.Row number reason → (bytes : List ℕ) × PackTo style l records bytes × Appends before after bytes }
+{}
+
 /// What a stop of `pack` says was written is a front of what the records of the text are packed
 /// to: the blobs of the first of the geometries that may be written, and a front of the next one's.
 pub fn pack_front()
     ensures { (style : Style) (l : Allowance) (text : List ℕ) (records : List Record) (whole later : List Tree) (front rest bytes : List ℕ) → IsAllowance l → AreRecordsOf text records
         → MayBeWritten l (Some text) (whole ++ later) → canonical_stream style later ≡ front ++ rest → PackTo style l records bytes → (more : List ℕ) × (bytes ≡ (canonical_stream style whole ++ front) ++ more) }
+{}
+
+/// Any bytes are unpacked to one text.
+pub fn one_unpacked_output()
+    ensures some { (l : Allowance) (bytes : List ℕ) → IsAllowance l → AreBytes bytes → (text : List ℕ) × UnpackTo l bytes text }
+    ensures one { (l : Allowance) (bytes a b : List ℕ) → UnpackTo l bytes a → UnpackTo l bytes b → a ≡ b }
 {}
 
 /// What a stop of `unpack` says was written is a front of what the bytes are unpacked to: a front
@@ -68,7 +90,7 @@ pub fn one_located_stream()
 /// Any bytes are shown by one text.
 pub fn one_shown_output()
     ensures some { (l : Allowance) (bytes : List ℕ) → IsAllowance l → AreBytes bytes → (text : List ℕ) × ShowTo l bytes text }
-    ensures one { (l : Allowance) (bytes text other : List ℕ) → ShowTo l bytes text → ShowTo l bytes other → text ≡ other }
+    ensures one { (l : Allowance) (bytes a b : List ℕ) → ShowTo l bytes a → ShowTo l bytes b → a ≡ b }
 {}
 
 /// What a stop of `show` says was written is a front of what the bytes are shown by: a front of the
@@ -76,4 +98,30 @@ pub fn one_shown_output()
 pub fn show_front()
     ensures { (l : Allowance) (all bytes rest : List ℕ) (bs : List Located) (text written left : List ℕ) → all ≡ bytes ++ rest → LocatedStream l 0 bytes bs
         → lines_text bs ≡ written ++ left → ShowTo l all text → (more : List ℕ) × (text ≡ written ++ more) }
+{}
+
+// ---- parts, converted apart
+
+/// Where two tables name geometries, the rows of both, one after the other below one header, are
+/// packed to what each table is packed to, joined. So is a table that is cut before a row of depth 0.
+pub fn packed_parts()
+    ensures joined { (style : Style) (l : Allowance) (rows more : List Record) (gs hs : List Tree) (a b : List ℕ) → IsAllowance l → Named l (header ∷ rows) gs → Named l (header ∷ more) hs
+        → PackTo style l (header ∷ rows) a → PackTo style l (header ∷ more) b → PackTo style l (header ∷ (rows ++ more)) (a ++ b) }
+    ensures cut { (style : Style) (l : Allowance) (rows more : List Record) (ks : List Tree) (a b : List ℕ) → IsAllowance l → BeginAtRoot more → Named l (header ∷ (rows ++ more)) ks
+        → PackTo style l (header ∷ rows) a → PackTo style l (header ∷ more) b → PackTo style l (header ∷ (rows ++ more)) (a ++ b) }
+{}
+
+/// A stream with other bytes behind it is unpacked to its own table and then the rows of theirs:
+/// their table without the header's line.
+pub fn unpacked_parts()
+    ensures { (l : Allowance) (a b : List ℕ) (gs : List Tree) (table rows : List ℕ) → Stream l a gs
+        → UnpackTo l a table → UnpackTo l b (csvtext (header ∷ []) ++ rows) → UnpackTo l (a ++ b) (table ++ rows) }
+{}
+
+/// A stream with other bytes behind it is shown by its own lines and then theirs, each offset moved
+/// by the length of the stream.
+pub fn shown_parts()
+    ensures blobs { (l : Allowance) (a b : List ℕ) (bs cs : List Located) → LocatedStream l 0 a bs → LocatedStream l 0 b cs → LocatedStream l 0 (a ++ b) (bs ++ all_moved (length a) cs) }
+    ensures text { (l : Allowance) (a b : List ℕ) (gs : List Tree) (first second : List ℕ) → Stream l a gs
+        → ShowTo l a first → ShowTo l b second → (cs : List Located) × (second ≡ lines_text cs) × ShowTo l (a ++ b) (first ++ lines_text (all_moved (length a) cs)) }
 {}

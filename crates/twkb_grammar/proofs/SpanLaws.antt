@@ -1,5 +1,7 @@
--- A blob has a span for each geometry, the first covers it, and its bytes have one list of spans.
-use Rattle.std.proofs.Common.{Bool, true, false, ◌≡◌, ℕ, suc, ◌+◌, List, [], ◌++◌, length, refl, sym, ap, ◌∙◌, subst, length-append, Some, None}
+-- A blob has a span for each geometry, the first covers it, its bytes have one list of spans, and in another place the spans are moved.
+use Rattle.std.specs.Prelude.{map}
+use Rattle.std.proofs.Common.{Bool, true, false, ◌≡◌, ℕ, suc, ◌+◌, List, [], ◌∷◌, ◌++◌, length, refl, sym, ap, ◌∙◌, subst, length-append, Some, None, arith}
+use Rattle.std.proofs.lemmas.List.{map-append}
 use Rattle.std.proofs.lemmas.Bool.{false≢true}
 use Rattle.twkb_geom.specs.Tree.{Tree, simple, collection, Trees, end, ◌▷◌, count, flat, precision_of}
 use Rattle.twkb_geom.specs.Limits.{Allowance}
@@ -8,7 +10,7 @@ use Rattle.twkb_grammar.specs.Roles.{Item, join}
 use Rattle.twkb_grammar.specs.Items.{Follow, BodyAt, Agrees, flags_all, Items, ItemsOfAll}
 use Rattle.twkb_grammar.specs.Blob.{Blob}
 use Rattle.twkb_grammar.specs.Machine.{Finished, nothing, started, Runs}
-use Rattle.twkb_grammar.specs.Spans.{behind, spans, spans_of_all, spans_of_blob, geometries, geometries_of_all, CoversBlob}
+use Rattle.twkb_grammar.specs.Spans.{before_body, behind, spans, span_of, spans_of_all, spans_of_blob, moved_span, geometries, geometries_of_all, CoversBlob}
 use Rattle.twkb_grammar.specs.Noting.{no_notes, noted}
 use Rattle.twkb_grammar.proofs.Trees.{tree_runs}
 use Rattle.twkb_grammar.proofs.TwoFronts.{Compared, longer, shorter, same, two_fronts, none_beyond}
@@ -67,3 +69,35 @@ one_list limits bytes g start a b = ap (λ w. w.spans) (sym (blob_noted limits b
     go (longer n) = absurd (none_beyond b.items a.items g ([], Finished g) second first n)
     go (shorter n) = absurd (none_beyond a.items b.items g ([], Finished g) first second n)
     go (same e) = e
+
+-- ---- the same bytes in another place
+
+below_moved : (First : List Item → Type 0) (n level offset there : ℕ) (gs : Trees) → there ≡ n + offset
+    → ((o : ℕ) (js : List Item) (h : ItemsOfAll level gs js) → spans_of_all level (n + o) gs js h ≡ map (moved_span n) (spans_of_all level o gs js h))
+    → (b : Bool) (body : List Item) (h : BodyAt b (Follow First (ItemsOfAll level gs)) body)
+    → behind First (ItemsOfAll level gs) there (λ o js h. spans_of_all level o gs js h) b body h ≡ map (moved_span n) (behind First (ItemsOfAll level gs) offset (λ o js h. spans_of_all level o gs js h) b body h)
+below_moved First n level offset there gs place each true body h = refl
+below_moved First n level offset there gs place each false body h =
+    let later : there + length (join h.front) ≡ n + (offset + length (join h.front)) = omega (arith, place) in
+    ap (λ o. spans_of_all level o gs h.rest h.second) later ∙ each (offset + length (join h.front)) h.rest h.second
+
+mutual
+  spans_moved : (g : Tree) (n level offset : ℕ) (is : List Item) (f : Items level g is) → spans level (n + offset) g is f ≡ map (moved_span n) (spans level offset g is f)
+  spans_moved (simple p s) n level offset is f = refl
+  spans_moved (collection p ids gs) n level offset is f =
+      let later : n + offset + length (join (before_body f)) ≡ n + (offset + length (join (before_body f))) = omega arith in
+      ap (λ ss. span_of level (n + offset) (collection p ids gs) f.meta is ∷ ss)
+      (below_moved _ n (suc level) (offset + length (join (before_body f))) (n + offset + length (join (before_body f))) gs later (λ o js h. all_moved gs n (suc level) o js h) (bit f.meta 4) f.body f.body_is)
+
+  all_moved : (gs : Trees) (n level offset : ℕ) (is : List Item) (h : ItemsOfAll level gs is) → spans_of_all level (n + offset) gs is h ≡ map (moved_span n) (spans_of_all level offset gs is h)
+  all_moved end n level offset is h = refl
+  all_moved (g ▷ gs) n level offset is h =
+      let k = length (join h.front) in
+      let later : n + offset + k ≡ n + (offset + k) = omega arith in
+      ap (λ ss. ss ++ spans_of_all level (n + offset + k) gs h.rest h.second) (spans_moved g n level offset h.front h.first)
+      ∙ ap (λ ss. map (moved_span n) (spans level offset g h.front h.first) ++ ss) (ap (λ o. spans_of_all level o gs h.rest h.second) later ∙ all_moved gs n level (offset + k) h.rest h.second)
+      ∙ sym (map-append (moved_span n) (spans level offset g h.front h.first) (spans_of_all level (offset + k) gs h.rest h.second))
+
+-- behind so many bytes more, the spans of a blob are moved
+pub blob_moved : (limits : Allowance) (bytes : List ℕ) (g : Tree) (n start : ℕ) (b : Blob limits bytes g) → spans_of_blob (n + start) b ≡ map (moved_span n) (spans_of_blob start b)
+blob_moved limits bytes g n start b = spans_moved g n 0 start b.items b.are_items

@@ -146,26 +146,27 @@ one_stream_fault limits bytes gs hs o p r q s t =
     let long : length s.front ≡ length t.front = ap length cut.1 in
     (cut.0, omega (arith, s.place, t.place, long, one.0), one.1)
 
+-- behind a stream, blobs and a first fault are those of the join
+pub fault-append : (limits : Allowance) (a b : List ℕ) (gs hs : List Tree) (offset : ℕ) (reason : Reason) → Stream limits a gs → StreamFault limits b hs offset reason → StreamFault limits (a ++ b) (gs ++ hs) (length a + offset) reason
+fault-append limits a b gs hs offset reason s f = record {
+  front = a ++ f.front;
+  rest = f.rest;
+  within = f.within;
+  whole = ap (λ l. a ++ l) f.whole ∙ sym (append_assoc a f.front f.rest);
+  blobs = stream-append limits a f.front gs hs s f.blobs;
+  first = f.first;
+  place = omega (arith, f.place, length-append a f.front);
+}
+
 -- the bytes are a stream, or some blobs and then a first fault
 abbrev StreamOr : Allowance → List ℕ → Type 0
 StreamOr limits bytes = ((gs : List Tree) × Stream limits bytes gs) ⊎ ((gs : List Tree) × (offset : ℕ) × (reason : Reason) × StreamFault limits bytes gs offset reason)
 
 one_more : (limits : Allowance) (bytes rest : List ℕ) (g : Tree) → BlobInFront limits bytes g rest → StreamOr limits rest → StreamOr limits bytes
 one_more limits bytes rest g b (inl s) = inl (g ∷ s.0, (b.front, rest, b.whole, b.blob, s.1))
-one_more limits bytes rest g b (inr (gs, o, r, f)) = inr (
-  g ∷ gs,
-  length b.front + o,
-  r,
-  record {
-    front = b.front ++ f.front;
-    rest = f.rest;
-    within = f.within;
-    whole = b.whole ∙ (ap (λ l. b.front ++ l) f.whole ∙ sym (append_assoc b.front f.front f.rest));
-    blobs = (b.front, f.front, refl, b.blob, f.blobs);
-    first = f.first;
-    place = omega (arith, f.place, length-append b.front f.front);
-  },
-)
+one_more limits bytes rest g b (inr (gs, o, r, f)) =
+    let first : Stream limits b.front (g ∷ []) = (b.front, [], sym (append-nil b.front), b.blob, refl) in
+    inr (g ∷ gs, length b.front + o, r, subst (λ l. StreamFault limits l (g ∷ gs) (length b.front + o) r) (sym b.whole) (fault-append limits b.front rest (g ∷ []) gs o r first f))
 
 pub blob_long : (limits : Allowance) (bytes : List ℕ) (g : Tree) → Blob limits bytes g → 1 ≤ length bytes
 blob_long limits [] g b = absurd (blob_some limits g [] b refl)

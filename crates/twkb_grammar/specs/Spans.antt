@@ -79,3 +79,7 @@ pub record CoversBlob (offset : ℕ) (bytes : List ℕ) (g : Tree) (ss : List Sp
   pub meta : ℕ
   pub more : List Span
   pub first : ss ≡ record { level = 0; offset = offset; kind = kind_of_geometry g; precision = precision_of g; metadata = meta; length = length bytes; points = length (flat g) } ∷ more
+
+-- A span in a stream that has so many bytes more before it.
+abbrev pub moved_span : ℕ → Span → Span
+moved_span n s = record s { offset = n + s.offset }

@@ -1,5 +1,5 @@
 //! Laws of blobs, each the contract of a function that does nothing.
-ghost use Rattle.std.specs.Prelude.{◌≡◌, ◌≢◌, ◌↔◌, ◌⊎◌, ◌<◌, ◌≤◌, ◌+◌, ◌*◌, ℕ, List, [], ◌∷◌, ◌++◌, length, Option, Some};
+ghost use Rattle.std.specs.Prelude.{◌≡◌, ◌≢◌, ◌↔◌, ◌⊎◌, ◌<◌, ◌≤◌, ◌+◌, ◌*◌, ℕ, List, [], ◌∷◌, ◌++◌, length, map, Option, Some};
 ghost use Rattle.std.specs.List.{AllByRecursion};
 ghost use Rattle.twkb_geom.specs.Tree.{Tree, IsTree, nodes, flat};
 ghost use Rattle.twkb_geom.specs.Limits.{Allowance, IsAllowance, IsValid};
@@ -12,7 +12,7 @@ ghost use Rattle.twkb_grammar.specs.Written.{canonical_blob, canonical_stream};
 ghost use Rattle.twkb_grammar.specs.Fault.{Refused, Fault, FirstFault, StreamFault, Reason, Truncated, BadVarint, Part, IsCut, IsTooLong};
 ghost use Rattle.twkb_grammar.specs.Machine.{Runs, Sums, nothing, started, Finished, Stack, role_at, sums_after};
 ghost use Rattle.twkb_grammar.specs.PlainReader.{decode, objection, Made, RefusedAt, GoesOn};
-ghost use Rattle.twkb_grammar.specs.Spans.{spans_of_blob, geometries, CoversBlob};
+ghost use Rattle.twkb_grammar.specs.Spans.{spans_of_blob, moved_span, geometries, CoversBlob};
 ghost use Rattle.twkb_grammar.specs.Noting.{no_notes, noted, note_byte, note_ends_to, notes_of, IsCalm};
 ghost use Rattle.twkb_grammar.specs.Reading.{Ran, Reached, Gives, Leads, Stands, frame_count, open_after};
 
@@ -47,10 +47,11 @@ pub fn blob_or_fault()
     ensures no_stream { (limits : Allowance) (bytes rest : List ℕ) (gs hs : List Tree) (offset : ℕ) (reason : Reason) → Stream limits bytes gs → Fault limits rest offset reason → Stream limits (bytes ++ rest) hs → ⊥ }
 {}
 
-/// A first fault is one: one offset and one reason, and in a stream the same geometries before it.
+/// A first fault is one: one offset and one reason, and in a stream the same geometries before it. Behind a stream, blobs and a first fault are those of the join.
 pub fn one_fault()
     ensures blob { (limits : Allowance) (bytes : List ℕ) (o p : ℕ) (r s : Reason) → FirstFault limits bytes o r → FirstFault limits bytes p s → (o ≡ p) × (r ≡ s) }
     ensures stream { (limits : Allowance) (bytes : List ℕ) (gs hs : List Tree) (o p : ℕ) (r s : Reason) → StreamFault limits bytes gs o r → StreamFault limits bytes hs p s → (gs ≡ hs) × (o ≡ p) × (r ≡ s) }
+    ensures joined { (limits : Allowance) (a b : List ℕ) (gs hs : List Tree) (offset : ℕ) (reason : Reason) → Stream limits a gs → StreamFault limits b hs offset reason → StreamFault limits (a ++ b) (gs ++ hs) (length a + offset) reason }
 {}
 
 /// Any bytes are a stream, or blobs and then a first fault.
@@ -123,11 +124,12 @@ pub fn standing()
         → StreamFault limits bytes gs (length s.front + e.bytes) Truncated }
 {}
 
-/// The bytes of a blob tell its spans: one for each geometry, and the first from its start to its end.
+/// The bytes of a blob tell its spans: one for each geometry, and the first from its start to its end. Behind more bytes they are the same but for their offsets.
 pub fn spans()
     ensures one_list { (limits : Allowance) (bytes : List ℕ) (g : Tree) (start : ℕ) (a b : Blob limits bytes g) → spans_of_blob start a ≡ spans_of_blob start b }
     ensures one_each { (limits : Allowance) (bytes : List ℕ) (g : Tree) (start : ℕ) (b : Blob limits bytes g) → length (spans_of_blob start b) ≡ geometries g }
     ensures first { (limits : Allowance) (bytes : List ℕ) (g : Tree) (start : ℕ) (b : Blob limits bytes g) → CoversBlob start bytes g (spans_of_blob start b) }
+    ensures moved { (limits : Allowance) (bytes : List ℕ) (g : Tree) (n start : ℕ) (b : Blob limits bytes g) → spans_of_blob (n + start) b ≡ map (moved_span n) (spans_of_blob start b) }
 {}
 
 /// A reader that notes the spans of geometries as their items come has noted those of the blob behind its last item. What a byte more notes

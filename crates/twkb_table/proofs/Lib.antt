@@ -13,6 +13,7 @@ pub mod LineLemmas
 pub mod NextRecord
 pub mod OneVerdict
 pub mod OpenedLemmas
+pub mod PartsLemmas
 pub mod ReadBack
 pub mod ReadingLaws
 pub mod RecordFacts

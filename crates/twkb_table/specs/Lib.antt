@@ -5,6 +5,7 @@ pub mod Head
 pub mod Judged
 pub mod Named
 pub mod Numbering
+pub mod Parts
 pub mod Printing
 pub mod Reading
 pub mod Record

@@ -7,8 +7,9 @@ ghost use Rattle.twkb_geom.specs.Limits.{Allowance, IsAllowance};
 ghost use Rattle.twkb_geom.specs.Rows.{Row, rows_of};
 ghost use Rattle.twkb_geom.specs.RowLists.{AreValidRows};
 ghost use Rattle.twkb_geom.specs.Accepted.{Accepts};
-ghost use Rattle.twkb_table.specs.Record.{Record, record_of};
+ghost use Rattle.twkb_table.specs.Record.{Record, header, record_of};
 ghost use Rattle.twkb_table.specs.Named.{Named, NamesNone};
+ghost use Rattle.twkb_table.specs.Parts.{BeginAtRoot};
 ghost use Rattle.twkb_table.specs.Text.{csvtext};
 ghost use Rattle.twkb_table.specs.Judged.{Judged, Verdict, Accepted, Refused};
 ghost use Rattle.twkb_table.specs.RowFault.{RowFault, AreComplete};
@@ -24,6 +25,14 @@ pub fn one_reading()
 /// Each front of a table of valid geometries is such a table, but for the empty front.
 pub fn fronts()
     ensures { (l : Allowance) (front more : List Record) (gs : List Tree) → front ≢ [] → Named l (front ++ more) gs → (hs : List Tree) × Named l front hs }
+{}
+
+/// The rows of two tables, one after the other below one header, name the geometries of both; and a
+/// table that is cut before a row of depth 0 is two such tables.
+pub fn parts()
+    ensures joined { (l : Allowance) (rows more : List Record) (gs hs : List Tree) → Named l (header ∷ rows) gs → Named l (header ∷ more) hs → Named l (header ∷ (rows ++ more)) (gs ++ hs) }
+    ensures cut { (l : Allowance) (rows more : List Record) (ks : List Tree) → IsAllowance l → BeginAtRoot more → Named l (header ∷ (rows ++ more)) ks
+        → (gs hs : List Tree) × (ks ≡ gs ++ hs) × Named l (header ∷ rows) gs × Named l (header ∷ more) hs }
 {}
 
 /// The reader of `csv`, set to no header row, flexible lengths and no trimming, reads the records

@@ -5,6 +5,7 @@ use crate::laws;
 fn laws_are_called() {
     laws::one_reading();
     laws::fronts();
+    laws::parts();
     laws::read_back();
     laws::judged_rows();
     laws::one_verdict();

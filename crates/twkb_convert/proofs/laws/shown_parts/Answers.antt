@@ -1,0 +1,5 @@
+use Rattle.twkb_convert.proofs.PartsLemmas.{located_joined, shown_joined}
+use Rattle.twkb_convert.proofs.laws.shown_parts.Goals as goal
+
+pub returns : goal.returns
+returns c = record { blobs = located_joined; text = shown_joined }

@@ -1,0 +1,5 @@
+use Rattle.twkb_convert.proofs.PartsLemmas.{unpacked_joined}
+use Rattle.twkb_convert.proofs.laws.unpacked_parts.Goals as goal
+
+pub returns : goal.returns
+returns c = unpacked_joined

@@ -1,0 +1,5 @@
+use Rattle.twkb_table.proofs.PartsLemmas.{named_cut, named_joined}
+use Rattle.twkb_table.proofs.laws.parts.Goals as goal
+
+pub returns : goal.returns
+returns c = record { joined = named_joined; cut = named_cut }
