@@ -20,7 +20,7 @@ use Rattle.twkb_table.proofs.PartsLemmas.{named_cut, named_joined}
 use Rattle.twkb_blob.specs.declared.spans.Located.{Located}
 use Rattle.twkb_convert.specs.LocatedBlobs.{BeginLocated, LocatedStream, ShowTo, geometries_of, lines_text}
 use Rattle.twkb_convert.specs.Outputs.{PackTo, UnpackTo, rows_text, table_text}
-use Rattle.twkb_convert.specs.Parts.{all_moved, moved}
+use Rattle.twkb_convert.specs.Parts.{all_moved}
 use Rattle.twkb_convert.specs.SpanLines.{span_lines}
 use Rattle.twkb_convert.proofs.LocatedLemmas.{located-append, located-stream}
 use Rattle.twkb_convert.proofs.RoundTrips.{packed_records, unpacked_stream}

@@ -1,7 +1,5 @@
--- A record that is refused in a beginning of a text is refused in all of it, and what was written before is the output.
-use Rattle.std.proofs.Common.{◌≡◌, ◌∙◌, ℕ, List, [], ◌∷◌, ◌++◌, Option, Some, refl, ap, sym, subst, inl, inr, append_assoc}
-use Rattle.std.proofs.lemmas.List.{append-nil}
-use Rattle.std.specs.Io.KnownBytes.{Appends}
+-- A record that is refused in a beginning of a text is refused in all of it, and what is complete before it is the output.
+use Rattle.std.proofs.Common.{◌≡◌, ◌∙◌, ℕ, List, [], ◌∷◌, ◌++◌, Some, refl, ap, sym, subst, inl, inr, append_assoc}
 use Rattle.twkb_geom.specs.Tree.{Tree}
 use Rattle.twkb_geom.specs.Limits.{Allowance}
 use Rattle.twkb_grammar.specs.Written.{canonical_stream}
@@ -12,10 +10,7 @@ use Rattle.twkb_table.specs.RowFault.{AreComplete}
 use Rattle.twkb_table.specs.CsvRecords.{AreRecordsOf}
 use Rattle.twkb_table.specs.declared.reason.RowReason.{RowReason}
 use Rattle.twkb_convert.specs.Outputs.{PackTo}
-use Rattle.twkb_convert.specs.Packed.{ExplainsCause, StoppedIn}
 use Rattle.twkb_convert.specs.RefusedRows.{IsRefusedAt}
-use Rattle.twkb_convert.specs.declared.report.Cause.TheVariants as cause
-use Rattle.twkb_convert.specs.declared.report.ConvertFault.{ConvertFault}
 use Rattle.twkb_convert.proofs.FrontLemmas.{first_records}
 use Rattle.twkb_convert.proofs.OutputLemmas.{complete_none}
 use Rattle.twkb_convert.proofs.RoundTrips.{one_records}
@@ -53,13 +48,3 @@ refused_none l text records number reason gs all refused = complete_none l recor
 pub refused_output : (style : Style) (l : Allowance) (text : List ℕ) (records : List Record) (number : ℕ) (reason : RowReason) (gs : List Tree) → AreRecordsOf text records → IsRefusedAt l (Some text) number reason gs
     → PackTo style l records (canonical_stream style gs)
 refused_output style l text records number reason gs all refused = inr (number, reason, gs, refused_all l text records number reason gs all refused, refl)
-
-pub refused_written : (style : Style) (l : Allowance) (text : List ℕ) (records : List Record) (before after : Option (List ℕ)) (fault : ConvertFault) (number : ℕ) (reason : RowReason) → AreRecordsOf text records
-    → StoppedIn style l (Some text) before after fault → fault.cause ≡ cause.Row number reason → (bytes : List ℕ) × PackTo style l records bytes × Appends before after bytes
-refused_written style l text records before after fault number reason all stopped row =
-    let (none, whole, refused) = subst (λ c. ExplainsCause style l (Some text) c stopped.whole stopped.later stopped.front) row stopped.explains in
-    let stream = canonical_stream style stopped.whole in (
-      stream,
-      refused_output style l text records number reason stopped.whole all refused,
-      subst (λ k. Appends before after k) (ap (λ k. stream ++ k) whole ∙ append-nil stream) stopped.appends,
-    )

@@ -1,6 +1,5 @@
 //! Laws of both conversions, each the contract of a function that does nothing.
-ghost use Rattle.std.specs.Prelude.{◌≡◌, ◌++◌, ◌∷◌, [], ℕ, List, length, Option, Some};
-ghost use Rattle.std.specs.Io.KnownBytes.{Appends};
+ghost use Rattle.std.specs.Prelude.{◌≡◌, ◌++◌, ◌∷◌, [], ℕ, List, length, Some};
 ghost use Rattle.twkb_geom.specs.Tree.{Tree};
 ghost use Rattle.twkb_geom.specs.Limits.{Allowance, IsAllowance};
 ghost use Rattle.twkb_grammar.specs.Bits.{AreBytes};
@@ -17,11 +16,8 @@ ghost use Rattle.twkb_table.specs.Text.{csvtext};
 ghost use Rattle.twkb_blob.specs.declared.spans.Located.{Located};
 ghost use Rattle.twkb_convert.specs.LocatedBlobs.{LocatedStream, ShowTo, geometries_of, lines_text};
 ghost use Rattle.twkb_convert.specs.Outputs.{PackTo, UnpackTo, table_text};
-ghost use Rattle.twkb_convert.specs.Packed.{StoppedIn};
 ghost use Rattle.twkb_convert.specs.Parts.{all_moved};
 ghost use Rattle.twkb_convert.specs.RefusedRows.{IsRefusedAt, MayBeWritten};
-ghost use Rattle.twkb_convert.specs.declared.report.Cause.{Cause};
-ghost use Rattle.twkb_convert.specs.declared.report.ConvertFault.{ConvertFault};
 
 /// Where the records of a text name geometries, the reader of `csv` reads the same records from
 /// what the stream is unpacked to that they are packed to, in either style.
@@ -52,13 +48,11 @@ pub fn refused_table()
         → AreRecordsOf text records → IsRefusedAt l (Some text) number reason gs → NamesNone l records }
 {}
 
-/// What is written before a refused record, as a stop of `pack` tells it, is all that the records of
-/// the text are packed to.
+/// The blobs of the geometries that a refused record leaves complete, as a stop of `pack` tells them,
+/// are all that the records of the text are packed to.
 pub fn refused_output()
-    ensures output { (style : Style) (l : Allowance) (text : List ℕ) (records : List Record) (number : ℕ) (reason : RowReason) (gs : List Tree)
+    ensures { (style : Style) (l : Allowance) (text : List ℕ) (records : List Record) (number : ℕ) (reason : RowReason) (gs : List Tree)
         → AreRecordsOf text records → IsRefusedAt l (Some text) number reason gs → PackTo style l records (canonical_stream style gs) }
-    ensures written { (style : Style) (l : Allowance) (text : List ℕ) (records : List Record) (before after : Option (List ℕ)) (fault : ConvertFault) (number : ℕ) (reason : RowReason)
-        → AreRecordsOf text records → StoppedIn style l (Some text) before after fault → fault.cause ≡ Cause.Row number reason → (bytes : List ℕ) × PackTo style l records bytes × Appends before after bytes }
 {}
 
 /// What a stop of `pack` says was written is a front of what the records of the text are packed
