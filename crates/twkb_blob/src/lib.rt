@@ -18,6 +18,3 @@ pub use twkb_grammar::{Span, Style};
 pub use twkb_writer::{
     EncodeFault, Sizes, encode, encode_styled, measure, measure_flat, write_flat,
 };
-
-#[cfg(test)]
-mod tests;

@@ -17,6 +17,3 @@ pub use flat::Flat;
 pub use node::{Node, NodeId, PointId, Row};
 pub use point_source::PointSource;
 pub use work::Work;
-
-#[cfg(test)]
-mod tests;

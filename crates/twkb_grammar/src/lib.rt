@@ -5,8 +5,6 @@ pub mod laws;
 pub mod samples;
 mod span;
 mod style;
-#[cfg(test)]
-mod tests;
 
 pub use span::Span;
 pub use style::Style;

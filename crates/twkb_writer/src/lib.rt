@@ -27,6 +27,3 @@ pub use sizes::Sizes;
 pub use tree_measuring::measure;
 pub use twkb_grammar::Style;
 pub use writing::{write_flat, write_through};
-
-#[cfg(test)]
-mod tests;

@@ -1,0 +1,46 @@
+//! The texts of faults, as the profile has them.
+use std::alloc::Global;
+use std::fmt::Display;
+use twkb_blob::{BlobFault, BlobReason};
+use twkb_io::InFault;
+
+/// Whether this is printed so.
+fn is_told<T: Display>(alloc: Global, value: &T, text: &str) -> bool {
+    match format!(in alloc; "{value}") {
+        Ok(told) => told.as_str() == text,
+        Err(_) => false,
+    }
+}
+
+#[test]
+fn each_fault_has_its_text(rt: HostRuntime) {
+    let reason = BlobReason::SizeMismatch;
+    let rows = [
+        (BlobFault::Memory, "out of memory"),
+        (BlobFault::Device(InFault::Read), "read failed"),
+        (BlobFault::Device(InFault::TooLong), "input too long"),
+        (BlobFault::Spent, "reader was refused before"),
+        (BlobFault::At { offset: 5, reason }, "byte 5: size mismatch"),
+    ];
+    for (fault, text) in rows {
+        assert!(rt; is_told(rt.alloc(), &fault, text), "{text}");
+    }
+}
+
+#[test]
+fn each_reason_has_its_text(rt: HostRuntime) {
+    let rows = [
+        (BlobReason::Truncated, "truncated"),
+        (BlobReason::BadType, "unknown type"),
+        (BlobReason::ExtraDimensions, "extra dimensions"),
+        (BlobReason::BadVarint, "bad varint"),
+        (BlobReason::TooDeep, "nested too deep"),
+        (BlobReason::TooManyNodes, "too many nodes"),
+        (BlobReason::TooManyPoints, "too many points"),
+        (BlobReason::CoordinateRange, "coordinate out of range"),
+        (BlobReason::SizeMismatch, "size mismatch"),
+    ];
+    for (reason, text) in rows {
+        assert!(rt; is_told(rt.alloc(), &reason, text), "{text}");
+    }
+}

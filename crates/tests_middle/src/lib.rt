@@ -1,0 +1,15 @@
+//! Tests of the flat form, the grammar, the writer and the reader of blobs, through what these crates make public.
+#![tactic(auto)]
+
+#[cfg(test)]
+mod blob;
+#[cfg(test)]
+mod flat;
+#[cfg(test)]
+mod forms;
+#[cfg(test)]
+mod geometries;
+#[cfg(test)]
+mod grammar;
+#[cfg(test)]
+mod writer;

@@ -1,0 +1,84 @@
+//! Whether flat forms and geometries have the blobs that are wanted.
+use crate::forms::form;
+use std::alloc::Global;
+use twkb_flat::{Flat, Row, Work};
+use twkb_geom::{Geometry, Kind, Limits};
+use twkb_io::Bytes;
+use twkb_writer::{Style, encode_styled, measure_flat, write_flat};
+
+/// A geometry of one row without an id.
+pub fn one_row(kind: Kind, precision: i8, places: &[(i64, i64)], alloc: Global) -> Option<Flat> {
+    let precision = Some(precision);
+    let row = Row {
+        depth: 0,
+        kind,
+        id: None,
+        precision,
+    };
+    form(alloc, &[(row, places)])
+}
+
+/// The blob of a flat form in a style.
+fn blob(flat: &Flat, style: Style, alloc: Global) -> Option<Vec<u8>> {
+    let mut work = Work::new();
+    let sizes = measure_flat(alloc, flat, style, &mut work).ok()?;
+    let mut sink = Bytes::new(alloc);
+    write_flat(flat, style, &sizes, &mut sink, &mut work).ok()?;
+    Some(sink.into_vec())
+}
+
+/// The blob in a style of a geometry within the caps.
+fn encoded(geometry: &Geometry, style: Style, alloc: Global) -> Option<Vec<u8>> {
+    if !geometry.within(&Limits::largest()) {
+        return None;
+    }
+    let mut sink = Bytes::new(alloc);
+    encode_styled(alloc, geometry, style, &mut sink).ok()?;
+    Some(sink.into_vec())
+}
+
+/// The blob in a style of the geometry whose rows a flat form has.
+fn encoded_flat(flat: &Flat, style: Style, alloc: Global) -> Option<Vec<u8>> {
+    if flat.is_empty() {
+        return None;
+    }
+    let geometry = flat.to_geometry(alloc).ok()?;
+    encoded(&geometry, style, alloc)
+}
+
+/// Whether these bytes were written.
+pub fn is_written(written: Option<Vec<u8>>, bytes: &[u8]) -> bool {
+    match written {
+        Some(written) => written.as_slice() == bytes,
+        None => false,
+    }
+}
+
+/// Whether a geometry was made, and has this blob in a style.
+pub fn is_encoded(geometry: Option<Geometry>, style: Style, bytes: &[u8], alloc: Global) -> bool {
+    match geometry {
+        Some(geometry) => is_written(encoded(&geometry, style, alloc), bytes),
+        None => false,
+    }
+}
+
+/// Whether a flat form was made, and it and its geometry have this blob in a style.
+fn is_blob(flat: Option<Flat>, style: Style, bytes: &[u8], alloc: Global) -> bool {
+    match flat {
+        Some(flat) => {
+            is_written(blob(&flat, style, alloc), bytes)
+                && is_written(encoded_flat(&flat, style, alloc), bytes)
+        }
+        None => false,
+    }
+}
+
+/// Whether it has this full blob.
+pub fn is_full(flat: Option<Flat>, bytes: &[u8], alloc: Global) -> bool {
+    is_blob(flat, Style::Full, bytes, alloc)
+}
+
+/// Whether it has this plain blob.
+pub fn is_plain(flat: Option<Flat>, bytes: &[u8], alloc: Global) -> bool {
+    is_blob(flat, Style::Plain, bytes, alloc)
+}
