@@ -1,8 +1,8 @@
 //! Streams of blobs and the lines of their headers, worked by hand from the format.
 use super::{cut_reader, cut_writer, report, stopped};
-use crate::{BlobReason, Cause, ConvertFault, Report, show};
 use std::alloc::Global;
 use std::io::{Read, Write};
+use twkb_convert::{BlobReason, Cause, ConvertFault, Report, show};
 use twkb_geom::Limits;
 use twkb_io::{FuseEnd, Tap};
 
@@ -34,27 +34,33 @@ fn no_blobs_have_no_lines(rt: HostRuntime) {
 }
 
 #[test]
-fn a_blob_without_members_is_one_line(rt: HostRuntime) {
-    let alloc = rt.alloc();
-    let line =
-        b"\xA2\x03\x23\xE7\xCE\x87\x0C\xA8\xAA\x4C\xA0\xFC\xD5\x03\x80\x81\x3A\x03\xBF\xA4\xBB\x0B\xA0\xFC\xD5\x03\xEF\x93\x09\xC0\xED\x1A\xB7\x96\x43\xC0\x93\x1F";
-    assert!(rt; shows(alloc, line, 1, "0 0 linestring 5 03 38 3\n"));
-    assert!(rt; shows(alloc, b"\xF1\x02\x02\x04\x02", 1, "0 0 point -8 02 5 1\n"));
-    assert!(rt; shows(alloc, b"\x01\xE0\x04\x02", 1, "0 0 point 0 E0 4 1\n"));
-}
-
-#[test]
-fn a_collection_is_a_line_and_those_of_its_members(rt: HostRuntime) {
-    let blob = b"\x07\x07\x0f\x02\x00\x02\x00\x02\x0e\x01\x01\x02\x02\x02\x02\x02\x12\x00";
-    let lines = "0 0 collection 0 07 18 1\n1 10 point 0 02 5 1\n1 15 linestring 0 12 3 0\n";
-    assert!(rt; shows(rt.alloc(), blob, 1, lines));
-}
-
-#[test]
-fn offsets_count_from_the_streams_start(rt: HostRuntime) {
-    let blobs = b"\x01\x00\x04\x02\x01\x12\x00";
-    let lines = "0 0 point 0 00 4 1\n0 4 point 0 12 3 0\n";
-    assert!(rt; shows(rt.alloc(), blobs, 2, lines));
+fn a_line_stands_for_each_header(rt: HostRuntime) {
+    let rows = [
+        (
+            1,
+            b"\xF1\x02\x02\x04\x02".as_slice(),
+            "0 0 point -8 02 5 1\n",
+        ),
+        (1, b"\x01\xE0\x04\x02".as_slice(), "0 0 point 0 E0 4 1\n"),
+        (
+            1,
+            b"\xA2\x03\x23\xE7\xCE\x87\x0C\xA8\xAA\x4C\xA0\xFC\xD5\x03\x80\x81\x3A\x03\xBF\xA4\xBB\x0B\xA0\xFC\xD5\x03\xEF\x93\x09\xC0\xED\x1A\xB7\x96\x43\xC0\x93\x1F".as_slice(),
+            "0 0 linestring 5 03 38 3\n",
+        ),
+        (
+            1,
+            b"\x07\x07\x0F\x02\x00\x02\x00\x02\x0E\x01\x01\x02\x02\x02\x02\x02\x12\x00".as_slice(),
+            "0 0 collection 0 07 18 1\n1 10 point 0 02 5 1\n1 15 linestring 0 12 3 0\n",
+        ),
+        (
+            2,
+            b"\x01\x00\x04\x02\x01\x12\x00".as_slice(),
+            "0 0 point 0 00 4 1\n0 4 point 0 12 3 0\n",
+        ),
+    ];
+    for (geometries, blobs, lines) in rows {
+        assert!(rt; shows(rt.alloc(), blobs, geometries, lines), "{lines}");
+    }
 }
 
 const POINT_AND_A_CUT: &[u8] = b"\x01\x00\x04\x02\x01\x00\x04";

@@ -1,11 +1,11 @@
 //! Fields, the header line and the texts of the reasons.
-use crate::{
-    RowReason, header_text, parse_depth, parse_id, parse_kind, parse_optional_id,
-    parse_optional_precision, parse_precision, push_decimal,
-};
 use std::alloc::Global;
 use twkb_geom::Kind;
 use twkb_polyline::PolyReason;
+use twkb_table::{
+    RowReason, header_text, parse_depth, parse_id, parse_kind, parse_optional_id,
+    parse_optional_precision, parse_precision, push_decimal,
+};
 
 // The format's canonical decimals, and spellings of the same numbers that are none.
 #[test]

@@ -1,11 +1,11 @@
 //! A worked row, field by field.
 use super::fixtures::holds;
-use crate::judge;
 use csv::{ByteRecord, ReaderBuilder};
 use std::alloc::Global;
 use twkb_flat::Row;
 use twkb_geom::{Kind, Limits, OpenRow};
 use twkb_points::Pt;
+use twkb_table::judge;
 
 /// Whether the record of this text was read.
 fn is_read(alloc: Global, text: &[u8], record: &mut ByteRecord) -> bool {

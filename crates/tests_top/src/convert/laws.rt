@@ -1,12 +1,15 @@
 //! Each law can be called.
-use crate::laws;
+use twkb_convert::laws;
 
 #[test]
 fn laws_are_called() {
     laws::unpack_of_pack();
     laws::pack_of_unpack();
     laws::one_packed_output();
+    laws::one_located_stream();
+    laws::one_shown_output();
     laws::refused_table();
     laws::pack_front();
     laws::unpack_front();
+    laws::show_front();
 }

@@ -1,7 +1,7 @@
 //! Streams of blobs between devices that fail.
 use super::{cut_reader, cut_writer, stopped, unpack_answers};
-use crate::Cause;
 use std::alloc::Global;
+use twkb_convert::Cause;
 use twkb_geom::Limits;
 use twkb_io::{FuseEnd, Tap};
 

@@ -1,9 +1,9 @@
 //! Tables read to their end, and told as the rows of their geometries; none where no memory is found.
-use crate::{TableFault, TableReader, put_rows};
 use std::alloc::Global;
 use std::io::Read;
 use twkb_geom::{Geometry, Limits};
 use twkb_io::Tap;
+use twkb_table::{TableFault, TableReader, put_rows};
 
 /// The line that every table begins with.
 pub const HEADER: &[u8] = b"depth,kind,id,precision,polyline\n";

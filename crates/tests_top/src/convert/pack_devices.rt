@@ -1,7 +1,7 @@
 //! Tables of points between devices that fail.
 use super::{cut_reader, cut_writer, pack_answers, report, stopped};
-use crate::{Cause, ConvertFault, Report, pack};
 use std::alloc::Global;
+use twkb_convert::{Cause, ConvertFault, Report, pack};
 use twkb_geom::Limits;
 use twkb_io::{Fuse, FuseEnd, Tap};
 
@@ -44,6 +44,17 @@ fn a_writer_that_takes_no_more_took_what_is_told(rt: HostRuntime) {
         let is_told = write_fails(rt.alloc(), &TWO_BLOBS[..taken], FuseEnd::Zero);
         assert!(rt; is_told, "{taken} bytes");
     }
+}
+
+const MEMBERS: &[u8] =
+    b"depth,kind,id,precision,polyline\n0,collection,,0,\n1,point,7,0,AA\n1,linestring,-1,0,\n";
+
+#[test]
+fn a_writer_may_fail_within_a_blob(rt: HostRuntime) {
+    let writer = cut_writer(rt.alloc(), 7, FuseEnd::Fail, false);
+    let answer = stopped(0, 7, Cause::WriteDevice);
+    let front = b"\x07\x07\x0f\x02\x00\x02\x00";
+    assert!(rt; answers(rt.alloc(), MEMBERS, writer, answer, front));
 }
 
 #[test]

@@ -1,9 +1,9 @@
 //! Worked tables that are refused, each at its record for its reason.
 use super::fixtures::{read_rows, read_text};
-use crate::{RowReason, TableFault};
 use std::alloc::Global;
 use twkb_geom::Limits;
 use twkb_polyline::PolyReason;
+use twkb_table::{RowReason, TableFault};
 
 /// The fault of the record of this number.
 fn at(number: u64, reason: RowReason) -> Option<TableFault> {

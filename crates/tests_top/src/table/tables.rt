@@ -4,11 +4,11 @@ use super::geometries::{
     an_empty_line, around, dot, empty_collection, geometry, line, nested, point_and_line, points,
     two_lines, two_points, two_polygons, two_rings,
 };
-use crate::{TableReader, put_rows, rows_text};
 use std::alloc::Global;
 use std::io::Read;
 use twkb_geom::{Areas, Geometry, Limits, Lines, Shape};
 use twkb_io::Tap;
+use twkb_table::{TableReader, put_rows, rows_text};
 
 /// Whether the rows of a geometry are printed so, in a text of their own and behind a lent one.
 fn is_printed(alloc: Global, geometry: &Geometry, rows: &[u8]) -> Option<bool> {

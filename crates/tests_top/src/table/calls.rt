@@ -1,11 +1,11 @@
 //! Calls of a reader in turn, and devices that fail.
 use super::fixtures::{Outcome, has_rows, holds, read_all};
-use crate::{RowReason, TableFault, TableReader};
 use std::alloc::Global;
 use std::io::Read;
 use twkb_flat::{Flat, Row};
 use twkb_geom::{Kind, Limits};
 use twkb_io::{Fuse, FuseEnd, Tap};
+use twkb_table::{RowReason, TableFault, TableReader};
 
 const TWO_POINTS: &[u8] = b"depth,kind,id,precision,polyline\n0,point,,0,AC\n0,point,,0,AA\n";
 

@@ -1,5 +1,5 @@
 //! Each law can be called.
-use crate::laws;
+use twkb_table::laws;
 
 #[test]
 fn laws_are_called() {
