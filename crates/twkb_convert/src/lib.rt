@@ -25,6 +25,3 @@ pub use twkb_blob::BlobReason;
 pub use twkb_flat::Work;
 pub use twkb_writer::Style;
 pub use unpacking::unpack;
-
-#[cfg(test)]
-mod tests;

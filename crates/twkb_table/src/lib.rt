@@ -31,6 +31,3 @@ pub use reason::RowReason;
 pub use record_source::{RecordSource, SourceFault};
 pub use table_fault::TableFault;
 pub use table_reader::TableReader;
-
-#[cfg(test)]
-mod tests;
