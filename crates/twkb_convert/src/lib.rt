@@ -6,7 +6,6 @@ mod blob_text;
 mod blob_writing;
 mod draining;
 mod halt;
-mod handed;
 pub mod laws;
 mod listing;
 mod packing;
@@ -23,6 +22,10 @@ pub use report::{Cause, ConvertFault, Report};
 pub use showing::show;
 pub use twkb_blob::BlobReason;
 pub use twkb_flat::Work;
+pub use twkb_geom::Limits;
+pub use twkb_io::Tap;
+pub use twkb_polyline::PolyReason;
+pub use twkb_table::RowReason;
 pub use twkb_writer::Style;
 pub use unpacking::unpack;
 
