@@ -1,5 +1,5 @@
 -- The work of geometries, one after another.
-use Rattle.std.proofs.Common.{◌≡◌, ◌∙◌, ℕ, ◌+◌, ◌*◌, ◌≤◌, ◌<◌, ◌^◌, List, [], ◌∷◌, ◌++◌, length, refl, sym, ap, arith, length-append, None}
+use Rattle.std.proofs.Common.{◌≡◌, ◌∙◌, ℕ, ◌+◌, ◌*◌, ◌≤◌, ◌<◌, ◌^◌, List, [], ◌∷◌, ◌++◌, length, sym, ap, arith}
 use Rattle.twkb_geom.specs.Tree.{Tree, flat, nodes, saturated}
 use Rattle.twkb_geom.specs.Rows.{Row, rows, row_points}
 use Rattle.twkb_flat.specs.declared.work.Work.{Work}

@@ -1,7 +1,7 @@
 -- What a stream was written as, and where that stopped: of any sort of item for a blob, with its text.
-use Rattle.std.specs.Prelude.{◌≡◌, ◌≢◌, ℕ, ◌^◌, ◌<◌, ◌⊎◌, List, [], ◌++◌, length, Option, IfSome, Bool, true, false, ⊤}
+use Rattle.std.specs.Prelude.{◌≡◌, ℕ, ◌^◌, ◌<◌, ◌⊎◌, List, [], ◌++◌, length, Option, IfSome, ⊤}
 use Rattle.std.specs.Io.KnownBytes.{Appends, IsAtEnd}
-use Rattle.twkb_io.specs.Taps.{count_failure, device_of, failures_of}
+use Rattle.twkb_io.specs.Taps.{device_of, failures_of}
 use Rattle.twkb_io.specs.Copies.{BeginsWith}
 use Rattle.twkb_io.specs.declared.tap.Tap.{Tap}
 use Rattle.twkb_io.specs.declared.input.InFault.TheVariants as input
