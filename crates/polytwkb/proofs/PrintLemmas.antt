@@ -3,8 +3,7 @@ use Rattle.std.proofs.Common.{◌≡◌, ◌∙◌, ◌++◌, ℕ, ◌+◌, ◌-
 use Rattle.std.specs.Prelude.{IfErr, OnOk}
 use Rattle.std.specs.Io.KnownBytes.{Appends}
 use Rattle.std.proofs.lemmas.List.{append-nil, length-append}
-use Rattle.twkb_io.specs.Sinks.{TookFront}
-use Rattle.twkb_io.specs.Outputs.{Refused, Took, is_device, is_spent, output_failures, output_tap, sent_of}
+use Rattle.twkb_io.specs.Outputs.{Cut, Refused, Took, is_device, is_spent, output_failures, output_tap, sent_of}
 use Rattle.twkb_io.specs.OutputLaws.{took_join}
 use Rattle.twkb_io.specs.Taps.{count_failure, device_of}
 use Rattle.twkb_io.specs.declared.output.Output.{Output}
@@ -30,17 +29,17 @@ fails contents old new front e device refused = record {
 -- what one put does
 pub put_prints : {W : Type 0} (contents : W → Option (List ℕ)) (old new : Output W) (bytes : List ℕ) (result : Result (Unit {0}) OutFault)
     → OnOk result (Took contents old bytes new)
-    → IfErr result (λ e. TookFront (Refused contents) old bytes e new)
+    → IfErr result (λ e. Cut contents old bytes e new)
     → (result ≡ Err fault.Spent → is_spent old ≡ true)
     → (result ≡ Err fault.TooLong → 2 ^ 62 < sent_of old + length bytes)
     → (is_spent old ≡ true → new ≡ old)
     → Prints contents old bytes new
 put_prints contents old new bytes (Ok done) took refused spent long unchanged = record { puts = λ fresh room. inl took; stays = unchanged }
-put_prints contents old new bytes (Err e) took (front, rest, cut, refused) spent long unchanged = record {
-  puts = λ fresh room. inr (fails contents old new front e
+put_prints contents old new bytes (Err e) took cut spent long unchanged = record {
+  puts = λ fresh room. inr (fails contents old new cut.front e
       (device_fault e (λ is_e. let bad : true ≡ false = sym (spent (ap Err is_e)) ∙ fresh in cc bad)
       (λ is_e. let over = long (ap Err is_e) in omega (arith, over, room)))
-      refused);
+      cut.refused);
   stays = unchanged;
 }
 

@@ -7,7 +7,7 @@ use Rattle.std.specs.Io.KnownBytes.{Consumes}
 use Rattle.std.specs.declared.io.traits.Read.{Ghosts}
 use Rattle.twkb_io.specs.Copies.{BeginsWith}
 use Rattle.twkb_io.specs.Taps.{count_failure}
-use Rattle.twkb_io.specs.Outputs.{Sent, Took, is_spent, output_failures, sent_of}
+use Rattle.twkb_io.specs.Outputs.{Cut, Sent, Took, is_spent, output_failures, sent_of}
 use Rattle.twkb_io.specs.OutputLaws.{refused_join, took_join, took_nothing}
 use Rattle.twkb_io.specs.declared.output.Output.{Output}
 use Rattle.twkb_io.specs.declared.output.OutFault.{OutFault}
@@ -21,11 +21,11 @@ use Rattle.twkb_blob.specs.declared.spans.Located.{Located}
 use Rattle.twkb_convert.specs.LocatedBlobs.{LocatedStream, TellsSpans}
 use Rattle.twkb_convert.specs.Listings.{blob_text, blobs_text}
 use Rattle.twkb_convert.specs.declared.listing.Listing.{Listing}
-use Rattle.twkb_convert.specs.BlobSending.{CutBlob, CutBlobs, EndsBlobs, Explains, ExplainsStream, Follows, SentAll, SentBlob, SentBlobs, StopsBlob, StopsRead, UnlessOutput, is_write}
+use Rattle.twkb_convert.specs.BlobSending.{CutBlob, CutBlobs, EndsBlobs, ExplainsObstacle, ExplainsStream, Follows, GivesText, SentAllBlobs, SentBlob, SentBlobs, StopsBlob, StopsRead, UnlessOutput, is_write}
 use Rattle.twkb_convert.specs.declared.halt.Obstacle.{Obstacle}
 use Rattle.twkb_convert.specs.declared.halt.Obstacle.TheVariants as obstacle
 use Rattle.twkb_convert.proofs.LocatedLemmas.{located-append, located-one}
-use Rattle.twkb_convert.proofs.ListingTexts.{blob_text_some, blobs_text-append, blobs_text-one}
+use Rattle.twkb_convert.proofs.ListingTexts.{blobs_text-append, blobs_text-one}
 
 -- ---- bytes
 
@@ -118,7 +118,7 @@ module _ {R W : Type 0} {read : Ghosts R} (what : Listing) (contents : W → Opt
       }
 
   pub sent_all : (remaining : R → Option (List ℕ)) (from mid to : Reader R read) (old out : Output W) (done : ℕ) → SentBlobs what contents from old mid out done
-      → EndsBlobs remaining mid to → SentAll what contents from old out done
+      → EndsBlobs remaining mid to → SentAllBlobs what contents from old out done
   sent_all remaining from mid to old out done sent ends = record {
     found = sent.found;
     bytes = sent.bytes;
@@ -131,7 +131,7 @@ module _ {R W : Type 0} {read : Ghosts R} (what : Listing) (contents : W → Opt
   -- no text was sent behind those of whole blobs
   cut_none : (from mid to : Reader R read) (old out new : Output W) (done : ℕ) (why : Obstacle) (sent : SentBlobs what contents from old mid out done) → new ≡ out → is_spent out ≡ false
       → is_write why ≡ false → ((fact : Type 0) → fact → UnlessOutput why fact)
-      → Explains (limits_of from) (rest_of from) (told_of to) (given from) sent.bytes why (sent_of old) (blobs_text what (sent.found ++ [])) [] []
+      → ExplainsObstacle (limits_of from) (rest_of from) (told_of to) (given from) sent.bytes why (sent_of old) (blobs_text what (sent.found ++ [])) [] []
       → CutBlobs what contents from old to new (record { done = done; obstacle = why })
   cut_none from mid to old out new done why sent same fresh no_write unless explains = record {
     whole = sent.found;
@@ -150,14 +150,16 @@ module _ {R W : Type 0} {read : Ghosts R} (what : Listing) (contents : W → Opt
     unspent = unless (is_spent new ≡ false) (ap is_spent same ∙ fresh);
   }
 
+  -- a text that was cut is that of the blob that was used
+  pub cut_blob : (from to : Reader R read) (old new : Output W) (text : List ℕ) (why : OutFault) → GivesText what from to text → Cut contents old text why new → CutBlob what contents from old to why new
+  cut_blob from to old new text why given cut = record { found = given.found; gives = given.gives; cut = subst (λ (t : List ℕ). Cut contents old t why new) given.own cut }
+
   -- a front of the text of one more blob was sent
   cut_one : (from mid to : Reader R read) (old out new : Output W) (done : ℕ) (why : OutFault) (sent : SentBlobs what contents from old mid out done) → limits_of mid ≡ limits_of from
-      → CutBlob what contents mid out to why new → CutBlobs what contents from old to new (record { done = done; obstacle = obstacle.Output why })
-  cut_one from mid to old out new done why sent same one =
+      → is_spent out ≡ false → CutBlob what contents mid out to why new → CutBlobs what contents from old to new (record { done = done; obstacle = obstacle.Output why })
+  cut_one from mid to old out new done why sent same fresh one =
       let all = used_join (rest_of from) (rest_of mid) (rest_of to) (given from) (given mid) (given to) sent.bytes one.gives.front sent.used one.gives.used in
-      let refused = refused_join contents old out new (blobs_text what sent.found) one.front why sent.took one.refused in
-      let not_all : one.left ≡ [] → ⊥ = λ none. (let less = one.short (blob_text_some what (limits_of mid) (given mid) one.gives.front one.found one.gives.tells) in
-      omega (arith, less, one.refused.sends.sent, ap length none, ap length one.cut, length-append one.front one.left)) in
+      let refused = refused_join contents old out new (blobs_text what sent.found) one.cut.front why sent.took one.cut.refused in
       let single : blobs_text what (one.found ∷ []) ≡ blob_text what one.found = blobs_text-one what one.found in
       let text : blobs_text what (sent.found ++ one.found ∷ []) ≡ blobs_text what sent.found ++ blobs_text what (one.found ∷ []) = blobs_text-append what sent.found (one.found ∷ []) in
       record {
@@ -166,16 +168,16 @@ module _ {R W : Type 0} {read : Ghosts R} (what : Listing) (contents : W → Opt
         bytes = sent.bytes ++ one.gives.front;
         blobs = one_more (limits_of from) (limits_of mid) (given from) (given mid) sent.bytes one.gives.front sent.found one.found sent.blobs same sent.used.counted one.gives.tells;
         begins = consumes_begins (rest_of from) (rest_of to) (sent.bytes ++ one.gives.front) all.consumed;
-        front = one.front;
-        left = one.left;
-        cut = single ∙ one.cut;
-        one = inr (one.found, refl, not_all);
+        front = one.cut.front;
+        left = one.cut.rest;
+        cut = single ∙ one.cut.whole;
+        one = inr (one.found, refl, one.cut.left fresh);
         sends = refused.sends;
         count = sent.count;
         explains = (
-          λ long. let far = one.too_long long in
+          λ long. let far = one.cut.too_long long in
               omega (arith, far, sent.took.sends.sent, ap length text, ap length single, length-append (blobs_text what sent.found) (blobs_text what (one.found ∷ []))),
-          one.unspent,
+          one.cut.unspent fresh,
         );
         failures = refused.failures;
         unspent = tt;
@@ -189,4 +191,4 @@ module _ {R W : Type 0} {read : Ghosts R} (what : Listing) (contents : W → Opt
       (refl, refl, explained (limits_of from) (rest_of from) (rest_of mid) (told_of to) (given from) (given mid) sent.bytes why sent.used misses)
   cut_blobs from mid to old out new done obstacle.Memory sent same fresh stops =
       cut_none from mid to old out new done obstacle.Memory sent stops fresh refl (λ fact held. held) (refl, refl)
-  cut_blobs from mid to old out new done (obstacle.Output why) sent same fresh stops = cut_one from mid to old out new done why sent same stops
+  cut_blobs from mid to old out new done (obstacle.Output why) sent same fresh stops = cut_one from mid to old out new done why sent same fresh stops

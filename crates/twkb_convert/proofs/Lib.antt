@@ -1,5 +1,4 @@
 pub mod WorkLemmas
-pub mod BlobSent
 pub mod SendingLemmas
 pub mod RoundTrips
 pub mod RowTexts

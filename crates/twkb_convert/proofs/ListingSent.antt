@@ -1,11 +1,11 @@
 -- The texts of a stream's blobs, sent behind what stands before the first.
-use Rattle.std.proofs.Common.{◌≡◌, ◌∙◌, ◌+◌, ◌<◌, ◌^◌, ℕ, List, [], ◌++◌, Option, Some, None, Result, Ok, Err, length, ap, arith, refl, sym, subst, inl, inr, length-append, append_assoc}
+use Rattle.std.proofs.Common.{◌≡◌, ◌∙◌, ◌+◌, ℕ, List, [], ◌++◌, Option, Some, None, Result, Ok, Err, length, ap, arith, refl, sym, subst, inl, inr, length-append, append_assoc, false}
 use Rattle.std.specs.Prelude.{IfOk, IfErr, IfSome}
 use Rattle.std.proofs.lemmas.List.{append-nil}
 use Rattle.std.specs.declared.io.traits.Read.{Ghosts}
 use Rattle.twkb_io.specs.Copies.{BeginsWith}
 use Rattle.twkb_io.specs.Taps.{count_failure}
-use Rattle.twkb_io.specs.Outputs.{Refused, Took, sent_of}
+use Rattle.twkb_io.specs.Outputs.{Cut, Refused, Took, is_spent, sent_of}
 use Rattle.twkb_io.specs.OutputLaws.{refused_join, sent_join, took_join}
 use Rattle.twkb_io.specs.declared.output.Output.{Output}
 use Rattle.twkb_io.specs.declared.output.OutFault.{OutFault}
@@ -17,7 +17,7 @@ use Rattle.twkb_blob.specs.declared.spans.Located.{Located}
 use Rattle.twkb_convert.specs.LocatedBlobs.{LocatedStream}
 use Rattle.twkb_convert.specs.Listings.{blobs_text, first_line, listing_text}
 use Rattle.twkb_convert.specs.declared.listing.Listing.{Listing}
-use Rattle.twkb_convert.specs.BlobSending.{CutBlobs, CutListing, Explains, SentAll, SentListing, is_write}
+use Rattle.twkb_convert.specs.BlobSending.{CutBlobs, CutListing, ExplainsObstacle, SentAllBlobs, SentListing, is_write}
 use Rattle.twkb_convert.specs.declared.halt.Obstacle.{Obstacle}
 use Rattle.twkb_convert.specs.declared.halt.Obstacle.TheVariants as obstacle
 use Rattle.twkb_convert.specs.declared.halt.Halt.{Halt}
@@ -33,8 +33,8 @@ all_begins (Some whole) bytes all = ([], all ∙ sym (append-nil bytes))
 
 -- what was to be sent in all grows by what stands before the first blob
 explains_more : (what : Listing) (l : Allowance) (known told : Option (List ℕ)) (before : ℕ) (bytes : List ℕ) (why : Obstacle) (old mid : ℕ) (whole later : List Located) (left : List ℕ)
-    → mid ≡ old + length (first_line what) → Explains l known told before bytes why mid (blobs_text what whole) later left
-    → Explains l known told before bytes why old (listing_text what whole) later left
+    → mid ≡ old + length (first_line what) → ExplainsObstacle l known told before bytes why mid (blobs_text what whole) later left
+    → ExplainsObstacle l known told before bytes why old (listing_text what whole) later left
 explains_more what l known told before bytes (obstacle.Stream why) old mid whole later left sent explains = explains
 explains_more what l known told before bytes obstacle.Memory old mid whole later left sent explains = explains
 explains_more what l known told before bytes (obstacle.Output why) old mid whole later left sent explains = (
@@ -44,28 +44,27 @@ explains_more what l known told before bytes (obstacle.Output why) old mid whole
 
 module _ {R W : Type 0} {read : Ghosts R} (what : Listing) (contents : W → Option (List ℕ)) where
   -- not all of what stands before the first blob was sent
-  pub cut_first : (from : Reader R read) (old new : Output W) (why : OutFault) (front left : List ℕ) → first_line what ≡ front ++ left → Refused contents old front why new
-      → (why ≡ out.TooLong → 2 ^ 62 < sent_of old + length (first_line what)) → (why ≡ out.Spent → ⊥)
+  pub cut_first : (from : Reader R read) (old new : Output W) (text : List ℕ) (why : OutFault) → text ≡ first_line what → is_spent old ≡ false → Cut contents old text why new
       → CutListing what contents from old from new (record { done = 0; obstacle = obstacle.Output why })
-  cut_first from old new why front left cut refused long unspent = record {
+  cut_first from old new text why own fresh cut = record {
     whole = [];
     later = [];
     bytes = [];
     blobs = refl;
     begins = any_begins (rest_of from);
-    text = front;
-    left = left;
-    cut = append-nil (first_line what) ∙ cut;
+    text = cut.front;
+    left = cut.rest;
+    cut = append-nil (first_line what) ∙ (sym own ∙ cut.whole);
     one = inl refl;
     holds = inl refl;
-    sends = refused.sends;
+    sends = cut.refused.sends;
     count = refl;
-    explains = (λ e. omega (arith, long e, ap length (append-nil (first_line what))), unspent);
-    failures = refused.failures;
+    explains = (λ e. (let far = cut.too_long e in omega (arith, far, ap length own, ap length (append-nil (first_line what)))), cut.unspent fresh);
+    failures = cut.refused.failures;
     unspent = tt;
   }
 
-  sent_listing : (from : Reader R read) (old mid new : Output W) (done : ℕ) → Took contents old (first_line what) mid → SentAll what contents from mid new done → SentListing what contents from old new done
+  sent_listing : (from : Reader R read) (old mid new : Output W) (done : ℕ) → Took contents old (first_line what) mid → SentAllBlobs what contents from mid new done → SentListing what contents from old new done
   sent_listing from old mid new done took sent = record {
     found = sent.found;
     bytes = sent.bytes;
@@ -75,7 +74,7 @@ module _ {R W : Type 0} {read : Ghosts R} (what : Listing) (contents : W → Opt
     count = sent.count;
   }
 
-  pub listing_sent : (from : Reader R read) (old mid new : Output W) (r : Result ℕ Halt) → Took contents old (first_line what) mid → IfOk r (λ done. SentAll what contents from mid new done)
+  pub listing_sent : (from : Reader R read) (old mid new : Output W) (r : Result ℕ Halt) → Took contents old (first_line what) mid → IfOk r (λ done. SentAllBlobs what contents from mid new done)
       → IfOk r (λ done. SentListing what contents from old new done)
   listing_sent from old mid new (Ok done) took sent = sent_listing from old mid new done took sent
   listing_sent from old mid new (Err halt) took sent = tt

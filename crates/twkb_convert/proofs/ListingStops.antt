@@ -23,8 +23,9 @@ use Rattle.twkb_blob.specs.declared.fault.BlobFault.TheVariants as blob
 use Rattle.twkb_blob.specs.declared.spans.Located.{Located}
 use Rattle.twkb_convert.specs.LocatedBlobs.{LocatedStream, geometries_of}
 use Rattle.twkb_convert.specs.Listings.{listing_text}
-use Rattle.twkb_convert.specs.BlobSending.{CutListing, Explains, StopsRead, is_read, is_write}
-use Rattle.twkb_convert.specs.Listed.{ExplainsCause, IsDeviceCause, StoppedListing, cause_for}
+use Rattle.twkb_convert.specs.BlobSending.{CutListing, ExplainsObstacle, StopsRead, is_read, is_write}
+use Rattle.twkb_convert.specs.Devices.{IsDeviceCause}
+use Rattle.twkb_convert.specs.Listed.{ExplainsListingCause, StoppedListing, cause_of_obstacle}
 use Rattle.twkb_convert.specs.declared.listing.Listing.{Listing}
 use Rattle.twkb_convert.specs.declared.halt.Obstacle.{Obstacle}
 use Rattle.twkb_convert.specs.declared.halt.Obstacle.TheVariants as obstacle
@@ -49,7 +50,7 @@ was_read true told = refl
 was_read false (inl e) = cc e
 was_read false (inr e) = cc e
 
-tell : (why : Obstacle) (failed : Bool) → (failed ≡ is_read why) ⊎ (is_write why ≡ true) → IsDeviceCause failed (is_write why) (cause_for why)
+tell : (why : Obstacle) (failed : Bool) → (failed ≡ is_read why) ⊎ (is_write why ≡ true) → IsDeviceCause failed (is_write why) (cause_of_obstacle why)
 tell (obstacle.Stream blob.Memory) failed told = neither failed causes.Memory told (λ e. cc e) (λ e. cc e)
 tell (obstacle.Stream (blob.Device input.Read)) failed told = was_read failed told
 tell (obstacle.Stream (blob.Device input.TooLong)) failed told = neither failed causes.TooLong told (λ e. cc e) (λ e. cc e)
@@ -88,8 +89,8 @@ none_later l offset bytes whole later blobs none =
 
 caused : (what : Listing) (l : Allowance) (old told : Option (List ℕ)) (before : ℕ) (bytes : List ℕ) (why : Obstacle) (sent : ℕ) (whole later : List Located) (left : List ℕ)
     → before ≡ 0 → sent ≡ 0 → LocatedStream l before bytes (whole ++ later)
-    → Explains l old told before bytes why sent (listing_text what (whole ++ later)) later left
-    → ExplainsCause geometries_of (listing_text what) l old told bytes (cause_for why) whole later left
+    → ExplainsObstacle l old told before bytes why sent (listing_text what (whole ++ later)) later left
+    → ExplainsListingCause geometries_of (listing_text what) l old told bytes (cause_of_obstacle why) whole later left
 caused what l old told before bytes (obstacle.Stream blob.Memory) sent whole later left start none blobs e = (e.0, e.1)
 caused what l old told before bytes (obstacle.Stream blob.Spent) sent whole later left start none blobs e = absurd e.2
 caused what l old told before bytes (obstacle.Stream (blob.Device input.Read)) sent whole later left start none blobs e = e
@@ -108,7 +109,7 @@ caused what l old told before bytes (obstacle.Output out.Spent) sent whole later
 module _ {R W : Type 0} {read : Ghosts R} (what : Listing) (remaining : R → Option (List ℕ)) (contents : W → Option (List ℕ)) where
   pub stopped : (l : Allowance) (reader after : Tap R) (writer written : Tap W) (from to : Reader R read) (old new : Output W) (halt : Halt) (sent : ℕ) (why : Cause)
       → limits_of from ≡ l → rest_of from ≡ remaining (device_of reader) → given from ≡ 0 → reader_failures from ≡ failures_of reader
-      → (output_tap old).now ≡ writer → sent_of old ≡ 0 → sent ≡ sent_of new → why ≡ cause_for halt.obstacle
+      → (output_tap old).now ≡ writer → sent_of old ≡ 0 → sent ≡ sent_of new → why ≡ cause_of_obstacle halt.obstacle
       → (reader_tap to).now ≡ after → (output_tap new).now ≡ written → told_of to ≡ remaining (device_of after)
       → CutListing what contents from old to new halt → StopsRead from halt.obstacle to
       → StoppedListing (LocatedStream l 0) geometries_of (listing_text what) l remaining contents reader writer (record { done = halt.done; sent = sent; cause = why }) after written
@@ -116,10 +117,10 @@ module _ {R W : Type 0} {read : Ghosts R} (what : Listing) (remaining : R → Op
       let total : sent ≡ length cut.text = omega (arith, count, cut.sends.sent, none) in
       let all = listing_text what (cut.whole ++ cut.later) in
       let within : LocatedStream l (given from) cut.bytes (cut.whole ++ cut.later) = subst (λ a. LocatedStream a (given from) cut.bytes (cut.whole ++ cut.later)) limits cut.blobs in
-      let known : Explains l (remaining (device_of reader)) (remaining (device_of after)) (given from) cut.bytes halt.obstacle (sent_of old) all cut.later cut.left =
-      subst (λ a. Explains a (remaining (device_of reader)) (remaining (device_of after)) (given from) cut.bytes halt.obstacle (sent_of old) all cut.later cut.left) limits
-      (subst (λ k. Explains (limits_of from) k (remaining (device_of after)) (given from) cut.bytes halt.obstacle (sent_of old) all cut.later cut.left) told
-      (subst (λ k. Explains (limits_of from) (rest_of from) k (given from) cut.bytes halt.obstacle (sent_of old) all cut.later cut.left) later_told cut.explains)) in
+      let known : ExplainsObstacle l (remaining (device_of reader)) (remaining (device_of after)) (given from) cut.bytes halt.obstacle (sent_of old) all cut.later cut.left =
+      subst (λ a. ExplainsObstacle a (remaining (device_of reader)) (remaining (device_of after)) (given from) cut.bytes halt.obstacle (sent_of old) all cut.later cut.left) limits
+      (subst (λ k. ExplainsObstacle (limits_of from) k (remaining (device_of after)) (given from) cut.bytes halt.obstacle (sent_of old) all cut.later cut.left) told
+      (subst (λ k. ExplainsObstacle (limits_of from) (rest_of from) k (given from) cut.bytes halt.obstacle (sent_of old) all cut.later cut.left) later_told cut.explains)) in
       record {
         whole = cut.whole;
         later = cut.later;
@@ -135,7 +136,7 @@ module _ {R W : Type 0} {read : Ghosts R} (what : Listing) (remaining : R → Op
             (subst (λ t. Appends (contents (device_of (output_tap old).now)) (contents (device_of t)) cut.text) closes cut.sends.appends);
         done = cut.count;
         sent = total;
-        explains = subst (λ c. ExplainsCause geometries_of (listing_text what) l (remaining (device_of reader)) (remaining (device_of after)) cut.bytes c cut.whole cut.later cut.left) (sym is_cause)
+        explains = subst (λ c. ExplainsListingCause geometries_of (listing_text what) l (remaining (device_of reader)) (remaining (device_of after)) cut.bytes c cut.whole cut.later cut.left) (sym is_cause)
             (caused what l (remaining (device_of reader)) (remaining (device_of after)) (given from) cut.bytes halt.obstacle (sent_of old) cut.whole cut.later cut.left start none within known);
         devices = record {
           read_failed = stops.has_failed;

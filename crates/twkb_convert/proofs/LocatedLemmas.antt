@@ -5,13 +5,9 @@ use Rattle.twkb_geom.specs.Tree.{Tree, simple, collection}
 use Rattle.twkb_geom.specs.Limits.{Allowance}
 use Rattle.twkb_grammar.specs.Blob.{Blob, Stream}
 use Rattle.twkb_grammar.specs.Spans.{spans_of_blob}
-use Rattle.twkb_grammar.proofs.Streams.{blob_some}
+use Rattle.twkb_grammar.proofs.Streams.{blob_long}
 use Rattle.twkb_blob.specs.declared.spans.Located.{Located}
 use Rattle.twkb_convert.specs.LocatedBlobs.{LocatedStream, TellsSpans, geometries_of}
-
-pub blob_long : (l : Allowance) (bytes : List ℕ) (g : Tree) → Blob l bytes g → 1 ≤ length bytes
-blob_long l [] g b = absurd (blob_some l g [] b refl)
-blob_long l (x ∷ bytes) g b = omega arith
 
 -- a stream has a byte at least for each blob
 pub located_long : (l : Allowance) (offset : ℕ) (bytes : List ℕ) (bs : List Located) → LocatedStream l offset bytes bs → length bs ≤ length bytes

@@ -1,52 +1,130 @@
 -- From an output to what a caller of a conversion sees.
-use Rattle.std.proofs.Common.{◌≡◌, ◌<◌, ◌^◌, ℕ, List, [], Option, arith, refl, inl}
-use Rattle.twkb_io.specs.Outputs.{sent_of, written}
+use Rattle.std.proofs.Common.{◌≡◌, ◌∙◌, ◌<◌, ◌^◌, ℕ, List, [], ◌++◌, Bool, true, false, Option, ap, arith, refl, subst, sym, inl, inr}
+use Rattle.std.specs.Io.KnownBytes.{Appends, IsAtEnd}
+use Rattle.twkb_io.specs.Taps.{count_failure, device_of, failures_of}
+use Rattle.twkb_io.specs.Outputs.{output_tap, sent_of}
+use Rattle.twkb_io.specs.declared.tap.Tap.{Tap}
 use Rattle.twkb_io.specs.declared.output.Output.{Output}
+use Rattle.twkb_io.specs.declared.output.OutFault.TheVariants as out
+use Rattle.twkb_geom.specs.Tree.{Tree}
 use Rattle.twkb_geom.specs.Limits.{Allowance}
 use Rattle.twkb_grammar.specs.Written.{canonical_stream}
 use Rattle.twkb_grammar.specs.declared.style.Style.{Style}
-use Rattle.twkb_convert.specs.Packed.{PackedWith, StoppedIn}
-use Rattle.twkb_convert.specs.Sending.{SentAll}
+use Rattle.twkb_table.specs.declared.table_fault.TableFault.TheVariants as fault
+use Rattle.twkb_convert.specs.Devices.{Changes, IsDeviceCause}
+use Rattle.twkb_convert.specs.Packed.{ExplainsPackingCause, PackedWith, StoppedPacking}
+use Rattle.twkb_convert.specs.Sending.{ExplainsWhy, SentTable, Stopped, is_write}
+use Rattle.twkb_convert.specs.declared.sending.Stop.{Stop}
+use Rattle.twkb_convert.specs.declared.sending.Why.{Why}
+use Rattle.twkb_convert.specs.declared.sending.Why.TheVariants as why
 use Rattle.twkb_convert.specs.declared.sending.Tally.{Tally}
+use Rattle.twkb_convert.specs.declared.report.Cause.{Cause}
 use Rattle.twkb_convert.specs.declared.report.Cause.TheVariants as cause
 use Rattle.twkb_convert.proofs.SendingLemmas.{all_ready, sent_whole}
 use Rattle.twkb_convert.proofs.WorkLemmas.{read_thrice, read_twice}
 
--- the whole table was sent, and a read failed
-pub read_failed_in : {W : Type 0} (style : Style) (l : Allowance) (contents : W → Option (List ℕ)) (told before after : Option (List ℕ)) (old new : Output W) (tally : Tally)
-    → written contents old ≡ before → written contents new ≡ after → sent_of old ≡ 0 → SentAll style l contents told old new tally
-    → StoppedIn style l told before after (record { done = tally.geometries; sent = sent_of new; cause = cause.ReadDevice })
-read_failed_in style l contents told before after old new tally start end none all =
-    let sends = sent_whole contents old new (canonical_stream style all.geometries) all.took.sends in
-    record {
-      whole = all.geometries;
-      later = [];
-      front = [];
-      rest = [];
-      ready = all_ready style l contents told old new tally all;
-      cut = refl;
-      one = inl refl;
-      appends = rw (start, end) at sends.appends;
-      sent = (let sent = sends.sent in omega (arith, sent, none));
-      done = all.count;
-      explains = tt;
-    }
+-- a stop that is no failed write, where a read failed
+pub read_explained : (style : Style) (l : Allowance) (told : Option (List ℕ)) (stop : Why) (sent : ℕ) (whole later : List Tree) (front : List ℕ) → is_write stop ≡ false → sent ≡ 0
+    → ExplainsWhy style l told stop sent whole later front → ExplainsPackingCause style l told cause.ReadDevice whole later front
+read_explained style l told (why.Table (fault.At number reason)) sent whole later front quiet none e = inl (e.0, e.1)
+read_explained style l told (why.Table fault.TooManyRecords) sent whole later front quiet none e = inl (e.0, e.1)
+read_explained style l told (why.Table fault.Source) sent whole later front quiet none e = inl e
+read_explained style l told (why.Table fault.Memory) sent whole later front quiet none e = inl e
+read_explained style l told (why.Table fault.Spent) sent whole later front quiet none e = absurd e
+read_explained style l told why.Memory sent whole later front quiet none e = inl e
+read_explained style l told why.Undrained sent whole later front quiet none e = inl (e.0, e.1)
+read_explained style l told (why.Output out.Write) sent whole later front quiet none e = absurd (cc quiet)
+read_explained style l told (why.Output out.Stuck) sent whole later front quiet none e = absurd (cc quiet)
+read_explained style l told (why.Output out.TooLong) sent whole later front quiet none e = inr (let far = e.0 refl in omega (arith, far, none))
+read_explained style l told (why.Output out.Spent) sent whole later front quiet none e = absurd (e.1 refl)
 
--- the whole table was sent, and no read failed
-pub packed_with : {W : Type 0} (style : Style) (l : Allowance) (contents : W → Option (List ℕ)) (told before after : Option (List ℕ)) (old new : Output W) (tally : Tally) (sent : ℕ)
-    → written contents old ≡ before → written contents new ≡ after → sent_of old ≡ 0 → sent ≡ sent_of new → tally.work.point_reads < 2 ^ 64 → tally.work.node_reads < 2 ^ 64
-    → SentAll style l contents told old new tally → PackedWith style l told before after (record { geometries = tally.geometries; bytes = sent }) tally.work
-packed_with style l contents told before after old new tally sent start end none sent_is few_points few_nodes all = record {
-  packed = record {
-    records = all.records;
-    geometries = all.geometries;
-    all = all.all;
-    named = all.named;
-    appends = rw (start, end) at all.took.sends.appends;
-    count = all.count;
-    bytes = (let more = all.took.sends.sent in omega (arith, sent_is, more, none));
-  };
-  work_of = all.work_of;
-  point_reads = read_twice tally.work.point_reads tally.work.points _ few_points all.work_of.all_points all.work_of.point_reads;
-  node_reads = read_thrice tally.work.node_reads tally.work.nodes _ few_nodes all.work_of.all_nodes all.work_of.node_reads;
-}
+-- what an output appended, the writer that was lent to it did
+appends_lent : {W : Type 0} (contents : W → Option (List ℕ)) (writer written : Tap W) (old new : Output W) (bytes : List ℕ) → (output_tap old).now ≡ writer → (output_tap new).now ≡ written
+    → Appends (contents (device_of (output_tap old).now)) (contents (device_of (output_tap new).now)) bytes → Appends (contents (device_of writer)) (contents (device_of written)) bytes
+appends_lent contents writer written old new bytes lent closes appends =
+    subst (λ t. Appends (contents (device_of t)) (contents (device_of written)) bytes) lent
+    (subst (λ t. Appends (contents (device_of (output_tap old).now)) (contents (device_of t)) bytes) closes appends)
+
+-- what two counts say of the tap that they are of
+changed : (failed : Bool) (before after old new : ℕ) → before ≡ old → after ≡ new → Changes failed before after → Changes failed old new
+changed failed before after old new first last changes = subst (λ n. Changes failed old n) last (subst (λ n. Changes failed n after) first changes)
+
+module _ {R W : Type 0} (style : Style) (l : Allowance) (remaining : R → Option (List ℕ)) (contents : W → Option (List ℕ)) (reader read : Tap R) (writer written : Tap W) (old new : Output W)
+    (failed : Bool) (before after sent : ℕ) (lent : (output_tap old).now ≡ writer) (closes : (output_tap new).now ≡ written) (none : sent_of old ≡ 0) (total : sent ≡ sent_of new)
+    (first : before ≡ failures_of reader) (last : after ≡ failures_of read) (changes : Changes failed before after) where
+  -- the whole table was sent, and no read failed
+  pub packed_with : (tally : Tally) → tally.work.point_reads < 2 ^ 64 → tally.work.node_reads < 2 ^ 64 → failed ≡ false → IsAtEnd (remaining (device_of read))
+      → SentTable style l contents (remaining (device_of reader)) old new tally
+      → PackedWith style l remaining contents reader writer (record { geometries = tally.geometries; bytes = sent }) tally.work read written
+  packed_with tally few_points few_nodes is end all = record {
+    packed = record {
+      records = all.records;
+      geometries = all.geometries;
+      all = all.all;
+      named = all.named;
+      appends = appends_lent contents writer written old new (canonical_stream style all.geometries) lent closes all.took.sends.appends;
+      count = all.count;
+      bytes = (let more = all.took.sends.sent in omega (arith, total, more, none));
+      end = end;
+      reads = subst (λ f. Changes f (failures_of reader) (failures_of read)) is (changed failed before after (failures_of reader) (failures_of read) first last changes);
+      writes = ap failures_of (sym closes) ∙ (all.took.failures ∙ ap failures_of lent);
+    };
+    work_of = all.work_of;
+    point_reads = read_twice tally.work.point_reads tally.work.points _ few_points all.work_of.all_points all.work_of.point_reads;
+    node_reads = read_thrice tally.work.node_reads tally.work.nodes _ few_nodes all.work_of.all_nodes all.work_of.node_reads;
+  }
+
+  -- not the whole table was sent, or the flush failed
+  pub stopped_packing : (stop : Stop) (answer : Cause) → IsDeviceCause failed (is_write stop.why) answer
+      → ((count : ℕ) (whole later : List Tree) (front : List ℕ) → count ≡ 0 → ExplainsWhy style l (remaining (device_of reader)) stop.why count whole later front
+      → ExplainsPackingCause style l (remaining (device_of reader)) answer whole later front)
+      → Stopped style l contents (remaining (device_of reader)) old new stop
+      → StoppedPacking style l remaining contents reader writer (record { done = stop.done; sent = sent; cause = answer }) read written
+  stopped_packing stop answer device explain s =
+      let bytes = canonical_stream style s.whole ++ s.front in
+      record {
+        whole = s.whole;
+        later = s.later;
+        front = s.front;
+        rest = s.rest;
+        ready = s.ready;
+        cut = s.cut;
+        one = s.one;
+        appends = appends_lent contents writer written old new bytes lent closes s.sends.appends;
+        sent = (let more = s.sends.sent in omega (arith, total, more, none));
+        done = s.count;
+        explains = explain (sent_of old) s.whole s.later s.front none s.explains;
+        devices = record {
+          read_failed = failed;
+          write_failed = is_write stop.why;
+          reads = changed failed before after (failures_of reader) (failures_of read) first last changes;
+          writes = ap failures_of (sym closes) ∙ (s.failures ∙ ap (λ (t : Tap W). count_failure (is_write stop.why) (failures_of t)) lent);
+          tell = device;
+        };
+      }
+
+  -- the whole table was sent, and a read failed
+  pub read_failed_in : (tally : Tally) → failed ≡ true → SentTable style l contents (remaining (device_of reader)) old new tally
+      → StoppedPacking style l remaining contents reader writer (record { done = tally.geometries; sent = sent; cause = cause.ReadDevice }) read written
+  read_failed_in tally is all =
+      let sends = sent_whole contents old new (canonical_stream style all.geometries) all.took.sends in
+      record {
+        whole = all.geometries;
+        later = [];
+        front = [];
+        rest = [];
+        ready = all_ready style l contents (remaining (device_of reader)) old new tally all;
+        cut = refl;
+        one = inl refl;
+        appends = appends_lent contents writer written old new (canonical_stream style all.geometries ++ []) lent closes sends.appends;
+        sent = (let more = sends.sent in omega (arith, total, more, none));
+        done = all.count;
+        explains = inl (refl, refl);
+        devices = record {
+          read_failed = true;
+          write_failed = false;
+          reads = subst (λ f. Changes f (failures_of reader) (failures_of read)) is (changed failed before after (failures_of reader) (failures_of read) first last changes);
+          writes = ap failures_of (sym closes) ∙ (all.took.failures ∙ ap failures_of lent);
+          tell = refl;
+        };
+      }

@@ -3,7 +3,7 @@ use Rattle.std.proofs.Common.{◌≡◌, ◌∙◌, ◌+◌, ◌<◌, ◌≤◌,
 use Rattle.std.specs.Prelude.{IfSome}
 use Rattle.std.proofs.lemmas.List.{append-nil}
 use Rattle.std.proofs.lemmas.Grind.{flat_map-append}
-use Rattle.twkb_io.specs.Outputs.{Refused, Sent, Took, sent_of}
+use Rattle.twkb_io.specs.Outputs.{Refused, Sent, Took, is_spent, sent_of}
 use Rattle.twkb_io.specs.OutputLaws.{refused_join, took_join}
 use Rattle.twkb_io.specs.declared.output.Output.{Output}
 use Rattle.twkb_io.specs.declared.output.OutFault.{OutFault}
@@ -25,7 +25,7 @@ use Rattle.twkb_table.specs.declared.table_fault.TableFault.TheVariants as fault
 use Rattle.twkb_table.specs.declared.table_reader.TableReader.{TableReader}
 use Rattle.twkb_table.proofs.TableReaderLemmas.{all_but_last-last, names_so_far, text_begins}
 use Rattle.twkb_convert.specs.RefusedRows.{MayBeWritten}
-use Rattle.twkb_convert.specs.Sending.{CutsOne, Explains, SendsNext, SendsOne, SentAll, SentSoFar, Stopped, UnlessOutput, is_write}
+use Rattle.twkb_convert.specs.Sending.{CutsOne, ExplainsWhy, SendsNext, SendsOne, SentTable, SentSoFar, Stopped, UnlessOutput, is_write}
 use Rattle.twkb_convert.specs.declared.sending.Why.{Why}
 use Rattle.twkb_convert.specs.declared.sending.Why.TheVariants as why
 use Rattle.twkb_convert.specs.declared.sending.Tally.{Tally}
@@ -83,7 +83,7 @@ sent_whole contents old new bytes sends = rw (append-nil bytes) sends
 -- ---- stops
 
 explains_fault : (style : Style) (l : Allowance) (told : Option (List ℕ)) (records : List Record) (given : List Tree) (f : TableFault) (sent : ℕ) → Table.Explains l told records given f
-    → Explains style l told (why.Table f) sent given [] []
+    → ExplainsWhy style l told (why.Table f) sent given [] []
 explains_fault style l told records given (fault.At number reason) sent e =
     (refl, refl, record { seen = e.seen; begins = e.begins; none = e.none; fault = e.complete })
 explains_fault style l told records given fault.TooManyRecords sent e = (refl, refl, (e.seen, e.begins, e.many))
@@ -94,7 +94,7 @@ explains_fault style l told records given fault.Spent sent e = e
 module _ {R W : Type 0} (style : Style) (l : Allowance) (remaining : R → Option (List ℕ)) (contents : W → Option (List ℕ)) (told : Option (List ℕ)) where
   -- where the output took all that it was handed
   stopped_between : (from : TableReader R) (old mid new : Output W) (done : ℕ) (work : Work) (stop : Why) (s : SentSoFar style l remaining contents told from old mid done work)
-      → new ≡ mid → is_write stop ≡ false → ((P : Type 0) → P → UnlessOutput stop P) → Explains style l told stop (sent_of old) s.geometries [] []
+      → new ≡ mid → is_write stop ≡ false → ((P : Type 0) → P → UnlessOutput stop P) → ExplainsWhy style l told stop (sent_of old) s.geometries [] []
       → Stopped style l contents told old new (record { done = done; why = stop })
   stopped_between from old mid new done work stop s same quiet kept explains =
       let took = subst (λ o. Took contents old (canonical_stream style s.geometries) o) (sym same) s.took in
@@ -116,35 +116,35 @@ module _ {R W : Type 0} (style : Style) (l : Allowance) (remaining : R → Optio
 
   -- where it refused a front of a blob
   stopped_inside : (from : TableReader R) (old mid new : Output W) (done : ℕ) (work : Work) (f : OutFault) (s : SentSoFar style l remaining contents told from old mid done work)
-      → CutsOne style l contents told s.geometries mid f new → Stopped style l contents told old new (record { done = done; why = why.Output f })
-  stopped_inside from old mid new done work f s one =
-      let all = refused_join contents old mid new (canonical_stream style s.geometries) one.sends.front f s.took one.sends.refused in
+      → is_spent mid ≡ false → CutsOne style l contents told s.geometries mid f new → Stopped style l contents told old new (record { done = done; why = why.Output f })
+  stopped_inside from old mid new done work f s fresh one =
+      let all = refused_join contents old mid new (canonical_stream style s.geometries) one.cut.front f s.took one.cut.refused in
       record {
         whole = s.geometries;
         later = one.geometry ∷ [];
-        front = one.sends.front;
-        rest = one.sends.rest;
+        front = one.cut.front;
+        rest = one.cut.rest;
         ready = one.ready;
-        cut = append-nil (canonical_blob style one.geometry) ∙ one.sends.cut;
-        one = inr (one.geometry, refl, one.sends.left);
+        cut = append-nil (canonical_blob style one.geometry) ∙ one.cut.whole;
+        one = inr (one.geometry, refl, one.cut.left fresh);
         sends = all.sends;
         count = s.count;
         explains = (
-          λ far. (let most = one.sends.too_long far in let before = s.took.sends.sent in
+          λ far. (let most = one.cut.too_long far in let before = s.took.sends.sent in
               omega (arith, most, before, ap length (stream_one style s.geometries one.geometry), length-append (canonical_stream style s.geometries) (canonical_blob style one.geometry))),
-          one.sends.unspent,
+          one.cut.unspent fresh,
         );
         failures = all.failures;
         unspent = tt;
       }
 
   pub stopped_next : (from to : TableReader R) (old mid new : Output W) (done : ℕ) (before after : Work) (stop : Why) (s : SentSoFar style l remaining contents told from old mid done before)
-      → SendsNext style l remaining contents told s.records s.geometries to mid before new after (Err stop) → Stopped style l contents told old new (record { done = done; why = stop })
-  stopped_next from to old mid new done before after (why.Table f) s (same, explains) =
+      → is_spent mid ≡ false → SendsNext style l remaining contents told s.records s.geometries to mid before new after (Err stop) → Stopped style l contents told old new (record { done = done; why = stop })
+  stopped_next from to old mid new done before after (why.Table f) s fresh (same, explains) =
       stopped_between from old mid new done before (why.Table f) s same refl (λ P p. p) (explains_fault style l told s.records s.geometries f (sent_of old) explains)
-  stopped_next from to old mid new done before after why.Memory s same = stopped_between from old mid new done before why.Memory s same refl (λ P p. p) (refl, refl)
-  stopped_next from to old mid new done before after why.Undrained s sends = absurd sends
-  stopped_next from to old mid new done before after (why.Output f) s one = stopped_inside from old mid new done before f s one
+  stopped_next from to old mid new done before after why.Memory s fresh same = stopped_between from old mid new done before why.Memory s same refl (λ P p. p) (refl, refl)
+  stopped_next from to old mid new done before after why.Undrained s fresh sends = absurd sends
+  stopped_next from to old mid new done before after (why.Output f) s fresh one = stopped_inside from old mid new done before f s fresh one
 
 -- ---- no end
 
@@ -183,7 +183,7 @@ stopped_uncounted style l remaining contents told table old new done last work s
 
 module _ {W : Type 0} (style : Style) (l : Allowance) (contents : W → Option (List ℕ)) (told : Option (List ℕ)) where
   -- all geometries of a table may be written
-  pub all_ready : (old new : Output W) (tally : Tally) (all : SentAll style l contents told old new tally) → MayBeWritten l told (all.geometries ++ [])
+  pub all_ready : (old new : Output W) (tally : Tally) (all : SentTable style l contents told old new tally) → MayBeWritten l told (all.geometries ++ [])
   all_ready old new tally all = record {
     records = all.records;
     geometries = all.geometries;
@@ -193,7 +193,7 @@ module _ {W : Type 0} (style : Style) (l : Allowance) (contents : W → Option (
   }
 
   -- the whole table was sent, and the reader was not read to its end
-  pub stopped_undrained : (old new : Output W) (tally : Tally) → SentAll style l contents told old new tally
+  pub stopped_undrained : (old new : Output W) (tally : Tally) → SentTable style l contents told old new tally
       → Stopped style l contents told old new (record { done = tally.geometries; why = why.Undrained })
   stopped_undrained old new tally all = record {
     whole = all.geometries;
@@ -211,7 +211,7 @@ module _ {W : Type 0} (style : Style) (l : Allowance) (contents : W → Option (
   }
 
   -- a flush that failed after the whole table
-  pub flush_failed : (old mid new : Output W) (tally : Tally) (f : OutFault) → SentAll style l contents told old mid tally → Refused contents mid [] f new → (f ≡ out.TooLong → ⊥) → (f ≡ out.Spent → ⊥)
+  pub flush_failed : (old mid new : Output W) (tally : Tally) (f : OutFault) → SentTable style l contents told old mid tally → Refused contents mid [] f new → (f ≡ out.TooLong → ⊥) → (f ≡ out.Spent → ⊥)
       → Stopped style l contents told old new (record { done = tally.geometries; why = why.Output f })
   flush_failed old mid new tally f all failed short unspent =
       let refused = refused_join contents old mid new (canonical_stream style all.geometries) [] f all.took failed in

@@ -13,11 +13,11 @@ use Rattle.twkb_grammar.specs.declared.span.Span.{Span}
 use Rattle.twkb_grammar.proofs.One.{one_blob_lem, peel}
 use Rattle.twkb_grammar.proofs.OneFault.{no_fault}
 use Rattle.twkb_grammar.proofs.SpanLaws.{one_list}
-use Rattle.twkb_grammar.proofs.Streams.{stream_or_fault}
+use Rattle.twkb_grammar.proofs.Streams.{blob_long, stream_or_fault}
 use Rattle.twkb_blob.specs.declared.spans.Located.{Located}
 use Rattle.twkb_convert.specs.SpanLines.{span_lines}
 use Rattle.twkb_convert.specs.LocatedBlobs.{LocatedStream, ShowTo, TellsSpans, geometries_of, lines_text}
-use Rattle.twkb_convert.proofs.LocatedLemmas.{blob_long, located-stream}
+use Rattle.twkb_convert.proofs.LocatedLemmas.{located-stream}
 
 -- ---- one list of blobs
 

@@ -13,7 +13,7 @@ use Rattle.twkb_convert.specs.Outputs.{AtMostOneCut, table_text}
 use Rattle.twkb_convert.specs.LocatedBlobs.{LocatedStream, geometries_of}
 use Rattle.twkb_convert.specs.Listings.{listing_text}
 use Rattle.twkb_convert.specs.BlobSending.{HoldsWhole}
-use Rattle.twkb_convert.specs.Listed.{ExplainsCause, Listed, StoppedListing}
+use Rattle.twkb_convert.specs.Listed.{ExplainsListingCause, Listed, StoppedListing}
 use Rattle.twkb_convert.specs.Unpacked.{StoppedUnpacking, Unpacked}
 use Rattle.twkb_convert.specs.declared.listing.Listing.TheVariants as listing
 use Rattle.twkb_convert.specs.declared.report.Report.{Report}
@@ -43,8 +43,8 @@ all_text : (whole later : List Located) → listing_text listing.Table (whole ++
 all_text whole later = table_of_blobs (whole ++ later) ∙ ap table_text (joined whole later)
 
 explains_without : (l : Allowance) (old told : Option (List ℕ)) (bytes : List ℕ) (why : Cause) (whole later : List Located) (left : List ℕ)
-    → ExplainsCause geometries_of (listing_text listing.Table) l old told bytes why whole later left
-    → ExplainsCause (λ (trees : List Tree). trees) table_text l old told bytes why (geometries_of whole) (geometries_of later) left
+    → ExplainsListingCause geometries_of (listing_text listing.Table) l old told bytes why whole later left
+    → ExplainsListingCause (λ (trees : List Tree). trees) table_text l old told bytes why (geometries_of whole) (geometries_of later) left
 explains_without l old told bytes (causes.Row number reason) whole later left e = e
 explains_without l old told bytes (causes.Blob offset reason) whole later left e = (ap geometries_of e.0, e.1, e.2)
 explains_without l old told bytes causes.ReadDevice whole later left e = (ap geometries_of e.0, e.1, e.2)

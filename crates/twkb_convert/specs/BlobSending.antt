@@ -4,7 +4,7 @@ use Rattle.std.specs.Io.KnownBytes.{IsAtEnd}
 use Rattle.std.specs.declared.io.traits.Read.{Ghosts}
 use Rattle.twkb_io.specs.Taps.{count_failure, device_of}
 use Rattle.twkb_io.specs.Copies.{BeginsWith}
-use Rattle.twkb_io.specs.Outputs.{Refused, Sent, Took, is_device, is_spent, output_failures, sent_of}
+use Rattle.twkb_io.specs.Outputs.{Cut, Sent, Took, is_device, is_spent, output_failures, sent_of}
 use Rattle.twkb_io.specs.declared.output.Output.{Output}
 use Rattle.twkb_io.specs.declared.output.OutFault.{OutFault}
 use Rattle.twkb_io.specs.declared.output.OutFault.TheVariants as out
@@ -97,13 +97,7 @@ pub record SentBlob {R W : Type 0} {read : Ghosts R} (what : Listing) (contents 
 pub record CutBlob {R W : Type 0} {read : Ghosts R} (what : Listing) (contents : W → Option (List ℕ)) (from : Reader R read) (old : Output W) (to : Reader R read) (why : OutFault) (new : Output W) : Type 0 where
   pub found : Located
   pub gives : GivesBlob (limits_of from) (rest_of from) (given from) found (rest_of to) (given to)
-  pub front : List ℕ
-  pub left : List ℕ
-  pub cut : blob_text what found ≡ front ++ left
-  pub refused : Refused contents old front why new
-  pub too_long : why ≡ out.TooLong → 2 ^ 62 < sent_of old + length (blob_text what found)
-  pub unspent : why ≢ out.Spent
-  pub short : 0 < length (blob_text what found) → sent_of new < sent_of old + length (blob_text what found)
+  pub cut : Cut contents old (blob_text what found) why new
 
 -- what an obstacle to the sending of one blob's text says
 abbrev pub StopsBlob : {R W : Type 0} {read : Ghosts R} → Listing → (W → Option (List ℕ)) → Reader R read → Output W → Obstacle → Reader R read → Output W → Type 0
@@ -124,7 +118,7 @@ pub record SentBlobs {R W : Type 0} {read : Ghosts R} (what : Listing) (contents
   pub count : done ≡ length found
 
 -- The texts of all blobs were sent.
-pub record SentAll {R W : Type 0} {read : Ghosts R} (what : Listing) (contents : W → Option (List ℕ)) (from : Reader R read) (old new : Output W) (done : ℕ) : Type 0 where
+pub record SentAllBlobs {R W : Type 0} {read : Ghosts R} (what : Listing) (contents : W → Option (List ℕ)) (from : Reader R read) (old new : Output W) (done : ℕ) : Type 0 where
   pub found : List Located
   pub bytes : List ℕ
   pub blobs : LocatedStream (limits_of from) (given from) bytes found
@@ -143,10 +137,10 @@ ExplainsStream l old told before bytes (blob.At offset reason) =
     IfSome old (λ all. (left : List ℕ) × (all ≡ bytes ++ left) × RefusesBlob l left (before + length bytes) offset reason)
 
 -- what an obstacle says, where these bytes were to be sent in all, from an output that had sent so many
-abbrev pub Explains : Allowance → Option (List ℕ) → Option (List ℕ) → ℕ → List ℕ → Obstacle → ℕ → List ℕ → List Located → List ℕ → Type 0
-Explains l old told before bytes (obstacle.Stream why) sent text later left = (later ≡ []) × (left ≡ []) × ExplainsStream l old told before bytes why
-Explains l old told before bytes obstacle.Memory sent text later left = (later ≡ []) × (left ≡ [])
-Explains l old told before bytes (obstacle.Output why) sent text later left = (why ≡ out.TooLong → 2 ^ 62 < sent + length text) × (why ≢ out.Spent)
+abbrev pub ExplainsObstacle : Allowance → Option (List ℕ) → Option (List ℕ) → ℕ → List ℕ → Obstacle → ℕ → List ℕ → List Located → List ℕ → Type 0
+ExplainsObstacle l old told before bytes (obstacle.Stream why) sent text later left = (later ≡ []) × (left ≡ []) × ExplainsStream l old told before bytes why
+ExplainsObstacle l old told before bytes obstacle.Memory sent text later left = (later ≡ []) × (left ≡ [])
+ExplainsObstacle l old told before bytes (obstacle.Output why) sent text later left = (why ≡ out.TooLong → 2 ^ 62 < sent + length text) × (why ≢ out.Spent)
 
 -- The texts of the first blobs were sent, and a front of the others'.
 pub record CutBlobs {R W : Type 0} {read : Ghosts R} (what : Listing) (contents : W → Option (List ℕ)) (from : Reader R read) (old : Output W) (to : Reader R read) (new : Output W) (halt : Halt) : Type 0 where
@@ -161,7 +155,7 @@ pub record CutBlobs {R W : Type 0} {read : Ghosts R} (what : Listing) (contents 
   pub one : AtMostOneCut later left
   pub sends : Sent contents old (blobs_text what whole ++ front) new
   pub count : halt.done ≡ length whole
-  pub explains : Explains (limits_of from) (rest_of from) (told_of to) (given from) bytes halt.obstacle (sent_of old) (blobs_text what (whole ++ later)) later left
+  pub explains : ExplainsObstacle (limits_of from) (rest_of from) (told_of to) (given from) bytes halt.obstacle (sent_of old) (blobs_text what (whole ++ later)) later left
   pub failures : output_failures new ≡ count_failure (is_write halt.obstacle) (output_failures old)
   pub unspent : UnlessOutput halt.obstacle (is_spent new ≡ false)
 
@@ -194,6 +188,6 @@ pub record CutListing {R W : Type 0} {read : Ghosts R} (what : Listing) (content
   pub holds : HoldsWhole (listing_text what) text whole
   pub sends : Sent contents old text new
   pub count : halt.done ≡ length whole
-  pub explains : Explains (limits_of from) (rest_of from) (told_of to) (given from) bytes halt.obstacle (sent_of old) (listing_text what (whole ++ later)) later left
+  pub explains : ExplainsObstacle (limits_of from) (rest_of from) (told_of to) (given from) bytes halt.obstacle (sent_of old) (listing_text what (whole ++ later)) later left
   pub failures : output_failures new ≡ count_failure (is_write halt.obstacle) (output_failures old)
   pub unspent : UnlessOutput halt.obstacle (is_spent new ≡ false)

@@ -1,9 +1,8 @@
 -- How far the blob of one geometry was sent.
-use Rattle.std.specs.Prelude.{ℕ, ◌≡◌, ◌≢◌, ◌+◌, ◌^◌, ◌<◌, List, [], ◌++◌, length, Option}
-use Rattle.twkb_io.specs.Outputs.{Refused, Took, sent_of}
+use Rattle.std.specs.Prelude.{ℕ, ◌≡◌, List, Option}
+use Rattle.twkb_io.specs.Outputs.{Cut, Took}
 use Rattle.twkb_io.specs.declared.output.Output.{Output}
 use Rattle.twkb_io.specs.declared.output.OutFault.{OutFault}
-use Rattle.twkb_io.specs.declared.output.OutFault.TheVariants as out
 use Rattle.twkb_geom.specs.Tree.{Tree}
 use Rattle.twkb_flat.specs.declared.work.Work.{Work}
 use Rattle.twkb_grammar.specs.Written.{canonical_blob}
@@ -17,17 +16,7 @@ pub record WritesBlob {W : Type 0} (style : Style) (contents : W → Option (Lis
   pub took : Took contents old (canonical_blob style g) new
   pub work : AddsWork g before after
 
--- A front of the blob was sent, and bytes of it are left.
-pub record SendsFront {W : Type 0} (style : Style) (contents : W → Option (List ℕ)) (g : Tree) (old : Output W) (fault : OutFault) (new : Output W) : Type 0 where
-  pub front : List ℕ
-  pub rest : List ℕ
-  pub cut : canonical_blob style g ≡ front ++ rest
-  pub refused : Refused contents old front fault new
-  pub left : rest ≢ []
-  pub unspent : fault ≢ out.Spent
-  pub too_long : fault ≡ out.TooLong → 2 ^ 62 < sent_of old + length (canonical_blob style g)
-
 -- nothing was sent where memory was refused, else a front of the blob
 abbrev pub CutsBlob : {W : Type 0} → Style → (W → Option (List ℕ)) → Tree → Output W → EncodeFault OutFault → Output W → Type 0
 CutsBlob style contents g old Memory new = new ≡ old
-CutsBlob style contents g old (Sink fault) new = SendsFront style contents g old fault new
+CutsBlob style contents g old (Sink fault) new = Cut contents old (canonical_blob style g) fault new

@@ -1,17 +1,8 @@
 -- The work of packing geometries.
 use Rattle.std.specs.Prelude.{ℕ, ◌≡◌, ◌+◌, ◌*◌, ◌≤◌, List, [], ◌∷◌, length}
-use Rattle.twkb_geom.specs.Tree.{Tree, simple, collection, Trees, end, ◌▷◌, flat, nodes, saturated}
+use Rattle.twkb_geom.specs.Tree.{Tree, flat, nodes, saturated}
 use Rattle.twkb_flat.specs.declared.work.Work.{Work}
-
--- how many TWKB geometries there are in one: itself, and the members of each collection in it
-abbrev mutual
-  pub blobs : Tree → ℕ
-  blobs (simple p s) = 1
-  blobs (collection p ids gs) = 1 + blobs_all gs
-
-  pub blobs_all : Trees → ℕ
-  blobs_all end = 0
-  blobs_all (g ▷ gs) = blobs g + blobs_all gs
+use Rattle.twkb_grammar.specs.Spans.{geometries}
 
 -- how many points there are in one
 abbrev pub points : Tree → ℕ
@@ -26,7 +17,7 @@ total count (g ∷ gs) = count g + total count gs
 pub record AddsWork (g : Tree) (old new : Work) : Type 0 where
   pub more_points : new.points ≡ saturated (old.points + points g)
   pub more_nodes : new.nodes ≡ saturated (old.nodes + nodes g)
-  pub more_entries : new.entries ≡ saturated (old.entries + blobs g)
+  pub more_entries : new.entries ≡ saturated (old.entries + geometries g)
   pub point_reads : new.point_reads ≤ old.point_reads + 2 * points g
   pub node_reads : new.node_reads ≤ old.node_reads + 3 * nodes g
 
@@ -35,6 +26,6 @@ pub record AddsWork (g : Tree) (old new : Work) : Type 0 where
 pub record IsWorkOf (gs : List Tree) (work : Work) : Type 0 where
   pub all_points : work.points ≡ saturated (total points gs)
   pub all_nodes : work.nodes ≡ saturated (total nodes gs)
-  pub all_entries : work.entries ≡ saturated (total blobs gs)
+  pub all_entries : work.entries ≡ saturated (total geometries gs)
   pub point_reads : work.point_reads ≤ 2 * total points gs
   pub node_reads : work.node_reads ≤ 3 * total nodes gs

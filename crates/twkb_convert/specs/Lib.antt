@@ -2,8 +2,6 @@ pub mod Draining
 pub mod RefusedRows
 pub mod Outputs
 pub mod CountedWork
-pub mod Handing
-pub mod HandingLaws
 pub mod BlobWriting
 pub mod Sending
 pub mod BlobReading
@@ -11,6 +9,7 @@ pub mod SpanLines
 pub mod LocatedBlobs
 pub mod Listings
 pub mod BlobSending
+pub mod Devices
 pub mod Listed
 pub mod Unpacked
 pub mod Shown

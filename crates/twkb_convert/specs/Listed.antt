@@ -1,7 +1,7 @@
 -- What a stream was written as, and where that stopped: of any sort of item for a blob, with its text.
-use Rattle.std.specs.Prelude.{◌≡◌, ◌≢◌, ℕ, ◌^◌, ◌<◌, ◌⊎◌, List, [], ◌++◌, length, Option, IfSome, Bool, true, false, ⊤}
+use Rattle.std.specs.Prelude.{◌≡◌, ℕ, ◌^◌, ◌<◌, ◌⊎◌, List, [], ◌++◌, length, Option, IfSome, ⊤}
 use Rattle.std.specs.Io.KnownBytes.{Appends, IsAtEnd}
-use Rattle.twkb_io.specs.Taps.{count_failure, device_of, failures_of}
+use Rattle.twkb_io.specs.Taps.{device_of, failures_of}
 use Rattle.twkb_io.specs.Copies.{BeginsWith}
 use Rattle.twkb_io.specs.declared.tap.Tap.{Tap}
 use Rattle.twkb_io.specs.declared.input.InFault.TheVariants as input
@@ -11,6 +11,7 @@ use Rattle.twkb_geom.specs.Limits.{Allowance}
 use Rattle.twkb_grammar.specs.Fault.{StreamFault}
 use Rattle.twkb_engine.specs.Frames.{reason_of}
 use Rattle.twkb_blob.specs.declared.fault.BlobFault.TheVariants as blob
+use Rattle.twkb_convert.specs.Devices.{CountsOne, DevicesTell}
 use Rattle.twkb_convert.specs.BlobReading.{GaveOnly}
 use Rattle.twkb_convert.specs.Outputs.{AtMostOneCut}
 use Rattle.twkb_convert.specs.BlobSending.{HoldsWhole}
@@ -33,33 +34,19 @@ pub record Listed {R W A : Type 0} (AreBlobs : List ℕ → List A → Type 0) (
   pub reads : failures_of read ≡ failures_of reader
   pub writes : failures_of written ≡ failures_of writer
 
--- whether a device failed tells whether the cause is one, and which: a failed write or flush comes before a failed read
-abbrev pub IsDeviceCause : Bool → Bool → Cause → Type 0
-IsDeviceCause read true why = why ≡ cause.WriteDevice
-IsDeviceCause true false why = why ≡ cause.ReadDevice
-IsDeviceCause false false why = (why ≢ cause.ReadDevice) × (why ≢ cause.WriteDevice)
-
--- The taps counted whether a read failed, and whether a write or a flush did.
-pub record DevicesTell {R W : Type 0} (reader : Tap R) (writer : Tap W) (why : Cause) (read : Tap R) (written : Tap W) : Type 0 where
-  pub read_failed : Bool
-  pub write_failed : Bool
-  pub reads : failures_of read ≡ count_failure read_failed (failures_of reader)
-  pub writes : failures_of written ≡ count_failure write_failed (failures_of writer)
-  pub tell : IsDeviceCause read_failed write_failed why
-
 -- What a cause says of the bytes that are told at the start and at the end, of those of the blobs that were read, of the blobs whose text
 -- was written, of another whose text was not written whole, and of the text that is left to be written for all these. After a failed read
 -- the text of every whole blob in the bytes that were read is written.
-abbrev pub ExplainsCause : {A : Type 0} → (List A → List Tree) → (List A → List ℕ) → Allowance → Option (List ℕ) → Option (List ℕ) → List ℕ → Cause → List A → List A → List ℕ → Type 0
-ExplainsCause trees_of text_of l old told bytes (cause.Row number reason) whole later left = ⊥
-ExplainsCause trees_of text_of l old told bytes (cause.Blob offset reason) whole later left =
+abbrev pub ExplainsListingCause : {A : Type 0} → (List A → List Tree) → (List A → List ℕ) → Allowance → Option (List ℕ) → Option (List ℕ) → List ℕ → Cause → List A → List A → List ℕ → Type 0
+ExplainsListingCause trees_of text_of l old told bytes (cause.Row number reason) whole later left = ⊥
+ExplainsListingCause trees_of text_of l old told bytes (cause.Blob offset reason) whole later left =
     (later ≡ []) × (left ≡ []) × IfSome old (λ all. StreamFault l all (trees_of whole) offset (reason_of reason))
-ExplainsCause trees_of text_of l old told bytes cause.ReadDevice whole later left = (later ≡ []) × (left ≡ []) × GaveOnly l old bytes told
-ExplainsCause trees_of text_of l old told bytes cause.WriteDevice whole later left = ⊤
-ExplainsCause trees_of text_of l old told bytes cause.Memory whole later left = (later ≡ []) × (left ≡ [])
-ExplainsCause trees_of text_of l old told bytes cause.TooLong whole later left =
+ExplainsListingCause trees_of text_of l old told bytes cause.ReadDevice whole later left = (later ≡ []) × (left ≡ []) × GaveOnly l old bytes told
+ExplainsListingCause trees_of text_of l old told bytes cause.WriteDevice whole later left = ⊤
+ExplainsListingCause trees_of text_of l old told bytes cause.Memory whole later left = (later ≡ []) × (left ≡ [])
+ExplainsListingCause trees_of text_of l old told bytes cause.TooLong whole later left =
     IfSome old (λ all. 2 ^ 62 < length all) ⊎ (2 ^ 62 < length (text_of (whole ++ later)))
-ExplainsCause trees_of text_of l old told bytes cause.TooManyRecords whole later left = ⊥
+ExplainsListingCause trees_of text_of l old told bytes cause.TooManyRecords whole later left = ⊥
 
 -- The bytes of the reader begin with blobs, and the writer took a front of their text, with that of the first of them.
 pub record StoppedListing {R W A : Type 0} (AreBlobs : List ℕ → List A → Type 0) (trees_of : List A → List Tree) (text_of : List A → List ℕ) (l : Allowance)
@@ -77,19 +64,19 @@ pub record StoppedListing {R W A : Type 0} (AreBlobs : List ℕ → List A → T
   pub appends : Appends (contents (device_of writer)) (contents (device_of written)) text
   pub done : fault.done ≡ length whole
   pub sent : fault.sent ≡ length text
-  pub explains : ExplainsCause trees_of text_of l (remaining (device_of reader)) (remaining (device_of read)) bytes fault.cause whole later left
-  pub devices : DevicesTell reader writer fault.cause read written
+  pub explains : ExplainsListingCause trees_of text_of l (remaining (device_of reader)) (remaining (device_of read)) bytes fault.cause whole later left
+  pub devices : DevicesTell CountsOne reader writer fault.cause read written
 
 -- the cause that an obstacle is
-abbrev pub cause_for : Obstacle → Cause
-cause_for (obstacle.Stream blob.Memory) = cause.Memory
-cause_for (obstacle.Stream (blob.Device input.Read)) = cause.ReadDevice
-cause_for (obstacle.Stream (blob.Device input.TooLong)) = cause.TooLong
-cause_for (obstacle.Stream (blob.Device input.Spent)) = cause.TooLong
-cause_for (obstacle.Stream blob.Spent) = cause.TooLong
-cause_for (obstacle.Stream (blob.At offset reason)) = cause.Blob offset reason
-cause_for obstacle.Memory = cause.Memory
-cause_for (obstacle.Output out.Write) = cause.WriteDevice
-cause_for (obstacle.Output out.Stuck) = cause.WriteDevice
-cause_for (obstacle.Output out.TooLong) = cause.TooLong
-cause_for (obstacle.Output out.Spent) = cause.TooLong
+abbrev pub cause_of_obstacle : Obstacle → Cause
+cause_of_obstacle (obstacle.Stream blob.Memory) = cause.Memory
+cause_of_obstacle (obstacle.Stream (blob.Device input.Read)) = cause.ReadDevice
+cause_of_obstacle (obstacle.Stream (blob.Device input.TooLong)) = cause.TooLong
+cause_of_obstacle (obstacle.Stream (blob.Device input.Spent)) = cause.TooLong
+cause_of_obstacle (obstacle.Stream blob.Spent) = cause.TooLong
+cause_of_obstacle (obstacle.Stream (blob.At offset reason)) = cause.Blob offset reason
+cause_of_obstacle obstacle.Memory = cause.Memory
+cause_of_obstacle (obstacle.Output out.Write) = cause.WriteDevice
+cause_of_obstacle (obstacle.Output out.Stuck) = cause.WriteDevice
+cause_of_obstacle (obstacle.Output out.TooLong) = cause.TooLong
+cause_of_obstacle (obstacle.Output out.Spent) = cause.TooLong

@@ -1,6 +1,8 @@
 -- What a table is packed to.
 use Rattle.std.specs.Prelude.{◌≡◌, ℕ, ◌^◌, ◌<◌, ◌≤◌, ◌*◌, ◌⊎◌, List, [], ◌++◌, length, Option, IfSome, ⊤}
-use Rattle.std.specs.Io.KnownBytes.{Appends}
+use Rattle.std.specs.Io.KnownBytes.{Appends, IsAtEnd}
+use Rattle.twkb_io.specs.Taps.{device_of, failures_of}
+use Rattle.twkb_io.specs.declared.tap.Tap.{Tap}
 use Rattle.twkb_geom.specs.Tree.{Tree}
 use Rattle.twkb_geom.specs.Limits.{Allowance}
 use Rattle.twkb_flat.specs.declared.work.Work.{Work}
@@ -10,6 +12,7 @@ use Rattle.twkb_table.specs.Record.{Record}
 use Rattle.twkb_table.specs.Named.{Named}
 use Rattle.twkb_table.specs.CsvRecords.{AreRecordsOf}
 use Rattle.twkb_convert.specs.CountedWork.{IsWorkOf}
+use Rattle.twkb_convert.specs.Devices.{Changes, DevicesTell}
 use Rattle.twkb_convert.specs.Outputs.{AtMostOneCut}
 use Rattle.twkb_convert.specs.RefusedRows.{HasTooMany, IsRefusedAt, MayBeWritten, NamesAll}
 use Rattle.twkb_convert.specs.declared.report.Cause.{Cause}
@@ -17,46 +20,56 @@ use Rattle.twkb_convert.specs.declared.report.Cause.TheVariants as cause
 use Rattle.twkb_convert.specs.declared.report.ConvertFault.{ConvertFault}
 use Rattle.twkb_convert.specs.declared.report.Report.{Report}
 
--- The records of the text name geometries, and their canonical stream in this style was written behind what the writer held.
-pub record Packed (style : Style) (l : Allowance) (told before after : Option (List ℕ)) (report : Report) : Type 0 where
+-- The records of the reader's text name geometries, and their canonical stream in this style was written behind what the writer held; no
+-- device failed, and the reader is at its end.
+pub record Packed {R W : Type 0} (style : Style) (l : Allowance) (remaining : R → Option (List ℕ)) (contents : W → Option (List ℕ)) (reader : Tap R) (writer : Tap W)
+    (report : Report) (read : Tap R) (written : Tap W) : Type 0 where
   pub records : List Record
   pub geometries : List Tree
-  pub all : IfSome told (λ text. AreRecordsOf text records)
+  pub all : IfSome (remaining (device_of reader)) (λ text. AreRecordsOf text records)
   pub named : Named l records geometries
-  pub appends : Appends before after (canonical_stream style geometries)
+  pub appends : Appends (contents (device_of writer)) (contents (device_of written)) (canonical_stream style geometries)
   pub count : report.geometries ≡ length geometries
   pub bytes : report.bytes ≡ length (canonical_stream style geometries)
+  pub end : IsAtEnd (remaining (device_of read))
+  pub reads : failures_of read ≡ failures_of reader
+  pub writes : failures_of written ≡ failures_of writer
 
 -- The same, and this is the work of measuring and writing those geometries.
-pub record PackedWith (style : Style) (l : Allowance) (told before after : Option (List ℕ)) (report : Report) (work : Work) : Type 0 where
-  pub packed : Packed style l told before after report
+pub record PackedWith {R W : Type 0} (style : Style) (l : Allowance) (remaining : R → Option (List ℕ)) (contents : W → Option (List ℕ)) (reader : Tap R) (writer : Tap W)
+    (report : Report) (work : Work) (read : Tap R) (written : Tap W) : Type 0 where
+  pub packed : Packed style l remaining contents reader writer report read written
   pub work_of : IsWorkOf packed.geometries work
   pub point_reads : work.point_reads ≤ 2 * work.points
   pub node_reads : work.node_reads ≤ 3 * work.nodes
 
 -- What a cause says of the table and of what was written: a refused record comes after the whole output that it leaves complete; the
--- output would be too long, or behind the whole table the reader gave bytes without end; the other causes cut no blob, a device aside.
-abbrev pub ExplainsCause : Style → Allowance → Option (List ℕ) → Cause → List Tree → List Tree → List ℕ → Type 0
-ExplainsCause style l told (cause.Row number reason) whole later front = (later ≡ []) × (front ≡ []) × IsRefusedAt l told number reason whole
-ExplainsCause style l told cause.TooManyRecords whole later front =
+-- output would be too long, or behind the whole table the reader gave bytes without end; a failed read cuts a blob only where the output
+-- would be too long; the other causes cut none, a failed write aside.
+abbrev pub ExplainsPackingCause : Style → Allowance → Option (List ℕ) → Cause → List Tree → List Tree → List ℕ → Type 0
+ExplainsPackingCause style l told (cause.Row number reason) whole later front = (later ≡ []) × (front ≡ []) × IsRefusedAt l told number reason whole
+ExplainsPackingCause style l told cause.TooManyRecords whole later front =
     (later ≡ []) × (front ≡ []) × HasTooMany told
-ExplainsCause style l told (cause.Blob offset reason) whole later front = ⊥
-ExplainsCause style l told cause.ReadDevice whole later front = ⊤
-ExplainsCause style l told cause.WriteDevice whole later front = ⊤
-ExplainsCause style l told cause.Memory whole later front = (later ≡ []) × (front ≡ [])
-ExplainsCause style l told cause.TooLong whole later front =
+ExplainsPackingCause style l told (cause.Blob offset reason) whole later front = ⊥
+ExplainsPackingCause style l told cause.ReadDevice whole later front =
+    ((later ≡ []) × (front ≡ [])) ⊎ (2 ^ 62 < length (canonical_stream style (whole ++ later)))
+ExplainsPackingCause style l told cause.WriteDevice whole later front = ⊤
+ExplainsPackingCause style l told cause.Memory whole later front = (later ≡ []) × (front ≡ [])
+ExplainsPackingCause style l told cause.TooLong whole later front =
     (2 ^ 62 < length (canonical_stream style (whole ++ later))) ⊎ ((later ≡ []) × (front ≡ []) × NamesAll l told whole)
 
--- Geometries of the text may be written: the canonical blobs of the first ones were, and a front of the next one's.
-pub record StoppedIn (style : Style) (l : Allowance) (told before after : Option (List ℕ)) (fault : ConvertFault) : Type 0 where
+-- Geometries of the reader's text may be written: the canonical blobs of the first ones were, and a front of the next one's.
+pub record StoppedPacking {R W : Type 0} (style : Style) (l : Allowance) (remaining : R → Option (List ℕ)) (contents : W → Option (List ℕ)) (reader : Tap R) (writer : Tap W)
+    (fault : ConvertFault) (read : Tap R) (written : Tap W) : Type 0 where
   pub whole : List Tree
   pub later : List Tree
   pub front : List ℕ
   pub rest : List ℕ
-  pub ready : MayBeWritten l told (whole ++ later)
+  pub ready : MayBeWritten l (remaining (device_of reader)) (whole ++ later)
   pub cut : canonical_stream style later ≡ front ++ rest
   pub one : AtMostOneCut later rest
-  pub appends : Appends before after (canonical_stream style whole ++ front)
+  pub appends : Appends (contents (device_of writer)) (contents (device_of written)) (canonical_stream style whole ++ front)
   pub sent : fault.sent ≡ length (canonical_stream style whole ++ front)
   pub done : fault.done ≡ length whole
-  pub explains : ExplainsCause style l told fault.cause whole later front
+  pub explains : ExplainsPackingCause style l (remaining (device_of reader)) fault.cause whole later front
+  pub devices : DevicesTell Changes reader writer fault.cause read written

@@ -1,14 +1,14 @@
 -- How far the geometries of a table were sent.
 use Rattle.std.specs.Prelude.{◌≡◌, ◌≢◌, ℕ, ◌+◌, ◌^◌, ◌<◌, List, [], ◌∷◌, ◌++◌, length, Option, IfSome, Result, Ok, Err, Bool, true, false, ⊤}
 use Rattle.twkb_io.specs.Taps.{count_failure}
-use Rattle.twkb_io.specs.Outputs.{Sent, Took, is_device, is_spent, output_failures, sent_of}
+use Rattle.twkb_io.specs.Outputs.{Cut, Sent, Took, is_device, is_spent, output_failures, sent_of}
 use Rattle.twkb_io.specs.declared.output.OutFault.{OutFault}
 use Rattle.twkb_io.specs.declared.output.OutFault.TheVariants as out
 use Rattle.twkb_io.specs.declared.output.Output.{Output}
 use Rattle.twkb_geom.specs.Tree.{Tree}
 use Rattle.twkb_geom.specs.Limits.{Allowance}
 use Rattle.twkb_flat.specs.declared.work.Work.{Work}
-use Rattle.twkb_grammar.specs.Written.{canonical_stream}
+use Rattle.twkb_grammar.specs.Written.{canonical_blob, canonical_stream}
 use Rattle.twkb_grammar.specs.declared.style.Style.{Style}
 use Rattle.twkb_table.specs.Record.{Record}
 use Rattle.twkb_table.specs.Named.{Named}
@@ -17,7 +17,7 @@ use Rattle.twkb_table.specs.TableReading as Table
 use Rattle.twkb_table.specs.TableReading.{MeetsEnd, StandsAfter}
 use Rattle.twkb_table.specs.declared.table_reader.TableReader.{TableReader}
 use Rattle.twkb_table.specs.declared.table_fault.TableFault.TheVariants as fault
-use Rattle.twkb_convert.specs.BlobWriting.{SendsFront, WritesBlob}
+use Rattle.twkb_convert.specs.BlobWriting.{WritesBlob}
 use Rattle.twkb_convert.specs.CountedWork.{IsWorkOf}
 use Rattle.twkb_convert.specs.Outputs.{AtMostOneCut}
 use Rattle.twkb_convert.specs.RefusedRows.{HasTooMany, IsRefusedAt, MayBeWritten, NamesAll}
@@ -68,7 +68,7 @@ pub record EndsTable {R W : Type 0} (l : Allowance) (remaining : R → Option (L
 pub record CutsOne {W : Type 0} (style : Style) (l : Allowance) (contents : W → Option (List ℕ)) (told : Option (List ℕ)) (given : List Tree) (old : Output W) (f : OutFault) (new : Output W) : Type 0 where
   pub geometry : Tree
   pub ready : MayBeWritten l told (given ++ geometry ∷ [])
-  pub sends : SendsFront style contents geometry old f new
+  pub cut : Cut contents old (canonical_blob style geometry) f new
 
 -- what the sending of the next geometry shows, after these
 abbrev pub SendsNext : {R W : Type 0} → Style → Allowance → (R → Option (List ℕ)) → (W → Option (List ℕ)) → Option (List ℕ) → List Record → List Tree → TableReader R → Output W → Work → Output W → Work → Result Bool Why → Type 0
@@ -92,7 +92,7 @@ pub record SentSoFar {R W : Type 0} (style : Style) (l : Allowance) (remaining :
   pub work_of : IsWorkOf geometries work
 
 -- The whole table was sent.
-pub record SentAll {W : Type 0} (style : Style) (l : Allowance) (contents : W → Option (List ℕ)) (told : Option (List ℕ)) (old new : Output W) (tally : Tally) : Type 0 where
+pub record SentTable {W : Type 0} (style : Style) (l : Allowance) (contents : W → Option (List ℕ)) (told : Option (List ℕ)) (old new : Output W) (tally : Tally) : Type 0 where
   pub records : List Record
   pub geometries : List Tree
   pub all : IfSome told (λ text. AreRecordsOf text records)
@@ -102,15 +102,15 @@ pub record SentAll {W : Type 0} (style : Style) (l : Allowance) (contents : W �
   pub work_of : IsWorkOf geometries tally.work
 
 -- what a stop says of the table and of what was written, by an output that had sent so many bytes
-abbrev pub Explains : Style → Allowance → Option (List ℕ) → Why → ℕ → List Tree → List Tree → List ℕ → Type 0
-Explains style l told (why.Table (fault.At number reason)) sent whole later front = (later ≡ []) × (front ≡ []) × IsRefusedAt l told number reason whole
-Explains style l told (why.Table fault.TooManyRecords) sent whole later front = (later ≡ []) × (front ≡ []) × HasTooMany told
-Explains style l told (why.Table fault.Source) sent whole later front = (later ≡ []) × (front ≡ [])
-Explains style l told (why.Table fault.Memory) sent whole later front = (later ≡ []) × (front ≡ [])
-Explains style l told (why.Table fault.Spent) sent whole later front = ⊥
-Explains style l told why.Memory sent whole later front = (later ≡ []) × (front ≡ [])
-Explains style l told why.Undrained sent whole later front = (later ≡ []) × (front ≡ []) × NamesAll l told whole
-Explains style l told (why.Output f) sent whole later front =
+abbrev pub ExplainsWhy : Style → Allowance → Option (List ℕ) → Why → ℕ → List Tree → List Tree → List ℕ → Type 0
+ExplainsWhy style l told (why.Table (fault.At number reason)) sent whole later front = (later ≡ []) × (front ≡ []) × IsRefusedAt l told number reason whole
+ExplainsWhy style l told (why.Table fault.TooManyRecords) sent whole later front = (later ≡ []) × (front ≡ []) × HasTooMany told
+ExplainsWhy style l told (why.Table fault.Source) sent whole later front = (later ≡ []) × (front ≡ [])
+ExplainsWhy style l told (why.Table fault.Memory) sent whole later front = (later ≡ []) × (front ≡ [])
+ExplainsWhy style l told (why.Table fault.Spent) sent whole later front = ⊥
+ExplainsWhy style l told why.Memory sent whole later front = (later ≡ []) × (front ≡ [])
+ExplainsWhy style l told why.Undrained sent whole later front = (later ≡ []) × (front ≡ []) × NamesAll l told whole
+ExplainsWhy style l told (why.Output f) sent whole later front =
     (f ≡ out.TooLong → 2 ^ 62 < sent + length (canonical_stream style (whole ++ later))) × (f ≢ out.Spent)
 
 -- the blobs of some geometries were written, and a front of the next one's
@@ -124,11 +124,11 @@ pub record Stopped {W : Type 0} (style : Style) (l : Allowance) (contents : W �
   pub one : AtMostOneCut later rest
   pub sends : Sent contents old (canonical_stream style whole ++ front) new
   pub count : stop.done ≡ length whole
-  pub explains : Explains style l told stop.why (sent_of old) whole later front
+  pub explains : ExplainsWhy style l told stop.why (sent_of old) whole later front
   pub failures : output_failures new ≡ count_failure (is_write stop.why) (output_failures old)
   pub unspent : UnlessOutput stop.why (is_spent new ≡ is_spent old)
 
 -- the whole table was sent, or a front of its output
 abbrev pub SendsTable : {W : Type 0} → Style → Allowance → (W → Option (List ℕ)) → Option (List ℕ) → Output W → Output W → Result Tally Stop → Type 0
-SendsTable style l contents told old new (Ok tally) = SentAll style l contents told old new tally
+SendsTable style l contents told old new (Ok tally) = SentTable style l contents told old new tally
 SendsTable style l contents told old new (Err stop) = Stopped style l contents told old new stop

@@ -4,7 +4,7 @@ ghost use Rattle.twkb_io.specs.Outputs as Outputs;
 ghost use Rattle.twkb_geom.specs.Limits.{largest_limits};
 ghost use Rattle.twkb_blob.specs.Readers.{has_ended, is_spent};
 ghost use Rattle.twkb_convert.specs.BlobReading.{is_input_spent, limits_of};
-ghost use Rattle.twkb_convert.specs.BlobSending.{CutBlobs, CutListing, EndsBlobs, Follows, IsEnded, SentAll, SentBlob, SentListing, StopsBlob, StopsRead};
+ghost use Rattle.twkb_convert.specs.BlobSending.{CutBlobs, CutListing, EndsBlobs, Follows, IsEnded, SentAllBlobs, SentBlob, SentListing, StopsBlob, StopsRead};
 
 use crate::blob_text::next_text;
 use crate::halt::{Halt, Obstacle};
@@ -15,7 +15,7 @@ use twkb_blob::Reader;
 use twkb_io::{Output, Sink};
 
 /// Sends what is written of a stream, and flushes the output where it refused no put.
-pub(crate) fn send_and_flush<R: Read, W: Write>(
+pub(crate) fn send_listing_and_flush<R: Read, W: Write>(
     what: Listing,
     alloc: Global,
     reader: &mut Reader<'_, R>,
@@ -93,11 +93,12 @@ fn send_blobs<R: Read, W: Write>(
     requires input { is_input_spent reader.old ≡ false }
     requires nest { (limits_of reader.old).nest ≤ largest_limits.nest }
     requires output { Outputs.is_spent output.old ≡ false }
-    ensures ok { IfOk result (λ done. SentAll what W.contents reader.old output.old output.new done) }
+    ensures ok { IfOk result (λ done. SentAllBlobs what W.contents reader.old output.old output.new done) }
     ensures unfailed { IfOk result (λ done. Follows reader.old reader.new false × IsEnded R.remaining reader.old reader.new) }
     ensures err { IfErr result (λ halt. CutBlobs what W.contents reader.old output.old reader.new output.new halt) }
     ensures stops { IfErr result (λ halt. StopsRead reader.old halt.obstacle reader.new) }
 {
+    twkb_grammar::laws::some_byte();
     let mut text = Vec::new(alloc);
     let mut done = 0;
     loop {

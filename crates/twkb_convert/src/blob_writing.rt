@@ -1,16 +1,13 @@
 //! The blob of one flat form, measured and written.
-ghost use Rattle.std.specs.Prelude.{◌≡◌, false, OnOk, IfErr};
-ghost use Rattle.twkb_io.specs.Outputs.{is_spent};
+ghost use Rattle.std.specs.Prelude.{◌≡◌, OnOk, IfErr};
 ghost use Rattle.twkb_geom.specs.Tree.{Tree, IsTree};
 ghost use Rattle.twkb_geom.specs.Rows.{rows};
 ghost use Rattle.twkb_convert.specs.BlobWriting.{CutsBlob, WritesBlob};
-ghost use Rattle.twkb_convert.specs.Handing.{output_of};
 
-use crate::handed::Handed;
 use std::alloc::Global;
 use std::io::Write;
 use twkb_flat::{Flat, Work};
-use twkb_io::OutFault;
+use twkb_io::{OutFault, Output};
 use twkb_writer::{Depths, EncodeFault, Piece, Sizes, Style, measure_into, write_through};
 
 /// What is kept from one geometry to the next.
@@ -38,13 +35,14 @@ pub(crate) fn write_blob<W: Write>(
     flat: &Flat,
     style: Style,
     room: &mut Room,
-    output: &mut Handed<'_, W>,
+    output: &mut Output<'_, W>,
     work: &mut Work,
 ) -> Result<(), EncodeFault<OutFault>>
-    requires fresh { is_spent (output_of output.old) ≡ false }
-    ensures ok { OnOk result ((g : Tree) → IsTree g → rows 0 g ≡ flat.now → WritesBlob style W.contents g (output_of output.old) work.old (output_of output.new) work.new) }
-    ensures err { IfErr result (λ fault. (g : Tree) → IsTree g → rows 0 g ≡ flat.now → CutsBlob style W.contents g (output_of output.old) fault (output_of output.new)) }
+    ensures ok { OnOk result ((g : Tree) → IsTree g → rows 0 g ≡ flat.now → WritesBlob style W.contents g output.old work.old output.new work.new) }
+    ensures err { IfErr result (λ fault. (g : Tree) → IsTree g → rows 0 g ≡ flat.now → CutsBlob style W.contents g output.old fault output.new) }
 {
+    twkb_geom::laws::nodes_are_rows();
+    twkb_writer::laws::one_size_each();
     let Ok(()) = measure_into(flat, style, &mut room.depths, &mut room.sizes, work) else {
         return Err(EncodeFault::Memory);
     };

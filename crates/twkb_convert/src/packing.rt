@@ -1,18 +1,16 @@
 //! From a table to a stream.
-ghost use Rattle.std.specs.Prelude.{◌≡◌, ◌≢◌, ◌<◌, ◌-◌, ◌^◌, ◌↔◌, ◌⊎◌, ℕ, List, Option, true, false, OnOk, IfOk, IfErr, IsErrAnd};
-ghost use Rattle.std.specs.Io.KnownBytes.{IsAtEnd};
-ghost use Rattle.twkb_io.specs.Taps.{device_of, failures_of};
+ghost use Rattle.std.specs.Prelude.{◌≡◌, ◌<◌, ◌^◌, ℕ, List, Option, IfOk, IfErr};
 ghost use Rattle.twkb_geom.specs.Tree.{Tree};
 ghost use Rattle.twkb_geom.specs.Limits.{Allowance};
 ghost use Rattle.twkb_grammar.specs.declared.style.Style.{Style};
 ghost use Rattle.twkb_grammar.specs.declared.style.Style.TheVariants.{Full};
-ghost use Rattle.twkb_convert.specs.Packed.{ExplainsCause, Packed, PackedWith, StoppedIn};
-ghost use Rattle.twkb_convert.specs.Sending.{Explains, is_write};
+ghost use Rattle.twkb_convert.specs.Devices.{Changes, IsDeviceCause};
+ghost use Rattle.twkb_convert.specs.Packed.{ExplainsPackingCause, Packed, PackedWith, StoppedPacking};
+ghost use Rattle.twkb_convert.specs.Sending.{ExplainsWhy, is_write};
 
-use crate::handed::Handed;
 use crate::report::{Cause, ConvertFault, Report};
 use crate::sending::{Tally, Why};
-use crate::table_sending::send_and_flush;
+use crate::table_sending::send_table_and_flush;
 use std::alloc::Global;
 use std::io::{Read, Write};
 use twkb_flat::Work;
@@ -28,17 +26,8 @@ pub fn pack<R: Read, W: Write>(
     writer: &mut Tap<W>,
     limits: Limits,
 ) -> Result<Report, ConvertFault>
-    ensures ok { IfOk result (λ report. Packed Full limits (R.remaining (device_of reader.old)) (W.contents (device_of writer.old)) (W.contents (device_of writer.new)) report) }
-    ensures end { OnOk result (IsAtEnd (R.remaining (device_of reader.new))) }
-    ensures err { IfErr result (λ fault. StoppedIn Full limits (R.remaining (device_of reader.old)) (W.contents (device_of writer.old)) (W.contents (device_of writer.new)) fault) }
-
-    // the cause is a device exactly where its tap counted a failure, and the writer comes first
-    ensures unfailed { OnOk result ((failures_of reader.new ≡ failures_of reader.old) × (failures_of writer.new ≡ failures_of writer.old)) }
-    ensures write_failed { failures_of writer.old < 2 ^ 64 - 1
-        → (IsErrAnd result (λ fault. fault.cause ≡ Cause.WriteDevice)) ↔ (failures_of writer.old < failures_of writer.new) }
-    ensures read_failed { IsErrAnd result (λ fault. fault.cause ≡ Cause.ReadDevice) → failures_of reader.new ≢ failures_of reader.old }
-    ensures read_told { failures_of reader.new ≢ failures_of reader.old
-        → IsErrAnd result (λ fault. (fault.cause ≡ Cause.WriteDevice) ⊎ (fault.cause ≡ Cause.ReadDevice)) }
+    ensures ok { IfOk result (λ report. Packed Full limits R.remaining W.contents reader.old writer.old report reader.new writer.new) }
+    ensures err { IfErr result (λ fault. StoppedPacking Full limits R.remaining W.contents reader.old writer.old fault reader.new writer.new) }
 {
     pack_styled(alloc, reader, writer, limits, Style::Full)
 }
@@ -54,17 +43,8 @@ pub fn pack_styled<R: Read, W: Write>(
     limits: Limits,
     style: Style,
 ) -> Result<Report, ConvertFault>
-    ensures ok { IfOk result (λ report. Packed style limits (R.remaining (device_of reader.old)) (W.contents (device_of writer.old)) (W.contents (device_of writer.new)) report) }
-    ensures end { OnOk result (IsAtEnd (R.remaining (device_of reader.new))) }
-    ensures err { IfErr result (λ fault. StoppedIn style limits (R.remaining (device_of reader.old)) (W.contents (device_of writer.old)) (W.contents (device_of writer.new)) fault) }
-
-    // the cause is a device exactly where its tap counted a failure, and the writer comes first
-    ensures unfailed { OnOk result ((failures_of reader.new ≡ failures_of reader.old) × (failures_of writer.new ≡ failures_of writer.old)) }
-    ensures write_failed { failures_of writer.old < 2 ^ 64 - 1
-        → (IsErrAnd result (λ fault. fault.cause ≡ Cause.WriteDevice)) ↔ (failures_of writer.old < failures_of writer.new) }
-    ensures read_failed { IsErrAnd result (λ fault. fault.cause ≡ Cause.ReadDevice) → failures_of reader.new ≢ failures_of reader.old }
-    ensures read_told { failures_of reader.new ≢ failures_of reader.old
-        → IsErrAnd result (λ fault. (fault.cause ≡ Cause.WriteDevice) ⊎ (fault.cause ≡ Cause.ReadDevice)) }
+    ensures ok { IfOk result (λ report. Packed style limits R.remaining W.contents reader.old writer.old report reader.new writer.new) }
+    ensures err { IfErr result (λ fault. StoppedPacking style limits R.remaining W.contents reader.old writer.old fault reader.new writer.new) }
 {
     match pack_counted(alloc, reader, writer, limits, style) {
         Ok((report, _)) => Ok(report),
@@ -80,26 +60,17 @@ pub fn pack_counted<R: Read, W: Write>(
     limits: Limits,
     style: Style,
 ) -> Result<(Report, Work), ConvertFault>
-    ensures ok { IfOk result (λ done. PackedWith style limits (R.remaining (device_of reader.old)) (W.contents (device_of writer.old)) (W.contents (device_of writer.new)) done.0 done.1) }
-    ensures end { OnOk result (IsAtEnd (R.remaining (device_of reader.new))) }
-    ensures err { IfErr result (λ fault. StoppedIn style limits (R.remaining (device_of reader.old)) (W.contents (device_of writer.old)) (W.contents (device_of writer.new)) fault) }
-
-    // the cause is a device exactly where its tap counted a failure, and the writer comes first
-    ensures unfailed { OnOk result ((failures_of reader.new ≡ failures_of reader.old) × (failures_of writer.new ≡ failures_of writer.old)) }
-    ensures write_failed { failures_of writer.old < 2 ^ 64 - 1
-        → (IsErrAnd result (λ fault. fault.cause ≡ Cause.WriteDevice)) ↔ (failures_of writer.old < failures_of writer.new) }
-    ensures read_failed { IsErrAnd result (λ fault. fault.cause ≡ Cause.ReadDevice) → failures_of reader.new ≢ failures_of reader.old }
-    ensures read_told { failures_of reader.new ≢ failures_of reader.old
-        → IsErrAnd result (λ fault. (fault.cause ≡ Cause.WriteDevice) ⊎ (fault.cause ≡ Cause.ReadDevice)) }
+    ensures ok { IfOk result (λ done. PackedWith style limits R.remaining W.contents reader.old writer.old done.0 done.1 reader.new writer.new) }
+    ensures err { IfErr result (λ fault. StoppedPacking style limits R.remaining W.contents reader.old writer.old fault reader.new writer.new) }
 {
     let reads_failed = reader.failures();
-    let mut output = Handed::new(Output::new(writer));
-    let sending = send_and_flush(alloc, reader, limits, style, &mut output);
+    let mut output = Output::new(writer);
+    let sending = send_table_and_flush(alloc, reader, limits, style, &mut output);
     let sent = output.sent();
-    let has_read_failed = reader.failures() != reads_failed;
+    let has_read_failed = has_changed(reads_failed, reader.failures());
     match sending {
         Err(stop) => {
-            let cause = cause_of(stop.why, has_read_failed);
+            let cause = packing_cause(stop.why, has_read_failed);
             Err(ConvertFault {
                 done: stop.done,
                 sent,
@@ -113,6 +84,16 @@ pub fn pack_counted<R: Read, W: Write>(
         }),
         Ok(tally) => Ok(packed(tally, sent)),
     }
+}
+
+// Whether a count of failures is another one.
+fn has_changed(before: u64, after: u64) -> bool
+    ensures { Changes result before after }
+{
+    if after == before {
+        return false;
+    }
+    true
 }
 
 // The answer where the whole table was sent.
@@ -129,11 +110,11 @@ fn packed(tally: Tally, sent: u64) -> (Report, Work)
 }
 
 // The cause of a stop: a failed write first, and then a failed read.
-fn cause_of(why: Why, has_read_failed: bool) -> Cause
-    ensures write { (result ≡ Cause.WriteDevice) ↔ (is_write why ≡ true) }
-    ensures read { (result ≡ Cause.ReadDevice) ↔ ((is_write why ≡ false) × (has_read_failed ≡ true)) }
+#[tactic(auto, using(crate::proofs::PackedLemmas::read_explained))]
+fn packing_cause(why: Why, has_read_failed: bool) -> Cause
+    ensures devices { IsDeviceCause has_read_failed (is_write why) result }
     ensures explains { (style : Style) (l : Allowance) (told : Option (List ℕ)) (sent : ℕ) (whole later : List Tree) (front : List ℕ) → sent ≡ 0
-        → Explains style l told why sent whole later front → ExplainsCause style l told result whole later front }
+        → ExplainsWhy style l told why sent whole later front → ExplainsPackingCause style l told result whole later front }
 {
     match why {
         Why::Output(OutFault::Write | OutFault::Stuck) => Cause::WriteDevice,

@@ -1,21 +1,19 @@
 //! The geometries of a table, sent one after another.
-ghost use Rattle.std.specs.Prelude.{◌≡◌, ℕ, List, Option, true, false};
+ghost use Rattle.std.specs.Prelude.{◌≡◌, ℕ, List, Option, false};
 ghost use Rattle.twkb_io.specs.Taps.{device_of};
 ghost use Rattle.twkb_io.specs.Outputs.{is_spent};
 ghost use Rattle.twkb_geom.specs.Tree.{Tree};
 ghost use Rattle.twkb_geom.specs.Limits.{Allowance};
 ghost use Rattle.twkb_table.specs.Record.{Record};
 ghost use Rattle.twkb_table.specs.TableReading.{StandsAfter};
-ghost use Rattle.twkb_convert.specs.Handing.{output_of};
 ghost use Rattle.twkb_convert.specs.Sending.{SendsNext, SendsTable};
 
 use crate::blob_writing::{Room, write_blob};
-use crate::handed::Handed;
 use std::alloc::Global;
 use std::io::{Read, Write};
 use twkb_flat::{Flat, Work};
 use twkb_geom::Limits;
-use twkb_io::{OutFault, Tap};
+use twkb_io::{OutFault, Output, Tap};
 use twkb_table::{TableFault, TableReader};
 use twkb_writer::{EncodeFault, Style};
 
@@ -64,10 +62,10 @@ pub(crate) fn send_table<R: Read, W: Write>(
     tap: &mut Tap<R>,
     limits: Limits,
     style: Style,
-    output: &mut Handed<'_, W>,
+    output: &mut Output<'_, W>,
 ) -> Result<Tally, Stop>
-    requires fresh { is_spent (output_of output.old) ≡ false }
-    ensures sends { SendsTable style limits W.contents (R.remaining (device_of tap.old)) (output_of output.old) (output_of output.new) result }
+    requires fresh { is_spent output.old ≡ false }
+    ensures sends { SendsTable style limits W.contents (R.remaining (device_of tap.old)) output.old output.new result }
 {
     let mut table = TableReader::new(alloc, tap, limits);
     let mut flat = Flat::new(alloc);
@@ -97,12 +95,11 @@ fn send_next<R: Read, W: Write>(
     flat: &mut Flat,
     style: Style,
     room: &mut Room,
-    output: &mut Handed<'_, W>,
+    output: &mut Output<'_, W>,
     work: &mut Work,
 ) -> Result<bool, Why>
-    requires fresh { is_spent (output_of output.old) ≡ false }
     ensures sends { (l : Allowance) (told : Option (List ℕ)) (records : List Record) (given : List Tree)
-        → StandsAfter l R.remaining told records given table.old → SendsNext style l R.remaining W.contents told records given table.new (output_of output.old) work.old (output_of output.new) work.new result }
+        → StandsAfter l R.remaining told records given table.old → SendsNext style l R.remaining W.contents told records given table.new output.old work.old output.new work.new result }
 {
     match table.next_flat(flat) {
         Ok(true) => {}

@@ -2,9 +2,9 @@
 ghost use Rattle.std.specs.Prelude.{◌≡◌, IfOk, IfErr};
 ghost use Rattle.twkb_convert.specs.LocatedBlobs.{LocatedStream, geometries_of};
 ghost use Rattle.twkb_convert.specs.Listings.{listing_text};
-ghost use Rattle.twkb_convert.specs.Listed.{Listed, StoppedListing, cause_for};
+ghost use Rattle.twkb_convert.specs.Listed.{Listed, StoppedListing, cause_of_obstacle};
 
-use crate::blob_sending::send_and_flush;
+use crate::blob_sending::send_listing_and_flush;
 use crate::halt::Obstacle;
 use crate::listing::Listing;
 use crate::report::{Cause, ConvertFault, Report};
@@ -28,7 +28,7 @@ pub(crate) fn list_stream<R: Read, W: Write>(
 {
     let mut output = Output::new(writer);
     let mut blobs = Reader::new(Input::new(reader), limits);
-    let listing = send_and_flush(what, alloc, &mut blobs, &mut output);
+    let listing = send_listing_and_flush(what, alloc, &mut blobs, &mut output);
     let sent = output.sent();
     match listing {
         Ok(done) => Ok(Report {
@@ -38,14 +38,14 @@ pub(crate) fn list_stream<R: Read, W: Write>(
         Err(halt) => Err(ConvertFault {
             done: halt.done,
             sent,
-            cause: cause_of(halt.obstacle),
+            cause: listing_cause(halt.obstacle),
         }),
     }
 }
 
 // What an obstacle is to a caller. A call after a refused one is never made.
-fn cause_of(obstacle: Obstacle) -> Cause
-    ensures { result ≡ cause_for obstacle }
+fn listing_cause(obstacle: Obstacle) -> Cause
+    ensures { result ≡ cause_of_obstacle obstacle }
 {
     match obstacle {
         Obstacle::Stream(BlobFault::At { offset, reason }) => Cause::Blob { offset, reason },

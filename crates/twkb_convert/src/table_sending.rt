@@ -3,31 +3,29 @@ ghost use Rattle.std.specs.Prelude.{◌≡◌, false, OnOk};
 ghost use Rattle.std.specs.Io.KnownBytes.{IsAtEnd};
 ghost use Rattle.twkb_io.specs.Taps.{device_of};
 ghost use Rattle.twkb_io.specs.Outputs.{is_spent};
-ghost use Rattle.twkb_convert.specs.Handing.{output_of};
 ghost use Rattle.twkb_convert.specs.Sending.{SendsTable};
 
 use crate::draining::drain;
-use crate::handed::Handed;
 use crate::sending::{Stop, Tally, Why, send_table};
 use std::alloc::Global;
 use std::io::{Read, Write};
 use twkb_geom::Limits;
-use twkb_io::Tap;
+use twkb_io::{Output, Tap};
 use twkb_writer::Style;
 
 /// Sends a table, and flushes where no put was refused.
-pub(crate) fn send_and_flush<R: Read, W: Write>(
+pub(crate) fn send_table_and_flush<R: Read, W: Write>(
     alloc: Global,
     tap: &mut Tap<R>,
     limits: Limits,
     style: Style,
-    output: &mut Handed<'_, W>,
+    output: &mut Output<'_, W>,
 ) -> Result<Tally, Stop>
-    requires fresh { is_spent (output_of output.old) ≡ false }
-    ensures sends { SendsTable style limits W.contents (R.remaining (device_of tap.old)) (output_of output.old) (output_of output.new) result }
+    requires fresh { is_spent output.old ≡ false }
+    ensures sends { SendsTable style limits W.contents (R.remaining (device_of tap.old)) output.old output.new result }
     ensures end { OnOk result (IsAtEnd (R.remaining (device_of tap.new))) }
 {
-    let tally = match send_and_drain(alloc, tap, limits, style, output) {
+    let tally = match send_table_and_drain(alloc, tap, limits, style, output) {
         Ok(tally) => tally,
         Err(stop) => {
             if stop.why.is_output() {
@@ -52,15 +50,15 @@ pub(crate) fn send_and_flush<R: Read, W: Write>(
 }
 
 // Sends a table, and sees that the reader is at its end.
-fn send_and_drain<R: Read, W: Write>(
+fn send_table_and_drain<R: Read, W: Write>(
     alloc: Global,
     tap: &mut Tap<R>,
     limits: Limits,
     style: Style,
-    output: &mut Handed<'_, W>,
+    output: &mut Output<'_, W>,
 ) -> Result<Tally, Stop>
-    requires fresh { is_spent (output_of output.old) ≡ false }
-    ensures sends { SendsTable style limits W.contents (R.remaining (device_of tap.old)) (output_of output.old) (output_of output.new) result }
+    requires fresh { is_spent output.old ≡ false }
+    ensures sends { SendsTable style limits W.contents (R.remaining (device_of tap.old)) output.old output.new result }
     ensures end { OnOk result (IsAtEnd (R.remaining (device_of tap.new))) }
 {
     let tally = match send_table(alloc, tap, limits, style, output) {

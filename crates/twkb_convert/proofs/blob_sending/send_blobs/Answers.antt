@@ -1,6 +1,6 @@
 use Rattle.std.proofs.Common.{◌∙◌, arith, rules}
 use Rattle.twkb_convert.proofs.BlobsSent.{cut_blobs, follows_trans, sent_more}
-use Rattle.twkb_convert.proofs.LocatedLemmas.{blob_long, located_long}
+use Rattle.twkb_convert.proofs.LocatedLemmas.{located_long}
 use Rattle.twkb_convert.proofs.blob_sending.send_blobs.Goals as goal
 
 pub overflow_add-done : goal.overflow_add-done
@@ -11,7 +11,7 @@ overflow_add-done g c =
 pub loop-done-smaller : goal.loop-done-smaller
 loop-done-smaller g c =
     let one = c.in-Ok-true.ensures.more (search rules) in
-    omega (arith, one.gives.used.counted, blob_long _ one.gives.front one.found.geometry one.gives.tells.blob, c.in-Ok-true.ensures.follows.within)
+    omega (arith, one.gives.used.counted, c.some_byte.ensures _ one.gives.front one.found.geometry one.gives.tells.blob, c.in-Ok-true.ensures.follows.within)
 
 pub loop-done-preserved : goal.loop-done-preserved
 loop-done-preserved g c =

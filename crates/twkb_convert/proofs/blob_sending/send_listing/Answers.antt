@@ -1,12 +1,11 @@
-use Rattle.std.proofs.Common.{◌∙◌, sym, subst, rules}
+use Rattle.std.proofs.Common.{subst}
 use Rattle.twkb_io.specs.Outputs.{Took}
 use Rattle.twkb_convert.proofs.ListingSent.{cut_first, listing_cut, listing_sent}
 use Rattle.twkb_convert.proofs.blob_sending.send_listing.Goals as goal
 
 pub returns-in-Err-clause-err : goal.returns-in-Err-clause-err
 returns-in-Err-clause-err g c =
-    let (front, left, parts, refused) = c.in-Err.ensures.err in
-    cut_first c.args.what g.W.Write.contents _ _ _ c.in-Err.fault front left (sym c.first_text.ensures.text ∙ parts) refused (search rules) (search rules)
+    cut_first c.args.what g.W.Write.contents _ _ _ _ c.in-Err.fault c.first_text.ensures.text c.requires.output c.in-Err.ensures.cut
 
 pub returns-in-Ok-clause-ok : goal.returns-in-Ok-clause-ok
 returns-in-Ok-clause-ok g c =

@@ -1,6 +1,6 @@
 use Rattle.std.proofs.Common.{rules}
 use Rattle.twkb_convert.proofs.ListingSent.{cut_by_flush}
-use Rattle.twkb_convert.proofs.blob_sending.send_and_flush.Goals as goal
+use Rattle.twkb_convert.proofs.blob_sending.send_listing_and_flush.Goals as goal
 
 pub returns-in-Err-flush-2-clause-err : goal.returns-in-Err-flush-2-clause-err
 returns-in-Err-flush-2-clause-err g c =

@@ -23,6 +23,6 @@ returns-in-Err-Sink g c = record {
       record {
         geometry = gives.geometry;
         ready = ready_after l g.R.Read.remaining told gives.seen (given ++ gives.geometry ∷ []) c.next_flat.new.self gives.stands;
-        sends = rw c.in-Err-Sink.field-0-is at (c.in-Err-Sink.ensures.err gives.geometry gives.valid.tree gives.rows);
+        cut = rw c.in-Err-Sink.field-0-is at (c.in-Err-Sink.ensures.err gives.geometry gives.valid.tree gives.rows);
       };
 }

@@ -1,7 +1,6 @@
 use Rattle.std.proofs.Common.{◌≡◌, false}
 use Rattle.twkb_io.specs.Taps.{device_of}
 use Rattle.twkb_io.specs.Outputs.{is_spent}
-use Rattle.twkb_convert.specs.Handing.{output_of}
 use Rattle.twkb_convert.specs.Sending.{SentSoFar}
 use Rattle.twkb_convert.proofs.sending.send_table.Given as goal
 
@@ -9,6 +8,6 @@ use Rattle.twkb_convert.proofs.sending.send_table.Given as goal
 abbrev pub invariant-loop-done : goal.invariant-loop-done
 invariant-loop-done g l =
     record {
-      fresh : is_spent (output_of l.output) ≡ false;
-      sent : SentSoFar l.style l.fn.limits g.R.Read.remaining g.W.Write.contents (g.R.Read.remaining (device_of l.fn.tap)) l.table (output_of l.fn.output) (output_of l.output) l.done l.work;
+      fresh : is_spent l.output ≡ false;
+      sent : SentSoFar l.style l.fn.limits g.R.Read.remaining g.W.Write.contents (g.R.Read.remaining (device_of l.fn.tap)) l.table l.fn.output l.output l.done l.work;
     }

@@ -1,6 +1,6 @@
 use Rattle.std.proofs.Common.{rules}
 use Rattle.twkb_convert.proofs.SendingLemmas.{flush_failed}
-use Rattle.twkb_convert.proofs.table_sending.send_and_flush.Goals as goal
+use Rattle.twkb_convert.proofs.table_sending.send_table_and_flush.Goals as goal
 
 pub returns-in-Err-flush-2-clause-sends : goal.returns-in-Err-flush-2-clause-sends
 returns-in-Err-flush-2-clause-sends g c =
