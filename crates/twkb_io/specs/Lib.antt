@@ -4,6 +4,7 @@ pub mod Inputs
 pub mod Sinks
 pub mod SinkLaws
 pub mod Counts
+pub mod Endings
 pub mod Bytes
 pub mod Outputs
 pub mod OutputLaws

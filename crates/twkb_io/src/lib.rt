@@ -4,6 +4,7 @@
 mod bytes;
 mod copying;
 mod count;
+mod ending;
 mod fuse;
 mod input;
 mod output;
@@ -13,6 +14,7 @@ mod tap;
 pub use bytes::Bytes;
 pub use copying::{CopyFault, copy};
 pub use count::{Count, CountFull};
+pub use ending::Ending;
 pub use fuse::{Fuse, FuseEnd};
 pub use input::{InFault, Input};
 pub use output::{OutFault, Output};

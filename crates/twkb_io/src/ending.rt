@@ -1,0 +1,71 @@
+//! A reader that is asked no more once it told its end.
+ghost use Rattle.std.specs.Prelude.{◌≡◌, true, false, IfSome, [], Ok};
+ghost use Rattle.std.specs.Io.{ReadsAtMost};
+ghost use Rattle.std.specs.Io.KnownBytes.{IsAtEnd, ReadConsumes};
+ghost use Rattle.std.proofs.Props.{props};
+
+use std::io;
+use std::io::Read;
+
+/// A reader that remembers its end, as a reader of a terminal is to: once a read into a buffer with
+/// room gave no byte, each read gives none, and the reader underneath is asked no more. Takes no
+/// memory of its own.
+#[derive(Drop)]
+pub struct Ending<R: Read> {
+    reader: R,
+    ended: bool,
+    ghost at_end: { ended ≡ true → IfSome (R.remaining reader) (λ left. left ≡ []) } by { Prim.hlevel props },
+}
+
+impl<R: Read> Ending<R> {
+    ghost use Rattle.twkb_io.specs.Endings.{has_ended, under};
+
+    /// A reader of which no end was seen yet.
+    pub fn new(reader: R) -> Ending<R>
+        ensures reader { under result ≡ reader }
+        ensures not_ended { has_ended result ≡ false }
+    {
+        Ending {
+            reader,
+            ended: false,
+        }
+    }
+
+    /// Whether the end was seen; then no known byte is left.
+    pub fn has_ended(&self) -> bool
+        ensures ended { result ≡ has_ended self.now }
+        ensures at_end { result ≡ true → IsAtEnd (R.remaining (under self.now)) }
+    {
+        self.ended
+    }
+
+    /// The reader underneath, as the reads left it.
+    pub fn into_inner(self) -> R
+        ensures { result ≡ under self }
+    {
+        self.reader
+    }
+}
+
+impl<R: Read> Read for Ending<R> {
+    ghost use Rattle.twkb_io.specs.Endings.{Ends, has_ended, under};
+
+    ghost remaining = { λ ending. R.remaining (under ending) };
+
+    fn read(&mut self, buf: &mut [u8]) -> io::Result<usize>
+        ensures bound { ReadsAtMost result buf.new }
+        ensures bytes { ReadConsumes (R.remaining (under self.old)) (R.remaining (under self.new)) result buf.new }
+        ensures ended { has_ended self.old ≡ true → (result ≡ Ok 0) × (self.new ≡ self.old) }
+        ensures ends { Ends (has_ended self.old) result buf.new (has_ended self.new) }
+    {
+        if self.ended {
+            return Ok(0);
+        }
+        let has_room = !buf.is_empty();
+        let read = self.reader.read(buf);
+        if let Ok(count) = &read {
+            self.ended = has_room && *count == 0;
+        }
+        read
+    }
+}
