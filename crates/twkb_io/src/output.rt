@@ -69,13 +69,14 @@ impl<'a, W> Output<'a, W> {
 }
 
 impl<'a, W: Write> Output<'a, W> {
-    ghost use Rattle.twkb_io.specs.Taps.{count_failure};
+    ghost use Rattle.twkb_io.specs.Taps.{count_failure, has_unflushed};
     ghost use Rattle.twkb_io.specs.Outputs.{Refused, Took, is_device, is_spent, output_failures, output_tap, sent_of, written};
 
     /// Flushes the writer. After an `Err` each call answers `Spent`.
     pub fn flush(&mut self) -> Result<(), OutFault>
         ensures ok { OnOk result (Took W.contents self.old [] self.new) }
         ensures err { IfErr result (λ fault. Refused W.contents self.old [] fault self.new) }
+        ensures flushed { OnOk result (has_unflushed (output_tap self.new).now ≡ false) }
         ensures spent { (result ≡ Err OutFault.Spent) ↔ (is_spent self.old ≡ true) }
         ensures kinds { (result ≢ Err OutFault.Stuck) × (result ≢ Err OutFault.TooLong) }
         ensures unchanged { is_spent self.old ≡ true → self.new ≡ self.old }

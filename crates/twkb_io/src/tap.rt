@@ -1,30 +1,37 @@
 //! A device under a count of its failures.
-ghost use Rattle.std.specs.Prelude.{◌≡◌, is_err};
+ghost use Rattle.std.specs.Prelude.{◌≡◌, ◌&&◌, ◌||◌, is_err, false};
 ghost use Rattle.std.specs.Io.{ReadsAtMost, WritesAtMost};
 ghost use Rattle.std.specs.Io.KnownBytes.{Keeps, ReadConsumes, WriteAppends};
 
 use std::io;
 use std::io::{Read, Write};
 
-/// A reader or a writer, with a count of its calls that failed. Each read, write and flush is
-/// passed through once, and answered as the device answers it. Takes no memory of its own.
+/// A reader or a writer, with a count of its calls that failed and of the bytes that it gave, which
+/// knows whether it took bytes behind its last flush. Each read, write and flush is passed through
+/// once, and answered as the device answers it. Takes no memory of its own.
 #[derive(Drop)]
 pub struct Tap<D> {
     device: D,
     failures: u64,
+    given: u64,
+    unflushed: bool,
 }
 
 impl<D> Tap<D> {
-    ghost use Rattle.twkb_io.specs.Taps.{count_failure, device_of, failures_of};
+    ghost use Rattle.twkb_io.specs.Taps.{bytes_given, count_failure, device_of, failures_of, has_unflushed};
 
     /// A device of which no call has failed yet.
     pub fn new(device: D) -> Tap<D>
         ensures device { device_of result ≡ device }
         ensures failures { failures_of result ≡ 0 }
+        ensures given { bytes_given result ≡ 0 }
+        ensures flushed { has_unflushed result ≡ false }
     {
         Tap {
             device,
             failures: 0,
+            given: 0,
+            unflushed: false,
         }
     }
 
@@ -33,6 +40,20 @@ impl<D> Tap<D> {
         ensures { result ≡ failures_of self.now }
     {
         self.failures
+    }
+
+    /// How many bytes the reads gave. A count of `u64::MAX` stays there.
+    pub fn given(&self) -> u64
+        ensures { result ≡ bytes_given self.now }
+    {
+        self.given
+    }
+
+    /// Whether bytes were taken behind the last flush that passed.
+    pub fn has_unflushed(&self) -> bool
+        ensures { result ≡ has_unflushed self.now }
+    {
+        self.unflushed
     }
 
     /// The device, as the calls left it.
@@ -46,6 +67,8 @@ impl<D> Tap<D> {
     fn count(&mut self, has_failed: bool)
         ensures failures { failures_of self.new ≡ count_failure has_failed (failures_of self.old) }
         ensures device { device_of self.new ≡ device_of self.old }
+        ensures given { bytes_given self.new ≡ bytes_given self.old }
+        ensures unflushed { has_unflushed self.new ≡ has_unflushed self.old }
     {
         if has_failed {
             let Tap { failures, .. } = self;
@@ -55,7 +78,7 @@ impl<D> Tap<D> {
 }
 
 impl<D: Read> Read for Tap<D> {
-    ghost use Rattle.twkb_io.specs.Taps.{count_failure, device_of, failures_of};
+    ghost use Rattle.twkb_io.specs.Taps.{bytes_given, count_failure, count_given, device_of, failures_of};
 
     ghost remaining = { λ tap. D.remaining (device_of tap) };
 
@@ -63,15 +86,19 @@ impl<D: Read> Read for Tap<D> {
         ensures bound { ReadsAtMost result buf.new }
         ensures bytes { ReadConsumes (D.remaining (device_of self.old)) (D.remaining (device_of self.new)) result buf.new }
         ensures failures { failures_of self.new ≡ count_failure (is_err result) (failures_of self.old) }
+        ensures given { bytes_given self.new ≡ count_given result (bytes_given self.old) }
     {
         let read = self.device.read(buf);
+        if let Ok(count) = &read {
+            self.given = self.given.saturating_add(*count as u64);
+        }
         self.count(read.is_err());
         read
     }
 }
 
 impl<D: Write> Write for Tap<D> {
-    ghost use Rattle.twkb_io.specs.Taps.{count_failure, device_of, failures_of, write_failed};
+    ghost use Rattle.twkb_io.specs.Taps.{count_failure, device_of, failures_of, has_unflushed, takes_some, write_failed};
 
     ghost contents = { λ tap. D.contents (device_of tap) };
 
@@ -79,12 +106,16 @@ impl<D: Write> Write for Tap<D> {
         ensures bound { WritesAtMost result buf.now }
         ensures bytes { WriteAppends (D.contents (device_of self.old)) (D.contents (device_of self.new)) result buf.now }
         ensures failures { failures_of self.new ≡ count_failure (write_failed result buf.now) (failures_of self.old) }
+        ensures unflushed { has_unflushed self.new ≡ has_unflushed self.old || takes_some result }
     {
         let written = self.device.write(buf);
         let has_failed = match &written {
             Ok(taken) => *taken == 0 && !buf.is_empty(),
             Err(_) => true,
         };
+        if let Ok(taken) = &written {
+            self.unflushed |= *taken != 0;
+        }
         self.count(has_failed);
         written
     }
@@ -92,8 +123,12 @@ impl<D: Write> Write for Tap<D> {
     fn flush(&mut self) -> io::Result<()>
         ensures bytes { Keeps (D.contents (device_of self.old)) (D.contents (device_of self.new)) }
         ensures failures { failures_of self.new ≡ count_failure (is_err result) (failures_of self.old) }
+        ensures unflushed { has_unflushed self.new ≡ is_err result && has_unflushed self.old }
     {
         let flushed = self.device.flush();
+        if flushed.is_ok() {
+            self.unflushed = false;
+        }
         self.count(flushed.is_err());
         flushed
     }

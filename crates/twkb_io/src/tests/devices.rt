@@ -17,6 +17,10 @@ impl<D> Asked<D> {
     pub fn calls(&self) -> u64 {
         self.calls
     }
+
+    pub fn into_inner(self) -> D {
+        self.device
+    }
 }
 
 impl<D: Read> Read for Asked<D> {
@@ -61,5 +65,38 @@ impl<D: Read> Read for FailsOnce<D> {
             return Err(ErrorKind::Other.into());
         }
         self.device.read(buf)
+    }
+}
+
+/// Gives one text, then tells its end once, and then gives another, as a terminal may.
+#[derive(Drop)]
+pub struct Terminal<'a> {
+    first: &'a [u8],
+    second: &'a [u8],
+    has_ended: bool,
+}
+
+impl<'a> Terminal<'a> {
+    pub fn new(first: &'a [u8], second: &'a [u8]) -> Terminal<'a> {
+        Terminal {
+            first,
+            second,
+            has_ended: false,
+        }
+    }
+
+    /// What is left of the second text.
+    pub fn second(&self) -> &'a [u8] {
+        self.second
+    }
+}
+
+impl<'a> Read for Terminal<'a> {
+    fn read(&mut self, buf: &mut [u8]) -> io::Result<usize> {
+        if self.has_ended {
+            return self.second.read(buf);
+        }
+        self.has_ended = self.first.is_empty() && !buf.is_empty();
+        self.first.read(buf)
     }
 }

@@ -119,3 +119,22 @@ fn a_fuse_passes_writes_a_step_at_a_time(rt: HostRuntime) {
     assert!(rt; passes_write(alloc, 1, 4, 1));
     assert!(rt; passes_write(alloc, 0, 4, 0));
 }
+
+#[test]
+fn a_tap_tells_what_is_unflushed(rt: HostRuntime) {
+    let mut tap = Tap::new(Vec::new(rt.alloc()));
+    assert!(rt; writes(&mut tap, &[], 0));
+    assert!(rt; !tap.has_unflushed());
+    assert!(rt; writes(&mut tap, &[1, 2], 2));
+    assert!(rt; tap.has_unflushed());
+    assert!(rt; tap.flush().is_ok());
+    assert!(rt; !tap.has_unflushed());
+}
+
+#[test]
+fn a_failed_flush_leaves_all_unflushed(rt: HostRuntime) {
+    let mut tap = Tap::new(Fuse::new(Vec::new(rt.alloc()), 9, 9, FuseEnd::Fail, true));
+    assert!(rt; writes(&mut tap, &[1, 2], 2));
+    assert!(rt; tap.flush().is_err());
+    assert!(rt; tap.has_unflushed());
+}
