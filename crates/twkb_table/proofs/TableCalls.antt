@@ -7,7 +7,7 @@ use Rattle.twkb_geom.specs.Rows.{Row, rows}
 use Rattle.twkb_geom.proofs.RootLaws.{one_geometry}
 use Rattle.twkb_table.specs.Record.{Record, header}
 use Rattle.twkb_table.specs.Named.{Named}
-use Rattle.twkb_table.specs.RowFault.{AreComplete}
+use Rattle.twkb_table.specs.RowFault.{AreComplete, all_but_last}
 use Rattle.twkb_table.specs.CsvRecords.{AreRecordsOf, BeginWith, standing}
 use Rattle.twkb_table.specs.Numbering.{fault_of}
 use Rattle.twkb_table.specs.Standing.{IfRefused}
@@ -25,10 +25,10 @@ use Rattle.twkb_table.proofs.TableSteps.{too_many}
 -- ---- faults
 
 -- where no record came
-pub no_record : (l : Allowance) (told : Option (List ℕ)) (records : List Record) (given : List Tree) (number : ℕ) (f : TableFault) → number ≡ length records
+pub no_record : (l : Allowance) (told : Option (List ℕ)) (records : List Record) (given gs : List Tree) (number : ℕ) (f : TableFault) → Named l records gs → given ≡ all_but_last gs → number ≡ length records
     → (f ≡ fault.Source) ⊎ ((f ≡ fault.TooManyRecords) × (number + 1 ≡ 2 ^ 32) × ((here : Record) × IfSome told (λ text. BeginWith text (records ++ here ∷ [])))) → Explains l told records given f
-no_record l told records given number f count (inl source) = subst (λ e. Explains l told records given e) (sym source) tt
-no_record l told records given number f count (inr (many, last, here)) = subst (λ e. Explains l told records given e) (sym many) (too_many told records number here.0 count last here.1)
+no_record l told records given gs number f named complete count (inl source) = subst (λ e. Explains l told records given e) (sym source) tt
+no_record l told records given gs number f named complete count (inr (many, last, here)) = subst (λ e. Explains l told records given e) (sym many) (too_many l told records given gs number here.0 named complete count last here.1)
 
 -- where a record gave no row
 pub explained : (l : Allowance) (told : Option (List ℕ)) (records : List Record) (given : List Tree) (number : ℕ) (f : JudgeFault) → IfRefused (λ reason. IsRefusedAt l told records given number reason) f → Explains l told records given (fault_of number f)
@@ -96,7 +96,7 @@ still_read remaining told records old new s source ended = subst (standing remai
 -- a root that waits is that of one geometry more
 a_tree : (l : Allowance) (records : List Record) (given : List Tree) (ws : List Row) (ended : Bool) → HaveGiven l records given ws ended → 0 < length ws → (g : Tree) × Named l records (given ++ g ∷ []) × (rows 0 g ≡ ws)
 a_tree l records given [] ended h some = absurd (omega (arith, some))
-a_tree l records given (root ∷ more) ended h some = h
+a_tree l records given (root ∷ more) ended h some = (h.0, h.1, h.2)
 
 pub waited : {R : Type 0} (l : Allowance) (remaining : R → Option (List ℕ)) (told : Option (List ℕ)) (records : List Record) (given : List Tree) (reader : TableReader R) → StandsAfter l remaining told records given reader → 0 < length (waiting reader.rows)
     → BeginsNext l remaining told records given (waiting reader.rows) reader

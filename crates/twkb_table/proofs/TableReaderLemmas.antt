@@ -54,7 +54,16 @@ extends_both a b c x y = (x.0 ++ y.0, y.1 ∙ ap (λ rs. rs ++ y.0) x.1 ∙ appe
 
 pub explains_from : (l : Allowance) (told : Option (List ℕ)) (records seen : List Record) (given : List Tree) (f : TableFault) → Extends records seen → Explains l told seen given f → Explains l told records given f
 explains_from l told records seen given (fault.At number reason) x e = record { seen = e.seen; extends = extends_both records seen e.seen x e.extends; begins = e.begins; none = e.none; complete = e.complete }
-explains_from l told records seen given fault.TooManyRecords x e = record { seen = e.seen; extends = extends_both records seen e.seen x e.extends; begins = e.begins; many = e.many }
+explains_from l told records seen given fault.TooManyRecords x e = record {
+  before = e.before;
+  here = e.here;
+  extends = extends_both records seen e.before x e.extends;
+  begins = e.begins;
+  many = e.many;
+  geometries = e.geometries;
+  named = e.named;
+  complete = e.complete;
+}
 explains_from l told records seen given fault.Source x e = tt
 explains_from l told records seen given fault.Memory x e = tt
 explains_from l told records seen given fault.Spent x e = e

@@ -1,5 +1,5 @@
 -- What one record more shows to a reader of tables.
-use Rattle.std.proofs.Common.{◌≡◌, ℕ, ◌+◌, ◌^◌, ◌<◌, Bool, true, false, List, [], ◌∷◌, ◌++◌, length, Option, Result, Ok, refl, sym, ◌∙◌, ap, subst, arith, length-append, inl, inr}
+use Rattle.std.proofs.Common.{◌≡◌, ℕ, ◌+◌, ◌^◌, ◌<◌, Bool, true, false, List, [], ◌∷◌, ◌++◌, length, Option, Result, Ok, Err, refl, sym, ◌∙◌, ap, subst, arith, length-append, inl, inr}
 use Rattle.std.specs.Prelude.{reverse, IfSome}
 use Rattle.std.proofs.lemmas.Bool.{true≢false}
 use Rattle.twkb_geom.specs.Tree.{Tree}
@@ -10,9 +10,13 @@ use Rattle.twkb_table.specs.Record.{Record}
 use Rattle.twkb_table.specs.Named.{Named}
 use Rattle.twkb_table.specs.Judged.{Accepted, Refused, Judged}
 use Rattle.twkb_table.specs.RowFault.{AreComplete, all_but_last}
-use Rattle.twkb_table.specs.CsvRecords.{AreRecordsOf, BeginWith}
+use Rattle.std.specs.Borrow.{MutBor}
+use Rattle.csv.specs.Records as Csv
+use Rattle.csv.specs.declared.reader.Reader.{Reader}
+use Rattle.twkb_io.specs.declared.tap.Tap.{Tap}
+use Rattle.twkb_table.specs.CsvRecords.{AreRecordsOf, BeginWith, standing}
 use Rattle.twkb_table.specs.RowReading.{limits_of, waiting, BeginsFirst, JudgedAfter, GoesOn, EndsBefore}
-use Rattle.twkb_table.specs.TableReading.{HaveGiven, StandsAfter, GivesNext, MeetsEnd, IsRefusedAt, HasTooMany, IsReading, BeginsNext, HasRead, is_ended, is_spent}
+use Rattle.twkb_table.specs.TableReading.{HaveGiven, StandsAfter, GivesNext, MeetsEnd, IsRefusedAt, HasTooMany, IsReading, BeginsNext, HasRead, IsOver, is_ended, is_spent}
 use Rattle.twkb_table.specs.declared.reason.RowReason.{RowReason}
 use Rattle.twkb_table.specs.declared.table_fault.TableFault.{TableFault}
 use Rattle.twkb_table.specs.declared.table_reader.TableReader.{TableReader}
@@ -44,8 +48,8 @@ reads_more l remaining told records given before after here old new r source num
 -- the root of another geometry
 pub reads_next : {R : Type 0} (l : Allowance) (remaining : R → Option (List ℕ)) (told : Option (List ℕ)) (records : List Record) (given : List Tree) (before : List Row) (here : Record) (old new : TableReader R)
     → IsReading l remaining told records given before old → HasRead remaining told (records ++ here ∷ []) new → new.number ≡ old.number + 1 → limits_of new.rows ≡ limits_of old.rows → is_spent new ≡ is_spent old
-    → EndsBefore old.rows before here new.rows → GivesNext l remaining told records given before new
-reads_next l remaining told records given before here old new r source number limits spent e =
+    → is_ended new ≡ false → EndsBefore old.rows before here new.rows → GivesNext l remaining told records given before new
+reads_next l remaining told records given before here old new r source number limits spent going e =
     let j = judged_after l (limits_of old.rows) given r.geometry before here (Accepted e.row) r.limits r.rows e.judged in
     let n = root_more l records here (given ++ r.geometry ∷ []) e.row r.named j e.root in
     record {
@@ -59,7 +63,7 @@ reads_next l remaining told records given before here old new r source number li
         source = source;
         count = one_more old.number new.number records here number r.count;
         limits = limits ∙ r.limits;
-        gave = subst (λ w. HaveGiven l (records ++ here ∷ []) (given ++ r.geometry ∷ []) w (is_ended new)) (sym e.waits) (n.geometry, n.named, n.rows_are);
+        gave = subst (λ w. HaveGiven l (records ++ here ∷ []) (given ++ r.geometry ∷ []) w (is_ended new)) (sym e.waits) (n.geometry, n.named, n.rows_are, going);
         unspent = spent ∙ r.unspent;
       };
     }
@@ -103,12 +107,17 @@ reads_refused l remaining told records given before here old new reason r source
     (text_begins remaining told (records ++ here ∷ []) new source) (judged_after l (limits_of old.rows) given r.geometry before here (Refused reason) r.limits r.rows j) (omega (arith, number, r.count))
 
 -- too many records
-pub too_many : (told : Option (List ℕ)) (records : List Record) (number : ℕ) (here : Record) → number ≡ length records → number + 1 ≡ 2 ^ 32 → IfSome told (λ text. BeginWith text (records ++ here ∷ [])) → HasTooMany told records
-too_many told records number here count last begins = record {
-  seen = records ++ here ∷ [];
-  extends = extends_one records here;
+pub too_many : (l : Allowance) (told : Option (List ℕ)) (records : List Record) (given gs : List Tree) (number : ℕ) (here : Record) → Named l records gs → given ≡ all_but_last gs → number ≡ length records → number + 1 ≡ 2 ^ 32
+    → IfSome told (λ text. BeginWith text (records ++ here ∷ [])) → HasTooMany l told records given
+too_many l told records given gs number here named complete count last begins = record {
+  before = records;
+  here = here;
+  extends = extends_none records;
   begins = begins;
-  many = omega (arith, count, last, length-append records (here ∷ []));
+  many = omega (arith, count, last);
+  geometries = gs;
+  named = named;
+  complete = complete;
 }
 
 -- ---- where no root waits
@@ -138,6 +147,27 @@ none_given : (l : Allowance) (records : List Record) (given : List Tree) (ended 
 none_given l records given ended (n, inl none) going some = (subst (λ gs. Named l records gs) none (named_some l records given some n), none)
 none_given l records given ended (n, inr over) going some = absurd (true≢false (sym over ∙ going))
 
+pub none_before : {R : Type 0} (l : Allowance) (remaining : R → Option (List ℕ)) (told : Option (List ℕ)) (records : List Record) (given : List Tree) (reader : TableReader R) → StandsAfter l remaining told records given reader → waiting reader.rows ≡ [] → 0 < reader.number
+    → is_ended reader ≡ false → Named l records [] × (given ≡ [])
+none_before l remaining told records given reader s none some going =
+    none_given l records given (is_ended reader) (subst (λ w. HaveGiven l records given w (is_ended reader)) none s.gave) going (omega (arith, some, s.count))
+
+-- a fault came, so the end was not met
+pub not_ended : (ended : Bool) (f : TableFault) → (ended ≡ true → ◌≡◌ {A = Result Bool TableFault} (Err f) (Ok false)) → ended ≡ false
+not_ended false f over = refl
+not_ended true f over = (let same = over refl in cc same)
+
+-- after the end all was given
+pub over_meets : {R : Type 0} (l : Allowance) (remaining : R → Option (List ℕ)) (told : Option (List ℕ)) (records : List Record) (given : List Tree) (reader : TableReader R) → StandsAfter l remaining told records given reader → IsOver reader
+    → MeetsEnd l remaining told records given reader
+over_meets l remaining told records given reader s over =
+    meets_end l remaining told records given reader reader s over.none over.begun s.source over.ended (subst (λ e. standing remaining told records e reader.reader) over.ended s.source) refl refl refl over.none
+
+-- a reader whose parts are as they were
+pub same_parts : {R : Type 0} (old : TableReader R) (reader : Reader (MutBor (Tap R))) (held : Csv.Row) (ended : Bool) (number : ℕ) → reader ≡ old.reader → held ≡ old.held → ended ≡ old.ended → number ≡ old.number
+    → ◌≡◌ {A = TableReader R} (record old { reader = reader; held = held; ended = ended; number = number }) old
+same_parts old reader held ended number a b c d = rw (a, b, c, d) refl
+
 -- a record came, so the end was not met
 pub going_on : (ended found : Bool) → (ended ≡ true → ◌≡◌ {A = Result Bool TableFault} (Ok found) (Ok false)) → found ≡ true → ended ≡ false
 going_on false found over e = refl
@@ -150,7 +180,7 @@ pub begins_next : {R : Type 0} (l : Allowance) (remaining : R → Option (List �
     → new.number ≡ old.number + 1 → limits_of new.rows ≡ limits_of old.rows → is_spent new ≡ is_spent old → BeginsFirst old.rows here new.rows
     → BeginsNext l remaining told records given (waiting new.rows) new
 begins_next l remaining told records given here old new s none some going source number limits spent first =
-    let before = none_given l records given (is_ended old) (subst (λ w. HaveGiven l records given w (is_ended old)) none s.gave) going (omega (arith, some, s.count)) in
+    let before = none_before l remaining told records given old s none some going in
     let n = root_more l records here [] first.row before.0 (subst (λ m. Judged m [] here (Accepted first.row)) s.limits first.judged) first.root in
     record {
       seen = records ++ here ∷ [];
@@ -170,6 +200,6 @@ pub first_refused : {R : Type 0} (l : Allowance) (remaining : R → Option (List
     → StandsAfter l remaining told records given old → waiting old.rows ≡ [] → 0 < old.number → is_ended old ≡ false → HasRead remaining told (records ++ here ∷ []) new
     → new.number ≡ old.number + 1 → IsAllowance (limits_of old.rows) → Judged (limits_of old.rows) [] here (Refused reason) → IsRefusedAt l told records given new.number reason
 first_refused l remaining told records given here old new reason s none some going source number cap j =
-    let first = none_given l records given (is_ended old) (subst (λ w. HaveGiven l records given w (is_ended old)) none s.gave) going (omega (arith, some, s.count)) in
+    let first = none_before l remaining told records given old s none some going in
     refused_at l told records here [] given new.number reason (subst IsAllowance s.limits cap) first.0 (sym first.1) (text_begins remaining told (records ++ here ∷ []) new source)
     (subst (λ m. Judged m [] here (Refused reason)) s.limits j) (omega (arith, number, s.count))

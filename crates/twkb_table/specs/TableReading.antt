@@ -1,11 +1,11 @@
 -- Where a reader of tables stands, and what its calls answer.
-use Rattle.std.specs.Prelude.{◌≡◌, ℕ, ◌^◌, ◌<◌, ◌⊎◌, List, [], ◌∷◌, ◌++◌, length, Option, IfSome, Result, Ok, Err, Bool, true, false, ⊤}
+use Rattle.std.specs.Prelude.{◌≡◌, ℕ, ◌+◌, ◌^◌, ◌<◌, ◌⊎◌, List, [], ◌∷◌, ◌++◌, length, Option, IfSome, Result, Ok, Err, Bool, true, false, ⊤}
 use Rattle.twkb_geom.specs.Tree.{Tree}
 use Rattle.twkb_geom.specs.Rows.{Row, rows}
 use Rattle.twkb_geom.specs.Limits.{Allowance, IsValid}
 use Rattle.twkb_table.specs.Record.{Record, header}
 use Rattle.twkb_table.specs.Named.{Named}
-use Rattle.twkb_table.specs.RowFault.{AreComplete}
+use Rattle.twkb_table.specs.RowFault.{AreComplete, all_but_last}
 use Rattle.twkb_table.specs.CsvRecords.{AreRecordsOf, BeginWith, standing}
 use Rattle.twkb_table.specs.RowReading.{limits_of, waiting}
 use Rattle.twkb_table.specs.declared.reason.RowReason.{RowReason}
@@ -20,11 +20,11 @@ abbrev pub NameSoFar : Allowance → List Record → List Tree → Type 0
 NameSoFar l [] gs = gs ≡ []
 NameSoFar l (first ∷ records) gs = Named l (first ∷ records) gs
 
--- The records name the geometries that were given, and one more where a root waits, whose only row is that root. Where none waits, either no
--- geometry was given yet or the table's end was met.
+-- The records name the geometries that were given, and one more where a root waits, whose only row is that root; then the table's end was
+-- not met. Where none waits, either no geometry was given yet or the table's end was met.
 abbrev pub HaveGiven : Allowance → List Record → List Tree → List Row → Bool → Type 0
 HaveGiven l records given [] ended = NameSoFar l records given × ((given ≡ []) ⊎ (ended ≡ true))
-HaveGiven l records given (root ∷ more) ended = (last : Tree) × Named l records (given ++ last ∷ []) × (rows 0 last ≡ root ∷ more)
+HaveGiven l records given (root ∷ more) ended = (last : Tree) × Named l records (given ++ last ∷ []) × (rows 0 last ≡ root ∷ more) × (ended ≡ false)
 
 -- whether the end of the table was met
 abbrev pub is_ended : {R : Type 0} → TableReader R → Bool
@@ -92,17 +92,21 @@ pub record IsRefusedAt (l : Allowance) (told : Option (List ℕ)) (records : Lis
   pub none : seen ≡ [] → IfSome told (λ text. AreRecordsOf text [])
   pub complete : AreComplete l seen number reason given
 
--- The text begins with 2 ^ 32 records, of which all but the last were taken.
-pub record HasTooMany (told : Option (List ℕ)) (records : List Record) : Type 0 where
-  pub seen : List Record
-  pub extends : Extends records seen
-  pub begins : IfSome told (λ text. BeginWith text seen)
-  pub many : length seen ≡ 2 ^ 32
+-- The text begins with 2 ^ 32 records. Those before the last name geometries, and all of them but the last were given.
+pub record HasTooMany (l : Allowance) (told : Option (List ℕ)) (records : List Record) (given : List Tree) : Type 0 where
+  pub before : List Record
+  pub here : Record
+  pub extends : Extends records before
+  pub begins : IfSome told (λ text. BeginWith text (before ++ here ∷ []))
+  pub many : length before + 1 ≡ 2 ^ 32
+  pub geometries : List Tree
+  pub named : Named l before geometries
+  pub complete : given ≡ all_but_last geometries
 
 -- what a fault says of a text, of which these records were read and these geometries given
 abbrev pub Explains : Allowance → Option (List ℕ) → List Record → List Tree → TableFault → Type 0
 Explains l told records given (fault.At number reason) = IsRefusedAt l told records given number reason
-Explains l told records given fault.TooManyRecords = HasTooMany told records
+Explains l told records given fault.TooManyRecords = HasTooMany l told records given
 Explains l told records given fault.Source = ⊤
 Explains l told records given fault.Memory = ⊤
 Explains l told records given fault.Spent = ⊥

@@ -28,7 +28,9 @@ pub(crate) fn next_record<R: Read>(
         → standing R.remaining told (records ++ fields_of held.new ∷ []) ended.new reader.new) }
     ensures counted { IfOk result (λ found. found ≡ true → (number.new ≡ number.old + 1) × (number.new < 2 ^ 32)) }
     ensures over { ended.old ≡ true → result ≡ Ok false }
+    ensures unread { ended.old ≡ true → (reader.new ≡ reader.old) × (held.new ≡ held.old) × (ended.new ≡ ended.old) × (number.new ≡ number.old) }
     ensures ended { result ≡ Ok false → ended.new ≡ true }
+    ensures going { IfOk result (λ found. found ≡ true → ended.new ≡ false) }
     ensures end { IfOk result (λ found. found ≡ false → (number.new ≡ number.old) × ((told : Option (List ℕ)) (records : List Record) → standing R.remaining told records ended.old reader.old
         → standing R.remaining told records ended.new reader.new × IfSome told (λ text. AreRecordsOf text records))) }
     ensures fault { IfErr result (λ fault. (fault ≡ TableFault.Source) ⊎ ((fault ≡ TableFault.TooManyRecords) × (number.old + 1 ≡ 2 ^ 32) × ((told : Option (List ℕ)) (records : List Record) → standing R.remaining told records ended.old reader.old

@@ -1,5 +1,5 @@
 //! The records of a table, one at a time.
-ghost use Rattle.std.specs.Prelude.{◌≡◌, ◌++◌, ◌∷◌, ◌↔◌, ℕ, List, Option, Some, None, Ok, Err, [], true, false, is_err, IfOk, IfErr, IfSome};
+ghost use Rattle.std.specs.Prelude.{◌≡◌, ◌++◌, ◌∷◌, ◌↔◌, ◌⊎◌, ℕ, List, Option, Some, None, Ok, Err, [], true, false, is_err, IfOk, IfErr, IfSome};
 ghost use Rattle.csv.specs.Records.{fields_of};
 ghost use Rattle.twkb_io.specs.Taps.{device_of};
 ghost use Rattle.twkb_table.specs.Record.{Record};
@@ -67,6 +67,7 @@ impl<'a, R: Read> RecordSource<'a, R> {
             → StandsAfter R.remaining told records self.old → (fault ≡ SourceFault.Source) × IfSome told (λ text. BeginWith text records)) }
         ensures over { is_ended self.old ≡ true → is_spent self.old ≡ false → result ≡ Ok false }
         ensures spent { (result ≡ Err SourceFault.Spent) ↔ (is_spent self.old ≡ true) }
+        ensures unchanged { (is_ended self.old ≡ true) ⊎ (is_spent self.old ≡ true) → self.new ≡ self.old }
         ensures ended { result ≡ Ok false → is_ended self.new ≡ true }
         ensures stays { is_spent self.new ≡ is_err result }
     {
@@ -96,7 +97,9 @@ pub(crate) fn read_next<R: Read>(
         → standing R.remaining told records ended.new reader.new × IfSome told (λ text. AreRecordsOf text records)) }
     ensures source { IfErr result (λ fault. fault ≡ SourceFault.Source) }
     ensures over { ended.old ≡ true → result ≡ Ok false }
+    ensures unread { ended.old ≡ true → (reader.new ≡ reader.old) × (held.new ≡ held.old) × (ended.new ≡ ended.old) }
     ensures ended { result ≡ Ok false → ended.new ≡ true }
+    ensures going { IfOk result (λ found. found ≡ true → ended.new ≡ false) }
 {
     if *ended {
         return Ok(false);

@@ -1,5 +1,5 @@
 //! The geometries of a table, one after another.
-ghost use Rattle.std.specs.Prelude.{◌≡◌, ◌+◌, ◌∷◌, ◌++◌, ◌⊎◌, ◌↔◌, ◌<◌, ◌^◌, ◌≢◌, [], ℕ, length, List, Option, None, Some, Ok, Err, true, false, is_err, OnOk, IfOk, IfErr, IfSome};
+ghost use Rattle.std.specs.Prelude.{◌≡◌, ◌+◌, ◌∷◌, ◌++◌, ◌⊎◌, ◌↔◌, ◌<◌, ◌^◌, ◌≢◌, [], ℕ, length, List, Option, None, Some, Ok, Err, true, false, is_err, OnOk, IfOk, IfErr, IfSome, IsTrue};
 ghost use Rattle.twkb_io.specs.Taps.{device_of};
 ghost use Rattle.twkb_geom.specs.Tree.{Tree};
 ghost use Rattle.twkb_geom.specs.Limits.{Allowance};
@@ -69,7 +69,7 @@ impl<'a, R: Read> TableReader<'a, R> {
     /// Reads the next geometry into a flat form, in place of what it holds, and answers whether
     /// there was one; after a false and after an `Err` the form is empty. A geometry is given once
     /// the next root was accepted, or at the table's end. After the end each call answers false, and
-    /// after an `Err` each call answers `Spent`. Takes memory for one record, one root's points and
+    /// after an `Err` each call answers `Spent`, and nothing more is read. Takes memory for one record, one root's points and
     /// the open rows beyond eight, and for the flat form.
     pub fn next_flat(&mut self, flat: &mut Flat) -> Result<bool, TableFault>
         ensures gives { IfOk result (λ found. found ≡ true → (l : Allowance) (told : Option (List ℕ)) (records : List Record) (given : List Tree)
@@ -85,6 +85,7 @@ impl<'a, R: Read> TableReader<'a, R> {
         ensures over { IsOver self.old → is_spent self.old ≡ false → result ≡ Ok false }
         ensures ended { result ≡ Ok false → IsOver self.new }
         ensures spent { (result ≡ Err TableFault.Spent) ↔ (is_spent self.old ≡ true) }
+        ensures unchanged { IsOver self.old ⊎ (is_spent self.old ≡ true) → self.new ≡ self.old }
         ensures stays { is_spent self.new ≡ is_err result }
     {
         if self.spent {
@@ -119,12 +120,30 @@ impl<'a, R: Read> TableReader<'a, R> {
         ensures over { IsOver self.old → is_spent self.old ≡ false → result ≡ Ok None }
         ensures ended { result ≡ Ok None → IsOver self.new }
         ensures spent { (result ≡ Err TableFault.Spent) ↔ (is_spent self.old ≡ true) }
+        ensures unchanged { IsOver self.old ⊎ (is_spent self.old ≡ true) → self.new ≡ self.old }
         ensures stays { is_spent self.new ≡ is_err result }
     {
+        let is_spent = self.spent;
+        if is_spent {
+            return Err(TableFault::Spent);
+        }
+        if self.is_over() {
+            return Ok(None);
+        }
         let mut flat = replace(&mut self.kept, Flat::new(self.alloc));
         let found = self.next_tree(&mut flat);
         self.kept = flat;
         found
+    }
+
+    // Whether the table's end was met, and all its geometries were given.
+    fn is_over(&self) -> bool
+        ensures { IsTrue result ↔ IsOver self.now }
+    {
+        if !self.ended || self.number == 0 {
+            return false;
+        }
+        !self.rows.has_root()
     }
 
     // The next geometry, read into a flat form.
@@ -164,6 +183,7 @@ impl<'a, R: Read> TableReader<'a, R> {
             → StandsAfter l R.remaining told records given self.old → Explains l told records given fault) }
         ensures some { result ≡ Ok true → 0 < length flat.new }
         ensures over { IsOver self.old → result ≡ Ok false }
+        ensures unread { IsOver self.old → self.new ≡ self.old }
         ensures ended { result ≡ Ok false → IsOver self.new }
         ensures fresh { IfErr result (λ fault. fault ≢ TableFault.Spent) }
         ensures same { is_spent self.new ≡ is_spent self.old }
@@ -190,6 +210,7 @@ impl<'a, R: Read> TableReader<'a, R> {
             → StandsAfter l R.remaining told records given self.old → ReadsRoot l R.remaining told records given self.new result }
         ensures waits { result ≡ Ok true → 0 < length (waiting self.new.rows) }
         ensures over { IsOver self.old → result ≡ Ok false }
+        ensures unread { IsOver self.old → self.new ≡ self.old }
         ensures ended { result ≡ Ok false → IsOver self.new }
         ensures fresh { IfErr result (λ fault. fault ≢ TableFault.Spent) }
         ensures same { is_spent self.new ≡ is_spent self.old }
@@ -253,6 +274,7 @@ impl<'a, R: Read> TableReader<'a, R> {
             → StandsAfter l R.remaining told records given self.old → ReadsRoot l R.remaining told records given self.new result }
         ensures waits { result ≡ Ok true → 0 < length (waiting self.new.rows) }
         ensures over { IsOver self.old → result ≡ Ok false }
+        ensures unread { IsOver self.old → self.new ≡ self.old }
         ensures ended { result ≡ Ok false → IsOver self.new }
         ensures fresh { IfErr result (λ fault. fault ≢ TableFault.Spent) }
         ensures same { is_spent self.new ≡ is_spent self.old }

@@ -7,3 +7,4 @@ mod laws;
 mod refusing;
 mod rows;
 mod tables;
+mod texts;

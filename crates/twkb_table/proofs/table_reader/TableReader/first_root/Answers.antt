@@ -1,8 +1,8 @@
-use Rattle.std.proofs.Common.{rules, refl}
+use Rattle.std.proofs.Common.{[], rules, refl, inl, inr}
 use Rattle.csv.specs.Records.{fields_of}
 use Rattle.twkb_table.proofs.RecordJudged.{if_refused}
-use Rattle.twkb_table.proofs.TableSteps.{going_on, begins_next, first_refused}
-use Rattle.twkb_table.proofs.TableCalls.{explained}
+use Rattle.twkb_table.proofs.TableSteps.{going_on, begins_next, first_refused, none_before, not_ended, same_parts}
+use Rattle.twkb_table.proofs.TableCalls.{explained, no_record}
 use Rattle.twkb_table.proofs.table_reader.TableReader.first_root.Goals as goal
 
 pub returns-in-Ok-clause-reads : goal.returns-in-Ok-clause-reads
@@ -23,3 +23,9 @@ returns-in-Err-read_root-clause-reads g c l told records given s =
     let refused = c.in-Err-read_root.ensures.refused in
     rw c.fault_at.ensures.value (explained l told records given c.next_record.new.number c.in-Err-read_root.fault
     (if_refused _ _ c.in-Err-read_root.fault (λ reason j. first_refused l g.R.Read.remaining told records given here c.args.self.now (record c.args.self.now { reader = c.next_record.new.reader; held = c.next_record.new.held; ended = c.next_record.new.ended; number = c.next_record.new.number }) reason s c.requires.none c.requires.begun going source number c.read_root.ensures.sound j) refused))
+
+pub returns-in-Err-clause-reads : goal.returns-in-Err-clause-reads
+returns-in-Err-clause-reads g c l told records given s =
+    let first = none_before l g.R.Read.remaining told records given c.args.self.now s c.requires.none c.requires.begun (not_ended c.args.self.now.ended c.in-Err.fault c.in-Err.ensures.over) in
+    no_record l told records given [] c.args.self.now.number c.in-Err.fault first.0 first.1 s.count
+    (elim c.in-Err.ensures.fault [ inl source ↦ inl source | inr many ↦ inr (many.0, many.1, many.2 told records s.source) ])

@@ -1,15 +1,16 @@
-use Rattle.std.proofs.Common.{rules, refl, sym, subst, inl, inr}
+use Rattle.std.proofs.Common.{[], ◌∷◌, ◌++◌, rules, refl, sym, subst, inl, inr}
 use Rattle.csv.specs.Records.{fields_of}
 use Rattle.twkb_table.specs.TableReading.{GivesNext}
 use Rattle.twkb_table.specs.declared.table_reader.TableReader.{TableReader}
 use Rattle.twkb_table.proofs.RecordJudged.{if_refused}
+use Rattle.twkb_table.proofs.TableReaderLemmas.{all_but_last-last}
 use Rattle.twkb_table.proofs.TableSteps.{reads_more, reads_next, reads_end, reads_refused}
 use Rattle.twkb_table.proofs.TableCalls.{explained, no_record, reads_by}
 use Rattle.twkb_table.proofs.table_reader.TableReader.read_row.Goals as goal
 
 pub returns-in-Err-clause-reads : goal.returns-in-Err-clause-reads
 returns-in-Err-clause-reads g c l told records given r =
-    no_record l told records given c.args.self.now.number c.in-Err.fault r.count
+    no_record l told records given (given ++ r.geometry ∷ []) c.args.self.now.number c.in-Err.fault r.named (sym (all_but_last-last given r.geometry)) r.count
     (elim c.in-Err.ensures.fault [ inl source ↦ inl source | inr many ↦ inr (many.0, many.1, many.2 told records r.source) ])
 
 pub returns-in-Ok-clause-reads : goal.returns-in-Ok-clause-reads
@@ -21,7 +22,7 @@ returns-in-Ok-clause-reads g c l told records given r =
     reads_by l g.R.Read.remaining told records given c.read_row.new.flat new c.in-Ok.more
     (λ on. (here, reads_more l g.R.Read.remaining told records given c.args.flat.now c.read_row.new.flat here c.args.self.now new r source number c.read_row.ensures.limits refl (c.in-Ok.ensures.more on)))
     (λ over. (let (ends, same) = c.in-Ok.ensures.root over in
-    subst (λ fl. GivesNext l g.R.Read.remaining told records given fl new) (sym same) (reads_next l g.R.Read.remaining told records given c.args.flat.now here c.args.self.now new r source number c.read_row.ensures.limits refl ends)))
+    subst (λ fl. GivesNext l g.R.Read.remaining told records given fl new) (sym same) (reads_next l g.R.Read.remaining told records given c.args.flat.now here c.args.self.now new r source number c.read_row.ensures.limits refl (c.in-Ok-true.ensures.going (search rules)) ends)))
 
 pub returns-in-Err-read_row-clause-reads : goal.returns-in-Err-read_row-clause-reads
 returns-in-Err-read_row-clause-reads g c l told records given r =
