@@ -13,10 +13,11 @@ use crate::program::{lack_memory, lack_words, run};
 use std::env;
 use std::io::BufWriter;
 use std::process::ExitCode;
-use twkb_io::Tap;
+use twkb_io::{Ending, Tap};
 
 fn main(rt: HostRuntime) -> ExitCode {
-    let mut reader = Tap::new(rt.stdin());
+    // a terminal would go on behind the end that was told
+    let mut reader = Tap::new(Ending::new(rt.stdin()));
     let mut errors = Tap::new(rt.stderr());
     let Ok(buffered) = BufWriter::new(rt.alloc(), rt.stdout()) else {
         return ExitCode::from(lack_memory(&mut errors));

@@ -1,6 +1,7 @@
 //! Runs of the command, and its texts.
 mod causes;
 mod devices;
+mod endings;
 mod memory;
 mod packing;
 mod showing;
