@@ -1,11 +1,16 @@
 //! What no clause says: that calls succeed, and worked tables and streams.
+mod edge_devices;
+mod endings;
+mod flushing;
 mod geometries;
 mod laws;
 mod memory;
+mod order;
 mod pack_devices;
 mod packing;
 mod refusing;
 mod showing;
+mod texts;
 mod unpack_devices;
 mod unpacking;
 
