@@ -14,3 +14,4 @@ pub mod OutputLemmas
 pub mod FrontLemmas
 pub mod RefusedLemmas
 pub mod ShownLemmas
+pub mod FlushLemmas
