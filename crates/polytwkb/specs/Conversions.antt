@@ -3,6 +3,7 @@ use Rattle.std.specs.Prelude.{ℕ, List, Option, Result, IfOk, IfErr}
 use Rattle.twkb_io.specs.declared.tap.Tap.{Tap}
 use Rattle.twkb_geom.specs.Limits.{Allowance}
 use Rattle.twkb_grammar.specs.declared.style.Style.{Style}
+use Rattle.twkb_convert.specs.Flushing.{IsFlushed, IsFlushedButForDevices}
 use Rattle.twkb_convert.specs.Packed.{Packed, StoppedPacking}
 use Rattle.twkb_convert.specs.Unpacked.{StoppedUnpacking, Unpacked}
 use Rattle.twkb_convert.specs.Shown.{Shown, StoppedShowing}
@@ -13,13 +14,16 @@ use Rattle.twkb_convert.specs.declared.report.Report.{Report}
 pub record Packs {R W : Type 0} (style : Style) (l : Allowance) (remaining : R → Option (List ℕ)) (contents : W → Option (List ℕ)) (reader : Tap R) (writer : Tap W) (reader_after : Tap R) (writer_after : Tap W) (answer : Result Report ConvertFault) : Type 0 where
   pub ok : IfOk answer (λ report. Packed style l remaining contents reader writer report reader_after writer_after)
   pub err : IfErr answer (λ fault. StoppedPacking style l remaining contents reader writer fault reader_after writer_after)
+  pub flushed : IsFlushedButForDevices answer writer_after
 
 -- The answer to unpacking: the stream was unpacked whole, or it stopped.
 pub record Unpacks {R W : Type 0} (l : Allowance) (remaining : R → Option (List ℕ)) (contents : W → Option (List ℕ)) (reader : Tap R) (writer : Tap W) (reader_after : Tap R) (writer_after : Tap W) (answer : Result Report ConvertFault) : Type 0 where
   pub ok : IfOk answer (λ report. Unpacked l remaining contents reader writer report reader_after writer_after)
   pub err : IfErr answer (λ fault. StoppedUnpacking l remaining contents reader writer fault reader_after writer_after)
+  pub flushed : IsFlushed answer writer_after
 
 -- The answer to showing: the stream was shown whole, or it stopped.
 pub record Shows {R W : Type 0} (l : Allowance) (remaining : R → Option (List ℕ)) (contents : W → Option (List ℕ)) (reader : Tap R) (writer : Tap W) (reader_after : Tap R) (writer_after : Tap W) (answer : Result Report ConvertFault) : Type 0 where
   pub ok : IfOk answer (λ report. Shown l remaining contents reader writer report reader_after writer_after)
   pub err : IfErr answer (λ fault. StoppedShowing l remaining contents reader writer fault reader_after writer_after)
+  pub flushed : IsFlushed answer writer_after

@@ -15,3 +15,4 @@ pub mod FrontLemmas
 pub mod RefusedLemmas
 pub mod ShownLemmas
 pub mod PartsLemmas
+pub mod FlushLemmas

@@ -1,7 +1,7 @@
 -- From an output to what a caller of a conversion sees.
 use Rattle.std.proofs.Common.{◌≡◌, ◌∙◌, ◌<◌, ◌^◌, ℕ, List, [], ◌++◌, Bool, true, false, Option, ap, arith, refl, subst, sym, inl, inr}
 use Rattle.std.specs.Io.KnownBytes.{Appends, IsAtEnd}
-use Rattle.twkb_io.specs.Taps.{count_failure, device_of, failures_of}
+use Rattle.twkb_io.specs.Taps.{bytes_given, count_failure, device_of, failures_of}
 use Rattle.twkb_io.specs.Outputs.{output_tap, sent_of}
 use Rattle.twkb_io.specs.declared.tap.Tap.{Tap}
 use Rattle.twkb_io.specs.declared.output.Output.{Output}
@@ -24,19 +24,19 @@ use Rattle.twkb_convert.proofs.SendingLemmas.{all_ready, sent_whole}
 use Rattle.twkb_convert.proofs.WorkLemmas.{read_thrice, read_twice}
 
 -- a stop that is no failed write, where a read failed
-pub read_explained : (style : Style) (l : Allowance) (told : Option (List ℕ)) (stop : Why) (sent : ℕ) (whole later : List Tree) (front : List ℕ) → is_write stop ≡ false → sent ≡ 0
-    → ExplainsWhy style l told stop sent whole later front → ExplainsPackingCause style l told cause.ReadDevice whole later front
-read_explained style l told (why.Table (fault.At number reason)) sent whole later front quiet none e = inl (e.0, e.1)
-read_explained style l told (why.Table fault.TooManyRecords) sent whole later front quiet none e = inl (e.0, e.1)
-read_explained style l told (why.Table fault.Source) sent whole later front quiet none e = inl e
-read_explained style l told (why.Table fault.Memory) sent whole later front quiet none e = inl e
-read_explained style l told (why.Table fault.Spent) sent whole later front quiet none e = absurd e
-read_explained style l told why.Memory sent whole later front quiet none e = inl e
-read_explained style l told why.Undrained sent whole later front quiet none e = inl (e.0, e.1)
-read_explained style l told (why.Output out.Write) sent whole later front quiet none e = absurd (cc quiet)
-read_explained style l told (why.Output out.Stuck) sent whole later front quiet none e = absurd (cc quiet)
-read_explained style l told (why.Output out.TooLong) sent whole later front quiet none e = inr (let far = e.0 refl in omega (arith, far, none))
-read_explained style l told (why.Output out.Spent) sent whole later front quiet none e = absurd (e.1 refl)
+pub read_explained : (style : Style) (l : Allowance) (told : Option (List ℕ)) (passed : ℕ) (stop : Why) (sent : ℕ) (whole later : List Tree) (front : List ℕ) → is_write stop ≡ false → sent ≡ 0
+    → ExplainsWhy style l told passed stop sent whole later front → ExplainsPackingCause style l told passed cause.ReadDevice whole later front
+read_explained style l told passed (why.Table (fault.At number reason)) sent whole later front quiet none e = inl (e.0, e.1)
+read_explained style l told passed (why.Table fault.TooManyRecords) sent whole later front quiet none e = inl (e.0, e.1)
+read_explained style l told passed (why.Table fault.Source) sent whole later front quiet none e = inl e
+read_explained style l told passed (why.Table fault.Memory) sent whole later front quiet none e = inl e
+read_explained style l told passed (why.Table fault.Spent) sent whole later front quiet none e = absurd e
+read_explained style l told passed why.Memory sent whole later front quiet none e = inl e
+read_explained style l told passed why.Undrained sent whole later front quiet none e = inl (e.0, e.1)
+read_explained style l told passed (why.Output out.Write) sent whole later front quiet none e = absurd (cc quiet)
+read_explained style l told passed (why.Output out.Stuck) sent whole later front quiet none e = absurd (cc quiet)
+read_explained style l told passed (why.Output out.TooLong) sent whole later front quiet none e = inr (let far = e.0 refl in omega (arith, far, none))
+read_explained style l told passed (why.Output out.Spent) sent whole later front quiet none e = absurd (e.1 refl)
 
 -- what an output appended, the writer that was lent to it did
 appends_lent : {W : Type 0} (contents : W → Option (List ℕ)) (writer written : Tap W) (old new : Output W) (bytes : List ℕ) → (output_tap old).now ≡ writer → (output_tap new).now ≡ written
@@ -75,12 +75,12 @@ module _ {R W : Type 0} (style : Style) (l : Allowance) (remaining : R → Optio
   }
 
   -- not the whole table was sent, or the flush failed
-  pub stopped_packing : (stop : Stop) (answer : Cause) → IsDeviceCause failed (is_write stop.why) answer
-      → ((count : ℕ) (whole later : List Tree) (front : List ℕ) → count ≡ 0 → ExplainsWhy style l (remaining (device_of reader)) stop.why count whole later front
-      → ExplainsPackingCause style l (remaining (device_of reader)) answer whole later front)
-      → Stopped style l contents (remaining (device_of reader)) old new stop
+  pub stopped_packing : (passed : ℕ) (stop : Stop) (answer : Cause) → passed ≡ bytes_given read → IsDeviceCause failed (is_write stop.why) answer
+      → ((count : ℕ) (whole later : List Tree) (front : List ℕ) → count ≡ 0 → ExplainsWhy style l (remaining (device_of reader)) passed stop.why count whole later front
+      → ExplainsPackingCause style l (remaining (device_of reader)) passed answer whole later front)
+      → Stopped style l contents (remaining (device_of reader)) passed old new stop
       → StoppedPacking style l remaining contents reader writer (record { done = stop.done; sent = sent; cause = answer }) read written
-  stopped_packing stop answer device explain s =
+  stopped_packing passed stop answer gave device explain s =
       let bytes = canonical_stream style s.whole ++ s.front in
       record {
         whole = s.whole;
@@ -93,7 +93,8 @@ module _ {R W : Type 0} (style : Style) (l : Allowance) (remaining : R → Optio
         appends = appends_lent contents writer written old new bytes lent closes s.sends.appends;
         sent = (let more = s.sends.sent in omega (arith, total, more, none));
         done = s.count;
-        explains = explain (sent_of old) s.whole s.later s.front none s.explains;
+        explains = subst (λ n. ExplainsPackingCause style l (remaining (device_of reader)) n answer s.whole s.later s.front) gave
+            (explain (sent_of old) s.whole s.later s.front none s.explains);
         devices = record {
           read_failed = failed;
           write_failed = is_write stop.why;

@@ -1,5 +1,5 @@
 -- Where the sending of a table stops.
-use Rattle.std.proofs.Common.{◌≡◌, ◌∙◌, ◌+◌, ◌<◌, ◌≤◌, ◌^◌, ℕ, Bool, true, false, List, [], ◌∷◌, ◌++◌, Option, Some, None, Err, length, ap, arith, refl, sym, subst, inl, inr, length-append}
+use Rattle.std.proofs.Common.{◌≡◌, ◌∙◌, ◌+◌, ◌<◌, ◌≤◌, ◌-◌, ◌^◌, ℕ, Bool, true, false, List, [], ◌∷◌, ◌++◌, Option, Some, None, Err, length, ap, arith, refl, sym, subst, inl, inr, length-append}
 use Rattle.std.specs.Prelude.{IfSome}
 use Rattle.std.proofs.lemmas.List.{append-nil}
 use Rattle.std.proofs.lemmas.Grind.{flat_map-append}
@@ -44,7 +44,7 @@ ready_gave l told records given [] ended begins all (named, inl none) =
     record { records = records; geometries = given; begins = begins; named = named; ready = inl (none ∙ ap all_but_last (sym none)) }
 ready_gave l told records given [] ended begins all (named, inr over) =
     record { records = records; geometries = given; begins = begins; named = named; ready = inr (all over, refl) }
-ready_gave l told records given (root ∷ more) ended begins all (last, named, same) = record {
+ready_gave l told records given (root ∷ more) ended begins all (last, named, same, going) = record {
   records = records;
   geometries = given ++ last ∷ [];
   begins = begins;
@@ -82,20 +82,21 @@ sent_whole contents old new bytes sends = rw (append-nil bytes) sends
 
 -- ---- stops
 
-explains_fault : (style : Style) (l : Allowance) (told : Option (List ℕ)) (records : List Record) (given : List Tree) (f : TableFault) (sent : ℕ) → Table.Explains l told records given f
-    → ExplainsWhy style l told (why.Table f) sent given [] []
-explains_fault style l told records given (fault.At number reason) sent e =
+explains_fault : (style : Style) (l : Allowance) (told : Option (List ℕ)) (passed : ℕ) (records : List Record) (given : List Tree) (f : TableFault) (sent : ℕ) → Table.Explains l told records given f
+    → ExplainsWhy style l told passed (why.Table f) sent given [] []
+explains_fault style l told passed records given (fault.At number reason) sent e =
     (refl, refl, record { seen = e.seen; begins = e.begins; none = e.none; fault = e.complete })
-explains_fault style l told records given fault.TooManyRecords sent e = (refl, refl, (e.seen, e.begins, e.many))
-explains_fault style l told records given fault.Source sent e = (refl, refl)
-explains_fault style l told records given fault.Memory sent e = (refl, refl)
-explains_fault style l told records given fault.Spent sent e = e
+explains_fault style l told passed records given fault.TooManyRecords sent e =
+    (refl, refl, record { before = e.before; here = e.here; begins = e.begins; many = e.many; geometries = e.geometries; named = e.named; complete = e.complete })
+explains_fault style l told passed records given fault.Source sent e = (refl, refl)
+explains_fault style l told passed records given fault.Memory sent e = (refl, refl)
+explains_fault style l told passed records given fault.Spent sent e = e
 
-module _ {R W : Type 0} (style : Style) (l : Allowance) (remaining : R → Option (List ℕ)) (contents : W → Option (List ℕ)) (told : Option (List ℕ)) where
+module _ {R W : Type 0} (style : Style) (l : Allowance) (remaining : R → Option (List ℕ)) (contents : W → Option (List ℕ)) (told : Option (List ℕ)) (passed : ℕ) where
   -- where the output took all that it was handed
   stopped_between : (from : TableReader R) (old mid new : Output W) (done : ℕ) (work : Work) (stop : Why) (s : SentSoFar style l remaining contents told from old mid done work)
-      → new ≡ mid → is_write stop ≡ false → ((P : Type 0) → P → UnlessOutput stop P) → ExplainsWhy style l told stop (sent_of old) s.geometries [] []
-      → Stopped style l contents told old new (record { done = done; why = stop })
+      → new ≡ mid → is_write stop ≡ false → ((P : Type 0) → P → UnlessOutput stop P) → ExplainsWhy style l told passed stop (sent_of old) s.geometries [] []
+      → Stopped style l contents told passed old new (record { done = done; why = stop })
   stopped_between from old mid new done work stop s same quiet kept explains =
       let took = subst (λ o. Took contents old (canonical_stream style s.geometries) o) (sym same) s.took in
       let ready : MayBeWritten l told (s.geometries ++ []) = subst (λ gs. MayBeWritten l told gs) (sym (append-nil s.geometries)) (ready_after l remaining told s.records s.geometries from s.stands) in
@@ -116,7 +117,7 @@ module _ {R W : Type 0} (style : Style) (l : Allowance) (remaining : R → Optio
 
   -- where it refused a front of a blob
   stopped_inside : (from : TableReader R) (old mid new : Output W) (done : ℕ) (work : Work) (f : OutFault) (s : SentSoFar style l remaining contents told from old mid done work)
-      → is_spent mid ≡ false → CutsOne style l contents told s.geometries mid f new → Stopped style l contents told old new (record { done = done; why = why.Output f })
+      → is_spent mid ≡ false → CutsOne style l contents told s.geometries mid f new → Stopped style l contents told passed old new (record { done = done; why = why.Output f })
   stopped_inside from old mid new done work f s fresh one =
       let all = refused_join contents old mid new (canonical_stream style s.geometries) one.cut.front f s.took one.cut.refused in
       record {
@@ -139,9 +140,9 @@ module _ {R W : Type 0} (style : Style) (l : Allowance) (remaining : R → Optio
       }
 
   pub stopped_next : (from to : TableReader R) (old mid new : Output W) (done : ℕ) (before after : Work) (stop : Why) (s : SentSoFar style l remaining contents told from old mid done before)
-      → is_spent mid ≡ false → SendsNext style l remaining contents told s.records s.geometries to mid before new after (Err stop) → Stopped style l contents told old new (record { done = done; why = stop })
+      → is_spent mid ≡ false → SendsNext style l remaining contents told s.records s.geometries to mid before new after (Err stop) → Stopped style l contents told passed old new (record { done = done; why = stop })
   stopped_next from to old mid new done before after (why.Table f) s fresh (same, explains) =
-      stopped_between from old mid new done before (why.Table f) s same refl (λ P p. p) (explains_fault style l told s.records s.geometries f (sent_of old) explains)
+      stopped_between from old mid new done before (why.Table f) s same refl (λ P p. p) (explains_fault style l told passed s.records s.geometries f (sent_of old) explains)
   stopped_next from to old mid new done before after why.Memory s fresh same = stopped_between from old mid new done before why.Memory s same refl (λ P p. p) (refl, refl)
   stopped_next from to old mid new done before after why.Undrained s fresh sends = absurd sends
   stopped_next from to old mid new done before after (why.Output f) s fresh one = stopped_inside from old mid new done before f s fresh one
@@ -158,10 +159,10 @@ stream_long style [] = omega arith
 stream_long style (g ∷ gs) = omega (arith, length-append (canonical_blob style g) (canonical_stream style gs), blob_long style g, stream_long style gs)
 
 -- as many geometries as can be counted are more bytes than can be sent
-pub stopped_uncounted : {R W : Type 0} (style : Style) (l : Allowance) (remaining : R → Option (List ℕ)) (contents : W → Option (List ℕ)) (told : Option (List ℕ)) (table : TableReader R) (old new : Output W)
+pub stopped_uncounted : {R W : Type 0} (style : Style) (l : Allowance) (remaining : R → Option (List ℕ)) (contents : W → Option (List ℕ)) (told : Option (List ℕ)) (passed : ℕ) (table : TableReader R) (old new : Output W)
     (done last : ℕ) (work : Work) → SentSoFar style l remaining contents told table old new done work → done ≡ last → 2 ^ 62 < last
-    → Stopped style l contents told old new (record { done = last; why = why.Output out.TooLong })
-stopped_uncounted style l remaining contents told table old new done last work s at_last many = record {
+    → Stopped style l contents told passed old new (record { done = last; why = why.Output out.TooLong })
+stopped_uncounted style l remaining contents told passed table old new done last work s at_last many = record {
   whole = s.geometries;
   later = [];
   front = [];
@@ -192,10 +193,10 @@ module _ {W : Type 0} (style : Style) (l : Allowance) (contents : W → Option (
     ready = inr (all.all, append-nil all.geometries);
   }
 
-  -- the whole table was sent, and the reader was not read to its end
-  pub stopped_undrained : (old new : Output W) (tally : Tally) → SentTable style l contents told old new tally
-      → Stopped style l contents told old new (record { done = tally.geometries; why = why.Undrained })
-  stopped_undrained old new tally all = record {
+  -- the whole table was sent, and the reader gave bytes till their count was full
+  pub stopped_undrained : (passed : ℕ) (old new : Output W) (tally : Tally) → 2 ^ 64 - 1 ≤ passed → SentTable style l contents told old new tally
+      → Stopped style l contents told passed old new (record { done = tally.geometries; why = why.Undrained })
+  stopped_undrained passed old new tally full all = record {
     whole = all.geometries;
     later = [];
     front = [];
@@ -205,15 +206,33 @@ module _ {W : Type 0} (style : Style) (l : Allowance) (contents : W → Option (
     one = inl refl;
     sends = sent_whole contents old new (canonical_stream style all.geometries) all.took.sends;
     count = all.count;
-    explains = (refl, refl, (all.records, all.all, all.named));
+    explains = (refl, refl, (all.records, all.all, all.named), full);
+    failures = all.took.failures;
+    unspent = all.took.spent;
+  }
+
+  -- the whole table was sent, and the read behind it failed
+  pub stopped_unread : (passed : ℕ) (old new : Output W) (tally : Tally) → SentTable style l contents told old new tally
+      → Stopped style l contents told passed old new (record { done = tally.geometries; why = why.Table fault.Source })
+  stopped_unread passed old new tally all = record {
+    whole = all.geometries;
+    later = [];
+    front = [];
+    rest = [];
+    ready = all_ready old new tally all;
+    cut = refl;
+    one = inl refl;
+    sends = sent_whole contents old new (canonical_stream style all.geometries) all.took.sends;
+    count = all.count;
+    explains = (refl, refl);
     failures = all.took.failures;
     unspent = all.took.spent;
   }
 
   -- a flush that failed after the whole table
-  pub flush_failed : (old mid new : Output W) (tally : Tally) (f : OutFault) → SentTable style l contents told old mid tally → Refused contents mid [] f new → (f ≡ out.TooLong → ⊥) → (f ≡ out.Spent → ⊥)
-      → Stopped style l contents told old new (record { done = tally.geometries; why = why.Output f })
-  flush_failed old mid new tally f all failed short unspent =
+  pub flush_failed : (passed : ℕ) (old mid new : Output W) (tally : Tally) (f : OutFault) → SentTable style l contents told old mid tally → Refused contents mid [] f new → (f ≡ out.TooLong → ⊥) → (f ≡ out.Spent → ⊥)
+      → Stopped style l contents told passed old new (record { done = tally.geometries; why = why.Output f })
+  flush_failed passed old mid new tally f all failed short unspent =
       let refused = refused_join contents old mid new (canonical_stream style all.geometries) [] f all.took failed in
       record {
         whole = all.geometries;

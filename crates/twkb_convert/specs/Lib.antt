@@ -11,6 +11,7 @@ pub mod Listings
 pub mod BlobSending
 pub mod Devices
 pub mod Listed
+pub mod Flushing
 pub mod Unpacked
 pub mod Shown
 pub mod Packed

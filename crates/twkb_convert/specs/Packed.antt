@@ -1,7 +1,7 @@
 -- What a table is packed to.
-use Rattle.std.specs.Prelude.{◌≡◌, ℕ, ◌^◌, ◌<◌, ◌≤◌, ◌*◌, ◌⊎◌, List, [], ◌++◌, length, Option, IfSome, ⊤}
+use Rattle.std.specs.Prelude.{◌≡◌, ℕ, ◌-◌, ◌^◌, ◌<◌, ◌≤◌, ◌*◌, ◌⊎◌, List, [], ◌++◌, length, Option, IfSome, ⊤}
 use Rattle.std.specs.Io.KnownBytes.{Appends, IsAtEnd}
-use Rattle.twkb_io.specs.Taps.{device_of, failures_of}
+use Rattle.twkb_io.specs.Taps.{bytes_given, device_of, failures_of}
 use Rattle.twkb_io.specs.declared.tap.Tap.{Tap}
 use Rattle.twkb_geom.specs.Tree.{Tree}
 use Rattle.twkb_geom.specs.Limits.{Allowance}
@@ -44,19 +44,19 @@ pub record PackedWith {R W : Type 0} (style : Style) (l : Allowance) (remaining 
   pub node_reads : work.node_reads ≤ 3 * work.nodes
 
 -- What a cause says of the table and of what was written: a refused record comes after the whole output that it leaves complete; the
--- output would be too long, or behind the whole table the reader gave bytes without end; a failed read cuts a blob only where the output
--- would be too long; the other causes cut none, a failed write aside.
-abbrev pub ExplainsPackingCause : Style → Allowance → Option (List ℕ) → Cause → List Tree → List Tree → List ℕ → Type 0
-ExplainsPackingCause style l told (cause.Row number reason) whole later front = (later ≡ []) × (front ≡ []) × IsRefusedAt l told number reason whole
-ExplainsPackingCause style l told cause.TooManyRecords whole later front =
-    (later ≡ []) × (front ≡ []) × HasTooMany told
-ExplainsPackingCause style l told (cause.Blob offset reason) whole later front = ⊥
-ExplainsPackingCause style l told cause.ReadDevice whole later front =
+-- output would be too long, or behind the whole table the reader gave bytes till its tap's count of them was full; a failed read cuts a blob
+-- only where the output would be too long; the other causes cut none, a failed write aside.
+abbrev pub ExplainsPackingCause : Style → Allowance → Option (List ℕ) → ℕ → Cause → List Tree → List Tree → List ℕ → Type 0
+ExplainsPackingCause style l told given (cause.Row number reason) whole later front = (later ≡ []) × (front ≡ []) × IsRefusedAt l told number reason whole
+ExplainsPackingCause style l told given cause.TooManyRecords whole later front =
+    (later ≡ []) × (front ≡ []) × HasTooMany l told whole
+ExplainsPackingCause style l told given (cause.Blob offset reason) whole later front = ⊥
+ExplainsPackingCause style l told given cause.ReadDevice whole later front =
     ((later ≡ []) × (front ≡ [])) ⊎ (2 ^ 62 < length (canonical_stream style (whole ++ later)))
-ExplainsPackingCause style l told cause.WriteDevice whole later front = ⊤
-ExplainsPackingCause style l told cause.Memory whole later front = (later ≡ []) × (front ≡ [])
-ExplainsPackingCause style l told cause.TooLong whole later front =
-    (2 ^ 62 < length (canonical_stream style (whole ++ later))) ⊎ ((later ≡ []) × (front ≡ []) × NamesAll l told whole)
+ExplainsPackingCause style l told given cause.WriteDevice whole later front = ⊤
+ExplainsPackingCause style l told given cause.Memory whole later front = (later ≡ []) × (front ≡ [])
+ExplainsPackingCause style l told given cause.TooLong whole later front =
+    (2 ^ 62 < length (canonical_stream style (whole ++ later))) ⊎ ((later ≡ []) × (front ≡ []) × NamesAll l told whole × (2 ^ 64 - 1 ≤ given))
 
 -- Geometries of the reader's text may be written: the canonical blobs of the first ones were, and a front of the next one's.
 pub record StoppedPacking {R W : Type 0} (style : Style) (l : Allowance) (remaining : R → Option (List ℕ)) (contents : W → Option (List ℕ)) (reader : Tap R) (writer : Tap W)
@@ -71,5 +71,5 @@ pub record StoppedPacking {R W : Type 0} (style : Style) (l : Allowance) (remain
   pub appends : Appends (contents (device_of writer)) (contents (device_of written)) (canonical_stream style whole ++ front)
   pub sent : fault.sent ≡ length (canonical_stream style whole ++ front)
   pub done : fault.done ≡ length whole
-  pub explains : ExplainsPackingCause style l (remaining (device_of reader)) fault.cause whole later front
+  pub explains : ExplainsPackingCause style l (remaining (device_of reader)) (bytes_given read) fault.cause whole later front
   pub devices : DevicesTell Changes reader writer fault.cause read written

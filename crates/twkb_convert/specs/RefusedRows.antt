@@ -1,5 +1,5 @@
 -- Where and why a table is refused, and which geometries may be written before.
-use Rattle.std.specs.Prelude.{◌≡◌, ℕ, ◌^◌, ◌⊎◌, List, [], length, Option, IfSome}
+use Rattle.std.specs.Prelude.{◌≡◌, ℕ, ◌+◌, ◌^◌, ◌⊎◌, List, [], ◌∷◌, ◌++◌, length, Option, IfSome}
 use Rattle.twkb_geom.specs.Tree.{Tree}
 use Rattle.twkb_geom.specs.Limits.{Allowance}
 use Rattle.twkb_table.specs.Record.{Record}
@@ -17,9 +17,15 @@ pub record IsRefusedAt (l : Allowance) (told : Option (List ℕ)) (number : ℕ)
   pub none : seen ≡ [] → IfSome told (λ text. AreRecordsOf text [])
   pub fault : AreComplete l seen number reason gs
 
--- the records of the text begin with 2 ^ 32
-abbrev pub HasTooMany : Option (List ℕ) → Type 0
-HasTooMany told = (seen : List Record) × IfSome told (λ text. BeginWith text seen) × (length seen ≡ 2 ^ 32)
+-- The text begins with 2 ^ 32 records. Those before the last name geometries, and these are all of them but the last.
+pub record HasTooMany (l : Allowance) (told : Option (List ℕ)) (gs : List Tree) : Type 0 where
+  pub before : List Record
+  pub here : Record
+  pub begins : IfSome told (λ text. BeginWith text (before ++ here ∷ []))
+  pub many : length before + 1 ≡ 2 ^ 32
+  pub geometries : List Tree
+  pub named : Named l before geometries
+  pub complete : gs ≡ all_but_last geometries
 
 -- After these records, the first of a text, these geometries may be written: all but the last of those that they name, and the last where
 -- the text has no more records.

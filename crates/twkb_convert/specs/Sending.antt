@@ -1,5 +1,5 @@
 -- How far the geometries of a table were sent.
-use Rattle.std.specs.Prelude.{◌≡◌, ◌≢◌, ℕ, ◌+◌, ◌^◌, ◌<◌, List, [], ◌∷◌, ◌++◌, length, Option, IfSome, Result, Ok, Err, Bool, true, false, ⊤}
+use Rattle.std.specs.Prelude.{◌≡◌, ◌≢◌, ℕ, ◌+◌, ◌-◌, ◌^◌, ◌<◌, ◌≤◌, List, [], ◌∷◌, ◌++◌, length, Option, IfSome, Result, Ok, Err, Bool, true, false, ⊤}
 use Rattle.twkb_io.specs.Taps.{count_failure}
 use Rattle.twkb_io.specs.Outputs.{Cut, Sent, Took, is_device, is_spent, output_failures, sent_of}
 use Rattle.twkb_io.specs.declared.output.OutFault.{OutFault}
@@ -101,20 +101,20 @@ pub record SentTable {W : Type 0} (style : Style) (l : Allowance) (contents : W 
   pub count : tally.geometries ≡ length geometries
   pub work_of : IsWorkOf geometries tally.work
 
--- what a stop says of the table and of what was written, by an output that had sent so many bytes
-abbrev pub ExplainsWhy : Style → Allowance → Option (List ℕ) → Why → ℕ → List Tree → List Tree → List ℕ → Type 0
-ExplainsWhy style l told (why.Table (fault.At number reason)) sent whole later front = (later ≡ []) × (front ≡ []) × IsRefusedAt l told number reason whole
-ExplainsWhy style l told (why.Table fault.TooManyRecords) sent whole later front = (later ≡ []) × (front ≡ []) × HasTooMany told
-ExplainsWhy style l told (why.Table fault.Source) sent whole later front = (later ≡ []) × (front ≡ [])
-ExplainsWhy style l told (why.Table fault.Memory) sent whole later front = (later ≡ []) × (front ≡ [])
-ExplainsWhy style l told (why.Table fault.Spent) sent whole later front = ⊥
-ExplainsWhy style l told why.Memory sent whole later front = (later ≡ []) × (front ≡ [])
-ExplainsWhy style l told why.Undrained sent whole later front = (later ≡ []) × (front ≡ []) × NamesAll l told whole
-ExplainsWhy style l told (why.Output f) sent whole later front =
+-- what a stop says of the table, of the count of the bytes that were given, and of what was written, by an output that had sent so many
+abbrev pub ExplainsWhy : Style → Allowance → Option (List ℕ) → ℕ → Why → ℕ → List Tree → List Tree → List ℕ → Type 0
+ExplainsWhy style l told given (why.Table (fault.At number reason)) sent whole later front = (later ≡ []) × (front ≡ []) × IsRefusedAt l told number reason whole
+ExplainsWhy style l told given (why.Table fault.TooManyRecords) sent whole later front = (later ≡ []) × (front ≡ []) × HasTooMany l told whole
+ExplainsWhy style l told given (why.Table fault.Source) sent whole later front = (later ≡ []) × (front ≡ [])
+ExplainsWhy style l told given (why.Table fault.Memory) sent whole later front = (later ≡ []) × (front ≡ [])
+ExplainsWhy style l told given (why.Table fault.Spent) sent whole later front = ⊥
+ExplainsWhy style l told given why.Memory sent whole later front = (later ≡ []) × (front ≡ [])
+ExplainsWhy style l told given why.Undrained sent whole later front = (later ≡ []) × (front ≡ []) × NamesAll l told whole × (2 ^ 64 - 1 ≤ given)
+ExplainsWhy style l told given (why.Output f) sent whole later front =
     (f ≡ out.TooLong → 2 ^ 62 < sent + length (canonical_stream style (whole ++ later))) × (f ≢ out.Spent)
 
 -- the blobs of some geometries were written, and a front of the next one's
-pub record Stopped {W : Type 0} (style : Style) (l : Allowance) (contents : W → Option (List ℕ)) (told : Option (List ℕ)) (old new : Output W) (stop : Stop) : Type 0 where
+pub record Stopped {W : Type 0} (style : Style) (l : Allowance) (contents : W → Option (List ℕ)) (told : Option (List ℕ)) (given : ℕ) (old new : Output W) (stop : Stop) : Type 0 where
   pub whole : List Tree
   pub later : List Tree
   pub front : List ℕ
@@ -124,11 +124,11 @@ pub record Stopped {W : Type 0} (style : Style) (l : Allowance) (contents : W �
   pub one : AtMostOneCut later rest
   pub sends : Sent contents old (canonical_stream style whole ++ front) new
   pub count : stop.done ≡ length whole
-  pub explains : ExplainsWhy style l told stop.why (sent_of old) whole later front
+  pub explains : ExplainsWhy style l told given stop.why (sent_of old) whole later front
   pub failures : output_failures new ≡ count_failure (is_write stop.why) (output_failures old)
   pub unspent : UnlessOutput stop.why (is_spent new ≡ is_spent old)
 
 -- the whole table was sent, or a front of its output
-abbrev pub SendsTable : {W : Type 0} → Style → Allowance → (W → Option (List ℕ)) → Option (List ℕ) → Output W → Output W → Result Tally Stop → Type 0
-SendsTable style l contents told old new (Ok tally) = SentTable style l contents told old new tally
-SendsTable style l contents told old new (Err stop) = Stopped style l contents told old new stop
+abbrev pub SendsTable : {W : Type 0} → Style → Allowance → (W → Option (List ℕ)) → Option (List ℕ) → ℕ → Output W → Output W → Result Tally Stop → Type 0
+SendsTable style l contents told given old new (Ok tally) = SentTable style l contents told old new tally
+SendsTable style l contents told given old new (Err stop) = Stopped style l contents told given old new stop

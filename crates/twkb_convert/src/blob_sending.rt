@@ -1,10 +1,11 @@
 //! The texts of a stream's blobs, sent one after another.
-ghost use Rattle.std.specs.Prelude.{◌≡◌, ◌≤◌, false, true, IfOk, IfErr};
+ghost use Rattle.std.specs.Prelude.{◌≡◌, ◌≤◌, false, true, IfOk, IfErr, OnOk};
 ghost use Rattle.twkb_io.specs.Outputs as Outputs;
+ghost use Rattle.twkb_io.specs.Taps.{has_unflushed};
 ghost use Rattle.twkb_geom.specs.Limits.{largest_limits};
 ghost use Rattle.twkb_blob.specs.Readers.{has_ended, is_spent};
 ghost use Rattle.twkb_convert.specs.BlobReading.{is_input_spent, limits_of};
-ghost use Rattle.twkb_convert.specs.BlobSending.{CutBlobs, CutListing, EndsBlobs, Follows, IsEnded, SentAllBlobs, SentBlob, SentListing, StopsBlob, StopsRead};
+ghost use Rattle.twkb_convert.specs.BlobSending.{CutBlobs, CutListing, EndsBlobs, Follows, IsEnded, SentAllBlobs, SentBlob, SentListing, StopsBlob, StopsRead, UnlessOutput};
 
 use crate::blob_text::next_text;
 use crate::halt::{Halt, Obstacle};
@@ -30,6 +31,8 @@ pub(crate) fn send_listing_and_flush<R: Read, W: Write>(
     ensures unfailed { IfOk result (λ done. Follows reader.old reader.new false × IsEnded R.remaining reader.old reader.new) }
     ensures err { IfErr result (λ halt. CutListing what W.contents reader.old output.old reader.new output.new halt) }
     ensures stops { IfErr result (λ halt. StopsRead reader.old halt.obstacle reader.new) }
+    ensures flushed { OnOk result (has_unflushed (Outputs.output_tap output.new).now ≡ false) }
+    ensures stop_flushed { IfErr result (λ halt. UnlessOutput halt.obstacle (has_unflushed (Outputs.output_tap output.new).now ≡ false)) }
 {
     let done = match send_listing(what, alloc, reader, output) {
         Ok(done) => done,

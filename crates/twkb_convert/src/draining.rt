@@ -1,7 +1,7 @@
 //! The end of a reader.
-ghost use Rattle.std.specs.Prelude.{◌≡◌, ◌<◌, ◌≤◌, OnOk, OnErr, IfOk, IfErr};
+ghost use Rattle.std.specs.Prelude.{◌≡◌, ◌≤◌, ◌-◌, ◌^◌, Err, OnOk};
 ghost use Rattle.std.specs.Io.KnownBytes.{IsAtEnd};
-ghost use Rattle.twkb_io.specs.Taps.{device_of, failures_of};
+ghost use Rattle.twkb_io.specs.Taps.{bytes_given, device_of, failures_of};
 ghost use Rattle.twkb_convert.specs.Draining.{Drains};
 
 use std::io::Read;
@@ -22,10 +22,11 @@ pub(crate) enum DrainFault {
 /// Reads a reader to its end, and drops what it gives. Takes no memory.
 pub(crate) fn drain<R: Read>(tap: &mut Tap<R>) -> Result<(), DrainFault>
     ensures end { OnOk result (IsAtEnd (R.remaining (device_of tap.new))) }
+    ensures too_long { result ≡ Err DrainFault.TooLong → 2 ^ 64 - 1 ≤ bytes_given tap.new }
     ensures failures { Drains (failures_of tap.old) result (failures_of tap.new) }
 {
     let mut dropped = [0; PIECE];
-    for _ in 0..u64::MAX {
+    for turn in 0..u64::MAX {
         match tap.read(&mut dropped) {
             Ok(0) => return Ok(()),
             Ok(_) => {}

@@ -1,12 +1,13 @@
 //! From a table to a stream.
-ghost use Rattle.std.specs.Prelude.{◌≡◌, ◌<◌, ◌^◌, ℕ, List, Option, IfOk, IfErr};
+ghost use Rattle.std.specs.Prelude.{◌≡◌, ◌<◌, ◌^◌, ◌⊎◌, ℕ, List, Option, IfOk, IfErr, true};
 ghost use Rattle.twkb_geom.specs.Tree.{Tree};
 ghost use Rattle.twkb_geom.specs.Limits.{Allowance};
 ghost use Rattle.twkb_grammar.specs.declared.style.Style.{Style};
 ghost use Rattle.twkb_grammar.specs.declared.style.Style.TheVariants.{Full};
 ghost use Rattle.twkb_convert.specs.Devices.{Changes, IsDeviceCause};
+ghost use Rattle.twkb_convert.specs.Flushing.{IsFlushedButForDevices};
 ghost use Rattle.twkb_convert.specs.Packed.{ExplainsPackingCause, Packed, PackedWith, StoppedPacking};
-ghost use Rattle.twkb_convert.specs.Sending.{ExplainsWhy, is_write};
+ghost use Rattle.twkb_convert.specs.Sending.{ExplainsWhy, is_output, is_write};
 
 use crate::report::{Cause, ConvertFault, Report};
 use crate::sending::{Tally, Why};
@@ -28,6 +29,7 @@ pub fn pack<R: Read, W: Write>(
 ) -> Result<Report, ConvertFault>
     ensures ok { IfOk result (λ report. Packed Full limits R.remaining W.contents reader.old writer.old report reader.new writer.new) }
     ensures err { IfErr result (λ fault. StoppedPacking Full limits R.remaining W.contents reader.old writer.old fault reader.new writer.new) }
+    ensures flushed { IsFlushedButForDevices result writer.new }
 {
     pack_styled(alloc, reader, writer, limits, Style::Full)
 }
@@ -35,7 +37,8 @@ pub fn pack<R: Read, W: Write>(
 /// Packs a table in a style: reads its records to the reader's end, and writes the canonical blob
 /// of each geometry once the row behind it was accepted or the table's end was met (TWKB; encoded
 /// polyline; RFC 4180). Where no write failed, the writer is flushed as the last act. Takes memory
-/// for one record and one geometry with its sizes.
+/// for one record and one geometry with its sizes. Behind the end that `csv` met the reader is asked
+/// once more: lend one that may go on behind an end, as a terminal, under `twkb_io::Ending`.
 pub fn pack_styled<R: Read, W: Write>(
     alloc: Global,
     reader: &mut Tap<R>,
@@ -45,6 +48,7 @@ pub fn pack_styled<R: Read, W: Write>(
 ) -> Result<Report, ConvertFault>
     ensures ok { IfOk result (λ report. Packed style limits R.remaining W.contents reader.old writer.old report reader.new writer.new) }
     ensures err { IfErr result (λ fault. StoppedPacking style limits R.remaining W.contents reader.old writer.old fault reader.new writer.new) }
+    ensures flushed { IsFlushedButForDevices result writer.new }
 {
     match pack_counted(alloc, reader, writer, limits, style) {
         Ok((report, _)) => Ok(report),
@@ -62,6 +66,7 @@ pub fn pack_counted<R: Read, W: Write>(
 ) -> Result<(Report, Work), ConvertFault>
     ensures ok { IfOk result (λ done. PackedWith style limits R.remaining W.contents reader.old writer.old done.0 done.1 reader.new writer.new) }
     ensures err { IfErr result (λ fault. StoppedPacking style limits R.remaining W.contents reader.old writer.old fault reader.new writer.new) }
+    ensures flushed { IsFlushedButForDevices result writer.new }
 {
     let reads_failed = reader.failures();
     let mut output = Output::new(writer);
@@ -113,8 +118,9 @@ fn packed(tally: Tally, sent: u64) -> (Report, Work)
 #[tactic(auto, using(crate::proofs::PackedLemmas::read_explained))]
 fn packing_cause(why: Why, has_read_failed: bool) -> Cause
     ensures devices { IsDeviceCause has_read_failed (is_write why) result }
-    ensures explains { (style : Style) (l : Allowance) (told : Option (List ℕ)) (sent : ℕ) (whole later : List Tree) (front : List ℕ) → sent ≡ 0
-        → ExplainsWhy style l told why sent whole later front → ExplainsPackingCause style l told result whole later front }
+    ensures explains { (style : Style) (l : Allowance) (told : Option (List ℕ)) (given sent : ℕ) (whole later : List Tree) (front : List ℕ) → sent ≡ 0
+        → ExplainsWhy style l told given why sent whole later front → ExplainsPackingCause style l told given result whole later front }
+    ensures output { is_output why ≡ true → (result ≡ Cause.WriteDevice) ⊎ (result ≡ Cause.ReadDevice) ⊎ (result ≡ Cause.TooLong) }
 {
     match why {
         Why::Output(OutFault::Write | OutFault::Stuck) => Cause::WriteDevice,

@@ -1,6 +1,6 @@
 //! The geometries of a table, sent one after another.
 ghost use Rattle.std.specs.Prelude.{◌≡◌, ℕ, List, Option, false};
-ghost use Rattle.twkb_io.specs.Taps.{device_of};
+ghost use Rattle.twkb_io.specs.Taps.{bytes_given, device_of};
 ghost use Rattle.twkb_io.specs.Outputs.{is_spent};
 ghost use Rattle.twkb_geom.specs.Tree.{Tree};
 ghost use Rattle.twkb_geom.specs.Limits.{Allowance};
@@ -24,7 +24,7 @@ pub(crate) enum Why {
     Table(TableFault),
     /// No memory was found for the sizes of a geometry.
     Memory,
-    /// Behind the last record the reader could not be read to its end.
+    /// Behind the last record as many reads as can be counted gave bytes.
     Undrained,
     /// The output refused a put or a flush.
     Output(OutFault),
@@ -65,7 +65,7 @@ pub(crate) fn send_table<R: Read, W: Write>(
     output: &mut Output<'_, W>,
 ) -> Result<Tally, Stop>
     requires fresh { is_spent output.old ≡ false }
-    ensures sends { SendsTable style limits W.contents (R.remaining (device_of tap.old)) output.old output.new result }
+    ensures sends { SendsTable style limits W.contents (R.remaining (device_of tap.old)) (bytes_given tap.new) output.old output.new result }
 {
     let mut table = TableReader::new(alloc, tap, limits);
     let mut flat = Flat::new(alloc);

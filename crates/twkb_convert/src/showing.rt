@@ -1,5 +1,6 @@
 //! Streams of blobs as lines of their headers.
 ghost use Rattle.std.specs.Prelude.{IfOk, IfErr};
+ghost use Rattle.twkb_convert.specs.Flushing.{IsFlushed};
 ghost use Rattle.twkb_convert.specs.Shown.{Shown, StoppedShowing};
 
 use crate::listing::Listing;
@@ -23,6 +24,7 @@ pub fn show<R: Read, W: Write>(
 ) -> Result<Report, ConvertFault>
     ensures ok { IfOk result (λ report. Shown limits R.remaining W.contents reader.old writer.old report reader.new writer.new) }
     ensures err { IfErr result (λ fault. StoppedShowing limits R.remaining W.contents reader.old writer.old fault reader.new writer.new) }
+    ensures flushed { IsFlushed result writer.new }
 {
     list_stream(Listing::Headers, alloc, reader, writer, limits)
 }

@@ -2,6 +2,7 @@
 ghost use Rattle.std.specs.Prelude.{◌≡◌, IfOk, IfErr};
 ghost use Rattle.twkb_convert.specs.LocatedBlobs.{LocatedStream, geometries_of};
 ghost use Rattle.twkb_convert.specs.Listings.{listing_text};
+ghost use Rattle.twkb_convert.specs.Flushing.{IsFlushed};
 ghost use Rattle.twkb_convert.specs.Listed.{Listed, StoppedListing, cause_of_obstacle};
 
 use crate::blob_sending::send_listing_and_flush;
@@ -25,6 +26,7 @@ pub(crate) fn list_stream<R: Read, W: Write>(
 ) -> Result<Report, ConvertFault>
     ensures ok { IfOk result (λ report. Listed (LocatedStream limits 0) (listing_text what) R.remaining W.contents reader.old writer.old report reader.new writer.new) }
     ensures err { IfErr result (λ fault. StoppedListing (LocatedStream limits 0) geometries_of (listing_text what) limits R.remaining W.contents reader.old writer.old fault reader.new writer.new) }
+    ensures flushed { IsFlushed result writer.new }
 {
     let mut output = Output::new(writer);
     let mut blobs = Reader::new(Input::new(reader), limits);

@@ -1,16 +1,17 @@
 //! A table sent to its end, and the output flushed.
-ghost use Rattle.std.specs.Prelude.{◌≡◌, false, OnOk};
+ghost use Rattle.std.specs.Prelude.{◌≡◌, false, IfErr, OnOk};
 ghost use Rattle.std.specs.Io.KnownBytes.{IsAtEnd};
-ghost use Rattle.twkb_io.specs.Taps.{device_of};
-ghost use Rattle.twkb_io.specs.Outputs.{is_spent};
-ghost use Rattle.twkb_convert.specs.Sending.{SendsTable};
+ghost use Rattle.twkb_io.specs.Taps.{bytes_given, device_of, has_unflushed};
+ghost use Rattle.twkb_io.specs.Outputs.{is_spent, output_tap};
+ghost use Rattle.twkb_convert.specs.Sending.{SendsTable, UnlessOutput};
 
-use crate::draining::drain;
+use crate::draining::{DrainFault, drain};
 use crate::sending::{Stop, Tally, Why, send_table};
 use std::alloc::Global;
 use std::io::{Read, Write};
 use twkb_geom::Limits;
 use twkb_io::{Output, Tap};
+use twkb_table::TableFault;
 use twkb_writer::Style;
 
 /// Sends a table, and flushes where no put was refused.
@@ -22,8 +23,10 @@ pub(crate) fn send_table_and_flush<R: Read, W: Write>(
     output: &mut Output<'_, W>,
 ) -> Result<Tally, Stop>
     requires fresh { is_spent output.old ≡ false }
-    ensures sends { SendsTable style limits W.contents (R.remaining (device_of tap.old)) output.old output.new result }
+    ensures sends { SendsTable style limits W.contents (R.remaining (device_of tap.old)) (bytes_given tap.new) output.old output.new result }
     ensures end { OnOk result (IsAtEnd (R.remaining (device_of tap.new))) }
+    ensures flushed { OnOk result (has_unflushed (output_tap output.new).now ≡ false) }
+    ensures stop_flushed { IfErr result (λ stop. UnlessOutput stop.why (has_unflushed (output_tap output.new).now ≡ false)) }
 {
     let tally = match send_table_and_drain(alloc, tap, limits, style, output) {
         Ok(tally) => tally,
@@ -58,18 +61,23 @@ fn send_table_and_drain<R: Read, W: Write>(
     output: &mut Output<'_, W>,
 ) -> Result<Tally, Stop>
     requires fresh { is_spent output.old ≡ false }
-    ensures sends { SendsTable style limits W.contents (R.remaining (device_of tap.old)) output.old output.new result }
+    ensures sends { SendsTable style limits W.contents (R.remaining (device_of tap.old)) (bytes_given tap.new) output.old output.new result }
     ensures end { OnOk result (IsAtEnd (R.remaining (device_of tap.new))) }
 {
     let tally = match send_table(alloc, tap, limits, style, output) {
         Ok(tally) => tally,
         Err(stop) => return Err(stop),
     };
-    if drain(tap).is_err() {
-        return Err(Stop {
-            done: tally.geometries,
+    let done = tally.geometries;
+    match drain(tap) {
+        Ok(()) => Ok(tally),
+        Err(DrainFault::Read) => Err(Stop {
+            done,
+            why: Why::Table(TableFault::Source),
+        }),
+        Err(DrainFault::TooLong) => Err(Stop {
+            done,
             why: Why::Undrained,
-        });
+        }),
     }
-    Ok(tally)
 }

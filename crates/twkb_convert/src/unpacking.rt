@@ -1,5 +1,6 @@
 //! Streams of blobs as tables.
 ghost use Rattle.std.specs.Prelude.{IfOk, IfErr};
+ghost use Rattle.twkb_convert.specs.Flushing.{IsFlushed};
 ghost use Rattle.twkb_convert.specs.Unpacked.{StoppedUnpacking, Unpacked};
 
 use crate::listing::Listing;
@@ -21,6 +22,7 @@ pub fn unpack<R: Read, W: Write>(
 ) -> Result<Report, ConvertFault>
     ensures ok { IfOk result (λ report. Unpacked limits R.remaining W.contents reader.old writer.old report reader.new writer.new) }
     ensures err { IfErr result (λ fault. StoppedUnpacking limits R.remaining W.contents reader.old writer.old fault reader.new writer.new) }
+    ensures flushed { IsFlushed result writer.new }
 {
     list_stream(Listing::Table, alloc, reader, writer, limits)
 }

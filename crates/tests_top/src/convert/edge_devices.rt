@@ -112,3 +112,29 @@ impl<'a> Read for Terminal<'a> {
         self.first.read(buf)
     }
 }
+
+/// Gives a text, then tells its end once, and then fails.
+#[derive(Drop)]
+pub struct FailsBehindItsEnd<'a> {
+    text: &'a [u8],
+    has_ended: bool,
+}
+
+impl<'a> FailsBehindItsEnd<'a> {
+    pub fn new(text: &'a [u8]) -> FailsBehindItsEnd<'a> {
+        FailsBehindItsEnd {
+            text,
+            has_ended: false,
+        }
+    }
+}
+
+impl<'a> Read for FailsBehindItsEnd<'a> {
+    fn read(&mut self, buf: &mut [u8]) -> io::Result<usize> {
+        if self.has_ended {
+            return Err(ErrorKind::Other.into());
+        }
+        self.has_ended = self.text.is_empty();
+        self.text.read(buf)
+    }
+}

@@ -1,7 +1,8 @@
 //! Readers that tell an end and then go on, under one that remembers it.
-use super::edge_devices::{Conversion, Terminal};
-use super::report;
+use super::edge_devices::{Conversion, FailsBehindItsEnd, Terminal};
+use super::{report, stopped};
 use std::alloc::Global;
+use twkb_convert::Cause;
 use twkb_io::{Ending, Tap};
 
 const TABLE: &[u8] = b"depth,kind,id,precision,polyline\n0,point,,0,AC\n0,point,,0,AA\n";
@@ -37,4 +38,16 @@ fn an_end_is_asked_for_once(rt: HostRuntime) {
         let is_once = ends_once(rt.alloc(), conversion, input, geometries, bytes);
         assert!(rt; is_once, "{conversion:?} of {} bytes", input.len());
     }
+}
+
+#[test]
+fn a_read_that_fails_behind_the_end_is_a_failed_read(rt: HostRuntime) {
+    let alloc = rt.alloc();
+    let mut writer = Tap::new(Vec::new(alloc));
+    let mut reader = Tap::new(FailsBehindItsEnd::new(TABLE));
+    let answer = Conversion::Pack.carry_out(alloc, &mut reader, &mut writer);
+    assert!(rt; answer == stopped(2, 10, Cause::ReadDevice));
+    let mut ending = Tap::new(Ending::new(FailsBehindItsEnd::new(TABLE)));
+    let answer = Conversion::Pack.carry_out(alloc, &mut ending, &mut writer);
+    assert!(rt; answer == report(2, 10));
 }

@@ -1,6 +1,11 @@
-use Rattle.std.proofs.Common.{◌≡◌}
-use Rattle.twkb_io.specs.Taps.{failures_of}
+use Rattle.std.proofs.Common.{◌≡◌, ◌≤◌}
+use Rattle.twkb_io.specs.Taps.{bytes_given, failures_of}
 use Rattle.twkb_convert.proofs.draining.drain.Given as goal
 
-abbrev pub invariant-loop : goal.invariant-loop
-invariant-loop g l = failures_of l.tap ≡ failures_of l.fn.tap
+-- each turn gave a byte, and none failed
+abbrev pub invariant-loop-turn : goal.invariant-loop-turn
+invariant-loop-turn g l =
+    record {
+      failures : failures_of l.tap ≡ failures_of l.fn.tap;
+      given : l.turn ≤ bytes_given l.tap;
+    }

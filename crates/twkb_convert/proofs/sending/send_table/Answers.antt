@@ -6,7 +6,7 @@ pub returns-in-Err : goal.returns-in-Err
 returns-in-Err g c =
     let s = c.loop-done.invariant.sent in
     record {
-      sends = stopped_next c.args.style c.args.limits g.R.Read.remaining g.W.Write.contents _ _ c.send_next.new.table _ _ _ c.loop-done.done _ c.send_next.new.work c.in-Err.why s c.loop-done.invariant.fresh
+      sends = stopped_next c.args.style c.args.limits g.R.Read.remaining g.W.Write.contents _ _ _ c.send_next.new.table _ _ _ c.loop-done.done _ c.send_next.new.work c.in-Err.why s c.loop-done.invariant.fresh
           (c.in-Err.ensures.sends c.args.limits _ s.records s.geometries s.stands);
     }
 
@@ -21,5 +21,5 @@ loop-done-preserved g c =
 
 pub returns : goal.returns
 returns g c = record {
-  sends = stopped_uncounted c.args.style c.args.limits g.R.Read.remaining g.W.Write.contents _ c.loop-done.table _ _ c.loop-done.done _ c.loop-done.work c.loop-done.invariant.sent (omega arith) (omega arith);
+  sends = stopped_uncounted c.args.style c.args.limits g.R.Read.remaining g.W.Write.contents _ _ c.loop-done.table _ _ c.loop-done.done _ c.loop-done.work c.loop-done.invariant.sent (omega arith) (omega arith);
 }
