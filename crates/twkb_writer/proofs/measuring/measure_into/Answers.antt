@@ -1,4 +1,4 @@
-use Rattle.std.proofs.Common.{◌-◌, arith}
+use Rattle.std.proofs.Common.{◌-◌, arith, rules}
 use Rattle.twkb_writer.proofs.MeasuringCaps.{capped, capped_drop, node_depth}
 use Rattle.twkb_writer.proofs.MeasuringPass.{pass_start, pass_small, tail_short, pass_step, points_back, pass_end}
 use Rattle.twkb_writer.proofs.MeasuringWork.{reads_back}
@@ -51,3 +51,6 @@ loop-back-preserved c =
 pub returns-clause-sizes : goal.returns-clause-sizes
 returns-clause-sizes c =
     pass_end _ _ (c.node_count-total.result - c.loop-back.back) _ _ _ _ c.node_count-total.ensures.sound (omega (arith, c.loop-back-test.false)) c.loop-back.invariant.pass c.reverse.ensures.items
+
+pub returns-clause-work : goal.returns-clause-work
+returns-clause-work c = search rules
