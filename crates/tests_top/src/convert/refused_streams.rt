@@ -142,11 +142,18 @@ fn each_front_of_a_blob_is_cut_at_its_end(rt: HostRuntime) {
 const LINE: &[u8] =
     b"\xa2\x03\x23\xe7\xce\x87\x0c\xa8\xaa\x4c\xa0\xfc\xd5\x03\x80\x81\x3a\x03\xbf\xa4\xbb\x0b\xa0\xfc\xd5\x03\xef\x93\x09\xc0\xed\x1a\xb7\x96\x43\xc0\x93\x1f";
 
+// Whether the line's blob, cut behind so many bytes, is refused at this offset.
+fn is_cut_so(alloc: Global, end: usize, offset: u64) -> bool {
+    match LINE.get(..end) {
+        Some(front) => refused(alloc, front, offset, BlobReason::Truncated),
+        None => false,
+    }
+}
+
 #[test]
 fn a_number_that_is_cut_is_told_at_its_first_byte(rt: HostRuntime) {
     for (end, offset) in [(5, 3), (17, 17), (34, 32)] {
-        let is_cut = refused(rt.alloc(), &LINE[..end], offset, BlobReason::Truncated);
-        assert!(rt; is_cut, "{end} bytes");
+        assert!(rt; is_cut_so(rt.alloc(), end, offset), "{end} bytes");
     }
 }
 

@@ -18,10 +18,11 @@ fn work_of(alloc: Global, table: &[u8]) -> Option<Work> {
 }
 
 // Whether a table has so many points and nodes, a size for each, and each is read as often as it may.
-fn works_so(alloc: Global, table: &[u8], points: u64, nodes: u64) -> bool {
+fn works_so(alloc: Global, table: &[u8], points: u32, nodes: u32) -> bool {
     let Some(work) = work_of(alloc, table) else {
         return false;
     };
+    let (points, nodes) = (points as u64, nodes as u64);
     let are_counted = work.points == points && work.nodes == nodes && work.entries == nodes;
     are_counted && work.point_reads <= 2 * points && work.node_reads <= 3 * nodes
 }
