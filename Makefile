@@ -15,7 +15,11 @@ bin/polytwkb: $(SOURCES)
 	cp crates/polytwkb/out/polytwkb bin/polytwkb
 
 demo: build
-	bin/polytwkb pack < examples/points.csv | od -An -v -tx1
+	cat examples/collection.csv
+	bin/polytwkb pack < examples/collection.csv > bin/collection.twkb
+	od -An -v -tx1 bin/collection.twkb
+	bin/polytwkb show < bin/collection.twkb
+	bin/polytwkb unpack < bin/collection.twkb
 
 bench: build
 	bench/run.sh

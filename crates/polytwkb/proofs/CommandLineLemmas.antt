@@ -1,11 +1,10 @@
 -- The command line is one of which `clap` says the matches.
 use Rattle.std.proofs.Common.{◌≡◌, true, refl, subst, map, codes, [], ◌∷◌}
 use Rattle.std.specs.Borrow.{Bor}
-use Rattle.clap.specs.Words.{App, FailsBy, HasMatchesOf, Text, fault_of, is_simple, is_simple_and_free, kind_of, subcommand_of, subcommand_rows_of, takes}
+use Rattle.clap.specs.Words.{App, FailsBy, HasMatchesOf, Text, fault_of, is_simple, is_simple_and_free, subcommand_of, subcommand_rows_of}
 use Rattle.clap.specs.declared.error.Error.{Error}
-use Rattle.clap.specs.declared.error.kind.ErrorKind.TheVariants as kind
 use Rattle.clap.specs.declared.parser.matches.ArgMatches.{ArgMatches}
-use Rattle.std.specs.Prelude.{List, Result, IfErr, IfOk}
+use Rattle.std.specs.Prelude.{List, Result, IfOk}
 use Rattle.std.proofs.lemmas.Result.{IfOk-weaker}
 use Rattle.clap.proofs.OnLiterals.{clap_on_literals}
 use Rattle.polytwkb.specs.CommandLine.{IsCommandLine, command_line}
@@ -17,14 +16,6 @@ simple_line styles = refl
 pub free_line : (styles : Bor (List (Bor Text))) → is_simple_and_free (command_line styles) ≡ true
 unfolding clap_on_literals command_line
 free_line styles = refl
-
--- a parse of this line fails where the words do not fit, or for memory
-pub passes_line : {T : Type 0} (styles : Bor (List (Bor Text))) (result : Result T Error) (app : App) (words : List Text) → app ≡ command_line styles
-    → IfErr result (λ e. takes app words ≡ true → kind_of e ≡ kind.OutOfMemory)
-    → IfErr result (λ e. takes (command_line styles) words ≡ true → kind_of e ≡ kind.OutOfMemory)
-passes_line {T} styles result app words line passes =
-    let P : App → Type 0 = λ a. IfErr result (λ e. takes a words ≡ true → kind_of e ≡ kind.OutOfMemory) in
-    subst P line passes
 
 pub kinds_line : {T : Type 0} (styles : Bor (List (Bor Text))) (result : Result T Error) (app : App) (words : List Text) → app ≡ command_line styles
     → (is_simple_and_free app ≡ true → FailsBy (fault_of app words) result) → FailsBy (fault_of (command_line styles) words) result

@@ -1,3 +1,6 @@
+pub mod PassedLemmas
+pub mod NestLemmas
+pub mod RequestLemmas
 pub mod CommandLineLemmas
 pub mod NamedLemmas
 pub mod Asked

@@ -15,12 +15,9 @@ use Rattle.clap.proofs.OnLiterals.{clap_on_literals}
 use Rattle.polytwkb.specs.CommandLine.{command_line}
 use Rattle.polytwkb.specs.declared.words.Conversion.TheVariants as conversion
 use Rattle.polytwkb.specs.Words.{NamesConversion}
+use Rattle.polytwkb.proofs.PassedLemmas.{last_none}
 
 -- ---- no fault: a subcommand was entered
-
-last_none : (a b : Kinds) → or_else a b ≡ [] → b ≡ []
-last_none [] b none = none
-last_none (k ∷ ks) b none = absurd (cc none)
 
 was_entered : (help has required argument : Bool) → check_kinds help (not has && required) argument ≡ [] → required ≡ true → has ≡ true
 was_entered help true required argument none needed = refl
@@ -48,13 +45,13 @@ level_entered s names h words has below needed none =
 
 -- ---- a subcommand that was entered is one of the command's
 
-abbrev IsAmong : Text → List Text → Type 0
-IsAmong name [] = ⊥
-IsAmong name (n ∷ ns) = (n ≡ name) ⊎ IsAmong name ns
+abbrev IsOneOf : Text → List Text → Type 0
+IsOneOf name [] = ⊥
+IsOneOf name (n ∷ ns) = (n ≡ name) ⊎ IsOneOf name ns
 
 abbrev NamesOneOf : List Text → Option (Text × List Row) → Type 0
 NamesOneOf names None = ⊥
-NamesOneOf names (Some p) = IsAmong p.0 names
+NamesOneOf names (Some p) = IsOneOf p.0 names
 
 abbrev names_in : List Shape → List Text
 names_in = map (λ s. s.name)

@@ -1,4 +1,4 @@
--- The command line.
+-- The command line, as `clap` sees it.
 use Rattle.std.specs.Prelude.{◌≡◌, List, [], ◌∷◌, pos, true, Some, codes, map}
 use Rattle.std.specs.Borrow.{Bor}
 use Rattle.clap.specs.Words.{App, Rule, Shape, Text, new_app, new_rule, with_rule, with_subcommand}
@@ -21,15 +21,15 @@ abbrev pub pack_shape : Bor (List (Bor Text)) → Shape
 pack_shape styles = (with_rule (with_rule (new_app (codes "pack")) max_nest) (style_option styles)).top
 
 -- a subcommand is required, `help` is none, and there is a version
-abbrev pub program : App
-program =
+abbrev pub bare_app : App
+bare_app =
     let app = new_app (codes "polytwkb") in
     record app { top = record app.top { subcommand_required = true; disable_help_subcommand = true; has_version = true } }
 
 -- the program with its subcommands, where the styles have these names
 unfoldable pub command_line : Bor (List (Bor Text)) → App
 command_line styles =
-    with_subcommand (with_subcommand (with_subcommand program (pack_shape styles)) (conversion_shape (codes "unpack"))) (conversion_shape (codes "show"))
+    with_subcommand (with_subcommand (with_subcommand bare_app (pack_shape styles)) (conversion_shape (codes "unpack"))) (conversion_shape (codes "show"))
 
 -- The command line: the styles are `full` and `plain`, wherever these names lie in memory.
 pub record IsCommandLine (line : App) : Type 0 where

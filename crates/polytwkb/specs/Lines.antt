@@ -76,7 +76,3 @@ line_of c = codes "polytwkb: " ++ (cause_text c ++ codes "\n")
 -- the line of a word that is no UTF-8
 abbrev pub no_text_line : List ℕ
 no_text_line = codes "polytwkb: a word is not UTF-8\n"
-
--- the line of a nesting that is none
-abbrev pub no_nest_line : List ℕ
-no_nest_line = codes "polytwkb: --max-nest takes a number from 0 to 32\n"

@@ -1,6 +1,6 @@
 -- What a run of the command does (profile).
-use Rattle.std.specs.Prelude.{ℕ, ◌≡◌, ◌≢◌, ◌⊎◌, List, [], ◌∷◌, Option, Result, Ok, Err, true}
-use Rattle.clap.specs.Words.{App, IsAmong, Text, fault_of, takes}
+use Rattle.std.specs.Prelude.{ℕ, ◌≡◌, ◌≢◌, ◌⊎◌, List, [], Option, Result, Ok, Err}
+use Rattle.clap.specs.Words.{App, IsAmong, Text, fault_of}
 use Rattle.clap.specs.declared.error.kind.ErrorKind.{ErrorKind}
 use Rattle.clap.specs.declared.error.kind.ErrorKind.TheVariants.{DisplayHelp, DisplayVersion}
 use Rattle.twkb_io.specs.declared.tap.Tap.{Tap}
@@ -12,11 +12,11 @@ use Rattle.twkb_convert.specs.declared.report.Cause.TheVariants as cause
 use Rattle.polytwkb.specs.declared.words.Conversion.{Conversion}
 use Rattle.polytwkb.specs.declared.words.Conversion.TheVariants as conversion
 use Rattle.polytwkb.specs.declared.words.Request.{Request}
-use Rattle.polytwkb.specs.Lines.{line_of, no_nest_line}
+use Rattle.polytwkb.specs.Lines.{line_of}
 use Rattle.polytwkb.specs.Printing.{IsPrinted}
 use Rattle.polytwkb.specs.Status.{status_of}
 use Rattle.polytwkb.specs.Conversions.{Packs, Shows, Unpacks}
-use Rattle.polytwkb.specs.Words.{AsksFor, NamesNoNest}
+use Rattle.polytwkb.specs.Words.{AsksFor}
 
 -- the status of an answer
 abbrev pub status_of_answer : Result Report ConvertFault → ℕ
@@ -48,36 +48,24 @@ pub record LacksMemory {R W E : Type 0} (told : E → Option (List ℕ)) (reader
   pub status_is : status ≡ 4
   pub line : IsPrinted told errors (line_of cause.Memory) errors_after
 
--- `clap` takes the words, and yet the number of the option is none from 0 to 32: nothing is converted, and standard error gets the line that says so.
-pub record RefusesNest {R W E : Type 0} (told : E → Option (List ℕ)) (app : App) (words : List Text) (reader : Tap R) (writer : Tap W) (errors : Tap E) (reader_after : Tap R) (writer_after : Tap W) (errors_after : Tap E) (status : ℕ) : Type 0 where
-  pub names : NamesNoNest app words
+-- Words that are refused with this kind are answered: help and the version with status 0 and nothing on standard error, all else with status 2 and nothing written. Nothing is read.
+pub record Answers {R W E : Type 0} (kind : ErrorKind) (reader : Tap R) (writer : Tap W) (errors : Tap E) (reader_after : Tap R) (writer_after : Tap W) (errors_after : Tap E) (status : ℕ) : Type 0 where
   pub unread : reader_after ≡ reader
-  pub unwritten : writer_after ≡ writer
-  pub status_is : status ≡ 2
-  pub line : IsPrinted told errors no_nest_line errors_after
+  pub told : (kind ≡ DisplayHelp) ⊎ (kind ≡ DisplayVersion) → (status ≡ 0) × (errors_after ≡ errors)
+  pub refused : kind ≢ DisplayHelp → kind ≢ DisplayVersion → (status ≡ 2) × (writer_after ≡ writer)
 
--- Nothing is converted, and what asked for help or the version or was refused is answered with this status.
-pub record Answers {R : Type 0} (wanted : ℕ) (reader reader_after : Tap R) (status : ℕ) : Type 0 where
-  pub unread : reader_after ≡ reader
-  pub status_is : status ≡ wanted
-
--- ---- what a run with a command line's words does
+-- ---- what a run with a command line's words does: they have no fault, or they have one
 
 module _ {R W E : Type 0} (remaining : R → Option (List ℕ)) (contents : W → Option (List ℕ)) (told : E → Option (List ℕ)) (line : App) (words : List Text)
     (reader : Tap R) (writer : Tap W) (errors : Tap E) (reader_after : Tap R) (writer_after : Tap W) (errors_after : Tap E) (status : ℕ) where
-  -- words that `clap` takes: what they ask for is carried out, or no memory was found, or the option's number is none from 0 to 32
-  abbrev pub RunsTaken : Type 0
-  RunsTaken = takes line words ≡ true
+  -- words without a fault: what they ask for is carried out, or no memory was found
+  abbrev pub RunsAccepted : Type 0
+  RunsAccepted = fault_of line words ≡ []
       → ((request : Request) × AsksFor line words request × CarriesOut remaining contents told request reader writer errors reader_after writer_after errors_after status)
       ⊎ LacksMemory told reader writer errors reader_after writer_after errors_after status
-      ⊎ RefusesNest told line words reader writer errors reader_after writer_after errors_after status
 
-  -- words that ask for help or for the version alone: status 0, and nothing is read or told to standard error, or no memory was found
-  abbrev pub RunsTold : ErrorKind → Type 0
-  RunsTold kind = fault_of line words ≡ kind ∷ []
-      → (Answers 0 reader reader_after status × (errors_after ≡ errors)) ⊎ LacksMemory told reader writer errors reader_after writer_after errors_after status
-
-  -- words that are refused, and ask for neither: status 2, and nothing is read or written, or no memory was found
+  -- words with a fault: one of its kinds is answered, or no memory was found
   abbrev pub RunsRefused : Type 0
-  RunsRefused = fault_of line words ≢ [] → (IsAmong DisplayHelp (fault_of line words) → ⊥) → (IsAmong DisplayVersion (fault_of line words) → ⊥)
-      → (Answers 2 reader reader_after status × (writer_after ≡ writer)) ⊎ LacksMemory told reader writer errors reader_after writer_after errors_after status
+  RunsRefused = fault_of line words ≢ []
+      → ((kind : ErrorKind) × IsAmong kind (fault_of line words) × Answers kind reader writer errors reader_after writer_after errors_after status)
+      ⊎ LacksMemory told reader writer errors reader_after writer_after errors_after status

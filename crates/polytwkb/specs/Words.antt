@@ -1,5 +1,5 @@
 -- What the words ask for.
-use Rattle.std.specs.Prelude.{◌≡◌, ◌≢◌, ◌≤◌, ◌↔◌, ⊤, List, [], Option, Some, None, codes}
+use Rattle.std.specs.Prelude.{◌≡◌, ◌≢◌, ◌≤◌, ◌↔◌, ◌⊎◌, ⊤, List, [], ◌∷◌, Option, Some, None, codes}
 use Rattle.std.specs.Str.Parse.{IsNumeral, digits_value, without_leading_plus}
 use Rattle.clap.specs.Words.{App, IsAmong, Kinds, Row, Text, first_of, one_of, subcommand_of}
 use Rattle.clap.specs.declared.error.kind.ErrorKind.{ErrorKind}
@@ -28,6 +28,11 @@ abbrev pub AreLimits : Option Text → Allowance → Type 0
 AreLimits None l = l ≡ standard_limits
 AreLimits (Some digits) l = IsNest digits × (l ≡ record standard_limits { nest = digits_value 10 (without_leading_plus digits) })
 
+-- the option gives nothing, or a number from 0 to 32
+abbrev pub GivesNest : Option Text → Type 0
+GivesNest None = ⊤
+GivesNest (Some digits) = IsNest digits
+
 -- the option gives a text that is no number from 0 to 32
 abbrev pub GivesNoNest : Option Text → Type 0
 GivesNoNest None = ⊥
@@ -44,10 +49,10 @@ IsAskedBy None request = ⊥
 IsAskedBy (Some (name, rows)) request =
     (name ≡ name_of request.conversion) × AreLimits (one_of (codes "max-nest") rows) request.limits × IsStyle (first_of (codes "style") rows) request.style
 
--- the option of a subcommand gives a text that is no number from 0 to 32
-abbrev pub HasNoNest : Option (Text × List Row) → Type 0
-HasNoNest None = ⊥
-HasNoNest (Some (name, rows)) = GivesNoNest (one_of (codes "max-nest") rows)
+-- the option of a subcommand gives nothing, or a number from 0 to 32
+abbrev pub HasNest : Option (Text × List Row) → Type 0
+HasNest None = ⊤
+HasNest (Some (name, rows)) = GivesNest (one_of (codes "max-nest") rows)
 
 -- a conversion has this name
 abbrev pub IsConversionName : Text → Type 0
@@ -62,22 +67,9 @@ NamesConversion (Some (name, rows)) = IsConversionName name
 abbrev pub AsksFor : App → List Text → Request → Type 0
 AsksFor line words request = IsAskedBy (subcommand_of line words) request
 
--- `clap` takes the words, and yet the number of the option is none from 0 to 32
-abbrev pub NamesNoNest : App → List Text → Type 0
-NamesNoNest line words = HasNoNest (subcommand_of line words)
-
--- why words that `clap` takes are refused: no memory was found, or the option's number is none from 0 to 32
-abbrev pub IsLateRefusal : App → List Text → Refusal → Type 0
-IsLateRefusal line words refusal.Memory = ⊤
-IsLateRefusal line words refusal.Nest = NamesNoNest line words
-IsLateRefusal line words (refusal.Help text) = ⊥
-IsLateRefusal line words (refusal.Version text) = ⊥
-IsLateRefusal line words (refusal.Usage text) = ⊥
-
 -- the refusal that an error of this kind is, unless no memory was found
 abbrev pub IsRefusal : ErrorKind → Refusal → Type 0
 IsRefusal kind refusal.Memory = ⊤
-IsRefusal kind refusal.Nest = ⊥
 IsRefusal kind (refusal.Help text) = kind ≡ DisplayHelp
 IsRefusal kind (refusal.Version text) = kind ≡ DisplayVersion
 IsRefusal kind (refusal.Usage text) = (kind ≢ DisplayHelp) × (kind ≢ DisplayVersion)
@@ -85,7 +77,10 @@ IsRefusal kind (refusal.Usage text) = (kind ≢ DisplayHelp) × (kind ≢ Displa
 -- the refusal of words that may have these kinds of error: help or the version where it was asked for, unless no memory was found
 abbrev pub IsRefusalAmong : Kinds → Refusal → Type 0
 IsRefusalAmong kinds refusal.Memory = ⊤
-IsRefusalAmong kinds refusal.Nest = kinds ≡ []
 IsRefusalAmong kinds (refusal.Help text) = IsAmong DisplayHelp kinds
 IsRefusalAmong kinds (refusal.Version text) = IsAmong DisplayVersion kinds
 IsRefusalAmong kinds (refusal.Usage text) = (kind : ErrorKind) × IsAmong kind kinds × (kind ≢ DisplayHelp) × (kind ≢ DisplayVersion)
+
+-- the fault of words asks for help alone, for the version alone, or for neither
+abbrev pub IsOneRequest : Kinds → Type 0
+IsOneRequest kinds = (kinds ≡ DisplayHelp ∷ []) ⊎ (kinds ≡ DisplayVersion ∷ []) ⊎ ((IsAmong DisplayHelp kinds → ⊥) × (IsAmong DisplayVersion kinds → ⊥))

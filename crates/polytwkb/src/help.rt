@@ -4,42 +4,69 @@
 pub const VERSION: &str = "0.1.0";
 
 /// What the program does.
-pub const PROGRAM: &str = "Converts between tables of encoded polylines and streams of TWKB blobs";
+pub const PROGRAM: &str =
+    "Converts between CSV tables of encoded polylines and streams of TWKB blobs";
 
 /// What `pack` does.
-pub const PACK: &str = "Reads a table of encoded polylines and writes a stream of TWKB blobs";
+pub const PACK: &str = "Reads a table and writes a stream of blobs, one for each geometry";
 
 /// What `unpack` does.
-pub const UNPACK: &str = "Reads a stream of TWKB blobs and writes a table of encoded polylines";
+pub const UNPACK: &str = "Reads a stream of blobs and writes a table, the header line first";
 
 /// What `show` does.
-pub const SHOW: &str = "Reads a stream of TWKB blobs and writes a line for each TWKB header";
+pub const SHOW: &str = "Reads a stream of blobs and writes a line for each TWKB header in it";
+
+/// Where the help of a subcommand leads.
+pub const ELSEWHERE: &str = "'polytwkb --help' describes tables, streams and exit statuses.";
 
 /// What `--max-nest` is.
-pub const MAX_NEST: &str = "How many collections may stand round a member, 0 to 32 [default: 16]";
+pub const MAX_NEST: &str = "How many collections a geometry may stand in, 0 to 32 [default: 16]";
 
 /// What `--style` is.
-pub const STYLE: &str = "full: blobs with sizes and boxes; plain: without either [default: full]";
+pub const STYLE: &str = "full: blobs with sizes and boxes; plain: without [default: full]";
 
-/// What `--help` adds: the table, what each subcommand reads and writes, and the statuses.
-pub const MORE: &str =
-    "A table is CSV: the header's line, then a row for each node, children below their parent:
+/// What `--help` adds: how to call the program, the table, the stream, the lines of `show`, the
+/// statuses.
+pub const MORE: &str = "Each command reads standard input and writes standard output:
 
-    depth,kind,id,precision,polyline
-    0,collection,,5,
-    1,point,7,5,_p~iF~ps|U
-    1,linestring,8,5,_p~iF~ps|U_ulLnnqC_mqNvxq`@
+  polytwkb pack < places.csv > places.twkb
+  polytwkb show < places.twkb
+  polytwkb unpack < places.twkb
 
-  depth      0 starts a geometry; its children have 1, their children 2
-  kind       point, linestring, polygon (of rings), ring, multipoint, multilinestring,
-             multipolygon, collection
-  id         of the children of a multi kind or a collection: on all of them, or on none
-  precision  decimals of the coordinates, -8 to 7: at depth 0 and in collections
-  polyline   points as encoded polyline, latitude first; empty where children hold the points
+'polytwkb <COMMAND> --help' lists the options of a command.
 
-pack writes one blob for each geometry, with nothing between them. unpack writes the table of
-such a stream. show writes for each header: level, offset, kind, precision, metadata byte,
-length in bytes, points. All read standard input and write standard output.
+Table: CSV with the header line below, then a row for each geometry, followed by
+the rows of its parts.
 
-Status: 0 all was done, 1 the input is refused (standard error names the record or the byte),
-2 the words are refused, 3 reading or writing failed, 4 no memory was found.";
+  depth,kind,id,precision,polyline
+  0,collection,,5,
+  1,point,7,5,_p~iF~ps|U
+  1,linestring,8,5,_p~iF~ps|U_ulLnnqC_mqNvxq`@
+
+  depth      0 begins a geometry; its parts have depth 1, their parts 2, and so on
+  kind       point, linestring, polygon (its parts are rings), ring, multipoint,
+             multilinestring, multipolygon or collection (its parts are any but
+             rings)
+  id         a whole number for a part of a multi kind or of a collection; all
+             parts of one geometry have an id, or none
+  precision  decimals of the coordinates, -8 to 7; for depth 0 and for parts of
+             a collection, empty elsewhere
+  polyline   the points of a point, linestring or ring as Google encoded
+             polyline, latitude before longitude; empty elsewhere
+
+Stream: one TWKB blob for each geometry of depth 0, with nothing between them.
+
+Lines of show: level, offset, kind, precision, metadata byte, length, points.
+
+  level      how many collections the geometry stands in
+  offset     the byte at which it begins, from 0
+  length     its bytes, header and parts included
+  points     its points, those of its parts included
+
+Exit status:
+
+  0  all was converted
+  1  the input was refused: standard error names the record or byte, and why
+  2  the command line was refused
+  3  reading or writing failed
+  4  out of memory";

@@ -1,6 +1,7 @@
 //! The command `polytwkb`: tables of encoded polylines to streams of TWKB blobs, and back.
 #![tactic(auto)]
 
+mod command_line;
 mod help;
 mod lines;
 mod program;

@@ -1,10 +1,10 @@
 //! A run of the command, over any devices.
 ghost use Rattle.std.specs.Prelude.{◌≡◌, ◌≢◌, map, string_bytes};
-ghost use Rattle.clap.specs.Words.{App};
-ghost use Rattle.clap.specs.declared.error.kind.ErrorKind.TheVariants.{DisplayHelp, DisplayVersion};
+ghost use Rattle.clap.specs.Words.{App, fault_of};
 ghost use Rattle.polytwkb.specs.CommandLine.{IsCommandLine, command_line};
-ghost use Rattle.polytwkb.specs.Runs.{CarriesOut, Converts, RunsRefused, RunsTaken, RunsTold};
+ghost use Rattle.polytwkb.specs.Runs.{CarriesOut, Converts, RunsAccepted, RunsRefused};
 ghost use Rattle.polytwkb.specs.Lines.{line_of, no_text_line};
+ghost use Rattle.polytwkb.specs.Words.{IsOneRequest};
 ghost use Rattle.polytwkb.specs.Printing.{IsPrinted};
 
 use crate::lines::{print_line, print_text};
@@ -91,17 +91,16 @@ pub fn run<R: Read, W: Write, E: Write>(
     writer: &mut Tap<W>,
     errors: &mut Tap<E>,
 ) -> u8
-    ensures accepted { (line : App) × IsCommandLine line × RunsTaken R.remaining W.contents E.contents line (map string_bytes words.now) reader.old writer.old errors.old reader.new writer.new errors.new result }
-    ensures help { (line : App) × IsCommandLine line × RunsTold R.remaining W.contents E.contents line (map string_bytes words.now) reader.old writer.old errors.old reader.new writer.new errors.new result DisplayHelp }
-    ensures version { (line : App) × IsCommandLine line × RunsTold R.remaining W.contents E.contents line (map string_bytes words.now) reader.old writer.old errors.old reader.new writer.new errors.new result DisplayVersion }
-    ensures usage { (line : App) × IsCommandLine line × RunsRefused R.remaining W.contents E.contents line (map string_bytes words.now) reader.old writer.old errors.old reader.new writer.new errors.new result }
+    ensures accepted { (line : App) × IsCommandLine line × RunsAccepted R.remaining W.contents E.contents line (map string_bytes words.now) reader.old writer.old errors.old reader.new writer.new errors.new result }
+    ensures refused { (line : App) × IsCommandLine line × RunsRefused R.remaining W.contents E.contents line (map string_bytes words.now) reader.old writer.old errors.old reader.new writer.new errors.new result }
+    ensures one_request { (line : App) × IsCommandLine line × IsOneRequest (fault_of line (map string_bytes words.now)) }
 {
     let styles = ["full", "plain"];
-    run_line(alloc, styles.as_slice(), words, reader, writer, errors)
+    run_with_styles(alloc, styles.as_slice(), words, reader, writer, errors)
 }
 
 // Runs the command, where the styles have these names.
-fn run_line<R: Read, W: Write, E: Write>(
+fn run_with_styles<R: Read, W: Write, E: Write>(
     alloc: Global,
     styles: &[&str],
     words: &[String],
@@ -109,18 +108,12 @@ fn run_line<R: Read, W: Write, E: Write>(
     writer: &mut Tap<W>,
     errors: &mut Tap<E>,
 ) -> u8
-    ensures accepted { RunsTaken R.remaining W.contents E.contents (command_line styles.entry) (map string_bytes words.now) reader.old writer.old errors.old reader.new writer.new errors.new result }
-    ensures help { RunsTold R.remaining W.contents E.contents (command_line styles.entry) (map string_bytes words.now) reader.old writer.old errors.old reader.new writer.new errors.new result DisplayHelp }
-    ensures version { RunsTold R.remaining W.contents E.contents (command_line styles.entry) (map string_bytes words.now) reader.old writer.old errors.old reader.new writer.new errors.new result DisplayVersion }
-    ensures usage { RunsRefused R.remaining W.contents E.contents (command_line styles.entry) (map string_bytes words.now) reader.old writer.old errors.old reader.new writer.new errors.new result }
+    ensures accepted { RunsAccepted R.remaining W.contents E.contents (command_line styles.entry) (map string_bytes words.now) reader.old writer.old errors.old reader.new writer.new errors.new result }
+    ensures refused { RunsRefused R.remaining W.contents E.contents (command_line styles.entry) (map string_bytes words.now) reader.old writer.old errors.old reader.new writer.new errors.new result }
 {
     match read_words(alloc, styles, words) {
         Ok(request) => carry_out(alloc, request, reader, writer, errors),
         Err(Refusal::Memory) => lack_memory(errors),
-        Err(Refusal::Nest) => {
-            print_text(errors, "polytwkb: --max-nest takes a number from 0 to 32\n");
-            USAGE
-        }
         Err(Refusal::Help(text)) => tell(writer, &text),
         Err(Refusal::Version(text)) => tell(writer, &text),
         Err(Refusal::Usage(text)) => {

@@ -1,36 +1,57 @@
 //! Runs over devices that fail.
-use super::{cut_writer, run_line};
+use super::{
+    COLLECTION_BLOB, COLLECTION_LINES, COLLECTION_TABLE, HEADER, POINT_BLOBS, POINT_TABLE,
+    cut_writer, run_line,
+};
 use std::alloc::Global;
 use twkb_io::{Fuse, FuseEnd, Tap};
 
-const TABLE: &[u8] = b"depth,kind,id,precision,polyline\n0,point,,0,AC\n0,point,,0,AA\n";
-
-const BLOBS: &[u8] = b"\x01\x02\x02\x04\x02\x01\x02\x02\x02\x02";
-
-// Whether packing to this writer ends with 3, after these blobs, and is told.
-fn write_fails(alloc: Global, mut writer: Tap<Fuse<Vec<u8>>>, blobs: &[u8]) -> bool {
-    let mut reader = Tap::new(TABLE);
+// Whether a run with this writer ends with 3, after this output, and is told.
+fn write_fails(
+    alloc: Global,
+    line: &str,
+    input: &[u8],
+    mut writer: Tap<Fuse<Vec<u8>>>,
+    output: &[u8],
+) -> bool {
+    let mut reader = Tap::new(input);
     let mut errors = Tap::new(Vec::new(alloc));
-    let status = run_line(
-        alloc,
-        "polytwkb pack",
-        &mut reader,
-        &mut writer,
-        &mut errors,
-    );
-    let is_written = writer.into_inner().into_inner().as_slice() == blobs;
+    let status = run_line(alloc, line, &mut reader, &mut writer, &mut errors);
+    let is_written = writer.into_inner().into_inner().as_slice() == output;
     let is_told = errors.into_inner().as_slice() == b"polytwkb: write failed\n".as_slice();
     status == Some(3) && is_written && is_told
+}
+
+// Whether a writer that takes less than the whole output, however much, ends a run with 3 after
+// what it took.
+fn fails_wherever_cut(
+    alloc: Global,
+    line: &str,
+    input: &[u8],
+    output: &[u8],
+    end: FuseEnd,
+) -> bool {
+    let mut is_right = true;
+    for taken in 0..output.len() {
+        let writer = cut_writer(alloc, taken, end, false);
+        is_right = is_right && write_fails(alloc, line, input, writer, &output[..taken]);
+    }
+    is_right
 }
 
 #[test]
 fn a_writer_that_fails_ends_with_3(rt: HostRuntime) {
     let alloc = rt.alloc();
-    for taken in 0..10 {
-        let writer = cut_writer(alloc, taken as u64, FuseEnd::Fail, false);
+    let rows: [(&str, &[u8], &[u8]); 4] = [
+        ("polytwkb pack", POINT_TABLE, POINT_BLOBS),
+        ("polytwkb pack", COLLECTION_TABLE, COLLECTION_BLOB),
+        ("polytwkb unpack", COLLECTION_BLOB, COLLECTION_TABLE),
+        ("polytwkb show", COLLECTION_BLOB, COLLECTION_LINES),
+    ];
+    for (line, input, output) in rows {
         assert!(rt;
-            write_fails(alloc, writer, &BLOBS[..taken]),
-            "a writer that takes {taken}"
+            fails_wherever_cut(alloc, line, input, output, FuseEnd::Fail),
+            "{line}"
         );
     }
 }
@@ -38,46 +59,91 @@ fn a_writer_that_fails_ends_with_3(rt: HostRuntime) {
 #[test]
 fn a_writer_that_takes_no_more_ends_with_3(rt: HostRuntime) {
     let alloc = rt.alloc();
-    for taken in 0..10 {
-        let writer = cut_writer(alloc, taken as u64, FuseEnd::Zero, false);
-        assert!(rt;
-            write_fails(alloc, writer, &BLOBS[..taken]),
-            "a writer that takes {taken}"
-        );
-    }
+    let end = FuseEnd::Zero;
+    assert!(rt; fails_wherever_cut(alloc, "polytwkb pack", POINT_TABLE, POINT_BLOBS, end));
 }
 
 #[test]
 fn a_flush_that_fails_ends_with_3(rt: HostRuntime) {
     let alloc = rt.alloc();
-    let writer = cut_writer(alloc, 99, FuseEnd::Fail, true);
-    assert!(rt; write_fails(alloc, writer, BLOBS));
+    let rows: [(&str, &[u8], &[u8]); 3] = [
+        ("polytwkb pack", POINT_TABLE, POINT_BLOBS),
+        ("polytwkb unpack", COLLECTION_BLOB, COLLECTION_TABLE),
+        ("polytwkb show", COLLECTION_BLOB, COLLECTION_LINES),
+    ];
+    for (line, input, output) in rows {
+        let writer = cut_writer(alloc, 999, FuseEnd::Fail, true);
+        assert!(rt; write_fails(alloc, line, input, writer, output), "{line}");
+    }
 }
 
-// Whether a read that fails after so many bytes ends with 3, after a front of the blobs, and is told.
-fn read_fails(alloc: Global, given: u64) -> bool {
-    let mut reader = Tap::new(Fuse::new(TABLE, given, 1, FuseEnd::Fail, false));
+// A table that is refused at its last row, and whose writer can't be flushed.
+#[test]
+fn a_flush_that_fails_is_told_before_a_refused_row(rt: HostRuntime) {
+    let alloc = rt.alloc();
+    let table = b"depth,kind,id,precision,polyline\n0,point,,0,AC\n0,point,,0,AA\n0,pont,,0,\n";
+    let writer = cut_writer(alloc, 999, FuseEnd::Fail, true);
+    let blob = b"\x01\x02\x02\x04\x02";
+    assert!(rt; write_fails(alloc, "polytwkb pack", table, writer, blob));
+}
+
+// What a run writes, where a read fails after so many bytes and it ends with 3 and is told.
+fn written(alloc: Global, line: &str, input: &[u8], given: u64) -> Option<Vec<u8>> {
+    let mut reader = Tap::new(Fuse::new(input, given, 1, FuseEnd::Fail, false));
     let mut writer = Tap::new(Vec::new(alloc));
     let mut errors = Tap::new(Vec::new(alloc));
-    let status = run_line(
-        alloc,
-        "polytwkb pack",
-        &mut reader,
-        &mut writer,
-        &mut errors,
-    );
-    let is_front = BLOBS.starts_with(&writer.into_inner());
+    let status = run_line(alloc, line, &mut reader, &mut writer, &mut errors);
     let is_told = errors.into_inner().as_slice() == b"polytwkb: read failed\n".as_slice();
-    status == Some(3) && is_front && is_told
+    if status == Some(3) && is_told {
+        Some(writer.into_inner())
+    } else {
+        None
+    }
+}
+
+// Whether packing writes a front of the blobs, where a read fails after so many bytes.
+fn packs_front(alloc: Global, given: u64) -> bool {
+    match written(alloc, "polytwkb pack", POINT_TABLE, given) {
+        Some(front) => POINT_BLOBS.starts_with(&front),
+        None => false,
+    }
 }
 
 #[test]
-fn a_reader_that_fails_ends_with_3(rt: HostRuntime) {
-    for given in 0..TABLE.len() as u64 {
+fn a_failed_read_of_a_table_ends_with_3(rt: HostRuntime) {
+    for given in 0..POINT_TABLE.len() as u64 {
         assert!(rt;
-            read_fails(rt.alloc(), given),
+            packs_front(rt.alloc(), given),
             "a reader that gives {given}"
         );
+    }
+}
+
+// Whether a run writes this, where a read fails after so many bytes.
+fn writes(alloc: Global, line: &str, input: &[u8], given: u64, output: &[u8]) -> bool {
+    match written(alloc, line, input, given) {
+        Some(found) => found.as_slice() == output,
+        None => false,
+    }
+}
+
+#[test]
+fn a_failed_read_of_a_stream_comes_after_its_whole_blobs(rt: HostRuntime) {
+    let alloc = rt.alloc();
+    let header = HEADER.as_bytes();
+    let first = b"depth,kind,id,precision,polyline\n0,point,,0,AC\n";
+    let rows: [(u64, &[u8], &[u8]); 6] = [
+        (0, header, b""),
+        (1, header, b""),
+        (4, header, b""),
+        (5, first, b"0 0 point 0 02 5 1\n"),
+        (9, first, b"0 0 point 0 02 5 1\n"),
+        (10, POINT_TABLE, b"0 0 point 0 02 5 1\n0 5 point 0 02 5 1\n"),
+    ];
+    for (given, table, lines) in rows {
+        let is_unpacked = writes(alloc, "polytwkb unpack", POINT_BLOBS, given, table);
+        let is_shown = writes(alloc, "polytwkb show", POINT_BLOBS, given, lines);
+        assert!(rt; is_unpacked && is_shown, "a reader that gives {given}");
     }
 }
 
@@ -94,7 +160,7 @@ fn a_failure_of_standard_error_changes_no_status(rt: HostRuntime) {
     let alloc = rt.alloc();
     assert!(rt; untold(alloc, "polytwkb pack", b"") == Some(1));
     assert!(rt; untold(alloc, "polytwkb", b"") == Some(2));
-    assert!(rt; untold(alloc, "polytwkb pack", TABLE) == Some(0));
+    assert!(rt; untold(alloc, "polytwkb pack", POINT_TABLE) == Some(0));
 }
 
 #[test]

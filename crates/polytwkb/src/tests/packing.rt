@@ -1,5 +1,5 @@
 //! Runs over worked tables.
-use super::{HEADER, ends};
+use super::{COLLECTION_BLOB, COLLECTION_TABLE, HEADER, ends};
 use std::alloc::Global;
 
 // Whether a line packs these rows to these blobs, with status 0.
@@ -10,15 +10,10 @@ fn line_packs(alloc: Global, line: &str, rows: &str, blobs: &[u8]) -> bool {
     ends(alloc, line, table.as_bytes(), 0, blobs, b"")
 }
 
-// Whether rows are packed to these blobs, also where no collection may stand round a member.
+// Whether rows are packed to these blobs, also where a geometry may stand in no collection.
 fn packs(alloc: Global, rows: &str, blobs: &[u8]) -> bool {
     let is_packed = line_packs(alloc, "polytwkb pack", rows, blobs);
     is_packed && line_packs(alloc, "polytwkb pack --max-nest 0", rows, blobs)
-}
-
-// Whether a table ends with 1 after these blobs, and this line on standard error.
-fn refuses(alloc: Global, table: &[u8], blobs: &[u8], line: &str) -> bool {
-    ends(alloc, "polytwkb pack", table, 1, blobs, line.as_bytes())
 }
 
 #[test]
@@ -30,55 +25,49 @@ fn a_table_is_packed_with_0(rt: HostRuntime) {
 }
 
 #[test]
-fn a_table_without_a_header_ends_with_1(rt: HostRuntime) {
-    assert!(rt; refuses(rt.alloc(), b"", b"", "polytwkb: record 1: bad header\n"));
-}
-
-#[test]
-fn a_refused_row_ends_with_1_and_its_line(rt: HostRuntime) {
-    let table = b"depth,kind,id,precision,polyline\n0,point,,0,AC\n0,point,,0,AA\n0,pont,,0,\n";
-    let line = "polytwkb: record 4: unknown kind\n";
-    assert!(rt; refuses(rt.alloc(), table, b"\x01\x02\x02\x04\x02", line));
-}
-
-#[test]
-fn a_refused_polyline_ends_with_1_and_its_line(rt: HostRuntime) {
-    let table = b"depth,kind,id,precision,polyline\n0,point,,0,A\n";
-    let line = "polytwkb: record 2: polyline at 1: latitude without longitude\n";
-    assert!(rt; refuses(rt.alloc(), table, b"", line));
-}
-
-// A collection of a point with id 7 and an empty linestring with id -1.
-const COLLECTION: &str = "0,collection,,0,\n1,point,7,0,AA\n1,linestring,-1,0,\n";
-
-#[test]
-fn a_collection_is_packed_with_0(rt: HostRuntime) {
+fn a_refused_table_ends_with_1_and_its_line(rt: HostRuntime) {
     let alloc = rt.alloc();
-    let full = b"\x07\x07\x0F\x02\x00\x02\x00\x02\x0E\x01\x01\x02\x02\x02\x02\x02\x12\x00";
-    assert!(rt; line_packs(alloc, "polytwkb pack", COLLECTION, full));
-    assert!(rt; line_packs(alloc, "polytwkb pack --style full", COLLECTION, full));
+    let kind = b"depth,kind,id,precision,polyline\n0,point,,0,AC\n0,point,,0,AA\n0,pont,,0,\n";
+    let text = b"depth,kind,id,precision,polyline\n0,point,,0,A\n";
+    let rows: [(&[u8], &[u8], &[u8]); 3] = [
+        (b"", b"", b"polytwkb: record 1: bad header\n"),
+        (
+            kind,
+            b"\x01\x02\x02\x04\x02",
+            b"polytwkb: record 4: unknown kind\n",
+        ),
+        (
+            text,
+            b"",
+            b"polytwkb: record 2: polyline at 1: latitude without longitude\n",
+        ),
+    ];
+    for (table, blobs, line) in rows {
+        assert!(rt;
+            ends(alloc, "polytwkb pack", table, 1, blobs, line),
+            "{line:?}"
+        );
+    }
+}
+
+#[test]
+fn a_style_is_that_of_the_blobs(rt: HostRuntime) {
+    let alloc = rt.alloc();
     let plain = b"\x07\x04\x02\x0E\x01\x01\x00\x02\x02\x02\x10";
-    assert!(rt; line_packs(alloc, "polytwkb pack --style plain", COLLECTION, plain));
+    let rows: [(&str, &[u8]); 4] = [
+        ("polytwkb pack", COLLECTION_BLOB),
+        ("polytwkb pack --style full", COLLECTION_BLOB),
+        ("polytwkb pack --style plain", plain),
+        ("polytwkb pack --style=plain --max-nest 1", plain),
+    ];
+    for (line, blob) in rows {
+        assert!(rt; ends(alloc, line, COLLECTION_TABLE, 0, blob, b""), "{line}");
+    }
 }
 
 #[test]
 fn a_point_is_packed_plain(rt: HostRuntime) {
-    let alloc = rt.alloc();
     let plain = b"\x01\x00\x04\x02";
-    assert!(rt;
-        line_packs(
-            alloc,
-            "polytwkb pack --style plain",
-            "0,point,,0,AC\n",
-            plain
-        )
-    );
-    assert!(rt;
-        line_packs(
-            alloc,
-            "polytwkb pack --style=plain --max-nest 0",
-            "0,point,,0,AC\n",
-            plain
-        )
-    );
+    let line = "polytwkb pack --style plain";
+    assert!(rt; line_packs(rt.alloc(), line, "0,point,,0,AC\n", plain));
 }

@@ -1,23 +1,19 @@
 use Rattle.std.proofs.Common.{◌≡◌, [], ◌∷◌, rules, map, codes}
 use Rattle.polytwkb.proofs.CommandLineLemmas.{line_of_styles}
+use Rattle.polytwkb.proofs.RequestLemmas.{line_one}
 use Rattle.polytwkb.proofs.program.run.Goals as goal
 
 pub returns-clause-accepted : goal.returns-clause-accepted
 returns-clause-accepted g c =
     let names : map (λ name. name.now) c.as_slice.result.now ≡ codes "full" ∷ codes "plain" ∷ [] = search rules in
-    line_of_styles c.as_slice.result names c.run_line.ensures.accepted
+    line_of_styles c.as_slice.result names c.run_with_styles.ensures.accepted
 
-pub returns-clause-help : goal.returns-clause-help
-returns-clause-help g c =
+pub returns-clause-refused : goal.returns-clause-refused
+returns-clause-refused g c =
     let names : map (λ name. name.now) c.as_slice.result.now ≡ codes "full" ∷ codes "plain" ∷ [] = search rules in
-    line_of_styles c.as_slice.result names c.run_line.ensures.help
+    line_of_styles c.as_slice.result names c.run_with_styles.ensures.refused
 
-pub returns-clause-version : goal.returns-clause-version
-returns-clause-version g c =
+pub returns-clause-one_request : goal.returns-clause-one_request
+returns-clause-one_request g c =
     let names : map (λ name. name.now) c.as_slice.result.now ≡ codes "full" ∷ codes "plain" ∷ [] = search rules in
-    line_of_styles c.as_slice.result names c.run_line.ensures.version
-
-pub returns-clause-usage : goal.returns-clause-usage
-returns-clause-usage g c =
-    let names : map (λ name. name.now) c.as_slice.result.now ≡ codes "full" ∷ codes "plain" ∷ [] = search rules in
-    line_of_styles c.as_slice.result names c.run_line.ensures.usage
+    line_of_styles c.as_slice.result names (line_one c.as_slice.result _)

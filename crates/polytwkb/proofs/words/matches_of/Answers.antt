@@ -1,5 +1,6 @@
-use Rattle.polytwkb.proofs.CommandLineLemmas.{kinds_line, matches_line, passes_line}
+use Rattle.polytwkb.proofs.CommandLineLemmas.{kinds_line, matches_line}
 use Rattle.polytwkb.proofs.NamedLemmas.{named_line}
+use Rattle.polytwkb.proofs.NestLemmas.{nest_line}
 use Rattle.polytwkb.proofs.words.matches_of.Goals as goal
 
 pub returns : goal.returns
@@ -11,6 +12,6 @@ returns c =
     record {
       ok = matches;
       named = named_line _ parse.result _ kinds matches;
-      passes = passes_line _ parse.result _ _ line parse.ensures.passes;
+      nest = nest_line _ parse.result _ kinds matches;
       kinds = kinds;
     }

@@ -1,0 +1,138 @@
+//! What help and the version say, whole.
+use super::{POINT_TABLE, ends};
+
+const HELP: &str = "\
+Converts between CSV tables of encoded polylines and streams of TWKB blobs
+
+Usage: polytwkb <COMMAND>
+
+Commands:
+  pack    Reads a table and writes a stream of blobs, one for each geometry
+  unpack  Reads a stream of blobs and writes a table, the header line first
+  show    Reads a stream of blobs and writes a line for each TWKB header in it
+
+Options:
+  -h, --help
+          Print help (see a summary with '-h')
+
+  -V, --version
+          Print version
+
+Each command reads standard input and writes standard output:
+
+  polytwkb pack < places.csv > places.twkb
+  polytwkb show < places.twkb
+  polytwkb unpack < places.twkb
+
+'polytwkb <COMMAND> --help' lists the options of a command.
+
+Table: CSV with the header line below, then a row for each geometry, followed by
+the rows of its parts.
+
+  depth,kind,id,precision,polyline
+  0,collection,,5,
+  1,point,7,5,_p~iF~ps|U
+  1,linestring,8,5,_p~iF~ps|U_ulLnnqC_mqNvxq`@
+
+  depth      0 begins a geometry; its parts have depth 1, their parts 2, and so on
+  kind       point, linestring, polygon (its parts are rings), ring, multipoint,
+             multilinestring, multipolygon or collection (its parts are any but
+             rings)
+  id         a whole number for a part of a multi kind or of a collection; all
+             parts of one geometry have an id, or none
+  precision  decimals of the coordinates, -8 to 7; for depth 0 and for parts of
+             a collection, empty elsewhere
+  polyline   the points of a point, linestring or ring as Google encoded
+             polyline, latitude before longitude; empty elsewhere
+
+Stream: one TWKB blob for each geometry of depth 0, with nothing between them.
+
+Lines of show: level, offset, kind, precision, metadata byte, length, points.
+
+  level      how many collections the geometry stands in
+  offset     the byte at which it begins, from 0
+  length     its bytes, header and parts included
+  points     its points, those of its parts included
+
+Exit status:
+
+  0  all was converted
+  1  the input was refused: standard error names the record or byte, and why
+  2  the command line was refused
+  3  reading or writing failed
+  4  out of memory
+";
+
+const SUMMARY: &str = "\
+Converts between CSV tables of encoded polylines and streams of TWKB blobs
+
+Usage: polytwkb <COMMAND>
+
+Commands:
+  pack    Reads a table and writes a stream of blobs, one for each geometry
+  unpack  Reads a stream of blobs and writes a table, the header line first
+  show    Reads a stream of blobs and writes a line for each TWKB header in it
+
+Options:
+  -h, --help     Print help (see more with '--help')
+  -V, --version  Print version
+";
+
+const PACK: &str = "\
+Reads a table and writes a stream of blobs, one for each geometry
+
+Usage: polytwkb pack [OPTIONS]
+
+Options:
+      --max-nest <N>   How many collections a geometry may stand in, 0 to 32 [default: 16]
+      --style <STYLE>  full: blobs with sizes and boxes; plain: without [default: full] [possible values: full, plain]
+  -h, --help           Print help
+
+'polytwkb --help' describes tables, streams and exit statuses.
+";
+
+const UNPACK: &str = "\
+Reads a stream of blobs and writes a table, the header line first
+
+Usage: polytwkb unpack [OPTIONS]
+
+Options:
+      --max-nest <N>  How many collections a geometry may stand in, 0 to 32 [default: 16]
+  -h, --help          Print help
+
+'polytwkb --help' describes tables, streams and exit statuses.
+";
+
+const SHOW: &str = "\
+Reads a stream of blobs and writes a line for each TWKB header in it
+
+Usage: polytwkb show [OPTIONS]
+
+Options:
+      --max-nest <N>  How many collections a geometry may stand in, 0 to 32 [default: 16]
+  -h, --help          Print help
+
+'polytwkb --help' describes tables, streams and exit statuses.
+";
+
+#[test]
+fn help_goes_to_standard_output_with_0(rt: HostRuntime) {
+    let alloc = rt.alloc();
+    let rows = [
+        ("polytwkb --help", HELP),
+        ("polytwkb -h", SUMMARY),
+        ("polytwkb pack --help", PACK),
+        ("polytwkb pack -h", PACK),
+        ("polytwkb unpack --help", UNPACK),
+        ("polytwkb show --help", SHOW),
+        ("polytwkb show --max-nest 3 -h", SHOW),
+        ("polytwkb --version", "polytwkb 0.1.0\n"),
+        ("polytwkb -V", "polytwkb 0.1.0\n"),
+    ];
+    for (line, text) in rows {
+        assert!(rt;
+            ends(alloc, line, POINT_TABLE, 0, text.as_bytes(), b""),
+            "{line}"
+        );
+    }
+}
