@@ -1,10 +1,13 @@
-# make test: the gate.  make build: the command into bin/.  make demo: the main job on an example.  make bench: times and memory.
-.PHONY: test build demo bench clean
+# make test: the gate.  make check: the short round.  make build: the command into bin/.  make demo: the main job on an example.  make bench: times and memory.
+.PHONY: test check build demo bench clean
 
 SOURCES := crates.txt $(shell find crates -name out -prune -o \( -name '*.rt' -o -name '*.antt' \) -print)
 
 test:
 	rt ci
+
+check:
+	scripts/check.sh
 
 build: bin/polytwkb
 

@@ -27,8 +27,3 @@ pub use lists::{Areas, IdList, Ids, Item, Items, Lines, Pts};
 pub use open_rows::OpenRow;
 pub use parts::{id_at, own_parts};
 pub use standing::Standing;
-
-#[cfg(test)]
-mod row_tests;
-#[cfg(test)]
-mod tests;

@@ -23,6 +23,3 @@ pub use tap::Tap;
 
 /// The most bytes that an input gives out, a count counts or an output sends: 2^62.
 pub const MAX_BYTES: u64 = 1 << 62;
-
-#[cfg(test)]
-mod tests;

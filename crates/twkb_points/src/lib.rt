@@ -11,6 +11,3 @@ pub use bounds::{Bounds, merged};
 pub use cursor::Cursor;
 pub use differences::{to_differences, to_points};
 pub use point::Pt;
-
-#[cfg(test)]
-mod tests;

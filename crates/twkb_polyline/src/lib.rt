@@ -10,6 +10,3 @@ mod whole;
 pub use decoding::{decode, decode_into};
 pub use encoding::{encode, encode_into};
 pub use fault::{PolyFault, PolyReason};
-
-#[cfg(test)]
-mod tests;

@@ -1,0 +1,140 @@
+//! Taps and fuses.
+ghost use Rattle.std.specs.Prelude.{◌<◌};
+
+use std::alloc::Global;
+use std::io::{Read, Write};
+use twkb_io::{Fuse, FuseEnd, Tap};
+
+// Whether a read answers so many bytes.
+fn reads<R: Read>(reader: &mut R, room: &mut [u8], count: usize) -> bool {
+    reader.read(room).ok() == Some(count)
+}
+
+// Whether a write answers that so many bytes were taken.
+fn writes<W: Write>(writer: &mut W, bytes: &[u8], count: usize) -> bool {
+    writer.write(bytes).ok() == Some(count)
+}
+
+// Whether a read fails.
+fn read_fails<R: Read>(reader: &mut R, room: &mut [u8]) -> bool {
+    reader.read(room).is_err()
+}
+
+#[test]
+fn a_tap_counts_the_reads_that_failed(rt: HostRuntime) {
+    let mut tap = Tap::new(Fuse::new([7, 8, 9].as_slice(), 2, 2, FuseEnd::Fail, false));
+    let mut bytes = [0; 4];
+    assert!(rt; reads(&mut tap, &mut bytes, 2));
+    assert!(rt; bytes.as_slice() == [7, 8, 0, 0].as_slice());
+    assert!(rt; tap.failures() == 0);
+    assert!(rt; read_fails(&mut tap, &mut bytes));
+    assert!(rt; read_fails(&mut tap, &mut bytes));
+    assert!(rt; tap.failures() == 2);
+    assert!(rt; tap.into_inner().into_inner() == [9].as_slice());
+}
+
+#[test]
+fn a_read_at_the_end_is_no_failure(rt: HostRuntime) {
+    let mut tap = Tap::new(Fuse::new([7].as_slice(), 9, 4, FuseEnd::Fail, false));
+    let mut bytes = [0; 4];
+    assert!(rt; reads(&mut tap, &mut bytes, 1));
+    assert!(rt; reads(&mut tap, &mut bytes, 0));
+    assert!(rt; reads(&mut tap, &mut [], 0));
+    assert!(rt; tap.failures() == 0);
+}
+
+// Whether writes of two bytes and of a third go through.
+fn takes_three<W: Write>(writer: &mut W) -> bool {
+    writes(writer, &[1, 2, 3, 4], 2) && writes(writer, &[3, 4], 1)
+}
+
+// Writes a byte and nothing, and flushes.
+fn ask_on<W: Write>(writer: &mut W) {
+    let _refused = writer.write(&[4]);
+    let _nothing = writer.write(&[]);
+    let _flushed = writer.flush();
+}
+
+// Whether the tap counts so many failures after three bytes that pass, and those are kept.
+fn counts(alloc: Global, end: FuseEnd, flush_fails: bool, failures: u64) -> bool {
+    let mut tap = Tap::new(Fuse::new(Vec::new(alloc), 3, 2, end, flush_fails));
+    let is_taken = takes_three(&mut tap);
+    ask_on(&mut tap);
+    let is_counted = tap.failures() == failures;
+    let kept = tap.into_inner().into_inner();
+    is_taken && is_counted && kept.as_slice() == [1, 2, 3].as_slice()
+}
+
+#[test]
+fn a_tap_counts_the_writes_and_flushes_that_failed(rt: HostRuntime) {
+    let alloc = rt.alloc();
+    assert!(rt; counts(alloc, FuseEnd::Fail, false, 2));
+    assert!(rt; counts(alloc, FuseEnd::Zero, false, 1));
+    assert!(rt; counts(alloc, FuseEnd::Fail, true, 3));
+    assert!(rt; counts(alloc, FuseEnd::Zero, true, 2));
+}
+
+#[test]
+fn an_empty_write_that_took_nothing_is_no_failure(rt: HostRuntime) {
+    let mut tap = Tap::new(Fuse::new(Vec::new(rt.alloc()), 0, 1, FuseEnd::Zero, false));
+    assert!(rt; writes(&mut tap, &[], 0));
+    assert!(rt; tap.failures() == 0);
+    assert!(rt; writes(&mut tap, &[1], 0));
+    assert!(rt; tap.failures() == 1);
+}
+
+// Whether two reads of a fuse answer these counts.
+fn passes_reads(bytes: u64, step: usize, first: usize, second: usize) -> bool
+    requires { 0 < step }
+{
+    let text = [1, 2, 3, 4, 5, 6];
+    let mut reader = Fuse::new(text.as_slice(), bytes, step, FuseEnd::Zero, false);
+    let mut room = [0; 6];
+    reads(&mut reader, &mut room, first) && reads(&mut reader, &mut room, second)
+}
+
+// Whether a write of three bytes answers this count.
+fn passes_write(alloc: Global, bytes: u64, step: usize, count: usize) -> bool
+    requires { 0 < step }
+{
+    let mut writer = Fuse::new(Vec::new(alloc), bytes, step, FuseEnd::Zero, false);
+    writes(&mut writer, &[1, 2, 3], count)
+}
+
+#[test]
+fn a_fuse_passes_reads_a_step_at_a_time(rt: HostRuntime) {
+    assert!(rt; passes_reads(5, 1, 1, 1));
+    assert!(rt; passes_reads(5, 2, 2, 2));
+    assert!(rt; passes_reads(3, 2, 2, 1));
+    assert!(rt; passes_reads(1, 4, 1, 0));
+    assert!(rt; passes_reads(0, 4, 0, 0));
+}
+
+#[test]
+fn a_fuse_passes_writes_a_step_at_a_time(rt: HostRuntime) {
+    let alloc = rt.alloc();
+    assert!(rt; passes_write(alloc, 5, 1, 1));
+    assert!(rt; passes_write(alloc, 5, 2, 2));
+    assert!(rt; passes_write(alloc, 3, 2, 2));
+    assert!(rt; passes_write(alloc, 1, 4, 1));
+    assert!(rt; passes_write(alloc, 0, 4, 0));
+}
+
+#[test]
+fn a_tap_tells_what_is_unflushed(rt: HostRuntime) {
+    let mut tap = Tap::new(Vec::new(rt.alloc()));
+    assert!(rt; writes(&mut tap, &[], 0));
+    assert!(rt; !tap.has_unflushed());
+    assert!(rt; writes(&mut tap, &[1, 2], 2));
+    assert!(rt; tap.has_unflushed());
+    assert!(rt; tap.flush().is_ok());
+    assert!(rt; !tap.has_unflushed());
+}
+
+#[test]
+fn a_failed_flush_leaves_all_unflushed(rt: HostRuntime) {
+    let mut tap = Tap::new(Fuse::new(Vec::new(rt.alloc()), 9, 9, FuseEnd::Fail, true));
+    assert!(rt; writes(&mut tap, &[1, 2], 2));
+    assert!(rt; tap.flush().is_err());
+    assert!(rt; tap.has_unflushed());
+}

@@ -1,0 +1,97 @@
+//! Lists of points and their polylines, both ways.
+use super::fixtures::points_of;
+use crate::points::fixtures::are_at;
+use std::alloc::Global;
+use twkb_polyline::{decode, encode};
+
+const LEAST: i64 = -(1 << 62);
+
+const GREATEST: i64 = (1 << 62) - 1;
+
+// Whether these points, all of them in range, are written as this text.
+fn is_written(alloc: Global, pairs: &[(i64, i64)], text: &[u8]) -> bool {
+    let Ok(points) = points_of(alloc, pairs) else {
+        return false;
+    };
+    match encode(alloc, &points) {
+        Ok(written) => points.len() == pairs.len() && written.as_slice() == text,
+        Err(_) => false,
+    }
+}
+
+// Whether the text, with room for so many points, is read as these points.
+fn is_read(alloc: Global, pairs: &[(i64, i64)], text: &[u8], room: u32) -> bool {
+    match decode(alloc, text, room) {
+        Ok(points) => are_at(&points, pairs),
+        Err(_) => false,
+    }
+}
+
+// Whether so many points have this polyline, and come back from it with room for them alone and with more.
+fn is_polyline(alloc: Global, count: u32, pairs: &[(i64, i64)], text: &[u8]) -> bool {
+    is_written(alloc, pairs, text)
+        && is_read(alloc, pairs, text, count)
+        && is_read(alloc, pairs, text, u32::MAX)
+}
+
+// The published example and the published number of the Encoded Polyline Algorithm Format, at five decimals.
+#[test]
+fn published_lists_and_their_polylines(rt: HostRuntime) {
+    let alloc = rt.alloc();
+    let example = [
+        (-12020000, 3850000),
+        (-12095000, 4070000),
+        (-12645300, 4325200),
+    ];
+    let text = b"_p~iF~ps|U_ulLnnqC_mqNvxq`@";
+    assert!(rt; is_polyline(alloc, 3, &example, text), "the list");
+    assert!(rt;
+        is_polyline(alloc, 1, &[(-17998321, 0)], b"?`~oia@"),
+        "the number"
+    );
+}
+
+// By the steps of the format, by hand.
+#[test]
+fn short_lists_and_their_polylines(rt: HostRuntime) {
+    let rows: [(u32, &[(i64, i64)], &[u8]); 6] = [
+        (0, &[], b""),
+        (1, &[(0, 0)], b"??"),
+        (1, &[(2, 1)], b"AC"),
+        (2, &[(1, 1), (5, 5)], b"AAGG"),
+        (2, &[(15, -16), (0, 0)], b"^]_@\\"),
+        (1, &[(16, 16)], b"_@_@"),
+    ];
+    for (count, pairs, text) in rows {
+        let is_text = is_polyline(rt.alloc(), count, pairs, text);
+        assert!(rt; is_text, "{text:?}");
+    }
+}
+
+// By the steps of the format, by hand.
+#[test]
+fn the_ends_of_the_range_and_their_polylines(rt: HostRuntime) {
+    let rows: [(u32, &[(i64, i64)], &[u8]); 5] = [
+        (
+            2,
+            &[(GREATEST, 0), (LEAST, 0)],
+            b"?}~~~~~~~~~~~F?|~~~~~~~~~~~N",
+        ),
+        (
+            2,
+            &[(0, GREATEST), (0, LEAST)],
+            b"}~~~~~~~~~~~F?|~~~~~~~~~~~N?",
+        ),
+        (1, &[(GREATEST, GREATEST)], b"}~~~~~~~~~~~F}~~~~~~~~~~~F"),
+        (1, &[(LEAST, LEAST)], b"~~~~~~~~~~~~F~~~~~~~~~~~~F"),
+        (
+            2,
+            &[(LEAST, LEAST), (GREATEST, GREATEST)],
+            b"~~~~~~~~~~~~F~~~~~~~~~~~~F}~~~~~~~~~~~N}~~~~~~~~~~~N",
+        ),
+    ];
+    for (count, pairs, text) in rows {
+        let is_text = is_polyline(rt.alloc(), count, pairs, text);
+        assert!(rt; is_text, "{text:?}");
+    }
+}
