@@ -13,6 +13,7 @@ fn a_full_blob_has_sizes_and_a_plain_one_has_none(rt: HostRuntime) {
 fn laws_and_samples_are_contracts_of_functions_that_do_nothing() {
     laws::written_is_blob();
     laws::one_blob();
+    laws::some_byte();
     laws::one_stream();
     laws::blob_or_fault();
     laws::one_fault();

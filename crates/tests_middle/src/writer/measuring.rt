@@ -4,7 +4,7 @@ use std::alloc::Global;
 use twkb_flat::{Flat, Work};
 use twkb_geom::{Geometry, Limits};
 use twkb_io::Count;
-use twkb_writer::{Style, measure_flat, write_flat};
+use twkb_writer::{Style, laws, measure_flat, write_flat};
 
 /// The entries, the bytes that are written, and the work of both passes.
 #[derive(Drop)]
@@ -92,4 +92,9 @@ fn costs_no_read_more(alloc: Global) -> bool {
 #[test]
 fn nesting_costs_no_read_more(rt: HostRuntime) {
     assert!(rt; costs_no_read_more(rt.alloc()), "entries and work");
+}
+
+#[test]
+fn the_law_of_sizes_is_called() {
+    laws::one_size_each();
 }
