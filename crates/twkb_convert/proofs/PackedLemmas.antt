@@ -61,6 +61,7 @@ module _ {R W : Type 0} (style : Style) (l : Allowance) (remaining : R → Optio
       records = all.records;
       geometries = all.geometries;
       all = all.all;
+      few = all.few;
       named = all.named;
       appends = appends_lent contents writer written old new (canonical_stream style all.geometries) lent closes all.took.sends.appends;
       count = all.count;

@@ -20,13 +20,14 @@ use Rattle.twkb_convert.specs.declared.report.Cause.TheVariants as cause
 use Rattle.twkb_convert.specs.declared.report.ConvertFault.{ConvertFault}
 use Rattle.twkb_convert.specs.declared.report.Report.{Report}
 
--- The records of the reader's text name geometries, and their canonical stream in this style was written behind what the writer held; no
+-- The records of the reader's text, fewer than 2 ^ 32, name geometries, and their canonical stream in this style was written behind what the writer held; no
 -- device failed, and the reader is at its end.
 pub record Packed {R W : Type 0} (style : Style) (l : Allowance) (remaining : R → Option (List ℕ)) (contents : W → Option (List ℕ)) (reader : Tap R) (writer : Tap W)
     (report : Report) (read : Tap R) (written : Tap W) : Type 0 where
   pub records : List Record
   pub geometries : List Tree
   pub all : IfSome (remaining (device_of reader)) (λ text. AreRecordsOf text records)
+  pub few : length records < 2 ^ 32
   pub named : Named l records geometries
   pub appends : Appends (contents (device_of writer)) (contents (device_of written)) (canonical_stream style geometries)
   pub count : report.geometries ≡ length geometries

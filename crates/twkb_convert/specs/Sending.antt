@@ -96,6 +96,7 @@ pub record SentTable {W : Type 0} (style : Style) (l : Allowance) (contents : W 
   pub records : List Record
   pub geometries : List Tree
   pub all : IfSome told (λ text. AreRecordsOf text records)
+  pub few : length records < 2 ^ 32
   pub named : Named l records geometries
   pub took : Took contents old (canonical_stream style geometries) new
   pub count : tally.geometries ≡ length geometries

@@ -67,6 +67,7 @@ the_header l remaining told records given here old new s (none, before) source s
   stands = record {
     source = subst (λ (r : Record). HasRead remaining told (r ∷ []) new) same (subst (λ (rs : List Record). HasRead remaining told (rs ++ here ∷ []) new) none source);
     count = number;
+    few = omega arith;
     limits = limits ∙ s.limits;
     gave = subst (λ w. HaveGiven l (header ∷ []) [] w (is_ended new)) (sym waits) (record { table_of = refl; valid = tt }, inl refl);
     unspent = spent ∙ s.unspent;
@@ -108,6 +109,7 @@ waited l remaining told records given reader s some =
       reading = record {
         source = s.source;
         count = s.count;
+        few = s.few;
         limits = s.limits;
         geometry = next.0;
         named = next.1;
@@ -129,6 +131,7 @@ pub reading_in : {R : Type 0} (l : Allowance) (remaining : R → Option (List �
 reading_in l remaining told records given root flat old new r put source ended number limits spent = record {
   source = still_read remaining told records old new r.source source ended;
   count = number ∙ r.count;
+  few = r.few;
   limits = limits ∙ r.limits;
   geometry = r.geometry;
   named = r.named;
@@ -168,7 +171,7 @@ tree_given l remaining told records given flat reader tree n e is_tree =
 -- ---- the flat form put back
 
 stands_with : {R : Type 0} (l : Allowance) (remaining : R → Option (List ℕ)) (told : Option (List ℕ)) (records : List Record) (given : List Tree) (reader : TableReader R) (flat : List Row) → StandsAfter l remaining told records given reader → StandsAfter l remaining told records given (record reader { kept = flat })
-stands_with l remaining told records given reader flat s = record { source = s.source; count = s.count; limits = s.limits; gave = s.gave; unspent = s.unspent }
+stands_with l remaining told records given reader flat s = record { source = s.source; count = s.count; few = s.few; limits = s.limits; gave = s.gave; unspent = s.unspent }
 
 tree_kept : {R : Type 0} (l : Allowance) (remaining : R → Option (List ℕ)) (told : Option (List ℕ)) (records : List Record) (given : List Tree) (geometry : Tree) (reader : TableReader R) (flat : List Row) → GivesTree l remaining told records given geometry reader → GivesTree l remaining told records given geometry (record reader { kept = flat })
 tree_kept l remaining told records given geometry reader flat n = record { seen = n.seen; extends = n.extends; begins = n.begins; stands = stands_with l remaining told n.seen (given ++ geometry ∷ []) reader flat n.stands }

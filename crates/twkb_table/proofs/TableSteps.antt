@@ -26,18 +26,22 @@ use Rattle.twkb_table.proofs.TableReaderLemmas.{text_begins, extends_none, exten
 one_more : (m n : ℕ) (records : List Record) (here : Record) → n ≡ m + 1 → m ≡ length records → n ≡ length (records ++ here ∷ [])
 one_more m n records here next count = omega (arith, next, count, length-append records (here ∷ []))
 
+few_more : (m n : ℕ) (records : List Record) (here : Record) → n ≡ m + 1 → m ≡ length records → n < 2 ^ 32 → length (records ++ here ∷ []) < 2 ^ 32
+few_more m n records here next count few = omega (arith, next, count, few, length-append records (here ∷ []))
+
 -- ---- while a geometry is read
 
 -- a row more
 pub reads_more : {R : Type 0} (l : Allowance) (remaining : R → Option (List ℕ)) (told : Option (List ℕ)) (records : List Record) (given : List Tree) (before after : List Row) (here : Record) (old new : TableReader R)
-    → IsReading l remaining told records given before old → HasRead remaining told (records ++ here ∷ []) new → new.number ≡ old.number + 1 → limits_of new.rows ≡ limits_of old.rows → is_spent new ≡ is_spent old
+    → IsReading l remaining told records given before old → HasRead remaining told (records ++ here ∷ []) new → new.number ≡ old.number + 1 → new.number < 2 ^ 32 → limits_of new.rows ≡ limits_of old.rows → is_spent new ≡ is_spent old
     → GoesOn old.rows before here new.rows after → IsReading l remaining told (records ++ here ∷ []) given after new
-reads_more l remaining told records given before after here old new r source number limits spent g =
+reads_more l remaining told records given before after here old new r source number few limits spent g =
     let j = judged_after l (limits_of old.rows) given r.geometry before here (Accepted g.row) r.limits r.rows g.judged in
     let n = row_more l records here given r.geometry g.row r.named j g.below in
     record {
       source = source;
       count = one_more old.number new.number records here number r.count;
+      few = few_more old.number new.number records here number r.count few;
       limits = limits ∙ r.limits;
       geometry = n.geometry;
       named = n.named;
@@ -47,9 +51,9 @@ reads_more l remaining told records given before after here old new r source num
 
 -- the root of another geometry
 pub reads_next : {R : Type 0} (l : Allowance) (remaining : R → Option (List ℕ)) (told : Option (List ℕ)) (records : List Record) (given : List Tree) (before : List Row) (here : Record) (old new : TableReader R)
-    → IsReading l remaining told records given before old → HasRead remaining told (records ++ here ∷ []) new → new.number ≡ old.number + 1 → limits_of new.rows ≡ limits_of old.rows → is_spent new ≡ is_spent old
+    → IsReading l remaining told records given before old → HasRead remaining told (records ++ here ∷ []) new → new.number ≡ old.number + 1 → new.number < 2 ^ 32 → limits_of new.rows ≡ limits_of old.rows → is_spent new ≡ is_spent old
     → is_ended new ≡ false → EndsBefore old.rows before here new.rows → GivesNext l remaining told records given before new
-reads_next l remaining told records given before here old new r source number limits spent going e =
+reads_next l remaining told records given before here old new r source number few limits spent going e =
     let j = judged_after l (limits_of old.rows) given r.geometry before here (Accepted e.row) r.limits r.rows e.judged in
     let n = root_more l records here (given ++ r.geometry ∷ []) e.row r.named j e.root in
     record {
@@ -62,6 +66,7 @@ reads_next l remaining told records given before here old new r source number li
       stands = record {
         source = source;
         count = one_more old.number new.number records here number r.count;
+        few = few_more old.number new.number records here number r.count few;
         limits = limits ∙ r.limits;
         gave = subst (λ w. HaveGiven l (records ++ here ∷ []) (given ++ r.geometry ∷ []) w (is_ended new)) (sym e.waits) (n.geometry, n.named, n.rows_are, going);
         unspent = spent ∙ r.unspent;
@@ -82,6 +87,7 @@ reads_end l remaining told records given before old new r source ended number li
   stands = record {
     source = source;
     count = number ∙ r.count;
+    few = r.few;
     limits = limits ∙ r.limits;
     gave = subst (λ w. HaveGiven l records (given ++ r.geometry ∷ []) w (is_ended new)) (sym none) (names_so_far l records (given ++ r.geometry ∷ []) r.named, inr ended);
     unspent = spent ∙ r.unspent;
@@ -136,6 +142,7 @@ meets_end l remaining told records given old new s none some source ended all nu
       stands = record {
         source = source;
         count = number ∙ s.count;
+        few = s.few;
         limits = limits ∙ s.limits;
         gave = subst (λ w. HaveGiven l records given w (is_ended new)) (sym still) (gave.0, inr ended);
         unspent = spent ∙ s.unspent;
@@ -177,9 +184,9 @@ going_on true false over e = cc e
 -- the first root
 pub begins_next : {R : Type 0} (l : Allowance) (remaining : R → Option (List ℕ)) (told : Option (List ℕ)) (records : List Record) (given : List Tree) (here : Record) (old new : TableReader R)
     → StandsAfter l remaining told records given old → waiting old.rows ≡ [] → 0 < old.number → is_ended old ≡ false → HasRead remaining told (records ++ here ∷ []) new
-    → new.number ≡ old.number + 1 → limits_of new.rows ≡ limits_of old.rows → is_spent new ≡ is_spent old → BeginsFirst old.rows here new.rows
+    → new.number ≡ old.number + 1 → new.number < 2 ^ 32 → limits_of new.rows ≡ limits_of old.rows → is_spent new ≡ is_spent old → BeginsFirst old.rows here new.rows
     → BeginsNext l remaining told records given (waiting new.rows) new
-begins_next l remaining told records given here old new s none some going source number limits spent first =
+begins_next l remaining told records given here old new s none some going source number few limits spent first =
     let before = none_before l remaining told records given old s none some going in
     let n = root_more l records here [] first.row before.0 (subst (λ m. Judged m [] here (Accepted first.row)) s.limits first.judged) first.root in
     record {
@@ -188,6 +195,7 @@ begins_next l remaining told records given here old new s none some going source
       reading = record {
         source = source;
         count = one_more old.number new.number records here number s.count;
+        few = few_more old.number new.number records here number s.count few;
         limits = limits ∙ s.limits;
         geometry = n.geometry;
         named = subst (λ gs. Named l (records ++ here ∷ []) (gs ++ n.geometry ∷ [])) (sym before.1) n.named;

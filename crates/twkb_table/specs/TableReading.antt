@@ -38,10 +38,11 @@ is_spent reader = reader.spent
 abbrev pub HasRead : {R : Type 0} → (R → Option (List ℕ)) → Option (List ℕ) → List Record → TableReader R → Type 0
 HasRead remaining told records reader = standing remaining told records (is_ended reader) reader.reader
 
--- A reader with these limits read these records of a text that was told at the start, and gave these geometries.
+-- A reader with these limits read these records of a text that was told at the start, fewer than 2 ^ 32, and gave these geometries.
 pub record StandsAfter {R : Type 0} (l : Allowance) (remaining : R → Option (List ℕ)) (told : Option (List ℕ)) (records : List Record) (given : List Tree) (reader : TableReader R) : Type 0 where
   pub source : HasRead remaining told records reader
   pub count : reader.number ≡ length records
+  pub few : length records < 2 ^ 32
   pub limits : limits_of reader.rows ≡ l
   pub gave : HaveGiven l records given (waiting reader.rows) (is_ended reader)
   pub unspent : is_spent reader ≡ false
@@ -121,6 +122,7 @@ records_read reader = reader.number
 pub record IsReading {R : Type 0} (l : Allowance) (remaining : R → Option (List ℕ)) (told : Option (List ℕ)) (records : List Record) (given : List Tree) (so_far : List Row) (reader : TableReader R) : Type 0 where
   pub source : HasRead remaining told records reader
   pub count : reader.number ≡ length records
+  pub few : length records < 2 ^ 32
   pub limits : limits_of reader.rows ≡ l
   pub geometry : Tree
   pub named : Named l records (given ++ geometry ∷ [])

@@ -10,9 +10,9 @@ returns-in-Ok-clause-reads g c l told records given s =
     let here = fields_of c.next_record.new.held in
     let source = c.in-Ok-true.ensures.more (search rules) told records s.source in
     let going = going_on _ c.in-Ok-true.field-0 c.in-Ok-true.ensures.over (search rules) in
-    let number = (c.in-Ok-true.ensures.counted (search rules)).0 in
+    let counted = c.in-Ok-true.ensures.counted (search rules) in
     let first = c.in-Ok.ensures.read in
-    begins_next l g.R.Read.remaining told records given here c.args.self.now _ s c.requires.none c.requires.begun going source number c.read_root.ensures.limits refl first
+    begins_next l g.R.Read.remaining told records given here c.args.self.now _ s c.requires.none c.requires.begun going source counted.0 counted.1 c.read_root.ensures.limits refl first
 
 pub returns-in-Err-read_root-clause-reads : goal.returns-in-Err-read_root-clause-reads
 returns-in-Err-read_root-clause-reads g c l told records given s =

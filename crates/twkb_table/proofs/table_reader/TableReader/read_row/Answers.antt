@@ -17,12 +17,12 @@ pub returns-in-Ok-clause-reads : goal.returns-in-Ok-clause-reads
 returns-in-Ok-clause-reads g c l told records given r =
     let here = fields_of c.next_record.new.held in
     let source = c.in-Ok-true.ensures.more (search rules) told records r.source in
-    let number = (c.in-Ok-true.ensures.counted (search rules)).0 in
+    let counted = c.in-Ok-true.ensures.counted (search rules) in
     let new : TableReader _ = record c.args.self.now { reader = c.next_record.new.reader; held = c.next_record.new.held; ended = c.next_record.new.ended; number = c.next_record.new.number; rows = c.read_row.new.self } in
     reads_by l g.R.Read.remaining told records given c.read_row.new.flat new c.in-Ok.more
-    (λ on. (here, reads_more l g.R.Read.remaining told records given c.args.flat.now c.read_row.new.flat here c.args.self.now new r source number c.read_row.ensures.limits refl (c.in-Ok.ensures.more on)))
+    (λ on. (here, reads_more l g.R.Read.remaining told records given c.args.flat.now c.read_row.new.flat here c.args.self.now new r source counted.0 counted.1 c.read_row.ensures.limits refl (c.in-Ok.ensures.more on)))
     (λ over. (let (ends, same) = c.in-Ok.ensures.root over in
-    subst (λ fl. GivesNext l g.R.Read.remaining told records given fl new) (sym same) (reads_next l g.R.Read.remaining told records given c.args.flat.now here c.args.self.now new r source number c.read_row.ensures.limits refl (c.in-Ok-true.ensures.going (search rules)) ends)))
+    subst (λ fl. GivesNext l g.R.Read.remaining told records given fl new) (sym same) (reads_next l g.R.Read.remaining told records given c.args.flat.now here c.args.self.now new r source counted.0 counted.1 c.read_row.ensures.limits refl (c.in-Ok-true.ensures.going (search rules)) ends)))
 
 pub returns-in-Err-read_row-clause-reads : goal.returns-in-Err-read_row-clause-reads
 returns-in-Err-read_row-clause-reads g c l told records given r =
