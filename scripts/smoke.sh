@@ -1,0 +1,288 @@
+#!/usr/bin/env bash
+# The built program with real files and pipes: one line for each check; status 1 where one failed.
+# MEGABYTES is the size of the large table, 200 where it is not set. Wants xxd, and python3 for the checks on a terminal,
+# which are left out without it.
+set -uo pipefail
+cd "$(dirname "$0")/.."
+
+program=$PWD/bin/polytwkb
+megabytes=${MEGABYTES:-200}
+peak_allowed=16384 # kB
+header=depth,kind,id,precision,polyline
+for tool in "$program" awk cmp timeout xxd; do
+  command -v "$tool" > /dev/null || { echo "smoke: $tool is not there" >&2; exit 1; }
+done
+work=$(mktemp -d)
+trap 'rm -rf "$work"' EXIT
+passed=0
+failed=0
+skipped=0
+
+# report NAME [FAULT]: the line of a check, which passed where no fault is told.
+report() {
+  if [ -z "${2:-}" ]; then
+    passed=$((passed + 1))
+    echo "ok    $1"
+  else
+    failed=$((failed + 1))
+    echo "FAIL  $1: $2"
+  fi
+}
+
+# ends STATUS LINE NAME COMMAND..: the command's status, and that standard error is this line and nothing else.
+ends() {
+  local status=$1 line=$2 name=$3 answer
+  shift 3
+  "$@" > "$work/out" 2> "$work/err"
+  answer=$?
+  if [ "$answer" -ne "$status" ]; then
+    report "$name" "status $answer in place of $status"
+  elif ! printf '%s' "${line:+$line$'\n'}" | cmp -s - "$work/err"; then
+    report "$name" "standard error is $(head -c 200 "$work/err" | tr '\n' '/')"
+  else
+    report "$name"
+  fi
+}
+
+# same FILE NAME COMMAND..: the command succeeds and writes these bytes.
+same() {
+  local file=$1 name=$2
+  shift 2
+  if ! "$@" > "$work/out" 2> "$work/err"; then
+    report "$name" "it failed: $(head -c 200 "$work/err" | tr '\n' '/')"
+  elif ! cmp -s "$file" "$work/out"; then
+    report "$name" "other bytes"
+  else
+    report "$name"
+  fi
+}
+
+# refuses_words NAME WORD..: status 2, a text on standard error, and nothing on standard output.
+refuses_words() {
+  local name=$1 answer
+  shift
+  "$program" "$@" < "$work/point.csv" > "$work/out" 2> "$work/err"
+  answer=$?
+  if [ "$answer" -ne 2 ]; then
+    report "$name" "status $answer in place of 2"
+  elif [ -s "$work/out" ]; then
+    report "$name" "something on standard output"
+  elif [ ! -s "$work/err" ]; then
+    report "$name" "nothing on standard error"
+  else
+    report "$name"
+  fi
+}
+
+# prints NAME WORD..: status 0, a text on standard output, and nothing on standard error.
+prints() {
+  local name=$1 answer
+  shift
+  "$program" "$@" < /dev/null > "$work/out" 2> "$work/err"
+  answer=$?
+  if [ "$answer" -ne 0 ] || [ ! -s "$work/out" ] || [ -s "$work/err" ]; then
+    report "$name" "status $answer, $(wc -c < "$work/out") bytes out, $(wc -c < "$work/err") bytes of errors"
+  else
+    report "$name"
+  fi
+}
+
+# repeated COUNT FILE: the file so many times.
+repeated() {
+  local turn
+  for ((turn = 0; turn < $1; turn++)); do cat "$2"; done
+}
+
+# ---- what the checks read
+
+printf '%s\n0,point,,0,AC\n' "$header" > "$work/point.csv"
+printf '\001\002\002\004\002' > "$work/point.twkb"
+
+# some 1 MB of rows, each a point somewhere on the earth
+awk 'BEGIN {
+  srand(1)
+  while (size < 1000000) {
+    row = "0,point,,5," spelled(int(rand() * 18000000) - 9000000) spelled(int(rand() * 36000000) - 18000000)
+    size += length(row) + 1
+    print row
+  }
+}
+function spelled(number, text, unit) {
+  number = number < 0 ? -2 * number - 1 : 2 * number
+  for (;;) {
+    unit = number % 32
+    number = int(number / 32)
+    text = text sprintf("%c", unit + (number > 0 ? 95 : 63))
+    if (number == 0) return text
+  }
+}' > "$work/rows"
+{ echo "$header"; cat "$work/rows"; } > "$work/rows.csv"
+"$program" pack < "$work/rows.csv" > "$work/rows.twkb"
+
+# ---- round trips
+
+through() { "$program" pack "${@:2}" < "$1" | "$program" unpack; }
+back() { "$program" unpack < "$1" | "$program" pack; }
+
+same examples/collection.csv "examples/collection.csv is packed and unpacked" through examples/collection.csv
+same examples/collection.csv "so it is with --style plain" through examples/collection.csv --style plain
+same "$work/point.twkb" "a blob is unpacked and packed" back "$work/point.twkb"
+same "$work/rows.csv" "1 MB of points is packed and unpacked" through "$work/rows.csv"
+
+# Every blob of other tools: what show, pack and unpack make of it is what was worked out without our code.
+slashed() { tr '\n' '/'; }
+hex() { xxd -p | tr -d '\n'; }
+expect() { # LABEL BLOB: the next line of what was worked out is this label and standard input
+  local line got
+  IFS= read -r line <&3
+  got="$1 $(cat)"
+  [ "$got" = "$line" ] || echo "$1 of blob $2"
+}
+blobs_of_others() {
+  local blob count=0
+  while read -r blob; do
+    count=$((count + 1))
+    xxd -r -p <<< "$blob" > "$work/blob"
+    "$program" unpack < "$work/blob" > "$work/table"
+    "$program" show < "$work/blob" | slashed | expect show $count
+    "$program" pack < "$work/table" | hex | expect full $count
+    "$program" pack --style plain < "$work/table" | hex | expect plain $count
+    slashed < "$work/table" | expect unpack $count
+    through "$work/table" | cmp -s - "$work/table" || echo "round trip of blob $count"
+  done < crates/vectors/stdin 3< crates/vectors/stdout
+  [ "$count" -gt 0 ] || echo "no blobs"
+}
+report "the blobs of crates/vectors are shown, unpacked and packed" "$(blobs_of_others 2>&1 | head -n 1)"
+
+# ---- devices that fail
+
+write_fault="polytwkb: write failed"
+read_fault="polytwkb: read failed"
+to_full_disk() { "$program" "$1" < "$2" > /dev/full; }
+to_closed_pipe() { "$program" "$1" < "$2" | head -c 1 > /dev/null; }
+to_no_output() { "$program" "$1" < "$2" >&-; }
+from_directory() { "$program" "$1" < .; }
+from_no_input() { "$program" "$1" <&-; }
+
+for command in pack unpack show; do
+  small=$work/point.twkb
+  large=$work/rows.twkb
+  if [ "$command" = pack ]; then small=$work/point.csv large=$work/rows.csv; fi
+  ends 3 "$write_fault" "$command to a full disk, a few bytes" to_full_disk "$command" "$small"
+  ends 3 "$write_fault" "$command to a full disk, many bytes" to_full_disk "$command" "$large"
+  ends 3 "$write_fault" "$command to a closed pipe" to_closed_pipe "$command" "$large"
+  ends 3 "$read_fault" "$command from a directory" from_directory "$command"
+  ends 3 "$read_fault" "$command without an input" from_no_input "$command"
+done
+
+# ---- inputs without end
+
+all_of_yes() { yes 2> /dev/null | timeout 20 "$program" "$1"; }
+front_of_yes() { yes 2> /dev/null | head -c 1000000 | timeout 20 "$program" "$1"; }
+table_without_end() { { echo "$header"; yes 0,point,,0,AC 2> /dev/null; } | timeout 20 "$program" pack | head -c 1000000 > "$work/front"; }
+no_table="polytwkb: record 1: bad header"
+no_blob="polytwkb: byte 0: unknown type"
+
+ends 1 "$no_table" "pack of a text without end" all_of_yes pack
+ends 1 "$no_table" "pack of a text without end, cut" front_of_yes pack
+for command in unpack show; do
+  ends 1 "$no_blob" "$command of a text without end" all_of_yes "$command"
+  ends 1 "$no_blob" "$command of a text without end, cut" front_of_yes "$command"
+done
+ends 3 "$write_fault" "pack of a table without end, its output cut" table_without_end
+yes 0102020402 | head -n 200000 | xxd -r -p > "$work/expected"
+same "$work/expected" "and what was written before is right" cat "$work/front"
+
+# ---- refused input
+
+without_header() { printf '0,point,,0,AC\n' | "$program" pack; }
+empty_table() { "$program" pack < /dev/null; }
+cut_polyline() { printf '%s\n0,point,,0,AC\n0,point,,0,A_\n' "$header" | "$program" pack; }
+cut_blob() { printf '\001\002\002\004\002\001\002' | "$program" "$1"; }
+
+ends 1 "$no_table" "a table without its header" without_header
+ends 1 "$no_table" "an empty table" empty_table
+ends 1 "polytwkb: record 3: polyline at 1: number cut short" "a polyline that is cut" cut_polyline
+ends 1 "polytwkb: byte 7: truncated" "unpack of a blob that is cut" cut_blob unpack
+ends 1 "polytwkb: byte 7: truncated" "show of a blob that is cut" cut_blob show
+
+# ---- words
+
+ends 2 "polytwkb: a word is not UTF-8" "a word that is not UTF-8" "$program" $'\xff'
+ends 2 "polytwkb: a word is not UTF-8" "an option that is not UTF-8" "$program" pack --style $'\xff'
+refuses_words "no subcommand"
+refuses_words "an unknown subcommand" repack
+refuses_words "no subcommand help" help
+refuses_words "an unknown option" --verbose
+refuses_words "an unknown option of pack" pack --verbose
+refuses_words "an option without its number" pack --max-nest
+refuses_words "--max-nest 33" pack --max-nest 33
+refuses_words "--max-nest -1" unpack --max-nest -1
+refuses_words "--style thin" pack --style thin
+refuses_words "--style of unpack" unpack --style plain
+refuses_words "a file's name" pack examples/collection.csv
+prints "--help" --help
+prints "-h" -h
+prints "--version" --version
+prints "-V" -V
+for command in pack unpack show; do prints "$command --help" "$command" --help; done
+version_line() { [ "$("$program" --version)" = "polytwkb $(sed -n 's/^pub const VERSION: &str = "\(.*\)";$/\1/p' crates/polytwkb/src/help.rt)" ]; }
+ends 0 "" "--version is the version of the source" version_line
+
+# ---- a large table: the output is the parts' outputs, joined, and memory stays flat
+
+turns=$(((megabytes * 1000000 + $(wc -c < "$work/rows") - 1) / $(wc -c < "$work/rows")))
+large_table() { echo "$header"; repeated "$turns" "$work/rows"; }
+large_stream() { repeated "$turns" "$work/rows.twkb"; }
+
+# measured WORD..: runs the program and leaves its peak memory, in kB, in the file peak.
+measured() {
+  if [ -x /usr/bin/time ]; then
+    /usr/bin/time -q -f %M -o "$work/peak" "$program" "$@"
+    return
+  fi
+  local peak=0 now status
+  "$program" "$@" <&0 &
+  while now=$(sed -n 's/^VmHWM:[^0-9]*\([0-9]*\) kB$/\1/p' "/proc/$!/status" 2> /dev/null) && [ -n "$now" ]; do
+    peak=$now
+    sleep 0.05
+  done
+  wait $!
+  status=$?
+  echo "$peak" > "$work/peak"
+  return $status
+}
+
+flat() { # NAME: the peak that was measured is small enough
+  local peak
+  peak=$(cat "$work/peak")
+  if [ "$peak" -gt 0 ] && [ "$peak" -lt "$peak_allowed" ]; then
+    report "$1: $peak kB"
+  else
+    report "$1" "$peak kB"
+  fi
+}
+
+pack_large() { large_table | measured pack | cmp -s - <(large_stream); }
+unpack_large() { large_stream | measured unpack | cmp -s - <(large_table); }
+ends 0 "" "pack of a table of $megabytes MB" pack_large
+flat "its peak memory"
+ends 0 "" "unpack to a table of $megabytes MB" unpack_large
+flat "its peak memory"
+
+# ---- a terminal
+
+if command -v python3 > /dev/null; then
+  same "$work/point.twkb" "pack on a terminal: one end is enough, and what is typed behind it stays" \
+    scripts/on_terminal.py "$work/point.csv" "$program" pack
+  echo "$header" > "$work/expected"
+  : > "$work/empty"
+  same "$work/expected" "unpack on a terminal: the same" scripts/on_terminal.py "$work/empty" "$program" unpack
+  same "$work/empty" "show on a terminal: the same" scripts/on_terminal.py "$work/empty" "$program" show
+else
+  skipped=3
+  echo "skip  the checks on a terminal want python3"
+fi
+
+echo "smoke: $passed passed, $failed failed, $skipped skipped"
+[ "$failed" -eq 0 ]
