@@ -1,5 +1,20 @@
-# make test: the gate.  make check: the short round.  make build: the command into bin/.  make demo: the main job on an example.  make bench: times and memory.
-.PHONY: test check build demo bench clean
+# make test              the gate
+# make check             the short round
+# make build             the command into bin/
+# make demo              the main job on an example
+# make smoke             the built program with real files and pipes
+# make completions-test  the words of the completions and of the manual page against help
+# make install           program, page, completions and licence below PREFIX, in the folder DESTDIR
+# make uninstall         takes these files away
+# make bench             times and memory
+# make clean             takes away what was built
+.PHONY: test check build demo bench smoke completions-test install uninstall clean
+
+PREFIX ?= /usr/local
+DESTDIR ?=
+BINDIR ?= $(PREFIX)/bin
+DATADIR ?= $(PREFIX)/share
+INSTALL ?= install
 
 SOURCES := crates.txt $(shell find crates -name out -prune -o \( -name '*.rt' -o -name '*.antt' \) -print)
 
@@ -26,6 +41,32 @@ demo: build
 
 bench: build
 	bench/run.sh
+
+smoke: build
+	scripts/smoke.sh
+
+completions-test: build
+	scripts/completions_test.sh
+
+# What is installed, and where; `uninstall` takes these files away and leaves their folders.
+PROGRAM_FILE := $(BINDIR)/polytwkb
+PAGE_FILE := $(DATADIR)/man/man1/polytwkb.1
+BASH_FILE := $(DATADIR)/bash-completion/completions/polytwkb
+ZSH_FILE := $(DATADIR)/zsh/site-functions/_polytwkb
+FISH_FILE := $(DATADIR)/fish/vendor_completions.d/polytwkb.fish
+LICENCE_FILE := $(DATADIR)/doc/polytwkb/LICENSE
+
+install: build
+	$(INSTALL) -D -m 755 bin/polytwkb '$(DESTDIR)$(PROGRAM_FILE)'
+	$(INSTALL) -D -m 644 man/polytwkb.1 '$(DESTDIR)$(PAGE_FILE)'
+	$(INSTALL) -D -m 644 completions/polytwkb.bash '$(DESTDIR)$(BASH_FILE)'
+	$(INSTALL) -D -m 644 completions/_polytwkb '$(DESTDIR)$(ZSH_FILE)'
+	$(INSTALL) -D -m 644 completions/polytwkb.fish '$(DESTDIR)$(FISH_FILE)'
+	$(INSTALL) -D -m 644 LICENSE '$(DESTDIR)$(LICENCE_FILE)'
+
+uninstall:
+	rm -f '$(DESTDIR)$(PROGRAM_FILE)' '$(DESTDIR)$(PAGE_FILE)' '$(DESTDIR)$(BASH_FILE)'
+	rm -f '$(DESTDIR)$(ZSH_FILE)' '$(DESTDIR)$(FISH_FILE)' '$(DESTDIR)$(LICENCE_FILE)'
 
 clean:
 	rm -rf bin bench/out crates/*/out
