@@ -161,6 +161,8 @@ read_fault="polytwkb: read failed"
 to_full_disk() { "$program" "$1" < "$2" > /dev/full; }
 to_closed_pipe() { "$program" "$1" < "$2" | head -c 1 > /dev/null; }
 to_no_output() { "$program" "$1" < "$2" >&-; }
+refused_to_full_disk() { "$program" pack < /dev/null 2> /dev/full; }
+help_to_full_disk() { "$program" --help > /dev/full; }
 from_directory() { "$program" "$1" < .; }
 from_no_input() { "$program" "$1" <&-; }
 
@@ -173,7 +175,10 @@ for command in pack unpack show; do
   ends 3 "$write_fault" "$command to a closed pipe" to_closed_pipe "$command" "$large"
   ends 3 "$read_fault" "$command from a directory" from_directory "$command"
   ends 3 "$read_fault" "$command without an input" from_no_input "$command"
+  ends 3 "$write_fault" "$command without an output" to_no_output "$command" "$small"
 done
+ends 1 "" "a full disk behind standard error changes no status" refused_to_full_disk
+ends 0 "" "help to a full disk has status 0" help_to_full_disk
 
 # ---- inputs without end
 
