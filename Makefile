@@ -27,5 +27,11 @@ demo: build
 bench: build
 	bench/run.sh
 
+# The commands that documents show, run and compared.
+docs-test: build
+	scripts/docs_test.py
+
+.PHONY: docs-test
+
 clean:
 	rm -rf bin bench/out crates/*/out
