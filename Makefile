@@ -31,7 +31,11 @@ bench: build
 docs-test: build
 	scripts/docs_test.py
 
-.PHONY: docs-test
+# What examples/recipes and examples/scale show; a recipe whose tools are missing says so and is skipped.
+recipes: build
+	@for recipe in examples/recipes/*.sh examples/scale/check.sh; do echo "$$recipe"; $$recipe || exit 1; done
+
+.PHONY: docs-test recipes
 
 clean:
 	rm -rf bin bench/out crates/*/out
