@@ -8,7 +8,8 @@ with '> ' go on with it. What follows, up to the next command or the end of the 
 to standard output and standard error. Blank lines at its end do not count.
 
 The commands of a file run in order in one session of bash, in a fresh folder, with bin/ of this repository
-on the path, $REPO the repository, and no input. A command that the program refuses ends nothing.
+on the path, $REPO the repository, and no input. A command that the program refuses ends nothing. One that
+prints a line 'skipped: needs X' and nothing else is not compared: recipes say so where a tool is missing.
 Exit status: 0 where all is as the documents say, 1 where something is not, 2 where there is no program.
 """
 import difflib
@@ -20,7 +21,7 @@ import tempfile
 REPO = os.path.abspath(os.path.join(os.path.dirname(__file__), ".."))
 FILES = ["README.md", "docs/README_draft.md", "docs/USING.md", "docs/SCALE.md", "docs/RECIPES.md"]
 MARK = "--- end of the command ---"
-SECONDS = 120
+SECONDS = 300
 
 
 class Command:
@@ -86,12 +87,15 @@ def trimmed(lines):
 
 
 def differences(path, commands):
-    """How many commands of a document print something else, each told on standard output."""
+    """How many commands of a document print something else, each told on standard output, and how many were skipped."""
     outputs, rest = printed_by(commands)
-    wrong = 0
+    wrong, skipped = 0, 0
     for command, output in zip(commands, outputs):
         expected = trimmed(command.output)
-        if output != expected:
+        if len(output) == 1 and output[0].startswith("skipped: needs "):
+            skipped += 1
+            print(f"{path}:{command.line}: block {command.block}: {output[0]}")
+        elif output != expected:
             wrong += 1
             print(f"{path}:{command.line}: block {command.block}: $ {command.text.splitlines()[0]}")
             for line in difflib.unified_diff(expected, output, "document", "run", lineterm=""):
@@ -101,7 +105,7 @@ def differences(path, commands):
         wrong += 1
         print(f"{path}:{command.line}: block {command.block}: the session ended in $ {command.text.splitlines()[0]}")
         print("".join(f"    {line}\n" for line in rest), end="")
-    return wrong
+    return wrong, skipped
 
 
 def main():
@@ -113,8 +117,8 @@ def main():
         if not sys.argv[1:] and not os.path.exists(path):
             continue
         commands = commands_of(path)
-        found = differences(path, commands) if commands else 0
-        print(f"{os.path.relpath(path)}: {len(commands)} commands, {found} differ")
+        found, skipped = differences(path, commands) if commands else (0, 0)
+        print(f"{os.path.relpath(path)}: {len(commands)} commands, {found} differ, {skipped} skipped")
         wrong += found
     return 1 if wrong else 0
 
