@@ -1,5 +1,5 @@
 // TWKB blobs to GeoJSON, for a browser or node, with no package. For streams that polytwkb wrote: it checks nothing
-// but what it can't go past. Numbers are exact up to 2^53.
+// but what it can't go past. For coordinates and ids up to 2^52, since numbers are exact up to 2^53.
 
 const BOX = 1, SIZE = 2, IDS = 4, EXTENDED = 8, EMPTY = 16;
 const TYPES = ['', 'Point', 'LineString', 'Polygon', 'MultiPoint', 'MultiLineString', 'MultiPolygon', 'GeometryCollection'];

@@ -15,6 +15,9 @@ for style in full plain; do
     polytwkb pack --style $style < table.csv > whole.twkb
     "$here/pack_in_parts.sh" table.csv parts.twkb "${2:-2}" 100k -- --style $style
     cmp whole.twkb parts.twkb
+    parallel --no-notice -k --pipe -j "${2:-2}" --block 100k --header : --recend '\n' --recstart '0,' \
+        polytwkb pack --style $style < table.csv | cmp - whole.twkb
+    tail -n +2 table.csv | "$here/pack_part.sh" --style $style | base64 -d | cmp - whole.twkb
     echo "packed in parts, $style: the same $(wc -c < whole.twkb) bytes"
     polytwkb unpack < whole.twkb > whole.csv
     "$here/unpack_in_parts.sh" whole.twkb parts.csv "${2:-2}" 50000
