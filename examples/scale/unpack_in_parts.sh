@@ -20,8 +20,10 @@ export -f unpack_part
 # Lines of level 0 are blobs. Prints offset and length of blobs joined to parts of so many bytes or more.
 parts() {
     polytwkb show < "$stream" | awk -v bytes="$bytes" '
-        $1 == 0 { length_so_far += $6; if (length_so_far >= bytes) { print from + 0, length_so_far; from += length_so_far; length_so_far = 0 } }
-        END { if (length_so_far || !from) print from + 0, length_so_far + 0 }'
+        # print alone rounds numbers above 2^31 in some kinds of awk
+        function part() { printf "%.0f %.0f\n", from, held; from += held; held = 0 }
+        $1 == 0 { held += $6; if (held >= bytes) part() }
+        END { if (held || !from) part() }'
 }
 
 trap 'rm -f "$table.part" "$table.cuts"' EXIT
