@@ -31,7 +31,7 @@ bench: build
 docs-test: build
 	scripts/docs_test.py
 
-# What examples/recipes and examples/scale show; a recipe whose tools are missing says so and is skipped.
+# The recipes and the check of parts; one whose tools are missing says so and is skipped.
 recipes: build
 	@for recipe in examples/recipes/*.sh examples/scale/check.sh; do echo "$$recipe"; $$recipe || exit 1; done
 
