@@ -4,11 +4,13 @@
 # make demo              the main job on an example
 # make smoke             the built program with real files and pipes
 # make completions-test  the words of the completions and of the manual page against help
+# make docs-test         the commands that documents show, run and compared
+# make recipes           each recipe and the check of parts, where its tools are installed
 # make install           program, page, completions and licence below PREFIX, in the folder DESTDIR
 # make uninstall         takes these files away
 # make bench             times and memory
 # make clean             takes away what was built
-.PHONY: test check build demo bench smoke completions-test install uninstall clean
+.PHONY: test check build demo bench smoke completions-test docs-test recipes install uninstall clean
 
 PREFIX ?= /usr/local
 DESTDIR ?=
@@ -67,6 +69,14 @@ install: build
 uninstall:
 	rm -f '$(DESTDIR)$(PROGRAM_FILE)' '$(DESTDIR)$(PAGE_FILE)' '$(DESTDIR)$(BASH_FILE)'
 	rm -f '$(DESTDIR)$(ZSH_FILE)' '$(DESTDIR)$(FISH_FILE)' '$(DESTDIR)$(LICENCE_FILE)'
+
+# The commands that documents show, run and compared.
+docs-test: build
+	scripts/docs_test.py
+
+# The recipes and the check of parts; one whose tools are missing says so and is skipped.
+recipes: build
+	@for recipe in examples/recipes/*.sh examples/scale/check.sh; do echo "$$recipe"; $$recipe || exit 1; done
 
 clean:
 	rm -rf bin bench/out crates/*/out

@@ -1,0 +1,24 @@
+# A PostgreSQL server of the recipe's own, on a socket in its folder, as an unprivileged user; it ends with the recipe.
+# After 'source': psql is connected to it, as_server runs a command as the server's user.
+source "$(dirname "${BASH_SOURCE[0]}")/common.bash"
+need psql xxd
+
+bindir=$(ls -d /usr/lib/postgresql/*/bin 2> /dev/null | sort -V | tail -n 1)
+PATH=$PATH${bindir:+:$bindir}
+need initdb pg_ctl
+
+# The server refuses to run as root.
+if [ "$(id -u)" = 0 ]; then
+    need runuser
+    getent passwd postgres > /dev/null || { echo "skipped: needs the user postgres"; exit 0; }
+    as_server() { runuser -u postgres -- env "PATH=$PATH" "$@"; }
+    chown postgres "$folder"
+    chmod 755 "$folder"
+else
+    as_server() { "$@"; }
+fi
+
+as_server initdb -D "$folder/data" -U recipe -A trust -E UTF8 --locale=C > initdb.log
+as_server pg_ctl -D "$folder/data" -o "-k $folder -c listen_addresses=''" -w -l "$folder/server.log" start > /dev/null
+trap 'as_server pg_ctl -D "$folder/data" -m immediate -w stop > /dev/null; rm -rf "$folder"' EXIT
+export PGHOST=$folder PGUSER=recipe PGDATABASE=postgres PGOPTIONS='-c client_min_messages=warning'

@@ -1,0 +1,127 @@
+#!/usr/bin/env python3
+"""Runs the commands that documents show, and compares what they print with what the documents say.
+
+    scripts/docs_test.py [FILE ..]
+
+In a block fenced with ```console a line that begins with '$ ' is a command, and lines behind it that begin
+with '> ' go on with it. What follows, up to the next command or the end of the block, is all that it prints,
+to standard output and standard error. Blank lines at its end do not count.
+
+The commands of a file run in order in one session of bash, in a fresh folder, with bin/ of this repository
+on the path, $REPO the repository, and no input. A command that the program refuses ends nothing. One that
+prints a line 'skipped: needs X' and nothing else is not compared: recipes say so where a tool is missing.
+Exit status: 0 where all is as the documents say, 1 where something is not, 2 where there is no program.
+"""
+import difflib
+import os
+import subprocess
+import sys
+import tempfile
+
+REPO = os.path.abspath(os.path.join(os.path.dirname(__file__), ".."))
+FILES = ["README.md", "docs/USING.md", "docs/SCALE.md", "docs/RECIPES.md"]
+MARK = "--- end of the command ---"
+SECONDS = 300
+
+
+class Command:
+    """A command, where it stands, and what it is said to print."""
+
+    def __init__(self, block, line, text):
+        self.block, self.line, self.text, self.output = block, line, text, []
+
+
+def commands_of(path):
+    """The commands of the console blocks of a document, in their order."""
+    commands, block, inside, ours = [], 0, False, False
+    with open(path, encoding="utf-8") as file:
+        for number, line in enumerate(file, 1):
+            line = line.rstrip("\n")
+            if line.lstrip().startswith("```"):
+                inside = not inside
+                ours = inside and line.strip() == "```console"
+                block += ours
+                begun = len(commands)
+            elif not ours:
+                continue
+            elif line.startswith("$ "):
+                commands.append(Command(block, number, line[2:]))
+            elif len(commands) == begun:
+                sys.exit(f"{path}:{number}: block {block} does not begin with a command")
+            elif line.startswith("> ") and not commands[-1].output:
+                commands[-1].text += "\n" + line[2:]
+            else:
+                commands[-1].output.append(line)
+    return commands
+
+
+def script_of(commands):
+    """All commands for bash, a mark behind each. The status of a command stays for the next one to see."""
+    lines = ["exec 2>&1"]
+    for command in commands:
+        lines += [command.text, "__status=$?", f"printf '\\n%s\\n' '{MARK}'", "(exit $__status)"]
+    return "\n".join(lines) + "\n"
+
+
+def printed_by(commands):
+    """What each command printed, as lines; fewer lists where the session ended early."""
+    with tempfile.TemporaryDirectory(prefix="docs_test.") as folder:
+        script = os.path.join(folder, "session.sh")
+        work = os.path.join(folder, "work")
+        os.mkdir(work)
+        with open(script, "w", encoding="utf-8") as file:
+            file.write(script_of(commands))
+        environment = dict(os.environ, REPO=REPO, LC_ALL="C.UTF-8")
+        environment["PATH"] = os.path.join(REPO, "bin") + os.pathsep + environment["PATH"]
+        run = subprocess.run(["bash", script], cwd=work, env=environment, stdin=subprocess.DEVNULL,
+                             stdout=subprocess.PIPE, timeout=SECONDS)
+    parts = run.stdout.decode("utf-8", "backslashreplace").split(f"\n{MARK}\n")
+    return [trimmed(part.split("\n")) for part in parts[:-1]], trimmed(parts[-1].split("\n"))
+
+
+def trimmed(lines):
+    """The lines without blank ones at the end."""
+    while lines and not lines[-1].strip():
+        lines = lines[:-1]
+    return lines
+
+
+def differences(path, commands):
+    """How many commands of a document print something else, each told on standard output, and how many were skipped."""
+    outputs, rest = printed_by(commands)
+    wrong, skipped = 0, 0
+    for command, output in zip(commands, outputs):
+        expected = trimmed(command.output)
+        if len(output) == 1 and output[0].startswith("skipped: needs "):
+            skipped += 1
+            print(f"{path}:{command.line}: block {command.block}: {output[0]}")
+        elif output != expected:
+            wrong += 1
+            print(f"{path}:{command.line}: block {command.block}: $ {command.text.splitlines()[0]}")
+            for line in difflib.unified_diff(expected, output, "document", "run", lineterm=""):
+                print("    " + line)
+    if len(outputs) < len(commands):
+        command = commands[len(outputs)]
+        wrong += 1
+        print(f"{path}:{command.line}: block {command.block}: the session ended in $ {command.text.splitlines()[0]}")
+        print("".join(f"    {line}\n" for line in rest), end="")
+    return wrong, skipped
+
+
+def main():
+    if not os.access(os.path.join(REPO, "bin", "polytwkb"), os.X_OK):
+        print("docs_test: no bin/polytwkb; 'make build' makes it", file=sys.stderr)
+        return 2
+    wrong = 0
+    for path in sys.argv[1:] or [os.path.join(REPO, name) for name in FILES]:
+        if not sys.argv[1:] and not os.path.exists(path):
+            continue
+        commands = commands_of(path)
+        found, skipped = differences(path, commands) if commands else (0, 0)
+        print(f"{os.path.relpath(path)}: {len(commands)} commands, {found} differ, {skipped} skipped")
+        wrong += found
+    return 1 if wrong else 0
+
+
+if __name__ == "__main__":
+    sys.exit(main())
