@@ -8,7 +8,7 @@
 # make recipes           each recipe and the check of parts, where its tools are installed
 # make install           program, page, completions and licence below PREFIX, in the folder DESTDIR
 # make uninstall         takes these files away
-# make bench             times and memory
+# make bench             times and memory beside a plain program; BENCH has words for bench/run.sh
 # make clean             takes away what was built
 .PHONY: test check build demo bench smoke completions-test docs-test recipes install uninstall clean
 
@@ -42,7 +42,7 @@ demo: build
 	bin/polytwkb unpack < bin/collection.twkb
 
 bench: build
-	bench/run.sh
+	bench/run.sh $(BENCH)
 
 smoke: build
 	scripts/smoke.sh

@@ -1,8 +1,21 @@
 #!/usr/bin/env bash
-# Times the command on tables of single points of 1, 10 and 100 MB: best of three runs, MB/s of the table, peak memory,
-# and the ratio of the time at 2n to that at n. Writes to bench/out/, which is not kept. Not part of the tests.
+# Measures the three commands beside the plain Rust program of bench/plain (wants `cargo`; `csv` of Debian's librust-csv-dev, or of
+# cargo's registry, and a loop of ours in its place where neither is there). Not part of the tests.
+#
+#   run.sh [--megabytes 40] [--points 10000000] [--rounds 9] [--cases CASE ..] [--docs]
+#           seven tables: user and system time, best of the rounds, both programs in turn; peak memory; the time over that for half as
+#           much. Both write the same bytes, which is checked by hash. --docs puts table and picture into docs/. About 10 minutes.
+#   run.sh instructions [CASE ..]
+#           instructions a row and a point by `valgrind --tool=callgrind` on small tables, and the functions that hold most
+#
+# Writes to bench/out/, which is not kept.
 set -euo pipefail
 cd "$(dirname "$0")/.."
 make --quiet build
+bench/plain/build.sh bench/out/plain
 mkdir -p bench/out
-exec python3 bench/measure.py bin/polytwkb bench/out "$@"
+programs=(bin/polytwkb bench/out/plain/release/plain bench/out/plain/release/make_table bench/out)
+if [ "${1-}" = instructions ]; then
+    exec python3 bench/instructions.py "${programs[@]}" "${@:2}"
+fi
+exec python3 bench/users.py "${programs[@]}" "$@"
