@@ -94,13 +94,9 @@ class Table:
             if word == "unpack":
                 self.length["unpack"] = self.length["show"] = length
 
-    def best(self, word, rounds):
-        """The best seconds of each program, which run in turn."""
-        seconds = {name: [] for name in PROGRAMS}
-        for _ in range(rounds):
-            for name in PROGRAMS:
-                seconds[name].append(seconds_of(self.programs[name], word, self.source(word)))
-        return {name: min(of_one) for name, of_one in seconds.items()}
+    def seconds(self, word):
+        """One run of each program."""
+        return {name: seconds_of(self.programs[name], word, self.source(word)) for name in PROGRAMS}
 
     def peak(self, word):
         return {name: peak_of(self.programs[name], word, self.source(word)) for name in PROGRAMS}
@@ -108,6 +104,12 @@ class Table:
     def remove(self):
         for path in (self.table, self.stream):
             os.remove(path)
+
+
+def best(tables, word, rounds):
+    """The best seconds of each program on each of the tables; all run in turn, since the speed of a machine changes."""
+    runs = [[table.seconds(word) for table in tables] for _ in range(rounds)]
+    return [{name: min(run[place][name] for run in runs) for name in PROGRAMS} for place in range(len(tables))]
 
 
 def measure(options, case):
@@ -118,7 +120,7 @@ def measure(options, case):
     half.check()
     rows = []
     for word in WORDS:
-        seconds, half_seconds = whole.best(word, options.rounds), half.best(word, options.rounds)
+        seconds, half_seconds = best([whole, half], word, options.rounds)
         rows.append({
             "case": CASES[case].format(long=points_text(options.points)),
             "command": word,

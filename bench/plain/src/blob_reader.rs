@@ -1,15 +1,10 @@
 //! Geometries from a stream of blobs.
 use crate::fault::Fault;
 use crate::geometry::{Kind, Label, Point, MOST_NEST, MOST_POINTS, MOST_ROWS};
+use crate::header::{HAS_BOX, HAS_IDS, HAS_SIZE, IS_EMPTY, IS_EXTENDED};
 use crate::input::Input;
 use crate::numbers::unzigzag;
 use std::io::Read;
-
-const HAS_BOX: u8 = 1;
-const HAS_SIZE: u8 = 1 << 1;
-const HAS_IDS: u8 = 1 << 2;
-const IS_EXTENDED: u8 = 1 << 3;
-const IS_EMPTY: u8 = 1 << 4;
 
 /// The bits of Z and M in the extended byte.
 const DIMENSIONS: u8 = 3;

@@ -1,11 +1,7 @@
 //! The canonical blob of a geometry, with sizes and boxes.
 use crate::geometry::{Geometry, Kind, Point, Row};
+use crate::header::{HAS_BOX, HAS_IDS, HAS_SIZE, IS_EMPTY};
 use crate::numbers::{put_varint, varint_len, zigzag};
-
-const HAS_BOX: u8 = 1;
-const HAS_SIZE: u8 = 1 << 1;
-const HAS_IDS: u8 = 1 << 2;
-const IS_EMPTY: u8 = 1 << 4;
 
 /// The box round points; without points its least number is above its greatest.
 #[derive(Clone, Copy)]

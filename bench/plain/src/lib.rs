@@ -6,6 +6,7 @@ pub mod blob_reader;
 pub mod blob_writer;
 pub mod fault;
 pub mod geometry;
+pub mod header;
 pub mod input;
 pub mod numbers;
 pub mod output;
