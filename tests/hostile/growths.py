@@ -1,0 +1,43 @@
+#!/usr/bin/env python3
+"""Counts the growths of measuring, writing and packing, by refusing one after another until none is refused.
+
+growths.py PROGRAM REFUSE.SO       PROGRAM is that of growths/main.rt.in
+"""
+import sys
+
+from refusing import Refusing
+
+NEST, POINTS = 32, 10000
+TABLE = b"depth,kind,id,precision,polyline\n"
+TABLE += b"".join(b"%d,collection,,0,\n" % depth for depth in range(NEST)) + b"%d,linestring,,0," % NEST + b"AC" * POINTS + b"\n"
+
+
+def growths_of(refusing, word):
+    """How many growths there are; each that is refused must be told."""
+    for number, refused, (status, _, _) in refusing.in_turn([word], TABLE, "growth"):
+        if number is None:
+            if status != 0:
+                raise SystemExit(f"growths: {word} ends with {status}")
+            return last
+        if status == 0:
+            raise SystemExit(f"growths: {word}, {refused}, is not told")
+        last = number
+    raise SystemExit("growths: no run")
+
+
+def main():
+    refusing = Refusing(*sys.argv[1:3])
+    counts = {word: growths_of(refusing, word) for word in ("read", "measure", "count", "pack")}
+    print(f"growths below {NEST} collections, {POINTS} points: {counts}")
+    rules = {
+        "measuring makes at most one growth": counts["measure"] <= counts["read"] + 1,
+        "counting the bytes of a blob makes none": counts["count"] == counts["measure"],
+        "packing makes at most one more than reading": counts["pack"] <= counts["read"] + 1,
+    }
+    for rule, holds in rules.items():
+        print(f"{'ok  ' if holds else 'FAIL'} {rule}")
+    return not all(rules.values())
+
+
+if __name__ == "__main__":
+    sys.exit(main())
