@@ -1,5 +1,5 @@
 """Slips: what goes wrong with streams and with tables, at every level."""
-from blob import items_of, varint
+from blob import FOLLOWS, items_of, varint
 from geometry import KINDS
 from polyline import spelled
 from table import HEADER_LINE, records_of
@@ -17,7 +17,8 @@ def item_slip(chance, stream):
     items, _ = items_of(stream, 0)
     if not items:
         return stream
-    item = chance.choice(items)
+    counts = [item for item in items if item.role in FOLLOWS]
+    item = chance.choice(counts if counts and chance.random() < 0.3 else items)
     if item.role in ("type", "metadata", "extended"):
         part = bytes([item.value ^ 1 << chance.randrange(8)])
     elif item.role == "end":
@@ -32,6 +33,13 @@ def byte_slip(chance, text):
     """One byte changed, put in, or taken away."""
     place, byte = chance.randrange(len(text) + 1), bytes([chance.getrandbits(8)])
     return with_part(text, place, place + chance.getrandbits(1), chance.choice((byte, byte, b"", b"\xff", b"\x00")))
+
+
+def stray_quotes(chance, text):
+    for _ in range(chance.randint(1, 3)):
+        place = chance.randrange(len(text) + 1)
+        text = text[:place] + chance.choice((b'"', b'"', b'""', b'"x"y', b'",')) + text[place:]
+    return text
 
 
 def cut(chance, text):
@@ -118,7 +126,7 @@ def table_slip(chance, text):
             records = record_slip(chance, records)
     text = table_of(chance, records)
     if chance.random() < 0.15:
-        text = chance.choice((byte_slip, cut, spliced))(chance, text)
+        text = chance.choice((byte_slip, cut, spliced, stray_quotes, stray_quotes))(chance, text)
     return text
 
 
