@@ -8,9 +8,11 @@
 # make recipes           each recipe and the check of parts, where its tools are installed
 # make install           program, page, completions and licence below PREFIX, in the folder DESTDIR
 # make uninstall         takes these files away
+# make hostile           the built program while memory, devices and inputs are against it
+# make fuzz              the built program beside a second implementation, over random inputs (CASES, SEED, PROCESSES)
 # make bench             times and memory beside a plain program; BENCH has words for bench/run.sh
 # make clean             takes away what was built
-.PHONY: test check build demo bench smoke completions-test docs-test recipes install uninstall clean
+.PHONY: test check build demo bench smoke completions-test docs-test recipes hostile fuzz install uninstall clean
 
 PREFIX ?= /usr/local
 DESTDIR ?=
@@ -49,6 +51,27 @@ smoke: build
 
 completions-test: build
 	scripts/completions_test.sh
+
+hostile: build bin/refuse.so bin/growths
+	tests/hostile/each_failing.py bin/polytwkb bin/refuse.so
+	tests/hostile/sizes.py bin/polytwkb 64
+	tests/hostile/sizes.py bin/polytwkb 1024
+	tests/hostile/growths.py bin/growths bin/refuse.so
+
+CASES ?= 100000
+PROCESSES ?= 2
+
+fuzz: build bin/refuse.so
+	nice -n 10 tests/fuzz/fuzz.py --cases $(CASES) --processes $(PROCESSES) $(if $(SEED),--seed $(SEED)) --library bin/refuse.so
+
+# What lets a call of the program fail.
+bin/refuse.so: tests/hostile/refuse.c
+	mkdir -p bin
+	$(CC) -O1 -shared -fPIC -o $@ $<
+
+# Counts growths; no crate of the repository, so it is proved in a copy.
+bin/growths: tests/hostile/growths/main.rt.in tests/hostile/growths/build.sh $(SOURCES)
+	tests/hostile/growths/build.sh $@
 
 # What is installed, and where; `uninstall` takes these files away and leaves their folders.
 PROGRAM_FILE := $(BINDIR)/polytwkb
