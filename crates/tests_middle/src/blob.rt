@@ -8,6 +8,7 @@ mod limits;
 mod located;
 mod readers;
 mod refusals;
+mod rows;
 mod sessions;
 mod sizes;
 mod texts;

@@ -5,7 +5,7 @@ use Rattle.std.proofs.lemmas.List.{append-nil}
 use Rattle.std.specs.Prelude.{IfSome}
 use Rattle.std.specs.Io.KnownBytes.{Consumes, IsAtEnd}
 use Rattle.std.specs.declared.io.traits.Read.{Ghosts}
-use Rattle.twkb_geom.specs.Tree.{Tree}
+use Rattle.twkb_geom.specs.Rows.{Row, rows}
 use Rattle.twkb_geom.specs.Limits.{Allowance}
 use Rattle.twkb_grammar.specs.Blob.{Blob}
 use Rattle.twkb_grammar.specs.Fault.{FirstFault, Reason, Truncated}
@@ -14,16 +14,17 @@ use Rattle.twkb_io.specs.declared.input.InFault.{InFault}
 use Rattle.twkb_io.specs.declared.input.InFault.TheVariants.{Read, TooLong, Spent}
 use Rattle.twkb_io.specs.Inputs.{given, rest_of, is_spent}
 use Rattle.twkb_engine.specs.Standing.{IsEnd, offset_in}
-use Rattle.twkb_engine.specs.Frames.{reason_of}
+use Rattle.twkb_engine.specs.Stops.{reason_of}
 use Rattle.twkb_engine.specs.declared.engine.Engine.{Engine}
 use Rattle.twkb_engine.specs.declared.stop.Stop.{Stop}
 use Rattle.twkb_engine.specs.declared.stop.Stop.TheVariants.{Memory, Refused}
 use Rattle.twkb_engine.specs.declared.blob_reason.BlobReason.TheVariants as reason
 use Rattle.twkb_blob.specs.Faults.{fault_of}
-use Rattle.twkb_blob.specs.Readers.{AreCutOff, Left, IsRead, IsNext, RefusedKnown, failed_by_read}
+use Rattle.twkb_blob.specs.Readers.{AreCutOff, Left, Makes, IsRead, IsNext, IsNextFlat, RefusedKnown, failed_by_read}
+use Rattle.twkb_blob.specs.declared.fault.BlobFault.{BlobFault}
 use Rattle.twkb_blob.specs.declared.fault.BlobFault.TheVariants as fault
-use Rattle.twkb_blob.specs.declared.reader.Piece.TheVariants as piece
-use Rattle.twkb_blob.specs.declared.reader.Halt.TheVariants as halt
+use Rattle.twkb_blob.specs.declared.reading.Piece.TheVariants as piece
+use Rattle.twkb_blob.specs.declared.reading.Halt.TheVariants as halt
 
 -- what left, and then a refusal in what is left
 pub refused_after : (limits : Allowance) (a b : Option (List ℕ)) (bs : List ℕ) (before start within : ℕ) (reason : Reason) → start ≡ before → Consumes a b bs → IfSome b (λ rest. FirstFault limits (bs ++ rest) within reason)
@@ -76,44 +77,48 @@ module _ {R : Type 0} {read : Ghosts R} where
   }
 
   -- a geometry was made
-  pub made_next : (limits own : Allowance) (bs : List ℕ) (a b c : Input R read) (g : Tree) (d : Engine) → own ≡ limits → Left a b bs → IsRead own bs b c (Ok (piece.Made g)) d → IsNext limits a c (Ok (Some g))
-  made_next limits own bs a b c g d same left made = record {
-    bytes = bs ++ made.bytes;
-    left = left_join a b c bs made.bytes left made.left;
-    blob = subst (λ l. Blob l (bs ++ made.bytes) g) same made.blob;
-    unspent = made.unspent;
-  }
+  pub made_next : (limits own : Allowance) (bs : List ℕ) (a b c : Input R read) (rs : List Row) (d : Engine) → own ≡ limits → Left a b bs → IsRead own bs b c (Ok piece.Made) rs d → IsNextFlat limits a c (Ok true) rs
+  made_next limits own bs a b c rs d same left (g, made, is) =
+      let whole : Makes own [] a c g = record { bytes = bs ++ made.bytes; left = left_join a b c bs made.bytes left made.left; blob = made.blob; unspent = made.unspent } in
+      (g, subst (λ l. Makes l [] a c g) same whole, is)
 
   -- the input ended between two blobs
-  pub end_next : (limits own : Allowance) (bs : List ℕ) (a b c : Input R read) (d : Engine) → Left a b bs → IsRead own bs b c (Ok piece.End) d → bs ≡ [] → IsNext limits a c (Ok None)
-  end_next limits own bs a b c d left (end, more, stands) none =
+  pub end_next : (limits own : Allowance) (bs : List ℕ) (a b c : Input R read) (rs : List Row) (d : Engine) → Left a b bs → IsRead own bs b c (Ok piece.End) rs d → bs ≡ [] → IsNext limits a c (Ok None)
+  end_next limits own bs a b c rs d left (end, more, stands) none =
       (end_after (rest_of a) (rest_of b) bs none left.consumed end, subst (λ l. Left a c l) (append-nil bs ∙ none) (left_join a b c bs [] left more))
 
   -- the input ended inside a blob
-  pub cut_next : (limits own : Allowance) (bs : List ℕ) (a b c : Input R read) (start within : ℕ) (d : Engine) → own ≡ limits → start ≡ given a → Left a b bs → IsRead own bs b c (Ok piece.End) d → FirstFault own bs within Truncated
+  pub cut_next : (limits own : Allowance) (bs : List ℕ) (a b c : Input R read) (start within : ℕ) (rs : List Row) (d : Engine) → own ≡ limits → start ≡ given a → Left a b bs → IsRead own bs b c (Ok piece.End) rs d → FirstFault own bs within Truncated
       → IsNext limits a c (Err (fault.At (start + within) reason.Truncated))
-  cut_next limits own bs a b c start within d same begun left (end, more, stands) h =
+  cut_next limits own bs a b c start within rs d same begun left (end, more, stands) h =
       cut_after limits (rest_of a) (rest_of b) bs (given a) start within Truncated begun left.consumed end (subst (λ l. FirstFault l bs within Truncated) same h)
 
   -- the input gave no byte behind these, which are no blob
-  pub halted_next : (limits own : Allowance) (why : InFault) (bs : List ℕ) (a b c : Input R read) (d : Engine) (within : ℕ) (between : Bool) → own ≡ limits → Left a b bs → (is_spent b ≡ true → is_spent a ≡ true)
-      → IsEnd own bs within between → IsRead own bs b c (Err (halt.Device why)) d → IsNext limits a c (Err (fault.Device why))
-  halted_next limits own Read bs a b c d within between same left spent end (stops, stands) = record {
+  pub halted_next : (limits own : Allowance) (why : InFault) (bs : List ℕ) (a b c : Input R read) (rs : List Row) (d : Engine) (within : ℕ) (between : Bool) → own ≡ limits → Left a b bs → (is_spent b ≡ true → is_spent a ≡ true)
+      → IsEnd own bs within between → IsRead own bs b c (Err (halt.Device why)) rs d → IsNext limits a c (Err (fault.Device why))
+  halted_next limits own Read bs a b c rs d within between same left spent end (stops, stands) = record {
     bytes = bs;
     left = subst (λ l. Left a c l) (append-nil bs) (left_join a b c bs [] left stops.0);
     cut_off = subst (λ l. AreCutOff l bs) same (are_cut_off own bs within between end);
     none_held = stops.1;
   }
-  halted_next limits own TooLong bs a b c d within between same left spent end (stops, stands) = (stops.0, long_after (rest_of a) (rest_of b) bs (given a) (given b) left.consumed left.counted stops.1)
-  halted_next limits own Spent bs a b c d within between same left spent end (stops, stands) = spent stops
+  halted_next limits own TooLong bs a b c rs d within between same left spent end (stops, stands) = (stops.0, long_after (rest_of a) (rest_of b) bs (given a) (given b) left.consumed left.counted stops.1)
+  halted_next limits own Spent bs a b c rs d within between same left spent end (stops, stands) = spent stops
 
   -- the engine stopped
-  pub stopped_next : (limits own : Allowance) (bs : List ℕ) (a b c : Input R read) (start offset : ℕ) (stop : Stop) (d : Engine) → own ≡ limits → start ≡ given a → offset ≡ offset_in d → Left a b bs → IsRead own bs b c (Err (halt.Engine stop)) d
+  pub stopped_next : (limits own : Allowance) (bs : List ℕ) (a b c : Input R read) (start offset : ℕ) (stop : Stop) (rs : List Row) (d : Engine) → own ≡ limits → start ≡ given a → offset ≡ offset_in d → Left a b bs → IsRead own bs b c (Err (halt.Engine stop)) rs d
       → IsNext limits a c (Err (fault_of (start + offset) stop))
-  stopped_next limits own bs a b c start offset Memory d same begun at left h = tt
-  stopped_next limits own bs a b c start offset (Refused r) d same begun at left h =
+  stopped_next limits own bs a b c start offset Memory rs d same begun at left h = tt
+  stopped_next limits own bs a b c start offset (Refused r) rs d same begun at left h =
       refused_after limits (rest_of a) (rest_of b) bs (given a) start offset (reason_of r) begun left.consumed
       (subst (λ n. IfSome (rest_of b) (λ rest. FirstFault limits (bs ++ rest) n (reason_of r))) (sym at) (subst (λ l. IfSome (rest_of b) (λ rest. FirstFault l (bs ++ rest) (offset_in d) (reason_of r))) same h))
+
+  -- the same answers, told of other words
+  pub device_told : (limits : Allowance) (a c : Input R read) (told why : InFault) → told ≡ why → IsNext limits a c (Err (fault.Device why)) → IsNext limits a c (Err (fault.Device told))
+  device_told limits a c told why same h = subst (λ f. IsNext limits a c (Err (fault.Device f))) (sym same) h
+
+  pub engine_told : (limits : Allowance) (a c : Input R read) (e : BlobFault) (told offset : ℕ) (why stop : Stop) → e ≡ fault_of told why → told ≡ offset → why ≡ stop → IsNext limits a c (Err (fault_of offset stop)) → IsNext limits a c (Err e)
+  engine_told limits a c e told offset why stop is at same h = subst (λ f. IsNext limits a c (Err f)) (sym (is ∙ (ap (λ n. fault_of n why) at ∙ ap (λ s. fault_of offset s) same))) h
 
 -- an engine that stopped is no failed read
 pub no_device : (A : Type 0) (offset : ℕ) (stop : Stop) → failed_by_read {A = A} (Err (fault_of offset stop)) ≡ false

@@ -1,9 +1,10 @@
 -- Bytes of an input, one after another, make a geometry with its spans, or a fault.
-use Rattle.std.proofs.Common.{◌≡◌, ℕ, ◌+◌, ◌<◌, ◌≤◌, List, [], ◌∷◌, ◌++◌, length, take, sym, ap, ◌∙◌, subst, append_assoc, Option, Some, None, Ok, Err, false, arith}
+use Rattle.std.proofs.Common.{◌≡◌, ℕ, ◌+◌, ◌<◌, ◌≤◌, List, [], ◌∷◌, ◌++◌, length, take, sym, ap, ◌∙◌, subst, append_assoc, Option, Some, None, Result, Ok, Err, true, false, arith}
 use Rattle.std.specs.Prelude.{IfSome}
 use Rattle.std.specs.Io.KnownBytes.{Consumes}
 use Rattle.std.specs.declared.io.traits.Read.{Ghosts}
 use Rattle.twkb_geom.specs.Tree.{Tree}
+use Rattle.twkb_geom.specs.Rows.{Row, rows}
 use Rattle.twkb_geom.specs.Limits.{Allowance}
 use Rattle.twkb_grammar.specs.Fault.{FirstFault, Reason}
 use Rattle.twkb_grammar.specs.Spans.{spans_of_blob}
@@ -12,19 +13,15 @@ use Rattle.twkb_grammar.specs.declared.span.Span.{Span}
 use Rattle.twkb_io.specs.declared.input.Input.{Input}
 use Rattle.twkb_io.specs.Inputs.{given, rest_of, is_spent}
 use Rattle.twkb_engine.specs.Standing.{RefusedIn, offset_in}
-use Rattle.twkb_engine.specs.Frames.{reason_of}
+use Rattle.twkb_engine.specs.Stops.{reason_of}
 use Rattle.twkb_engine.specs.declared.engine.Engine.{Engine}
 use Rattle.twkb_engine.specs.declared.stop.Stop.{Stop}
 use Rattle.twkb_engine.specs.declared.stop.Stop.TheVariants.{Memory, Refused}
 use Rattle.twkb_blob.specs.Readers.{Left, Makes, IsRead, IsNext}
-use Rattle.twkb_blob.specs.Located.{HasSpans, IsLocated, IsNotedFed, IsNotedRead}
-use Rattle.twkb_blob.specs.declared.spans.Located.{Located}
+use Rattle.twkb_blob.specs.Located.{HasSpans, IsSpanned, IsSpannedFlat, IsLocated, IsNotedFed, IsNotedRead}
 use Rattle.twkb_blob.specs.declared.fault.BlobFault.{BlobFault}
-use Rattle.twkb_blob.specs.declared.fault.BlobFault.TheVariants as fault
-use Rattle.twkb_blob.specs.Faults.{fault_of}
-use Rattle.twkb_io.specs.declared.input.InFault.{InFault}
-use Rattle.twkb_blob.specs.declared.reader.Piece.TheVariants as piece
-use Rattle.twkb_blob.specs.declared.reader.Halt.TheVariants as halt
+use Rattle.twkb_blob.specs.declared.reading.Piece.TheVariants as piece
+use Rattle.twkb_blob.specs.declared.reading.Halt.TheVariants as halt
 use Rattle.twkb_blob.proofs.Blobs.{left_join}
 
 -- a piece of one byte is that byte
@@ -46,20 +43,20 @@ module _ {R : Type 0} {read : Ghosts R} where
   byte_left a b byte loses counted = record { consumed = loses; counted = counted }
 
   -- the blob goes on
-  pub byte_more : (limits : Allowance) (start : ℕ) (bs : List ℕ) (byte : ℕ) (a b : Input R read) (d : Engine) (w : Notes) → Consumes (rest_of a) (rest_of b) (byte ∷ []) → given b ≡ given a + 1 → is_spent b ≡ false
-      → IsNotedFed limits start bs byte (Ok None) d w → IsNotedRead limits start bs a b (Ok piece.More) d w
-  byte_more limits start bs byte a b d w loses counted live h = (byte ∷ [], omega arith, byte_left a b byte loses counted, h.0, h.1, live)
+  pub byte_more : (limits : Allowance) (start : ℕ) (bs : List ℕ) (byte : ℕ) (a b : Input R read) (rs : List Row) (d : Engine) (w : Notes) → Consumes (rest_of a) (rest_of b) (byte ∷ []) → given b ≡ given a + 1 → is_spent b ≡ false
+      → IsNotedFed limits start bs byte (Ok false) rs d w → IsNotedRead limits start bs a b (Ok piece.More) rs d w
+  byte_more limits start bs byte a b rs d w loses counted live h = (byte ∷ [], omega arith, byte_left a b byte loses counted, h.0, h.1, live)
 
   -- the blob ends
-  pub byte_made : (limits : Allowance) (start : ℕ) (bs : List ℕ) (byte : ℕ) (a b : Input R read) (g : Tree) (d : Engine) (w : Notes) → Consumes (rest_of a) (rest_of b) (byte ∷ []) → given b ≡ given a + 1 → is_spent b ≡ false
-      → IsNotedFed limits start bs byte (Ok (Some g)) d w → IsNotedRead limits start bs a b (Ok (piece.Made g)) d w
-  byte_made limits start bs byte a b g d w loses counted live h = (record { bytes = byte ∷ []; left = byte_left a b byte loses counted; blob = h.0; unspent = live }, h.1)
+  pub byte_made : (limits : Allowance) (start : ℕ) (bs : List ℕ) (byte : ℕ) (a b : Input R read) (rs : List Row) (d : Engine) (w : Notes) → Consumes (rest_of a) (rest_of b) (byte ∷ []) → given b ≡ given a + 1 → is_spent b ≡ false
+      → IsNotedFed limits start bs byte (Ok true) rs d w → IsNotedRead limits start bs a b (Ok piece.Made) rs d w
+  byte_made limits start bs byte a b rs d w loses counted live (g, blob, told, is) = (g, record { bytes = byte ∷ []; left = byte_left a b byte loses counted; blob = blob; unspent = live }, told, is)
 
   -- the engine stopped at a byte
-  pub byte_stopped : (limits : Allowance) (start : ℕ) (bs : List ℕ) (byte : ℕ) (a b : Input R read) (stop : Stop) (d : Engine) (w : Notes) → Consumes (rest_of a) (rest_of b) (byte ∷ [])
-      → IsNotedFed limits start bs byte (Err stop) d w → IsRead limits bs a b (Err (halt.Engine stop)) d
-  byte_stopped limits start bs byte a b Memory d w loses h = tt
-  byte_stopped limits start bs byte a b (Refused r) d w loses h = refused_byte limits (rest_of a) (rest_of b) bs byte (offset_in d) (reason_of r) loses h
+  pub byte_stopped : (limits : Allowance) (start : ℕ) (bs : List ℕ) (byte : ℕ) (a b : Input R read) (stop : Stop) (rs : List Row) (d : Engine) (w : Notes) → Consumes (rest_of a) (rest_of b) (byte ∷ [])
+      → IsNotedFed limits start bs byte (Err stop) rs d w → IsRead limits bs a b (Err (halt.Engine stop)) rs d
+  byte_stopped limits start bs byte a b Memory rs d w loses h = tt
+  byte_stopped limits start bs byte a b (Refused r) rs d w loses h = refused_byte limits (rest_of a) (rest_of b) bs byte (offset_in d) (reason_of r) loses h
 
   -- a blob left the input, with these spans
   pub made_spans : (limits own : Allowance) (start : ℕ) (bs : List ℕ) (a b c : Input R read) (g : Tree) (spans told : List Span) → own ≡ limits → start ≡ given a → Left a b bs
@@ -71,8 +68,15 @@ module _ {R : Type 0} {read : Ghosts R} where
       })
 
   -- and that is an answer
-  pub made_located : (limits : Allowance) (a c : Input R read) (l : Located) → HasSpans limits a c l.geometry l.spans → IsLocated limits a c (Ok (Some l))
-  made_located limits a c l h = record { next = h.made; spans = h }
+  pub spans_made : (limits own : Allowance) (start : ℕ) (bs : List ℕ) (a b c : Input R read) (rs : List Row) (d : Engine) (w : Notes) (spans : List Span) → own ≡ limits → start ≡ given a → Left a b bs
+      → spans ≡ w.spans → IsNotedRead own start bs b c (Ok piece.Made) rs d w → IsSpannedFlat limits a c (Ok (Some spans)) rs
+  spans_made limits own start bs a b c rs d w spans same begun left is (g, made, told, rows_are) = (g, made_spans limits own start bs a b c g spans w.spans same begun left is made told, rows_are)
+
+  -- an answer with the rows is one without them
+  pub spanned : (limits : Allowance) (a c : Input R read) (answer : Result (Option (List Span)) BlobFault) (rs : List Row) → IsSpannedFlat limits a c answer rs → IsSpanned limits a c answer
+  spanned limits a c (Ok (Some spans)) rs h = (h.0, h.1)
+  spanned limits a c (Ok None) rs h = h
+  spanned limits a c (Err why) rs h = h
 
   -- an answer without a geometry has no spans
   pub none_located : (limits : Allowance) (a c : Input R read) → IsNext limits a c (Ok None) → IsLocated limits a c (Ok None)
@@ -80,12 +84,3 @@ module _ {R : Type 0} {read : Ghosts R} where
 
   pub fault_located : (limits : Allowance) (a c : Input R read) (e : BlobFault) → IsNext limits a c (Err e) → IsLocated limits a c (Err e)
   fault_located limits a c e h = record { next = h; spans = tt }
-
-  -- the input gave no byte
-  pub device_located : (limits : Allowance) (a c : Input R read) (told why : InFault) → told ≡ why → IsNext limits a c (Err (fault.Device why)) → IsLocated limits a c (Err (fault.Device told))
-  device_located limits a c told why same h = fault_located limits a c (fault.Device told) (subst (λ f. IsNext limits a c (Err (fault.Device f))) (sym same) h)
-
-  -- the engine stopped
-  pub engine_located : (limits : Allowance) (a c : Input R read) (e : BlobFault) (told offset : ℕ) (why stop : Stop) → e ≡ fault_of told why → told ≡ offset → why ≡ stop → IsNext limits a c (Err (fault_of offset stop)) → IsLocated limits a c (Err e)
-  engine_located limits a c e told offset why stop is at same h =
-      fault_located limits a c e (subst (λ f. IsNext limits a c (Err f)) (sym (is ∙ (ap (λ n. fault_of n why) at ∙ ap (λ s. fault_of offset s) same))) h)

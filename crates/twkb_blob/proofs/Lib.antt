@@ -1,3 +1,4 @@
+pub mod Trees
 pub mod Standing
 pub mod Pieces
 pub mod Blobs

@@ -1,7 +1,8 @@
 -- What a reader of geometries with their spans answers.
-use Rattle.std.specs.Prelude.{◌≡◌, ℕ, ◌-◌, ◌<◌, false, length, List, [], ◌∷◌, ◌++◌, Option, Some, None, IfOk, IfSome, Result, Ok, Err, ⊤}
+use Rattle.std.specs.Prelude.{◌≡◌, ℕ, ◌-◌, ◌<◌, Bool, true, false, length, List, [], ◌∷◌, ◌++◌, Option, Some, None, IfOk, IfSome, Result, Ok, Err, ⊤}
 use Rattle.std.specs.declared.io.traits.Read.{Ghosts}
 use Rattle.twkb_geom.specs.Tree.{Tree}
+use Rattle.twkb_geom.specs.Rows.{Row, rows}
 use Rattle.twkb_geom.specs.Limits.{Allowance}
 use Rattle.twkb_grammar.specs.Blob.{Blob}
 use Rattle.twkb_grammar.specs.Machine.{nothing}
@@ -11,7 +12,7 @@ use Rattle.twkb_grammar.specs.declared.span.Span.{Span}
 use Rattle.twkb_io.specs.declared.input.Input.{Input}
 use Rattle.twkb_io.specs.Inputs.{given, is_spent as input_spent}
 use Rattle.twkb_engine.specs.Standing.{StandsAt, RefusedIn, offset_in}
-use Rattle.twkb_engine.specs.Frames.{reason_of}
+use Rattle.twkb_engine.specs.Stops.{reason_of}
 use Rattle.twkb_engine.specs.declared.stop.Stop.TheVariants.{Memory, Refused}
 use Rattle.twkb_engine.specs.declared.engine.Engine.{Engine}
 use Rattle.twkb_engine.specs.declared.stop.Stop.{Stop}
@@ -19,9 +20,9 @@ use Rattle.twkb_engine.specs.declared.awaited.Awaited.{Awaited}
 use Rattle.twkb_engine.specs.declared.awaited.Awaited.TheVariants as awaited
 use Rattle.twkb_blob.specs.Readers.{Left, Makes, IsRead, IsNext}
 use Rattle.twkb_blob.specs.declared.fault.BlobFault.{BlobFault}
-use Rattle.twkb_blob.specs.declared.reader.Piece.{Piece}
-use Rattle.twkb_blob.specs.declared.reader.Piece.TheVariants as piece
-use Rattle.twkb_blob.specs.declared.reader.Halt.{Halt}
+use Rattle.twkb_blob.specs.declared.reading.Piece.{Piece}
+use Rattle.twkb_blob.specs.declared.reading.Piece.TheVariants as piece
+use Rattle.twkb_blob.specs.declared.reading.Halt.{Halt}
 use Rattle.twkb_blob.specs.declared.spans.Located.{Located}
 
 -- the blob of this geometry left the input, and these are its spans at the place where it stood
@@ -40,6 +41,18 @@ pub record IsLocated {R : Type 0} {read : Ghosts R} (limits : Allowance) (old ne
   pub next : IsNext limits old new (without_spans answer)
   pub spans : IfOk answer (λ found. IfSome found (λ l. HasSpans limits old new l.geometry l.spans))
 
+-- the spans of a blob that left the input; or an answer without a geometry
+abbrev pub IsSpanned : {R : Type 0} {read : Ghosts R} → Allowance → Input R read → Input R read → Result (Option (List Span)) BlobFault → Type 0
+IsSpanned limits old new (Ok (Some spans)) = (g : Tree) × HasSpans limits old new g spans
+IsSpanned limits old new (Ok None) = IsNext limits old new (Ok None)
+IsSpanned limits old new (Err why) = IsNext limits old new (Err why)
+
+-- the same, with the rows of the geometry
+abbrev pub IsSpannedFlat : {R : Type 0} {read : Ghosts R} → Allowance → Input R read → Input R read → Result (Option (List Span)) BlobFault → List Row → Type 0
+IsSpannedFlat limits old new (Ok (Some spans)) rs = (g : Tree) × HasSpans limits old new g spans × (rs ≡ rows 0 g)
+IsSpannedFlat limits old new (Ok None) rs = IsNext limits old new (Ok None)
+IsSpannedFlat limits old new (Err why) rs = IsNext limits old new (Err why)
+
 -- a span whose geometry ends at this offset, with so many points so far
 abbrev pub measured : (offset points : ℕ) → Span → Span
 measured offset points s = record s { length = offset - s.offset; points = points - s.points }
@@ -51,23 +64,23 @@ note_awaited awaited.Metadata offset points byte w = note_metadata byte w
 note_awaited awaited.Other offset points byte w = w
 
 -- the notes of the items for which an engine stands
-abbrev pub notes_at : {bytes : List ℕ} {d : Engine} → (start : ℕ) → StandsAt bytes d → Notes
-notes_at start s = noted start nothing no_notes s.reached.items
+abbrev pub notes_at : {bytes : List ℕ} {rs : List Row} {d : Engine} → (start : ℕ) → StandsAt bytes rs d → Notes
+notes_at start s = noted start nothing no_notes s.outlined.reached.items
 
 -- the engine stands for the bytes with this one, and the notes are those of their items; or they are a blob, and the notes are its spans;
 -- or an item was refused
-abbrev pub IsNotedFed : Allowance → (start : ℕ) → List ℕ → (byte : ℕ) → Result (Option Tree) Stop → Engine → Notes → Type 0
-IsNotedFed limits start bs byte (Ok None) d w = (s : StandsAt (bs ++ byte ∷ []) d) × (w ≡ notes_at start s)
-IsNotedFed limits start bs byte (Ok (Some g)) d w = (b : Blob limits (bs ++ byte ∷ []) g) × (w.spans ≡ spans_of_blob start b)
-IsNotedFed limits start bs byte (Err Memory) d w = ⊤
-IsNotedFed limits start bs byte (Err (Refused r)) d w = RefusedIn limits bs (byte ∷ []) (offset_in d) (reason_of r)
+abbrev pub IsNotedFed : Allowance → (start : ℕ) → List ℕ → (byte : ℕ) → Result Bool Stop → List Row → Engine → Notes → Type 0
+IsNotedFed limits start bs byte (Ok false) rs d w = (s : StandsAt (bs ++ byte ∷ []) rs d) × (w ≡ notes_at start s)
+IsNotedFed limits start bs byte (Ok true) rs d w = (g : Tree) × (b : Blob limits (bs ++ byte ∷ []) g) × (w.spans ≡ spans_of_blob start b) × (rs ≡ rows 0 g)
+IsNotedFed limits start bs byte (Err Memory) rs d w = ⊤
+IsNotedFed limits start bs byte (Err (Refused r)) rs d w = RefusedIn limits bs (byte ∷ []) (offset_in d) (reason_of r)
 
 -- the same, with bytes that left an input; or it gave none
 abbrev pub IsNotedRead :
     {R : Type 0} {read : Ghosts R} → Allowance → (start : ℕ) → List ℕ
-    → Input R read → Input R read → Result Piece Halt → Engine → Notes → Type 0
-IsNotedRead limits start bs old new (Ok piece.More) d w =
-    (bytes : List ℕ) × (0 < length bytes) × Left old new bytes × (s : StandsAt (bs ++ bytes) d)
+    → Input R read → Input R read → Result Piece Halt → List Row → Engine → Notes → Type 0
+IsNotedRead limits start bs old new (Ok piece.More) rs d w =
+    (bytes : List ℕ) × (0 < length bytes) × Left old new bytes × (s : StandsAt (bs ++ bytes) rs d)
     × (w ≡ notes_at start s) × (input_spent new ≡ false)
-IsNotedRead limits start bs old new (Ok (piece.Made g)) d w = (made : Makes limits bs old new g) × (w.spans ≡ spans_of_blob start made.blob)
-IsNotedRead limits start bs old new answer d w = IsRead limits bs old new answer d
+IsNotedRead limits start bs old new (Ok piece.Made) rs d w = (g : Tree) × (made : Makes limits bs old new g) × (w.spans ≡ spans_of_blob start made.blob) × (rs ≡ rows 0 g)
+IsNotedRead limits start bs old new answer rs d w = IsRead limits bs old new answer rs d

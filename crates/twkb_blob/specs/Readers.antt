@@ -3,6 +3,7 @@ use Rattle.std.specs.Prelude.{ℕ, ◌≡◌, ◌+◌, ◌<◌, ◌^◌, ◌⊎�
 use Rattle.std.specs.Io.KnownBytes.{Consumes, IsAtEnd}
 use Rattle.std.specs.declared.io.traits.Read.{Ghosts}
 use Rattle.twkb_geom.specs.Tree.{Tree}
+use Rattle.twkb_geom.specs.Rows.{Row, rows}
 use Rattle.twkb_geom.specs.Limits.{Allowance}
 use Rattle.twkb_grammar.specs.Blob.{Blob}
 use Rattle.twkb_grammar.specs.Fault.{FirstFault, Reason, Truncated}
@@ -12,18 +13,18 @@ use Rattle.twkb_io.specs.declared.input.InFault.TheVariants as stopped
 use Rattle.twkb_io.specs.declared.input.InFault.{InFault}
 use Rattle.twkb_io.specs.Inputs.{given, input_tap, rest_of, is_spent as input_spent}
 use Rattle.twkb_engine.specs.Standing.{StandsAt, offset_in}
-use Rattle.twkb_engine.specs.Frames.{reason_of}
+use Rattle.twkb_engine.specs.Stops.{reason_of}
 use Rattle.twkb_engine.specs.declared.engine.Engine.{Engine}
 use Rattle.twkb_engine.specs.declared.stop.Stop.TheVariants.{Memory, Refused}
 use Rattle.twkb_blob.specs.declared.fault.BlobFault.{BlobFault}
 use Rattle.twkb_blob.specs.declared.fault.BlobFault.TheVariants as fault
 use Rattle.twkb_blob.specs.declared.reader.Reader.{Reader}
-use Rattle.twkb_blob.specs.declared.reader.State.{State}
-use Rattle.twkb_blob.specs.declared.reader.State.TheVariants as state
-use Rattle.twkb_blob.specs.declared.reader.Piece.{Piece}
-use Rattle.twkb_blob.specs.declared.reader.Piece.TheVariants as piece
-use Rattle.twkb_blob.specs.declared.reader.Halt.{Halt}
-use Rattle.twkb_blob.specs.declared.reader.Halt.TheVariants as halt
+use Rattle.twkb_blob.specs.declared.state.State.{State}
+use Rattle.twkb_blob.specs.declared.state.State.TheVariants as state
+use Rattle.twkb_blob.specs.declared.reading.Piece.{Piece}
+use Rattle.twkb_blob.specs.declared.reading.Piece.TheVariants as piece
+use Rattle.twkb_blob.specs.declared.reading.Halt.{Halt}
+use Rattle.twkb_blob.specs.declared.reading.Halt.TheVariants as halt
 
 -- its input
 abbrev pub reader_input : {R : Type 0} {read : Ghosts R} → Reader R read → Input R read
@@ -92,15 +93,15 @@ pub record Makes {R : Type 0} {read : Ghosts R} (limits : Allowance) (bs : List 
   pub blob : Blob limits (bs ++ bytes) g
   pub unspent : input_spent new ≡ false
 
--- Some bytes left the input, and make a blob so far, or a blob; or there are none; or with what is known of the rest they
--- have a first fault.
-abbrev pub IsRead : {R : Type 0} {read : Ghosts R} → Allowance → List ℕ → Input R read → Input R read → Result Piece Halt → Engine → Type 0
-IsRead limits bs old new (Ok piece.More) d = (bytes : List ℕ) × (0 < length bytes) × Left old new bytes × StandsAt (bs ++ bytes) d × (input_spent new ≡ false)
-IsRead limits bs old new (Ok (piece.Made g)) d = Makes limits bs old new g
-IsRead limits bs old new (Ok piece.End) d = IsAtEnd (rest_of old) × Left old new [] × StandsAt bs d
-IsRead limits bs old new (Err (halt.Device why)) d = Stops why old new × StandsAt bs d
-IsRead limits bs old new (Err (halt.Engine Memory)) d = ⊤
-IsRead limits bs old new (Err (halt.Engine (Refused r))) d = IfSome (rest_of old) (λ rest. FirstFault limits (bs ++ rest) (offset_in d) (reason_of r))
+-- Some bytes left the input, and make a blob so far, with these rows, or a blob; or there are none; or with what is known of the rest
+-- they have a first fault.
+abbrev pub IsRead : {R : Type 0} {read : Ghosts R} → Allowance → List ℕ → Input R read → Input R read → Result Piece Halt → List Row → Engine → Type 0
+IsRead limits bs old new (Ok piece.More) rs d = (bytes : List ℕ) × (0 < length bytes) × Left old new bytes × StandsAt (bs ++ bytes) rs d × (input_spent new ≡ false)
+IsRead limits bs old new (Ok piece.Made) rs d = (g : Tree) × Makes limits bs old new g × (rs ≡ rows 0 g)
+IsRead limits bs old new (Ok piece.End) rs d = IsAtEnd (rest_of old) × Left old new [] × StandsAt bs rs d
+IsRead limits bs old new (Err (halt.Device why)) rs d = Stops why old new × StandsAt bs rs d
+IsRead limits bs old new (Err (halt.Engine Memory)) rs d = ⊤
+IsRead limits bs old new (Err (halt.Engine (Refused r))) rs d = IfSome (rest_of old) (λ rest. FirstFault limits (bs ++ rest) (offset_in d) (reason_of r))
 
 -- The known bytes have this first fault; the offset counts from where the input began to give out bytes.
 pub record RefusedKnown (limits : Allowance) (before : ℕ) (rest : List ℕ) (offset : ℕ) (reason : Reason) : Type 0 where
@@ -116,6 +117,12 @@ IsNext limits old new (Err fault.Memory) = ⊤
 IsNext limits old new (Err (fault.Device why)) = StopsWithin limits why old new
 IsNext limits old new (Err fault.Spent) = ⊥
 IsNext limits old new (Err (fault.At offset reason)) = IfSome (rest_of old) (λ rest. RefusedKnown limits (given old) rest offset (reason_of reason))
+
+-- The answer of a reader into a flat form: the rows of a geometry whose blob left the input; or an answer without a geometry.
+abbrev pub IsNextFlat : {R : Type 0} {read : Ghosts R} → Allowance → Input R read → Input R read → Result Bool BlobFault → List Row → Type 0
+IsNextFlat limits old new (Ok true) rs = (g : Tree) × Makes limits [] old new g × (rs ≡ rows 0 g)
+IsNextFlat limits old new (Ok false) rs = IsNext limits old new (Ok None)
+IsNextFlat limits old new (Err why) rs = IsNext limits old new (Err why)
 
 -- whether a piece was missing because the reader failed
 abbrev pub halted_by_read : Result Piece Halt → Bool

@@ -1,11 +1,12 @@
 -- What a session stands for.
-use Rattle.std.specs.Prelude.{ℕ, ◌≡◌, ◌+◌, ◌<◌, ◌≤◌, ◌^◌, List, [], ◌∷◌, ◌++◌, length, take, Bool, false, Option, Some, None, Result, Ok, Err, ⊤}
+use Rattle.std.specs.Prelude.{ℕ, ◌≡◌, ◌+◌, ◌-◌, ◌<◌, ◌≤◌, ◌^◌, ◌⊎◌, if◌then◌else◌, List, [], ◌∷◌, ◌++◌, length, take, Bool, true, false, Option, Some, None, Result, Ok, Err, ⊤}
 use Rattle.twkb_geom.specs.Tree.{Tree}
+use Rattle.twkb_geom.specs.Rows.{Row, rows}
 use Rattle.twkb_geom.specs.Limits.{Allowance}
 use Rattle.twkb_grammar.specs.Blob.{Stream}
-use Rattle.twkb_grammar.specs.Fault.{StreamFault}
+use Rattle.twkb_grammar.specs.Fault.{StreamFault, Truncated}
 use Rattle.twkb_engine.specs.Standing.{StandsAt, allowance_of, held_in, open_in}
-use Rattle.twkb_engine.specs.Frames.{reason_of}
+use Rattle.twkb_engine.specs.Stops.{reason_of}
 use Rattle.twkb_io.specs.declared.input.InFault.TheVariants.{TooLong}
 use Rattle.twkb_blob.specs.Faults.{RefusedAt}
 use Rattle.twkb_blob.specs.declared.session.Session.{Session}
@@ -28,15 +29,33 @@ session_held s = length (held_in s.engine)
 abbrev pub session_open : Session → ℕ
 session_open s = open_in s.engine
 
--- it is not spent, and the bytes are blobs of these geometries, and then a part and the bytes that it holds of a number
+-- the rows in its form
+abbrev pub session_rows : Session → List Row
+session_rows s = s.flat
+
+-- the rows of the geometry that is read: none where the form still has those of the last one
+abbrev pub begun_rows : Session → List Row
+begun_rows s = if s.is_whole then [] else s.flat
+
+-- it is not spent, and the bytes, at most 2^62, are blobs of these geometries, and then a part and the bytes that it holds of a number
 pub record Stands (bytes : List ℕ) (gs : List Tree) (s : Session) : Type 0 where
   pub front : List ℕ
   pub rest : List ℕ
   pub whole : bytes ≡ front ++ rest
+  pub few : length bytes ≤ 2 ^ 62
   pub blobs : Stream (session_limits s) front gs
-  pub begun : StandsAt rest s.engine
+  pub begun : StandsAt rest (begun_rows s) s.engine
   pub start : s.start ≡ length front
   pub live : s.spent ≡ false
+
+-- the bytes are blobs of these geometries, or these and then a blob that they end in
+abbrev pub AreBegun : Allowance → List ℕ → List Tree → Type 0
+AreBegun limits bytes gs = Stream limits bytes gs ⊎ ((offset : ℕ) × StreamFault limits bytes gs offset Truncated)
+
+-- the piece goes past 2^62 bytes, and up to there no geometry ends in it and no item is refused
+pub record IsTooLong (limits : Allowance) (bytes : List ℕ) (gs : List Tree) (piece : List ℕ) : Type 0 where
+  pub past : 2 ^ 62 < length bytes + length piece
+  pub begun : AreBegun limits (bytes ++ take (2 ^ 62 - length bytes) piece) gs
 
 -- A feed uses the whole piece, or up to the end of a geometry, which is the next one of the stream; or an item ends in the
 -- piece that is refused; or the piece goes past 2^62 bytes.
@@ -45,9 +64,15 @@ FedSession bytes gs piece (Ok (used, None)) s = (used ≡ length piece) × Stand
 FedSession bytes gs piece (Ok (used, Some g)) s =
     (0 < used) × (used ≤ length piece) × Stream (session_limits s) (bytes ++ take used piece) (gs ++ g ∷ []) × Stands (bytes ++ take used piece) (gs ++ g ∷ []) s
 FedSession bytes gs piece (Err fault.Memory) s = ⊤
-FedSession bytes gs piece (Err (fault.Device why)) s = (why ≡ TooLong) × (2 ^ 62 < length bytes + length piece)
+FedSession bytes gs piece (Err (fault.Device why)) s = (why ≡ TooLong) × IsTooLong (session_limits s) bytes gs piece
 FedSession bytes gs piece (Err fault.Spent) s = ⊥
 FedSession bytes gs piece (Err (fault.At offset reason)) s = RefusedAt (session_limits s) bytes gs piece offset (reason_of reason)
+
+-- The same, with the rows of the geometry in the form.
+abbrev pub FedFlat : List ℕ → List Tree → List ℕ → Result (ℕ × Bool) BlobFault → Session → Type 0
+FedFlat bytes gs piece (Ok (used, false)) s = FedSession bytes gs piece (Ok (used, None)) s
+FedFlat bytes gs piece (Ok (used, true)) s = (g : Tree) × FedSession bytes gs piece (Ok (used, Some g)) s × (session_rows s ≡ rows 0 g)
+FedFlat bytes gs piece (Err why) s = FedSession bytes gs piece (Err why) s
 
 -- The bytes are a stream, or blobs and then a blob that they end in.
 abbrev pub Finished : {A : Type 0} → Allowance → List ℕ → List Tree → Result A BlobFault → Type 0

@@ -2,12 +2,15 @@
 #![tactic(auto)]
 
 mod fault;
+mod kept;
 pub mod laws;
 mod located;
 mod notes;
 mod reader;
+mod reading;
 mod session;
 mod spans;
+mod state;
 
 pub use fault::BlobFault;
 pub use reader::Reader;

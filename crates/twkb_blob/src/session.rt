@@ -1,19 +1,26 @@
 //! A stream of blobs that comes in pieces.
-ghost use Rattle.std.specs.Prelude.{◌≡◌, ◌≤◌, ◌^◌, ◌↔◌, ◌+◌, [], List, ℕ, true, false, Err, is_err, length};
+ghost use Rattle.std.specs.Prelude.{◌≡◌, ◌≤◌, ◌^◌, ◌↔◌, ◌+◌, [], List, ℕ, true, false, Ok, Err, None, is_err, length, IfOk, IfSome};
 ghost use Rattle.twkb_geom.specs.Tree.{Tree};
+ghost use Rattle.twkb_geom.specs.Rows.{rows};
+ghost use Rattle.twkb_geom.specs.Limits.{IsValid, largest_limits};
 ghost use Rattle.twkb_engine.specs.Standing.{count_of, held_in, open_in};
 
 use crate::fault::{BlobFault, fault_at};
-use std::alloc::Global;
+use std::alloc::{AllocError, Global};
 use twkb_engine::{BlobReason, Engine};
+use twkb_flat::Flat;
 use twkb_geom::{Geometry, Limits};
 use twkb_io::{InFault, MAX_BYTES};
 
-/// A stream of blobs that comes in pieces. It keeps its limits, the parts of the geometry that is read and at most nine
-/// bytes of a number, and no other byte of the stream.
+/// A stream of blobs that comes in pieces. It keeps its limits, the rows of the geometry that is read, as far as they came, and at most
+/// nine bytes of a number, and no other byte of the stream.
 #[derive(Drop)]
 pub struct Session {
+    alloc: Global,
     engine: Engine,
+    flat: Flat,
+    /// Whether the form still has the rows of the last geometry.
+    is_whole: bool,
     start: u64,
     spent: bool,
     ghost start_few: { start ≤ 2 ^ 62 },
@@ -21,59 +28,133 @@ pub struct Session {
 }
 
 impl Session {
-    ghost use Rattle.twkb_blob.specs.Sessions.{Stands, FedSession, Finished, is_spent, session_limits, session_held, session_open};
+    ghost use Rattle.twkb_blob.specs.Sessions.{Stands, FedFlat, FedSession, Finished, is_spent, session_limits, session_held, session_open, session_rows};
 
     /// A session before the first byte. Takes no memory.
     pub fn new(alloc: Global, limits: Limits) -> Session
         ensures stands { Stands [] [] result }
         ensures limits { session_limits result ≡ limits }
         ensures fresh { is_spent result ≡ false }
+        ensures rows { session_rows result ≡ [] }
     {
         Session {
+            alloc,
             engine: Engine::new(alloc, limits),
+            flat: Flat::new(alloc),
+            is_whole: false,
             start: 0,
             spent: false,
         }
     }
 
-    /// Takes bytes of the piece up to the end of a geometry, else all of them, and answers how many. After an `Err` each
-    /// call answers `Spent`. It takes memory for what it keeps, and none for a count that it reads.
+    /// Takes bytes of the piece up to the end of a geometry, else all of them, and answers how many. A stream has at most 2^62 bytes: what ends
+    /// or is refused before comes first, and only then `TooLong`. After an `Err` each call answers `Spent`. It takes memory for what it keeps
+    /// and for the geometry, and none for a count that it reads.
     pub fn feed(&mut self, piece: &[u8]) -> Result<(usize, Option<Geometry>), BlobFault>
         ensures fed { (bytes : List ℕ) (gs : List Tree) → Stands bytes gs self.old → FedSession bytes gs piece.now result self.new }
         ensures spent { (result ≡ Err BlobFault.Spent) ↔ (is_spent self.old ≡ true) }
         ensures stays { is_spent self.new ≡ is_err result }
         ensures limits { session_limits self.new ≡ session_limits self.old }
     {
-        twkb_grammar::laws::reading();
+        twkb_geom::laws::one_reading();
+        let used = match self.feed_flat(piece) {
+            Ok((used, true)) => used,
+            Ok((used, false)) => return Ok((used, None)),
+            Err(fault) => return Err(fault),
+        };
+        match self.tree() {
+            Ok(Some(geometry)) => Ok((used, Some(geometry))),
+            // a geometry has rows: no session that stands for a stream comes here
+            Ok(None) => Ok((used, None)),
+            Err(_) => {
+                self.give_up();
+                Err(BlobFault::Memory)
+            }
+        }
+    }
+
+    // The tree of the rows in the form, if there are any.
+    fn tree(&self) -> Result<Option<Geometry>, AllocError>
+        ensures rows { IfOk result (λ found. IfSome found (λ g. rows 0 g ≡ session_rows self.now)) }
+        ensures valid { IfOk result (λ found. IfSome found (λ g. IsValid largest_limits g)) }
+        ensures none { result ≡ Ok None → session_rows self.now ≡ [] }
+    {
+        if self.flat.is_empty() {
+            return Ok(None);
+        }
+        match self.flat.to_geometry(self.alloc) {
+            Ok(geometry) => Ok(Some(geometry)),
+            Err(refused) => Err(refused),
+        }
+    }
+
+    // Has each further call answer `Spent`.
+    fn give_up(&mut self)
+        ensures spent { self.new.spent ≡ true }
+        ensures engine { self.new.engine ≡ self.old.engine }
+    {
+        self.spent = true;
+    }
+
+    /// Takes bytes as `feed` does, and answers how many, and whether a geometry ends behind them, whose rows `flat` then lends until the next
+    /// call. Calls of it and of `feed` may be mixed. It takes memory for what it keeps, and none once that has room.
+    pub fn feed_flat(&mut self, piece: &[u8]) -> Result<(usize, bool), BlobFault>
+        ensures fed { (bytes : List ℕ) (gs : List Tree) → Stands bytes gs self.old → FedFlat bytes gs piece.now result self.new }
+        ensures spent { (result ≡ Err BlobFault.Spent) ↔ (is_spent self.old ≡ true) }
+        ensures stays { is_spent self.new ≡ is_err result }
+        ensures limits { session_limits self.new ≡ session_limits self.old }
+    {
         twkb_grammar::laws::one_stream();
+        twkb_outline::laws::reading();
         if self.spent {
             return Err(BlobFault::Spent);
         }
+        self.begin();
         self.spent = true;
         let taken = self.start + self.engine.offset() + self.engine.held() as u64;
-        if taken > MAX_BYTES || piece.len() as u64 > MAX_BYTES - taken {
+        let Some(room) = MAX_BYTES.checked_sub(taken) else {
             return Err(BlobFault::Device(InFault::TooLong));
-        }
-        match self.engine.take_byte(piece) {
-            Ok(true) => {
-                self.spent = false;
-                return Ok((1, None));
-            }
-            Ok(false) => {}
-            Err(stop) => return Err(fault_at(self.start + self.engine.offset(), stop)),
-        }
-        match self.engine.feed(piece) {
-            Ok((used, None)) => {
-                self.spent = false;
-                Ok((used, None))
-            }
-            Ok((used, Some(geometry))) => {
+        };
+        let count = room.min(piece.len() as u64) as usize;
+        match self.engine.feed(&mut self.flat, &piece[..count]) {
+            Ok((used, true)) => {
+                self.is_whole = true;
                 self.start = taken + used as u64;
                 self.spent = false;
-                Ok((used, Some(geometry)))
+                Ok((used, true))
+            }
+            Ok((used, false)) => {
+                if count < piece.len() {
+                    let _between = self.engine.is_between();
+                    return Err(BlobFault::Device(InFault::TooLong));
+                }
+                self.spent = false;
+                Ok((used, false))
             }
             Err(stop) => Err(fault_at(self.start + self.engine.offset(), stop)),
         }
+    }
+
+    // Clears the form where it still has the rows of the last geometry.
+    fn begin(&mut self)
+        ensures stands { (bytes : List ℕ) (gs : List Tree) → Stands bytes gs self.old → Stands bytes gs self.new }
+        ensures open { self.new.is_whole ≡ false }
+        ensures engine { self.new.engine ≡ self.old.engine }
+        ensures start { self.new.start ≡ self.old.start }
+        ensures spent { self.new.spent ≡ self.old.spent }
+    {
+        if self.is_whole {
+            self.flat.clear();
+            self.is_whole = false;
+        }
+    }
+
+    /// The rows of the geometry that the last call gave; behind any other call, those of the geometry that is read, as far as they came. Takes
+    /// no memory.
+    pub fn flat(&self) -> &Flat
+        ensures { result.now ≡ session_rows self.now }
+    {
+        &self.flat
     }
 
     /// The stream ends here: `Ok` between two blobs, else `Truncated`. Afterwards each call answers `Spent`. Takes no memory.

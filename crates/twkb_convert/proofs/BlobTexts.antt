@@ -1,16 +1,16 @@
 -- The text of one blob, from the parts that were put.
 use Rattle.std.specs.Prelude.{map}
-use Rattle.std.proofs.Common.{◌≡◌, ◌∙◌, ℕ, List, [], ◌∷◌, ◌++◌, Option, Some, Ok, ap, refl, subst, append_assoc}
+use Rattle.std.proofs.Common.{Bool, true, ◌≡◌, ◌∙◌, ℕ, List, [], ◌∷◌, ◌++◌, Option, Some, Ok, ap, refl, subst, append_assoc}
 use Rattle.std.specs.declared.io.traits.Read.{Ghosts}
 use Rattle.twkb_geom.specs.Tree.{Tree}
-use Rattle.twkb_geom.specs.Rows.{rows}
+use Rattle.twkb_geom.specs.Rows.{Row}
 use Rattle.twkb_grammar.specs.Spans.{spans_of_blob}
 use Rattle.twkb_table.specs.Record.{record_of}
 use Rattle.twkb_table.specs.Text.{csvtext}
-use Rattle.twkb_blob.specs.Located.{HasSpans, IsLocated}
-use Rattle.twkb_blob.specs.Readers.{IsNext, Makes, reader_input}
+use Rattle.twkb_blob.specs.Located.{HasSpans, IsSpanned}
+use Rattle.twkb_blob.specs.Readers.{IsNextFlat, reader_input}
 use Rattle.twkb_blob.specs.declared.reader.Reader.{Reader}
-use Rattle.twkb_blob.specs.declared.spans.Located.{Located}
+use Rattle.twkb_grammar.specs.declared.span.Span.{Span}
 use Rattle.twkb_convert.specs.BlobReading.{given, limits_of}
 use Rattle.twkb_convert.specs.BlobSending.{GivesText}
 use Rattle.twkb_convert.specs.SpanLines.{span_lines}
@@ -25,25 +25,25 @@ words_put old level offset kind precision metadata length points a b c d e f ea 
     ap (λ t. t ++ (points ++ 10 ∷ [])) whole ∙ simp (append_assoc)
 
 module _ {R : Type 0} {read : Ghosts R} (from to : Reader R read) where
-  -- a geometry's rows
-  made_rows : (g : Tree) (text : List ℕ) → Makes (limits_of from) [] (reader_input from) (reader_input to) g → text ≡ csvtext (map record_of (rows 0 g)) → GivesText listing.Table from to text
-  made_rows g text made own = record {
-    found = record { geometry = g; spans = spans_of_blob (given from) made.blob };
+  -- the rows of a geometry, as a form has them
+  made_rows : (rs : List Row) (text : List ℕ) → IsNextFlat (limits_of from) (reader_input from) (reader_input to) (Ok true) rs → text ≡ csvtext (map record_of rs) → GivesText listing.Table from to text
+  made_rows rs text next own = record {
+    found = record { geometry = next.0; spans = spans_of_blob (given from) next.1.blob };
     gives = record {
-      front = made.bytes;
-      tells = record { blob = made.blob; told = refl };
-      used = record { consumed = made.left.consumed; counted = made.left.counted };
+      front = next.1.bytes;
+      tells = record { blob = next.1.blob; told = refl };
+      used = record { consumed = next.1.left.consumed; counted = next.1.left.counted };
     };
-    own = own;
+    own = own ∙ ap (λ (q : List Row). csvtext (map record_of q)) next.2;
   }
 
-  pub rows_given : (found : Option Tree) (g : Tree) (text : List ℕ) → IsNext (limits_of from) (reader_input from) (reader_input to) (Ok found) → found ≡ Some g → text ≡ csvtext (map record_of (rows 0 g)) → GivesText listing.Table from to text
-  rows_given found g text next is own = made_rows g text (subst (λ f. IsNext (limits_of from) (reader_input from) (reader_input to) (Ok f)) is next) own
+  pub rows_given : (found : Bool) (rs : List Row) (text : List ℕ) → IsNextFlat (limits_of from) (reader_input from) (reader_input to) (Ok found) rs → found ≡ true → text ≡ csvtext (map record_of rs) → GivesText listing.Table from to text
+  rows_given found rs text next is own = made_rows rs text (subst (λ f. IsNextFlat (limits_of from) (reader_input from) (reader_input to) (Ok f) rs) is next) own
 
   -- the lines of a blob's spans
-  told_lines : (b : Located) (text : List ℕ) → HasSpans (limits_of from) (reader_input from) (reader_input to) b.geometry b.spans → text ≡ span_lines b.spans → GivesText listing.Headers from to text
-  told_lines b text has own = record {
-    found = b;
+  told_lines : (g : Tree) (spans : List Span) (text : List ℕ) → HasSpans (limits_of from) (reader_input from) (reader_input to) g spans → text ≡ span_lines spans → GivesText listing.Headers from to text
+  told_lines g spans text has own = record {
+    found = record { geometry = g; spans = spans };
     gives = record {
       front = has.made.bytes;
       tells = record { blob = has.made.blob; told = has.told };
@@ -52,6 +52,7 @@ module _ {R : Type 0} {read : Ghosts R} (from to : Reader R read) where
     own = own;
   }
 
-  pub lines_given : (found : Option Located) (b : Located) (text : List ℕ) → IsLocated (limits_of from) (reader_input from) (reader_input to) (Ok found) → found ≡ Some b → text ≡ span_lines b.spans → GivesText listing.Headers from to text
-  lines_given found b text next is own =
-      told_lines b text (let here = subst (λ f. IsLocated (limits_of from) (reader_input from) (reader_input to) (Ok f)) is next in here.spans) own
+  pub lines_given : (found : Option (List Span)) (spans : List Span) (text : List ℕ) → IsSpanned (limits_of from) (reader_input from) (reader_input to) (Ok found) → found ≡ Some spans → text ≡ span_lines spans → GivesText listing.Headers from to text
+  lines_given found spans text next is own =
+      let here = subst (λ f. IsSpanned (limits_of from) (reader_input from) (reader_input to) (Ok f)) is next in
+      told_lines here.0 spans text here.1 own

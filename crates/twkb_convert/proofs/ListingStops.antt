@@ -2,7 +2,7 @@
 use Rattle.std.proofs.Common.{◌≡◌, ◌∙◌, ◌+◌, ◌<◌, ◌^◌, ℕ, List, [], ◌++◌, Option, Some, None, Bool, true, false, length, ap, arith, refl, sym, subst, inl, inr}
 use Rattle.std.specs.Prelude.{IfSome, ◌⊎◌}
 use Rattle.std.proofs.lemmas.List.{append-nil}
-use Rattle.std.specs.Io.KnownBytes.{Appends}
+use Rattle.std.specs.Io.KnownBytes.{Appends, IsAtEnd}
 use Rattle.std.specs.declared.io.traits.Read.{Ghosts}
 use Rattle.twkb_io.specs.Copies.{BeginsWith}
 use Rattle.twkb_io.specs.Taps.{count_failure, device_of, failures_of}
@@ -15,7 +15,7 @@ use Rattle.twkb_geom.specs.Tree.{Tree}
 use Rattle.twkb_geom.specs.Limits.{Allowance}
 use Rattle.twkb_grammar.specs.Blob.{Stream}
 use Rattle.twkb_grammar.specs.Fault.{StreamFault}
-use Rattle.twkb_engine.specs.Frames.{reason_of}
+use Rattle.twkb_engine.specs.Stops.{reason_of}
 use Rattle.twkb_convert.specs.BlobReading.{RefusesBlob, given, limits_of, reader_failures, reader_tap, rest_of, told_of}
 use Rattle.twkb_engine.specs.declared.blob_reason.BlobReason.{BlobReason}
 use Rattle.twkb_blob.specs.declared.reader.Reader.{Reader}
@@ -23,9 +23,9 @@ use Rattle.twkb_blob.specs.declared.fault.BlobFault.TheVariants as blob
 use Rattle.twkb_blob.specs.declared.spans.Located.{Located}
 use Rattle.twkb_convert.specs.LocatedBlobs.{LocatedStream, geometries_of}
 use Rattle.twkb_convert.specs.Listings.{listing_text}
-use Rattle.twkb_convert.specs.BlobSending.{CutListing, ExplainsObstacle, StopsRead, is_read, is_write}
+use Rattle.twkb_convert.specs.BlobSending.{CutListing, ExplainsObstacle, Follows, IsEnded, SentListing, StopsRead, is_read, is_write}
 use Rattle.twkb_convert.specs.Devices.{IsDeviceCause}
-use Rattle.twkb_convert.specs.Listed.{ExplainsListingCause, StoppedListing, cause_of_obstacle}
+use Rattle.twkb_convert.specs.Listed.{ExplainsListingCause, Listed, StoppedListing, cause_of_obstacle}
 use Rattle.twkb_convert.specs.declared.listing.Listing.{Listing}
 use Rattle.twkb_convert.specs.declared.halt.Obstacle.{Obstacle}
 use Rattle.twkb_convert.specs.declared.halt.Obstacle.TheVariants as obstacle
@@ -103,6 +103,35 @@ caused what l old told before bytes (obstacle.Output out.Write) sent whole later
 caused what l old told before bytes (obstacle.Output out.Stuck) sent whole later left start none blobs e = tt
 caused what l old told before bytes (obstacle.Output out.TooLong) sent whole later left start none blobs e = inr (let far = e.0 refl in omega (arith, far, none))
 caused what l old told before bytes (obstacle.Output out.Spent) sent whole later left start none blobs e = absurd (e.1 refl)
+
+-- ---- the end
+
+-- the known bytes are those of the blobs
+known_stream : (l : Allowance) (known : Option (List ℕ)) (bytes : List ℕ) (found : List Located) → LocatedStream l 0 bytes found → IfSome known (λ whole. whole ≡ bytes) → IfSome known (λ whole. LocatedStream l 0 whole found)
+known_stream l None bytes found blobs all = tt
+known_stream l (Some whole) bytes found blobs all = subst (λ bs. LocatedStream l 0 bs found) (sym all) blobs
+
+module _ {R W : Type 0} {read : Ghosts R} (what : Listing) (remaining : R → Option (List ℕ)) (contents : W → Option (List ℕ)) where
+  pub listed : (l : Allowance) (reader after : Tap R) (writer written : Tap W) (from to : Reader R read) (old new : Output W) (done sent : ℕ)
+      → limits_of from ≡ l → rest_of from ≡ remaining (device_of reader) → given from ≡ 0 → reader_failures from ≡ failures_of reader
+      → (output_tap old).now ≡ writer → sent_of old ≡ 0 → sent ≡ sent_of new
+      → (reader_tap to).now ≡ after → (output_tap new).now ≡ written
+      → SentListing what contents from old new done → Follows from to false × IsEnded remaining from to
+      → Listed (LocatedStream l 0) (listing_text what) remaining contents reader writer (record { geometries = done; bytes = sent }) after written
+  listed l reader after writer written from to old new done sent limits told start failures lent none count ends closes sends (follows, ended) =
+      let blobs : LocatedStream l 0 sends.bytes sends.found = subst (λ n. LocatedStream l n sends.bytes sends.found) start (subst (λ a. LocatedStream a (given from) sends.bytes sends.found) limits sends.blobs) in
+      record {
+        found = sends.found;
+        stream = subst (λ k. IfSome k (λ bytes. LocatedStream l 0 bytes sends.found)) told (known_stream l (rest_of from) sends.bytes sends.found blobs sends.all);
+        appends = subst (λ t. Appends (contents (device_of t)) (contents (device_of written)) (listing_text what sends.found)) lent
+            (subst (λ t. Appends (contents (device_of (output_tap old).now)) (contents (device_of t)) (listing_text what sends.found)) closes sends.took.sends.appends);
+        geometries = sends.count;
+        bytes = (let more = sends.took.sends.sent in omega (arith, more, count, none));
+        end = subst (λ k. IfSome k (λ bytes. IsAtEnd (remaining (device_of after)))) told
+            (subst (λ t. IfSome (rest_of from) (λ bytes. IsAtEnd (remaining (device_of t)))) ends ended);
+        reads = ap failures_of (sym ends) ∙ (follows.failures ∙ failures);
+        writes = ap failures_of (sym closes) ∙ (sends.took.failures ∙ ap failures_of lent);
+      }
 
 -- ---- the stop
 

@@ -9,7 +9,7 @@ use Rattle.twkb_io.specs.Inputs as Inputs
 use Rattle.twkb_geom.specs.Limits.{Allowance}
 use Rattle.twkb_grammar.specs.Fault.{FirstFault}
 use Rattle.twkb_engine.specs.declared.blob_reason.BlobReason.{BlobReason}
-use Rattle.twkb_engine.specs.Frames.{reason_of}
+use Rattle.twkb_engine.specs.Stops.{reason_of}
 use Rattle.twkb_blob.specs.Readers.{AreCutOff, reader_input, reader_limits, told_by}
 use Rattle.twkb_blob.specs.declared.fault.BlobFault.{BlobFault}
 use Rattle.twkb_blob.specs.declared.fault.BlobFault.TheVariants as stop

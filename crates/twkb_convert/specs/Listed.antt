@@ -9,7 +9,7 @@ use Rattle.twkb_io.specs.declared.output.OutFault.TheVariants as out
 use Rattle.twkb_geom.specs.Tree.{Tree}
 use Rattle.twkb_geom.specs.Limits.{Allowance}
 use Rattle.twkb_grammar.specs.Fault.{StreamFault}
-use Rattle.twkb_engine.specs.Frames.{reason_of}
+use Rattle.twkb_engine.specs.Stops.{reason_of}
 use Rattle.twkb_blob.specs.declared.fault.BlobFault.TheVariants as blob
 use Rattle.twkb_convert.specs.Devices.{CountsOne, DevicesTell}
 use Rattle.twkb_convert.specs.BlobReading.{GaveOnly}

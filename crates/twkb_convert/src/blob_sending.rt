@@ -1,10 +1,9 @@
 //! The texts of a stream's blobs, sent one after another.
-ghost use Rattle.std.specs.Prelude.{◌≡◌, ◌≤◌, false, true, IfOk, IfErr, OnOk};
+ghost use Rattle.std.specs.Prelude.{◌≡◌, false, true, IfOk, IfErr, OnOk};
 ghost use Rattle.twkb_io.specs.Outputs as Outputs;
 ghost use Rattle.twkb_io.specs.Taps.{has_unflushed};
-ghost use Rattle.twkb_geom.specs.Limits.{largest_limits};
 ghost use Rattle.twkb_blob.specs.Readers.{has_ended, is_spent};
-ghost use Rattle.twkb_convert.specs.BlobReading.{is_input_spent, limits_of};
+ghost use Rattle.twkb_convert.specs.BlobReading.{is_input_spent};
 ghost use Rattle.twkb_convert.specs.BlobSending.{CutBlobs, CutListing, EndsBlobs, Follows, IsEnded, SentAllBlobs, SentBlob, SentListing, StopsBlob, StopsRead, UnlessOutput};
 
 use crate::blob_text::next_text;
@@ -13,6 +12,7 @@ use crate::listing::{Listing, first_text};
 use std::alloc::Global;
 use std::io::{Read, Write};
 use twkb_blob::Reader;
+use twkb_flat::Flat;
 use twkb_io::{Output, Sink};
 
 /// Sends what is written of a stream, and flushes the output where it refused no put.
@@ -25,7 +25,6 @@ pub(crate) fn send_listing_and_flush<R: Read, W: Write>(
     requires reader { is_spent reader.old ≡ false }
     requires going_on { has_ended reader.old ≡ false }
     requires input { is_input_spent reader.old ≡ false }
-    requires nest { (limits_of reader.old).nest ≤ largest_limits.nest }
     requires output { Outputs.is_spent output.old ≡ false }
     ensures ok { IfOk result (λ done. SentListing what W.contents reader.old output.old output.new done) }
     ensures unfailed { IfOk result (λ done. Follows reader.old reader.new false × IsEnded R.remaining reader.old reader.new) }
@@ -68,7 +67,6 @@ fn send_listing<R: Read, W: Write>(
     requires reader { is_spent reader.old ≡ false }
     requires going_on { has_ended reader.old ≡ false }
     requires input { is_input_spent reader.old ≡ false }
-    requires nest { (limits_of reader.old).nest ≤ largest_limits.nest }
     requires output { Outputs.is_spent output.old ≡ false }
     ensures ok { IfOk result (λ done. SentListing what W.contents reader.old output.old output.new done) }
     ensures unfailed { IfOk result (λ done. Follows reader.old reader.new false × IsEnded R.remaining reader.old reader.new) }
@@ -94,7 +92,6 @@ fn send_blobs<R: Read, W: Write>(
     requires reader { is_spent reader.old ≡ false }
     requires going_on { has_ended reader.old ≡ false }
     requires input { is_input_spent reader.old ≡ false }
-    requires nest { (limits_of reader.old).nest ≤ largest_limits.nest }
     requires output { Outputs.is_spent output.old ≡ false }
     ensures ok { IfOk result (λ done. SentAllBlobs what W.contents reader.old output.old output.new done) }
     ensures unfailed { IfOk result (λ done. Follows reader.old reader.new false × IsEnded R.remaining reader.old reader.new) }
@@ -102,10 +99,11 @@ fn send_blobs<R: Read, W: Write>(
     ensures stops { IfErr result (λ halt. StopsRead reader.old halt.obstacle reader.new) }
 {
     twkb_grammar::laws::some_byte();
+    let mut form = Flat::new(alloc);
     let mut text = Vec::new(alloc);
     let mut done = 0;
     loop {
-        match send_blob(what, alloc, reader, &mut text, output) {
+        match send_blob(what, alloc, reader, &mut form, &mut text, output) {
             Ok(true) => done += 1,
             Ok(false) => return Ok(done),
             Err(obstacle) => return Err(Halt { done, obstacle }),
@@ -118,13 +116,13 @@ fn send_blob<R: Read, W: Write>(
     what: Listing,
     alloc: Global,
     reader: &mut Reader<'_, R>,
+    form: &mut Flat,
     text: &mut Vec<u8>,
     output: &mut Output<'_, W>,
 ) -> Result<bool, Obstacle>
     requires reader { is_spent reader.old ≡ false }
     requires going_on { has_ended reader.old ≡ false }
     requires input { is_input_spent reader.old ≡ false }
-    requires nest { (limits_of reader.old).nest ≤ largest_limits.nest }
     requires output { Outputs.is_spent output.old ≡ false }
     ensures more { IfOk result (λ found. found ≡ true → SentBlob what W.contents reader.old output.old reader.new output.new) }
     ensures fresh { IfOk result (λ found. is_spent reader.new ≡ false) }
@@ -135,7 +133,7 @@ fn send_blob<R: Read, W: Write>(
     ensures err { IfErr result (λ obstacle. StopsBlob what W.contents reader.old output.old obstacle reader.new output.new) }
     ensures stops { IfErr result (λ obstacle. StopsRead reader.old obstacle reader.new) }
 {
-    if !next_text(what, alloc, reader, text)? {
+    if !next_text(what, alloc, reader, form, text)? {
         return Ok(false);
     }
     if let Err(fault) = output.put(text.as_slice()) {

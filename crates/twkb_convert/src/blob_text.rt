@@ -1,8 +1,7 @@
 //! The text of the next blob of a stream.
-ghost use Rattle.std.specs.Prelude.{◌≡◌, ◌≤◌, false, true, IfOk, IfErr};
-ghost use Rattle.twkb_geom.specs.Limits.{largest_limits};
+ghost use Rattle.std.specs.Prelude.{◌≡◌, false, true, IfOk, IfErr};
 ghost use Rattle.twkb_blob.specs.Readers.{has_ended, is_spent};
-ghost use Rattle.twkb_convert.specs.BlobReading.{is_input_spent, limits_of};
+ghost use Rattle.twkb_convert.specs.BlobReading.{is_input_spent};
 ghost use Rattle.twkb_convert.specs.BlobSending.{EndsBlobs, Follows, GivesText, StopsRead, StopsText};
 
 use crate::halt::Obstacle;
@@ -11,19 +10,21 @@ use crate::span_line::put_lines;
 use std::alloc::Global;
 use std::io::Read;
 use twkb_blob::Reader;
-use twkb_table::put_rows;
+use twkb_flat::{Flat, Work};
+use twkb_table::put_flat_rows;
 
-/// Reads the next blob, if there is one, and makes the text what is written of it.
+/// Reads the next blob, if there is one, and makes the text what is written of it. The form is room
+/// for its rows.
 pub(crate) fn next_text<R: Read>(
     what: Listing,
     alloc: Global,
     reader: &mut Reader<'_, R>,
+    form: &mut Flat,
     text: &mut Vec<u8>,
 ) -> Result<bool, Obstacle>
     requires reader { is_spent reader.old ≡ false }
     requires going_on { has_ended reader.old ≡ false }
     requires input { is_input_spent reader.old ≡ false }
-    requires nest { (limits_of reader.old).nest ≤ largest_limits.nest }
     ensures more { IfOk result (λ found. found ≡ true → GivesText what reader.old reader.new text.new.items) }
     ensures fresh { IfOk result (λ found. is_spent reader.new ≡ false) }
     ensures going_on { IfOk result (λ found. found ≡ true → has_ended reader.new ≡ false) }
@@ -34,7 +35,7 @@ pub(crate) fn next_text<R: Read>(
     ensures stops { IfErr result (λ obstacle. StopsRead reader.old obstacle reader.new) }
 {
     match what {
-        Listing::Table => next_rows(alloc, reader, text),
+        Listing::Table => next_rows(alloc, reader, form, text),
         Listing::Headers => next_lines(alloc, reader, text),
     }
 }
@@ -43,12 +44,12 @@ pub(crate) fn next_text<R: Read>(
 fn next_rows<R: Read>(
     alloc: Global,
     reader: &mut Reader<'_, R>,
+    form: &mut Flat,
     text: &mut Vec<u8>,
 ) -> Result<bool, Obstacle>
     requires reader { is_spent reader.old ≡ false }
     requires going_on { has_ended reader.old ≡ false }
     requires input { is_input_spent reader.old ≡ false }
-    requires nest { (limits_of reader.old).nest ≤ largest_limits.nest }
     ensures more { IfOk result (λ found. found ≡ true → GivesText Listing.Table reader.old reader.new text.new.items) }
     ensures fresh { IfOk result (λ found. is_spent reader.new ≡ false) }
     ensures going_on { IfOk result (λ found. found ≡ true → has_ended reader.new ≡ false) }
@@ -58,13 +59,13 @@ fn next_rows<R: Read>(
     ensures err { IfErr result (λ obstacle. StopsText reader.old obstacle reader.new) }
     ensures stops { IfErr result (λ obstacle. StopsRead reader.old obstacle reader.new) }
 {
-    let geometry = match reader.next(alloc) {
-        Ok(Some(geometry)) => geometry,
-        Ok(None) => return Ok(false),
+    match reader.next_flat(alloc, form) {
+        Ok(true) => {}
+        Ok(false) => return Ok(false),
         Err(fault) => return Err(Obstacle::Stream(fault)),
-    };
+    }
     text.clear();
-    if put_rows(&geometry, text).is_err() {
+    if put_flat_rows(form, &mut Work::new(), text).is_err() {
         return Err(Obstacle::Memory);
     }
     Ok(true)
@@ -79,7 +80,6 @@ fn next_lines<R: Read>(
     requires reader { is_spent reader.old ≡ false }
     requires going_on { has_ended reader.old ≡ false }
     requires input { is_input_spent reader.old ≡ false }
-    requires nest { (limits_of reader.old).nest ≤ largest_limits.nest }
     ensures more { IfOk result (λ found. found ≡ true → GivesText Listing.Headers reader.old reader.new text.new.items) }
     ensures fresh { IfOk result (λ found. is_spent reader.new ≡ false) }
     ensures going_on { IfOk result (λ found. found ≡ true → has_ended reader.new ≡ false) }
@@ -89,13 +89,13 @@ fn next_lines<R: Read>(
     ensures err { IfErr result (λ obstacle. StopsText reader.old obstacle reader.new) }
     ensures stops { IfErr result (λ obstacle. StopsRead reader.old obstacle reader.new) }
 {
-    let located = match reader.next_located(alloc) {
-        Ok(Some(located)) => located,
+    let spans = match reader.next_spans(alloc) {
+        Ok(Some(spans)) => spans,
         Ok(None) => return Ok(false),
         Err(fault) => return Err(Obstacle::Stream(fault)),
     };
     text.clear();
-    if put_lines(located.spans.as_slice(), text).is_err() {
+    if put_lines(spans.as_slice(), text).is_err() {
         return Err(Obstacle::Memory);
     }
     Ok(true)

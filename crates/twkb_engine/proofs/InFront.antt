@@ -1,23 +1,18 @@
 -- Points that stand in front of bytes.
-use Rattle.std.proofs.Common.{◌≡◌, ℕ, ◌+◌, ◌-◌, List, length, take, drop, true, ℤ, pos, sym, ap, ◌∙◌, subst, arith}
+use Rattle.std.proofs.Common.{◌≡◌, ℕ, ◌+◌, ◌-◌, List, length, take, drop, true, ℤ, sym, ap, ◌∙◌, subst, arith}
 use Rattle.std.specs.Prelude.{◌+ℤ◌}
-use Rattle.std.proofs.Math.IntN.{+ℤ_idl}
 use Rattle.std.proofs.Math.Seq.{take-add}
 use Rattle.std.proofs.lemmas.List.{length-drop, take_rest}
 use Rattle.twkb_num.specs.Zigzag.{zigzag_of, unzigzag_of}
-use Rattle.twkb_points.specs.Point.{Point, IsCoordinate, origin, point_at}
+use Rattle.twkb_points.specs.Point.{Point, point_at}
 use Rattle.twkb_grammar.specs.PlainReader.{in_range}
-use Rattle.twkb_engine.specs.Front.{NumberInFront, PointInFront}
+use Rattle.twkb_engine.specs.Front.{NumberInFront, PointInFront, StepsTo}
 use Rattle.twkb_engine.proofs.Numbers.{unzigzag_back}
-use Rattle.twkb_engine.proofs.Ranges.{passes}
 
 -- two numbers, one behind the other, are the steps to a point
-pub two_numbers : (from beside to : Point) (bytes : List ℕ) (x y w h : ℕ) (dx dy : ℤ) → NumberInFront bytes x w → NumberInFront (take (length bytes - w) (drop w bytes)) y h → zigzag_of dx ≡ x → zigzag_of dy ≡ y
-    → in_range (from.x +ℤ dx) ≡ true → beside ≡ point_at (from.x +ℤ dx) from.y → in_range (beside.y +ℤ dy) ≡ true → to ≡ point_at beside.x (beside.y +ℤ dy) → PointInFront from bytes to (w + h)
-two_numbers from beside to bytes x y w h dx dy a cut ex ey rx eb ry et =
+pub pair_in_front : (from to : Point) (bytes : List ℕ) (x y w h : ℕ) → NumberInFront bytes x w → NumberInFront (take (length bytes - w) (drop w bytes)) y h → StepsTo from x y to → PointInFront from bytes to (w + h)
+pair_in_front from to bytes x y w h a cut steps =
     let b : NumberInFront (drop w bytes) y h = subst (λ l. NumberInFront l y h) (take_rest bytes w) cut in
-    let ux : dx ≡ unzigzag_of x = sym (unzigzag_back dx x ex) in
-    let uy : dy ≡ unzigzag_of y = sym (unzigzag_back dy y ey) in
     record {
       some = omega (arith, a.some);
       within = omega (arith, a.within, b.within, length-drop w bytes);
@@ -29,18 +24,21 @@ two_numbers from beside to bytes x y w h dx dy a cut ex ey rx eb ry et =
         whole = take-add w h bytes;
         x_spelled = a.spelled;
         y_spelled = b.spelled;
-        x_kept = subst (λ d. in_range (from.x +ℤ d) ≡ true) ux rx;
-        y_kept = subst (λ d. in_range (from.y +ℤ d) ≡ true) uy (subst (λ p. in_range (p.y +ℤ dy) ≡ true) eb ry);
-        leads = et ∙ (ap (λ p. point_at p.x (p.y +ℤ dy)) eb ∙ (ap (λ d. point_at (from.x +ℤ d) (from.y +ℤ dy)) ux ∙ ap (λ d. point_at (from.x +ℤ unzigzag_of x) (from.y +ℤ d)) uy));
+        x_kept = steps.x_kept;
+        y_kept = steps.y_kept;
+        leads = steps.leads;
       };
     }
 
--- the same from the origin, where the steps are the coordinates
-pub two_from_origin : (to : Point) (bytes : List ℕ) (x y w h : ℕ) (dx dy : ℤ) → NumberInFront bytes x w → NumberInFront (take (length bytes - w) (drop w bytes)) y h → zigzag_of dx ≡ x → zigzag_of dy ≡ y
-    → IsCoordinate dx × IsCoordinate dy → to ≡ point_at dx dy → PointInFront origin bytes to (w + h)
-two_from_origin to bytes x y w h dx dy a cut ex ey kept et =
-    two_numbers origin (point_at dx (pos 0)) to bytes x y w h dx dy a cut ex ey
-    (subst (λ z. in_range z ≡ true) (sym (+ℤ_idl dx)) (passes dx kept.0))
-    (ap (λ z. point_at z (pos 0)) (sym (+ℤ_idl dx)))
-    (subst (λ z. in_range z ≡ true) (sym (+ℤ_idl dy)) (passes dy kept.1))
-    (et ∙ ap (λ z. point_at dx z) (sym (+ℤ_idl dy)))
+-- the same, a step at a time
+pub two_numbers : (from beside to : Point) (bytes : List ℕ) (x y w h : ℕ) (dx dy : ℤ) → NumberInFront bytes x w → NumberInFront (take (length bytes - w) (drop w bytes)) y h → zigzag_of dx ≡ x → zigzag_of dy ≡ y
+    → in_range (from.x +ℤ dx) ≡ true → beside ≡ point_at (from.x +ℤ dx) from.y → in_range (beside.y +ℤ dy) ≡ true → to ≡ point_at beside.x (beside.y +ℤ dy) → PointInFront from bytes to (w + h)
+two_numbers from beside to bytes x y w h dx dy a cut ex ey rx eb ry et =
+    let ux : dx ≡ unzigzag_of x = sym (unzigzag_back dx x ex) in
+    let uy : dy ≡ unzigzag_of y = sym (unzigzag_back dy y ey) in
+    pair_in_front from to bytes x y w h a cut
+    record {
+      x_kept = subst (λ d. in_range (from.x +ℤ d) ≡ true) ux rx;
+      y_kept = subst (λ d. in_range (from.y +ℤ d) ≡ true) uy (subst (λ p. in_range (p.y +ℤ dy) ≡ true) eb ry);
+      leads = et ∙ (ap (λ p. point_at p.x (p.y +ℤ dy)) eb ∙ (ap (λ d. point_at (from.x +ℤ d) (from.y +ℤ dy)) ux ∙ ap (λ d. point_at (from.x +ℤ unzigzag_of x) (from.y +ℤ d)) uy));
+    }

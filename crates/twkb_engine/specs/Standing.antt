@@ -1,15 +1,16 @@
 -- What an engine stands for.
-use Rattle.std.specs.Prelude.{◌≡◌, ◌⊎◌, ℕ, ◌+◌, ◌<◌, ◌≤◌, List, [], ◌++◌, length, take, Bool, true, false, Option, Some, None, Result, Ok, Err, ⊤}
+use Rattle.std.specs.Prelude.{◌≡◌, ◌⊎◌, ℕ, ◌+◌, ◌<◌, ◌≤◌, List, [], ◌++◌, length, take, Bool, true, false, Result, Ok, Err, ⊤}
 use Rattle.twkb_geom.specs.Tree.{Tree}
 use Rattle.twkb_geom.specs.Limits.{Allowance}
+use Rattle.twkb_geom.specs.Rows.{Row, rows}
 use Rattle.twkb_grammar.specs.Blob.{Blob}
 use Rattle.twkb_grammar.specs.Fault.{FirstFault, Reason, Truncated}
-use Rattle.twkb_grammar.specs.Reading.{Reached}
-use Rattle.twkb_engine.specs.State.{IsSpelled, phase_of}
-use Rattle.twkb_engine.specs.Open.{open_of, awaited_at}
+use Rattle.twkb_outline.specs.Reading.{Outlined, open_count}
+use Rattle.twkb_engine.specs.State.{IsSpelled, IsPlacedIn, step_of}
+use Rattle.twkb_engine.specs.Open.{awaited_at}
+use Rattle.twkb_engine.specs.Stops.{reason_of}
+use Rattle.twkb_engine.specs.Building.{sums_of, outline_in}
 use Rattle.twkb_engine.specs.declared.awaited.Awaited.{Awaited}
-use Rattle.twkb_engine.specs.Frames.{reason_of}
-use Rattle.twkb_engine.specs.Decoding.{sums_of, stack_of}
 use Rattle.twkb_engine.specs.declared.engine.Engine.{Engine}
 use Rattle.twkb_engine.specs.declared.stop.Stop.{Stop}
 use Rattle.twkb_engine.specs.declared.stop.Stop.TheVariants.{Memory, Refused}
@@ -36,30 +37,31 @@ points_in d = d.builder.points
 
 -- what its next byte is for
 abbrev pub awaited_in : Engine → Awaited
-awaited_in d = awaited_at (phase_of d.builder.phase)
+awaited_in d = awaited_at (step_of d.builder.phase)
 
 -- the geometries that are begun and not finished
 abbrev pub open_in : Engine → ℕ
-open_in d = open_of (stack_of d.builder)
+open_in d = open_count (outline_in d.builder)
 
--- the bytes are a blob so far: whole items, which are a part, and behind them the first bytes of a number
-pub record StandsAt (bytes : List ℕ) (d : Engine) : Type 0 where
+-- the bytes are a blob so far: whole items, which are a part with these rows, and behind them the first bytes of a number
+pub record StandsAt (bytes : List ℕ) (rs : List Row) (d : Engine) : Type 0 where
   pub front : List ℕ
   pub whole : bytes ≡ front ++ held_in d
-  pub reached : Reached (allowance_of d) front (sums_of d.builder) (stack_of d.builder)
+  pub outlined : Outlined (allowance_of d) front (sums_of d.builder) (outline_in d.builder) rs
+  pub placed : IsPlacedIn d.builder.groups.items d.builder.phase
   pub spelled : IsSpelled d.builder.phase ⊎ (held_in d ≡ [])
 
--- the bytes are a blob so far, or a blob and none of a further one, or they have a first fault, whatever follows
-abbrev pub IsStep : Allowance → List ℕ → Result (Option Tree) Stop → Engine → Type 0
-IsStep limits bytes (Ok None) d = StandsAt bytes d
-IsStep limits bytes (Ok (Some g)) d = Blob limits bytes g × StandsAt [] d
-IsStep limits bytes (Err Memory) d = ⊤
-IsStep limits bytes (Err (Refused r)) d = (more : List ℕ) → FirstFault limits (bytes ++ more) (offset_in d) (reason_of r)
+-- the bytes are a blob so far, or a blob with these rows and none of a further one, or they have a first fault, whatever follows
+abbrev pub IsStep : Allowance → List ℕ → Result Bool Stop → List Row → Engine → Type 0
+IsStep limits bytes (Ok false) rs d = StandsAt bytes rs d
+IsStep limits bytes (Ok true) rs d = (g : Tree) × Blob limits bytes g × (rs ≡ rows 0 g) × StandsAt [] [] d
+IsStep limits bytes (Err Memory) rs d = ⊤
+IsStep limits bytes (Err (Refused r)) rs d = (more : List ℕ) → FirstFault limits (bytes ++ more) (offset_in d) (reason_of r)
 
 -- some bytes were taken from the front of the rest of a piece, or a byte of it is the last of an item that is refused
-abbrev pub IsTakenFrom : Allowance → List ℕ → List ℕ → Result (ℕ × Option Tree) Stop → Engine → Type 0
-IsTakenFrom limits bs rest (Ok (used, found)) d = IsStep limits (bs ++ take used rest) (Ok found) d
-IsTakenFrom limits bs rest (Err stop) d = (used : ℕ) × (0 < used) × (used ≤ length rest) × IsStep limits (bs ++ take used rest) (Err stop) d
+abbrev pub IsTakenFrom : Allowance → List ℕ → List ℕ → Result (ℕ × Bool) Stop → List Row → Engine → Type 0
+IsTakenFrom limits bs rest (Ok (used, found)) rs d = IsStep limits (bs ++ take used rest) (Ok found) rs d
+IsTakenFrom limits bs rest (Err stop) rs d = (used : ℕ) × (0 < used) × (used ≤ length rest) × IsStep limits (bs ++ take used rest) (Err stop) rs d
 
 -- a byte of the piece is the last of an item that is refused, whatever follows
 pub record RefusedIn (limits : Allowance) (bs piece : List ℕ) (offset : ℕ) (reason : Reason) : Type 0 where
@@ -68,18 +70,20 @@ pub record RefusedIn (limits : Allowance) (bs piece : List ℕ) (offset : ℕ) (
   pub within : used ≤ length piece
   pub fault : (more : List ℕ) → FirstFault limits ((bs ++ take used piece) ++ more) offset reason
 
--- a byte of the piece is the last of a blob, and none behind it was used
-pub record MadeIn (limits : Allowance) (bs piece : List ℕ) (used : ℕ) (g : Tree) : Type 0 where
+-- a byte of the piece is the last of a blob, whose rows these are, and none behind it was used
+pub record MadeIn (limits : Allowance) (bs piece : List ℕ) (used : ℕ) (rs : List Row) : Type 0 where
   pub some : 0 < used
   pub within : used ≤ length piece
-  pub blob : Blob limits (bs ++ take used piece) g
+  pub geometry : Tree
+  pub blob : Blob limits (bs ++ take used piece) geometry
+  pub made : rs ≡ rows 0 geometry
 
 -- the whole piece was used, or the front that ends a blob, or an item was refused in it
-abbrev pub IsFed : Allowance → List ℕ → List ℕ → Result (ℕ × Option Tree) Stop → Engine → Type 0
-IsFed limits bs piece (Ok (used, None)) d = (used ≡ length piece) × StandsAt (bs ++ piece) d
-IsFed limits bs piece (Ok (used, Some g)) d = MadeIn limits bs piece used g × StandsAt [] d
-IsFed limits bs piece (Err Memory) d = ⊤
-IsFed limits bs piece (Err (Refused r)) d = RefusedIn limits bs piece (offset_in d) (reason_of r)
+abbrev pub IsFed : Allowance → List ℕ → List ℕ → Result (ℕ × Bool) Stop → List Row → Engine → Type 0
+IsFed limits bs piece (Ok (used, false)) rs d = (used ≡ length piece) × StandsAt (bs ++ piece) rs d
+IsFed limits bs piece (Ok (used, true)) rs d = MadeIn limits bs piece used rs × StandsAt [] [] d
+IsFed limits bs piece (Err Memory) rs d = ⊤
+IsFed limits bs piece (Err (Refused r)) rs d = RefusedIn limits bs piece (offset_in d) (reason_of r)
 
 -- there are no bytes, or they end inside a blob
 abbrev pub IsEnd : Allowance → List ℕ → ℕ → Bool → Type 0

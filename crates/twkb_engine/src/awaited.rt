@@ -1,6 +1,6 @@
 //! What the next byte is for.
 ghost use Rattle.std.specs.Prelude.{◌≡◌};
-ghost use Rattle.twkb_engine.specs.State.{phase_of};
+ghost use Rattle.twkb_engine.specs.State.{step_of};
 ghost use Rattle.twkb_engine.specs.Open.{awaited_at};
 
 use crate::phase::Phase;
@@ -18,11 +18,11 @@ pub enum Awaited {
 
 /// What the byte is for that comes next.
 pub fn awaited_by(phase: &Phase) -> Awaited
-    ensures { result ≡ awaited_at (phase_of phase.now) }
+    ensures { result ≡ awaited_at (step_of phase.now) }
 {
     match phase {
         Phase::Header => Awaited::Header,
-        Phase::Metadata { .. } => Awaited::Metadata,
+        Phase::Metadata(_) => Awaited::Metadata,
         _ => Awaited::Other,
     }
 }

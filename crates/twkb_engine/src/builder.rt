@@ -1,41 +1,42 @@
-//! A geometry that is read item by item.
-ghost use Rattle.std.specs.Prelude.{true, false, [], ◌⊎◌, ◌≡◌, ◌≤◌, ◌<◌, ◌^◌, ◌+◌, ◌-◌, ◌++◌, ℕ, List, IfOk, IfSome, IsSome, length as length_of, take, nat_lt, None, Some};
-ghost use Rattle.std.specs.List.{AllByRecursion};
-ghost use Rattle.twkb_geom.specs.Limits.{IsAllowance};
-ghost use Rattle.twkb_grammar.specs.PlainReader.{unless, objection as objection_in};
+//! A geometry that is read item by item into a flat form.
+ghost use Rattle.std.specs.Prelude.{◌≡◌, ◌≤◌, ◌++◌, ℕ, List, ◌+◌, ◌-◌, ◌^◌, ◌%◌, ◌||◌, [], nat_eq, nat_lt, IfSome, IsSome, None, Some, true, length, length as length_of, false, ◌<◌, ◌⊎◌, OnOk, IfOk, take};
+ghost use Rattle.twkb_grammar.specs.PlainReader.{unless, objection as objection_in, is_exact as exact};
 ghost use Rattle.twkb_grammar.specs.Fault as fault;
-ghost use Rattle.twkb_grammar.specs.Fault.{nodes_by, points_by, moved as moved_by};
+ghost use Rattle.twkb_grammar.specs.Fault.{moved as moved_by};
 ghost use Rattle.twkb_grammar.specs.Roles.{Role, Metadata, Count, Item};
-ghost use Rattle.twkb_grammar.specs.Machine.{role_at, kind_number, first_count, added, advanced, nothing, started};
-ghost use Rattle.twkb_grammar.specs.PlainReader.{is_exact as exact};
-ghost use Rattle.twkb_grammar.specs.Reading.{past_end, ends, Reached};
-ghost use Rattle.twkb_engine.specs.State.{next_of, phase_of, kind_of, many_of, IsSpelled};
-ghost use Rattle.twkb_engine.specs.Frames.{frames_of};
-ghost use Rattle.twkb_engine.specs.Open.{open_of, awaited_at};
-ghost use Rattle.twkb_engine.specs.Pairs.{LeadsOn, stands_within};
-ghost use Rattle.twkb_engine.specs.Fitting.{FrameFits, PhaseFits, NextFits};
-ghost use Rattle.twkb_engine.specs.FittingProps.{phase_prop, frames_prop, allowance_prop};
+ghost use Rattle.twkb_grammar.specs.Reading.{Gives};
+ghost use Rattle.twkb_grammar.specs.Machine.{kind_number, first_count, added};
+ghost use Rattle.twkb_outline.specs.Outline.{spot_role, outline_role, outline_advanced, outline_ends, outline_past_end};
+ghost use Rattle.twkb_outline.specs.Growing.{applied, change_of};
+ghost use Rattle.twkb_outline.specs.Reading.{StepFits, open_count};
+ghost use Rattle.twkb_engine.specs.Body.{spot_of};
+ghost use Rattle.twkb_engine.specs.State.{kind_of, many_of, groups_of, step_of, goes_on, stands_apart, IsPlacedIn, IsShallow, IsSpelled};
+ghost use Rattle.twkb_engine.specs.Open.{awaited_at};
+ghost use Rattle.twkb_engine.specs.Stops.{objection_of};
 
 use crate::awaited::{Awaited, awaited_by};
 use crate::blob_reason::BlobReason;
-use crate::frames::{Frame, Frames, finish};
-use crate::header::{EMPTY, bad_type, has_bit};
-use crate::in_place::{lone_point, take_in_place};
+use crate::header::{EMPTY, has_bit};
+use crate::items::announced;
+use crate::lefts::Spot;
+use crate::members::past_end;
 use crate::motion::{moved_x, moved_y, origin};
-use crate::pairs::take_points;
-use crate::phase::{Axis, Kind, Many, Next, Optional, Phase};
+use crate::phase::{Groups, Kind, Many, Optional, Phase};
 use crate::place::Head;
-use crate::steps::{announced, next};
+use crate::runs::take_points;
+use crate::site::Form;
+use crate::steps::{Led, next, take_in_body};
 use crate::stop::Stop;
 use smallvec::SmallVec;
 use std::alloc::{AllocError, Global};
 use std::mem;
-use twkb_geom::{Geometry, Limits};
+use twkb_flat::Flat;
+use twkb_geom::Limits;
 use twkb_num::unzigzag;
 use twkb_points::Pt;
 
 /// A geometry that is read item by item: the sums of its items, the collections that are open, and what comes next.
-#[derive(Debug, Drop)]
+#[derive(Drop)]
 pub struct Builder {
     alloc: Global,
     limits: Limits,
@@ -43,26 +44,36 @@ pub struct Builder {
     position: Pt,
     nodes: u64,
     points: u64,
-    frames: Frames,
+    groups: Groups,
     phase: Phase,
-    ghost sound: { IsAllowance limits } by { allowance_prop limits },
     ghost nodes_kept: { nodes ≤ limits.nodes },
     ghost points_kept: { points ≤ limits.points },
-    ghost frames_fit: { AllByRecursion FrameFits frames.items } by { frames_prop frames.items },
-    ghost bytes_few: { bytes + 1 < 2 ^ 64 },
-    ghost frames_few: { length_of frames.items ≤ bytes },
-    ghost phase_fits: { PhaseFits phase } by { phase_prop phase },
+    ghost waits: { goes_on phase ≡ true },
+    ghost groups_few: { IsShallow groups.items },
+}
+
+/// Why this number is no type byte.
+fn bad_type(number: u64) -> Option<BlobReason>
+    ensures { objection_of result ≡ unless (nat_eq (number % 16) 0 || nat_lt 7 (number % 16)) fault.BadType None }
+{
+    let kind = number % 16;
+    if kind == 0 || kind > 7 {
+        Some(BlobReason::BadType)
+    } else {
+        None
+    }
 }
 
 impl Builder {
-    ghost use Rattle.twkb_engine.specs.Taking.{IsTaken, IsTakenOn, IsLanded};
-    ghost use Rattle.twkb_engine.specs.Decoding.{sums_of, stack_of, refusal, objection_of};
+    ghost use Rattle.twkb_engine.specs.Building.{sums_of, outline_in, refusal, objection_at, StandsBehind, IsAt, IsTaken};
+    ghost use Rattle.twkb_engine.specs.Ahead.{RunsBehind};
 
     /// One that has read nothing. Takes no memory.
     pub fn new(alloc: Global, limits: Limits) -> Builder
-        ensures sums { sums_of result ≡ nothing }
-        ensures stack { stack_of result ≡ started }
+        ensures stands { StandsBehind [] [] result }
         ensures limits { result.limits ≡ limits }
+        ensures bytes { result.bytes ≡ 0 }
+        ensures phase { result.phase ≡ Phase.Header }
     {
         limits.nest();
         Builder {
@@ -72,7 +83,7 @@ impl Builder {
             position: origin(),
             nodes: 1,
             points: 0,
-            frames: SmallVec::new(alloc),
+            groups: SmallVec::new(alloc),
             phase: Phase::Header,
         }
     }
@@ -93,27 +104,27 @@ impl Builder {
 
     /// What the next byte is for.
     pub fn awaited(&self) -> Awaited
-        ensures { result ≡ awaited_at (phase_of self.now.phase) }
+        ensures { result ≡ awaited_at (step_of self.now.phase) }
     {
         awaited_by(&self.phase)
     }
 
     /// How many geometries are begun and not finished.
     pub fn open_geometries(&self) -> usize
-        ensures { result ≡ open_of (stack_of self.now) }
+        ensures { result ≡ open_count (outline_in self.now) }
     {
-        let frames = self.frames.len();
+        let groups = self.groups.len();
         match &self.phase {
-            Phase::Header => frames,
-            _ => frames + 1,
+            Phase::Header => groups,
+            _ => groups + 1,
         }
     }
 
-    /// Its limits.
-    pub fn limits(&self) -> Limits
-        ensures { result ≡ self.now.limits }
+    /// What the next item is for.
+    pub fn phase(&self) -> &Phase
+        ensures { result.now ≡ self.now.phase }
     {
-        self.limits
+        &self.phase
     }
 
     /// Why a count may not be this large.
@@ -133,7 +144,7 @@ impl Builder {
     fn objection_to_metadata(&self, kind: Kind, number: u64) -> Option<BlobReason>
         ensures { objection_of result ≡ objection_in self.now.limits (sums_of self.now) (Metadata (kind_number (kind_of kind))) number }
     {
-        if kind == Kind::Point
+        if kind == Kind::Simple(Form::Point)
             && !has_bit(number, EMPTY)
             && u64::from(self.limits.points()) <= self.points
         {
@@ -145,13 +156,13 @@ impl Builder {
 
     /// Why there may not be so many members.
     fn objection_to_count(&self, many: Many, number: u64) -> Option<BlobReason>
-        ensures { objection_of result ≡ objection_in self.now.limits (sums_of self.now) (Count (first_count (many_of many) (length_of (frames_of self.now.frames.items)))) number }
+        ensures { objection_of result ≡ objection_in self.now.limits (sums_of self.now) (Count (first_count (many_of many) (length (groups_of self.now.groups.items)))) number }
     {
         match many {
             Many::Points => self.too_many(number, number),
             Many::Lines | Many::Areas => self.too_many(number, 0),
             Many::Geometries => {
-                if self.frames.len() >= self.limits.nest() as usize && number > 0 {
+                if self.groups.len() >= self.limits.nest() as usize && number > 0 {
                     Some(BlobReason::TooDeep)
                 } else {
                     self.too_many(number, 0)
@@ -160,33 +171,21 @@ impl Builder {
         }
     }
 
-    /// Why the next item may not have this number.
-    #[inline(always)]
-    fn objection(&self, number: u64) -> Option<BlobReason>
-        ensures { objection_of result ≡ refusal self.now.limits (sums_of self.now) (stack_of self.now) number }
+    /// Why the next number of a body may not be this one.
+    fn objection_to_number(&self, spot: Spot, number: u64) -> Option<BlobReason>
+        ensures { objection_of result ≡ objection_at self.now.limits (sums_of self.now) number (spot_role (spot_of spot)) }
     {
-        match &self.phase {
-            Phase::Header => bad_type(number),
-            Phase::Metadata { kind, .. } => self.objection_to_metadata(*kind, number),
-            Phase::Optional { part, .. } => {
-                if *part == Optional::Extended && number % 4 != 0 {
-                    Some(BlobReason::ExtraDimensions)
-                } else {
-                    None
-                }
-            }
-            Phase::Count { many, .. } => self.objection_to_count(*many, number),
-            Phase::Id { .. } => None,
-            Phase::LineCount(_) => self.too_many(0, number),
-            Phase::AreaCount(_) => self.too_many(number, 0),
-            Phase::Coordinate(Axis::X, _) => {
+        match spot {
+            Spot::LineCount(_) => self.too_many(0, number),
+            Spot::AreaCount(_) => self.too_many(number, 0),
+            Spot::X(_) => {
                 if moved_x(self.position, unzigzag(number)).is_none() {
                     Some(BlobReason::CoordinateRange)
                 } else {
                     None
                 }
             }
-            Phase::Coordinate(Axis::Y, _) => {
+            Spot::Y(_) => {
                 if moved_y(self.position, unzigzag(number)).is_none() {
                     Some(BlobReason::CoordinateRange)
                 } else {
@@ -196,31 +195,133 @@ impl Builder {
         }
     }
 
+    /// Why the next item may not have this number.
+    fn objection(&self, number: u64) -> Option<BlobReason>
+        ensures { objection_of result ≡ refusal self.now.limits (sums_of self.now) (outline_in self.now) number }
+    {
+        match &self.phase {
+            Phase::Header => bad_type(number),
+            Phase::Metadata(typed) => self.objection_to_metadata(typed.kind, number),
+            Phase::Optional { part, .. } => {
+                if *part == Optional::Extended && number % 4 != 0 {
+                    Some(BlobReason::ExtraDimensions)
+                } else {
+                    None
+                }
+            }
+            Phase::Count { many, .. } => self.objection_to_count(*many, number),
+            Phase::Body(_, body) => self.objection_to_number(body.spot, number),
+            Phase::Id { .. } | Phase::End(_) => None,
+        }
+    }
+
+    /// Its limits.
+    pub fn limits(&self) -> Limits
+        ensures { result ≡ self.now.limits }
+    {
+        self.limits
+    }
+
+    /// Goes to the start.
+    pub fn restart(&mut self)
+        ensures stands { StandsBehind [] [] self.new }
+        ensures limits { self.new.limits ≡ self.old.limits }
+        ensures bytes { self.new.bytes ≡ 0 }
+    {
+        self.limits.nest();
+        self.bytes = 0;
+        self.position = origin();
+        self.nodes = 1;
+        self.points = 0;
+        self.groups.clear();
+        self.phase = Phase::Header;
+    }
+
+    /// A geometry ends; answers whether it is the outermost one.
+    fn finish(&mut self, head: Head) -> Result<bool, Stop>
+        ensures limits { self.new.limits ≡ self.old.limits }
+        ensures bytes { self.new.bytes ≤ self.old.bytes }
+        ensures landed { IsAt (outline_past_end (exact head.size (self.old.bytes - head.from)) self.old.bytes (groups_of self.old.groups.items)) (sums_of self.old) result self.new }
+        ensures placed { OnOk result (IsPlacedIn self.new.groups.items self.new.phase) }
+    {
+        if past_end(&mut self.groups, self.bytes, head)? {
+            self.restart();
+            return Ok(true);
+        }
+        self.phase = Phase::Header;
+        Ok(false)
+    }
+
+    /// Goes to what the item of this number leads to that was added last and is in no body, and past the ends behind it; answers
+    /// whether a geometry is whole. A row, an id and a group take memory.
+    fn advance(&mut self, flat: &mut Flat, number: u64) -> Result<bool, Stop>
+        requires byte { number < 256 ⊎ IsSpelled self.old.phase }
+        requires apart { stands_apart self.old.phase ≡ true }
+        ensures limits { self.new.limits ≡ self.old.limits }
+        ensures bytes { self.new.bytes ≤ self.old.bytes }
+        ensures landed { IsAt (outline_ends self.old.bytes (outline_advanced self.old.bytes number (outline_in self.old))) (sums_of self.old) result self.new }
+        ensures rows { IsPlacedIn self.old.groups.items self.old.phase → OnOk result (flat.new ≡ applied (change_of self.old.position number (outline_in self.old)) flat.old) }
+        ensures placed { IsPlacedIn self.old.groups.items self.old.phase → OnOk result (IsPlacedIn self.new.groups.items self.new.phase) }
+    {
+        let phase = mem::replace(&mut self.phase, Phase::Header);
+        let reached = next(
+            flat,
+            self.alloc,
+            &mut self.groups,
+            phase,
+            self.position,
+            self.bytes,
+            number,
+        )?;
+        if let Phase::End(head) = reached {
+            return self.finish(head);
+        }
+        self.phase = reached;
+        Ok(false)
+    }
+
+    /// Goes to what the item of this number leads to that was added last, and past the ends behind it; answers whether a geometry is
+    /// whole. A row, a point, an id and a group take memory.
+    fn go_on(&mut self, flat: &mut Flat, number: u64) -> Result<bool, Stop>
+        requires byte { number < 256 ⊎ IsSpelled self.old.phase }
+        ensures limits { self.new.limits ≡ self.old.limits }
+        ensures bytes { self.new.bytes ≤ self.old.bytes }
+        ensures landed { StepFits (step_of self.old.phase) → IsAt (outline_ends self.old.bytes (outline_advanced self.old.bytes number (outline_in self.old))) (sums_of self.old) result self.new }
+        ensures rows { IsPlacedIn self.old.groups.items self.old.phase → OnOk result (flat.new ≡ applied (change_of self.old.position number (outline_in self.old)) flat.old) }
+        ensures placed { IsPlacedIn self.old.groups.items self.old.phase → OnOk result (IsPlacedIn self.new.groups.items self.new.phase) }
+    {
+        match take_in_body(&mut self.phase, flat, self.position, number)? {
+            Led::On => Ok(false),
+            Led::Ended(head) => self.finish(head),
+            Led::Elsewhere => self.advance(flat, number),
+        }
+    }
+
     /// The place behind the next item, where that is in range.
     fn moved(&self, number: u64) -> Option<Pt>
-        ensures place { (r : Role) → role_at (sums_of self.now) (stack_of self.now) ≡ Some r → IfSome result (λ p. p ≡ moved_by (sums_of self.now).position r number) }
-        ensures found { refusal self.now.limits (sums_of self.now) (stack_of self.now) number ≡ None → IsSome result }
+        ensures place { (r : Role) → outline_role (sums_of self.now) (outline_in self.now) ≡ Some r → IfSome result (λ p. p ≡ moved_by self.now.position r number) }
+        ensures found { refusal self.now.limits (sums_of self.now) (outline_in self.now) number ≡ None → IsSome result }
     {
         match &self.phase {
             Phase::Header => Some(origin()),
-            Phase::Coordinate(Axis::X, _) => moved_x(self.position, unzigzag(number)),
-            Phase::Coordinate(Axis::Y, _) => moved_y(self.position, unzigzag(number)),
+            Phase::Body(_, body) => match body.spot {
+                Spot::X(_) => moved_x(self.position, unzigzag(number)),
+                Spot::Y(_) => moved_y(self.position, unzigzag(number)),
+                Spot::LineCount(_) | Spot::AreaCount(_) => Some(self.position),
+            },
             _ => Some(self.position),
         }
     }
 
     /// Adds the next item to the sums.
-    #[inline(always)]
     fn add(&mut self, number: u64, length: u64)
-        requires some { 0 < length }
-        requires room { self.old.bytes + length + 1 < 2 ^ 64 }
-        requires allowed { refusal self.old.limits (sums_of self.old) (stack_of self.old) number ≡ None }
+        requires room { self.old.bytes + length < 2 ^ 64 }
+        requires allowed { refusal self.old.limits (sums_of self.old) (outline_in self.old) number ≡ None }
         ensures limits { self.new.limits ≡ self.old.limits }
         ensures bytes { self.new.bytes ≡ self.old.bytes + length }
-        ensures stack { stack_of self.new ≡ stack_of self.old }
+        ensures groups { self.new.groups ≡ self.old.groups }
         ensures phase { self.new.phase ≡ self.old.phase }
-        ensures few { length_of self.new.frames.items < self.new.bytes }
-        ensures added { (i : Item) → role_at (sums_of self.old) (stack_of self.old) ≡ Some i.role → i.number ≡ number → length_of i.bytes ≡ length → sums_of self.new ≡ added (sums_of self.old) i }
+        ensures added { (i : Item) → outline_role (sums_of self.old) (outline_in self.old) ≡ Some i.role → i.number ≡ number → length_of i.bytes ≡ length → sums_of self.new ≡ added (sums_of self.old) i }
     {
         let _most_nodes = self.limits.nodes();
         let _most_points = self.limits.points();
@@ -232,168 +333,36 @@ impl Builder {
         self.position = position;
     }
 
-    /// What the item leads to that was added last.
-    fn advance(&mut self, number: u64) -> Result<Next, AllocError>
+    /// Takes an item with this number, which has so many bytes, and the ends behind it; answers whether a geometry is whole. A row, a
+    /// point, an id and a group take memory.
+    pub fn take(&mut self, flat: &mut Flat, number: u64, length: u64) -> Result<bool, Stop>
         requires byte { number < 256 ⊎ IsSpelled self.old.phase }
-        requires some { length_of self.old.frames.items < self.old.bytes }
-        ensures limits { self.new.limits ≡ self.old.limits }
-        ensures sums { sums_of self.new ≡ sums_of self.old }
-        ensures fits { IfOk result NextFits }
-        ensures next { IfOk result (λ next. (frames_of self.new.frames.items, next_of next) ≡ advanced self.old.position self.old.bytes number (frames_of self.old.frames.items) (phase_of self.old.phase)) }
-    {
-        let phase = mem::replace(&mut self.phase, Phase::Header);
-        next(
-            self.alloc,
-            &mut self.frames,
-            phase,
-            self.position,
-            self.bytes,
-            number,
-        )
-    }
-
-    /// Takes the item that was added last, where it leads on within a header or a list; answers whether it did.
-    #[inline(always)]
-    fn go_on(&mut self, number: u64) -> Result<bool, AllocError>
-        requires byte { number < 256 ⊎ IsSpelled self.old.phase }
-        ensures limits { self.new.limits ≡ self.old.limits }
-        ensures sums { sums_of self.new ≡ sums_of self.old }
-        ensures frames { self.new.frames ≡ self.old.frames }
-        ensures taken { IfOk result (λ taken. taken ≡ true → LeadsOn self.old.position self.old.bytes number self.old.phase self.new.phase) }
-        ensures left { IfOk result (λ taken. taken ≡ false → self.new.phase ≡ self.old.phase) }
-        ensures within { stands_within self.old.phase ≡ true → IfOk result (λ taken. taken ≡ true) }
-    {
-        take_in_place(&mut self.phase, self.position, self.bytes, number)
-    }
-
-    /// Takes points of a list, but not its last, as far as they stand whole in front, and answers how many bytes they had:
-    /// none where no list is read. It takes memory for the points.
-    pub fn take_points(&mut self, bytes: &[u8]) -> Result<usize, AllocError>
-        requires room { self.old.bytes + length_of bytes.now + 1 < 2 ^ 64 }
-        ensures limits { self.new.limits ≡ self.old.limits }
-        ensures within { IfOk result (λ used. used ≤ length_of bytes.now) }
-        ensures bytes { IfOk result (λ used. self.new.bytes ≡ self.old.bytes + used) }
-        ensures few { self.new.bytes ≤ self.old.bytes + length_of bytes.now }
-        ensures reached { IfOk result (λ used. (front : List ℕ) → Reached self.old.limits front (sums_of self.old) (stack_of self.old)
-            → Reached self.old.limits (front ++ take used bytes.now) (sums_of self.new) (stack_of self.new)) }
-    {
-        let taken = take_points(&mut self.phase, self.position, bytes)?;
-        self.bytes += taken.used as u64;
-        self.position = taken.position;
-        Ok(taken.used)
-    }
-
-    fn restart(&mut self)
-        requires { self.old.frames.items ≡ [] }
-        ensures sums { sums_of self.new ≡ nothing }
-        ensures stack { stack_of self.new ≡ started }
-        ensures limits { self.new.limits ≡ self.old.limits }
-    {
-        self.bytes = 0;
-        self.position = origin();
-        self.nodes = 1;
-        self.points = 0;
-        self.phase = Phase::Header;
-    }
-
-    /// A geometry ends.
-    fn land_end(&mut self, head: Head, geometry: Geometry) -> Result<Option<Geometry>, Stop>
-        ensures limits { self.new.limits ≡ self.old.limits }
-        ensures bytes { self.new.bytes ≤ self.old.bytes }
-        ensures landed { IsLanded (past_end (exact head.size (self.old.bytes - head.from)) self.old.bytes geometry (frames_of self.old.frames.items)) (sums_of self.old) result self.new }
-    {
-        match finish(&mut self.frames, self.bytes, head, geometry)? {
-            None => {
-                self.phase = Phase::Header;
-                Ok(None)
-            }
-            Some(geometry) => {
-                self.restart();
-                Ok(Some(geometry))
-            }
-        }
-    }
-
-    /// Goes to what an item leads to.
-    #[inline(never)]
-    fn land(&mut self, next: Next) -> Result<Option<Geometry>, Stop>
-        requires { NextFits next }
-        ensures limits { self.new.limits ≡ self.old.limits }
-        ensures bytes { self.new.bytes ≤ self.old.bytes }
-        ensures landed { IsLanded (ends self.old.bytes (frames_of self.old.frames.items) (next_of next)) (sums_of self.old) result self.new }
-    {
-        match next {
-            Next::Read(phase) => {
-                self.phase = phase;
-                Ok(None)
-            }
-            Next::End(head, geometry) => self.land_end(head, geometry),
-        }
-    }
-
-    /// Goes to what the item leads to that was added last, where it ends a list or a geometry, or begins one.
-    #[inline(never)]
-    fn close(&mut self, number: u64) -> Result<Option<Geometry>, Stop>
-        requires byte { number < 256 ⊎ IsSpelled self.old.phase }
-        requires some { length_of self.old.frames.items < self.old.bytes }
-        ensures limits { self.new.limits ≡ self.old.limits }
-        ensures bytes { self.new.bytes ≤ self.old.bytes }
-        ensures landed { let last = advanced self.old.position self.old.bytes number (frames_of self.old.frames.items) (phase_of self.old.phase) in IsLanded (ends self.old.bytes last.0 last.1) (sums_of self.old) result self.new }
-    {
-        if let Some(geometry) = lone_point(&self.phase, &self.frames, self.position, self.bytes) {
-            self.restart();
-            return Ok(Some(geometry));
-        }
-        let next = self.advance(number)?;
-        self.land(next)
-    }
-
-    /// What the next item is for.
-    pub fn phase(&self) -> &Phase
-        ensures { result.now ≡ self.now.phase }
-    {
-        &self.phase
-    }
-
-    /// Adds an item with this number, which has so many bytes, and takes it where it leads on within a header or a list; answers
-    /// whether it did. Where it did not, what it leads to is left to `close`.
-    #[inline(never)]
-    pub fn take_on(&mut self, number: u64, length: u64) -> Result<bool, Stop>
-        requires byte { number < 256 ⊎ IsSpelled self.old.phase }
-        requires some { 0 < length }
-        requires room { self.old.bytes + length + 1 < 2 ^ 64 }
+        requires room { self.old.bytes + length < 2 ^ 64 }
         ensures limits { self.new.limits ≡ self.old.limits }
         ensures bytes { self.new.bytes ≤ self.old.bytes + length }
-        ensures left { IfOk result (λ taken. taken ≡ false → (self.new.phase ≡ self.old.phase) × (length_of self.new.frames.items < self.new.bytes)) }
-        ensures within { stands_within self.old.phase ≡ true → IfOk result (λ taken. taken ≡ true) }
-        ensures taken { (i : Item) → role_at (sums_of self.old) (stack_of self.old) ≡ Some i.role → i.number ≡ number → length_of i.bytes ≡ length
-            → IsTakenOn self.old.limits (sums_of self.old) (stack_of self.old) i result self.new }
+        ensures taken { (front : List ℕ) (i : Item) → StandsBehind front flat.old self.old → outline_role (sums_of self.old) (outline_in self.old) ≡ Some i.role
+            → Gives i.role i.number i.bytes → i.number ≡ number → length_of i.bytes ≡ length → IsTaken self.old.limits (front ++ i.bytes) result flat.new self.new }
     {
         if let Some(reason) = self.objection(number) {
             return Err(Stop::Refused(reason));
         }
         self.add(number, length);
-        match self.go_on(number) {
-            Ok(taken) => Ok(taken),
-            Err(_) => Err(Stop::Memory),
-        }
+        self.go_on(flat, number)
     }
 
-    /// Takes an item with this number, which has so many bytes, and the ends behind it. A value that is kept takes memory.
-    #[inline(always)]
-    pub fn take(&mut self, number: u64, length: u64) -> Result<Option<Geometry>, Stop>
-        requires byte { number < 256 ⊎ IsSpelled self.old.phase }
-        requires some { 0 < length }
-        requires room { self.old.bytes + length + 1 < 2 ^ 64 }
+    /// Takes points of a body as far as they stand whole in front and it is not done with them, and answers how many bytes they had. They
+    /// take memory.
+    pub fn take_points(&mut self, flat: &mut Flat, rest: &[u8]) -> Result<usize, AllocError>
+        requires room { self.old.bytes + length_of rest.now < 2 ^ 64 }
         ensures limits { self.new.limits ≡ self.old.limits }
-        ensures bytes { self.new.bytes ≤ self.old.bytes + length }
-        ensures taken { (i : Item) → role_at (sums_of self.old) (stack_of self.old) ≡ Some i.role → i.number ≡ number → length_of i.bytes ≡ length
-            → IsTaken self.old.limits (sums_of self.old) (stack_of self.old) i result self.new }
+        ensures within { IfOk result (λ used. used ≤ length_of rest.now) }
+        ensures bytes { IfOk result (λ used. self.new.bytes ≡ self.old.bytes + used) }
+        ensures few { self.new.bytes ≤ self.old.bytes + length_of rest.now }
+        ensures run { IfOk result (λ used. RunsBehind self.old flat.old (take used rest.now) self.new flat.new) }
     {
-        match self.take_on(number, length) {
-            Ok(true) => Ok(None),
-            Ok(false) => self.close(number),
-            Err(stop) => Err(stop),
-        }
+        let taken = take_points(flat, &mut self.phase, self.position, rest)?;
+        self.bytes += taken.used as u64;
+        self.position = taken.position;
+        Ok(taken.used)
     }
 }

@@ -1,29 +1,24 @@
-//! A blob that is read byte by byte.
-ghost use Rattle.std.specs.Prelude.{◌≡◌, IfOk, IfErr, IfSome, Ok, Err, Some, take, ◌+◌, ◌<◌, ◌≤◌, ◌^◌, ◌++◌, ◌∷◌, [], List, ℕ, true, false, length as length_of};
+//! A blob that is read byte by byte into a flat form.
+ghost use Rattle.std.specs.Prelude.{◌≡◌, IfOk, ◌+◌, ◌<◌, ◌≤◌, ◌^◌, ◌++◌, ◌∷◌, [], List, ℕ, take, length as length_of};
 ghost use Rattle.twkb_num.specs.Varint.{IsOpenVarint};
-ghost use Rattle.twkb_engine.specs.Decoding.{stack_of};
-ghost use Rattle.twkb_engine.specs.Pairs.{stands_within as within_list};
+ghost use Rattle.twkb_geom.specs.Rows.{Row};
 ghost use Rattle.twkb_engine.specs.Standing.{StandsAt, IsStep, IsTakenFrom, IsFed, IsEnd, count_of, offset_in, points_in, awaited_in, held_in, open_in, allowance_of};
 
 use crate::awaited::Awaited;
 use crate::blob_reason::BlobReason;
 use crate::builder::Builder;
-use crate::front::GOES_ON;
-use crate::in_place::stands_within;
 use crate::phase::wants_byte;
-use crate::point_blob::{Made, front_blob};
 use crate::stop::Stop;
-use std::alloc::Global;
-use twkb_geom::{Geometry, Limits};
+use std::alloc::{AllocError, Global};
+use twkb_flat::Flat;
+use twkb_geom::Limits;
 use twkb_num::{Leb128, Partial, Step};
 
-/// What is taken at once has two items at least, and so as many bytes: shorter pieces are not looked at for it.
+/// Points have two numbers, and so as many bytes: shorter pieces are not looked at for them.
 const SHORTEST: usize = 2;
 
-/// How many bytes of a number may be held.
-const MOST_HELD: usize = 9;
-
-/// A blob that is read byte by byte: the geometry as far as it is built, and the bytes of a number that is not whole.
+/// A blob that is read byte by byte into a flat form, which is lent to each call: what stands open, and the bytes of a number that is
+/// not whole.
 #[derive(Drop)]
 pub struct Engine {
     builder: Builder,
@@ -33,48 +28,46 @@ pub struct Engine {
 impl Engine {
     /// One that has read nothing. Takes no memory.
     pub fn new(alloc: Global, limits: Limits) -> Engine
-        ensures stands { StandsAt [] result }
+        ensures stands { StandsAt [] [] result }
         ensures limits { allowance_of result ≡ limits }
         ensures count { count_of result ≡ 0 }
     {
-        twkb_grammar::laws::reading();
         Engine {
             builder: Builder::new(alloc, limits),
             partial: Partial::new(),
         }
     }
 
-    /// Takes a byte.
-    fn step(&mut self, byte: u8) -> Result<Option<Geometry>, Stop>
+    /// Takes a byte; answers whether a geometry ends behind it.
+    fn step(&mut self, flat: &mut Flat, byte: u8) -> Result<bool, Stop>
         requires room { count_of self.old < 2 ^ 63 }
         ensures limits { allowance_of self.new ≡ allowance_of self.old }
         ensures count { count_of self.new ≤ count_of self.old + 1 }
-        ensures step { (bs : List ℕ) → StandsAt bs self.old → IsStep (allowance_of self.old) (bs ++ byte ∷ []) result self.new }
+        ensures step { (bs : List ℕ) → StandsAt bs flat.old self.old → IsStep (allowance_of self.old) (bs ++ byte ∷ []) result flat.new self.new }
     {
         twkb_num::laws::varints();
         twkb_num::laws::long_varints();
-        twkb_grammar::laws::reading();
         let length = self.partial.len() as u64 + 1;
         if wants_byte(self.builder.phase()) {
-            return self.builder.take(u64::from(byte), 1);
+            return self.builder.take(flat, u64::from(byte), 1);
         }
         match self.partial.step(byte) {
-            Step::More => Ok(None),
-            Step::Done { value, .. } => self.builder.take(value, length),
+            Step::More => Ok(false),
+            Step::Done { value, .. } => self.builder.take(flat, value, length),
             Step::TooLong => Err(Stop::Refused(BlobReason::BadVarint)),
             Step::BadUnit => Err(Stop::Refused(BlobReason::BadVarint)),
         }
     }
 
-    /// Takes points of a list, but not its last, as far as they stand whole in front, and answers how many bytes they had.
-    fn take_ahead(&mut self, rest: &[u8]) -> Result<usize, Stop>
+    /// Takes points as far as they stand whole in front, where no byte of a number is held, and answers how many bytes they had; the
+    /// last point of a body is left. Points take memory.
+    fn take_ahead(&mut self, flat: &mut Flat, rest: &[u8]) -> Result<usize, AllocError>
         requires room { count_of self.old + length_of rest.now ≤ 2 ^ 63 }
         ensures limits { allowance_of self.new ≡ allowance_of self.old }
         ensures count { IfOk result (λ used. count_of self.new ≡ count_of self.old + used) }
         ensures few { count_of self.new ≤ count_of self.old + length_of rest.now }
         ensures within { IfOk result (λ used. used ≤ length_of rest.now) }
-        ensures memory { IfErr result (λ stop. stop ≡ Stop.Memory) }
-        ensures ahead { IfOk result (λ used. (bs : List ℕ) → StandsAt bs self.old → StandsAt (bs ++ take used rest.now) self.new) }
+        ensures ahead { IfOk result (λ used. (bs : List ℕ) → StandsAt bs flat.old self.old → StandsAt (bs ++ take used rest.now) flat.new self.new) }
     {
         if rest.len() < SHORTEST {
             return Ok(0);
@@ -82,29 +75,11 @@ impl Engine {
         if self.partial.len() > 0 {
             return Ok(0);
         }
-        match self.builder.take_points(rest) {
-            Ok(used) => Ok(used),
-            Err(_) => Err(Stop::Memory),
-        }
+        self.builder.take_points(flat, rest)
     }
 
-    /// The point whose blob stands whole in front, where no byte of a blob was taken.
-    fn front_point(&self, rest: &[u8]) -> Option<Made>
-        ensures some { IfSome result (λ made. 0 < made.used) }
-        ensures within { IfSome result (λ made. made.used ≤ length_of rest.now) }
-        ensures made { IfSome result (λ made. (bs : List ℕ) → StandsAt bs self.now → IsStep (allowance_of self.now) (bs ++ take made.used rest.now) (Ok (Some made.geometry)) self.now) }
-    {
-        if rest.len() < SHORTEST {
-            return None;
-        }
-        if self.is_between() {
-            return front_blob(self.builder.limits(), rest);
-        }
-        None
-    }
-
-    /// Takes the next bytes of a piece, one at least: what stands whole in front, or an item's byte.
-    fn take_some(&mut self, rest: &[u8]) -> Result<(usize, Option<Geometry>), Stop>
+    /// Takes the next bytes of a piece, one at least, and answers how many, and whether a geometry ends behind them.
+    fn take_some(&mut self, flat: &mut Flat, rest: &[u8]) -> Result<(usize, bool), Stop>
         requires some { 0 < length_of rest.now }
         requires room { count_of self.old + length_of rest.now ≤ 2 ^ 63 }
         ensures limits { allowance_of self.new ≡ allowance_of self.old }
@@ -112,122 +87,61 @@ impl Engine {
         ensures few { count_of self.new ≤ count_of self.old + length_of rest.now }
         ensures some { IfOk result (λ taken. 0 < taken.0) }
         ensures within { IfOk result (λ taken. taken.0 ≤ length_of rest.now) }
-        ensures taken { (bs : List ℕ) → StandsAt bs self.old → IsTakenFrom (allowance_of self.old) bs rest.now result self.new }
+        ensures taken { (bs : List ℕ) → StandsAt bs flat.old self.old → IsTakenFrom (allowance_of self.old) bs rest.now result flat.new self.new }
     {
-        if let Some(made) = self.front_point(rest) {
-            return Ok((made.used, Some(made.geometry)));
-        }
-        let used = match self.take_ahead(rest) {
+        let used = match self.take_ahead(flat, rest) {
             Ok(used) => used,
-            Err(stop) => return Err(stop),
+            Err(_) => return Err(Stop::Memory),
         };
         if used > 0 {
-            return Ok((used, None));
+            return Ok((used, false));
         }
-        match self.step(rest[0]) {
-            Ok(None) => Ok((1, None)),
-            Ok(Some(geometry)) => Ok((1, Some(geometry))),
+        match self.step(flat, rest[0]) {
+            Ok(ended) => Ok((1, ended)),
             Err(stop) => Err(stop),
         }
     }
 
-    /// Takes a piece that is one byte of a number which goes on behind it; answers whether it did. Takes no memory.
-    #[inline(always)]
-    fn hold(&mut self, piece: &[u8]) -> bool
-        ensures limits { allowance_of self.new ≡ allowance_of self.old }
-        ensures count { count_of self.new ≤ count_of self.old + length_of piece.now }
-        ensures fed { result ≡ true → (bs : List ℕ) → StandsAt bs self.old → IsFed (allowance_of self.old) bs piece.now (Ok (1, None)) self.new }
-        ensures left { result ≡ false → self.new ≡ self.old }
-    {
-        twkb_num::laws::varints();
-        twkb_num::laws::due_answers::<Leb128>();
-        let [byte] = piece else {
-            return false;
-        };
-        if *byte < GOES_ON || self.partial.len() == MOST_HELD || wants_byte(self.builder.phase()) {
-            return false;
-        }
-        self.partial.step(*byte);
-        true
-    }
-
-    /// Takes a byte of a coordinate that ends no list and no geometry.
-    #[inline(never)]
-    fn step_within(&mut self, byte: u8) -> Result<(), Stop>
-        requires room { count_of self.old < 2 ^ 63 }
-        requires within { within_list self.old.builder.phase ≡ true }
-        ensures limits { allowance_of self.new ≡ allowance_of self.old }
-        ensures count { count_of self.new ≤ count_of self.old + 1 }
-        ensures done { IfOk result (λ _. (bs : List ℕ) → StandsAt bs self.old → StandsAt (bs ++ byte ∷ []) self.new) }
-        ensures refused { IfErr result (λ stop. (bs : List ℕ) → StandsAt bs self.old → IsStep (allowance_of self.old) (bs ++ byte ∷ []) (Err stop) self.new) }
-    {
-        twkb_num::laws::varints();
-        twkb_num::laws::long_varints();
-        let length = self.partial.len() as u64 + 1;
-        match self.partial.step(byte) {
-            Step::More => Ok(()),
-            Step::Done { value, .. } => {
-                match self.builder.take_on(value, length) {
-                    Ok(_) => Ok(()),
-                    Err(stop) => Err(stop),
-                }
-            }
-            Step::TooLong => Err(Stop::Refused(BlobReason::BadVarint)),
-            Step::BadUnit => Err(Stop::Refused(BlobReason::BadVarint)),
-        }
-    }
-
-    /// Takes a piece that is one byte, where that goes on with a number, or is one of a coordinate that ends no list and no
-    /// geometry; answers whether it did. It does what `feed` does with that piece, in less time. A point takes memory.
-    #[inline(always)]
-    pub fn take_byte(&mut self, piece: &[u8]) -> Result<bool, Stop>
-        requires room { count_of self.old + length_of piece.now ≤ 2 ^ 63 }
-        ensures limits { allowance_of self.new ≡ allowance_of self.old }
-        ensures count { count_of self.new ≤ count_of self.old + length_of piece.now }
-        ensures taken { IfOk result (λ taken. taken ≡ true → (bs : List ℕ) → StandsAt bs self.old → IsFed (allowance_of self.old) bs piece.now (Ok (1, None)) self.new) }
-        ensures left { IfOk result (λ taken. taken ≡ false → self.new ≡ self.old) }
-        ensures refused { IfErr result (λ stop. (bs : List ℕ) → StandsAt bs self.old → IsFed (allowance_of self.old) bs piece.now (Err stop) self.new) }
-    {
-        if self.hold(piece) {
-            return Ok(true);
-        }
-        let [byte] = piece else {
-            return Ok(false);
-        };
-        if !stands_within(self.builder.phase()) {
-            return Ok(false);
-        }
-        match self.step_within(*byte) {
-            Ok(()) => Ok(true),
-            Err(stop) => Err(stop),
-        }
-    }
-
-    /// Takes bytes up to the end of a geometry, else all of them, and answers how many. An item that is kept takes memory.
-    pub fn feed(&mut self, piece: &[u8]) -> Result<(usize, Option<Geometry>), Stop>
+    /// Takes bytes up to the end of a geometry, else all of them, and answers how many, and whether a geometry ends behind them. The
+    /// form has no rows where a blob begins, and then those that were read of it; the rows of a geometry that ended stay in it, and the
+    /// next call wants it cleared. A row, a point, an id and an open collection take memory.
+    pub fn feed(&mut self, flat: &mut Flat, piece: &[u8]) -> Result<(usize, bool), Stop>
         requires room { count_of self.old + length_of piece.now ≤ 2 ^ 63 }
         ensures limits { allowance_of self.new ≡ allowance_of self.old }
         ensures count { count_of self.new ≤ count_of self.old + length_of piece.now }
         ensures within { IfOk result (λ fed. fed.0 ≤ length_of piece.now) }
-        ensures fed { (bs : List ℕ) → StandsAt bs self.old → IsFed (allowance_of self.old) bs piece.now result self.new }
+        ensures fed { (bs : List ℕ) → StandsAt bs flat.old self.old → IsFed (allowance_of self.old) bs piece.now result flat.new self.new }
     {
         let mut used = 0;
         while used < piece.len() {
-            match self.take_some(&piece[used..]) {
-                Ok((count, None)) => used += count,
-                Ok((count, Some(geometry))) => return Ok((used + count, Some(geometry))),
+            let (count, ended) = match self.take_some(flat, &piece[used..]) {
+                Ok(taken) => taken,
                 Err(stop) => return Err(stop),
+            };
+            used += count;
+            if ended {
+                return Ok((used, true));
             }
         }
-        Ok((used, None))
+        Ok((used, false))
+    }
+
+    /// Forgets what it has read, and keeps its room. Takes no memory.
+    pub fn restart(&mut self)
+        ensures stands { StandsAt [] [] self.new }
+        ensures limits { allowance_of self.new ≡ allowance_of self.old }
+        ensures count { count_of self.new ≡ 0 }
+    {
+        self.builder.restart();
+        self.partial = Partial::new();
     }
 
     /// Whether no byte was taken since the last blob's end. Takes no memory.
     pub fn is_between(&self) -> bool
-        ensures { (bs : List ℕ) → StandsAt bs self.now → IsEnd (allowance_of self.now) bs (offset_in self.now) result }
+        ensures { (bs : List ℕ) (rs : List Row) → StandsAt bs rs self.now → IsEnd (allowance_of self.now) bs (offset_in self.now) result }
     {
         twkb_num::laws::varints();
-        twkb_grammar::laws::reading();
+        twkb_outline::laws::reading();
         if self.partial.len() > 0 {
             return false;
         }
@@ -268,10 +182,17 @@ impl Engine {
         self.builder.awaited()
     }
 
+    /// The limits of each geometry. Takes no memory.
+    pub fn limits(&self) -> Limits
+        ensures { result ≡ allowance_of self.now }
+    {
+        self.builder.limits()
+    }
+
     /// How many geometries are begun and not finished. Takes no memory.
     pub fn open_geometries(&self) -> usize
         ensures open { result ≡ open_in self.now }
-        ensures few { (bs : List ℕ) → StandsAt bs self.now → result ≤ (allowance_of self.now).nest + 1 }
+        ensures few { (bs : List ℕ) (rs : List Row) → StandsAt bs rs self.now → result ≤ (allowance_of self.now).nest + 1 }
     {
         self.builder.open_geometries()
     }

@@ -1,18 +1,22 @@
 //! From a type byte to a body.
-ghost use Rattle.std.specs.Prelude.{◌≡◌, ◌<◌, [], None};
+ghost use Rattle.std.specs.Prelude.{◌≡◌, ◌<◌, ◌/◌, ◌%◌, [], ℤ, ℕ, Option, None, Some, IfOk, OnOk};
 ghost use Rattle.twkb_num.specs.Zigzag.{unzigzag_of};
 ghost use Rattle.twkb_geom.specs.Tree.{IsPrecision};
 ghost use Rattle.twkb_grammar.specs.Bits.{bit};
-ghost use Rattle.twkb_grammar.specs.Machine.{Kind as MachineKind, wanting, begun, asked, AtEnd, empty_of, with_option, kind_at as kind_of_number};
-ghost use Rattle.twkb_engine.specs.State.{next_of, phase_of, kind_of, head_of, placed, role_of_part, roles_behind, size_roles, box_roles};
-ghost use Rattle.twkb_engine.specs.Decoding.{objection_of, objection_to_header};
-ghost use Rattle.twkb_engine.specs.Fitting.{NextFits, PhaseFits};
+ghost use Rattle.twkb_grammar.specs.Machine.{Kind as MachineKind, asked, with_option, kind_at as kind_of_number};
+ghost use Rattle.twkb_outline.specs.Outline.{options, begins, OnMetadata, OnBody};
+ghost use Rattle.twkb_outline.specs.Growing.{header_change, applied};
+ghost use Rattle.twkb_engine.specs.Body.{form_of, spot_of};
+ghost use Rattle.twkb_engine.specs.State.{kind_of, head_of, step_of, behind_of, behind_change, role_of_part, roles_behind, size_roles, box_roles, IsPlaced};
 
-use crate::blob_reason::BlobReason;
-use crate::phase::{Axis, Kind, Many, Next, Optional, Phase, end};
-use crate::place::{AreaPlace, Head, LinePlace, PointPlace};
-use std::alloc::Global;
-use twkb_geom::{Areas, Lines, Members, Pts, Shape};
+use crate::body::Body;
+use crate::lefts::{Lefts, Spot};
+use crate::names::Names;
+use crate::phase::{Behind, Kind, Many, Optional, Phase};
+use crate::place::{Head, Place, Site, Typed};
+use crate::site::{Form, begin_row, whole_row};
+use std::alloc::{AllocError, Global};
+use twkb_flat::Flat;
 
 /// Bit of a metadata byte: a box follows.
 pub const BOX: u32 = 0;
@@ -31,17 +35,6 @@ pub const EMPTY: u32 = 4;
 
 /// Numbers of a box behind the first.
 const BOX_REST: u8 = 3;
-
-/// What stands behind a header's byte or part.
-#[derive(Clone, Copy, Debug, PartialEq, Eq)]
-pub enum Behind {
-    /// An optional part.
-    Part(Optional),
-    /// The body.
-    Body,
-    /// No body: the geometry ends.
-    Nothing,
-}
 
 /// Whether a bit of a byte is set; bit 0 is the lowest.
 pub fn has_bit(number: u64, position: u32) -> bool
@@ -62,97 +55,51 @@ pub fn precision_at(half: u64) -> i8
 }
 
 /// The type of a type byte's lower half, which is 1 to 7.
-pub fn kind_at(number: u64) -> Kind
+fn kind_at(number: u64) -> Kind
     ensures { kind_of result ≡ kind_of_number number }
 {
     match number {
-        1 => Kind::Point,
-        2 => Kind::Line,
-        3 => Kind::Polygon,
-        4 => Kind::MultiPoint,
-        5 => Kind::MultiLine,
-        6 => Kind::MultiPolygon,
+        1 => Kind::Simple(Form::Point),
+        2 => Kind::Simple(Form::Line),
+        3 => Kind::Simple(Form::Polygon),
+        4 => Kind::Simple(Form::MultiPoint),
+        5 => Kind::Simple(Form::MultiLine),
+        6 => Kind::Simple(Form::MultiPolygon),
         _ => Kind::Collection,
     }
 }
 
-/// The header behind a metadata byte, before its optional parts.
-pub fn head_of_byte(precision: i8, number: u64, bytes: u64) -> Head
+/// What follows a type byte.
+pub fn after_type(number: u64) -> Phase
     requires { number < 256 }
-    ensures head { head_of result ≡ record { precision = precision; meta = number; size = None; from = bytes } }
-    ensures precision { result.precision ≡ precision }
+    ensures step { step_of result ≡ OnMetadata (kind_of_number (number % 16)) (unzigzag_of (number / 16)) }
+{
+    let typed = Typed {
+        kind: kind_at(number % 16),
+        precision: precision_at(number / 16),
+    };
+    Phase::Metadata(typed)
+}
+
+/// The header behind a metadata byte, before its optional parts.
+fn head_of_byte(typed: Typed, number: u64, bytes: u64) -> Head
+    requires { number < 256 }
+    ensures head { head_of result ≡ record { precision = typed.precision; meta = number; size = None; from = bytes } }
+    ensures precision { result.precision ≡ typed.precision }
     ensures metadata { result.metadata ≡ number }
 {
     Head {
-        precision,
+        precision: typed.precision,
         metadata: number as u8,
         size: None,
         from: bytes,
     }
 }
 
-/// Why this number is no type byte.
-pub fn bad_type(number: u64) -> Option<BlobReason>
-    ensures { objection_of result ≡ objection_to_header number }
-{
-    let kind = number % 16;
-    if kind == 0 || kind > 7 {
-        Some(BlobReason::BadType)
-    } else {
-        None
-    }
-}
-
-/// A geometry of the kind without points or members. Takes no memory.
-fn empty(alloc: Global, kind: Kind, head: Head) -> Next
-    requires { IsPrecision head.precision }
-    ensures next { next_of result ≡ AtEnd (head_of head) (empty_of (kind_of kind) head.precision) }
-    ensures fits { NextFits result }
-{
-    let shape = match kind {
-        Kind::Point => Shape::Point(None),
-        Kind::Line => Shape::Line(Pts::from_vec(Vec::new(alloc))),
-        Kind::Polygon => Shape::Polygon(Lines::from_vec(Vec::new(alloc))),
-        Kind::MultiPoint => Shape::MultiPoint(Pts::from_vec(Vec::new(alloc)), None),
-        Kind::MultiLine => Shape::MultiLine(Lines::from_vec(Vec::new(alloc)), None),
-        Kind::MultiPolygon => Shape::MultiPolygon(Areas::from_vec(Vec::new(alloc)), None),
-        Kind::Collection => Shape::Collection(Members::from_vec(Vec::new(alloc)), None),
-    };
-    end(head, shape)
-}
-
-/// The body begins.
-pub fn begin_body(kind: Kind, head: Head) -> Phase
-    requires { IsPrecision head.precision }
-    ensures phase { phase_of result ≡ begun (kind_of kind) (head_of head) }
-    ensures fits { PhaseFits result }
-{
-    match kind {
-        Kind::Point => Phase::Coordinate(Axis::X, PointPlace::Point(head)),
-        Kind::Line => Phase::LineCount(LinePlace::Line(head)),
-        Kind::Polygon => Phase::AreaCount(AreaPlace::Polygon(head)),
-        Kind::MultiPoint => Phase::Count {
-            many: Many::Points,
-            head,
-        },
-        Kind::MultiLine => Phase::Count {
-            many: Many::Lines,
-            head,
-        },
-        Kind::MultiPolygon => Phase::Count {
-            many: Many::Areas,
-            head,
-        },
-        Kind::Collection => Phase::Count {
-            many: Many::Geometries,
-            head,
-        },
-    }
-}
-
 /// What stands behind a header whose optional parts were read.
 fn behind_box(head: Head) -> Behind
-    ensures { (k : MachineKind) → placed k (head_of head) result ≡ wanting k (head_of head) [] }
+    ensures step { (k : MachineKind) → behind_of k (head_of head) result ≡ options k (head_of head) [] }
+    ensures rows { (d : ℕ) (id : Option ℤ) (k : MachineKind) (p : ℤ) → behind_change d id k p result ≡ header_change d id k p head.metadata [] }
 {
     if has_bit(u64::from(head.metadata), EMPTY) {
         Behind::Nothing
@@ -162,7 +109,8 @@ fn behind_box(head: Head) -> Behind
 }
 
 fn behind_size(head: Head) -> Behind
-    ensures { (k : MachineKind) → placed k (head_of head) result ≡ wanting k (head_of head) (box_roles head.metadata) }
+    ensures step { (k : MachineKind) → behind_of k (head_of head) result ≡ options k (head_of head) (box_roles head.metadata) }
+    ensures rows { (d : ℕ) (id : Option ℤ) (k : MachineKind) (p : ℤ) → behind_change d id k p result ≡ header_change d id k p head.metadata (box_roles head.metadata) }
 {
     if has_bit(u64::from(head.metadata), BOX) {
         Behind::Part(Optional::Box { left: BOX_REST })
@@ -172,7 +120,8 @@ fn behind_size(head: Head) -> Behind
 }
 
 fn behind_extended(head: Head) -> Behind
-    ensures { (k : MachineKind) → placed k (head_of head) result ≡ wanting k (head_of head) (size_roles head.metadata) }
+    ensures step { (k : MachineKind) → behind_of k (head_of head) result ≡ options k (head_of head) (size_roles head.metadata) }
+    ensures rows { (d : ℕ) (id : Option ℤ) (k : MachineKind) (p : ℤ) → behind_change d id k p result ≡ header_change d id k p head.metadata (size_roles head.metadata) }
 {
     if has_bit(u64::from(head.metadata), SIZE) {
         Behind::Part(Optional::Size)
@@ -182,8 +131,9 @@ fn behind_extended(head: Head) -> Behind
 }
 
 /// What stands behind a metadata byte.
-pub fn behind_metadata(head: Head) -> Behind
-    ensures { (k : MachineKind) → placed k (head_of head) result ≡ wanting k (head_of head) (asked head.metadata) }
+fn behind_metadata(head: Head) -> Behind
+    ensures step { (k : MachineKind) → behind_of k (head_of head) result ≡ options k (head_of head) (asked head.metadata) }
+    ensures rows { (d : ℕ) (id : Option ℤ) (k : MachineKind) (p : ℤ) → behind_change d id k p result ≡ header_change d id k p head.metadata (asked head.metadata) }
 {
     if has_bit(u64::from(head.metadata), EXTENDED) {
         Behind::Part(Optional::Extended)
@@ -193,8 +143,9 @@ pub fn behind_metadata(head: Head) -> Behind
 }
 
 /// What stands behind an optional part.
-pub fn behind_part(head: Head, part: Optional) -> Behind
-    ensures { (k : MachineKind) → placed k (head_of head) result ≡ wanting k (head_of head) (roles_behind head.metadata part) }
+fn behind_part(head: Head, part: Optional) -> Behind
+    ensures step { (k : MachineKind) → behind_of k (head_of head) result ≡ options k (head_of head) (roles_behind head.metadata part) }
+    ensures rows { (d : ℕ) (id : Option ℤ) (k : MachineKind) (p : ℤ) → behind_change d id k p result ≡ header_change d id k p head.metadata (roles_behind head.metadata part) }
 {
     match part {
         Optional::Extended => behind_extended(head),
@@ -210,34 +161,171 @@ pub fn behind_part(head: Head, part: Optional) -> Behind
 }
 
 /// The header with an optional part of this number, behind so many bytes.
-pub fn head_with(head: Head, part: Optional, bytes: u64, number: u64) -> Head
+fn head_with(head: Head, part: Optional, bytes: u64, number: u64) -> Head
     ensures head { head_of result ≡ with_option (head_of head) (role_of_part part) number bytes }
     ensures precision { result.precision ≡ head.precision }
     ensures metadata { result.metadata ≡ head.metadata }
 {
+    let Head {
+        precision,
+        metadata,
+        size,
+        from,
+    } = head;
     match part {
         Optional::Extended => Head {
+            precision,
+            metadata,
+            size,
             from: bytes,
-            ..head
         },
         Optional::Size => Head {
+            precision,
+            metadata,
             size: Some(number),
             from: bytes,
-            ..head
         },
         Optional::Box { .. } => head,
     }
 }
 
-/// What stands behind a header's byte or part, or the end of a geometry without a body. Takes no memory.
-pub fn go_behind(alloc: Global, kind: Kind, head: Head, behind: Behind) -> Next
-    requires { IsPrecision head.precision }
-    ensures next { next_of result ≡ placed (kind_of kind) (head_of head) behind }
-    ensures fits { NextFits result }
+/// Where a geometry of this header stands.
+pub fn site_of(place: Place, head: Head) -> Site
+    ensures depth { result.depth ≡ place.depth }
+    ensures id { result.id ≡ place.id }
+    ensures precision { result.precision ≡ head.precision }
+{
+    Site {
+        depth: place.depth,
+        id: place.id,
+        precision: head.precision,
+    }
+}
+
+/// A body without members that have ids begins. Takes no memory.
+fn simple_body(alloc: Global, place: Place, head: Head, form: Form, spot: Spot) -> Phase
+    ensures step { step_of result ≡ OnBody (head_of head) (form_of form) None (spot_of spot) }
+    ensures placed { IsPlaced place.depth place.id result }
+{
+    let names = Names {
+        named: false,
+        ids: Vec::new(alloc),
+        given: 0,
+    };
+    let site = site_of(place, head);
+    Phase::Body(
+        head,
+        Body {
+            site,
+            form,
+            names,
+            spot,
+        },
+    )
+}
+
+/// The body begins. Takes no memory.
+fn begin_body(alloc: Global, place: Place, kind: Kind, head: Head) -> Phase
+    ensures step { step_of result ≡ begins (kind_of kind) (head_of head) }
+    ensures placed { IsPlaced place.depth place.id result }
+{
+    match kind {
+        Kind::Simple(Form::Point) => {
+            simple_body(alloc, place, head, Form::Point, Spot::X(Lefts::Empty))
+        }
+        Kind::Simple(Form::Line) => {
+            simple_body(
+                alloc,
+                place,
+                head,
+                Form::Line,
+                Spot::LineCount(Lefts::Empty),
+            )
+        }
+        Kind::Simple(Form::Polygon) => {
+            simple_body(
+                alloc,
+                place,
+                head,
+                Form::Polygon,
+                Spot::AreaCount(Lefts::Empty),
+            )
+        }
+        Kind::Simple(Form::MultiPoint) => Phase::Count {
+            many: Many::Points,
+            head,
+        },
+        Kind::Simple(Form::MultiLine) => Phase::Count {
+            many: Many::Lines,
+            head,
+        },
+        Kind::Simple(Form::MultiPolygon) => Phase::Count {
+            many: Many::Areas,
+            head,
+        },
+        Kind::Collection => Phase::Count {
+            many: Many::Geometries,
+            head,
+        },
+    }
+}
+
+/// Goes to what stands behind a header's byte or part: a geometry without a body has a row at once, for which it takes memory.
+fn go_behind(
+    flat: &mut Flat,
+    alloc: Global,
+    place: Place,
+    kind: Kind,
+    head: Head,
+    behind: Behind,
+) -> Result<Phase, AllocError>
+    ensures step { IfOk result (λ phase. step_of phase ≡ behind_of (kind_of kind) (head_of head) behind) }
+    ensures placed { IfOk result (IsPlaced place.depth place.id) }
+    ensures rows { OnOk result (flat.new ≡ applied (behind_change place.depth place.id (kind_of kind) head.precision behind) flat.old) }
 {
     match behind {
-        Behind::Part(part) => Next::Read(Phase::Optional { kind, head, part }),
-        Behind::Body => Next::Read(begin_body(kind, head)),
-        Behind::Nothing => empty(alloc, kind, head),
+        Behind::Part(part) => Ok(Phase::Optional { kind, head, part }),
+        Behind::Body => Ok(begin_body(alloc, place, kind, head)),
+        Behind::Nothing => {
+            begin_row(flat, whole_row(site_of(place, head), kind))?;
+            Ok(Phase::End(head))
+        }
     }
+}
+
+/// What follows a metadata byte. Takes memory for a row.
+pub fn after_metadata(
+    flat: &mut Flat,
+    alloc: Global,
+    place: Place,
+    typed: Typed,
+    bytes: u64,
+    number: u64,
+) -> Result<Phase, AllocError>
+    requires { number < 256 }
+    ensures step { IfOk result (λ phase. step_of phase ≡ options (kind_of typed.kind) (record { precision = typed.precision; meta = number; size = None; from = bytes }) (asked number)) }
+    ensures placed { IfOk result (IsPlaced place.depth place.id) }
+    ensures rows { OnOk result (flat.new ≡ applied (header_change place.depth place.id (kind_of typed.kind) typed.precision number (asked number)) flat.old) }
+{
+    let head = head_of_byte(typed, number, bytes);
+    go_behind(flat, alloc, place, typed.kind, head, behind_metadata(head))
+}
+
+/// What follows an optional part. Takes memory for a row.
+pub fn after_option(
+    flat: &mut Flat,
+    alloc: Global,
+    place: Place,
+    kind: Kind,
+    head: Head,
+    part: Optional,
+    bytes: u64,
+    number: u64,
+) -> Result<Phase, AllocError>
+    ensures step { IfOk result (λ phase. step_of phase ≡ options (kind_of kind) (with_option (head_of head) (role_of_part part) number bytes) (roles_behind head.metadata part)) }
+    ensures placed { IfOk result (IsPlaced place.depth place.id) }
+    ensures rows { OnOk result (flat.new ≡ applied (header_change place.depth place.id (kind_of kind) head.precision head.metadata (roles_behind head.metadata part)) flat.old) }
+{
+    let head = head_with(head, part, bytes, number);
+    go_behind(flat, alloc, place, kind, head, behind_part(head, part))
 }

@@ -1,19 +1,22 @@
-//! The resumable reader of TWKB blobs: bytes in, a geometry or the first fault out, in whatever pieces the bytes come.
+//! The resumable reader of TWKB blobs: bytes in, rows of a flat form or the first fault out, in whatever pieces the bytes come.
 #![tactic(auto)]
 
 mod awaited;
 mod blob_reason;
+mod body;
 mod builder;
 mod engine;
-mod frames;
 mod front;
 mod header;
-mod in_place;
+mod items;
+mod lefts;
+mod members;
 mod motion;
-mod pairs;
+mod names;
 mod phase;
 mod place;
-mod point_blob;
+mod runs;
+mod site;
 mod steps;
 mod stop;
 
@@ -21,5 +24,4 @@ pub use awaited::Awaited;
 pub use blob_reason::BlobReason;
 pub use engine::Engine;
 pub use header::precision_at;
-pub use point_blob::{Made, front_blob};
 pub use stop::Stop;

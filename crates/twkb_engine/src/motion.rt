@@ -5,13 +5,6 @@ ghost use Rattle.twkb_grammar.specs.PlainReader.{in_range};
 
 use twkb_points::Pt;
 
-/// Where the first point of a geometry counts from. Takes no memory.
-pub fn origin() -> Pt
-    ensures { result ≡ origin_of }
-{
-    Pt::try_new(0, 0).unwrap()
-}
-
 /// The place after a step along x, or `None` where that is out of range.
 #[tactic(auto, using(crate::proofs::Ranges::ranges))]
 pub fn moved_x(at: Pt, step: i64) -> Option<Pt>
@@ -30,4 +23,11 @@ pub fn moved_y(at: Pt, step: i64) -> Option<Pt>
 {
     let y = at.y().checked_add(step)?;
     Pt::try_new(at.x(), y)
+}
+
+/// Where the first point of a geometry counts from. Takes no memory.
+pub fn origin() -> Pt
+    ensures { result ≡ origin_of }
+{
+    Pt::try_new(0, 0).unwrap()
 }

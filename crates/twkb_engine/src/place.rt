@@ -1,77 +1,41 @@
-//! Where a point, a line or a polygon stands in the geometry that is read.
-use twkb_geom::{Ids, Lines, Pts};
-use twkb_points::Pt;
+//! Headers, and where geometries stand.
+ghost use Rattle.std.specs.Prelude.{◌+◌, ◌<◌, ◌^◌};
+ghost use Rattle.twkb_geom.specs.Tree.{IsPrecision};
 
-/// What a geometry's header says, as far as it was read (TWKB, type, metadata and size).
-#[derive(Clone, Copy, Debug, PartialEq, Eq)]
-pub struct Head {
-    /// Decimals of the coordinates, -8 to 7.
+use crate::phase::Kind;
+
+/// What a type byte says.
+#[derive(Clone, Copy, Debug)]
+pub struct Typed {
+    pub kind: Kind,
     pub precision: i8,
-    /// The metadata byte.
+    ghost fits: { IsPrecision precision },
+}
+
+/// A header: what its type byte and metadata byte say, its size if it has one, and behind how many bytes that counts.
+#[derive(Clone, Copy, Debug)]
+pub struct Head {
+    pub precision: i8,
     pub metadata: u8,
-    /// The size that was declared.
     pub size: Option<u64>,
-    /// Where the bytes begin that a size counts, in bytes from the blob's start.
     pub from: u64,
+    ghost fits: { IsPrecision precision },
 }
 
-/// Where a list of polygons stands.
-#[derive(Debug, Drop)]
-pub struct AreasPlace {
-    /// The multipolygon's header.
-    pub head: Head,
-    /// The ids of its polygons.
-    pub ids: Ids,
+/// How deep a geometry stands, and its id.
+#[derive(Clone, Copy, Debug)]
+pub struct Place {
+    pub depth: u32,
+    pub id: Option<i64>,
+    ghost shallow: { depth + 2 < 2 ^ 32 },
 }
 
-/// Where a list of lines or rings stands.
-#[derive(Debug, Drop)]
-pub enum AreaPlace {
-    /// The rings of a polygon.
-    Polygon(Head),
-    /// The lines of a multilinestring.
-    MultiLine(Head, Ids),
-    /// A polygon of a multipolygon: behind those that are done, with so many more behind it.
-    InAreas {
-        /// The polygons that are done.
-        done: Vec<Lines>,
-        /// How many follow this one.
-        left: u64,
-        /// Where the polygons stand.
-        areas: AreasPlace,
-    },
-}
-
-/// Where a list of points stands.
-#[derive(Debug, Drop)]
-pub enum LinePlace {
-    /// The points of a linestring.
-    Line(Head),
-    /// The points of a multipoint.
-    MultiPoint(Head, Ids),
-    /// A line or ring of a list: behind those that are done, with so many more behind it.
-    InArea {
-        /// The lines that are done.
-        done: Vec<Pts>,
-        /// How many follow this one.
-        left: u64,
-        /// Where the lines stand.
-        area: AreaPlace,
-    },
-}
-
-/// Where a point stands.
-#[derive(Debug, Drop)]
-pub enum PointPlace {
-    /// The point of a point geometry.
-    Point(Head),
-    /// A point of a list: behind those that are done, with so many more behind it.
-    InLine {
-        /// The points that are done.
-        done: Vec<Pt>,
-        /// How many follow this one.
-        left: u64,
-        /// Where the points stand.
-        line: LinePlace,
-    },
+/// Where a geometry stands among the rows.
+#[derive(Clone, Copy, Debug)]
+pub struct Site {
+    pub depth: u32,
+    pub id: Option<i64>,
+    pub precision: i8,
+    ghost shallow: { depth + 2 < 2 ^ 32 },
+    ghost fits: { IsPrecision precision },
 }

@@ -1,88 +1,110 @@
-//! What an item announces, and what follows it.
-ghost use Rattle.std.specs.Prelude.{◌≡◌, ◌<◌, ◌≤◌, ◌+◌, ◌⊎◌, ℕ, IfOk, Some, length};
-ghost use Rattle.std.specs.List.{AllByRecursion};
-ghost use Rattle.twkb_grammar.specs.Fault.{nodes_by, points_by};
-ghost use Rattle.twkb_grammar.specs.Roles.{Role};
-ghost use Rattle.twkb_grammar.specs.Machine.{advanced, phase_role};
-ghost use Rattle.twkb_engine.specs.State.{next_of, phase_of, IsSpelled};
-ghost use Rattle.twkb_engine.specs.Frames.{frames_of};
-ghost use Rattle.twkb_engine.specs.Fitting.{FrameFits, PhaseFits, NextFits};
+//! What follows an item.
+ghost use Rattle.std.specs.Prelude.{◌≡◌, ◌<◌, ◌⊎◌, true, length, ℕ, ℤ, Option, IfOk, OnOk};
+ghost use Rattle.twkb_outline.specs.Outline.{outline_advanced};
+ghost use Rattle.twkb_outline.specs.Growing.{applied, change_of, id_in};
+ghost use Rattle.twkb_engine.specs.State.{step_of, groups_of, goes_on, stands_apart, IsPlaced, IsPlacedIn, IsShallow, IsSpelled};
+ghost use Rattle.twkb_engine.specs.Led.{IsLed, IsPut};
 
-use crate::frames::{Frames, after_count, after_id};
-use crate::header::{
-    EMPTY, behind_metadata, behind_part, go_behind, has_bit, head_of_byte, head_with, kind_at,
-    precision_at,
-};
-use crate::phase::{Axis, Kind, Many, Next, Phase, close_point, open_area, open_line};
+use crate::header::{after_metadata, after_option, after_type};
+use crate::members::{after_count, after_id};
+use crate::phase::{Groups, Phase};
+use crate::place::{Head, Place};
 use std::alloc::{AllocError, Global};
+use twkb_flat::Flat;
 use twkb_points::Pt;
 
-/// The nodes and the points that the item announces which has this number.
-pub fn announced(phase: &Phase, number: u64) -> (u64, u64)
-    ensures nodes { (level bytes : ℕ) (r : Role) → phase_role level bytes (phase_of phase.now) ≡ Some r → result.0 ≡ nodes_by r number }
-    ensures points { (level bytes : ℕ) (r : Role) → phase_role level bytes (phase_of phase.now) ≡ Some r → result.1 ≡ points_by r number }
+/// Where the geometry stands that is read in these collections.
+fn place_in(groups: &Groups) -> Place
+    requires { IsShallow groups.now.items }
+    ensures depth { result.depth ≡ length (groups_of groups.now.items) }
+    ensures id { result.id ≡ id_in (groups_of groups.now.items) }
+{
+    let depth = groups.len();
+    if depth == 0 {
+        return Place { depth: 0, id: None };
+    }
+    let id = groups[depth - 1].names.next();
+    let depth = depth as u32;
+    Place { depth, id }
+}
+
+/// What a number of a body led to.
+pub enum Led {
+    /// The next number of the body.
+    On,
+    /// The end of its geometry, which has this header.
+    Ended(Head),
+    /// Nothing: no body is read.
+    Elsewhere,
+}
+
+/// Takes a number, which leads to this position, where a body is read. A row and a point take memory.
+pub fn take_in_body(
+    phase: &mut Phase,
+    flat: &mut Flat,
+    position: Pt,
+    number: u64,
+) -> Result<Led, AllocError>
+    ensures led { IfOk result (λ led. IsLed number phase.old led phase.new) }
+    ensures rows { IfOk result (λ led. IsPut position number phase.old led flat.old flat.new) }
+    ensures placed { (d : ℕ) (id : Option ℤ) → IsPlaced d id phase.old → IsPlaced d id phase.new }
+    ensures on { goes_on phase.new ≡ goes_on phase.old }
 {
     match phase {
-        Phase::Metadata { kind, .. } => {
-            if *kind == Kind::Point && !has_bit(number, EMPTY) {
-                (0, 1)
+        Phase::Body(head, body) => {
+            if body.take(flat, number, position)? {
+                Ok(Led::Ended(*head))
             } else {
-                (0, 0)
+                Ok(Led::On)
             }
         }
-        Phase::Count { many, .. } => match many {
-            Many::Points => (number, number),
-            Many::Lines | Many::Areas | Many::Geometries => (number, 0),
-        },
-        Phase::LineCount(_) => (0, number),
-        Phase::AreaCount(_) => (number, 0),
-        Phase::Header | Phase::Optional { .. } | Phase::Id { .. } | Phase::Coordinate(_, _) => (
-            0, 0,
-        ),
+        _ => Ok(Led::Elsewhere),
     }
 }
 
-/// What follows the item of this number, with this place and so many bytes behind it. It takes memory for a list's next value.
+/// What follows the item of this number outside a body, with this place and so many bytes behind it. It takes memory for a row, an
+/// id and a group.
 pub fn next(
+    flat: &mut Flat,
     alloc: Global,
-    frames: &mut Frames,
+    groups: &mut Groups,
     phase: Phase,
     position: Pt,
     bytes: u64,
     number: u64,
-) -> Result<Next, AllocError>
+) -> Result<Phase, AllocError>
     requires byte { number < 256 ⊎ IsSpelled phase }
-    requires phase { PhaseFits phase }
-    requires frames { AllByRecursion FrameFits frames.old.items }
-    ensures next { IfOk result (λ next. (frames_of frames.new.items, next_of next) ≡ advanced position bytes number (frames_of frames.old.items) (phase_of phase)) }
-    ensures fits { IfOk result NextFits }
-    ensures frames { AllByRecursion FrameFits frames.new.items }
-    ensures depth { length frames.new.items ≤ length frames.old.items + 1 }
+    requires apart { stands_apart phase ≡ true }
+    requires few { IsShallow groups.old.items }
+    ensures few { IsShallow groups.new.items }
+    ensures step { IfOk result (λ next. (groups_of groups.new.items, step_of next) ≡ outline_advanced bytes number (groups_of groups.old.items, step_of phase)) }
+    ensures rows { IsPlacedIn groups.old.items phase → OnOk result (flat.new ≡ applied (change_of position number (groups_of groups.old.items, step_of phase)) flat.old) }
+    ensures placed { IsPlacedIn groups.old.items phase → IfOk result (IsPlacedIn groups.new.items) }
 {
     match phase {
-        Phase::Header => Ok(Next::Read(Phase::Metadata {
-            kind: kind_at(number % 16),
-            precision: precision_at(number / 16),
-        })),
-        Phase::Metadata { kind, precision } => {
-            let head = head_of_byte(precision, number, bytes);
-            Ok(go_behind(alloc, kind, head, behind_metadata(head)))
+        Phase::Header => Ok(after_type(number)),
+        Phase::Metadata(typed) => {
+            let place = place_in(groups);
+            after_metadata(flat, alloc, place, typed, bytes, number)
         }
         Phase::Optional { kind, head, part } => {
-            let head = head_with(head, part, bytes, number);
-            Ok(go_behind(alloc, kind, head, behind_part(head, part)))
+            let place = place_in(groups);
+            after_option(flat, alloc, place, kind, head, part, bytes, number)
         }
-        Phase::Count { many, head } => after_count(alloc, frames, many, head, number),
+        Phase::Count { many, head } => {
+            let place = place_in(groups);
+            after_count(flat, alloc, groups, place, many, head, number)
+        }
         Phase::Id {
             many,
             head,
             members,
             ids,
             left,
-        } => after_id(alloc, frames, many, head, members, ids, left, number),
-        Phase::LineCount(place) => open_line(alloc, place, number),
-        Phase::AreaCount(place) => open_area(alloc, place, number),
-        Phase::Coordinate(Axis::X, place) => Ok(Next::Read(Phase::Coordinate(Axis::Y, place))),
-        Phase::Coordinate(Axis::Y, place) => close_point(place, position),
+        } => {
+            let place = place_in(groups);
+            after_id(flat, groups, place, many, head, members, ids, left, number)
+        }
+        Phase::Body(_, _) | Phase::End(_) => unreachable!(),
     }
 }

@@ -35,7 +35,7 @@ no_items (x ∷ xs) e = absurd (omega (arith, e))
 
 -- the one entry
 abbrev root_entry : Row → ℕ → Entry
-root_entry row count = record { span = record { row = row; first = 0; points = count }; next = 0 }
+root_entry row count = record { span = record { row = row; first = 0; points = count }; next = record { 0 = 0 } }
 
 none_closed : (nexts spine : List ℕ) (d count next : ℕ) → count ≡ 0 → nexts ≡ closed nexts (take (count - d) (drop d spine)) next
 none_closed nexts spine d count next e = (let left : count - d ≡ 0 = omega (arith, e) in rw left refl)

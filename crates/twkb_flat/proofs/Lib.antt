@@ -3,6 +3,8 @@ pub mod EntryLemmas
 pub mod FlatLaws
 pub mod FillLemmas
 pub mod GoingOn
+pub mod LastPoint
+mod LastKinds
 pub mod LinkLemmas
 pub mod NodeLemmas
 pub mod OpenRowLemmas

@@ -24,7 +24,7 @@ next_is ds i kept total next h t (inr (is, within)) (inr (some, e)) = subst (λ 
 
 -- the node of an entry
 pub node_is : (es : List Entry) (ps : List Point) (spine : List ℕ) (count i next : ℕ) (e : Entry) (rows : List TableRow)
-    → Laid 0 (map span_of es) (length ps) → Linked (map span_depth (map span_of es)) (map next_of es) spine count → listed (map span_of es) ps ≡ rows → i < length es → e ≡ get_or es i e → Answers e.next (length es) next
+    → Laid 0 (map span_of es) (length ps) → Linked (map span_depth (map span_of es)) (map next_of es) spine count → listed (map span_of es) ps ≡ rows → i < length es → e ≡ get_or es i e → Answers e.next.0 (length es) next
     → IsNode rows i (record { row = e.span.row; next = record { 0 = next }; first = record { 0 = e.span.first }; points = e.span.points })
 node_is es ps spine count i next e rows all_laid linked view h is answers =
     let inside : i < length (map span_of es) = rw length-map h in
@@ -32,10 +32,10 @@ node_is es ps spine count i next e rows all_laid linked view h is answers =
     let span : get_or (map span_of es) i e.span ≡ e.span = get_or-map span_of es i e e.span h ∙ sym (ap span_of is) in
     let at = subst (λ (s : Span). Here 0 (map span_of es) ps i s) span (row_at 0 (map span_of es) ps i e.span laid inside) in
     let all : length (map span_depth (map span_of es)) ≡ length es = length-map _ _ ∙ length-map _ _ in
-    let kept : get_or (map next_of es) i 0 ≡ e.next = get_or-map next_of es i e 0 h ∙ sym (ap next_of is) in
+    let kept : get_or (map next_of es) i 0 ≡ e.next.0 = get_or-map next_of es i e 0 h ∙ sym (ap next_of is) in
     let link = subst (λ (k : ℕ). ((k ≡ 0) × IsOpen (map span_depth (map span_of es)) i) ⊎ (IsNext (map span_depth (map span_of es)) i k × (k < length (map span_depth (map span_of es))))) kept
     (linked.links i (omega arith)) in
-    let links = next_is (map span_depth (map span_of es)) i e.next (length es) next (omega arith) (sym all) link answers in
+    let links = next_is (map span_depth (map span_of es)) i e.next.0 (length es) next (omega arith) (sym all) link answers in
     subst (λ (rs : List TableRow). IsNode rs i (record { row = e.span.row; next = record { 0 = next }; first = record { 0 = e.span.first }; points = e.span.points })) view
     (record {
       own = at.own;

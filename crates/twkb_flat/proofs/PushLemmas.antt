@@ -33,7 +33,7 @@ new_span row ps qs = record { row = row; first = length ps; points = length qs }
 
 -- and its entry
 abbrev new_entry : Row → List Point → List Point → Entry
-new_entry row ps qs = record { span = new_span row ps qs; next = 0 }
+new_entry row ps qs = record { span = new_span row ps qs; next = record { 0 = 0 } }
 
 -- the rows with one more
 pushed_view : (es after : List Entry) (ps qs : List Point) (spine : List ℕ) (os : List OpenRow) (count : ℕ) (row : Row) (rows : List TableRow)
@@ -95,7 +95,7 @@ pushed_flat es after ps qs spine os new_open count row rows flat view continues 
 pub record Pushed (es mid after : List Entry) (ps qs now : List Point) (spine : List ℕ) (count first total : ℕ) (row : Row) : Type 0 where
   pub first_is : length ps ≡ first
   pub total_is : length es ≡ total
-  pub mid_is : mid ≡ es ++ record { span = record { row = row; first = first; points = length qs }; next = 0 } ∷ []
+  pub mid_is : mid ≡ es ++ record { span = record { row = row; first = first; points = length qs }; next = record { 0 = 0 } } ∷ []
   pub spans : map span_of after ≡ map span_of mid
   pub nexts : map next_of after ≡ closed (map next_of mid) (take (count - row.depth) (drop row.depth spine)) total
   pub now_is : now ≡ ps ++ qs
@@ -104,7 +104,7 @@ pub record Pushed (es mid after : List Entry) (ps qs now : List Point) (spine : 
 mid_entries : {es mid after : List Entry} {ps qs now : List Point} {spine : List ℕ} {count first total : ℕ} {row : Row}
     → Pushed es mid after ps qs now spine count first total row → mid ≡ es ++ new_entry row ps qs ∷ []
 mid_entries {es = es} {mid = mid} {qs = qs} {row = row} p =
-    subst (λ (n : ℕ). mid ≡ es ++ record { span = record { row = row; first = n; points = length qs }; next = 0 } ∷ []) (sym p.first_is) p.mid_is
+    subst (λ (n : ℕ). mid ≡ es ++ record { span = record { row = row; first = n; points = length qs }; next = record { 0 = 0 } } ∷ []) (sym p.first_is) p.mid_is
 
 -- the rows after a push
 pub view_after : (es mid after : List Entry) (ps qs now : List Point) (spine : List ℕ) (os : List OpenRow) (count first total : ℕ) (row : Row) (rows : List TableRow)
@@ -129,7 +129,7 @@ flat_after es mid after ps qs now spine os new_open count first total row rows f
 -- the same where the row's points are counted by what all points became
 pub pushed_as : (es put mid after : List Entry) (ps qs now : List Point) (spine : List ℕ) (count first total size : ℕ) (row : Row)
     → length ps ≡ first → length es ≡ total → size ≡ length now → now ≡ ps ++ qs
-    → put ≡ es ++ record { span = record { row = row; first = first; points = size - first }; next = 0 } ∷ [] → mid ≡ put → map span_of after ≡ map span_of mid
+    → put ≡ es ++ record { span = record { row = row; first = first; points = size - first }; next = record { 0 = 0 } } ∷ [] → mid ≡ put → map span_of after ≡ map span_of mid
     → map next_of after ≡ closed (map next_of mid) (take (count - row.depth) (drop row.depth spine)) total
     → Pushed es mid after ps qs now spine count first total row
 pushed_as es put mid after ps qs now spine count first total size row first_is total_is size_is now_is put_is mid_is spans nexts =
@@ -137,7 +137,7 @@ pushed_as es put mid after ps qs now spine count first total size row first_is t
     record {
       first_is = first_is;
       total_is = total_is;
-      mid_is = mid_is ∙ put_is ∙ ap (λ (n : ℕ). es ++ record { span = record { row = row; first = first; points = n }; next = 0 } ∷ []) own;
+      mid_is = mid_is ∙ put_is ∙ ap (λ (n : ℕ). es ++ record { span = record { row = row; first = first; points = n }; next = record { 0 = 0 } } ∷ []) own;
       spans = spans;
       nexts = nexts;
       now_is = now_is;

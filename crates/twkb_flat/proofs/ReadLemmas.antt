@@ -1,11 +1,13 @@
 -- The row at a place, by its entry.
 use Rattle.std.proofs.Common.{◌≡◌, ℕ, ◌+◌, ◌-◌, ◌<◌, ◌≤◌, List, [], ◌∷◌, ◌++◌, map, length, take, drop, get_or, refl, sym, ap, ◌∙◌, subst, arith, eq-eqb}
-use Rattle.std.specs.Prelude.{IsTrue, ◌↔◌, ◌==◌}
-use Rattle.std.proofs.lemmas.List.{length-map, length-append, length-drop, get_or-map, take-append-drop, take_at, drop_at, drop_all}
+use Rattle.std.specs.Prelude.{IsTrue, ◌↔◌, ◌==◌, slice_get, Some}
+use Rattle.std.proofs.lemmas.List.{length-map, length-append, length-drop, get_or-drop, get_or-map, take-append-drop, take_at, drop_at, drop_all}
+use Rattle.std.proofs.lemmas.Option.{slice_get_read}
 use Rattle.std.proofs.lemmas.Bool.{eqb-true}
 use Rattle.std.proofs.lemmas.Grind.{flat_map-append}
 use Rattle.twkb_points.specs.Point.{Point}
 use Rattle.twkb_geom.specs.Rows.{Row as TableRow, row_points}
+use Rattle.twkb_flat.specs.declared.node.Row.{Row}
 use Rattle.twkb_flat.specs.declared.entries.Span.{Span}
 use Rattle.twkb_flat.specs.declared.entries.Entry.{Entry}
 use Rattle.twkb_flat.specs.Rows.{row_with}
@@ -103,3 +105,15 @@ first_of (r ∷ rest) h = (r, rest, refl)
 -- the row at a place within the rows
 pub some_at : (rows : List TableRow) (i : ℕ) → i < length rows → (r : TableRow) × (rest : List TableRow) × (drop i rows ≡ r ∷ rest)
 some_at rows i h = first_of (drop i rows) (omega (arith, length-drop i rows))
+
+-- the row at a place, by what is said of it and of its points
+pub row_got : (rows : List TableRow) (i : ℕ) (row : Row) (own : List Point) → i < length rows
+    → ((r : TableRow) (rest : List TableRow) → drop i rows ≡ r ∷ rest → row_with row r.points ≡ r)
+    → ((r : TableRow) (rest : List TableRow) → drop i rows ≡ r ∷ rest → own ≡ r.points)
+    → slice_get rows i ≡ Some (row_with row own)
+row_got rows i row own within whole points =
+    let found = some_at rows i within in
+    let same : row_with row own ≡ found.0 = ap (row_with row) (points found.0 found.1 found.2) ∙ whole found.0 found.1 found.2 in
+    let place : i + 0 ≡ i = omega arith in
+    let read : found.0 ≡ get_or rows i found.0 = ap (λ (rs : List TableRow). get_or rs 0 found.0) (sym found.2) ∙ get_or-drop i rows 0 found.0 ∙ ap (λ (k : ℕ). get_or rows k found.0) place in
+    slice_get_read rows (length rows) i found.0 refl within read ∙ ap (λ (r : TableRow). Some r) (sym same)

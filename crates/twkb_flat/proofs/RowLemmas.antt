@@ -18,7 +18,7 @@ depths-listed [] ps = refl
 depths-listed (s ∷ ss) ps = ap (λ (ds : List ℕ). span_depth s ∷ ds) (depths-listed ss (drop s.points ps))
 
 -- the total is not below where the first begins
-laid_within : (at total : ℕ) (ss : List Span) → Laid at ss total → at ≤ total
+pub laid_within : (at total : ℕ) (ss : List Span) → Laid at ss total → at ≤ total
 laid_within at total [] e = omega arith
 laid_within at total (s ∷ ss) (first, rest) = let more = laid_within (at + s.points) total ss rest in omega arith
 

@@ -1,5 +1,5 @@
 -- The nodes as they are kept, and the rows that they stand for.
-use Rattle.std.specs.Prelude.{ℕ, ◌≡◌, ◌+◌, ◌≤◌, ◌^◌, List, [], ◌∷◌, map, length, slice_set, take, drop, reverse}
+use Rattle.std.specs.Prelude.{ℕ, ◌≡◌, ◌+◌, ◌<◌, ◌≤◌, ◌^◌, ⊤, List, [], ◌∷◌, map, length, slice_set, take, drop, reverse}
 use Rattle.twkb_points.specs.Point.{Point}
 use Rattle.twkb_geom.specs.declared.open_rows.OpenRow.{OpenRow}
 use Rattle.twkb_geom.specs.Limits.{largest_limits}
@@ -17,7 +17,7 @@ span_of e = e.span
 
 -- its link
 abbrev pub next_of : Entry → ℕ
-next_of e = e.next
+next_of e = e.next.0
 
 -- how deep its row stands
 abbrev pub span_depth : Span → ℕ
@@ -47,3 +47,19 @@ pub record IsFlat (entries : List Entry) (points : List Point) (spine : List ℕ
   pub room : length open_rows ≡ 35
   pub nodes : length entries ≤ 2 ^ 20
   pub most : length points ≤ 2 ^ 24
+
+-- a span of a point more
+abbrev pub longer : Span → Span
+longer s = record { row = s.row; first = s.first; points = s.points + 1 }
+
+-- the spans, the last of which has a point more
+abbrev pub last_longer : List Span → List Span
+last_longer [] = []
+last_longer (s ∷ []) = longer s ∷ []
+last_longer (s ∷ t ∷ ss) = s ∷ last_longer (t ∷ ss)
+
+-- the last entry has fewer points than can be counted
+abbrev pub LastHasRoom : List Entry → Type 0
+LastHasRoom [] = ⊤
+LastHasRoom (e ∷ []) = e.span.points + 1 < 2 ^ 32
+LastHasRoom (e ∷ f ∷ es) = LastHasRoom (f ∷ es)

@@ -1,5 +1,6 @@
 pub mod Admitting
 pub mod Entries
+pub mod Lasts
 pub mod Links
 pub mod Parts
 pub mod Rows

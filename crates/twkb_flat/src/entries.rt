@@ -1,8 +1,10 @@
 //! Nodes as they are kept.
-ghost use Rattle.std.specs.Prelude.{◌≡◌, ◌<◌, ◌≤◌, ◌-◌, ℕ, length, map, take, drop, slice_set, slice_index};
-ghost use Rattle.twkb_flat.specs.Entries.{span_of, next_of, closed};
+ghost use Rattle.std.specs.Prelude.{◌≡◌, ◌<◌, ◌≤◌, ◌-◌, ◌↔◌, IsTrue, ℕ, length, map, take, drop, slice_set, slice_index};
+ghost use Rattle.twkb_flat.specs.Entries.{span_of, next_of, closed, last_longer, LastHasRoom};
+ghost use Rattle.twkb_flat.specs.Lasts.{IsLineKind, LastIsLine};
 
-use crate::node::Row;
+use crate::node::{NodeId, Row};
+use twkb_geom::Kind;
 
 /// A row and where its own points are.
 #[derive(Clone, Copy, Debug)]
@@ -16,7 +18,7 @@ pub struct Span {
 #[derive(Clone, Copy, Debug)]
 pub struct Entry {
     pub span: Span,
-    pub next: u32,
+    pub next: NodeId,
 }
 
 /// Says where the subtree of one node ends.
@@ -26,7 +28,7 @@ pub fn close(entries: &mut [Entry], at: u32, next: u32)
     ensures nexts { map next_of entries.new ≡ slice_set (map next_of entries.old) at next }
 {
     let entry = &mut entries[at as usize];
-    entry.next = next;
+    entry.next = NodeId(next);
 }
 
 /// Says where the subtrees of the nodes at `spine[from..to]` end.
@@ -40,4 +42,39 @@ pub fn close_all(entries: &mut [Entry], spine: &[u32], from: usize, to: usize, n
     for at in &spine[from..to] {
         close(entries, *at, next);
     }
+}
+
+/// Counts a point more of the last node's.
+#[inline(always)]
+pub fn count_point(entries: &mut [Entry])
+    requires some { 0 < length entries.old }
+    requires room { LastHasRoom entries.old }
+    ensures spans { map span_of entries.new ≡ last_longer (map span_of entries.old) }
+    ensures nexts { map next_of entries.new ≡ map next_of entries.old }
+{
+    let last = entries.len() - 1;
+    let entry = &mut entries[last];
+    entry.span.points += 1;
+}
+
+/// Whether the row is a linestring or a ring.
+fn is_line(kind: Kind) -> bool
+    ensures { IsTrue result ↔ IsLineKind kind }
+{
+    match kind {
+        Kind::Linestring | Kind::Ring => true,
+        _ => false,
+    }
+}
+
+/// Whether there is a node, and the last is a linestring or a ring.
+#[inline(always)]
+pub fn ends_in_line(entries: &[Entry]) -> bool
+    ensures { IsTrue result ↔ LastIsLine entries.now }
+{
+    let count = entries.len();
+    if count == 0 {
+        return false;
+    }
+    is_line(entries[count - 1].span.row.kind)
 }

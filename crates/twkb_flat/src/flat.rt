@@ -1,15 +1,16 @@
 //! The flat form of one geometry.
-ghost use Rattle.std.specs.Prelude.{◌≡◌, ◌↔◌, ◌+◌, ◌<◌, ◌++◌, ◌∷◌, [], List, length, slice_get, Some, OnOk, OnErr, IfErr, IsTrue};
+ghost use Rattle.std.specs.Prelude.{◌≡◌, ◌↔◌, ◌+◌, ◌<◌, ◌≤◌, ◌^◌, ◌++◌, ◌∷◌, [], List, length, slice_get, Some, OnOk, OnErr, IfErr, IsTrue};
 ghost use Rattle.twkb_points.specs.Point.{Point};
 ghost use Rattle.twkb_geom.specs.Tree.{saturated};
 ghost use Rattle.twkb_geom.specs.Limits.{largest_limits};
 ghost use Rattle.twkb_geom.specs.Rows.{row_points};
+ghost use Rattle.twkb_geom.specs.RowGrowth.{EndsInLine, point_added};
 ghost use Rattle.twkb_geom.specs.Accepted.{Continues};
 ghost use Rattle.twkb_geom.specs.RowLists.{AreValidRowsOfOne};
 ghost use Rattle.twkb_flat.specs.Rows.{IsNode, row_with};
 
 use crate::admitting::{admits_under, open_row};
-use crate::entries::{Entry, Span, close_all};
+use crate::entries::{Entry, Span, close_all, count_point, ends_in_line};
 use crate::node::{Node, NodeId, PointId, Row};
 use crate::point_source::{Copied, PointSource};
 use crate::work::Work;
@@ -22,6 +23,9 @@ use twkb_points::Pt;
 /// How many depths a row of a geometry within `Limits::largest()` may have: a root, a member in 32
 /// collections, its parts and their rings.
 const LEVELS: usize = 35;
+
+/// The points of the largest geometry.
+const MOST_POINTS: usize = 1 << 24;
 
 /// One geometry within `Limits::largest()`, or none: its rows in preorder, and the points of all
 /// rows one after another. A contract sees the list of its rows, each with its own points.
@@ -135,7 +139,10 @@ impl Flat {
             first: 0,
             points: points.len() as u32,
         };
-        if let Err(refused) = self.entries.push(Entry { span, next: 0 }) {
+        if let Err(refused) = self.entries.push(Entry {
+            span,
+            next: NodeId(0),
+        }) {
             return Err(refused.into());
         }
         swap(&mut self.points, points);
@@ -159,6 +166,34 @@ impl Flat {
         self.push_from(row, &Copied { points })
     }
 
+    /// Whether a point more may be added: the last row is a linestring's or ring's, and there are fewer than 2^24 points. Takes no memory.
+    #[inline(always)]
+    pub fn takes_point(&self) -> bool
+        ensures { IsTrue result ↔ (EndsInLine self.now × (length (row_points self.now) < 2 ^ 24)) }
+    {
+        if !ends_in_line(&self.entries) {
+            return false;
+        }
+        self.points.len() < MOST_POINTS
+    }
+
+    /// Appends a point to those of the last row, which is a linestring's or ring's, while there is room. Takes memory; an `Err`
+    /// changes nothing.
+    #[inline(always)]
+    pub fn add_point(&mut self, point: Pt) -> Result<(), AllocError>
+        requires line { EndsInLine self.old }
+        requires room { length (row_points self.old) < 2 ^ 24 }
+        ensures added { OnOk result (self.new ≡ point_added point self.old) }
+        ensures same { OnErr result (self.new ≡ self.old) }
+    {
+        point.x();
+        if let Err(refused) = self.points.push(point) {
+            return Err(refused.into());
+        }
+        count_point(&mut self.entries);
+        Ok(())
+    }
+
     /// Appends a row whose points the source appends to those of the form, with no list between;
     /// `admits` admits it with whatever points the source may give. Takes memory; an `Err` changes
     /// nothing.
@@ -179,7 +214,11 @@ impl Flat {
             first,
             points: self.points.len() as u32 - first,
         };
-        let Ok(()) = self.entries.push(Entry { span, next: 0 }) else {
+        let Ok(()) = self.entries.push(Entry {
+            span,
+            next: NodeId(0),
+        })
+        else {
             self.points.truncate(first as usize);
             return Err(source.want_of_memory());
         };
@@ -202,13 +241,14 @@ impl Flat {
         requires { id.0 < length self.now }
         ensures node { IsNode self.now id.0 result }
         ensures counted { work.new ≡ record work.old { node_reads = saturated (work.old.node_reads + 1) } }
+        ensures no_fewer { work.old.node_reads ≤ work.new.node_reads }
     {
         work.count_node();
         let entry = self.entries[id.0 as usize];
-        let next = if entry.next == 0 {
+        let next = if entry.next.0 == 0 {
             self.node_count()
         } else {
-            entry.next
+            entry.next.0
         };
         Node {
             row: entry.span.row,
@@ -223,8 +263,23 @@ impl Flat {
         requires { id.0 < length (row_points self.now) }
         ensures point { slice_get (row_points self.now) id.0 ≡ Some result }
         ensures counted { work.new ≡ record work.old { point_reads = saturated (work.old.point_reads + 1) } }
+        ensures no_fewer { work.old.point_reads ≤ work.new.point_reads }
     {
         work.count_point();
         self.points[id.0 as usize]
+    }
+
+    /// The row at a place and its own points, counted as one read of the node and one of each of
+    /// the points. Takes no memory.
+    pub fn row_at(&self, id: NodeId, work: &mut Work) -> (Row, &[Pt])
+        requires { id.0 < length self.now }
+        ensures row { slice_get self.now id.0 ≡ Some (row_with result.0 result.1.now) }
+        ensures counted { work.new ≡ record work.old { node_reads = saturated (work.old.node_reads + 1); point_reads = saturated (work.old.point_reads + length result.1.now) } }
+    {
+        let at = id.0 as usize;
+        let row = self.row(at);
+        let points = self.own_points(at);
+        work.count_row(points.len() as u64);
+        (row, points)
     }
 }

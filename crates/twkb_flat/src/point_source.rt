@@ -3,7 +3,7 @@ ghost use Rattle.std.specs.Prelude.{◌≡◌, ◌++◌, List, OnOk, OnErr, IfEr
 ghost use Rattle.twkb_points.specs.Point.{Point};
 
 use std::alloc::AllocError;
-use twkb_points::Pt;
+use twkb_points::{PointTail, Pt};
 
 /// What appends the points of one row to those of a flat form.
 pub trait PointSource {
@@ -16,11 +16,12 @@ pub trait PointSource {
     // This is a fault that it may answer.
     ghost refuses: { Self → Self.Fault → Type 0 };
 
-    /// Appends the points of the row; an `Err` changes nothing.
-    fn append_to(&self, points: &mut Vec<Pt>) -> Result<(), Self::Fault>
-        ensures given { OnOk result ((own : List Point) × (points.new.items ≡ points.old.items ++ own) × gives self.now own) }
+    /// Appends the points of the row to a tail that is lent, whatever list it is the end of; an `Err`
+    /// changes nothing.
+    fn append_to<L: PointTail>(&self, points: &mut L) -> Result<(), Self::Fault>
+        ensures given { OnOk result ((own : List Point) × (L.held points.new ≡ L.held points.old ++ own) × gives self.now own) }
         ensures refused { IfErr result (refuses self.now) }
-        ensures same { OnErr result (points.new.items ≡ points.old.items) };
+        ensures same { OnErr result (L.held points.new ≡ L.held points.old) };
 
     /// What it answers where memory is refused.
     fn want_of_memory(&self) -> Self::Fault
@@ -43,8 +44,8 @@ impl PointSource for Copied<'_> {
     ghost refuses = { λ source fault. ⊤ };
 
     #[inline(always)]
-    fn append_to(&self, points: &mut Vec<Pt>) -> Result<(), AllocError> {
-        points.extend_from_slice(self.points)
+    fn append_to<L: PointTail>(&self, points: &mut L) -> Result<(), AllocError> {
+        points.put_all(self.points)
     }
 
     #[inline(always)]

@@ -1,5 +1,5 @@
 //! Counted work.
-ghost use Rattle.std.specs.Prelude.{◌≡◌, ◌+◌};
+ghost use Rattle.std.specs.Prelude.{◌≡◌, ◌+◌, ◌≤◌};
 ghost use Rattle.twkb_geom.specs.Tree.{saturated};
 
 /// What was measured and read, each number at most `u64::MAX`.
@@ -32,14 +32,23 @@ impl Work {
     }
 
     pub(crate) fn count_node(&mut self)
-        ensures { self.new ≡ record self.old { node_reads = saturated (self.old.node_reads + 1) } }
+        ensures counted { self.new ≡ record self.old { node_reads = saturated (self.old.node_reads + 1) } }
+        ensures no_fewer { self.old.node_reads ≤ self.new.node_reads }
     {
         self.node_reads = self.node_reads.saturating_add(1);
     }
 
     pub(crate) fn count_point(&mut self)
-        ensures { self.new ≡ record self.old { point_reads = saturated (self.old.point_reads + 1) } }
+        ensures counted { self.new ≡ record self.old { point_reads = saturated (self.old.point_reads + 1) } }
+        ensures no_fewer { self.old.point_reads ≤ self.new.point_reads }
     {
         self.point_reads = self.point_reads.saturating_add(1);
+    }
+
+    pub(crate) fn count_row(&mut self, points: u64)
+        ensures { self.new ≡ record self.old { node_reads = saturated (self.old.node_reads + 1); point_reads = saturated (self.old.point_reads + points) } }
+    {
+        self.count_node();
+        self.point_reads = self.point_reads.saturating_add(points);
     }
 }

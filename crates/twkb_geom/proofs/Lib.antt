@@ -8,6 +8,8 @@ pub mod OpenDecides
 pub mod OpenLaws
 pub mod OpenRefusal
 pub mod Pairs
+pub mod PointAdded
+pub mod PointMore
 pub mod RefusalLaws
 pub mod RootEnd
 pub mod RootLaws

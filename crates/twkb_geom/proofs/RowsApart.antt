@@ -1,5 +1,5 @@
 -- Rows determine the forest.
-use Rattle.std.proofs.Common.{◌≡◌, ℕ, suc, ◌<◌, List, [], ◌∷◌, ◌++◌, Option, Some, None, refl, sym, ◌∙◌, ap, arith, append_assoc}
+use Rattle.std.proofs.Common.{◌≡◌, ℕ, suc, List, [], ◌∷◌, ◌++◌, Option, Some, None, refl, sym, ◌∙◌, ap, arith, append_assoc}
 use Rattle.twkb_geom.specs.Rows.{Row}
 use Rattle.twkb_geom.specs.RowLists.{IsAbove}
 use Rattle.twkb_geom.proofs.RowForest.{Nodes, none, node, listed, next_first, Fit}

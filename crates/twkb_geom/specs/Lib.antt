@@ -6,6 +6,7 @@ pub mod Kind
 pub mod Limits
 pub mod Open
 pub mod Refusal
+pub mod RowGrowth
 pub mod RowLemmas
 pub mod RowLists
 pub mod RowSamples

@@ -8,8 +8,17 @@ use std::alloc::{AllocError, Global};
 use std::marker::Model;
 use twkb_points::Pt;
 
-/// What such a list may hold: a point, an id, or another list.
-pub trait Item: Drop {
+/// Marks what a list may hold. It is not passed on, so no other crate adds to it.
+pub trait Sealed {}
+
+impl Sealed for Pt {}
+
+impl Sealed for i64 {}
+
+impl<T: Item> Sealed for Items<T> {}
+
+/// What such a list may hold: a point, an id, or another list, and nothing else.
+pub trait Item: Drop + Sealed {
     // What each item is known to be.
     ghost Fits: { Self → Type 0 };
 

@@ -171,7 +171,7 @@ past limits bytes e h g (f ∷ fs) true x r =
     [ zero ↦ λ a. past limits bytes e f.head (collection f.head.precision f.ids (snoc f.done g)) fs (is_exact f.head.size (e.bytes - f.head.from)) refl a | suc n ↦ λ a. a ]
     (end_taken limits bytes e h g (f ∷ fs) x r)
 
-landed : (limits : Allowance) (bytes : List ℕ) (e : Sums) (fs : List Frame) (p : Phase) → Reached limits bytes e (fs, p) → Landed limits bytes e (ends e.bytes fs p)
+pub landed : (limits : Allowance) (bytes : List ℕ) (e : Sums) (fs : List Frame) (p : Phase) → Reached limits bytes e (fs, p) → Landed limits bytes e (ends e.bytes fs p)
 landed limits bytes e fs (AtEnd h g) r = past limits bytes e h g fs (is_exact h.size (e.bytes - h.from)) refl r
 landed limits bytes e fs AtHeader r = r
 landed limits bytes e fs (AtMetadata k p) r = r
@@ -195,3 +195,11 @@ leads limits bytes e st i r says gives = go (objection limits e i.role i.number)
         landed limits (bytes ++ i.bytes) (added e i) (stack_after e i st).0 (stack_after e i st).1
         (reached_item limits bytes e st i r says (is_item i.role i.number i.bytes gives may.1) may.0 may.2)
     go (Some reason) h = λ more. reached_fault limits bytes e st (i.bytes ++ more) i.role reason r says (h more)
+
+-- a number against which there is no objection leads to a further place, whether or not the sizes behind it are right
+pub reached_on : (limits : Allowance) (bytes : List ℕ) (e : Sums) (st : Stack) (i : Item) → Reached limits bytes e st → role_at e st ≡ Some i.role → Gives i.role i.number i.bytes
+    → objection limits e i.role i.number ≡ None → Reached limits (bytes ++ i.bytes) (added e i) (stack_after e i st)
+reached_on limits bytes e st i r says gives free =
+    let agree : Agree e r.items = subst (λ s. Agree s r.items) r.sums (agrees r.items) in
+    let may = subst (λ o. Objects limits r.items (i.bytes ++ []) i.role i.number o) free (objects limits r.items e i.role i.number i.bytes [] agree gives) in
+    reached_item limits bytes e st i r says (is_item i.role i.number i.bytes gives may.1) may.0 may.2

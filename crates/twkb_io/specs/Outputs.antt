@@ -34,6 +34,13 @@ is_device fault.Stuck = true
 is_device fault.TooLong = false
 is_device fault.Spent = false
 
+-- a fault of a write that was answered and took none
+abbrev pub is_of_stuck : OutFault → Bool
+is_of_stuck fault.Write = false
+is_of_stuck fault.Stuck = true
+is_of_stuck fault.TooLong = false
+is_of_stuck fault.Spent = false
+
 -- The writer took these bytes, and the output counted them.
 pub record Sent {W : Type 0} (contents : W → Option (List ℕ)) (old : Output W) (bytes : List ℕ) (new : Output W) : Type 0 where
   pub same_tap : (output_tap new).ghost_name ≡ (output_tap old).ghost_name

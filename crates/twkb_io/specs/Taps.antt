@@ -6,6 +6,10 @@ use Rattle.twkb_io.specs.declared.tap.Tap.{Tap}
 abbrev pub device_of : {D : Type 0} → Tap D → D
 device_of tap = tap.device
 
+-- how many reads, writes and flushes were passed on so far
+abbrev pub calls_of : {D : Type 0} → Tap D → ℕ
+calls_of tap = tap.calls
+
 -- how many calls failed so far
 abbrev pub failures_of : {D : Type 0} → Tap D → ℕ
 failures_of tap = tap.failures
@@ -18,9 +22,22 @@ bytes_given tap = tap.given
 abbrev pub has_unflushed : {D : Type 0} → Tap D → Bool
 has_unflushed tap = tap.unflushed
 
+-- whether the last write took none of the bytes that it was handed
+abbrev pub is_stuck : {D : Type 0} → Tap D → Bool
+is_stuck tap = tap.stuck
+
 -- a count with one call more, which stops at the greatest u64
+abbrev pub one_call : ℕ → ℕ
+one_call n = min (n + 1) (2 ^ 64 - 1)
+
+-- a count with one failure more, where a call failed, which stops at the greatest u64
 abbrev pub count_failure : Bool → ℕ → ℕ
 count_failure has_failed n = if has_failed then min (n + 1) (2 ^ 64 - 1) else n
+
+-- whether a write of at least one byte was answered, and took none
+abbrev pub takes_none : {E : Type 0} → Result ℕ E → List ℕ → Bool
+takes_none (Ok n) bytes = (n == 0) && not (length bytes == 0)
+takes_none (Err e) bytes = false
 
 -- a write of at least one byte that took none failed too
 abbrev pub write_failed : {E : Type 0} → Result ℕ E → List ℕ → Bool

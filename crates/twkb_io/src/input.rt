@@ -46,7 +46,7 @@ pub struct Input<'a, R: Read> {
 }
 
 impl<'a, R: Read> Input<'a, R> {
-    ghost use Rattle.twkb_io.specs.Taps.{count_failure, device_of};
+    ghost use Rattle.twkb_io.specs.Taps.{calls_of, count_failure, device_of};
     ghost use Rattle.twkb_io.specs.Inputs.{GivesNext, given, given_after, has_ended, held_of, input_failures, input_tap, is_read_fault, is_spent, rest_of};
 
     /// An input of all that the reader still tells. It reads nothing yet.
@@ -79,6 +79,7 @@ impl<'a, R: Read> Input<'a, R> {
         ensures end { result ≡ Ok None → (has_ended self.new ≡ true) × IsAtEnd (R.remaining (device_of (input_tap self.new).now)) }
         ensures for_good { has_ended self.old ≡ true → (result ≡ Ok None) × (self.new ≡ self.old) }
         ensures unread { held_of self.old ≢ [] → input_tap self.new ≡ input_tap self.old }
+        ensures once { calls_of (input_tap self.new).now ≤ calls_of (input_tap self.old).now + 1 }
 
         ensures failures { input_failures self.new ≡ count_failure (is_read_fault result) (input_failures self.old) }
         ensures too_long { result ≡ Err InFault.TooLong → (given self.old ≡ 2 ^ 62) × IfSome (rest_of self.old) (λ rest. rest ≢ []) }
@@ -106,6 +107,7 @@ impl<'a, R: Read> Input<'a, R> {
         ensures ended { has_ended self.new ≡ true → (held_of self.new ≡ []) × IsAtEnd (rest_of self.new) × IsAtEnd (R.remaining (device_of (input_tap self.new).now)) }
         ensures for_good { has_ended self.old ≡ true → (result ≡ Ok tt) × (self.new ≡ self.old) }
         ensures unread { held_of self.old ≢ [] → self.new ≡ self.old }
+        ensures once { calls_of (input_tap self.new).now ≤ calls_of (input_tap self.old).now + 1 }
 
         ensures failures { input_failures self.new ≡ count_failure (is_read_fault result) (input_failures self.old) }
         ensures too_long { result ≡ Err InFault.TooLong → (given self.old ≡ 2 ^ 62) × IfSome (rest_of self.old) (λ rest. rest ≢ []) }
@@ -178,6 +180,7 @@ impl<'a, R: Read> Input<'a, R> {
         ensures failures { input_failures self.new ≡ count_failure (is_err result) (input_failures self.old) }
         ensures end { OnOk result (self.new.at ≡ self.new.filled → has_ended self.new ≡ true) }
         ensures unread { (self.old.at < self.old.filled) ⊎ (has_ended self.old ≡ true) → (is_err result ≡ false) × (self.new ≡ self.old) }
+        ensures once { calls_of (input_tap self.new).now ≤ calls_of (input_tap self.old).now + 1 }
         ensures err { IfErr result (λ fault. fault ≡ InFault.Read) }
         ensures none_held { is_err result ≡ true → rest_of self.new ≡ R.remaining (device_of (input_tap self.new).now) }
         ensures stays { is_spent self.new ≡ is_err result }

@@ -69,14 +69,15 @@ impl<'a, W> Output<'a, W> {
 }
 
 impl<'a, W: Write> Output<'a, W> {
-    ghost use Rattle.twkb_io.specs.Taps.{count_failure, has_unflushed};
-    ghost use Rattle.twkb_io.specs.Outputs.{Refused, Took, is_device, is_spent, output_failures, output_tap, sent_of, written};
+    ghost use Rattle.twkb_io.specs.Taps.{calls_of, count_failure, has_unflushed, is_stuck, one_call};
+    ghost use Rattle.twkb_io.specs.Outputs.{Refused, Took, is_device, is_of_stuck, is_spent, output_failures, output_tap, sent_of, written};
 
     /// Flushes the writer. After an `Err` each call answers `Spent`.
     pub fn flush(&mut self) -> Result<(), OutFault>
         ensures ok { OnOk result (Took W.contents self.old [] self.new) }
         ensures err { IfErr result (λ fault. Refused W.contents self.old [] fault self.new) }
         ensures flushed { OnOk result (has_unflushed (output_tap self.new).now ≡ false) }
+        ensures asks { is_spent self.old ≡ false → calls_of (output_tap self.new).now ≡ one_call (calls_of (output_tap self.old).now) }
         ensures spent { (result ≡ Err OutFault.Spent) ↔ (is_spent self.old ≡ true) }
         ensures kinds { (result ≢ Err OutFault.Stuck) × (result ≢ Err OutFault.TooLong) }
         ensures unchanged { is_spent self.old ≡ true → self.new ≡ self.old }
@@ -99,6 +100,7 @@ impl<'a, W: Write> Output<'a, W> {
         ensures count { IfOk result (λ n. (0 < n) × (n ≤ length bytes.now)) }
         ensures ok { IfOk result (λ n. Took W.contents self.old (take n bytes.now) self.new) }
         ensures err { IfErr result (λ fault. Refused W.contents self.old [] fault self.new × (is_device fault ≡ true)) }
+        ensures told { IfErr result (λ fault. is_of_stuck fault ≡ is_stuck (output_tap self.new).now) }
     {
         match self.tap.write(bytes) {
             Ok(0) => {
@@ -118,7 +120,8 @@ impl<'a, W: Write> Output<'a, W> {
 }
 
 impl<'a, W: Write> Sink for Output<'a, W> {
-    ghost use Rattle.twkb_io.specs.Outputs.{Cut, Took, is_spent, output_tap, sent_of};
+    ghost use Rattle.twkb_io.specs.Taps.{is_stuck};
+    ghost use Rattle.twkb_io.specs.Outputs.{Cut, Took, is_device, is_of_stuck, is_spent, output_tap, sent_of};
     ghost use Rattle.twkb_io.specs.OutputLaws.{cut_join, cut_within, took_join, took_nothing};
 
     type Fault = OutFault;
@@ -149,6 +152,7 @@ impl<'a, W: Write> Sink for Output<'a, W> {
         ensures too_long { (result ≡ Err OutFault.TooLong) ↔ ((is_spent self.old ≡ false) × (2 ^ 62 < sent_of self.old + length bytes.now)) }
         ensures untouched { result ≡ Err OutFault.TooLong → (output_tap self.new ≡ output_tap self.old) × (sent_of self.new ≡ sent_of self.old) }
         ensures unchanged { is_spent self.old ≡ true → self.new ≡ self.old }
+        ensures told { IfErr result (λ fault. is_device fault ≡ true → is_of_stuck fault ≡ is_stuck (output_tap self.new).now) }
         ensures short { OnErr result (0 < length bytes.now → sent_of self.new < sent_of self.old + length bytes.now) }
     {
         if self.spent {

@@ -6,33 +6,46 @@ ghost use Rattle.std.specs.Io.KnownBytes.{Keeps, ReadConsumes, WriteAppends};
 use std::io;
 use std::io::{Read, Write};
 
-/// A reader or a writer, with a count of its calls that failed and of the bytes that it gave, which
-/// knows whether it took bytes behind its last flush. Each read, write and flush is passed through
-/// once, and answered as the device answers it. Takes no memory of its own.
+/// A reader or a writer, with a count of its calls, of those that failed and of the bytes that it
+/// gave, which knows whether it took bytes behind its last flush, and whether its last write took
+/// none. Each read, write and flush is passed through once, and answered as the device answers it.
+/// Takes no memory of its own.
 #[derive(Drop)]
 pub struct Tap<D> {
     device: D,
+    calls: u64,
     failures: u64,
     given: u64,
     unflushed: bool,
+    stuck: bool,
 }
 
 impl<D> Tap<D> {
-    ghost use Rattle.twkb_io.specs.Taps.{bytes_given, count_failure, device_of, failures_of, has_unflushed};
+    ghost use Rattle.twkb_io.specs.Taps.{bytes_given, calls_of, count_failure, device_of, failures_of, has_unflushed, is_stuck, one_call};
 
     /// A device of which no call has failed yet.
     pub fn new(device: D) -> Tap<D>
         ensures device { device_of result ≡ device }
+        ensures calls { calls_of result ≡ 0 }
         ensures failures { failures_of result ≡ 0 }
         ensures given { bytes_given result ≡ 0 }
         ensures flushed { has_unflushed result ≡ false }
     {
         Tap {
             device,
+            calls: 0,
             failures: 0,
             given: 0,
             unflushed: false,
+            stuck: false,
         }
+    }
+
+    /// How many reads, writes and flushes were passed on. A count of `u64::MAX` stays there.
+    pub fn calls(&self) -> u64
+        ensures { result ≡ calls_of self.now }
+    {
+        self.calls
     }
 
     /// How many calls failed. A count of `u64::MAX` stays there.
@@ -63,28 +76,36 @@ impl<D> Tap<D> {
         self.device
     }
 
-    // Counts a call, where it failed.
+    // Counts a call, and where it failed its failure.
     fn count(&mut self, has_failed: bool)
+        ensures calls { calls_of self.new ≡ one_call (calls_of self.old) }
         ensures failures { failures_of self.new ≡ count_failure has_failed (failures_of self.old) }
         ensures device { device_of self.new ≡ device_of self.old }
         ensures given { bytes_given self.new ≡ bytes_given self.old }
         ensures unflushed { has_unflushed self.new ≡ has_unflushed self.old }
+        ensures stuck { is_stuck self.new ≡ is_stuck self.old }
     {
+        let Tap {
+            calls,
+            failures,
+            ..
+        } = self;
+        *calls = calls.saturating_add(1);
         if has_failed {
-            let Tap { failures, .. } = self;
             *failures = failures.saturating_add(1);
         }
     }
 }
 
 impl<D: Read> Read for Tap<D> {
-    ghost use Rattle.twkb_io.specs.Taps.{bytes_given, count_failure, count_given, device_of, failures_of};
+    ghost use Rattle.twkb_io.specs.Taps.{bytes_given, calls_of, count_failure, count_given, device_of, failures_of, one_call};
 
     ghost remaining = { λ tap. D.remaining (device_of tap) };
 
     fn read(&mut self, buf: &mut [u8]) -> io::Result<usize>
         ensures bound { ReadsAtMost result buf.new }
         ensures bytes { ReadConsumes (D.remaining (device_of self.old)) (D.remaining (device_of self.new)) result buf.new }
+        ensures calls { calls_of self.new ≡ one_call (calls_of self.old) }
         ensures failures { failures_of self.new ≡ count_failure (is_err result) (failures_of self.old) }
         ensures given { bytes_given self.new ≡ count_given result (bytes_given self.old) }
     {
@@ -98,15 +119,17 @@ impl<D: Read> Read for Tap<D> {
 }
 
 impl<D: Write> Write for Tap<D> {
-    ghost use Rattle.twkb_io.specs.Taps.{count_failure, device_of, failures_of, has_unflushed, takes_some, write_failed};
+    ghost use Rattle.twkb_io.specs.Taps.{calls_of, count_failure, device_of, failures_of, has_unflushed, is_stuck, one_call, takes_none, takes_some, write_failed};
 
     ghost contents = { λ tap. D.contents (device_of tap) };
 
     fn write(&mut self, buf: &[u8]) -> io::Result<usize>
         ensures bound { WritesAtMost result buf.now }
         ensures bytes { WriteAppends (D.contents (device_of self.old)) (D.contents (device_of self.new)) result buf.now }
+        ensures calls { calls_of self.new ≡ one_call (calls_of self.old) }
         ensures failures { failures_of self.new ≡ count_failure (write_failed result buf.now) (failures_of self.old) }
         ensures unflushed { has_unflushed self.new ≡ has_unflushed self.old || takes_some result }
+        ensures stuck { is_stuck self.new ≡ takes_none result buf.now }
     {
         let written = self.device.write(buf);
         let has_failed = match &written {
@@ -116,12 +139,14 @@ impl<D: Write> Write for Tap<D> {
         if let Ok(taken) = &written {
             self.unflushed |= *taken != 0;
         }
+        self.stuck = has_failed && written.is_ok();
         self.count(has_failed);
         written
     }
 
     fn flush(&mut self) -> io::Result<()>
         ensures bytes { Keeps (D.contents (device_of self.old)) (D.contents (device_of self.new)) }
+        ensures calls { calls_of self.new ≡ one_call (calls_of self.old) }
         ensures failures { failures_of self.new ≡ count_failure (is_err result) (failures_of self.old) }
         ensures unflushed { has_unflushed self.new ≡ is_err result && has_unflushed self.old }
     {

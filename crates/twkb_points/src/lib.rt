@@ -6,8 +6,10 @@ mod cursor;
 mod differences;
 pub mod laws;
 mod point;
+mod tail;
 
 pub use bounds::{Bounds, merged};
 pub use cursor::Cursor;
 pub use differences::{to_differences, to_points};
 pub use point::Pt;
+pub use tail::PointTail;

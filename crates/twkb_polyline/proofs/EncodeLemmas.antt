@@ -1,6 +1,9 @@
 -- The text of points, put one point after the other.
-use Rattle.std.proofs.Common.{◌≡◌, ℕ, suc, ℤ, ◌+◌, ◌<◌, ◌≤◌, ◌-ℤ◌, List, [], ◌∷◌, ◌++◌, length, drop, get_or, refl, sym, ◌∙◌, ap, append_assoc, append-nil, drop-cons, add-one}
+use Rattle.std.proofs.Common.{arith, true, false, ◌/◌, ◌%◌, ◌≡◌, ℕ, suc, ℤ, ◌+◌, ◌<◌, ◌≤◌, ◌-ℤ◌, List, [], ◌∷◌, ◌++◌, length, drop, get_or, refl, sym, ◌∙◌, ap, append_assoc, append-nil, drop-cons, add-one}
 use Rattle.std.proofs.lemmas.List.{drop_all}
+use Rattle.twkb_num.specs.Alphabet.{five_unit}
+use Rattle.twkb_num.specs.Spelling.{shortest}
+use Rattle.twkb_num.proofs.SpellingLemmas.{shortest_more, shortest_one}
 use Rattle.twkb_points.specs.Point.{Point, origin}
 use Rattle.twkb_polyline.specs.Polyline.{number_text, polyline, polyline_from}
 
@@ -45,3 +48,14 @@ has_put_all points i p old text has done =
 -- a text behind what was put
 pub put_behind : (old put more text middle : List ℕ) → text ≡ old ++ put → middle ≡ text ++ more → middle ≡ old ++ (put ++ more)
 put_behind old put more text middle held e = e ∙ ap (λ t. t ++ more) held ∙ append_assoc old put more
+
+-- a number of one character
+pub one_character : (n a : ℕ) → n < 32 → a ≡ five_unit n false → shortest five_unit 32 n ≡ a ∷ []
+one_character n a h first = shortest_one five_unit 32 n h ∙ ap (λ (u : ℕ). u ∷ []) (sym first)
+
+-- a number of two
+pub two_characters : (n a b : ℕ) → 32 ≤ n → n < 1024 → a ≡ five_unit (n % 32) true → b ≡ five_unit (n / 32) false → shortest five_unit 32 n ≡ a ∷ (b ∷ [])
+two_characters n a b most h first second =
+    shortest_more five_unit 32 n (omega arith) most
+    ∙ ap (λ (us : List ℕ). five_unit (n % 32) true ∷ us) (one_character (n / 32) b (omega arith) second)
+    ∙ ap (λ (u : ℕ). u ∷ (b ∷ [])) (sym first)

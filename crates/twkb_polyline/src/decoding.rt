@@ -9,7 +9,7 @@ use crate::fault::{PolyFault, PolyReason};
 use crate::whole::whole_point;
 use std::alloc::Global;
 use twkb_num::{Five, Partial, Step, unzigzag};
-use twkb_points::{Cursor, Pt};
+use twkb_points::{Cursor, PointTail, Pt};
 
 /// The points whose polyline the text is, at most `max` of them (Encoded Polyline Algorithm
 /// Format). Any other text is refused at its first fault. Takes memory for the points alone.
@@ -30,35 +30,35 @@ pub fn decode(alloc: Global, text: &[u8], max: u32) -> Result<Vec<Pt>, PolyFault
 }
 
 /// Appends the points whose polyline the text is, at most `max` of them. After a refusal the
-/// points are as they were.
-pub fn decode_into(text: &[u8], max: u32, points: &mut Vec<Pt>) -> Result<(), PolyFault>
-    ensures decodes { OnOk result (AppendsDecoded text.now max points.old.items points.new.items) }
+/// points are as they were. Reads none of the points that stand there.
+pub fn decode_into<L: PointTail>(text: &[u8], max: u32, points: &mut L) -> Result<(), PolyFault>
+    ensures decodes { OnOk result (AppendsDecoded text.now max (L.held points.old) (L.held points.new)) }
     ensures refuses { IfErr result (IsRefused text.now max) }
-    ensures same { OnErr result (points.new.items ≡ points.old.items) }
+    ensures same { OnErr result (L.held points.new ≡ L.held points.old) }
 {
-    let held = points.len();
+    let held = points.count();
     let result = read_points(text, max, points);
     if result.is_err() {
-        points.truncate(held);
+        points.cut(held);
     }
     result
 }
 
 /// Appends the points of the text, or those before its first fault.
-fn read_points(text: &[u8], max: u32, points: &mut Vec<Pt>) -> Result<(), PolyFault>
-    ensures decodes { OnOk result (AppendsDecoded text.now max points.old.items points.new.items) }
+fn read_points<L: PointTail>(text: &[u8], max: u32, points: &mut L) -> Result<(), PolyFault>
+    ensures decodes { OnOk result (AppendsDecoded text.now max (L.held points.old) (L.held points.new)) }
     ensures refuses { IfErr result (IsRefused text.now max) }
-    ensures grown { (more : List Point) × (points.new.items ≡ points.old.items ++ more) }
+    ensures grown { (more : List Point) × (L.held points.new ≡ L.held points.old ++ more) }
 {
-    let held = points.len();
+    let held = points.count();
     let mut cursor = Cursor::origin();
     let mut at = 0;
     while at < text.len() {
-        if points.len() - held == max as usize {
+        if points.count() - held == max as usize {
             return Err(PolyReason::TooMany.at(at));
         }
         let (point, end) = next_point(text, at, &mut cursor)?;
-        points.push(point)?;
+        points.put(point)?;
         at = end;
     }
     Ok(())

@@ -1,7 +1,7 @@
 //! Why a text is no polyline, and where.
 ghost use Rattle.std.specs.Prelude.{◌≡◌};
 
-use std::alloc::{AllocError, AllocFailed};
+use std::alloc::AllocError;
 use thiserror::Error;
 
 /// Why a text is no polyline: what is met first from its front (reasons and order: profile).
@@ -58,12 +58,12 @@ pub enum PolyFault {
     },
 }
 
-impl<T: Drop> From<AllocFailed<T>> for PolyFault {
+impl From<AllocError> for PolyFault {
     ghost use Rattle.twkb_polyline.specs.declared.fault.PolyFault.TheVariants.{Memory};
 
     ghost from_gives = { λ _ fault. fault ≡ Memory };
 
-    fn from(_: AllocFailed<T>) -> PolyFault {
+    fn from(_: AllocError) -> PolyFault {
         PolyFault::Memory
     }
 }

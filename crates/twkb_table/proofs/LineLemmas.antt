@@ -1,10 +1,12 @@
 -- The lines of rows, put one after the other.
-use Rattle.std.proofs.Common.{◌≡◌, ℕ, ◌+◌, ◌<◌, ◌≤◌, List, [], ◌∷◌, ◌++◌, length, drop, get_or, Option, refl, sym, ◌∙◌, ap, subst, append_assoc, append-nil, add-one}
+use Rattle.std.proofs.Common.{◌≡◌, ℕ, ◌+◌, ◌<◌, ◌≤◌, List, [], ◌∷◌, ◌++◌, length, length-append, take, drop, get_or, slice_get, Option, Some, arith, refl, sym, ◌∙◌, ap, subst, append_assoc, append-nil, add-one}
 use Rattle.std.specs.Prelude.{ℤ, map, Result, OnOk}
-use Rattle.std.proofs.lemmas.List.{drop_all, map-append}
+use Rattle.std.proofs.lemmas.List.{drop_all, map-append, take_all, take_more, take-append-drop}
+use Rattle.std.proofs.lemmas.Option.{get_or_from_slice_get, slice_get_within}
 use Rattle.std.proofs.lemmas.Grind.{flat_map-append}
-use Rattle.twkb_geom.specs.Tree.{Ids, Tree}
-use Rattle.twkb_geom.specs.Rows.{Row, plain_row, polygon_rows, ring_rows, first_id, ids_from, rows_of_each, rows_with, rows_under, own_row}
+use Rattle.twkb_geom.specs.Tree.{Ids, Tree, saturated}
+use Rattle.twkb_flat.specs.declared.work.Work.{Work}
+use Rattle.twkb_geom.specs.Rows.{Row, row_points, plain_row, polygon_rows, ring_rows, first_id, ids_from, rows_of_each, rows_with, rows_under, own_row}
 use Rattle.twkb_geom.proofs.RowMembers.{each_next, ids_from_start, own_row_first}
 use Rattle.twkb_geom.specs.declared.kind.Kind.{Kind}
 use Rattle.twkb_points.specs.Point.{Point}
@@ -42,11 +44,11 @@ grows_on old mid new g h = (g.0 ++ h.0, h.1 ∙ ap (λ t. t ++ h.0) g.1 ∙ appe
 cons_append : (x : ℕ) (xs ys : List ℕ) → (x ∷ xs) ++ ys ≡ x ∷ (xs ++ ys)
 cons_append x xs ys = refl
 
--- five fields, each put behind the other
-pub five_put : (old depth kind id precision line a b c d e f g : List ℕ) → a ≡ old ++ depth → b ≡ a ++ (44 ∷ kind) → c ≡ b ++ (44 ∷ id) → d ≡ c ++ (44 ∷ precision) → e ≡ d ++ (44 ∷ []) → f ≡ e ++ line → g ≡ f ++ (10 ∷ [])
-    → g ≡ old ++ csvtext ((depth ∷ kind ∷ id ∷ precision ∷ line ∷ []) ∷ [])
-five_put old depth kind id precision line a b c d e f g ea eb ec ed ee ef eg =
-    let whole : g ≡ ((((((old ++ depth) ++ (44 ∷ kind)) ++ (44 ∷ id)) ++ (44 ∷ precision)) ++ (44 ∷ [])) ++ line) ++ (10 ∷ []) = cc in
+-- five fields, each put behind the other, the second and the fourth between two commas
+pub fields_put : (old depth kind id precision line a b c d e f : List ℕ) → a ≡ old ++ depth → b ≡ a ++ (44 ∷ (kind ++ 44 ∷ [])) → c ≡ b ++ id → d ≡ c ++ (44 ∷ (precision ++ 44 ∷ [])) → e ≡ d ++ line → f ≡ e ++ (10 ∷ [])
+    → f ≡ old ++ csvtext ((depth ∷ kind ∷ id ∷ precision ∷ line ∷ []) ∷ [])
+fields_put old depth kind id precision line a b c d e f ea eb ec ed ee ef =
+    let whole : f ≡ (((((old ++ depth) ++ (44 ∷ (kind ++ 44 ∷ []))) ++ id) ++ (44 ∷ (precision ++ 44 ∷ []))) ++ line) ++ (10 ∷ []) = cc in
     whole ∙ simp (append_assoc, append-nil, cons_append)
 
 -- one row before others
@@ -56,6 +58,44 @@ row_before r rs old = append_assoc old (row_lines (r ∷ [])) (row_lines rs) ∙
 -- a row, and the rows below it, put behind
 pub rows_put : (r : Row) (rs : List Row) (old a t : List ℕ) → a ≡ old ++ row_lines (r ∷ []) → t ≡ a ++ row_lines rs → t ≡ old ++ row_lines (r ∷ rs)
 rows_put r rs old a t ea et = et ∙ ap (λ u. u ++ row_lines rs) ea ∙ row_before r rs old
+
+-- the lines of the rows before the place i were put behind `old`, and no more than these rows and their points were read
+pub record RowsPut (rows : List Row) (i : ℕ) (old text : List ℕ) (before work : Work) : Type 0 where
+  pub lines : text ≡ old ++ row_lines (take i rows)
+  pub nodes : work.node_reads ≤ before.node_reads + i
+  pub points : work.point_reads ≤ before.point_reads + length (row_points (take i rows))
+
+pub rows_put_none : (rows : List Row) (old : List ℕ) (before : Work) → RowsPut rows 0 old old before before
+rows_put_none rows old before = record { lines = sym (append-nil old) ∙ ap (λ t. old ++ t) (sym no_lines); nodes = omega arith; points = omega arith }
+
+take_next : (rows : List Row) (i : ℕ) (r : Row) → slice_get rows i ≡ Some r → take (i + 1) rows ≡ take i rows ++ r ∷ []
+take_next rows i r here = take_more rows i r (slice_get_within rows i r here) ∙ ap (λ (q : Row). take i rows ++ q ∷ []) (get_or_from_slice_get rows i r r here)
+
+points_next : (rows : List Row) (i : ℕ) (r : Row) → slice_get rows i ≡ Some r → length (row_points (take (i + 1) rows)) ≡ length (row_points (take i rows)) + length r.points
+points_next rows i r here =
+    let both : row_points (take (i + 1) rows) ≡ row_points (take i rows) ++ (r.points ++ []) = ap row_points (take_next rows i r here) ∙ flat_map-append (λ (q : Row). q.points) (take i rows) (r ∷ []) in
+    omega (arith, ap length both, length-append (row_points (take i rows)) (r.points ++ []), length-append r.points [])
+
+pub rows_put_more : (rows : List Row) (i : ℕ) (r : Row) (old text after : List ℕ) (before work next : Work) → RowsPut rows i old text before work → slice_get rows i ≡ Some r
+    → next ≡ record work { node_reads = saturated (work.node_reads + 1); point_reads = saturated (work.point_reads + length r.points) } → after ≡ text ++ row_lines (r ∷ []) → RowsPut rows (i + 1) old after before next
+rows_put_more rows i r old text after before work next so_far here counted put =
+    let nodes : next.node_reads ≡ saturated (work.node_reads + 1) = ap (λ (w : Work). w.node_reads) counted in
+    let points : next.point_reads ≡ saturated (work.point_reads + length r.points) = ap (λ (w : Work). w.point_reads) counted in
+    record {
+      lines = put ∙ ap (λ t. t ++ row_lines (r ∷ [])) so_far.lines ∙ append_assoc old (row_lines (take i rows)) (row_lines (r ∷ [])) ∙ ap (λ t. old ++ t) (sym (row_lines-append (take i rows) (r ∷ [])) ∙ ap row_lines (sym (take_next rows i r here)));
+      nodes = omega (arith, so_far.nodes, nodes);
+      points = omega (arith, so_far.points, points, points_next rows i r here);
+    }
+
+-- the lines of all rows
+pub all_lines : (rows : List Row) (i : ℕ) (old text : List ℕ) (before work : Work) → RowsPut rows i old text before work → i ≡ length rows → text ≡ old ++ row_lines rows
+all_lines rows i old text before work so_far end = so_far.lines ∙ ap (λ (rs : List Row). old ++ row_lines rs) (take_all i rows (omega (arith, end)))
+
+-- no more points were read than there are
+pub few_points : (rows : List Row) (i : ℕ) (old text : List ℕ) (before work : Work) → RowsPut rows i old text before work → work.point_reads ≤ before.point_reads + length (row_points rows)
+few_points rows i old text before work so_far =
+    let both : row_points (take i rows) ++ row_points (drop i rows) ≡ row_points rows = sym (flat_map-append (λ (q : Row). q.points) (take i rows) (drop i rows)) ∙ ap row_points (take-append-drop i rows) in
+    omega (arith, so_far.points, ap length both, length-append (row_points (take i rows)) (row_points (drop i rows)))
 
 -- the lines of the members before the place i were put behind `old`
 pub record HasLines {A : Type 0} (f : Option ℤ → A → List Row) (ids : Ids) (xs : List A) (i index : ℕ) (old text : List ℕ) : Type 0 where

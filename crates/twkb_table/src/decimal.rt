@@ -1,5 +1,5 @@
 //! Canonical decimals: digits without a leading zero, after a minus sign where the number is negative.
-ghost use Rattle.std.specs.Prelude.{◌≡◌, ◌++◌, IfSome, OnOk, OnErr};
+ghost use Rattle.std.specs.Prelude.{◌≡◌, [], ◌∷◌, ◌++◌, IfSome, OnOk, OnErr};
 ghost use Rattle.std.specs.Fmt.{signed_decimal};
 ghost use Rattle.twkb_table.specs.Fields.{Reads, IsDepthField, IsIdField, IsPrecisionField, IsOptionalId, IsOptionalPrecision};
 
@@ -7,6 +7,9 @@ use itoa::Buffer;
 use std::alloc::AllocError;
 
 const GREATEST_DEPTH: i64 = 999;
+
+/// The greatest number of one digit.
+const GREATEST_DIGIT: i64 = 9;
 
 const LEAST_PRECISION: i64 = -8;
 
@@ -105,12 +108,27 @@ pub fn parse_optional_precision(field: &[u8]) -> Option<Option<i8>>
     }
 }
 
+/// The digit of a number of one digit, as most numbers are.
+#[inline(always)]
+pub(crate) fn one_digit(number: i64) -> Option<u8>
+    ensures { IfSome result (λ digit. signed_decimal number ≡ digit ∷ []) }
+{
+    if 0 <= number && number <= GREATEST_DIGIT {
+        Some(b'0' + number as u8)
+    } else {
+        None
+    }
+}
+
 /// Appends the canonical decimal of a number (profile). Takes memory for the text alone; where that
 /// is refused, the text is as it was.
 pub fn push_decimal(text: &mut Vec<u8>, number: i64) -> Result<(), AllocError>
     ensures appended { OnOk result (text.new.items ≡ text.old.items ++ signed_decimal number) }
     ensures same { OnErr result (text.new.items ≡ text.old.items) }
 {
+    if let Some(digit) = one_digit(number) {
+        return text.extend_from_slice(&[digit]);
+    }
     let mut buffer = Buffer::new();
     text.extend_from_slice(buffer.format(number).as_bytes())
 }

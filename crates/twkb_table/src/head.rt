@@ -4,7 +4,7 @@ use crate::reason::RowReason;
 use twkb_flat::{PointSource, Row};
 use twkb_geom::row_rules::{count_fits, has_points, is_whole};
 use twkb_geom::{Kind, Limits, Standing};
-use twkb_points::Pt;
+use twkb_points::PointTail;
 use twkb_polyline::{PolyFault, decode_into};
 
 /// A row that was read but for its points: where it stands, what its fields say, and the text of
@@ -50,12 +50,12 @@ impl PointSource for Head<'_> {
     ghost refuses = { λ head. IfRefused (λ reason. JudgedAs head (Refused reason)) };
 
     #[inline(always)]
-    fn append_to(&self, points: &mut Vec<Pt>) -> Result<(), JudgeFault> {
+    fn append_to<L: PointTail>(&self, points: &mut L) -> Result<(), JudgeFault> {
         if !self.text.is_empty() && !has_points(self.kind) {
             return Err(JudgeFault::Refused(RowReason::PolylineNotAllowed));
         }
         let left = self.limits.points().saturating_sub(self.standing.points);
-        let held = points.len();
+        let held = points.count();
         match decode_into(self.text, left, points) {
             Ok(()) => {}
             Err(PolyFault::Memory) => return Err(JudgeFault::Memory),
@@ -64,10 +64,10 @@ impl PointSource for Head<'_> {
             }
         }
         let whole = is_whole(self.standing.parent);
-        if count_fits(self.kind, whole, points.len() - held) {
+        if count_fits(self.kind, whole, points.count() - held) {
             Ok(())
         } else {
-            points.truncate(held);
+            points.cut(held);
             Err(JudgeFault::Refused(RowReason::PointCount))
         }
     }

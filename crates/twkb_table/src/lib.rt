@@ -3,6 +3,7 @@
 
 mod decimal;
 mod fields;
+mod flat_text;
 mod head;
 mod header;
 mod judging;
@@ -23,6 +24,7 @@ pub use decimal::{
     parse_depth, parse_id, parse_optional_id, parse_optional_precision, parse_precision,
     push_decimal,
 };
+pub use flat_text::put_flat_rows;
 pub use header::header_text;
 pub use judging::{JudgeFault, judge};
 pub use kind_word::parse_kind;

@@ -6,11 +6,13 @@ ghost use Rattle.twkb_geom.specs.Rows.{own_row, rows, rows_with, member_rows, ro
 ghost use Rattle.twkb_geom.specs.declared.kind.Kind.{Kind};
 ghost use Rattle.twkb_table.specs.Record.{record_of};
 ghost use Rattle.twkb_table.specs.Text.{csvtext};
-ghost use Rattle.twkb_table.specs.Printing.{row_lines, line_row, Grows};
+ghost use Rattle.twkb_flat.specs.Rows.{row_with};
+ghost use Rattle.twkb_table.specs.Printing.{row_lines, Grows};
 
-use crate::row_line::{RowLine, put_row};
+use crate::row_line::put_row;
 use std::alloc::{AllocError, Global};
 use std::slice::from_ref;
+use twkb_flat::Row;
 use twkb_geom::{Geometry, Ids, Kind, Lines, Members, Pts, Shape, id_at, own_parts};
 use twkb_points::Pt;
 
@@ -53,7 +55,8 @@ fn put_geometry(
     ensures appended { OnOk result (text.new.items ≡ text.old.items ++ row_lines (rows_with id depth geometry.now)) }
     ensures grown { Grows text.old.items text.new.items }
 {
-    put_row(&own_line(geometry, depth, id), text)?;
+    let (row, points) = own_line(geometry, depth, id);
+    put_row(&row, points, text)?;
     let below = depth + 1;
     match geometry.shape() {
         Shape::Point(_) | Shape::Line(_) => Ok(()),
@@ -65,19 +68,39 @@ fn put_geometry(
     }
 }
 
-/// The row of the geometry itself.
-fn own_line(geometry: &Geometry, depth: u32, id: Option<i64>) -> RowLine<'_>
-    ensures { line_row result ≡ own_row id depth geometry.now }
+/// The row of the geometry itself, and its points.
+fn own_line(geometry: &Geometry, depth: u32, id: Option<i64>) -> (Row, &[Pt])
+    ensures { row_with result.0 result.1.now ≡ own_row id depth geometry.now }
 {
     let (kind, points) = own_parts(geometry.shape());
     let precision = Some(geometry.precision());
-    RowLine {
+    let row = Row {
         depth,
         kind,
         id,
         precision,
-        points,
-    }
+    };
+    (row, points)
+}
+
+/// Appends the line of a part, which has no precision of its own.
+fn put_part(
+    depth: u32,
+    kind: Kind,
+    id: Option<i64>,
+    points: &[Pt],
+    text: &mut Vec<u8>,
+) -> Result<(), AllocError>
+    ensures appended { OnOk result (text.new.items ≡ text.old.items ++ row_lines (plain_row depth kind id points.now ∷ [])) }
+    ensures grown { Grows text.old.items text.new.items }
+{
+    let row = Row {
+        depth,
+        kind,
+        id,
+        precision: None,
+    };
+    put_row(&row, points, text)
 }
 
 /// Appends the lines of the members of a collection.
@@ -111,16 +134,7 @@ fn put_areas(depth: u32, areas: &[Lines], ids: &Ids, text: &mut Vec<u8>) -> Resu
     let mut index = 0;
     for rings in areas {
         let id = id_at(ids, index);
-        put_row(
-            &RowLine {
-                depth,
-                kind: Kind::Polygon,
-                id,
-                precision: None,
-                points: &[],
-            },
-            text,
-        )?;
+        put_part(depth, Kind::Polygon, id, &[], text)?;
         put_rings(depth + 1, rings.as_slice(), text)?;
         index += 1;
     }
@@ -136,16 +150,7 @@ fn put_lines(depth: u32, lines: &[Pts], ids: &Ids, text: &mut Vec<u8>) -> Result
     for line in lines {
         let id = id_at(ids, index);
         let points = line.as_slice();
-        put_row(
-            &RowLine {
-                depth,
-                kind: Kind::Linestring,
-                id,
-                precision: None,
-                points,
-            },
-            text,
-        )?;
+        put_part(depth, Kind::Linestring, id, points, text)?;
         index += 1;
     }
     Ok(())
@@ -160,16 +165,7 @@ fn put_points(depth: u32, points: &[Pt], ids: &Ids, text: &mut Vec<u8>) -> Resul
     for point in points {
         let id = id_at(ids, index);
         let points = from_ref(point);
-        put_row(
-            &RowLine {
-                depth,
-                kind: Kind::Point,
-                id,
-                precision: None,
-                points,
-            },
-            text,
-        )?;
+        put_part(depth, Kind::Point, id, points, text)?;
         index += 1;
     }
     Ok(())
@@ -182,16 +178,7 @@ fn put_rings(depth: u32, rings: &[Pts], text: &mut Vec<u8>) -> Result<(), AllocE
 {
     for ring in rings {
         let points = ring.as_slice();
-        put_row(
-            &RowLine {
-                depth,
-                kind: Kind::Ring,
-                id: None,
-                precision: None,
-                points,
-            },
-            text,
-        )?;
+        put_part(depth, Kind::Ring, None, points, text)?;
     }
     Ok(())
 }

@@ -1,49 +1,43 @@
 //! One row of a table as a line.
 ghost use Rattle.std.specs.Prelude.{◌≡◌, [], ◌∷◌, ◌++◌, OnOk, OnErr, decimal};
+ghost use Rattle.std.specs.Fmt.{signed_decimal};
 ghost use Rattle.twkb_geom.specs.Kind.{word_of};
+ghost use Rattle.twkb_flat.specs.Rows.{row_with};
 ghost use Rattle.twkb_table.specs.Fields.{optional};
-ghost use Rattle.twkb_table.specs.Printing.{row_lines, line_row, Grows};
+ghost use Rattle.twkb_table.specs.Printing.{row_lines, Grows};
 
-use crate::decimal::push_decimal;
+use crate::decimal::{one_digit, push_decimal};
 use std::alloc::AllocError;
+use twkb_flat::Row;
 use twkb_geom::Kind;
 use twkb_points::Pt;
 use twkb_polyline::encode_into;
 
-/// The parts of a row, of which the points are its own.
-#[derive(Clone, Copy)]
-pub(crate) struct RowLine<'a> {
-    pub depth: u32,
-    pub kind: Kind,
-    pub id: Option<i64>,
-    pub precision: Option<i8>,
-    pub points: &'a [Pt],
-}
-
-/// Appends the row's line, or a front of it where memory is refused.
-pub(crate) fn put_row(row: &RowLine<'_>, text: &mut Vec<u8>) -> Result<(), AllocError>
-    ensures appended { OnOk result (text.new.items ≡ text.old.items ++ row_lines (line_row row.now ∷ [])) }
+/// Appends the line of a row with its points, or a front of it where memory is refused.
+pub(crate) fn put_row(row: &Row, points: &[Pt], text: &mut Vec<u8>) -> Result<(), AllocError>
+    ensures appended { OnOk result (text.new.items ≡ text.old.items ++ row_lines (row_with row.now points.now ∷ [])) }
     ensures grown { Grows text.old.items text.new.items }
 {
     put_depth(row.depth, text)?;
-    put_word(row.kind, text)?;
-    put_number(row.id, text)?;
-    put_number(widened(row.precision), text)?;
-    put_byte(b',', text)?;
-    encode_into(row.points, text)?;
-    put_byte(b'\n', text)?;
+    put_kind(row.kind, text)?;
+    put_id(row.id, text)?;
+    put_precision(row.precision, text)?;
+    encode_into(points, text)?;
+    end_line(text)?;
     Ok(())
 }
 
-/// Appends one byte.
-fn put_byte(byte: u8, text: &mut Vec<u8>) -> Result<(), AllocError>
-    ensures appended { OnOk result (text.new.items ≡ text.old.items ++ (byte ∷ [])) }
+/// Appends the end of a line.
+#[inline(always)]
+fn end_line(text: &mut Vec<u8>) -> Result<(), AllocError>
+    ensures appended { OnOk result (text.new.items ≡ text.old.items ++ (10 ∷ [])) }
     ensures same { OnErr result (text.new.items ≡ text.old.items) }
 {
-    text.extend_from_slice(&[byte])
+    text.extend_from_slice(b"\n")
 }
 
 /// Appends the canonical decimal of a depth.
+#[inline(always)]
 fn put_depth(depth: u32, text: &mut Vec<u8>) -> Result<(), AllocError>
     ensures appended { OnOk result (text.new.items ≡ text.old.items ++ decimal depth) }
     ensures same { OnErr result (text.new.items ≡ text.old.items) }
@@ -51,33 +45,66 @@ fn put_depth(depth: u32, text: &mut Vec<u8>) -> Result<(), AllocError>
     push_decimal(text, i64::from(depth))
 }
 
-/// Appends a comma and the word of a kind.
-fn put_word(kind: Kind, text: &mut Vec<u8>) -> Result<(), AllocError>
-    ensures appended { OnOk result (text.new.items ≡ text.old.items ++ (44 ∷ word_of kind)) }
-    ensures grown { Grows text.old.items text.new.items }
+/// Appends the word of a kind between two commas.
+#[inline(always)]
+fn put_kind(kind: Kind, text: &mut Vec<u8>) -> Result<(), AllocError>
+    ensures appended { OnOk result (text.new.items ≡ text.old.items ++ (44 ∷ (word_of kind ++ 44 ∷ []))) }
+    ensures same { OnErr result (text.new.items ≡ text.old.items) }
 {
-    text.extend_from_slice(b",")?;
-    text.extend_from_slice(kind.name().as_bytes())
+    text.extend_from_slice(kind_field(kind))
 }
 
-/// Appends a comma, and the canonical decimal of a number where there is one.
-fn put_number(number: Option<i64>, text: &mut Vec<u8>) -> Result<(), AllocError>
-    ensures appended { OnOk result (text.new.items ≡ text.old.items ++ (44 ∷ optional number)) }
-    ensures grown { Grows text.old.items text.new.items }
+/// The word of a kind between two commas.
+#[inline(always)]
+fn kind_field(kind: Kind) -> &'static [u8]
+    ensures { result.now ≡ 44 ∷ (word_of kind ++ 44 ∷ []) }
 {
-    text.extend_from_slice(b",")?;
-    match number {
-        Some(number) => push_decimal(text, number),
+    match kind {
+        Kind::Point => b",point,",
+        Kind::Linestring => b",linestring,",
+        Kind::Polygon => b",polygon,",
+        Kind::Ring => b",ring,",
+        Kind::MultiPoint => b",multipoint,",
+        Kind::MultiLinestring => b",multilinestring,",
+        Kind::MultiPolygon => b",multipolygon,",
+        Kind::Collection => b",collection,",
+    }
+}
+
+/// Appends the canonical decimal of an id where there is one.
+#[inline(always)]
+fn put_id(id: Option<i64>, text: &mut Vec<u8>) -> Result<(), AllocError>
+    ensures appended { OnOk result (text.new.items ≡ text.old.items ++ optional id) }
+    ensures same { OnErr result (text.new.items ≡ text.old.items) }
+{
+    match id {
+        Some(id) => push_decimal(text, id),
         None => Ok(()),
     }
 }
 
-/// The same number.
-fn widened(number: Option<i8>) -> Option<i64>
-    ensures { result ≡ number }
+/// Appends the canonical decimal of a precision, where there is one, between two commas.
+#[inline(always)]
+fn put_precision(precision: Option<i8>, text: &mut Vec<u8>) -> Result<(), AllocError>
+    ensures appended { OnOk result (text.new.items ≡ text.old.items ++ (44 ∷ (optional precision ++ 44 ∷ []))) }
+    ensures grown { Grows text.old.items text.new.items }
 {
-    match number {
-        Some(number) => Some(i64::from(number)),
-        None => None,
+    let Some(precision) = precision else {
+        return text.extend_from_slice(b",,");
+    };
+    let number = i64::from(precision);
+    match one_digit(number) {
+        Some(digit) => text.extend_from_slice(&[b',', digit, b',']),
+        None => put_between(number, text),
     }
+}
+
+/// Appends the canonical decimal of a number between two commas.
+fn put_between(number: i64, text: &mut Vec<u8>) -> Result<(), AllocError>
+    ensures appended { OnOk result (text.new.items ≡ text.old.items ++ (44 ∷ (signed_decimal number ++ 44 ∷ []))) }
+    ensures grown { Grows text.old.items text.new.items }
+{
+    text.extend_from_slice(b",")?;
+    push_decimal(text, number)?;
+    text.extend_from_slice(b",")
 }

@@ -1,17 +1,19 @@
 -- What a pass from the last row to the first reads.
-use Rattle.std.proofs.Common.{◌≡◌, ℕ, ◌+◌, arith}
+use Rattle.std.proofs.Common.{◌≡◌, ℕ, ◌+◌, ◌<◌, ◌≤◌, ◌^◌, List, length, drop, sym, ap, subst, arith}
+use Rattle.std.proofs.lemmas.List.{drop_all}
 use Rattle.twkb_geom.specs.Tree.{saturated}
+use Rattle.twkb_geom.specs.Rows.{Row, row_points}
 use Rattle.twkb_flat.specs.declared.work.Work.{Work}
-use Rattle.twkb_writer.specs.Reads.{Reads}
-use Rattle.twkb_writer.proofs.ReadLemmas.{reads_join, one_node, one_point}
+use Rattle.twkb_writer.specs.Reads.{ReadsExactly}
+use Rattle.twkb_writer.proofs.ReadLemmas.{exactly_none, exactly_join, exactly_node}
 
--- one point more
-pub point_back : (old mid new : Work) (back : ℕ) → Reads old 0 back mid → new ≡ record mid { point_reads = saturated (mid.point_reads + 1) } → Reads old 0 (back + 1) new
-point_back old mid new back r e = reads_join old mid new 0 back 0 1 0 (back + 1) r (one_point mid new e) (omega arith) (omega arith)
+-- behind all rows no node and no point was read
+pub reads_behind : (w : Work) (rows : List Row) (n : ℕ) → length rows ≤ n → w.node_reads < 2 ^ 64 → w.point_reads < 2 ^ 64 → ReadsExactly w 0 (length (row_points (drop n rows))) w
+reads_behind w rows n all nodes points =
+    subst (λ (m : ℕ). ReadsExactly w 0 m w) (sym (ap (λ (rs : List Row). length (row_points rs)) (drop_all n rows all))) (exactly_none w nodes points)
 
 -- a node and its points more, from one place to the place before it
-pub reads_back : (old mid next new : Work) (back points own all : ℕ) → Reads old back points mid → next ≡ record mid { node_reads = saturated (mid.node_reads + 1) }
-    → Reads next 0 own new → all ≡ own + points → Reads old (back + 1) all new
+pub reads_back : (old mid next new : Work) (back points own all : ℕ) → ReadsExactly old back points mid → next ≡ record mid { node_reads = saturated (mid.node_reads + 1) }
+    → ReadsExactly next 0 own new → all ≡ own + points → ReadsExactly old (back + 1) all new
 reads_back old mid next new back points own all r node more e =
-    let one = reads_join old mid next back points 1 0 (back + 1) points r (one_node mid next node) (omega arith) (omega arith) in
-    reads_join old next new (back + 1) points 0 own (back + 1) all one more (omega arith) (omega (arith, e))
+    exactly_join old next new (back + 1) points 0 own (back + 1) all (exactly_node old mid next back points r node) more (omega arith) (omega (arith, e))

@@ -1,35 +1,41 @@
 -- Counts of reads add up.
-use Rattle.std.proofs.Common.{◌≡◌, ◌∙◌, ℕ, ◌+◌, ◌≤◌, Bool, true, false, refl, arith, ap}
+use Rattle.std.proofs.Common.{◌≡◌, ◌∙◌, ℕ, ◌+◌, ◌<◌, ◌≤◌, ◌^◌, Bool, true, false, refl, arith, ap}
 use Rattle.std.specs.Prelude.{if◌then◌else◌}
 use Rattle.twkb_geom.specs.Tree.{saturated}
 use Rattle.twkb_flat.specs.declared.work.Work.{Work}
-use Rattle.twkb_writer.specs.Reads.{Reads}
+use Rattle.twkb_writer.specs.Reads.{Reads, ReadsExactly}
 
 pub reads_none : (w : Work) (n m : ℕ) → Reads w n m w
-reads_none w n m = record { node_reads = omega arith; point_reads = omega arith; same_points = refl; same_nodes = refl; same_entries = refl }
+reads_none w n m = record { node_reads = omega arith; point_reads = omega arith; no_fewer_nodes = omega arith; no_fewer_points = omega arith; same_points = refl; same_nodes = refl; same_entries = refl }
 
 pub reads_join : (a b c : Work) (n m k j p q : ℕ) → Reads a n m b → Reads b k j c → n + k ≤ p → m + j ≤ q → Reads a p q c
 reads_join a b c n m k j p q r s h i = record {
   node_reads = omega (arith, r.node_reads, s.node_reads);
   point_reads = omega (arith, r.point_reads, s.point_reads);
+  no_fewer_nodes = omega (arith, r.no_fewer_nodes, s.no_fewer_nodes);
+  no_fewer_points = omega (arith, r.no_fewer_points, s.no_fewer_points);
   same_points = s.same_points ∙ r.same_points;
   same_nodes = s.same_nodes ∙ r.same_nodes;
   same_entries = s.same_entries ∙ r.same_entries;
 }
 
-pub one_node : (a b : Work) → b ≡ record a { node_reads = saturated (a.node_reads + 1) } → Reads a 1 0 b
-one_node a b e = record {
+pub one_node : (a b : Work) → a.node_reads ≤ b.node_reads → b ≡ record a { node_reads = saturated (a.node_reads + 1) } → Reads a 1 0 b
+one_node a b more e = record {
   node_reads = omega (arith, ap (λ (w : Work). w.node_reads) e);
   point_reads = omega (arith, ap (λ (w : Work). w.point_reads) e);
+  no_fewer_nodes = omega (arith, ap (λ (w : Work). w.node_reads) e);
+  no_fewer_points = omega (arith, ap (λ (w : Work). w.point_reads) e);
   same_points = ap (λ (w : Work). w.points) e;
   same_nodes = ap (λ (w : Work). w.nodes) e;
   same_entries = ap (λ (w : Work). w.entries) e;
 }
 
-pub one_point : (a b : Work) → b ≡ record a { point_reads = saturated (a.point_reads + 1) } → Reads a 0 1 b
-one_point a b e = record {
+pub one_point : (a b : Work) → a.point_reads ≤ b.point_reads → b ≡ record a { point_reads = saturated (a.point_reads + 1) } → Reads a 0 1 b
+one_point a b more e = record {
   node_reads = omega (arith, ap (λ (w : Work). w.node_reads) e);
   point_reads = omega (arith, ap (λ (w : Work). w.point_reads) e);
+  no_fewer_nodes = omega (arith, ap (λ (w : Work). w.node_reads) e);
+  no_fewer_points = omega (arith, ap (λ (w : Work). w.point_reads) e);
   same_points = ap (λ (w : Work). w.points) e;
   same_nodes = ap (λ (w : Work). w.nodes) e;
   same_entries = ap (λ (w : Work). w.entries) e;
@@ -43,3 +49,39 @@ pub reads_row : (a b c d e : Work) (n m k p : ℕ) → Reads a n m b → Reads b
 reads_row a b c d e n m k p r s t u =
     reads_join a d e (n + (1 + k)) m 0 p (n + (1 + k)) (m + p)
     (reads_join a c d (n + 1) m k 0 (n + (1 + k)) m (reads_join a b c n m 1 0 (n + 1) m r s (omega arith) (omega arith)) t (omega arith) (omega arith)) u (omega arith) (omega arith)
+
+-- ---- just so many
+
+-- no node and no point
+pub exactly_none : (w : Work) → w.node_reads < 2 ^ 64 → w.point_reads < 2 ^ 64 → ReadsExactly w 0 0 w
+exactly_none w nodes points = record { node_reads = omega arith; point_reads = omega arith; same_points = refl; same_nodes = refl; same_entries = refl }
+
+-- one after the other
+pub exactly_join : (a b c : Work) (n m k j p q : ℕ) → ReadsExactly a n m b → ReadsExactly b k j c → p ≡ n + k → q ≡ m + j → ReadsExactly a p q c
+exactly_join a b c n m k j p q r s h i = record {
+  node_reads = omega (arith, r.node_reads, s.node_reads);
+  point_reads = omega (arith, r.point_reads, s.point_reads);
+  same_points = s.same_points ∙ r.same_points;
+  same_nodes = s.same_nodes ∙ r.same_nodes;
+  same_entries = s.same_entries ∙ r.same_entries;
+}
+
+-- a node more
+pub exactly_node : (a b c : Work) (n m : ℕ) → ReadsExactly a n m b → c ≡ record b { node_reads = saturated (b.node_reads + 1) } → ReadsExactly a (n + 1) m c
+exactly_node a b c n m r e = record {
+  node_reads = omega (arith, r.node_reads, ap (λ (w : Work). w.node_reads) e);
+  point_reads = ap (λ (w : Work). w.point_reads) e ∙ r.point_reads;
+  same_points = ap (λ (w : Work). w.points) e ∙ r.same_points;
+  same_nodes = ap (λ (w : Work). w.nodes) e ∙ r.same_nodes;
+  same_entries = ap (λ (w : Work). w.entries) e ∙ r.same_entries;
+}
+
+-- a point more
+pub exactly_point : (a b c : Work) (n m : ℕ) → ReadsExactly a n m b → c ≡ record b { point_reads = saturated (b.point_reads + 1) } → ReadsExactly a n (m + 1) c
+exactly_point a b c n m r e = record {
+  node_reads = ap (λ (w : Work). w.node_reads) e ∙ r.node_reads;
+  point_reads = omega (arith, r.point_reads, ap (λ (w : Work). w.point_reads) e);
+  same_points = ap (λ (w : Work). w.points) e ∙ r.same_points;
+  same_nodes = ap (λ (w : Work). w.nodes) e ∙ r.same_nodes;
+  same_entries = ap (λ (w : Work). w.entries) e ∙ r.same_entries;
+}

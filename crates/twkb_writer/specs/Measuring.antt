@@ -86,10 +86,10 @@ pub record TakenRow (style : Style) (node : Node) (points : Tail) (old new : Lis
   pub set_both : new ≡ slice_set (slice_set old (node.row.depth + 1) blank) node.row.depth own
   pub entry_is : entry ≡ row_entry style node.row.kind node.points node.row.precision (slice_index_or old (node.row.depth + 1) blank) points
 
--- so many points, nodes and entries were measured, each point and each node read at most once
+-- so many points, nodes and entries were measured, each point and each node read just once
 pub record Counted (old : Work) (points nodes entries : ℕ) (new : Work) : Type 0 where
   pub more_points : new.points ≡ saturated (old.points + points)
   pub more_nodes : new.nodes ≡ saturated (old.nodes + nodes)
   pub more_entries : new.entries ≡ saturated (old.entries + entries)
-  pub point_reads : new.point_reads ≤ old.point_reads + points
-  pub node_reads : new.node_reads ≤ old.node_reads + nodes
+  pub point_reads : new.point_reads ≡ saturated (old.point_reads + points)
+  pub node_reads : new.node_reads ≡ saturated (old.node_reads + nodes)

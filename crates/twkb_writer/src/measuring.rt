@@ -5,7 +5,7 @@ ghost use Rattle.twkb_geom.specs.Rows.{row_points};
 ghost use Rattle.twkb_flat.specs.Rows.{IsNode};
 ghost use Rattle.twkb_writer.specs.Levels.{blank, IsSmall};
 ghost use Rattle.twkb_writer.specs.Measuring.{row_level, row_entry, option_list, tail_after, cost_of, points_at, TakenRow, Counted};
-ghost use Rattle.twkb_writer.specs.Reads.{Reads};
+ghost use Rattle.twkb_writer.specs.Reads.{ReadsExactly};
 ghost use Rattle.twkb_writer.specs.Sizes.{AreSizes};
 ghost use Rattle.twkb_writer.specs.Tails.{tail_of};
 
@@ -17,6 +17,15 @@ use std::alloc::{AllocError, Global};
 use twkb_flat::{Flat, Node, NodeId, PointId, Work};
 use twkb_grammar::Style;
 
+/// Tells a proof that counts of reads fit 64 bits. It changes nothing.
+fn look_at_reads(work: &Work)
+    ensures nodes { work.now.node_reads < 2 ^ 64 }
+    ensures points { work.now.point_reads < 2 ^ 64 }
+{
+    let _nodes = work.node_reads;
+    let _points = work.point_reads;
+}
+
 /// The points of a row before those up to the end of its geometry, each read once.
 fn take_points(flat: &Flat, id: NodeId, node: &Node, tail: Tail, work: &mut Work) -> Tail
     requires node { IsNode flat.now id.0 node.now }
@@ -24,8 +33,9 @@ fn take_points(flat: &Flat, id: NodeId, node: &Node, tail: Tail, work: &mut Work
     requires room { tail.bytes ≤ 2 ^ 30 }
     ensures value { (ahead : List Point) → tail ≡ tail_of ahead → result ≡ tail_of (points_at (drop id.0 flat.now) ++ ahead) }
     ensures most { result.bytes ≤ tail.bytes + 20 * node.now.points }
-    ensures reads { Reads work.old 0 node.now.points work.new }
+    ensures reads { ReadsExactly work.old 0 node.now.points work.new }
 {
+    look_at_reads(work);
     let mut tail = tail;
     for back in 0..node.points {
         let point = flat.point(PointId(node.first.0 + (node.points - 1 - back)), work);
@@ -113,10 +123,11 @@ fn before_row(node: &Node, points: Tail) -> Tail
 fn measure_one(flat: &Flat, style: Style, work: &mut Work) -> Option<Entry>
     requires { length flat.now ≡ 1 }
     ensures sizes { AreSizes style flat.now (option_list result) }
-    ensures reads { Reads work.old 1 (length (row_points flat.now)) work.new }
+    ensures reads { ReadsExactly work.old 1 (length (row_points flat.now)) work.new }
 {
     // a proof learns by counting them that the rows are valid
     let _total = flat.node_count();
+    look_at_reads(work);
     let id = NodeId(0);
     let node = flat.node(id, work);
     let points = take_points(flat, id, &node, Tail::none(), work);
@@ -163,6 +174,7 @@ pub fn measure_into(
     }
     depths.clear();
     sizes.entries.clear();
+    look_at_reads(work);
     let mut tail = Tail::none();
     for back in 0..total {
         let id = NodeId(total - 1 - back);

@@ -1,6 +1,7 @@
 //! Taps and fuses.
 ghost use Rattle.std.specs.Prelude.{◌<◌};
 
+use super::devices::Asked;
 use std::alloc::Global;
 use std::io::{Read, Write};
 use twkb_io::{Fuse, FuseEnd, Tap};
@@ -137,4 +138,23 @@ fn a_failed_flush_leaves_all_unflushed(rt: HostRuntime) {
     assert!(rt; writes(&mut tap, &[1, 2], 2));
     assert!(rt; tap.flush().is_err());
     assert!(rt; tap.has_unflushed());
+}
+
+// Whether the tap has passed so many calls on, each of which reached its device.
+fn has_passed<D: Drop>(tap: Tap<Asked<D>>, calls: u64) -> bool {
+    tap.calls() == calls && tap.into_inner().calls() == calls
+}
+
+#[test]
+fn each_call_of_a_tap_reaches_its_device_once(rt: HostRuntime) {
+    let mut reader = Tap::new(Asked::new([7].as_slice()));
+    let mut room = [0; 4];
+    assert!(rt; reads(&mut reader, &mut room, 1));
+    assert!(rt; reads(&mut reader, &mut room, 0));
+    assert!(rt; has_passed(reader, 2), "two reads");
+    let mut writer = Tap::new(Asked::new(Vec::new(rt.alloc())));
+    assert!(rt; writes(&mut writer, &[1, 2], 2));
+    assert!(rt; writer.flush().is_ok());
+    assert!(rt; writer.flush().is_ok());
+    assert!(rt; has_passed(writer, 3), "a write and two flushes");
 }

@@ -1,8 +1,8 @@
 //! The texts of faults, as the profile has them.
 use std::alloc::Global;
 use std::fmt::Display;
-use twkb_blob::{BlobFault, BlobReason};
-use twkb_io::InFault;
+use twkb_blob::{BlobFault, BlobReason, EncodeFault};
+use twkb_io::{InFault, OutFault};
 
 /// Whether this is printed so.
 fn is_told<T: Display>(alloc: Global, value: &T, text: &str) -> bool {
@@ -42,5 +42,19 @@ fn each_reason_has_its_text(rt: HostRuntime) {
     ];
     for (reason, text) in rows {
         assert!(rt; is_told(rt.alloc(), &reason, text), "{text}");
+    }
+}
+
+#[test]
+fn each_fault_of_encoding_has_its_text(rt: HostRuntime) {
+    let rows = [
+        (EncodeFault::Memory, "out of memory"),
+        (
+            EncodeFault::Sink(OutFault::Stuck),
+            "the sink refused the bytes",
+        ),
+    ];
+    for (fault, text) in rows {
+        assert!(rt; is_told(rt.alloc(), &fault, text), "{text}");
     }
 }

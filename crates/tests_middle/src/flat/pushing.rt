@@ -2,7 +2,7 @@
 use crate::forms::point_row;
 use std::alloc::Global;
 use twkb_flat::{Flat, PointSource};
-use twkb_points::Pt;
+use twkb_points::{PointTail, Pt};
 
 /// Gives one point, or takes it away again and refuses.
 #[derive(Clone, Copy)]
@@ -20,13 +20,13 @@ impl PointSource for OnePoint {
 
     ghost refuses = { λ source fault. ⊤ };
 
-    fn append_to(&self, points: &mut Vec<Pt>) -> Result<(), bool> {
-        let held = points.len();
-        if points.push(self.point).is_err() {
+    fn append_to<L: PointTail>(&self, points: &mut L) -> Result<(), bool> {
+        let held = points.count();
+        if points.put(self.point).is_err() {
             return Err(false);
         }
         if self.refuses {
-            points.truncate(held);
+            points.cut(held);
             return Err(true);
         }
         Ok(())

@@ -1,9 +1,10 @@
 //! Calls of a reader in turn, and devices that fail.
 use super::fixtures::{Outcome, has_rows, holds, read_all};
+use super::geometries::point_and_line;
 use std::alloc::Global;
 use std::io::Read;
 use twkb_flat::{Flat, Row};
-use twkb_geom::{Kind, Limits};
+use twkb_geom::{Geometry, Kind, Limits};
 use twkb_io::{Fuse, FuseEnd, Tap};
 use twkb_table::{RowReason, TableFault, TableReader};
 
@@ -71,6 +72,40 @@ fn each_call_gives_the_next_geometry_and_the_end_for_good(rt: HostRuntime) {
     let mut flat = Flat::new(rt.alloc());
     let mut tap = Tap::new(TWO_POINTS);
     assert!(rt; mixed(rt.alloc(), &mut tap, &mut flat));
+}
+
+/// A collection of two members that have ids.
+const TWO_MEMBERS: &[u8] =
+    b"depth,kind,id,precision,polyline\n0,collection,,0,\n1,point,7,0,AA\n1,linestring,-1,0,\n";
+
+/// Whether the flat form is built to this geometry.
+fn is_built_to(alloc: Global, flat: &Flat, expected: &Geometry) -> bool {
+    if flat.is_empty() {
+        return false;
+    }
+    match flat.to_geometry(alloc) {
+        Ok(geometry) => geometry == *expected,
+        Err(_) => false,
+    }
+}
+
+// The geometry that its constructors make, and then the end.
+fn gives_geometry<R: Read>(tap: &mut Tap<R>, alloc: Global, expected: &Geometry) -> bool {
+    let mut flat = Flat::new(alloc);
+    let mut reader = TableReader::new(alloc, tap, Limits::standard());
+    reader.next_flat(&mut flat) == Ok(true)
+        && is_built_to(alloc, &flat, expected)
+        && reader.next_flat(&mut flat) == Ok(false)
+}
+
+#[test]
+fn a_form_that_was_read_is_built_to_its_geometry(rt: HostRuntime) {
+    let mut tap = Tap::new(TWO_MEMBERS);
+    let expected = point_and_line(rt.alloc());
+    assert!(rt;
+        expected.is_some_and(|expected| gives_geometry(&mut tap, rt.alloc(), &expected)),
+        "a collection of two"
+    );
 }
 
 /// Whether the flat form may begin with a point, as a form without rows does.

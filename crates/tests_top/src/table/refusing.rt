@@ -148,6 +148,10 @@ fn a_part_is_refused_for_its_reason(rt: HostRuntime) {
             RowReason::BadPlace,
         ),
         (
+            b"0,collection,,0,\n1,ring,,,AA\n".as_slice(),
+            RowReason::BadPlace,
+        ),
+        (
             b"0,multipoint,,0,\n1,point,,,\n".as_slice(),
             RowReason::PointCount,
         ),

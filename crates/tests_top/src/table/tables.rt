@@ -6,9 +6,10 @@ use super::geometries::{
 };
 use std::alloc::Global;
 use std::io::Read;
+use twkb_flat::{Flat, Work};
 use twkb_geom::{Areas, Geometry, Limits, Lines, Shape};
 use twkb_io::Tap;
-use twkb_table::{TableReader, put_rows, rows_text};
+use twkb_table::{TableReader, put_flat_rows, put_rows, rows_text};
 
 /// Whether the rows of a geometry are printed so, in a text of their own and behind a lent one.
 fn is_printed(alloc: Global, geometry: &Geometry, rows: &[u8]) -> Option<bool> {
@@ -20,6 +21,23 @@ fn is_printed(alloc: Global, geometry: &Geometry, rows: &[u8]) -> Option<bool> {
     put_rows(geometry, &mut lent).ok()?;
     let is_kept = lent.as_slice().starts_with(b"before") && lent.len() == 6 + rows.len();
     Some(text.as_slice() == rows && is_kept && lent.as_slice().ends_with(rows))
+}
+
+/// Whether the rows of a geometry's flat form are printed so behind a lent text, with one read of
+/// each row and each point.
+fn is_printed_flat(alloc: Global, geometry: &Geometry, rows: &[u8]) -> Option<bool> {
+    if !geometry.within(&Limits::largest()) {
+        return Some(false);
+    }
+    let flat = Flat::from_geometry(alloc, geometry).ok()?;
+    let mut work = Work::new();
+    let mut lent = Vec::from_slice(alloc, b"before").ok()?;
+    put_flat_rows(&flat, &mut work, &mut lent).ok()?;
+    let nodes = u64::from(flat.node_count());
+    let points = u64::from(flat.point_count());
+    let is_read_once = work.node_reads == nodes && work.point_reads == points;
+    let is_kept = lent.as_slice().starts_with(b"before") && lent.len() == 6 + rows.len();
+    Some(is_read_once && is_kept && lent.as_slice().ends_with(rows))
 }
 
 /// Whether the next call gives this geometry.
@@ -48,7 +66,9 @@ fn are_rows(alloc: Global, made: Option<Geometry>, rows: &[u8]) -> bool {
     let Some(geometry) = made else {
         return false;
     };
-    holds(is_printed(alloc, &geometry, rows)) && holds(is_read(alloc, &geometry, rows))
+    holds(is_printed(alloc, &geometry, rows))
+        && holds(is_printed_flat(alloc, &geometry, rows))
+        && holds(is_read(alloc, &geometry, rows))
 }
 
 /// Whether these are the rows of a shape of precision 0.
@@ -146,6 +166,14 @@ fn members_of_a_collection_are_geometries(rt: HostRuntime) {
     let nine =
         b"0,collection,,0,\n1,collection,,0,\n2,collection,,0,\n3,collection,,0,\n4,collection,,0,\n5,collection,,0,\n6,collection,,0,\n7,collection,,0,\n8,collection,,0,\n";
     assert!(rt; are_rows(rt.alloc(), nested(rt.alloc(), 9), nine));
+}
+
+// Depths of one digit and of two.
+#[test]
+fn depths_go_on_behind_nine(rt: HostRuntime) {
+    let twelve =
+        b"0,collection,,0,\n1,collection,,0,\n2,collection,,0,\n3,collection,,0,\n4,collection,,0,\n5,collection,,0,\n6,collection,,0,\n7,collection,,0,\n8,collection,,0,\n9,collection,,0,\n10,collection,,0,\n11,collection,,0,\n";
+    assert!(rt; are_rows(rt.alloc(), nested(rt.alloc(), 12), twelve));
 }
 
 /// Whether a text is read to these rows.

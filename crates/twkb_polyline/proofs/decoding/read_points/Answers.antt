@@ -4,31 +4,37 @@ use Rattle.twkb_polyline.proofs.DecodeLemmas.{read_count, has_read_none, has_rea
 use Rattle.twkb_polyline.proofs.decoding.read_points.Goals as goal
 
 pub loop-at-init : goal.loop-at-init
-loop-at-init c =
-    rw c.origin-cursor.ensures (record { read = has_read_none c.args.text.now c.args.max c.args.points.now.items; held = omega (arith, c.args.points.now.ok.0) })
+loop-at-init g c =
+    rw c.origin-cursor.ensures (record { read = has_read_none c.args.text.now c.args.max (g.L.PointTail.held c.args.points.now); held = c.count-held.ensures })
 
 pub loop-at-preserved : goal.loop-at-preserved
-loop-at-preserved c =
+loop-at-preserved g c =
+    let old = g.L.PointTail.held c.args.points.now in
+    let held = g.L.PointTail.held c.loop-at.points in
     let read = c.loop-at.invariant.read in
     let room : length read.ps < c.args.max =
-    omega (arith, c.loop-at.points.ok.0, read_count c.args.text.now c.args.max c.loop-at.at c.loop-at.cursor c.args.points.now.items c.loop-at.points.items read) in
-    rw (c.in_ok-push.ensures.items, c.in_ok-point.ensures.moved) (record {
-      read = has_read_more c.args.text.now c.args.max c.loop-at.at c.loop-at.cursor c.args.points.now.items c.loop-at.points.items read c.in_ok-point.point c.in_ok-point.end _ c.in_ok-point.ensures.read c.in_ok-point.ensures.in_range room refl;
+    omega (arith, c.count.ensures, c.if-count-held.false, read_count c.args.text.now c.args.max c.loop-at.at c.loop-at.cursor old held read) in
+    rw (c.in_ok-put.ensures.appended, c.in_ok-point.ensures.moved) (record {
+      read = has_read_more c.args.text.now c.args.max c.loop-at.at c.loop-at.cursor old held read c.in_ok-point.point c.in_ok-point.end _ c.in_ok-point.ensures.read c.in_ok-point.ensures.in_range room refl;
       held = c.loop-at.invariant.held;
     })
 
 pub returns-in_err-point-clause-refuses : goal.returns-in_err-point-clause-refuses
-returns-in_err-point-clause-refuses c =
+returns-in_err-point-clause-refuses g c =
     let p = err_from_is_err_and c.from_residual.result c.from_residual.ensures.1 in
+    let old = g.L.PointTail.held c.args.points.now in
+    let held = g.L.PointTail.held c.loop-at.points in
     let read = c.loop-at.invariant.read in
     let room : length read.ps < c.args.max =
-    omega (arith, c.loop-at.points.ok.0, read_count c.args.text.now c.args.max c.loop-at.at c.loop-at.cursor c.args.points.now.items c.loop-at.points.items read) in
-    rw (p.1, p.2) (text_refused c.args.text.now c.args.max c.loop-at.at c.loop-at.cursor c.args.points.now.items c.loop-at.points.items read c.in_err-point.field-0.0 c.loop-at-test.true room c.in_err-point.ensures.refused)
+    omega (arith, c.count.ensures, c.if-count-held.false, read_count c.args.text.now c.args.max c.loop-at.at c.loop-at.cursor old held read) in
+    rw (p.1, p.2) (text_refused c.args.text.now c.args.max c.loop-at.at c.loop-at.cursor old held read c.in_err-point.field-0.0 c.loop-at-test.true room c.in_err-point.ensures.refused)
 
-pub returns-in_err-push-clause-refuses : goal.returns-in_err-push-clause-refuses
-returns-in_err-push-clause-refuses c =
-    let p = err_from_is_err_and c.from_residual-in_err-push.result c.from_residual-in_err-push.ensures.1 in
+pub returns-in_err-put-clause-refuses : goal.returns-in_err-put-clause-refuses
+returns-in_err-put-clause-refuses g c =
+    let p = err_from_is_err_and c.from_residual-in_err-put.result c.from_residual-in_err-put.ensures.1 in
+    let old = g.L.PointTail.held c.args.points.now in
+    let held = g.L.PointTail.held c.loop-at.points in
     let read = c.loop-at.invariant.read in
     let room : length read.ps < c.args.max =
-    omega (arith, c.loop-at.points.ok.0, read_count c.args.text.now c.args.max c.loop-at.at c.loop-at.cursor c.args.points.now.items c.loop-at.points.items read) in
-    rw (p.1, p.2) (no_memory c.args.text.now c.args.max c.loop-at.at c.loop-at.cursor c.args.points.now.items c.loop-at.points.items read c.in_ok-point.point c.in_ok-point.end c.in_ok-point.ensures.read c.in_ok-point.ensures.in_range room)
+    omega (arith, c.count.ensures, c.if-count-held.false, read_count c.args.text.now c.args.max c.loop-at.at c.loop-at.cursor old held read) in
+    rw (p.1, p.2) (no_memory c.args.text.now c.args.max c.loop-at.at c.loop-at.cursor old held read c.in_ok-point.point c.in_ok-point.end c.in_ok-point.ensures.read c.in_ok-point.ensures.in_range room)

@@ -4,11 +4,11 @@ use Rattle.twkb_polyline.proofs.DecodeLemmas.{HasRead}
 use Rattle.twkb_polyline.proofs.decoding.read_points.Given as goal
 
 abbrev pub invariant-loop-at : goal.invariant-loop-at
-invariant-loop-at l =
+invariant-loop-at g l =
     record {
-      read : HasRead l.text l.max l.at l.cursor l.fn.points.items l.points.items;
-      held : l.held ≡ length l.fn.points.items;
+      read : HasRead l.text l.max l.at l.cursor (g.L.PointTail.held l.fn.points) (g.L.PointTail.held l.points);
+      held : l.held ≡ length (g.L.PointTail.held l.fn.points);
     }
 
 abbrev pub decreases-loop-at : goal.decreases-loop-at
-decreases-loop-at l = length l.text - l.at
+decreases-loop-at g l = length l.text - l.at

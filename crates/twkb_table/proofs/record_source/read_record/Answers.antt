@@ -1,3 +1,4 @@
+use Rattle.std.proofs.Common.{rules}
 use Rattle.twkb_table.proofs.RecordFacts.{given_all, given_more, still_set_up}
 use Rattle.csv.specs.Records.{fields_of}
 use Rattle.twkb_table.proofs.record_source.read_record.Goals as goal
@@ -18,3 +19,6 @@ pub returns-clause-end : goal.returns-clause-end
 returns-clause-end g c none told records (set_up, given) =
     let step = rw none at (c.in-Ok.ensures.reads set_up.0 set_up.1) in
     given_all g.R.Read.remaining c.args.reader.now c.read_byte_record.new.self (fields_of c.read_byte_record.new.row) set_up step told records given
+
+pub returns-in_default-clause-end : goal.returns-in_default-clause-end
+returns-in_default-clause-end g c = search rules

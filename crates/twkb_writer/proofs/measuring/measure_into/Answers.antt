@@ -1,8 +1,7 @@
-use Rattle.std.proofs.Common.{◌-◌, arith, rules}
+use Rattle.std.proofs.Common.{◌≡◌, ◌-◌, arith, rules}
 use Rattle.twkb_writer.proofs.MeasuringCaps.{capped, capped_drop, node_depth}
 use Rattle.twkb_writer.proofs.MeasuringPass.{pass_start, pass_small, tail_short, pass_step, points_back, pass_end}
-use Rattle.twkb_writer.proofs.MeasuringWork.{reads_back}
-use Rattle.twkb_writer.proofs.ReadLemmas.{reads_none}
+use Rattle.twkb_writer.proofs.MeasuringWork.{reads_behind, reads_back}
 use Rattle.twkb_writer.proofs.RowStep.{points_within}
 use Rattle.twkb_writer.proofs.measuring.measure_into.Goals as goal
 
@@ -12,7 +11,7 @@ loop-back-init c =
     record {
       pass = pass_start c.args.style c.args.flat.now (c.node_count-total.result - 0) _ _ _ (omega (arith, c.node_count-total.ensures.value)) blanks.size (λ k h. blanks.blanks k (omega arith) h)
           c.none-tail.ensures c.clear-2.ensures.items;
-      reads = reads_none _ _ _;
+      reads = reads_behind _ c.args.flat.now (c.node_count-total.result - 0) (omega (arith, c.node_count-total.ensures.value)) c.look_at_reads.ensures.nodes c.look_at_reads.ensures.points;
     }
 
 pub take_points-points-requires-clause-few : goal.take_points-points-requires-clause-few
@@ -53,4 +52,13 @@ returns-clause-sizes c =
     pass_end _ _ (c.node_count-total.result - c.loop-back.back) _ _ _ _ c.node_count-total.ensures.sound (omega (arith, c.loop-back-test.false)) c.loop-back.invariant.pass c.reverse.ensures.items
 
 pub returns-clause-work : goal.returns-clause-work
-returns-clause-work c = search rules
+returns-clause-work c =
+    let none_left : c.node_count-total.result - c.loop-back.back ≡ 0 = omega (arith, c.loop-back-test.false) in
+    let reads = rw none_left at c.loop-back.invariant.reads in
+    record {
+      more_points = search rules;
+      more_nodes = search rules;
+      more_entries = search rules;
+      point_reads = reads.point_reads;
+      node_reads = omega (arith, reads.node_reads, c.node_count-total.ensures.value, none_left);
+    }

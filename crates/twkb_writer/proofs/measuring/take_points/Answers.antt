@@ -1,7 +1,7 @@
 use Rattle.std.proofs.Common.{arith}
 use Rattle.twkb_writer.proofs.MeasuringPoints.{tail_back}
 use Rattle.twkb_writer.proofs.RowStep.{points_within}
-use Rattle.twkb_writer.proofs.MeasuringWork.{point_back}
+use Rattle.twkb_writer.proofs.ReadLemmas.{exactly_point}
 use Rattle.twkb_writer.proofs.measuring.take_points.Goals as goal
 
 pub overflow_add-node : goal.overflow_add-node
@@ -18,5 +18,5 @@ loop-back-preserved c =
       value = λ ahead starts. tail_back c.args.flat.now c.args.id.0 c.args.node.now c.requires.node c.args.node.now.points c.loop-back.back _ ahead _ (omega arith) (omega arith)
           read.point (c.behind-tail.ensures.value _ (inv.value ahead starts));
       most = omega (arith, inv.most, c.behind-tail.ensures.most);
-      reads = point_back c.args.work.now c.loop-back.work c.point-point.new.work c.loop-back.back inv.reads read.counted;
+      reads = exactly_point c.args.work.now c.loop-back.work c.point-point.new.work 0 c.loop-back.back inv.reads read.counted;
     }

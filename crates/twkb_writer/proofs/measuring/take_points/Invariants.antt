@@ -2,7 +2,7 @@
 use Rattle.std.proofs.Common.{◌≡◌, ◌≤◌, ◌+◌, ◌*◌, ◌-◌, ◌++◌, List, drop}
 use Rattle.twkb_points.specs.Point.{Point}
 use Rattle.twkb_writer.specs.Measuring.{points_at}
-use Rattle.twkb_writer.specs.Reads.{Reads}
+use Rattle.twkb_writer.specs.Reads.{ReadsExactly}
 use Rattle.twkb_writer.specs.Tails.{tail_of}
 use Rattle.twkb_writer.proofs.measuring.take_points.Given as goal
 
@@ -10,5 +10,5 @@ abbrev pub invariant-loop-back : goal.invariant-loop-back
 invariant-loop-back l = record {
   value : (ahead : List Point) → l.fn.tail ≡ tail_of ahead → l.tail ≡ tail_of (drop (l.node.points - l.back) (points_at (drop l.fn.id.0 l.flat)) ++ ahead);
   most : l.tail.bytes ≤ l.fn.tail.bytes + 20 * l.back;
-  reads : Reads l.fn.work 0 l.back l.work;
+  reads : ReadsExactly l.fn.work 0 l.back l.work;
 }

@@ -25,7 +25,7 @@ loop-child-preserved g c =
       after = omega (arith, member.next.after, inv.after);
       at = next_at _ _ _ _ _ _ ends inv.at c.loop-child-test.true inv.after member;
       progress = step g.S.Sink.took g.S.Sink.refused g.met.S.Sink.takes_join g.met.S.Sink.refuses_join _ _ _ _ _ _ _ _ _ _ (ap ids_bytes more) inv.progress c.in_ok-put_id.ensures.ok;
-      read = (n + 1, omega (arith, total, ap length more), reads_join _ _ _ _ _ _ _ _ _ reads (one_node _ _ c.node-member.ensures.counted) (omega arith) (omega arith));
+      read = (n + 1, omega (arith, total, ap length more), reads_join _ _ _ _ _ _ _ _ _ reads (one_node _ _ c.node-member.ensures.no_fewer c.node-member.ensures.counted) (omega arith) (omega arith));
     }
 
 pub returns-in_err-put_id-clause-err : goal.returns-in_err-put_id-clause-err

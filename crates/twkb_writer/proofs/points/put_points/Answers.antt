@@ -25,7 +25,7 @@ loop-index-preserved g c =
       progress = rw c.in_ok-put_step.ensures.moved (step g.S.Sink.took g.S.Sink.refused g.met.S.Sink.takes_join g.met.S.Sink.refuses_join _ _ _ _ _ _ _ _ _ _
           (way_more ps i end c.loop-index.cursor c.point-to.result (omega arith) c.point-to.ensures.point) c.loop-index.invariant.progress c.in_ok-put_step.ensures.ok);
       last = rw c.in_ok-put_step.ensures.moved (sym (end_more ps i end c.loop-index.cursor c.point-to.result (omega arith) c.point-to.ensures.point) ∙ c.loop-index.invariant.last);
-      reads = reads_join _ _ _ _ _ _ _ _ _ c.loop-index.invariant.reads (one_point _ _ c.point-to.ensures.counted) (omega arith) (omega arith);
+      reads = reads_join _ _ _ _ _ _ _ _ _ c.loop-index.invariant.reads (one_point _ _ c.point-to.ensures.no_fewer c.point-to.ensures.counted) (omega arith) (omega arith);
     }
 
 pub returns-in_err-put_step-clause-err : goal.returns-in_err-put_step-clause-err

@@ -55,7 +55,7 @@ loop-index-preserved g c =
         m + c.node-node.result.points,
         omega (arith, walked, walk),
         omega (arith, seen, see),
-        reads_row _ _ _ _ _ _ _ _ _ reads (one_node _ _ c.node-node.ensures.counted) c.in_ok-place.ensures.reads c.in_ok-put_points.ensures.reads,
+        reads_row _ _ _ _ _ _ _ _ _ reads (one_node _ _ c.node-node.ensures.no_fewer c.node-node.ensures.counted) c.in_ok-place.ensures.reads c.in_ok-put_points.ensures.reads,
       );
     }
 

@@ -1,4 +1,6 @@
+use Rattle.std.proofs.Common.{refl, []}
+use Rattle.twkb_engine.proofs.Starts.{starts_at}
 use Rattle.twkb_engine.proofs.builder.Builder.new.Goals as goal
 
-pub invariant_of-result-clause-frames_fit : goal.invariant_of-result-clause-frames_fit
-invariant_of-result-clause-frames_fit c = rw c.new.ensures.items tt
+pub returns-clause-stands : goal.returns-clause-stands
+returns-clause-stands c = record { outlined = starts_at c.args.limits c.origin.result _ [] c.nest.ensures.sound c.origin.ensures c.new.ensures.items refl; placed = tt }

@@ -1,5 +1,6 @@
-use Rattle.std.proofs.Common.{◌≡◌, length, ap, arith}
+use Rattle.std.proofs.Common.{refl, []}
+use Rattle.twkb_engine.proofs.Starts.{starts_at}
 use Rattle.twkb_engine.proofs.builder.Builder.restart.Goals as goal
 
-pub invariant_of-self-clause-frames_few : goal.invariant_of-self-clause-frames_few
-invariant_of-self-clause-frames_few c = let none : length c.args.self.now.frames.items ≡ 0 = ap length c.requires in omega arith
+pub returns-clause-stands : goal.returns-clause-stands
+returns-clause-stands c = record { outlined = starts_at c.args.self.now.limits c.origin-self.result _ [] c.nest.ensures.sound c.origin-self.ensures c.clear.ensures.items refl; placed = tt }

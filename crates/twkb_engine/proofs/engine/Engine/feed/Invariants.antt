@@ -8,7 +8,7 @@ invariant-loop-used l = record {
   limits : allowance_of l.self ≡ allowance_of l.initial.self;
   count : count_of l.self ≤ count_of l.initial.self + l.used;
   within : l.used ≤ length l.piece;
-  stands : (bs : List ℕ) → StandsAt bs l.initial.self → StandsAt (bs ++ take l.used l.piece) l.self;
+  stands : (bs : List ℕ) → StandsAt bs l.initial.flat l.initial.self → StandsAt (bs ++ take l.used l.piece) l.flat l.self;
 }
 
 abbrev pub decreases-loop-used : goal.decreases-loop-used

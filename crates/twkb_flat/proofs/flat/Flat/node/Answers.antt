@@ -13,7 +13,7 @@ index-entry-requires c =
 pub returns-clause-node : goal.returns-clause-node
 returns-clause-node c =
     let same = simp (length-listed, length-map) at (ap length c.self.view_is) in
-    let answers : Answers c.index-entry.result.now.next (length c.self.inside.entries.items) c.if-entry-eq0.next =
+    let answers : Answers c.index-entry.result.now.next.0 (length c.self.inside.entries.items) c.if-entry-eq0.next =
     elim c.if-entry-eq0.branch [
       | then-entry-eq0 w ↦ inl (w.if-entry-eq0.true, w.next-is ∙ omega (arith, w.node_count-next.ensures.value, same))
       | else-entry-eq0 w ↦ inr (w.if-entry-eq0.false, w.next-is)

@@ -1,0 +1,56 @@
+-- The rows of a geometry, and the tree that is made of them.
+use Rattle.std.proofs.Common.{◌≡◌, ℕ, ◌<◌, ◌++◌, List, [], ◌∷◌, length, sym, ◌∙◌, ap, subst, arith, Option, Some, None, Result, Ok, Err, true}
+use Rattle.std.specs.Prelude.{IfOk, IfSome}
+use Rattle.std.specs.declared.io.traits.Read.{Ghosts}
+use Rattle.twkb_geom.specs.Tree.{Tree, simple, collection, IsTree}
+use Rattle.twkb_geom.specs.Rows.{Row, rows}
+use Rattle.twkb_geom.specs.Limits.{Allowance, IsValid, largest_limits}
+use Rattle.twkb_grammar.specs.Blob.{Stream}
+use Rattle.twkb_grammar.specs.declared.span.Span.{Span}
+use Rattle.twkb_io.specs.declared.input.Input.{Input}
+use Rattle.twkb_blob.specs.Readers.{Makes, IsNextFlat, IsNext}
+use Rattle.twkb_blob.specs.Located.{HasSpans, IsSpannedFlat, IsLocated}
+use Rattle.twkb_blob.specs.declared.fault.BlobFault.{BlobFault}
+use Rattle.twkb_blob.specs.declared.spans.Located.{Located}
+
+-- the law that rows tell one tree
+abbrev pub TreeLaw : Type 0
+TreeLaw = (g h : Tree) → IsTree g → IsTree h → rows 0 g ≡ rows 0 h → g ≡ h
+
+-- a geometry has a row
+pub has_row : (g : Tree) → 0 < length (rows 0 g)
+has_row (simple p s) = omega arith
+has_row (collection p ids gs) = omega arith
+
+-- and so have these rows, which are not none
+pub some_row : (rs : List Row) (g : Tree) → rs ≡ rows 0 g → 0 < length rs
+some_row rs g is = omega (arith, ap length is, has_row g)
+
+pub not_none : (rs : List Row) (g : Tree) → rs ≡ rows 0 g → rs ≡ [] → ⊥
+not_none rs g is none = absurd (omega (arith, ap length none, some_row rs g is))
+
+-- the tree that is made of the rows is the geometry
+pub tree_made : TreeLaw → (rs : List Row) (g h : Tree) → IsTree g → rs ≡ rows 0 g → rows 0 h ≡ rs → IsValid largest_limits h → g ≡ h
+tree_made law rs g h tree is made valid = law g h tree valid.tree (sym (made ∙ is))
+
+-- the last geometry of a stream is one
+pub last_tree : (limits : Allowance) (bytes : List ℕ) (gs : List Tree) (g : Tree) → Stream limits bytes (gs ++ g ∷ []) → IsTree g
+last_tree limits bytes [] g (front, rest, whole, blob, more) = blob.valid.tree
+last_tree limits bytes (f ∷ fs) g (front, rest, whole, blob, more) = last_tree limits rest fs g more
+
+module _ {R : Type 0} {read : Ghosts R} where
+  -- a blob left the input, and the tree was made of the rows
+  pub made_tree : TreeLaw → (limits : Allowance) (a c : Input R read) (rs : List Row) (h : Tree) → IsNextFlat limits a c (Ok true) rs → rows 0 h ≡ rs → IsValid largest_limits h → IsNext limits a c (Ok (Some h))
+  made_tree law limits a c rs h (g, makes, is) made valid = subst (λ t. Makes limits [] a c t) (tree_made law rs g h makes.blob.valid.tree is made valid) makes
+
+  -- the same, with the spans
+  pub made_spanned : TreeLaw → (limits : Allowance) (a c : Input R read) (rs : List Row) (l : Located) → IsSpannedFlat limits a c (Ok (Some l.spans)) rs → rows 0 l.geometry ≡ rs → IsValid largest_limits l.geometry → IsLocated limits a c (Ok (Some l))
+  made_spanned law limits a c rs l (g, has, is) made valid =
+      let here : HasSpans limits a c l.geometry l.spans = subst (λ t. HasSpans limits a c t l.spans) (tree_made law rs g l.geometry has.made.blob.valid.tree is made valid) has in
+      record { next = here.made; spans = here }
+
+  -- a geometry with spans has a row
+  pub spans_row : (limits : Allowance) (a c : Input R read) (answer : Result (Option (List Span)) BlobFault) (rs : List Row) → IsSpannedFlat limits a c answer rs → IfOk answer (λ found. IfSome found (λ spans. 0 < length rs))
+  spans_row limits a c (Ok (Some spans)) rs h = some_row rs h.0 h.2
+  spans_row limits a c (Ok None) rs h = tt
+  spans_row limits a c (Err why) rs h = tt

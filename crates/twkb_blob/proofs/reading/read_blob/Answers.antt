@@ -1,0 +1,72 @@
+use Rattle.std.proofs.Common.{◌∙◌, ◌++◌, [], refl, subst, arith}
+use Rattle.std.specs.Prelude.{Bool}
+use Rattle.twkb_grammar.specs.Fault.{FirstFault, Truncated}
+use Rattle.twkb_engine.specs.Standing.{IsEnd, allowance_of, offset_in}
+use Rattle.twkb_blob.proofs.Standing.{counted}
+use Rattle.twkb_blob.proofs.Blobs.{nothing_left, left_join, made_next, end_next, cut_next, stopped_next, halted_next, no_device}
+use Rattle.twkb_blob.proofs.reading.read_blob.Goals as goal
+
+pub loop-engine-init : goal.loop-engine-init
+loop-engine-init g c = record { read = ([], nothing_left c.args.input.now, c.requires); spent = λ e. e; limits = refl; same_tap = refl; failures = refl }
+
+pub read_piece-requires : goal.read_piece-requires
+read_piece-requires g c =
+    let (bs, left, stands) = c.loop-engine.invariant.read in
+    omega (arith, counted c.reading.ensures.offset bs c.loop-engine.flat c.loop-engine.engine stands, left.counted, c.offset-given.ensures.within, c.offset-given.ensures.offset)
+
+pub loop-engine-smaller : goal.loop-engine-smaller
+loop-engine-smaller g c =
+    let (bs, left, stands) = c.loop-engine.invariant.read in
+    let (bytes, some, more, after, live) = rw c.in-Ok-More.field-0-is at (c.in-Ok-More.ensures.read bs stands) in
+    omega (arith, more.counted, some, c.read_piece.new.input.within)
+
+pub loop-engine-preserved : goal.loop-engine-preserved
+loop-engine-preserved g c =
+    let (bs, left, stands) = c.loop-engine.invariant.read in
+    let (bytes, some, more, after, live) = rw c.in-Ok-More.field-0-is at (c.in-Ok-More.ensures.read bs stands) in
+    record {
+      read = (bs ++ bytes, left_join c.args.input.now c.loop-engine.input c.read_piece.new.input bs bytes left more, after);
+      spent = λ e. absurd (cc (e, live));
+      limits = c.read_piece.ensures.limits ∙ c.loop-engine.invariant.limits;
+      same_tap = c.read_piece.ensures.same_tap ∙ c.loop-engine.invariant.same_tap;
+      failures = c.in-Ok-More.ensures.failures ∙ c.loop-engine.invariant.failures;
+    }
+
+pub returns-in-Ok-Made-clause-next : goal.returns-in-Ok-Made-clause-next
+returns-in-Ok-Made-clause-next g c =
+    let (bs, left, stands) = c.loop-engine.invariant.read in
+    made_next (allowance_of c.args.engine.now) (allowance_of c.loop-engine.engine) bs c.args.input.now c.loop-engine.input c.read_piece.new.input c.read_piece.new.flat c.read_piece.new.engine c.loop-engine.invariant.limits left
+    (rw c.in-Ok-Made.field-0-is at (c.in-Ok-Made.ensures.read bs stands))
+
+pub returns-then-is_between-clause-next : goal.returns-then-is_between-clause-next
+returns-then-is_between-clause-next g c =
+    let (bs, left, stands) = c.loop-engine.invariant.read in
+    let read = rw c.in-Ok-End.field-0-is at (c.in-Ok-End.ensures.read bs stands) in
+    end_next (allowance_of c.args.engine.now) (allowance_of c.loop-engine.engine) bs c.args.input.now c.loop-engine.input c.read_piece.new.input c.read_piece.new.flat c.read_piece.new.engine left read (c.if-is_between.ensures bs c.read_piece.new.flat read.2)
+
+pub returns-in-Ok-End-clause-next : goal.returns-in-Ok-End-clause-next
+returns-in-Ok-End-clause-next g c =
+    let (bs, left, stands) = c.loop-engine.invariant.read in
+    let read = rw c.in-Ok-End.field-0-is at (c.in-Ok-End.ensures.read bs stands) in
+    let d = c.read_piece.new.engine in
+    let first = subst (λ l. FirstFault l bs (offset_in d) Truncated) c.read_piece.ensures.limits (c.if-is_between.ensures bs c.read_piece.new.flat read.2) in
+    rw c.offset.ensures (cut_next (allowance_of c.args.engine.now) (allowance_of c.loop-engine.engine) bs c.args.input.now c.loop-engine.input c.read_piece.new.input c.offset-start.result (offset_in d) c.read_piece.new.flat d c.loop-engine.invariant.limits
+    c.offset-start.ensures.offset left read first)
+
+pub returns-in-Err-Engine-clause-next : goal.returns-in-Err-Engine-clause-next
+returns-in-Err-Engine-clause-next g c =
+    let (bs, left, stands) = c.loop-engine.invariant.read in
+    let read = rw c.in-Err-Engine.field-0-is at (c.in-Err-Engine.ensures.read bs stands) in
+    rw c.fault_at.ensures (stopped_next (allowance_of c.args.engine.now) (allowance_of c.loop-engine.engine) bs c.args.input.now c.loop-engine.input c.read_piece.new.input c.offset-start.result c.offset-in-Err-Engine.result c.in-Err-Engine.stop c.read_piece.new.flat c.read_piece.new.engine c.loop-engine.invariant.limits
+    c.offset-start.ensures.offset c.offset-in-Err-Engine.ensures left read)
+
+pub returns-in-Err-Engine-clause-failures : goal.returns-in-Err-Engine-clause-failures
+returns-in-Err-Engine-clause-failures g c = rw (c.fault_at.ensures, no_device Bool) ((rw c.in-Err-Engine.field-0-is at c.in-Err-Engine.ensures.failures) ∙ c.loop-engine.invariant.failures)
+
+pub returns-in-Err-Device-clause-next : goal.returns-in-Err-Device-clause-next
+returns-in-Err-Device-clause-next g c =
+    let (bs, left, stands) = c.loop-engine.invariant.read in
+    let read = rw c.in-Err-Device.field-0-is at (c.in-Err-Device.ensures.read bs stands) in
+    halted_next (allowance_of c.args.engine.now) (allowance_of c.loop-engine.engine) c.in-Err-Device.fault bs c.args.input.now c.loop-engine.input c.read_piece.new.input c.read_piece.new.flat c.read_piece.new.engine
+    (offset_in c.read_piece.new.engine) c.is_between-between.result c.loop-engine.invariant.limits left c.loop-engine.invariant.spent
+    (subst (λ l. IsEnd l bs (offset_in c.read_piece.new.engine) c.is_between-between.result) c.read_piece.ensures.limits (c.is_between-between.ensures bs c.read_piece.new.flat read.1)) read

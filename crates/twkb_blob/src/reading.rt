@@ -1,0 +1,133 @@
+//! A blob that is read into a flat form from the held bytes of an input, as many at once as there are.
+ghost use Rattle.std.specs.Prelude.{◌≡◌, ◌≤◌, ◌<◌, ◌^◌, ◌⊎◌, ℕ, List, [], true, Ok, length};
+ghost use Rattle.twkb_io.specs.Taps.{count_failure};
+ghost use Rattle.twkb_io.specs.Inputs.{input_failures, input_tap};
+ghost use Rattle.twkb_engine.specs.Standing.{StandsAt, allowance_of, count_of, offset_in};
+ghost use Rattle.twkb_blob.specs.Readers.{IsRead, IsNextFlat, halted_by_read, failed_by_read};
+
+use crate::fault::{BlobFault, fault_at};
+use std::io::Read;
+use twkb_engine::{BlobReason, Engine, Stop};
+use twkb_flat::Flat;
+use twkb_io::{InFault, Input};
+
+/// What the held bytes of an input made.
+#[derive(Clone, Copy, Debug, PartialEq, Eq)]
+pub(crate) enum Piece {
+    /// They were used, and more have to follow.
+    More,
+    /// A geometry ends in them, whose rows are in the form.
+    Made,
+    /// There are none.
+    End,
+}
+
+/// Why the held bytes of an input made nothing.
+#[derive(Clone, Copy, Debug, PartialEq, Eq)]
+pub(crate) enum Halt {
+    /// The input gave none.
+    Device(InFault),
+    /// The engine stopped.
+    Engine(Stop),
+}
+
+/// Gives the held bytes of an input to an engine, up to the end of a geometry.
+fn read_piece<R: Read>(
+    input: &mut Input<'_, R>,
+    engine: &mut Engine,
+    flat: &mut Flat,
+) -> Result<Piece, Halt>
+    requires { count_of engine.old ≤ 2 ^ 62 }
+    ensures same_tap { (input_tap input.new).ghost_name ≡ (input_tap input.old).ghost_name }
+    ensures limits { allowance_of engine.new ≡ allowance_of engine.old }
+    ensures offset { offset_in engine.new ≤ 2 ^ 63 }
+    ensures read { (bs : List ℕ) → StandsAt bs flat.old engine.old → IsRead (allowance_of engine.old) bs input.old input.new result flat.new engine.new }
+    ensures failures { input_failures input.new ≡ count_failure (halted_by_read result) (input_failures input.old) }
+{
+    if let Err(fault) = input.fill() {
+        return Err(Halt::Device(fault));
+    }
+    let _given = input.offset();
+    let piece = input.held();
+    let count = piece.len();
+    if count == 0 {
+        return Ok(Piece::End);
+    }
+    match engine.feed(flat, piece) {
+        Ok((used, false)) => {
+            input.advance(used);
+            Ok(Piece::More)
+        }
+        Ok((used, true)) => {
+            input.advance(used);
+            Ok(Piece::Made)
+        }
+        Err(stop) => Err(Halt::Engine(stop)),
+    }
+}
+
+/// Reads a blob from an input into a form without rows, with an engine that has read nothing.
+fn read_blob<R: Read>(
+    input: &mut Input<'_, R>,
+    engine: &mut Engine,
+    flat: &mut Flat,
+) -> Result<bool, BlobFault>
+    requires { StandsAt [] flat.old engine.old }
+    ensures same_tap { (input_tap input.new).ghost_name ≡ (input_tap input.old).ghost_name }
+    ensures limits { allowance_of engine.new ≡ allowance_of engine.old }
+    ensures next { IsNextFlat (allowance_of engine.old) input.old input.new result flat.new }
+    ensures failures { input_failures input.new ≡ count_failure (failed_by_read result) (input_failures input.old) }
+{
+    twkb_outline::laws::reading();
+    let start = input.offset();
+    loop {
+        let _given = input.offset();
+        match read_piece(input, engine, flat) {
+            Ok(Piece::More) => {}
+            Ok(Piece::Made) => return Ok(true),
+            Ok(Piece::End) => {
+                if engine.is_between() {
+                    return Ok(false);
+                }
+                let offset = start + engine.offset();
+                let reason = BlobReason::Truncated;
+                return Err(BlobFault::At { offset, reason });
+            }
+            Err(Halt::Device(fault)) => {
+                let _between = engine.is_between();
+                return Err(BlobFault::Device(fault));
+            }
+            Err(Halt::Engine(stop)) => return Err(fault_at(start + engine.offset(), stop)),
+        }
+    }
+}
+
+/// Reads a blob from an input into a form, in place of what that holds, with an engine that forgets what it has read. The form has no rows
+/// where none is read.
+pub(crate) fn read_into<R: Read>(
+    input: &mut Input<'_, R>,
+    engine: &mut Engine,
+    flat: &mut Flat,
+) -> Result<bool, BlobFault>
+    ensures same_tap { (input_tap input.new).ghost_name ≡ (input_tap input.old).ghost_name }
+    ensures limits { allowance_of engine.new ≡ allowance_of engine.old }
+    ensures next { IsNextFlat (allowance_of engine.old) input.old input.new result flat.new }
+    ensures cleared { (result ≡ Ok true) ⊎ (flat.new ≡ []) }
+    ensures some { result ≡ Ok true → 0 < length flat.new }
+    ensures failures { input_failures input.new ≡ count_failure (failed_by_read result) (input_failures input.old) }
+{
+    twkb_geom::laws::nodes_are_rows();
+    engine.restart();
+    flat.clear();
+    match read_blob(input, engine, flat) {
+        Ok(true) => Ok(true),
+        Ok(false) => {
+            flat.clear();
+            Ok(false)
+        }
+        Err(fault) => {
+            flat.clear();
+            Err(fault)
+        }
+    }
+}

@@ -1,0 +1,21 @@
+-- The last row, a line's, with a point more.
+use Rattle.std.proofs.Common.{◌≡◌, ◌+◌, List, [], ◌∷◌, ◌++◌, length, length-append, sym, ap, ◌∙◌, arith}
+use Rattle.twkb_points.specs.Point.{Point}
+use Rattle.twkb_geom.specs.Rows.{Row, row_points}
+use Rattle.twkb_geom.specs.RowGrowth.{EndsInLine, point_added, with_point}
+use Rattle.twkb_geom.proofs.PointAdded.{point_last}
+use Rattle.twkb_geom.proofs.RowPoints.{row_points-append}
+
+-- it is a line's again
+pub ends_again : (p : Point) (rs : List Row) → EndsInLine rs → EndsInLine (point_added p rs)
+ends_again p rs e = record { front = e.front; last = with_point e.last p; line = e.line; whole = ap (point_added p) e.whole ∙ point_last p e.front e.last }
+
+-- there is a point more
+pub one_point_more : (p : Point) (rs : List Row) → EndsInLine rs → length (row_points (point_added p rs)) ≡ length (row_points rs) + 1
+one_point_more p rs e =
+    let before : length (row_points rs) ≡ length (row_points e.front) + length (row_points (e.last ∷ [])) =
+    ap (λ (l : List Row). length (row_points l)) e.whole ∙ (ap (λ (l : List Point). length l) (row_points-append e.front (e.last ∷ [])) ∙ length-append (row_points e.front) (row_points (e.last ∷ []))) in
+    let after : length (row_points (point_added p rs)) ≡ length (row_points e.front) + length (row_points (with_point e.last p ∷ [])) =
+    ap (λ (l : List Row). length (row_points l)) (ap (point_added p) e.whole ∙ point_last p e.front e.last)
+    ∙ (ap (λ (l : List Point). length l) (row_points-append e.front (with_point e.last p ∷ [])) ∙ length-append (row_points e.front) (row_points (with_point e.last p ∷ []))) in
+    omega (arith, before, after, length-append e.last.points [], length-append (e.last.points ++ p ∷ []) [], length-append e.last.points (p ∷ []))

@@ -1,0 +1,54 @@
+-- A builder as an outline with sums, and why it refuses an item.
+use Rattle.std.specs.Prelude.{◌≡◌, ℕ, ⊤, Result, Ok, Err, Bool, true, false, List, [], ◌++◌, Option, Some, None}
+use Rattle.twkb_geom.specs.Limits.{Allowance}
+use Rattle.twkb_grammar.specs.Fault as fault
+use Rattle.twkb_grammar.specs.PlainReader.{objection}
+use Rattle.twkb_grammar.specs.Roles.{Role}
+use Rattle.twkb_grammar.specs.Machine.{Sums}
+use Rattle.twkb_outline.specs.Outline.{Outline, OnFinished, outline_role}
+use Rattle.twkb_outline.specs.Reading.{Outlined}
+use Rattle.twkb_engine.specs.State.{groups_of, step_of, IsPlacedIn}
+use Rattle.twkb_engine.specs.Stops.{reason_of}
+use Rattle.twkb_engine.specs.declared.stop.Stop.{Stop}
+use Rattle.twkb_engine.specs.declared.stop.Stop.TheVariants.{Memory, Refused}
+use Rattle.twkb_engine.specs.declared.builder.Builder.{Builder}
+use Rattle.twkb_geom.specs.Tree.{Tree}
+use Rattle.twkb_geom.specs.Rows.{Row, rows}
+use Rattle.twkb_grammar.specs.Blob.{Blob}
+use Rattle.twkb_grammar.specs.Fault.{FirstFault}
+
+-- what its items so far sum to
+abbrev pub sums_of : Builder → Sums
+sums_of b = record { bytes = b.bytes; position = b.position; nodes = b.nodes; points = b.points }
+
+-- what stands open
+abbrev pub outline_in : Builder → Outline
+outline_in b = (groups_of b.groups.items, step_of b.phase)
+
+-- these bytes are whole items that lead to where it stands, and these are the rows of what was read
+pub record StandsBehind (bytes : List ℕ) (rs : List Row) (b : Builder) : Type 0 where
+  pub outlined : Outlined b.limits bytes (sums_of b) (outline_in b) rs
+  pub placed : IsPlacedIn b.groups.items b.phase
+
+-- why a number may not stand in this role, if there is one
+abbrev pub objection_at : Allowance → Sums → ℕ → Option Role → Option fault.Reason
+objection_at limits e n None = None
+objection_at limits e n (Some r) = objection limits e r n
+
+-- why the next item may not have this number
+abbrev pub refusal : Allowance → Sums → Outline → ℕ → Option fault.Reason
+refusal limits e o n = objection_at limits e n (outline_role e o)
+
+-- the ends behind an item were taken, with these sums
+abbrev pub IsAt : Result Outline fault.Reason → Sums → Result Bool Stop → Builder → Type 0
+IsAt way e (Ok false) b = (way ≡ Ok (outline_in b)) × (sums_of b ≡ e)
+IsAt way e (Ok true) b = (way ≡ Ok ([], OnFinished)) × StandsBehind [] [] b
+IsAt way e (Err Memory) b = ⊤
+IsAt way e (Err (Refused r)) b = (way ≡ Err (reason_of r)) × (b.bytes ≡ e.bytes)
+
+-- the last item leads on, or ends a blob with these rows, or is refused, whatever follows
+abbrev pub IsTaken : Allowance → List ℕ → Result Bool Stop → List Row → Builder → Type 0
+IsTaken limits bytes (Ok false) rs b = StandsBehind bytes rs b
+IsTaken limits bytes (Ok true) rs b = (g : Tree) × Blob limits bytes g × (rs ≡ rows 0 g) × StandsBehind [] [] b
+IsTaken limits bytes (Err Memory) rs b = ⊤
+IsTaken limits bytes (Err (Refused r)) rs b = (more : List ℕ) → FirstFault limits (bytes ++ more) b.bytes (reason_of r)

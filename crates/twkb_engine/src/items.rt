@@ -1,0 +1,37 @@
+//! What an item announces.
+ghost use Rattle.std.specs.Prelude.{◌≡◌, ℕ, Some};
+ghost use Rattle.twkb_grammar.specs.Fault.{nodes_by, points_by};
+ghost use Rattle.twkb_grammar.specs.Roles.{Role};
+ghost use Rattle.twkb_outline.specs.Outline.{step_role};
+ghost use Rattle.twkb_engine.specs.State.{step_of};
+
+use crate::header::{EMPTY, has_bit};
+use crate::lefts::Spot;
+use crate::phase::{Kind, Many, Phase};
+use crate::site::Form;
+
+/// The nodes and the points that the item announces which has this number.
+pub fn announced(phase: &Phase, number: u64) -> (u64, u64)
+    ensures nodes { (level bytes : ℕ) (r : Role) → step_role level bytes (step_of phase.now) ≡ Some r → result.0 ≡ nodes_by r number }
+    ensures points { (level bytes : ℕ) (r : Role) → step_role level bytes (step_of phase.now) ≡ Some r → result.1 ≡ points_by r number }
+{
+    match phase {
+        Phase::Metadata(typed) => {
+            if typed.kind == Kind::Simple(Form::Point) && !has_bit(number, EMPTY) {
+                (0, 1)
+            } else {
+                (0, 0)
+            }
+        }
+        Phase::Count { many, .. } => match many {
+            Many::Points => (number, number),
+            Many::Lines | Many::Areas | Many::Geometries => (number, 0),
+        },
+        Phase::Body(_, body) => match body.spot {
+            Spot::LineCount(_) => (0, number),
+            Spot::AreaCount(_) => (number, 0),
+            Spot::X(_) | Spot::Y(_) => (0, 0),
+        },
+        _ => (0, 0),
+    }
+}

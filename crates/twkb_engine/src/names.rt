@@ -1,0 +1,38 @@
+//! The ids of the members of a body.
+ghost use Rattle.std.specs.Prelude.{◌≡◌};
+ghost use Rattle.twkb_geom.specs.Rows.{first_id, other_ids};
+
+/// The ids of the members, if they have any, and how many of them were given.
+#[derive(Debug, Drop)]
+pub struct Names {
+    pub named: bool,
+    pub ids: Vec<i64>,
+    pub given: usize,
+}
+
+impl Names {
+    ghost use Rattle.twkb_engine.specs.Names.{ids_of};
+
+    /// The id of the member that stands open.
+    pub fn next(&self) -> Option<i64>
+        ensures { result ≡ first_id (ids_of self.now) }
+    {
+        if !self.named {
+            return None;
+        }
+        if self.given < self.ids.len() {
+            Some(self.ids[self.given])
+        } else {
+            None
+        }
+    }
+
+    /// The next member begins.
+    pub fn go_on(&mut self)
+        ensures { ids_of self.new ≡ other_ids (ids_of self.old) }
+    {
+        if self.given < self.ids.len() {
+            self.given += 1;
+        }
+    }
+}

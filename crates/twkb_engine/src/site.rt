@@ -1,0 +1,146 @@
+//! The rows of a body in a flat form.
+ghost use Rattle.std.specs.Prelude.{◌≡◌, ◌+◌, ◌<◌, ◌^◌, ◌++◌, ◌∷◌, [], OnOk, OnErr};
+ghost use Rattle.twkb_geom.specs.Rows.{plain_row};
+ghost use Rattle.twkb_flat.specs.Rows.{row_with};
+ghost use Rattle.twkb_outline.specs.Growing.{applied, point_change, list_row, own_of, row_kind};
+ghost use Rattle.twkb_engine.specs.Body.{form_of};
+ghost use Rattle.twkb_engine.specs.State.{kind_of};
+
+use crate::phase::Kind;
+use crate::place::Site;
+use std::alloc::AllocError;
+use twkb_flat::{Flat, Row};
+use twkb_geom::Kind as RowKind;
+use twkb_points::Pt;
+
+/// The six simple types.
+#[derive(Clone, Copy, Debug, PartialEq, Eq)]
+pub enum Form {
+    Point,
+    Line,
+    Polygon,
+    MultiPoint,
+    MultiLine,
+    MultiPolygon,
+}
+
+/// Appends a row with these points, if it goes on with the rows: wherever a reader stands it does. Takes memory; an `Err` changes
+/// nothing.
+fn push_row(flat: &mut Flat, row: Row, points: &[Pt]) -> Result<(), AllocError>
+    ensures pushed { OnOk result (flat.new ≡ flat.old ++ row_with row points.now ∷ []) }
+    ensures same { OnErr result (flat.new ≡ flat.old) }
+{
+    if !flat.admits(&row, points) {
+        return Err(AllocError);
+    }
+    flat.push(row, points)
+}
+
+/// Puts a point that was read: as a row of its own, or behind those of the last row, if the rows take it: wherever a reader stands
+/// they do. Takes memory; an `Err` changes nothing.
+pub fn put_point(
+    flat: &mut Flat,
+    site: Site,
+    form: Form,
+    member: Option<i64>,
+    point: Pt,
+) -> Result<(), AllocError>
+    ensures put { OnOk result (flat.new ≡ applied (point_change point site.depth site.id site.precision (form_of form) member) flat.old) }
+    ensures same { OnErr result (flat.new ≡ flat.old) }
+{
+    match form {
+        Form::Point => {
+            let row = Row {
+                depth: site.depth,
+                kind: RowKind::Point,
+                id: site.id,
+                precision: Some(site.precision),
+            };
+            push_row(flat, row, &[point])
+        }
+        Form::MultiPoint => {
+            let row = Row {
+                depth: site.depth + 1,
+                kind: RowKind::Point,
+                id: member,
+                precision: None,
+            };
+            push_row(flat, row, &[point])
+        }
+        _ => {
+            if !flat.takes_point() {
+                return Err(AllocError);
+            }
+            flat.add_point(point)
+        }
+    }
+}
+
+/// The kind of the row of a type.
+fn row_kind(kind: Kind) -> RowKind
+    ensures { result ≡ row_kind (kind_of kind) }
+{
+    match kind {
+        Kind::Simple(Form::Point) => RowKind::Point,
+        Kind::Simple(Form::Line) => RowKind::Linestring,
+        Kind::Simple(Form::Polygon) => RowKind::Polygon,
+        Kind::Simple(Form::MultiPoint) => RowKind::MultiPoint,
+        Kind::Simple(Form::MultiLine) => RowKind::MultiLinestring,
+        Kind::Simple(Form::MultiPolygon) => RowKind::MultiPolygon,
+        Kind::Collection => RowKind::Collection,
+    }
+}
+
+/// A geometry's own row.
+pub fn whole_row(site: Site, kind: Kind) -> Row
+    ensures { row_with result [] ≡ own_of site.depth site.id (kind_of kind) site.precision }
+{
+    Row {
+        depth: site.depth,
+        kind: row_kind(kind),
+        id: site.id,
+        precision: Some(site.precision),
+    }
+}
+
+/// A row of a geometry's part.
+fn part_row(depth: u32, kind: RowKind, id: Option<i64>) -> Row
+    ensures { row_with result [] ≡ plain_row depth kind id [] }
+{
+    Row {
+        depth,
+        kind,
+        id,
+        precision: None,
+    }
+}
+
+/// The row of a list of points that begins.
+pub fn line_row(site: Site, form: Form, member: Option<i64>) -> Row
+    ensures { row_with result [] ≡ list_row site.depth site.id site.precision (form_of form) member 0 }
+{
+    match form {
+        Form::Polygon => part_row(site.depth + 1, RowKind::Ring, None),
+        Form::MultiLine => part_row(site.depth + 1, RowKind::Linestring, member),
+        Form::MultiPolygon => part_row(site.depth + 2, RowKind::Ring, None),
+        _ => whole_row(site, Kind::Simple(form)),
+    }
+}
+
+/// The row of a list of lines or rings that begins.
+pub fn area_row(site: Site, form: Form, member: Option<i64>) -> Row
+    ensures { row_with result [] ≡ list_row site.depth site.id site.precision (form_of form) member 1 }
+{
+    match form {
+        Form::MultiPolygon => part_row(site.depth + 1, RowKind::Polygon, member),
+        _ => whole_row(site, Kind::Simple(form)),
+    }
+}
+
+/// Begins a row, if it goes on with the rows: wherever a reader stands it does. Takes memory; an `Err` changes nothing.
+pub fn begin_row(flat: &mut Flat, row: Row) -> Result<(), AllocError>
+    ensures begun { OnOk result (flat.new ≡ flat.old ++ row_with row [] ∷ []) }
+    ensures same { OnErr result (flat.new ≡ flat.old) }
+{
+    push_row(flat, row, &[])
+}

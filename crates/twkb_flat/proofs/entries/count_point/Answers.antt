@@ -1,0 +1,12 @@
+use Rattle.std.proofs.Common.{arith, length, ◌-◌}
+use Rattle.twkb_flat.proofs.LastPoint.{last_fits, longer_spans, same_nexts}
+use Rattle.twkb_flat.proofs.entries.count_point.Goals as goal
+
+pub overflow_add-entry : goal.overflow_add-entry
+overflow_add-entry c = last_fits c.args.entries.now (length c.args.entries.now - 1) _ (omega (arith, c.requires.some)) c.requires.room
+
+pub returns-clause-spans : goal.returns-clause-spans
+returns-clause-spans c = longer_spans c.args.entries.now (length c.args.entries.now - 1) _ (omega (arith, c.requires.some))
+
+pub returns-clause-nexts : goal.returns-clause-nexts
+returns-clause-nexts c = same_nexts c.args.entries.now (length c.args.entries.now - 1) _

@@ -1,0 +1,44 @@
+-- What is noted of spans is told by the outline.
+use Rattle.std.proofs.Common.{◌≡◌, ℕ, suc, refl, sym, ap}
+use Rattle.std.proofs.lemmas.List.{length-map}
+use Rattle.std.specs.Prelude.{List}
+use Rattle.twkb_grammar.specs.Noting.{Notes, note_byte, IsCalm}
+use Rattle.twkb_grammar.specs.Machine.{Frame, Phase, AtHeader, AtMetadata, AtOption, AtCount, AtId, AtBody, AtEnd, Finished, Want, WantY, Done}
+use Rattle.twkb_grammar.specs.Reading.{frame_count}
+use Rattle.twkb_outline.specs.Outline.{group_of, step_of, outline_of}
+use Rattle.twkb_outline.specs.Reading.{open_count}
+use Rattle.twkb_outline.specs.Noting.{note_step, IsCalmStep}
+
+pub same_note : (ph : Phase) (offset points byte : ℕ) (w : Notes) → note_byte ph offset points byte w ≡ note_step (step_of ph) offset points byte w
+same_note AtHeader offset points byte w = refl
+same_note (AtMetadata k p) offset points byte w = refl
+same_note (AtOption k h r rs) offset points byte w = refl
+same_note (AtCount m h) offset points byte w = refl
+same_note (AtId m h n ids left) offset points byte w = refl
+same_note (AtBody h f ids (Want d a)) offset points byte w = refl
+same_note (AtBody h f ids (WantY a)) offset points byte w = refl
+same_note (AtBody h f ids (Done v)) offset points byte w = refl
+same_note (AtEnd h g) offset points byte w = refl
+same_note (Finished g) offset points byte w = refl
+
+pub same_calm : (ph : Phase) → IsCalmStep (step_of ph) → IsCalm ph
+same_calm (AtOption k h r rs) c = c
+same_calm AtHeader c = tt
+same_calm (AtMetadata k p) c = tt
+same_calm (AtCount m h) c = tt
+same_calm (AtId m h n ids left) c = tt
+same_calm (AtBody h f ids b) c = tt
+same_calm (AtEnd h g) c = tt
+same_calm (Finished g) c = tt
+
+pub same_count : (fs : List Frame) (ph : Phase) → frame_count (fs, ph) ≡ open_count (outline_of (fs, ph))
+same_count fs AtHeader = sym (length-map fs group_of)
+same_count fs (Finished g) = sym (length-map fs group_of)
+same_count fs (AtMetadata k p) = ap suc (sym (length-map fs group_of))
+same_count fs (AtOption k h r rs) = ap suc (sym (length-map fs group_of))
+same_count fs (AtCount m h) = ap suc (sym (length-map fs group_of))
+same_count fs (AtId m h n ids left) = ap suc (sym (length-map fs group_of))
+same_count fs (AtBody h f ids (Want d a)) = ap suc (sym (length-map fs group_of))
+same_count fs (AtBody h f ids (WantY a)) = ap suc (sym (length-map fs group_of))
+same_count fs (AtBody h f ids (Done v)) = ap suc (sym (length-map fs group_of))
+same_count fs (AtEnd h g) = ap suc (sym (length-map fs group_of))

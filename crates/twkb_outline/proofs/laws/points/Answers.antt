@@ -1,0 +1,12 @@
+use Rattle.twkb_outline.proofs.PointPairs.{outlined_point, point_takes}
+use Rattle.twkb_outline.proofs.NotedPairs.{noted_point}
+use Rattle.twkb_outline.proofs.laws.points.Goals as goal
+
+pub returns-clause-taken : goal.returns-clause-taken
+returns-clause-taken c = outlined_point
+
+pub returns-clause-takes : goal.returns-clause-takes
+returns-clause-takes c = point_takes
+
+pub returns-clause-noted : goal.returns-clause-noted
+returns-clause-noted c = noted_point

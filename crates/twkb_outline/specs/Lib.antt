@@ -1,0 +1,4 @@
+pub mod Outline
+pub mod Growing
+pub mod Reading
+pub mod Noting

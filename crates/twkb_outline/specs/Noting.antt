@@ -1,0 +1,28 @@
+-- What a reader notes of spans that keeps an outline.
+use Rattle.std.specs.Prelude.{⊤, ◌≡◌, ℕ, List}
+use Rattle.twkb_geom.specs.Limits.{Allowance}
+use Rattle.twkb_geom.specs.Rows.{Row}
+use Rattle.twkb_grammar.specs.Machine.{Sums, nothing}
+use Rattle.twkb_grammar.specs.Noting.{Notes, no_notes, noted, note_header, note_metadata, IsQuiet}
+use Rattle.twkb_outline.specs.Outline.{Step, OnHeader, OnMetadata, OnOption, Outline}
+use Rattle.twkb_outline.specs.Reading.{Outlined}
+
+-- What the next byte notes by itself, where that is a header's.
+abbrev pub note_step : Step → (offset points byte : ℕ) → Notes → Notes
+note_step OnHeader offset points byte w = note_header offset points byte w
+note_step (OnMetadata k p) offset points byte w = note_metadata byte w
+note_step _ offset points byte w = w
+
+-- A part that is asked for by a metadata byte is no header and no end.
+abbrev pub IsCalmStep : Step → Type 0
+IsCalmStep (OnOption k h r rs) = IsQuiet r
+IsCalmStep _ = ⊤
+
+-- What is noted of the items behind which a reader stands, where the blob begins at offset `start`.
+abbrev pub notes_in : {limits : Allowance} {bytes : List ℕ} {e : Sums} {o : Outline} {rs : List Row} → (start : ℕ) → Outlined limits bytes e o rs → Notes
+notes_in start r = noted start nothing no_notes r.reached.items
+
+-- A reader stands there, and this is noted, told by where the blob begins.
+pub record NotedOutline (limits : Allowance) (bytes : List ℕ) (e : Sums) (o : Outline) (rs : List Row) (told : ℕ → Notes) : Type 0 where
+  pub outlined : Outlined limits bytes e o rs
+  pub notes : (start : ℕ) → notes_in start outlined ≡ told start

@@ -1,0 +1,202 @@
+-- The outline of a stack: what stands open, without the values that were read.
+use Rattle.std.specs.Prelude.{ℕ, zero, suc, ◌-◌, ◌/◌, ◌%◌, if◌then◌else◌, List, [], ◌∷◌, ◌++◌, length, map, ℤ, Option, Some, None, Bool, true, false, Result, Ok, Err}
+use Rattle.twkb_num.specs.Zigzag.{unzigzag_of}
+use Rattle.twkb_geom.specs.Tree.{Ids, Trees, end, ◌▷◌}
+use Rattle.twkb_geom.specs.Rows.{other_ids}
+use Rattle.twkb_grammar.specs.Bits.{bit}
+use Rattle.twkb_grammar.specs.Roles.{Role, Header, Metadata, Count, Id, X, Y, End}
+use Rattle.twkb_grammar.specs.Fault.{Reason, SizeMismatch}
+use Rattle.twkb_grammar.specs.PlainReader.{is_exact}
+use Rattle.twkb_grammar.specs.Machine.{Around, top, within, Body, Want, WantY, Done, Form, PointForm, LineForm, PolygonForm, MultiPointForm, MultiLineForm, MultiPolygonForm, Kind, SimpleKind, CollectionKind, kind_number, kind_at, Head, Frame, Many, ManyPoints, ManyLines, ManyPolygons, ManyGeometries, first_count, listed, Phase, AtHeader, AtMetadata, AtOption, AtCount, AtId, AtBody, AtEnd, Finished, Sums, Stack, asked, with_option}
+
+-- The ids of the members behind some values.
+abbrev pub ids_behind : {A : Type 0} → Ids → List A → Ids
+ids_behind ids [] = ids
+ids_behind ids (x ∷ xs) = ids_behind (other_ids ids) xs
+
+-- The ids of the members behind some geometries.
+abbrev pub ids_after : Ids → Trees → Ids
+ids_after ids end = ids
+ids_after ids (g ▷ gs) = ids_after (other_ids ids) gs
+
+-- An open collection: its header, the ids from the member on that stands open, and how many members are left behind that one.
+pub record Group : Type 0 where
+  pub head : Head
+  pub ids : Ids
+  pub left : ℕ
+
+-- Where a body stands: a count, or x at depth 0, is wanted; a y is wanted; or it is done. Of each open list, the innermost first,
+-- how many values are left behind the one that stands open.
+pub data Spot : Type 0 where
+  Wanted : (d : ℕ) → (lefts : List ℕ) → Spot
+  WantedY : (lefts : List ℕ) → Spot
+  Full : Spot
+
+-- What is wanted next in the geometry that stands open; a body has the ids from the member on that stands open.
+pub data Step : Type 0 where
+  OnHeader : Step
+  OnMetadata : Kind → ℤ → Step
+  OnOption : Kind → Head → Role → List Role → Step
+  OnCount : Many → Head → Step
+  OnId : Many → Head → (members : ℕ) → (ids : List ℤ) → (left : ℕ) → Step
+  OnBody : Head → (f : Form) → Ids → Spot → Step
+  OnEnd : Head → Step
+  OnFinished : Step
+
+-- The open collections, the innermost first, and what stands in it.
+abbrev pub Outline : Type 0
+Outline = List Group × Step
+
+-- ---- the outline of a stack
+
+-- The outline of an open collection.
+abbrev pub group_of : Frame → Group
+group_of f = record { head = f.head; ids = ids_after f.ids f.done; left = f.left }
+
+-- How many values are left in each list round a value.
+abbrev pub lefts_of : {whole d : ℕ} → Around whole d → List ℕ
+lefts_of top = []
+lefts_of (within done left a) = left ∷ lefts_of a
+
+-- The ids from the member on that stands open.
+abbrev pub ids_left : {whole d : ℕ} → Ids → Around whole d → Ids
+ids_left ids top = ids
+ids_left ids (within done left top) = ids_behind ids done
+ids_left ids (within done left (within others more a)) = ids_left ids (within others more a)
+
+-- The outline of a body.
+abbrev pub body_step : {whole : ℕ} → Head → Form → Ids → Body whole → Step
+body_step h f ids (Want d a) = OnBody h f (ids_left ids a) (Wanted d (lefts_of a))
+body_step h f ids (WantY a) = OnBody h f (ids_left ids a) (WantedY (lefts_of a))
+body_step h f ids (Done v) = OnBody h f ids Full
+
+-- The outline of a phase.
+abbrev pub step_of : Phase → Step
+step_of AtHeader = OnHeader
+step_of (AtMetadata k p) = OnMetadata k p
+step_of (AtOption k h r rs) = OnOption k h r rs
+step_of (AtCount m h) = OnCount m h
+step_of (AtId m h n ids left) = OnId m h n ids left
+step_of (AtBody h f ids b) = body_step h f ids b
+step_of (AtEnd h g) = OnEnd h
+step_of (Finished g) = OnFinished
+
+-- The outline of a stack.
+abbrev pub outline_of : Stack → Outline
+outline_of st = (map group_of st.0, step_of st.1)
+
+-- ---- the role of the next item
+
+-- In a body.
+abbrev pub spot_role : Spot → Option Role
+spot_role (Wanted zero lefts) = Some X
+spot_role (Wanted (suc d) lefts) = Some (Count (listed d))
+spot_role (WantedY lefts) = Some Y
+spot_role Full = None
+
+-- Inside `level` collections and behind so many bytes.
+abbrev pub step_role : (level bytes : ℕ) → Step → Option Role
+step_role level bytes OnHeader = Some Header
+step_role level bytes (OnMetadata k p) = Some (Metadata (kind_number k))
+step_role level bytes (OnOption k h r rs) = Some r
+step_role level bytes (OnCount m h) = Some (Count (first_count m level))
+step_role level bytes (OnId m h n ids left) = Some Id
+step_role level bytes (OnBody h f ids s) = spot_role s
+step_role level bytes (OnEnd h) = Some (End h.size (bytes - h.from))
+step_role level bytes OnFinished = None
+
+-- The role of the next item.
+abbrev pub outline_role : Sums → Outline → Option Role
+outline_role e o = step_role (length o.0) e.bytes o.1
+
+-- ---- the outline after an item
+
+-- The ids from the next value on, in a list inside these: only members have ids.
+abbrev pub next_ids : List ℕ → Ids → Ids
+next_ids [] ids = other_ids ids
+next_ids (left ∷ lefts) ids = ids
+
+-- A value of depth d is done: the next one of its list is wanted, or the list is done too.
+abbrev pub shut : Head → Form → Ids → (d : ℕ) → List ℕ → Step
+shut h f ids d [] = OnEnd h
+shut h f ids d (zero ∷ lefts) = shut h f ids (suc d) lefts
+shut h f ids d (suc left ∷ lefts) = OnBody h f (next_ids lefts ids) (Wanted d (left ∷ lefts))
+
+-- A list of n values of depth d begins.
+abbrev pub listing : Head → Form → Ids → (d n : ℕ) → List ℕ → Step
+listing h f ids d zero lefts = shut h f ids (suc d) lefts
+listing h f ids d (suc n) lefts = OnBody h f ids (Wanted d (n ∷ lefts))
+
+-- A body after a number.
+abbrev pub spot_after : Head → Form → Ids → ℕ → Spot → Step
+spot_after h f ids n (Wanted zero lefts) = OnBody h f ids (WantedY lefts)
+spot_after h f ids n (Wanted (suc d) lefts) = listing h f ids d n lefts
+spot_after h f ids n (WantedY lefts) = shut h f ids 0 lefts
+spot_after h f ids n Full = OnEnd h
+
+-- The body begins.
+abbrev pub begins : Kind → Head → Step
+begins (SimpleKind PointForm) h = OnBody h PointForm None (Wanted 0 [])
+begins (SimpleKind LineForm) h = OnBody h LineForm None (Wanted 1 [])
+begins (SimpleKind PolygonForm) h = OnBody h PolygonForm None (Wanted 2 [])
+begins (SimpleKind MultiPointForm) h = OnCount ManyPoints h
+begins (SimpleKind MultiLineForm) h = OnCount ManyLines h
+begins (SimpleKind MultiPolygonForm) h = OnCount ManyPolygons h
+begins CollectionKind h = OnCount ManyGeometries h
+
+-- The next optional part is wanted, or else the body begins, unless bit 4 says that there is none.
+abbrev pub options : Kind → Head → List Role → Step
+options k h (r ∷ rs) = OnOption k h r rs
+options k h [] = if bit h.meta 4 then OnEnd h else begins k h
+
+-- The n members begin, behind their ids.
+abbrev pub members_open : Many → Head → List Group → Ids → ℕ → Outline
+members_open ManyPoints h gs ids n = (gs, listing h MultiPointForm ids 0 n [])
+members_open ManyLines h gs ids n = (gs, listing h MultiLineForm ids 1 n [])
+members_open ManyPolygons h gs ids n = (gs, listing h MultiPolygonForm ids 2 n [])
+members_open ManyGeometries h gs ids zero = (gs, OnEnd h)
+members_open ManyGeometries h gs ids (suc n) = (record { head = h; ids = ids; left = n } ∷ gs, OnHeader)
+
+-- A count of n members was read.
+abbrev pub many_counted : Many → Head → List Group → ℕ → Outline
+many_counted m h gs zero = members_open m h gs None 0
+many_counted m h gs (suc n) = if bit h.meta 2 then (gs, OnId m h (suc n) [] n) else members_open m h gs None (suc n)
+
+-- A geometry is done.
+abbrev pub outline_ended : List Group → Outline
+outline_ended [] = ([], OnFinished)
+outline_ended (g ∷ gs) = elim g.left [
+  | zero ↦ (gs, OnEnd g.head)
+  | suc n ↦ (record { head = g.head; ids = other_ids g.ids; left = n } ∷ gs, OnHeader)
+]
+
+-- After an item with this number, with so many bytes behind it.
+abbrev pub outline_advanced : (bytes n : ℕ) → Outline → Outline
+outline_advanced bytes n (gs, OnHeader) = (gs, OnMetadata (kind_at (n % 16)) (unzigzag_of (n / 16)))
+outline_advanced bytes n (gs, OnMetadata k precision) = (gs, options k (record { precision = precision; meta = n; size = None; from = bytes }) (asked n))
+outline_advanced bytes n (gs, OnOption k h r rs) = (gs, options k (with_option h r n bytes) rs)
+outline_advanced bytes n (gs, OnCount m h) = many_counted m h gs n
+outline_advanced bytes n (gs, OnId m h members ids zero) = members_open m h gs (Some (ids ++ unzigzag_of n ∷ [])) members
+outline_advanced bytes n (gs, OnId m h members ids (suc left)) = (gs, OnId m h members (ids ++ unzigzag_of n ∷ []) left)
+outline_advanced bytes n (gs, OnBody h f ids s) = (gs, spot_after h f ids n s)
+outline_advanced bytes n (gs, OnEnd h) = outline_ended gs
+outline_advanced bytes n (gs, OnFinished) = (gs, OnFinished)
+
+-- A geometry ends behind so many bytes, its size being exact or not, and with it each collection whose last member it is, while their sizes are exact.
+abbrev pub outline_past_end : Bool → ℕ → List Group → Result Outline Reason
+outline_past_end false bytes gs = Err SizeMismatch
+outline_past_end true bytes [] = Ok ([], OnFinished)
+outline_past_end true bytes (g ∷ gs) = elim g.left [
+  | zero ↦ outline_past_end (is_exact g.head.size (bytes - g.head.from)) bytes gs
+  | suc n ↦ Ok (record { head = g.head; ids = other_ids g.ids; left = n } ∷ gs, OnHeader)
+]
+
+-- The ends behind an item.
+abbrev pub outline_ends : ℕ → Outline → Result Outline Reason
+outline_ends bytes (gs, OnEnd h) = outline_past_end (is_exact h.size (bytes - h.from)) bytes gs
+outline_ends bytes (gs, s) = Ok (gs, s)
+
+-- The outline of a stack, where there is one.
+abbrev pub outline_in : Result Stack Reason → Result Outline Reason
+outline_in (Ok st) = Ok (outline_of st)
+outline_in (Err reason) = Err reason

@@ -1,0 +1,73 @@
+-- Where a reader stands that keeps an outline and rows, and no part of the tree.
+use Rattle.std.specs.Prelude.{◌+ℤ◌, true, ◌≡◌, ℕ, suc, ◌+◌, ◌++◌, List, length, Result, Ok, Err, ⊤}
+use Rattle.twkb_num.specs.Varint.{IsVarint}
+use Rattle.twkb_num.specs.Zigzag.{unzigzag_of}
+use Rattle.twkb_points.specs.Point.{Point, point_at}
+use Rattle.twkb_geom.specs.Tree.{Ids}
+use Rattle.twkb_geom.specs.Limits.{Allowance}
+use Rattle.twkb_geom.specs.Rows.{Row, first_id}
+use Rattle.twkb_grammar.specs.Roles.{Item}
+use Rattle.twkb_grammar.specs.Fault.{Reason, FirstFault, moved}
+use Rattle.twkb_grammar.specs.Machine.{Form, Head, depth_of, Sums, Stack}
+use Rattle.twkb_grammar.specs.PlainReader.{in_range}
+use Rattle.twkb_grammar.specs.Reading.{Reached}
+use Rattle.twkb_outline.specs.Outline.{Group, Spot, Wanted, WantedY, Full, Step, OnHeader, OnBody, OnFinished, Outline, outline_of, outline_advanced}
+use Rattle.twkb_outline.specs.Growing.{rows_so_far, Change, change_of, point_change, id_in}
+
+-- The bytes are whole items that the machine ran through within the limits; these are the sums behind them, the outline of its stack, and the rows that it holds.
+pub record Outlined (limits : Allowance) (bytes : List ℕ) (e : Sums) (o : Outline) (rs : List Row) : Type 0 where
+  pub stack : Stack
+  pub reached : Reached limits bytes e stack
+  pub outline : outline_of stack ≡ o
+  pub rows : rows_so_far stack ≡ rs
+
+-- The outline after an item.
+abbrev pub outline_after : Sums → Item → Outline → Outline
+outline_after e i o = outline_advanced (e.bytes + length i.bytes) i.number o
+
+-- What the item changes.
+abbrev pub change_after : Sums → Item → Outline → Change
+change_after e i o = change_of (moved e.position i.role i.number) i.number o
+
+-- Where a reader stands behind the ends, with the same rows; or the first fault, whatever bytes follow.
+abbrev pub OutlineLanded : Allowance → List ℕ → Sums → List Row → Result Outline Reason → Type 0
+OutlineLanded limits bytes e rs (Ok o) = Outlined limits bytes e o rs
+OutlineLanded limits bytes e rs (Err reason) = (rest : List ℕ) → FirstFault limits (bytes ++ rest) e.bytes reason
+
+-- The lists that are open, and the value that is wanted in them, are those of the form.
+abbrev pub SpotFits : ℕ → Spot → Type 0
+SpotFits whole (Wanted d lefts) = d + length lefts ≡ whole
+SpotFits whole (WantedY lefts) = length lefts ≡ whole
+SpotFits whole Full = ⊤
+
+-- The same of a step.
+abbrev pub StepFits : Step → Type 0
+StepFits (OnBody h f ids s) = SpotFits (depth_of f) s
+StepFits _ = ⊤
+
+-- The geometries that are begun and not ended.
+abbrev pub open_count : Outline → ℕ
+open_count (gs, OnHeader) = length gs
+open_count (gs, OnFinished) = length gs
+open_count (gs, _) = suc (length gs)
+
+-- Two numbers spell the steps from one point to another, both in range.
+pub record Pair (from : Point) (bytes : List ℕ) (to : Point) : Type 0 where
+  pub x : ℕ
+  pub y : ℕ
+  pub x_bytes : List ℕ
+  pub y_bytes : List ℕ
+  pub whole : bytes ≡ x_bytes ++ y_bytes
+  pub x_spelled : IsVarint x_bytes x
+  pub y_spelled : IsVarint y_bytes y
+  pub x_kept : in_range (from.x +ℤ unzigzag_of x) ≡ true
+  pub y_kept : in_range (from.y +ℤ unzigzag_of y) ≡ true
+  pub leads : to ≡ point_at (from.x +ℤ unzigzag_of x) (from.y +ℤ unzigzag_of y)
+
+-- The sums behind bytes that announce nothing and lead to a point.
+abbrev pub sums_past : Sums → List ℕ → Point → Sums
+sums_past e bytes to = record { bytes = e.bytes + length bytes; position = to; nodes = e.nodes; points = e.points }
+
+-- What a point changes.
+abbrev pub point_after : Point → List Group → Head → Form → Ids → Change
+point_after to gs h f ids = point_change to (length gs) (id_in gs) h.precision f (first_id ids)

@@ -1,0 +1,88 @@
+//! Laws of outlines, each the contract of a function that does nothing.
+ghost use Rattle.std.specs.Prelude.{◌≡◌, ◌≢◌, ◌≤◌, ℕ, List, [], ◌∷◌, ◌++◌, length, Option, Some, None, Ok};
+ghost use Rattle.twkb_points.specs.Point.{Point};
+ghost use Rattle.twkb_geom.specs.Rows.{Row, rows};
+ghost use Rattle.twkb_geom.specs.Tree.{Tree, Ids};
+ghost use Rattle.twkb_geom.specs.Limits.{Allowance, IsAllowance, largest_limits};
+ghost use Rattle.twkb_geom.specs.Accepted.{Continues};
+ghost use Rattle.twkb_geom.specs.RowLists.{AreValidRowsOfOne};
+ghost use Rattle.twkb_grammar.specs.Roles.{Role, End, IsNumber, Item};
+ghost use Rattle.twkb_grammar.specs.Blob.{Blob};
+ghost use Rattle.twkb_grammar.specs.Fault.{Reason, Truncated, BadVarint, FirstFault, IsCut, IsTooLong};
+ghost use Rattle.twkb_grammar.specs.PlainReader.{objection};
+ghost use Rattle.twkb_grammar.specs.Machine.{Form, Head, Sums, nothing, added, Stack, Finished, role_at, advanced};
+ghost use Rattle.twkb_grammar.specs.Reading.{Reached, Gives, ends, frame_count};
+ghost use Rattle.twkb_grammar.specs.Noting.{Notes, note_byte, IsCalm};
+ghost use Rattle.twkb_outline.specs.Noting.{note_step, IsCalmStep, NotedOutline};
+ghost use Rattle.twkb_outline.specs.Outline.{Group, Outline, Wanted, OnHeader, OnBody, shut, step_of, OnFinished, outline_of, outline_role, outline_advanced, outline_in, outline_ends};
+ghost use Rattle.twkb_outline.specs.Growing.{rows_so_far, change_of, applied, Takes};
+ghost use Rattle.twkb_outline.specs.Reading.{Outlined, outline_after, change_after, OutlineLanded, StepFits, open_count, Pair, sums_past, point_after};
+
+/// The role of the next item is told by the outline alone.
+pub fn role()
+    ensures { (e : Sums) (st : Stack) → role_at e st ≡ outline_role e (outline_of st) }
+{}
+
+/// The outline behind an item is told by the outline before it, and the item's number.
+pub fn steps()
+    ensures item { (p : Point) (bytes n : ℕ) (st : Stack) → outline_of (advanced p bytes n st.0 st.1) ≡ outline_advanced bytes n (outline_of st) }
+    ensures ends { (bytes : ℕ) (st : Stack) → outline_in (ends bytes st.0 st.1) ≡ outline_ends bytes (outline_of st) }
+{}
+
+/// The rows behind an item are those before it, with the change that the outline before it tells; the ends of geometries change none;
+/// and in the end they are the rows of the geometry.
+pub fn grows()
+    ensures item { (p : Point) (bytes n : ℕ) (st : Stack) → rows_so_far (advanced p bytes n st.0 st.1) ≡ applied (change_of p n (outline_of st)) (rows_so_far st) }
+    ensures ends { (bytes : ℕ) (st last : Stack) → ends bytes st.0 st.1 ≡ Ok last → rows_so_far last ≡ rows_so_far st }
+    ensures whole { (g : Tree) → rows_so_far ([], Finished g) ≡ rows 0 g }
+{}
+
+/// Wherever a reader stands within limits, the rows so far are those of a valid geometry, or none; and an item's point comes to a line's row.
+pub fn valid()
+    ensures rows { (limits : Allowance) (bytes : List ℕ) (e : Sums) (st : Stack) → Reached limits bytes e st → AreValidRowsOfOne limits (rows_so_far st) }
+    ensures takes { (p : Point) (n : ℕ) (st : Stack) → Takes (change_of p n (outline_of st)) (rows_so_far st) }
+{}
+
+/// Where a reader stands that keeps an outline and rows: at the start, behind an item, behind the ends of geometries, at a blob's end, and where bytes are missing
+/// or a number is too long. A row that an item begins goes on with the rows before it, and a point that it brings comes to a line's row.
+pub fn reading()
+    ensures starts { (limits : Allowance) → IsAllowance limits → Outlined limits [] nothing ([], OnHeader) [] }
+    ensures item { (limits : Allowance) (bytes : List ℕ) (e : Sums) (o : Outline) (rs : List Row) (i : Item) → Outlined limits bytes e o rs → outline_role e o ≡ Some i.role → Gives i.role i.number i.bytes
+        → objection limits e i.role i.number ≡ None → Outlined limits (bytes ++ i.bytes) (added e i) (outline_after e i o) (applied (change_after e i o) rs) }
+    ensures refused { (limits : Allowance) (bytes : List ℕ) (e : Sums) (o : Outline) (rs : List Row) (i : Item) (reason : Reason) → Outlined limits bytes e o rs → outline_role e o ≡ Some i.role → Gives i.role i.number i.bytes
+        → objection limits e i.role i.number ≡ Some reason → (more : List ℕ) → FirstFault limits (bytes ++ (i.bytes ++ more)) e.bytes reason }
+    ensures ends { (limits : Allowance) (bytes : List ℕ) (e : Sums) (o : Outline) (rs : List Row) → Outlined limits bytes e o rs → OutlineLanded limits bytes e rs (outline_ends e.bytes o) }
+    ensures blob { (limits : Allowance) (bytes : List ℕ) (e : Sums) (rs : List Row) → Outlined limits bytes e ([], OnFinished) rs → (g : Tree) × Blob limits bytes g × (rows 0 g ≡ rs) }
+    ensures valid { (limits : Allowance) (bytes : List ℕ) (e : Sums) (o : Outline) (rs : List Row) → Outlined limits bytes e o rs → AreValidRowsOfOne limits rs }
+    ensures largest { (limits : Allowance) → IsAllowance limits → (bytes : List ℕ) (e : Sums) (o : Outline) (rs : List Row) → Outlined limits bytes e o rs → AreValidRowsOfOne largest_limits rs }
+    ensures row { (limits : Allowance) → IsAllowance limits → (bytes : List ℕ) (e : Sums) (o : Outline) (rs : List Row) (row : Row) → Outlined limits bytes e o (rs ++ row ∷ []) → Continues largest_limits rs row }
+    ensures takes { (limits : Allowance) (bytes : List ℕ) (e : Sums) (o : Outline) (rs : List Row) (p : Point) (n : ℕ) → Outlined limits bytes e o rs → Takes (change_of p n o) rs }
+    ensures fits { (limits : Allowance) (bytes : List ℕ) (e : Sums) (o : Outline) (rs : List Row) → Outlined limits bytes e o rs → StepFits o.1 }
+    ensures offset { (limits : Allowance) (bytes : List ℕ) (e : Sums) (o : Outline) (rs : List Row) → Outlined limits bytes e o rs → length bytes ≡ e.bytes }
+    ensures depth { (limits : Allowance) (bytes : List ℕ) (e : Sums) (o : Outline) (rs : List Row) → Outlined limits bytes e o rs → length o.0 ≤ limits.nest }
+    ensures cut { (limits : Allowance) (bytes : List ℕ) (e : Sums) (o : Outline) (rs : List Row) (rest : List ℕ) (role : Role) → Outlined limits bytes e o rs → outline_role e o ≡ Some role
+        → IsNumber role → IsCut rest → FirstFault limits (bytes ++ rest) e.bytes Truncated }
+    ensures long { (limits : Allowance) (bytes : List ℕ) (e : Sums) (o : Outline) (rs : List Row) (rest : List ℕ) (role : Role) → Outlined limits bytes e o rs → outline_role e o ≡ Some role
+        → IsNumber role → IsTooLong rest → FirstFault limits (bytes ++ rest) e.bytes BadVarint }
+    ensures missing { (limits : Allowance) (bytes : List ℕ) (e : Sums) (o : Outline) (rs : List Row) (role : Role) → Outlined limits bytes e o rs → outline_role e o ≡ Some role
+        → bytes ≢ [] → ((d : Option ℕ) (came : ℕ) → role ≡ End d came → ⊥) → FirstFault limits bytes e.bytes Truncated }
+{}
+
+/// The two numbers of a point, wherever one is wanted, taken at once: in a list behind which others follow, at the end of lists, and at that of a geometry.
+pub fn points()
+    ensures taken { (limits : Allowance) (front : List ℕ) (e : Sums) (gs : List Group) (h : Head) (f : Form) (ids : Ids) (lefts : List ℕ) (rs : List Row) (bytes : List ℕ) (to : Point)
+        → Outlined limits front e (gs, OnBody h f ids (Wanted 0 lefts)) rs → Pair e.position bytes to
+        → Outlined limits (front ++ bytes) (sums_past e bytes to) (gs, shut h f ids 0 lefts) (applied (point_after to gs h f ids) rs) }
+    ensures takes { (limits : Allowance) (front : List ℕ) (e : Sums) (gs : List Group) (h : Head) (f : Form) (ids : Ids) (lefts : List ℕ) (rs : List Row) (bytes : List ℕ) (to : Point)
+        → Outlined limits front e (gs, OnBody h f ids (Wanted 0 lefts)) rs → Pair e.position bytes to → Takes (point_after to gs h f ids) rs }
+    ensures noted { (limits : Allowance) (front : List ℕ) (e : Sums) (gs : List Group) (h : Head) (f : Form) (ids : Ids) (lefts : List ℕ) (rs : List Row) (told : ℕ → Notes) (bytes : List ℕ) (to : Point)
+        → NotedOutline limits front e (gs, OnBody h f ids (Wanted 0 lefts)) rs told → Pair e.position bytes to
+        → NotedOutline limits (front ++ bytes) (sums_past e bytes to) (gs, shut h f ids 0 lefts) (applied (point_after to gs h f ids) rs) told }
+{}
+
+/// What a reader notes of spans is told by the outline.
+pub fn noting()
+    ensures note { (st : Stack) (offset points byte : ℕ) (w : Notes) → note_byte st.1 offset points byte w ≡ note_step (step_of st.1) offset points byte w }
+    ensures calm { (st : Stack) → IsCalmStep (step_of st.1) → IsCalm st.1 }
+    ensures count { (st : Stack) → frame_count st ≡ open_count (outline_of st) }
+{}
