@@ -19,7 +19,7 @@ sys.path.insert(0, os.path.dirname(os.path.abspath(__file__)))
 from blob import canonical, spelled_in
 from geometry import NEST, Geometry
 from run_command import Command
-from slips import any_bytes, stream_slip, table_slip
+from slips import announced, any_bytes, stream_slip, table_slip
 from table import HEADER_LINE, named_by, records_of, rows_text, table_text
 from trees import free, nested, some_tree
 
@@ -49,7 +49,7 @@ def filler(chance):
     return chance.choice(([point] * chance.randint(700, 1100), [line]))
 
 
-def some_stream(chance):
+def some_stream(chance, nest):
     if chance.random() < 0.03:
         return any_bytes(chance)
     spell = (free, free, lambda _, tree: canonical(tree, True), lambda _, tree: canonical(tree, False))
@@ -57,6 +57,8 @@ def some_stream(chance):
     if blobs and chance.random() < 0.7:
         place = chance.randrange(len(blobs))
         blobs[place] = stream_slip(chance, blobs[place])
+    if chance.random() < 0.03:
+        blobs.insert(chance.randrange(len(blobs) + 1), announced(chance, nest))
     return b"".join([canonical(tree, True) for tree in filler(chance)] + blobs)
 
 
@@ -78,7 +80,7 @@ class Case:
             style = chance.choice(([], ["--style", "full"], ["--style", "plain"]))
             self.words, self.source = ["pack", *style, *limit], some_table(chance)
         else:
-            self.words, self.source = [chance.choice(("unpack", "show")), *limit], some_stream(chance)
+            self.words, self.source = [chance.choice(("unpack", "show")), *limit], some_stream(chance, self.nest)
         self.piece = chance.choice(PIECES) if chance.random() < 0.5 else None
 
 

@@ -52,6 +52,15 @@ def spliced(chance, text):
     return chance.choice((text[:end] + text[start:], text[:start] + text[end:], text[:start] + text[end:place] + text[start:end]))
 
 
+def announced(chance, nest):
+    """Collections in one another, about as many as may be, and inside them a count that may stand too deep, announce too
+    much and be no number, all at once."""
+    depth = max(nest + chance.choice((-1, 0, 0, 1)), 0)
+    kind = 7 if chance.random() < 0.7 else chance.randint(2, 6)
+    count = chance.choice(OVERLONG) if chance.random() < 0.15 else varint(chance.choice(NUMBERS))
+    return b"\x07\x00\x01" * depth + bytes([kind, chance.choice((0, 0, 4))]) + count + b"\x01\x10" * chance.randrange(3)
+
+
 def stream_slip(chance, stream):
     for _ in range(chance.choice((1, 1, 1, 2, 4))):
         slip = chance.choice((item_slip, item_slip, item_slip, item_slip, byte_slip, cut, spliced))
