@@ -1,7 +1,9 @@
 #!/usr/bin/env python3
-"""Runs the commands that documents show, and compares what they print with what the documents say.
+"""Runs the commands that documents show, and compares what they print with what the documents say; and compares the callers that the
+READMEs of crates show with the files of the crate `examples`, which the gate proves.
 
     scripts/docs_test.py [FILE ..]
+    scripts/docs_test.py --callers      the callers alone, for which no program is needed
 
 In a block fenced with ```console a line that begins with '$ ' is a command, and lines behind it that begin
 with '> ' go on with it. What follows, up to the next command or the end of the block, is all that it prints,
@@ -10,16 +12,23 @@ to standard output and standard error. Blank lines at its end do not count.
 The commands of a file run in order in one session of bash, in a fresh folder, with bin/ of this repository
 on the path, $REPO the repository, and no input. A command that the program refuses ends nothing. One that
 prints a line 'skipped: needs X' and nothing else is not compared: recipes say so where a tool is missing.
+
+A line of a crate's README that ends with a link to a file of crates/examples/src, and a colon, stands above a block fenced with ```rust,
+which has to be that file, word for word. Each file there, but for lib.rt and tests.rt, is to be shown by a README.
 Exit status: 0 where all is as the documents say, 1 where something is not, 2 where there is no program.
 """
 import difflib
+import glob
 import os
+import re
 import subprocess
 import sys
 import tempfile
 
 REPO = os.path.abspath(os.path.join(os.path.dirname(__file__), ".."))
 FILES = ["README.md", "docs/USING.md", "docs/SCALE.md", "docs/RECIPES.md"]
+EXAMPLES = os.path.join(REPO, "crates", "examples", "src")
+CALLER = re.compile(r"\(\.\./examples/src/([a-z_]+\.rt)\):$")
 MARK = "--- end of the command ---"
 SECONDS = 300
 
@@ -108,11 +117,46 @@ def differences(path, commands):
     return wrong, skipped
 
 
+def callers_of(path):
+    """The callers that a README shows: the line of each, the name of its file, and the lines of the block below."""
+    with open(path, encoding="utf-8") as file:
+        lines = file.read().split("\n")
+    for number, line in enumerate(lines, 1):
+        named = CALLER.search(line)
+        if named and "```rust" in lines[number : number + 2]:
+            begun = lines.index("```rust", number) + 1
+            yield number, named.group(1), lines[begun : lines.index("```", begun)]
+        elif named:
+            yield number, named.group(1), []
+
+
+def caller_differences():
+    """How many callers differ from their files or are shown nowhere, each told on standard output."""
+    wrong, shown = 0, set()
+    for path in sorted(glob.glob(os.path.join(REPO, "crates", "*", "README.md"))):
+        for number, name, block in callers_of(path):
+            shown.add(name)
+            with open(os.path.join(EXAMPLES, name), encoding="utf-8") as file:
+                held = file.read().rstrip("\n").split("\n")
+            if block != held:
+                wrong += 1
+                print(f"{os.path.relpath(path, REPO)}:{number}: not as in crates/examples/src/{name}")
+                for line in difflib.unified_diff(block, held, "README", name, lineterm=""):
+                    print("    " + line)
+    for name in sorted(set(os.listdir(EXAMPLES)) - shown - {"lib.rt", "tests.rt"}):
+        wrong += 1
+        print(f"crates/examples/src/{name}: no README shows it")
+    print(f"crates/*/README.md: {len(shown)} callers, {wrong} differ")
+    return wrong
+
+
 def main():
+    if sys.argv[1:] == ["--callers"]:
+        return 1 if caller_differences() else 0
     if not os.access(os.path.join(REPO, "bin", "polytwkb"), os.X_OK):
         print("docs_test: no bin/polytwkb; 'make build' makes it", file=sys.stderr)
         return 2
-    wrong = 0
+    wrong = 0 if sys.argv[1:] else caller_differences()
     for path in sys.argv[1:] or [os.path.join(REPO, name) for name in FILES]:
         if not sys.argv[1:] and not os.path.exists(path):
             continue

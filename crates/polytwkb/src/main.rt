@@ -1,20 +1,12 @@
 //! The command `polytwkb`: tables of encoded polylines to streams of TWKB blobs, and back.
 #![tactic(auto)]
 
-mod command_line;
-mod help;
-mod lines;
-mod program;
-mod status;
-#[cfg(test)]
-mod tests;
-mod words;
-
-use crate::program::{lack_memory, lack_words, run};
 use std::env;
 use std::io::BufWriter;
 use std::process::ExitCode;
+use twkb_command::run;
 use twkb_io::{Ending, Tap};
+use twkb_request::{lack_memory, lack_words};
 
 fn main(rt: HostRuntime) -> ExitCode {
     // a terminal would go on behind the end that was told

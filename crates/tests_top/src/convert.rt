@@ -2,6 +2,7 @@
 mod both_ways;
 mod edge_devices;
 mod endings;
+mod failing_in_turn;
 mod flushing;
 mod laws;
 mod memory;

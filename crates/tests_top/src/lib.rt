@@ -1,6 +1,8 @@
-//! Tests of tables and of whole conversions, through what their crates make public.
+//! Tests of tables, of whole conversions and of the command, through what their crates make public.
 #![tactic(auto)]
 
+#[cfg(test)]
+mod command;
 #[cfg(test)]
 mod convert;
 #[cfg(test)]

@@ -5,9 +5,8 @@ use Rattle.std.proofs.lemmas.List.{append-nil}
 use Rattle.std.specs.Prelude.{IfSome}
 use Rattle.std.specs.Io.KnownBytes.{Consumes, IsAtEnd}
 use Rattle.std.specs.declared.io.traits.Read.{Ghosts}
-use Rattle.twkb_geom.specs.Rows.{Row, rows}
+use Rattle.twkb_geom.specs.Rows.{Row}
 use Rattle.twkb_geom.specs.Limits.{Allowance}
-use Rattle.twkb_grammar.specs.Blob.{Blob}
 use Rattle.twkb_grammar.specs.Fault.{FirstFault, Reason, Truncated}
 use Rattle.twkb_io.specs.declared.input.Input.{Input}
 use Rattle.twkb_io.specs.declared.input.InFault.{InFault}
@@ -56,9 +55,9 @@ end_after (Some xs) None bs none loses end = absurd loses
 end_after (Some xs) (Some ys) bs none loses end = loses ∙ (ap (λ l. bs ++ l) end ∙ (append-nil bs ∙ none))
 
 -- where an engine stands there are no bytes, or they end inside a blob
-are_cut_off : (limits : Allowance) (bs : List ℕ) (offset : ℕ) (between : Bool) → IsEnd limits bs offset between → AreCutOff limits bs
-are_cut_off limits bs offset true none = inl none
-are_cut_off limits bs offset false cut = inr (offset, cut)
+are_cut_off : (limits own : Allowance) (bs : List ℕ) (offset : ℕ) (between : Bool) → own ≡ limits → IsEnd own bs offset between → AreCutOff limits bs
+are_cut_off limits own bs offset true same none = inl none
+are_cut_off limits own bs offset false same cut = inr (offset, subst (λ l. FirstFault l bs offset Truncated) same cut)
 
 module _ {R : Type 0} {read : Ghosts R} where
   -- nothing has left yet
@@ -76,6 +75,10 @@ module _ {R : Type 0} {read : Ghosts R} where
     counted = omega (arith, first.counted, second.counted, length-append xs ys);
   }
 
+  -- the same, where none leaves at last
+  left_still : (a b c : Input R read) (bs : List ℕ) → Left a b bs → Left b c [] → Left a c bs
+  left_still a b c bs first none = subst (λ l. Left a c l) (append-nil bs) (left_join a b c bs [] first none)
+
   -- a geometry was made
   pub made_next : (limits own : Allowance) (bs : List ℕ) (a b c : Input R read) (rs : List Row) (d : Engine) → own ≡ limits → Left a b bs → IsRead own bs b c (Ok piece.Made) rs d → IsNextFlat limits a c (Ok true) rs
   made_next limits own bs a b c rs d same left (g, made, is) =
@@ -85,7 +88,7 @@ module _ {R : Type 0} {read : Ghosts R} where
   -- the input ended between two blobs
   pub end_next : (limits own : Allowance) (bs : List ℕ) (a b c : Input R read) (rs : List Row) (d : Engine) → Left a b bs → IsRead own bs b c (Ok piece.End) rs d → bs ≡ [] → IsNext limits a c (Ok None)
   end_next limits own bs a b c rs d left (end, more, stands) none =
-      (end_after (rest_of a) (rest_of b) bs none left.consumed end, subst (λ l. Left a c l) (append-nil bs ∙ none) (left_join a b c bs [] left more))
+      (end_after (rest_of a) (rest_of b) bs none left.consumed end, subst (λ l. Left a c l) none (left_still a b c bs left more))
 
   -- the input ended inside a blob
   pub cut_next : (limits own : Allowance) (bs : List ℕ) (a b c : Input R read) (start within : ℕ) (rs : List Row) (d : Engine) → own ≡ limits → start ≡ given a → Left a b bs → IsRead own bs b c (Ok piece.End) rs d → FirstFault own bs within Truncated
@@ -98,11 +101,16 @@ module _ {R : Type 0} {read : Ghosts R} where
       → IsEnd own bs within between → IsRead own bs b c (Err (halt.Device why)) rs d → IsNext limits a c (Err (fault.Device why))
   halted_next limits own Read bs a b c rs d within between same left spent end (stops, stands) = record {
     bytes = bs;
-    left = subst (λ l. Left a c l) (append-nil bs) (left_join a b c bs [] left stops.0);
-    cut_off = subst (λ l. AreCutOff l bs) same (are_cut_off own bs within between end);
+    left = left_still a b c bs left stops.0;
+    cut_off = are_cut_off limits own bs within between same end;
     none_held = stops.1;
   }
-  halted_next limits own TooLong bs a b c rs d within between same left spent end (stops, stands) = (stops.0, long_after (rest_of a) (rest_of b) bs (given a) (given b) left.consumed left.counted stops.1)
+  halted_next limits own TooLong bs a b c rs d within between same left spent end (stops, stands) = record {
+    bytes = bs;
+    left = left_still a b c bs left stops.0;
+    cut_off = are_cut_off limits own bs within between same end;
+    full = (stops.1.0, long_after (rest_of a) (rest_of b) bs (given a) (given b) left.consumed left.counted stops.1.1);
+  }
   halted_next limits own Spent bs a b c rs d within between same left spent end (stops, stands) = spent stops
 
   -- the engine stopped

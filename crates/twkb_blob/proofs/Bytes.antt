@@ -1,24 +1,25 @@
 -- Bytes of an input, one after another, make a geometry with its spans, or a fault.
 use Rattle.std.proofs.Common.{◌≡◌, ℕ, ◌+◌, ◌<◌, ◌≤◌, List, [], ◌∷◌, ◌++◌, length, take, sym, ap, ◌∙◌, subst, append_assoc, Option, Some, None, Result, Ok, Err, true, false, arith}
+use Rattle.std.proofs.lemmas.List.{append-nil, length-take-le}
 use Rattle.std.specs.Prelude.{IfSome}
 use Rattle.std.specs.Io.KnownBytes.{Consumes}
 use Rattle.std.specs.declared.io.traits.Read.{Ghosts}
 use Rattle.twkb_geom.specs.Tree.{Tree}
-use Rattle.twkb_geom.specs.Rows.{Row, rows}
+use Rattle.twkb_geom.specs.Rows.{Row}
 use Rattle.twkb_geom.specs.Limits.{Allowance}
 use Rattle.twkb_grammar.specs.Fault.{FirstFault, Reason}
 use Rattle.twkb_grammar.specs.Spans.{spans_of_blob}
 use Rattle.twkb_grammar.specs.Noting.{Notes}
 use Rattle.twkb_grammar.specs.declared.span.Span.{Span}
 use Rattle.twkb_io.specs.declared.input.Input.{Input}
-use Rattle.twkb_io.specs.Inputs.{given, rest_of, is_spent}
-use Rattle.twkb_engine.specs.Standing.{RefusedIn, offset_in}
+use Rattle.twkb_io.specs.Inputs.{given, rest_of, held_of, is_spent}
+use Rattle.twkb_engine.specs.Standing.{LeadsOn, RefusedIn, StandsAt, offset_in}
 use Rattle.twkb_engine.specs.Stops.{reason_of}
 use Rattle.twkb_engine.specs.declared.engine.Engine.{Engine}
 use Rattle.twkb_engine.specs.declared.stop.Stop.{Stop}
 use Rattle.twkb_engine.specs.declared.stop.Stop.TheVariants.{Memory, Refused}
 use Rattle.twkb_blob.specs.Readers.{Left, Makes, IsRead, IsNext}
-use Rattle.twkb_blob.specs.Located.{HasSpans, IsSpanned, IsSpannedFlat, IsLocated, IsNotedFed, IsNotedRead}
+use Rattle.twkb_blob.specs.Located.{HasSpans, IsSpanned, IsSpannedFlat, IsLocated, IsNotedFed, IsNotedRead, notes_at}
 use Rattle.twkb_blob.specs.declared.fault.BlobFault.{BlobFault}
 use Rattle.twkb_blob.specs.declared.reading.Piece.TheVariants as piece
 use Rattle.twkb_blob.specs.declared.reading.Halt.TheVariants as halt
@@ -27,6 +28,14 @@ use Rattle.twkb_blob.proofs.Blobs.{left_join}
 -- a piece of one byte is that byte
 pub one_byte : (used byte : ℕ) → 0 < used → used ≤ length (byte ∷ []) → take used (byte ∷ []) ≡ byte ∷ []
 one_byte used byte some few = ap (λ n. take n (byte ∷ [])) (let z : used ≡ 1 = omega (arith, some, few) in z)
+
+-- no bytes lead an engine nowhere
+pub stands_still : (bs held : List ℕ) (used : ℕ) (rs more : List Row) (d e : Engine) → used ≡ 0 → LeadsOn rs d (take used held) more e → (s : StandsAt bs rs d)
+    → (t : StandsAt bs more e) × ((start : ℕ) → notes_at start t ≡ notes_at start s)
+stands_still bs held used rs more d e none run s =
+    let on = run bs s in
+    let same : bs ++ take used held ≡ bs = ap (λ n. bs ++ take n held) none ∙ append-nil bs in
+    (record { front = on.0.front; whole = sym same ∙ on.0.whole; outlined = on.0.outlined; placed = on.0.placed; spelled = on.0.spelled }, on.1)
 
 -- an item that is refused at a byte is refused in what the input had
 refused_byte : (limits : Allowance) (a b : Option (List ℕ)) (bs : List ℕ) (byte offset : ℕ) (reason : Reason) → Consumes a b (byte ∷ []) → RefusedIn limits bs (byte ∷ []) offset reason → IfSome a (λ rest. FirstFault limits (bs ++ rest) offset reason)
@@ -45,7 +54,22 @@ module _ {R : Type 0} {read : Ghosts R} where
   -- the blob goes on
   pub byte_more : (limits : Allowance) (start : ℕ) (bs : List ℕ) (byte : ℕ) (a b : Input R read) (rs : List Row) (d : Engine) (w : Notes) → Consumes (rest_of a) (rest_of b) (byte ∷ []) → given b ≡ given a + 1 → is_spent b ≡ false
       → IsNotedFed limits start bs byte (Ok false) rs d w → IsNotedRead limits start bs a b (Ok piece.More) rs d w
-  byte_more limits start bs byte a b rs d w loses counted live h = (byte ∷ [], omega arith, byte_left a b byte loses counted, h.0, h.1, live)
+  byte_more limits start bs byte a b rs d w loses counted live h = (byte ∷ [], omega arith, byte_left a b byte loses counted, h.0, h.1, λ e. absurd (cc (e, live)))
+
+  -- points leave, and the blob goes on
+  pub points_more : (limits : Allowance) (start : ℕ) (bs held : List ℕ) (a b : Input R read) (used : ℕ) (rs more : List Row) (d e : Engine) (w : Notes) → held ≡ held_of a → 0 < used → used ≤ length held
+      → Consumes (rest_of a) (rest_of b) (take used (held_of a)) → given b ≡ given a + used → is_spent b ≡ is_spent a → LeadsOn rs d (take used held) more e → (s : StandsAt bs rs d) → w ≡ notes_at start s
+      → IsNotedRead limits start bs a b (Ok piece.More) more e w
+  points_more limits start bs held a b used rs more d e w is some within loses counted stays run s told =
+      let on = run bs s in
+      let many : length (take used held) ≡ used = length-take-le used held within in (
+        take used held,
+        omega (arith, some, many),
+        record { consumed = subst (λ l. Consumes (rest_of a) (rest_of b) (take used l)) (sym is) loses; counted = omega (arith, counted, many) },
+        on.0,
+        told ∙ sym (on.1 start),
+        λ spent. sym stays ∙ spent,
+      )
 
   -- the blob ends
   pub byte_made : (limits : Allowance) (start : ℕ) (bs : List ℕ) (byte : ℕ) (a b : Input R read) (rs : List Row) (d : Engine) (w : Notes) → Consumes (rest_of a) (rest_of b) (byte ∷ []) → given b ≡ given a + 1 → is_spent b ≡ false

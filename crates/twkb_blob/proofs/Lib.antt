@@ -5,3 +5,4 @@ pub mod Blobs
 pub mod Changing
 pub mod Noted
 pub mod Bytes
+pub mod Counts

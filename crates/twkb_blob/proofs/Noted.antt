@@ -1,11 +1,10 @@
 -- What a byte that is fed adds to the notes.
-use Rattle.std.proofs.Common.{◌≡◌, inl, inr, ℕ, ◌+◌, ◌<◌, ◌^◌, List, [], ◌∷◌, ◌++◌, length, refl, sym, ap, ◌∙◌, subst, arith, true, false, Err}
+use Rattle.std.proofs.Common.{◌≡◌, inl, inr, ℕ, ◌+◌, ◌<◌, ◌^◌, List, [], ◌∷◌, ◌++◌, length, refl, sym, ap, ◌∙◌, subst, arith, Err}
 use Rattle.twkb_num.specs.Varint.{IsOpenVarint}
-use Rattle.twkb_points.specs.Point.{Point}
 use Rattle.twkb_geom.specs.Tree.{Tree, flat}
 use Rattle.twkb_geom.specs.Rows.{Row, rows, row_points}
 use Rattle.twkb_geom.specs.Limits.{Allowance, IsAllowance}
-use Rattle.twkb_grammar.specs.Roles.{Role, Item, join}
+use Rattle.twkb_grammar.specs.Roles.{Item, join}
 use Rattle.twkb_grammar.specs.Blob.{Blob}
 use Rattle.twkb_grammar.specs.Machine as machine
 use Rattle.twkb_grammar.specs.Machine.{Sums, Stack, nothing, started, role_at}
@@ -19,10 +18,10 @@ use Rattle.twkb_grammar.proofs.Following.{goes_on, ends_blob}
 use Rattle.twkb_outline.specs.Outline as outline
 use Rattle.twkb_outline.specs.Outline.{Outline, OnHeader, OnMetadata, OnOption, OnCount, OnId, OnBody, OnEnd, OnFinished, outline_role, outline_of}
 use Rattle.twkb_outline.specs.Noting.{note_step, IsCalmStep}
-use Rattle.twkb_outline.specs.Reading.{Outlined, open_count}
+use Rattle.twkb_outline.specs.Reading.{open_count}
 use Rattle.twkb_engine.specs.State.{step_of, groups_of}
 use Rattle.twkb_engine.specs.Open.{awaited_at}
-use Rattle.twkb_engine.specs.Building.{sums_of, outline_in}
+use Rattle.twkb_engine.specs.Building.{sums_of}
 use Rattle.twkb_engine.specs.Standing.{StandsAt, IsFed, MadeIn, allowance_of, held_in, offset_in, points_in, awaited_in, open_in}
 use Rattle.twkb_engine.specs.declared.engine.Engine.{Engine}
 use Rattle.twkb_engine.specs.declared.phase.Phase.{Phase}

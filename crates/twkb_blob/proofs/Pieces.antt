@@ -103,5 +103,5 @@ module _ {R : Type 0} {read : Ghosts R} where
   pub halted : {A : Type 0} (r : Result A InFault) (why : InFault) (a b : Input R read) → r ≡ Err why → Keeps (rest_of a) (rest_of b) → given b ≡ given a → (r ≡ Err TooLong → (given a ≡ 2 ^ 62) × IfSome (rest_of a) (λ rest. rest ≢ []))
       → (r ≡ Err Read → rest_of b ≡ told_by b) → (r ≡ Err Spent → is_spent a ≡ true) → Stops why a b
   halted r Read a b is keeps same long none spent = (left_none a b keeps same, none is)
-  halted r TooLong a b is keeps same long none spent = let h = long is in (same ∙ h.0, longer (rest_of a) (given a) h.0 h.1)
+  halted r TooLong a b is keeps same long none spent = let h = long is in (left_none a b keeps same, (same ∙ h.0, longer (rest_of a) (given a) h.0 h.1))
   halted r Spent a b is keeps same long none spent = spent is

@@ -81,6 +81,6 @@ abbrev pub IsNotedRead :
     → Input R read → Input R read → Result Piece Halt → List Row → Engine → Notes → Type 0
 IsNotedRead limits start bs old new (Ok piece.More) rs d w =
     (bytes : List ℕ) × (0 < length bytes) × Left old new bytes × (s : StandsAt (bs ++ bytes) rs d)
-    × (w ≡ notes_at start s) × (input_spent new ≡ false)
+    × (w ≡ notes_at start s) × (input_spent new ≡ true → input_spent old ≡ true)
 IsNotedRead limits start bs old new (Ok piece.Made) rs d w = (g : Tree) × (made : Makes limits bs old new g) × (w.spans ≡ spans_of_blob start made.blob) × (rs ≡ rows 0 g)
 IsNotedRead limits start bs old new answer rs d w = IsRead limits bs old new answer rs d

@@ -63,10 +63,14 @@ pub record Left {R : Type 0} {read : Ghosts R} (old new : Input R read) (bytes :
 abbrev pub told_by : {R : Type 0} {read : Ghosts R} → Input R read → Option (List ℕ)
 told_by {R} {read} input = read.remaining (device_of (input_tap input).now)
 
+-- 2^62 bytes were given out, and there are more.
+abbrev pub IsFull : {R : Type 0} {read : Ghosts R} → Input R read → Input R read → Type 0
+IsFull old new = (given new ≡ 2 ^ 62) × IfSome (rest_of old) (λ rest. 2 ^ 62 < given old + length rest)
+
 -- Why an input gave no byte: its reader failed, which its tap counts, and no byte was held; it has more than 2^62 bytes; or it was refused before.
 abbrev pub Stops : {R : Type 0} {read : Ghosts R} → InFault → Input R read → Input R read → Type 0
 Stops stopped.Read old new = Left old new [] × (rest_of new ≡ told_by new)
-Stops stopped.TooLong old new = (given new ≡ 2 ^ 62) × IfSome (rest_of old) (λ rest. 2 ^ 62 < given old + length rest)
+Stops stopped.TooLong old new = Left old new [] × IsFull old new
 Stops stopped.Spent old new = input_spent old ≡ true
 
 -- There are no bytes, or they are cut inside a blob.
@@ -80,10 +84,17 @@ pub record FailsRead {R : Type 0} {read : Ghosts R} (limits : Allowance) (old ne
   pub cut_off : AreCutOff limits bytes
   pub none_held : rest_of new ≡ told_by new
 
+-- The input gave out all that it may behind these bytes, of which no front is a blob, and has more.
+pub record FailsLength {R : Type 0} {read : Ghosts R} (limits : Allowance) (old new : Input R read) : Type 0 where
+  pub bytes : List ℕ
+  pub left : Left old new bytes
+  pub cut_off : AreCutOff limits bytes
+  pub full : IsFull old new
+
 -- why an input gave no byte behind some that are no blob
 abbrev pub StopsWithin : {R : Type 0} {read : Ghosts R} → Allowance → InFault → Input R read → Input R read → Type 0
 StopsWithin limits stopped.Read old new = FailsRead limits old new
-StopsWithin limits stopped.TooLong old new = Stops stopped.TooLong old new
+StopsWithin limits stopped.TooLong old new = FailsLength limits old new
 StopsWithin limits stopped.Spent old new = Stops stopped.Spent old new
 
 -- These bytes and some that left are a blob of this geometry, and the input refuses no call.

@@ -1,8 +1,9 @@
 -- What a session stands for.
-use Rattle.std.specs.Prelude.{ℕ, ◌≡◌, ◌+◌, ◌-◌, ◌<◌, ◌≤◌, ◌^◌, ◌⊎◌, if◌then◌else◌, List, [], ◌∷◌, ◌++◌, length, take, Bool, true, false, Option, Some, None, Result, Ok, Err, ⊤}
+use Rattle.std.specs.Prelude.{ℕ, ◌≡◌, ◌+◌, ◌-◌, ◌<◌, ◌≤◌, ◌^◌, ◌⊎◌, if◌then◌else◌, List, [], ◌∷◌, ◌++◌, length, take, sum_by, Bool, true, false, Option, Some, None, Result, Ok, Err, ⊤}
 use Rattle.twkb_geom.specs.Tree.{Tree}
 use Rattle.twkb_geom.specs.Rows.{Row, rows}
 use Rattle.twkb_geom.specs.Limits.{Allowance}
+use Rattle.twkb_grammar.specs.Roles.{Role, Header, End, Item}
 use Rattle.twkb_grammar.specs.Blob.{Stream}
 use Rattle.twkb_grammar.specs.Fault.{StreamFault, Truncated}
 use Rattle.twkb_engine.specs.Standing.{StandsAt, allowance_of, held_in, open_in}
@@ -51,6 +52,28 @@ pub record Stands (bytes : List ℕ) (gs : List Tree) (s : Session) : Type 0 whe
 -- the bytes are blobs of these geometries, or these and then a blob that they end in
 abbrev pub AreBegun : Allowance → List ℕ → List Tree → Type 0
 AreBegun limits bytes gs = Stream limits bytes gs ⊎ ((offset : ℕ) × StreamFault limits bytes gs offset Truncated)
+
+-- So many bytes stand behind the last whole item: none behind whole blobs, and inside a blob those from the place on where the next item is missing.
+abbrev pub HeldOf : Allowance → List ℕ → List Tree → ℕ → Type 0
+HeldOf limits bytes gs n = (Stream limits bytes gs × (n ≡ 0)) ⊎ ((offset : ℕ) × StreamFault limits bytes gs offset Truncated × (offset + n ≡ length bytes))
+
+-- how many geometries an item in this role begins
+abbrev pub begun_by : Role → ℕ
+begun_by Header = 1
+begun_by _ = 0
+
+-- how many geometries it ends
+abbrev pub ended_by : Role → ℕ
+ended_by (End declared came) = 1
+ended_by _ = 0
+
+-- so many geometries begin among the items and do not end among them: the headers less the ends
+abbrev pub AreOpen : List Item → ℕ → Type 0
+AreOpen is n = n + sum_by (λ i. ended_by i.role) is ≡ sum_by (λ i. begun_by i.role) is
+
+-- So many geometries are begun and not finished: none behind whole blobs, and inside a blob those of its items before the place where the next is missing.
+abbrev pub FramesOf : Allowance → List ℕ → List Tree → ℕ → Type 0
+FramesOf limits bytes gs n = (Stream limits bytes gs × (n ≡ 0)) ⊎ ((offset : ℕ) × (cut : StreamFault limits bytes gs offset Truncated) × AreOpen cut.first.fault.before n)
 
 -- the piece goes past 2^62 bytes, and up to there no geometry ends in it and no item is refused
 pub record IsTooLong (limits : Allowance) (bytes : List ℕ) (gs : List Tree) (piece : List ℕ) : Type 0 where

@@ -1,4 +1,4 @@
-//! The spans of a blob that is read byte by byte.
+//! The spans of a blob that is read: its points as many at once as there are, all else byte by byte.
 ghost use Rattle.std.specs.Prelude.{◌≡◌, ◌≤◌, ◌<◌, ◌+◌, ◌^◌, ℕ, List, [], length, IfOk, IfSome};
 ghost use Rattle.twkb_io.specs.Taps.{count_failure};
 ghost use Rattle.twkb_io.specs.Inputs.{input_failures, input_tap};
@@ -88,6 +88,36 @@ fn read_byte<R: Read>(
     }
 }
 
+/// Gives points that stand whole in front of the held bytes of an input to an engine, as many as there are: they note nothing. Else
+/// gives it the next byte, and notes what it tells.
+fn read_some<R: Read>(
+    input: &mut Input<'_, R>,
+    engine: &mut Engine,
+    flat: &mut Flat,
+    notes: &mut SpanNotes,
+    start: u64,
+) -> Result<Piece, Halt>
+    requires few { count_of engine.old ≤ 2 ^ 62 }
+    requires begin { start ≤ 2 ^ 62 }
+    ensures same_tap { (input_tap input.new).ghost_name ≡ (input_tap input.old).ghost_name }
+    ensures limits { allowance_of engine.new ≡ allowance_of engine.old }
+    ensures offset { offset_in engine.new ≤ 2 ^ 63 }
+    ensures read { (bs : List ℕ) (s : StandsAt bs flat.old engine.old) → notes.old ≡ notes_at start s
+        → IsNotedRead (allowance_of engine.old) start bs input.old input.new result flat.new engine.new notes.new }
+    ensures failures { input_failures input.new ≡ count_failure (halted_by_read result) (input_failures input.old) }
+{
+    let held = input.held();
+    let used = match engine.take_points(flat, held) {
+        Ok(used) => used,
+        Err(_) => return Err(Halt::Engine(Stop::Memory)),
+    };
+    if used > 0 {
+        input.advance(used);
+        return Ok(Piece::More);
+    }
+    read_byte(input, engine, flat, notes, start)
+}
+
 /// Reads a blob from an input into a form without rows, with an engine that has read nothing and notes of nothing.
 fn read_noted<R: Read>(
     input: &mut Input<'_, R>,
@@ -106,7 +136,7 @@ fn read_noted<R: Read>(
     let start = input.offset();
     loop {
         let _given = input.offset();
-        match read_byte(input, engine, flat, &mut notes, start) {
+        match read_some(input, engine, flat, &mut notes, start) {
             Ok(Piece::More) => {}
             Ok(Piece::Made) => return Ok(Some(Spans::from_vec(notes.into_spans()))),
             Ok(Piece::End) => {

@@ -1,7 +1,7 @@
 //! The spans of a blob that is read, as far as they are known.
 ghost use Rattle.std.specs.Prelude.{◌≡◌, ◌<◌, ◌^◌, ◌%◌, OnOk, length as length_of};
 ghost use Rattle.twkb_grammar.specs.Machine as machine;
-ghost use Rattle.twkb_grammar.specs.Noting.{shown, no_notes, note_header as header_noted, note_metadata as metadata_noted, note_end, note_ends, note_ends_to, changed_at};
+ghost use Rattle.twkb_grammar.specs.Noting.{shown, no_notes, note_header as header_noted, note_metadata as metadata_noted, note_end, note_ends_to, changed_at};
 ghost use Rattle.twkb_blob.specs.Located.{note_awaited, measured};
 
 use std::alloc::{AllocError, Global};

@@ -28,7 +28,7 @@ pub struct Session {
 }
 
 impl Session {
-    ghost use Rattle.twkb_blob.specs.Sessions.{Stands, FedFlat, FedSession, Finished, is_spent, session_limits, session_held, session_open, session_rows};
+    ghost use Rattle.twkb_blob.specs.Sessions.{Stands, FedFlat, FedSession, Finished, HeldOf, FramesOf, is_spent, session_limits, session_held, session_open, session_rows};
 
     /// A session before the first byte. Takes no memory.
     pub fn new(alloc: Global, limits: Limits) -> Session
@@ -175,19 +175,27 @@ impl Session {
         Err(BlobFault::At { offset, reason })
     }
 
-    /// Bytes that it holds of a number that is not whole, 0 to 9. Takes no memory.
+    /// Bytes that it holds of a number that is not whole, 0 to 9: those behind the last whole item of the bytes so far. Takes no memory.
     pub fn held(&self) -> usize
-        ensures held { result ≡ session_held self.now }
+        ensures held { (bytes : List ℕ) (gs : List Tree) → Stands bytes gs self.now → HeldOf (session_limits self.now) bytes gs result }
+        ensures state { result ≡ session_held self.now }
         ensures few { result ≤ 9 }
     {
+        twkb_outline::laws::reading();
+        let _between = self.engine.is_between();
         self.engine.held()
     }
 
-    /// Geometries that are begun and not finished. Takes no memory.
+    /// Geometries that are begun and not finished: the headers in the bytes so far, less the ends. Takes no memory.
     pub fn frames(&self) -> usize
-        ensures open { result ≡ session_open self.now }
+        ensures open { (bytes : List ℕ) (gs : List Tree) → Stands bytes gs self.now → FramesOf (session_limits self.now) bytes gs result }
+        ensures state { result ≡ session_open self.now }
         ensures few { (bytes : List ℕ) (gs : List Tree) → Stands bytes gs self.now → result ≤ (session_limits self.now).nest + 1 }
     {
+        twkb_outline::laws::role();
+        twkb_outline::laws::noting();
+        let _held = self.engine.held();
+        let _between = self.engine.is_between();
         self.engine.open_geometries()
     }
 }

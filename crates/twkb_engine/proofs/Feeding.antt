@@ -2,11 +2,10 @@
 use Rattle.std.proofs.Common.{◌≡◌, ◌⊎◌, inl, inr, ℕ, ◌+◌, ◌-◌, ◌<◌, ◌≤◌, List, [], ◌∷◌, ◌++◌, length, take, drop, get_or, refl, sym, ap, ◌∙◌, subst, append_assoc, true, false, Bool, Result, Ok, Err, arith}
 use Rattle.std.proofs.Math.Seq.{take-suc, take-add}
 use Rattle.std.proofs.lemmas.List.{append-nil, length-drop, take_rest}
-use Rattle.twkb_num.specs.Varint.{IsOpenVarint}
 use Rattle.twkb_geom.specs.Limits.{Allowance}
 use Rattle.twkb_geom.specs.Rows.{Row}
 use Rattle.twkb_grammar.specs.Blob.{Blob}
-use Rattle.twkb_grammar.specs.Fault.{FirstFault, IsCut}
+use Rattle.twkb_grammar.specs.Fault.{FirstFault}
 use Rattle.twkb_engine.specs.State.{IsSpelled}
 use Rattle.twkb_engine.specs.Stops.{reason_of}
 use Rattle.twkb_engine.specs.Standing.{StandsAt, IsStep, IsTakenFrom, IsFed, offset_in}
@@ -15,16 +14,12 @@ use Rattle.twkb_engine.specs.declared.phase.Phase.{Phase}
 use Rattle.twkb_engine.specs.declared.stop.Stop.{Stop}
 use Rattle.twkb_engine.specs.declared.stop.Stop.TheVariants.{Memory, Refused}
 
--- the first byte of some
-pub first_byte : (rest : List ℕ) → 0 < length rest → take 1 rest ≡ get_or rest 0 0 ∷ []
-first_byte rest some = take-suc rest 0 0 some
-
 -- no bytes were taken, and then the first one
 pub stepped_first : (limits own : Allowance) (bs rest : List ℕ) (used : ℕ) (r : Result Bool Stop) (rs : List Row) (d : Engine) → own ≡ limits → used ≡ 0 → 0 < length rest
     → IsStep own ((bs ++ take used rest) ++ get_or rest 0 0 ∷ []) r rs d → IsStep limits (bs ++ take 1 rest) r rs d
 stepped_first limits own bs rest used r rs d same none some h =
     let a : (bs ++ take used rest) ++ get_or rest 0 0 ∷ [] ≡ bs ++ take 1 rest =
-    ap (λ n. (bs ++ take n rest) ++ get_or rest 0 0 ∷ []) none ∙ (ap (λ l. l ++ get_or rest 0 0 ∷ []) (append-nil bs) ∙ ap (λ l. bs ++ l) (sym (first_byte rest some))) in
+    ap (λ n. (bs ++ take n rest) ++ get_or rest 0 0 ∷ []) none ∙ (ap (λ l. l ++ get_or rest 0 0 ∷ []) (append-nil bs) ∙ ap (λ l. bs ++ l) (sym (take-suc rest 0 0 some))) in
     subst (λ l. IsStep l (bs ++ take 1 rest) r rs d) same (subst (λ l. IsStep own l r rs d) a h)
 
 -- the front of what is left of a piece stands behind what was used
@@ -69,10 +64,6 @@ refused limits own bs piece used (Refused r) rs d same within (count, some, few,
   fault = λ more. subst (λ l. FirstFault l ((bs ++ take (used + count) piece) ++ more) (offset_in d) (reason_of r)) same
       (subst (λ l. FirstFault own (l ++ more) (offset_in d) (reason_of r)) (one_front bs piece used count) (h more));
 }
-
--- a number that is not whole is cut by the end of the bytes
-pub cut_number : (us : List ℕ) → IsOpenVarint us → IsCut us
-cut_number us begun = (omega (arith, begun.room), begun.high)
 
 -- a list of length 0
 pub none_of : {A : Type 0} (xs : List A) → length xs ≡ 0 → xs ≡ []

@@ -22,30 +22,20 @@ count_passes false true points h = cc
 count_passes false false true h = cc
 count_passes false false false h = (refl, refl)
 
-pub nodes_kept : (limits : Allowance) (e : Sums) (r : Role) (n : ℕ) → e.nodes ≤ limits.nodes → objection limits e r n ≡ None → e.nodes + nodes_by r n ≤ limits.nodes
-nodes_kept limits e (Count c) n low h = sum_fits limits.nodes e.nodes (nodes_of c n) (count_passes (too_deep limits c n) _ (nat_lt limits.points (e.points + points_of c n)) h).0
-nodes_kept limits e Header n low h = omega arith
-nodes_kept limits e (Metadata k) n low h = omega arith
-nodes_kept limits e Extended n low h = omega arith
-nodes_kept limits e Size n low h = omega arith
-nodes_kept limits e Box n low h = omega arith
-nodes_kept limits e Id n low h = omega arith
-nodes_kept limits e X n low h = omega arith
-nodes_kept limits e Y n low h = omega arith
-nodes_kept limits e (End d came) n low h = omega arith
-
 one_fits : (b : Bool) (limit p : ℕ) → p ≤ limit → (b && nat_le limit p) ≡ false → p + (if b then 1 else 0) ≤ limit
 one_fits true limit p low h = grind (arith, nat_tests)
 one_fits false limit p low h = omega arith
 
-pub points_kept : (limits : Allowance) (e : Sums) (r : Role) (n : ℕ) → e.points ≤ limits.points → objection limits e r n ≡ None → e.points + points_by r n ≤ limits.points
-points_kept limits e (Count c) n low h = sum_fits limits.points e.points (points_of c n) (count_passes (too_deep limits c n) (nat_lt limits.nodes (e.nodes + nodes_of c n)) _ h).1
-points_kept limits e Header n low h = omega arith
-points_kept limits e (Metadata k) n low h = one_fits (announces_point k n) limits.points e.points low (unless_none _ _ _ h).0
-points_kept limits e Extended n low h = omega arith
-points_kept limits e Size n low h = omega arith
-points_kept limits e Box n low h = omega arith
-points_kept limits e Id n low h = omega arith
-points_kept limits e X n low h = omega arith
-points_kept limits e Y n low h = omega arith
-points_kept limits e (End d came) n low h = omega arith
+pub kept : (limits : Allowance) (e : Sums) (r : Role) (n : ℕ) → e.nodes ≤ limits.nodes → e.points ≤ limits.points → objection limits e r n ≡ None → (e.nodes + nodes_by r n ≤ limits.nodes) × (e.points + points_by r n ≤ limits.points)
+kept limits e (Count c) n a b h =
+    let t = count_passes (too_deep limits c n) (nat_lt limits.nodes (e.nodes + nodes_of c n)) (nat_lt limits.points (e.points + points_of c n)) h in
+    (sum_fits limits.nodes e.nodes (nodes_of c n) t.0, sum_fits limits.points e.points (points_of c n) t.1)
+kept limits e (Metadata k) n a b h = (omega (arith, a), one_fits (announces_point k n) limits.points e.points b (unless_none _ _ _ h).0)
+kept limits e Header n a b h = (omega (arith, a), omega (arith, b))
+kept limits e Extended n a b h = (omega (arith, a), omega (arith, b))
+kept limits e Size n a b h = (omega (arith, a), omega (arith, b))
+kept limits e Box n a b h = (omega (arith, a), omega (arith, b))
+kept limits e Id n a b h = (omega (arith, a), omega (arith, b))
+kept limits e X n a b h = (omega (arith, a), omega (arith, b))
+kept limits e Y n a b h = (omega (arith, a), omega (arith, b))
+kept limits e (End d came) n a b h = (omega (arith, a), omega (arith, b))

@@ -1,5 +1,5 @@
 -- The last row, a line's, with a point more.
-use Rattle.std.proofs.Common.{◌≡◌, ◌+◌, List, [], ◌∷◌, ◌++◌, length, length-append, sym, ap, ◌∙◌, arith}
+use Rattle.std.proofs.Common.{◌≡◌, ◌+◌, List, [], ◌∷◌, ◌++◌, length, length-append, ap, ◌∙◌, arith}
 use Rattle.twkb_points.specs.Point.{Point}
 use Rattle.twkb_geom.specs.Rows.{Row, row_points}
 use Rattle.twkb_geom.specs.RowGrowth.{EndsInLine, point_added, with_point}

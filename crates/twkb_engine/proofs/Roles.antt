@@ -1,14 +1,12 @@
 -- The item that comes next, by the phase.
-use Rattle.std.proofs.Common.{◌≡◌, ◌⊎◌, inl, inr, ℕ, ◌<◌, List, [], ◌∷◌, true, false, refl, Option, Some, arith}
+use Rattle.std.proofs.Common.{◌≡◌, ◌⊎◌, inl, inr, ℕ, ◌<◌, List, [], ◌∷◌, true, refl, Option, Some}
 use Rattle.twkb_num.specs.Varint.{IsVarint}
-use Rattle.twkb_grammar.specs.Roles.{Role, Header, Metadata, Extended, Size, Box, Count, Id, X, Y, End, IsNumber}
+use Rattle.twkb_grammar.specs.Roles.{Role, Header, Metadata, Count, Id, X, Y, End, IsNumber}
 use Rattle.twkb_grammar.specs.Machine.{kind_number, first_count, listed}
 use Rattle.twkb_grammar.specs.Reading.{Gives}
 use Rattle.twkb_outline.specs.Outline.{spot_role, step_role}
 use Rattle.twkb_engine.specs.Body.{spot_of}
 use Rattle.twkb_engine.specs.State.{step_of, kind_of, many_of, role_of_part, goes_on, IsSpelled, IsByte}
-use Rattle.twkb_engine.specs.declared.body.Body.{Body}
-use Rattle.twkb_engine.specs.declared.place.Head.{Head}
 use Rattle.twkb_engine.specs.declared.phase.Phase.{Phase}
 use Rattle.twkb_engine.specs.declared.phase.Phase.TheVariants as phase
 use Rattle.twkb_engine.specs.declared.phase.Optional.TheVariants as part

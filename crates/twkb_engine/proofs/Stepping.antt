@@ -1,11 +1,10 @@
 -- An engine takes a byte.
-use Rattle.std.proofs.Common.{◌≡◌, ◌⊎◌, inl, inr, ℕ, ◌+◌, ◌<◌, ◌≤◌, List, [], ◌∷◌, ◌++◌, length, refl, sym, ap, ◌∙◌, subst, append_assoc, length-append, take, IfOk, true, false, Bool, Result, Some, Ok, Err, arith}
+use Rattle.std.proofs.Common.{◌≡◌, inl, inr, ℕ, ◌+◌, ◌<◌, ◌≤◌, List, [], ◌∷◌, ◌++◌, length, refl, sym, ap, ◌∙◌, subst, append_assoc, length-append, take, IfOk, true, false, Bool, Result, Some, Ok, Err, arith}
 use Rattle.std.proofs.lemmas.List.{append-nil}
-use Rattle.std.specs.List.{AllByRecursion}
 use Rattle.twkb_num.specs.Varint.{IsVarint, IsOpenVarint}
 use Rattle.twkb_geom.specs.Limits.{Allowance}
 use Rattle.twkb_geom.specs.Rows.{Row}
-use Rattle.twkb_grammar.specs.Fault.{FirstFault, IsTooLong, BadVarint}
+use Rattle.twkb_grammar.specs.Fault.{FirstFault, BadVarint}
 use Rattle.twkb_grammar.specs.Roles.{Item}
 use Rattle.twkb_grammar.specs.Reading.{Gives}
 use Rattle.twkb_outline.specs.Outline.{outline_role}
@@ -13,7 +12,7 @@ use Rattle.twkb_outline.proofs.Outlined.{outlined_long}
 use Rattle.twkb_engine.specs.State.{groups_of, IsSpelled, IsByte}
 use Rattle.twkb_engine.specs.Building.{sums_of, outline_in, StandsBehind, IsTaken}
 use Rattle.twkb_engine.specs.Ahead.{RunsBehind}
-use Rattle.twkb_engine.specs.Standing.{StandsAt, IsStep, allowance_of, held_in, offset_in}
+use Rattle.twkb_engine.specs.Standing.{StandsAt, LeadsOn, IsStep, allowance_of, held_in, offset_in}
 use Rattle.twkb_engine.specs.declared.builder.Builder.{Builder}
 use Rattle.twkb_engine.specs.declared.engine.Engine.{Engine}
 use Rattle.twkb_engine.specs.declared.stop.Stop.{Stop}
@@ -28,14 +27,22 @@ behind_items bytes rs d none s = record { front = bytes; whole = sym (ap (λ l. 
 pub before_item : (bytes : List ℕ) (rs : List Row) (d : Engine) (s : StandsAt bytes rs d) → StandsBehind s.front rs d.builder
 before_item bytes rs d s = record { outlined = s.outlined; placed = s.placed }
 
--- where no byte is held
-pub before_points : (bytes : List ℕ) (rs : List Row) (d : Engine) → held_in d ≡ [] → StandsAt bytes rs d → StandsBehind bytes rs d.builder
-before_points bytes rs d none s = subst (λ l. StandsBehind l rs d.builder) (sym (s.whole ∙ (ap (λ l. s.front ++ l) none ∙ append-nil s.front))) (before_item bytes rs d s)
+-- where no byte is held the bytes are whole items
+all_whole : (bytes : List ℕ) (rs : List Row) (d : Engine) → held_in d ≡ [] → (s : StandsAt bytes rs d) → bytes ≡ s.front
+all_whole bytes rs d none s = s.whole ∙ (ap (λ l. s.front ++ l) none ∙ append-nil s.front)
+
+-- no bytes lead an engine nowhere
+pub stays_put : (rs : List Row) (d : Engine) → LeadsOn rs d [] rs d
+stays_put rs d = λ front s. (record { front = s.front; whole = append-nil front ∙ s.whole; outlined = s.outlined; placed = s.placed; spelled = s.spelled }, λ start. refl)
 
 -- points that stood whole in front lead an engine on that holds no byte
 pub runs_ahead : {E : Type 0} (rest : List ℕ) (d : Engine) (c : Builder) (rs more : List Row) (r : Result ℕ E) → held_in d ≡ [] → IfOk r (λ used. RunsBehind d.builder rs (take used rest) c more)
-    → IfOk r (λ used. (bs : List ℕ) → StandsAt bs rs d → StandsAt (bs ++ take used rest) more (record { builder = c; partial = d.partial }))
-runs_ahead rest d c rs more (Ok used) none run = λ bs s. behind_items (bs ++ take used rest) more (record { builder = c; partial = d.partial }) none (run bs (before_points bs rs d none s)).0
+    → IfOk r (λ used. LeadsOn rs d (take used rest) more (record { builder = c; partial = d.partial }))
+runs_ahead rest d c rs more (Ok used) none run = λ bs s.
+    let (t, same) = run s.front (record { outlined = s.outlined; placed = s.placed }) in
+    let items : List ℕ = s.front ++ take used rest in
+    let whole : bs ++ take used rest ≡ items ++ held_in d = ap (λ l. l ++ take used rest) (all_whole bs rs d none s) ∙ sym (ap (λ l. items ++ l) none ∙ append-nil items) in
+    (record { front = items; whole = whole; outlined = t.outlined; placed = t.placed; spelled = inr none }, same)
 runs_ahead rest d c rs more (Err e) none run = tt
 
 -- what an item led to, where no byte is held
@@ -58,7 +65,7 @@ byte_stepped bs u rs more d e r s is_byte low same takes =
     let role = has_role level b.bytes b.phase b.waits in
     let none = byte_alone b.phase is_byte s.spelled in
     let i : Item = record { role = role.0; number = u; bytes = u ∷ [] } in
-    let at : s.front ≡ bs = sym (s.whole ∙ (ap (λ l. s.front ++ l) none ∙ append-nil s.front)) in
+    let at : s.front ≡ bs = sym (all_whole bs rs d none s) in
     let one : length i.bytes ≡ 1 = omega arith in
     subst (λ l. IsStep (allowance_of d) (l ++ u ∷ []) r more e) at
     (stepped (allowance_of d) (s.front ++ u ∷ []) r more e (same ∙ none) (takes s.front i (before_item bs rs d s) role.1 (byte_written level b.bytes u b.phase b.waits low is_byte) refl one))
@@ -86,10 +93,6 @@ held_more bs u rs d p spelled held s = record {
   spelled = inl spelled;
 }
 
--- nine bytes that go on, one above 1, and whatever follows
-too_long : (us : List ℕ) (u : ℕ) (more : List ℕ) → IsOpenVarint us → length us ≡ 9 → 2 ≤ u → IsTooLong (us ++ u ∷ more)
-too_long us u more begun nine above = record { nine = us; tenth = u; more = more; whole = refl; length = nine; go_on = begun.high; above = above }
-
 -- the bytes of a number behind whole items
 held_bytes : (bs front held more : List ℕ) (u : ℕ) → bs ≡ front ++ held → front ++ (held ++ u ∷ more) ≡ (bs ++ u ∷ []) ++ more
 held_bytes bs front held more u e =
@@ -103,4 +106,4 @@ long_refused bs more u rs d s spelled begun nine above =
     let level = length (groups_of b.groups.items) in
     let role = has_role level b.bytes b.phase b.waits in
     subst (λ l. FirstFault b.limits l b.bytes BadVarint) (held_bytes bs s.front (held_in d) more u s.whole)
-    (outlined_long b.limits s.front (sums_of b) (outline_in b) rs (held_in d ++ u ∷ more) role.0 s.outlined role.1 (is_number level b.bytes b.phase b.waits spelled) (too_long (held_in d) u more begun nine above))
+    (outlined_long b.limits s.front (sums_of b) (outline_in b) rs (held_in d ++ u ∷ more) role.0 s.outlined role.1 (is_number level b.bytes b.phase b.waits spelled) (record { nine = held_in d; tenth = u; more = more; whole = refl; length = nine; go_on = begun.high; above = above }))

@@ -1,10 +1,10 @@
 -- A builder takes an item.
-use Rattle.std.proofs.Common.{◌≡◌, ℕ, ◌+◌, List, [], ◌++◌, length, refl, sym, ap, ◌∙◌, subst, append_assoc, true, false, Bool, Option, Result, Some, None, Ok, Err, OnOk}
+use Rattle.std.proofs.Common.{◌≡◌, ℕ, List, [], ◌++◌, sym, ap, ◌∙◌, subst, append_assoc, true, false, Bool, Result, Some, None, Ok, Err, OnOk}
 use Rattle.twkb_geom.specs.Limits.{Allowance}
-use Rattle.twkb_geom.specs.Rows.{Row, rows}
+use Rattle.twkb_geom.specs.Rows.{Row}
 use Rattle.twkb_grammar.specs.Fault as fault
 use Rattle.twkb_grammar.specs.Fault.{FirstFault, moved}
-use Rattle.twkb_grammar.specs.Roles.{Item, Role}
+use Rattle.twkb_grammar.specs.Roles.{Item}
 use Rattle.twkb_grammar.specs.PlainReader.{objection}
 use Rattle.twkb_grammar.specs.Machine.{Sums, added}
 use Rattle.twkb_grammar.specs.Reading.{Gives}
@@ -13,7 +13,7 @@ use Rattle.twkb_outline.specs.Growing.{applied, change_of}
 use Rattle.twkb_outline.specs.Reading.{Outlined, OutlineLanded, outline_after, change_after}
 use Rattle.twkb_outline.proofs.Outlined.{outlined_item, outlined_refused, outlined_ends, outlined_whole}
 use Rattle.twkb_engine.specs.State.{groups_of, step_of, IsPlacedIn}
-use Rattle.twkb_engine.specs.Stops.{reason_of, objection_of}
+use Rattle.twkb_engine.specs.Stops.{reason_of}
 use Rattle.twkb_engine.specs.Building.{sums_of, outline_in, refusal, objection_at, StandsBehind, IsAt, IsTaken}
 use Rattle.twkb_engine.specs.declared.builder.Builder.{Builder}
 use Rattle.twkb_engine.specs.declared.blob_reason.BlobReason.{BlobReason}
@@ -35,10 +35,6 @@ landed limits bytes e rs more way (Ok true) b same l at grown placed =
 landed limits bytes e rs more way (Err Memory) b same l at grown placed = tt
 landed limits bytes e rs more way (Err (Refused x)) b same l at grown placed = λ rest.
     subst (λ n. FirstFault limits (bytes ++ rest) n (reason_of x)) (sym at.1) ((subst (λ w. OutlineLanded limits bytes e rs w) at.0 l) rest)
-
--- the same collections, and the same comes next
-pub same_outline : (b mid : Builder) → mid.groups ≡ b.groups → mid.phase ≡ b.phase → outline_in mid ≡ outline_in b
-same_outline b mid gs p = ap (λ g. (groups_of g.items, step_of mid.phase)) gs ∙ ap (λ q. (groups_of b.groups.items, step_of q)) p
 
 -- where there was no objection to an item
 pub item_taken : (front : List ℕ) (rs more : List Row) (b mid new : Builder) (i : Item) (n : ℕ) (r : Result Bool Stop) → StandsBehind front rs b

@@ -11,24 +11,11 @@ use Rattle.twkb_outline.specs.Outline.{Group, Wanted, OnBody, next_ids}
 use Rattle.twkb_outline.specs.Growing.{id_in}
 use Rattle.twkb_outline.specs.Reading.{sums_past}
 use Rattle.twkb_outline.specs.Noting.{NotedOutline}
-use Rattle.twkb_engine.specs.Body.{form_of, spot_of}
-use Rattle.twkb_engine.specs.Names.{ids_of}
-use Rattle.twkb_engine.specs.State.{step_of, goes_on, IsPlaced}
+use Rattle.twkb_engine.specs.State.{step_of, IsPlaced}
+use Rattle.twkb_engine.specs.declared.place.Head as place
 use Rattle.twkb_engine.specs.declared.phase.Phase.{Phase}
+use Rattle.twkb_engine.specs.declared.phase.Phase.TheVariants as phase
 use Rattle.twkb_engine.specs.declared.body.Body.{Body}
-
--- behind these bytes and inside these collections the body goes on, and this is noted of spans
-pub record InBody (limits : Allowance) (front : List ℕ) (e : Sums) (gs : List Group) (h : Head) (told : ℕ → Notes) (b : Body) (rs : List Row) (at : Point) : Type 0 where
-  pub outlined : NotedOutline limits front e (gs, OnBody h (form_of b.form) (ids_of b.names) (spot_of b.spot)) rs told
-  pub precision : h.precision ≡ b.site.precision
-  pub depth : length gs ≡ b.site.depth
-  pub id : id_in gs ≡ b.site.id
-  pub position : e.position ≡ at
-
--- wherever it stands, the bytes lead it on, and note nothing
-abbrev pub RunsTo : Body → List Row → Point → List ℕ → Body → List Row → Point → Type 0
-RunsTo b rs from bytes c more to =
-    (limits : Allowance) (front : List ℕ) (e : Sums) (gs : List Group) (h : Head) (told : ℕ → Notes) → InBody limits front e gs h told b rs from → InBody limits (front ++ bytes) (sums_past e bytes to) gs h told c more to
 
 -- a form that has its points in lists, and each list in a row
 abbrev pub HasLists : machine.Form → Type 0
@@ -72,3 +59,7 @@ pub record InPhase (limits : Allowance) (front : List ℕ) (e : Sums) (gs : List
 abbrev pub PhaseRuns : Phase → List Row → Point → List ℕ → Phase → List Row → Point → Type 0
 PhaseRuns p rs from bytes q more to =
     (limits : Allowance) (front : List ℕ) (e : Sums) (gs : List Group) (told : ℕ → Notes) → InPhase limits front e gs told p rs from → InPhase limits (front ++ bytes) (sums_past e bytes to) gs told q more to
+
+-- the same of a body with this header
+abbrev pub RunsTo : place.Head → Body → List Row → Point → List ℕ → Body → List Row → Point → Type 0
+RunsTo h b rs from bytes c more to = PhaseRuns (phase.Body h b) rs from bytes (phase.Body h c) more to

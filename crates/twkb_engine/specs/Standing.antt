@@ -6,6 +6,7 @@ use Rattle.twkb_geom.specs.Rows.{Row, rows}
 use Rattle.twkb_grammar.specs.Blob.{Blob}
 use Rattle.twkb_grammar.specs.Fault.{FirstFault, Reason, Truncated}
 use Rattle.twkb_outline.specs.Reading.{Outlined, open_count}
+use Rattle.twkb_outline.specs.Noting.{notes_in}
 use Rattle.twkb_engine.specs.State.{IsSpelled, IsPlacedIn, step_of}
 use Rattle.twkb_engine.specs.Open.{awaited_at}
 use Rattle.twkb_engine.specs.Stops.{reason_of}
@@ -50,6 +51,10 @@ pub record StandsAt (bytes : List ℕ) (rs : List Row) (d : Engine) : Type 0 whe
   pub outlined : Outlined (allowance_of d) front (sums_of d.builder) (outline_in d.builder) rs
   pub placed : IsPlacedIn d.builder.groups.items d.builder.phase
   pub spelled : IsSpelled d.builder.phase ⊎ (held_in d ≡ [])
+
+-- wherever the engine stands, these bytes lead it on, and note nothing of spans
+abbrev pub LeadsOn : List Row → Engine → List ℕ → List Row → Engine → Type 0
+LeadsOn rs d bytes more e = (front : List ℕ) (s : StandsAt front rs d) → (t : StandsAt (front ++ bytes) more e) × ((start : ℕ) → notes_in start t.outlined ≡ notes_in start s.outlined)
 
 -- the bytes are a blob so far, or a blob with these rows and none of a further one, or they have a first fault, whatever follows
 abbrev pub IsStep : Allowance → List ℕ → Result Bool Stop → List Row → Engine → Type 0

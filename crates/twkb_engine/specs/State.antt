@@ -1,13 +1,13 @@
 -- The fields as an outline.
-use Rattle.std.specs.Prelude.{◌≡◌, ◌≤◌, Bool, true, false, ℕ, zero, suc, List, [], ◌∷◌, ◌++◌, length, ℤ, Option, ⊤}
+use Rattle.std.specs.Prelude.{◌≡◌, ◌≤◌, Bool, true, false, ℕ, zero, suc, List, [], ◌∷◌, ◌++◌, length, ℤ, Option, Some, None, ⊤}
 use Rattle.twkb_grammar.specs.Bits.{bit}
 use Rattle.twkb_grammar.specs.Roles as role
 use Rattle.twkb_grammar.specs.Roles.{Role, where_set}
 use Rattle.twkb_grammar.specs.Machine as machine
 use Rattle.twkb_grammar.specs.Machine.{SimpleKind, CollectionKind, ManyPoints, ManyLines, ManyPolygons, ManyGeometries}
 use Rattle.twkb_outline.specs.Outline as outline
-use Rattle.twkb_outline.specs.Outline.{OnHeader, OnMetadata, OnOption, OnCount, OnId, OnBody, OnEnd, begins}
-use Rattle.twkb_outline.specs.Growing.{Change, Nothing, NewRow, own_of, id_in}
+use Rattle.twkb_outline.specs.Outline.{OnHeader, OnMetadata, OnOption, OnCount, OnId, OnBody, OnEnd}
+use Rattle.twkb_outline.specs.Growing.{id_in}
 use Rattle.twkb_engine.specs.Body.{form_of, spot_of}
 use Rattle.twkb_engine.specs.Names.{ids_of}
 use Rattle.twkb_engine.specs.declared.place.Head.{Head}
@@ -17,12 +17,9 @@ use Rattle.twkb_engine.specs.declared.phase.Many.{Many}
 use Rattle.twkb_engine.specs.declared.phase.Many.TheVariants as many
 use Rattle.twkb_engine.specs.declared.phase.Optional.{Optional}
 use Rattle.twkb_engine.specs.declared.phase.Optional.TheVariants as part
-use Rattle.twkb_engine.specs.declared.phase.Behind.{Behind}
-use Rattle.twkb_engine.specs.declared.phase.Behind.TheVariants as behind
 use Rattle.twkb_engine.specs.declared.phase.Phase.{Phase}
 use Rattle.twkb_engine.specs.declared.phase.Phase.TheVariants as phase
 use Rattle.twkb_engine.specs.declared.phase.Group.{Group}
-use Rattle.twkb_engine.specs.declared.body.Body.{Body}
 
 -- the header that was read
 abbrev pub head_of : Head → machine.Head
@@ -65,17 +62,10 @@ roles_behind meta part.Extended = size_roles meta
 roles_behind meta part.Size = box_roles meta
 roles_behind meta (part.Box left) = boxes left
 
--- what stands behind a header's byte or part
-abbrev pub behind_of : machine.Kind → machine.Head → Behind → outline.Step
-behind_of k h (behind.Part part) = OnOption k h (role_of_part part) (roles_behind h.meta part)
-behind_of k h behind.Body = begins k h
-behind_of k h behind.Nothing = OnEnd h
-
--- and what that changes of the rows
-abbrev pub behind_change : ℕ → Option ℤ → machine.Kind → ℤ → Behind → Change
-behind_change d id k precision (behind.Part part) = Nothing
-behind_change d id k precision behind.Body = Nothing
-behind_change d id k precision behind.Nothing = NewRow (own_of d id k precision)
+-- what is wanted from an optional part on, if one comes next
+abbrev pub roles_from : ℕ → Option Optional → List Role
+roles_from meta None = []
+roles_from meta (Some part) = role_of_part part ∷ roles_behind meta part
 
 -- what comes next
 abbrev pub step_of : Phase → outline.Step
@@ -87,21 +77,23 @@ step_of (phase.Id many head members ids left) = OnId (many_of many) (head_of hea
 step_of (phase.Body head body) = OnBody (head_of head) (form_of body.form) (ids_of body.names) (spot_of body.spot)
 step_of (phase.End head) = OnEnd (head_of head)
 
--- a body stands there with its header's precision
-pub record IsBodyAt (depth : ℕ) (id : Option ℤ) (head : Head) (body : Body) : Type 0 where
-  pub depth_is : body.site.depth ≡ depth
-  pub id_is : body.site.id ≡ id
-  pub precision_is : body.site.precision ≡ head.precision
+-- the header's geometry stands at this depth and has this id
+pub record IsHeadAt (depth : ℕ) (id : Option ℤ) (h : Head) : Type 0 where
+  pub depth_is : h.depth ≡ depth
+  pub id_is : h.id ≡ id
 
--- a geometry stands at this depth and has this id
+-- the geometry that is read stands at this depth and has this id
 abbrev pub IsPlaced : ℕ → Option ℤ → Phase → Type 0
-IsPlaced depth id (phase.Body head body) = IsBodyAt depth id head body
+IsPlaced depth id (phase.Optional kind head part) = IsHeadAt depth id head
+IsPlaced depth id (phase.Count many head) = IsHeadAt depth id head
+IsPlaced depth id (phase.Id many head members ids left) = IsHeadAt depth id head
+IsPlaced depth id (phase.Body head body) = IsHeadAt depth id head
 IsPlaced depth id _ = ⊤
 
--- a body stands open
-abbrev pub IsBody : Phase → Type 0
-IsBody (phase.Body head body) = ⊤
-IsBody _ = ⊥
+-- a geometry is read whose header stands by
+abbrev pub HasHead : Phase → Type 0
+HasHead phase.Header = ⊥
+HasHead _ = ⊤
 
 -- an item comes next: the geometry that is read does not end
 abbrev pub goes_on : Phase → Bool

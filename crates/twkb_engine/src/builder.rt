@@ -8,23 +8,18 @@ ghost use Rattle.twkb_grammar.specs.Reading.{Gives};
 ghost use Rattle.twkb_grammar.specs.Machine.{kind_number, first_count, added};
 ghost use Rattle.twkb_outline.specs.Outline.{spot_role, outline_role, outline_advanced, outline_ends, outline_past_end};
 ghost use Rattle.twkb_outline.specs.Growing.{applied, change_of};
-ghost use Rattle.twkb_outline.specs.Reading.{StepFits, open_count};
+ghost use Rattle.twkb_outline.specs.Reading.{StepFits};
 ghost use Rattle.twkb_engine.specs.Body.{spot_of};
 ghost use Rattle.twkb_engine.specs.State.{kind_of, many_of, groups_of, step_of, goes_on, stands_apart, IsPlacedIn, IsShallow, IsSpelled};
-ghost use Rattle.twkb_engine.specs.Open.{awaited_at};
 ghost use Rattle.twkb_engine.specs.Stops.{objection_of};
 
-use crate::awaited::{Awaited, awaited_by};
 use crate::blob_reason::BlobReason;
-use crate::header::{EMPTY, has_bit};
-use crate::items::announced;
+use crate::items::{announced, announces_point};
 use crate::lefts::Spot;
 use crate::members::past_end;
 use crate::motion::{moved_x, moved_y, origin};
 use crate::phase::{Groups, Kind, Many, Optional, Phase};
 use crate::place::Head;
-use crate::runs::take_points;
-use crate::site::Form;
 use crate::steps::{Led, next, take_in_body};
 use crate::stop::Stop;
 use smallvec::SmallVec;
@@ -39,13 +34,13 @@ use twkb_points::Pt;
 #[derive(Drop)]
 pub struct Builder {
     alloc: Global,
-    limits: Limits,
-    bytes: u64,
+    pub limits: Limits,
+    pub bytes: u64,
     position: Pt,
     nodes: u64,
-    points: u64,
-    groups: Groups,
-    phase: Phase,
+    pub points: u64,
+    pub groups: Groups,
+    pub phase: Phase,
     ghost nodes_kept: { nodes ≤ limits.nodes },
     ghost points_kept: { points ≤ limits.points },
     ghost waits: { goes_on phase ≡ true },
@@ -88,45 +83,6 @@ impl Builder {
         }
     }
 
-    /// Bytes of the items that it took since the blob's start.
-    pub fn bytes(&self) -> u64
-        ensures { result ≡ self.now.bytes }
-    {
-        self.bytes
-    }
-
-    /// Points that its items announced since the blob's start.
-    pub fn points(&self) -> u64
-        ensures { result ≡ self.now.points }
-    {
-        self.points
-    }
-
-    /// What the next byte is for.
-    pub fn awaited(&self) -> Awaited
-        ensures { result ≡ awaited_at (step_of self.now.phase) }
-    {
-        awaited_by(&self.phase)
-    }
-
-    /// How many geometries are begun and not finished.
-    pub fn open_geometries(&self) -> usize
-        ensures { result ≡ open_count (outline_in self.now) }
-    {
-        let groups = self.groups.len();
-        match &self.phase {
-            Phase::Header => groups,
-            _ => groups + 1,
-        }
-    }
-
-    /// What the next item is for.
-    pub fn phase(&self) -> &Phase
-        ensures { result.now ≡ self.now.phase }
-    {
-        &self.phase
-    }
-
     /// Why a count may not be this large.
     fn too_many(&self, nodes: u64, points: u64) -> Option<BlobReason>
         ensures { objection_of result ≡ unless (nat_lt self.now.limits.nodes (self.now.nodes + nodes)) fault.TooManyNodes (unless (nat_lt self.now.limits.points (self.now.points + points)) fault.TooManyPoints None) }
@@ -144,10 +100,7 @@ impl Builder {
     fn objection_to_metadata(&self, kind: Kind, number: u64) -> Option<BlobReason>
         ensures { objection_of result ≡ objection_in self.now.limits (sums_of self.now) (Metadata (kind_number (kind_of kind))) number }
     {
-        if kind == Kind::Simple(Form::Point)
-            && !has_bit(number, EMPTY)
-            && u64::from(self.limits.points()) <= self.points
-        {
+        if announces_point(kind, number) && u64::from(self.limits.points()) <= self.points {
             Some(BlobReason::TooManyPoints)
         } else {
             None
@@ -213,13 +166,6 @@ impl Builder {
             Phase::Body(_, body) => self.objection_to_number(body.spot, number),
             Phase::Id { .. } | Phase::End(_) => None,
         }
-    }
-
-    /// Its limits.
-    pub fn limits(&self) -> Limits
-        ensures { result ≡ self.now.limits }
-    {
-        self.limits
     }
 
     /// Goes to the start.
@@ -360,7 +306,10 @@ impl Builder {
         ensures few { self.new.bytes ≤ self.old.bytes + length_of rest.now }
         ensures run { IfOk result (λ used. RunsBehind self.old flat.old (take used rest.now) self.new flat.new) }
     {
-        let taken = take_points(flat, &mut self.phase, self.position, rest)?;
+        let Phase::Body(head, body) = &mut self.phase else {
+            return Ok(0);
+        };
+        let taken = body.take_points(flat, *head, self.position, rest)?;
         self.bytes += taken.used as u64;
         self.position = taken.position;
         Ok(taken.used)

@@ -2,12 +2,12 @@
 ghost use Rattle.std.specs.Prelude.{◌≡◌, IfOk, ◌+◌, ◌<◌, ◌≤◌, ◌^◌, ◌++◌, ◌∷◌, [], List, ℕ, take, length as length_of};
 ghost use Rattle.twkb_num.specs.Varint.{IsOpenVarint};
 ghost use Rattle.twkb_geom.specs.Rows.{Row};
-ghost use Rattle.twkb_engine.specs.Standing.{StandsAt, IsStep, IsTakenFrom, IsFed, IsEnd, count_of, offset_in, points_in, awaited_in, held_in, open_in, allowance_of};
+ghost use Rattle.twkb_engine.specs.Standing.{StandsAt, LeadsOn, IsStep, IsTakenFrom, IsFed, IsEnd, count_of, offset_in, points_in, awaited_in, held_in, open_in, allowance_of};
 
 use crate::awaited::Awaited;
 use crate::blob_reason::BlobReason;
 use crate::builder::Builder;
-use crate::phase::wants_byte;
+use crate::phase::{Phase, wants_byte};
 use crate::stop::Stop;
 use std::alloc::{AllocError, Global};
 use twkb_flat::Flat;
@@ -48,7 +48,7 @@ impl Engine {
         twkb_num::laws::varints();
         twkb_num::laws::long_varints();
         let length = self.partial.len() as u64 + 1;
-        if wants_byte(self.builder.phase()) {
+        if wants_byte(&self.builder.phase) {
             return self.builder.take(flat, u64::from(byte), 1);
         }
         match self.partial.step(byte) {
@@ -59,15 +59,15 @@ impl Engine {
         }
     }
 
-    /// Takes points as far as they stand whole in front, where no byte of a number is held, and answers how many bytes they had; the
-    /// last point of a body is left. Points take memory.
-    fn take_ahead(&mut self, flat: &mut Flat, rest: &[u8]) -> Result<usize, AllocError>
+    /// Takes points of a body as far as they stand whole in front, where no byte of a number is held, and answers how many bytes they
+    /// had, up to all of the piece. The last point of a body is left, so no geometry begins or ends in them. Points take memory.
+    pub fn take_points(&mut self, flat: &mut Flat, rest: &[u8]) -> Result<usize, AllocError>
         requires room { count_of self.old + length_of rest.now ≤ 2 ^ 63 }
         ensures limits { allowance_of self.new ≡ allowance_of self.old }
         ensures count { IfOk result (λ used. count_of self.new ≡ count_of self.old + used) }
         ensures few { count_of self.new ≤ count_of self.old + length_of rest.now }
         ensures within { IfOk result (λ used. used ≤ length_of rest.now) }
-        ensures ahead { IfOk result (λ used. (bs : List ℕ) → StandsAt bs flat.old self.old → StandsAt (bs ++ take used rest.now) flat.new self.new) }
+        ensures ahead { IfOk result (λ used. LeadsOn flat.old self.old (take used rest.now) flat.new self.new) }
     {
         if rest.len() < SHORTEST {
             return Ok(0);
@@ -89,7 +89,7 @@ impl Engine {
         ensures within { IfOk result (λ taken. taken.0 ≤ length_of rest.now) }
         ensures taken { (bs : List ℕ) → StandsAt bs flat.old self.old → IsTakenFrom (allowance_of self.old) bs rest.now result flat.new self.new }
     {
-        let used = match self.take_ahead(flat, rest) {
+        let used = match self.take_points(flat, rest) {
             Ok(used) => used,
             Err(_) => return Err(Stop::Memory),
         };
@@ -145,7 +145,7 @@ impl Engine {
         if self.partial.len() > 0 {
             return false;
         }
-        if self.builder.bytes() > 0 {
+        if self.builder.bytes > 0 {
             return false;
         }
         true
@@ -165,28 +165,32 @@ impl Engine {
     pub fn offset(&self) -> u64
         ensures { result ≡ offset_in self.now }
     {
-        self.builder.bytes()
+        self.builder.bytes
     }
 
     /// Points that the counts and points which it took since the last blob's end announced. Takes no memory.
     pub fn points(&self) -> u64
         ensures { result ≡ points_in self.now }
     {
-        self.builder.points()
+        self.builder.points
     }
 
     /// What its next byte is for. Takes no memory.
     pub fn awaited(&self) -> Awaited
         ensures { result ≡ awaited_in self.now }
     {
-        self.builder.awaited()
+        match &self.builder.phase {
+            Phase::Header => Awaited::Header,
+            Phase::Metadata(_) => Awaited::Metadata,
+            _ => Awaited::Other,
+        }
     }
 
     /// The limits of each geometry. Takes no memory.
     pub fn limits(&self) -> Limits
         ensures { result ≡ allowance_of self.now }
     {
-        self.builder.limits()
+        self.builder.limits
     }
 
     /// How many geometries are begun and not finished. Takes no memory.
@@ -194,6 +198,10 @@ impl Engine {
         ensures open { result ≡ open_in self.now }
         ensures few { (bs : List ℕ) (rs : List Row) → StandsAt bs rs self.now → result ≤ (allowance_of self.now).nest + 1 }
     {
-        self.builder.open_geometries()
+        let groups = self.builder.groups.len();
+        match &self.builder.phase {
+            Phase::Header => groups,
+            _ => groups + 1,
+        }
     }
 }

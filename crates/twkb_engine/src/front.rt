@@ -44,20 +44,13 @@ fn short_number(bytes: &[u8]) -> Option<(u64, usize)>
 }
 
 /// The number that stands in front, and how many bytes it has; `None` where its varint is not whole, or is none.
-pub fn front_number(bytes: &[u8]) -> Option<(u64, usize)>
-    ensures { IfSome result (λ front. NumberInFront bytes.now front.0 front.1) }
-{
-    if let Some(front) = short_number(bytes) {
-        return Some(front);
-    }
-    long_number(bytes)
-}
-
-/// The same, of any length.
-fn long_number(bytes: &[u8]) -> Option<(u64, usize)>
+fn front_number(bytes: &[u8]) -> Option<(u64, usize)>
     ensures { IfSome result (λ front. NumberInFront bytes.now front.0 front.1) }
 {
     twkb_num::laws::varints();
+    if let Some(front) = short_number(bytes) {
+        return Some(front);
+    }
     let mut partial = Partial::<Leb128>::new();
     for (index, byte) in bytes.iter().enumerate() {
         match partial.step(*byte) {
@@ -79,22 +72,14 @@ fn short_step(number: u64) -> i64
     unzigzag(number)
 }
 
-/// The first coordinate behind such a step.
+/// The coordinate behind such a step.
 #[inline(always)]
-fn near_x(from: Pt, number: u64) -> i64
-    requires { number < 2 ^ 14 }
-    ensures { result ≡ from.x +ℤ unzigzag_of number }
+fn near_coordinate(from: i64, number: u64) -> i64
+    requires in_range { IsCoordinate from }
+    requires small { number < 2 ^ 14 }
+    ensures { result ≡ from +ℤ unzigzag_of number }
 {
-    from.x() + short_step(number)
-}
-
-/// The second coordinate behind such a step.
-#[inline(always)]
-fn near_y(from: Pt, number: u64) -> i64
-    requires { number < 2 ^ 14 }
-    ensures { result ≡ from.y +ℤ unzigzag_of number }
-{
-    from.y() + short_step(number)
+    from + short_step(number)
 }
 
 /// The point behind two such steps, or `None` where that is out of range.
@@ -104,7 +89,7 @@ fn near(from: Pt, x: u64, y: u64) -> Option<Pt>
     requires y_small { y < 2 ^ 14 }
     ensures { IfSome result (λ to. StepsTo from x y to) }
 {
-    let to = Pt::try_new(near_x(from, x), near_y(from, y))?;
+    let to = Pt::try_new(near_coordinate(from.x(), x), near_coordinate(from.y(), y))?;
     Some(to)
 }
 

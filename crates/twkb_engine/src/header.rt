@@ -1,20 +1,20 @@
 //! From a type byte to a body.
-ghost use Rattle.std.specs.Prelude.{◌≡◌, ◌<◌, ◌/◌, ◌%◌, [], ℤ, ℕ, Option, None, Some, IfOk, OnOk};
+ghost use Rattle.std.specs.Prelude.{◌≡◌, ◌<◌, ◌/◌, ◌%◌, length, None, IfOk, OnOk};
 ghost use Rattle.twkb_num.specs.Zigzag.{unzigzag_of};
 ghost use Rattle.twkb_geom.specs.Tree.{IsPrecision};
 ghost use Rattle.twkb_grammar.specs.Bits.{bit};
-ghost use Rattle.twkb_grammar.specs.Machine.{Kind as MachineKind, asked, with_option, kind_at as kind_of_number};
+ghost use Rattle.twkb_grammar.specs.Machine.{asked, with_option, kind_at as kind_of_number};
 ghost use Rattle.twkb_outline.specs.Outline.{options, begins, OnMetadata, OnBody};
-ghost use Rattle.twkb_outline.specs.Growing.{header_change, applied};
+ghost use Rattle.twkb_outline.specs.Growing.{header_change, applied, id_in};
 ghost use Rattle.twkb_engine.specs.Body.{form_of, spot_of};
-ghost use Rattle.twkb_engine.specs.State.{kind_of, head_of, step_of, behind_of, behind_change, role_of_part, roles_behind, size_roles, box_roles, IsPlaced};
+ghost use Rattle.twkb_engine.specs.State.{kind_of, head_of, step_of, groups_of, role_of_part, roles_behind, roles_from, size_roles, box_roles, IsPlaced, IsPlacedIn, IsShallow};
 
 use crate::body::Body;
 use crate::lefts::{Lefts, Spot};
 use crate::names::Names;
-use crate::phase::{Behind, Kind, Many, Optional, Phase};
-use crate::place::{Head, Place, Site, Typed};
-use crate::site::{Form, begin_row, whole_row};
+use crate::phase::{Groups, Kind, Many, Optional, Phase};
+use crate::place::{Head, Typed};
+use crate::site::{Form, push_row, whole_row};
 use std::alloc::{AllocError, Global};
 use twkb_flat::Flat;
 
@@ -81,241 +81,174 @@ pub fn after_type(number: u64) -> Phase
     Phase::Metadata(typed)
 }
 
+/// The id of the geometry that is read in these collections.
+fn id_within(groups: &Groups) -> Option<i64>
+    ensures { result ≡ id_in (groups_of groups.now.items) }
+{
+    let depth = groups.len();
+    if depth == 0 {
+        return None;
+    }
+    groups[depth - 1].names.next()
+}
+
 /// The header behind a metadata byte, before its optional parts.
-fn head_of_byte(typed: Typed, number: u64, bytes: u64) -> Head
-    requires { number < 256 }
+fn head_within(groups: &Groups, typed: Typed, bytes: u64, number: u64) -> Head
+    requires few { IsShallow groups.now.items }
+    requires byte { number < 256 }
     ensures head { head_of result ≡ record { precision = typed.precision; meta = number; size = None; from = bytes } }
-    ensures precision { result.precision ≡ typed.precision }
     ensures metadata { result.metadata ≡ number }
+    ensures depth { result.depth ≡ length (groups_of groups.now.items) }
+    ensures id { result.id ≡ id_in (groups_of groups.now.items) }
 {
     Head {
         precision: typed.precision,
         metadata: number as u8,
         size: None,
         from: bytes,
+        depth: groups.len() as u32,
+        id: id_within(groups),
     }
 }
 
-/// What stands behind a header whose optional parts were read.
-fn behind_box(head: Head) -> Behind
-    ensures step { (k : MachineKind) → behind_of k (head_of head) result ≡ options k (head_of head) [] }
-    ensures rows { (d : ℕ) (id : Option ℤ) (k : MachineKind) (p : ℤ) → behind_change d id k p result ≡ header_change d id k p head.metadata [] }
+/// The part behind the size, or behind where it would stand.
+fn behind_size(metadata: u8) -> Option<Optional>
+    ensures { roles_from metadata result ≡ box_roles metadata }
 {
-    if has_bit(u64::from(head.metadata), EMPTY) {
-        Behind::Nothing
-    } else {
-        Behind::Body
+    if has_bit(u64::from(metadata), BOX) {
+        return Some(Optional::Box { left: BOX_REST });
     }
+    None
 }
 
-fn behind_size(head: Head) -> Behind
-    ensures step { (k : MachineKind) → behind_of k (head_of head) result ≡ options k (head_of head) (box_roles head.metadata) }
-    ensures rows { (d : ℕ) (id : Option ℤ) (k : MachineKind) (p : ℤ) → behind_change d id k p result ≡ header_change d id k p head.metadata (box_roles head.metadata) }
+/// The part behind the extended byte, or behind where it would stand.
+fn behind_extended(metadata: u8) -> Option<Optional>
+    ensures { roles_from metadata result ≡ size_roles metadata }
 {
-    if has_bit(u64::from(head.metadata), BOX) {
-        Behind::Part(Optional::Box { left: BOX_REST })
-    } else {
-        behind_box(head)
+    if has_bit(u64::from(metadata), SIZE) {
+        return Some(Optional::Size);
     }
+    behind_size(metadata)
 }
 
-fn behind_extended(head: Head) -> Behind
-    ensures step { (k : MachineKind) → behind_of k (head_of head) result ≡ options k (head_of head) (size_roles head.metadata) }
-    ensures rows { (d : ℕ) (id : Option ℤ) (k : MachineKind) (p : ℤ) → behind_change d id k p result ≡ header_change d id k p head.metadata (size_roles head.metadata) }
+/// The part behind the metadata byte.
+fn first_part(metadata: u8) -> Option<Optional>
+    ensures { roles_from metadata result ≡ asked metadata }
 {
-    if has_bit(u64::from(head.metadata), SIZE) {
-        Behind::Part(Optional::Size)
-    } else {
-        behind_size(head)
+    if has_bit(u64::from(metadata), EXTENDED) {
+        return Some(Optional::Extended);
     }
+    behind_extended(metadata)
 }
 
-/// What stands behind a metadata byte.
-fn behind_metadata(head: Head) -> Behind
-    ensures step { (k : MachineKind) → behind_of k (head_of head) result ≡ options k (head_of head) (asked head.metadata) }
-    ensures rows { (d : ℕ) (id : Option ℤ) (k : MachineKind) (p : ℤ) → behind_change d id k p result ≡ header_change d id k p head.metadata (asked head.metadata) }
-{
-    if has_bit(u64::from(head.metadata), EXTENDED) {
-        Behind::Part(Optional::Extended)
-    } else {
-        behind_extended(head)
-    }
-}
-
-/// What stands behind an optional part.
-fn behind_part(head: Head, part: Optional) -> Behind
-    ensures step { (k : MachineKind) → behind_of k (head_of head) result ≡ options k (head_of head) (roles_behind head.metadata part) }
-    ensures rows { (d : ℕ) (id : Option ℤ) (k : MachineKind) (p : ℤ) → behind_change d id k p result ≡ header_change d id k p head.metadata (roles_behind head.metadata part) }
+/// The part behind this one.
+fn next_part(metadata: u8, part: Optional) -> Option<Optional>
+    ensures { roles_from metadata result ≡ roles_behind metadata part }
 {
     match part {
-        Optional::Extended => behind_extended(head),
-        Optional::Size => behind_size(head),
-        Optional::Box { left } => {
-            if left == 0 {
-                behind_box(head)
-            } else {
-                Behind::Part(Optional::Box { left: left - 1 })
-            }
-        }
+        Optional::Extended => behind_extended(metadata),
+        Optional::Size => behind_size(metadata),
+        Optional::Box { left: 0 } => None,
+        Optional::Box { left } => Some(Optional::Box { left: left - 1 }),
     }
 }
 
 /// The header with an optional part of this number, behind so many bytes.
-fn head_with(head: Head, part: Optional, bytes: u64, number: u64) -> Head
+fn head_with(mut head: Head, part: Optional, bytes: u64, number: u64) -> Head
     ensures head { head_of result ≡ with_option (head_of head) (role_of_part part) number bytes }
     ensures precision { result.precision ≡ head.precision }
     ensures metadata { result.metadata ≡ head.metadata }
+    ensures depth { result.depth ≡ head.depth }
+    ensures id { result.id ≡ head.id }
 {
-    let Head {
-        precision,
-        metadata,
-        size,
-        from,
-    } = head;
     match part {
-        Optional::Extended => Head {
-            precision,
-            metadata,
-            size,
-            from: bytes,
-        },
-        Optional::Size => Head {
-            precision,
-            metadata,
-            size: Some(number),
-            from: bytes,
-        },
-        Optional::Box { .. } => head,
+        Optional::Extended => head.from = bytes,
+        Optional::Size => {
+            head.size = Some(number);
+            head.from = bytes;
+        }
+        Optional::Box { .. } => {}
     }
-}
-
-/// Where a geometry of this header stands.
-pub fn site_of(place: Place, head: Head) -> Site
-    ensures depth { result.depth ≡ place.depth }
-    ensures id { result.id ≡ place.id }
-    ensures precision { result.precision ≡ head.precision }
-{
-    Site {
-        depth: place.depth,
-        id: place.id,
-        precision: head.precision,
-    }
+    head
 }
 
 /// A body without members that have ids begins. Takes no memory.
-fn simple_body(alloc: Global, place: Place, head: Head, form: Form, spot: Spot) -> Phase
+fn simple_body(alloc: Global, head: Head, form: Form, spot: Spot) -> Phase
     ensures step { step_of result ≡ OnBody (head_of head) (form_of form) None (spot_of spot) }
-    ensures placed { IsPlaced place.depth place.id result }
+    ensures placed { IsPlaced head.depth head.id result }
 {
-    let names = Names {
-        named: false,
-        ids: Vec::new(alloc),
-        given: 0,
-    };
-    let site = site_of(place, head);
-    Phase::Body(
-        head,
-        Body {
-            site,
-            form,
-            names,
-            spot,
-        },
-    )
+    let names = Names::new(false, Vec::new(alloc));
+    Phase::Body(head, Body { form, names, spot })
 }
 
 /// The body begins. Takes no memory.
-fn begin_body(alloc: Global, place: Place, kind: Kind, head: Head) -> Phase
+fn begin_body(alloc: Global, kind: Kind, head: Head) -> Phase
     ensures step { step_of result ≡ begins (kind_of kind) (head_of head) }
-    ensures placed { IsPlaced place.depth place.id result }
+    ensures placed { IsPlaced head.depth head.id result }
 {
-    match kind {
+    let many = match kind {
         Kind::Simple(Form::Point) => {
-            simple_body(alloc, place, head, Form::Point, Spot::X(Lefts::Empty))
+            return simple_body(alloc, head, Form::Point, Spot::X(Lefts::Empty));
         }
         Kind::Simple(Form::Line) => {
-            simple_body(
-                alloc,
-                place,
-                head,
-                Form::Line,
-                Spot::LineCount(Lefts::Empty),
-            )
+            return simple_body(alloc, head, Form::Line, Spot::LineCount(Lefts::Empty));
         }
         Kind::Simple(Form::Polygon) => {
-            simple_body(
-                alloc,
-                place,
-                head,
-                Form::Polygon,
-                Spot::AreaCount(Lefts::Empty),
-            )
+            return simple_body(alloc, head, Form::Polygon, Spot::AreaCount(Lefts::Empty));
         }
-        Kind::Simple(Form::MultiPoint) => Phase::Count {
-            many: Many::Points,
-            head,
-        },
-        Kind::Simple(Form::MultiLine) => Phase::Count {
-            many: Many::Lines,
-            head,
-        },
-        Kind::Simple(Form::MultiPolygon) => Phase::Count {
-            many: Many::Areas,
-            head,
-        },
-        Kind::Collection => Phase::Count {
-            many: Many::Geometries,
-            head,
-        },
-    }
+        Kind::Simple(Form::MultiPoint) => Many::Points,
+        Kind::Simple(Form::MultiLine) => Many::Lines,
+        Kind::Simple(Form::MultiPolygon) => Many::Areas,
+        Kind::Collection => Many::Geometries,
+    };
+    Phase::Count { many, head }
 }
 
-/// Goes to what stands behind a header's byte or part: a geometry without a body has a row at once, for which it takes memory.
-fn go_behind(
+/// Goes to a part of a header, or else behind it: a geometry without a body has a row at once, for which it takes memory.
+fn go_to(
     flat: &mut Flat,
     alloc: Global,
-    place: Place,
     kind: Kind,
     head: Head,
-    behind: Behind,
+    part: Option<Optional>,
 ) -> Result<Phase, AllocError>
-    ensures step { IfOk result (λ phase. step_of phase ≡ behind_of (kind_of kind) (head_of head) behind) }
-    ensures placed { IfOk result (IsPlaced place.depth place.id) }
-    ensures rows { OnOk result (flat.new ≡ applied (behind_change place.depth place.id (kind_of kind) head.precision behind) flat.old) }
+    ensures step { IfOk result (λ phase. step_of phase ≡ options (kind_of kind) (head_of head) (roles_from head.metadata part)) }
+    ensures placed { IfOk result (IsPlaced head.depth head.id) }
+    ensures rows { OnOk result (flat.new ≡ applied (header_change head.depth head.id (kind_of kind) head.precision head.metadata (roles_from head.metadata part)) flat.old) }
 {
-    match behind {
-        Behind::Part(part) => Ok(Phase::Optional { kind, head, part }),
-        Behind::Body => Ok(begin_body(alloc, place, kind, head)),
-        Behind::Nothing => {
-            begin_row(flat, whole_row(site_of(place, head), kind))?;
-            Ok(Phase::End(head))
-        }
+    if let Some(part) = part {
+        return Ok(Phase::Optional { kind, head, part });
     }
+    if has_bit(u64::from(head.metadata), EMPTY) {
+        push_row(flat, whole_row(head, kind), &[])?;
+        return Ok(Phase::End(head));
+    }
+    Ok(begin_body(alloc, kind, head))
 }
 
 /// What follows a metadata byte. Takes memory for a row.
 pub fn after_metadata(
     flat: &mut Flat,
     alloc: Global,
-    place: Place,
+    groups: &Groups,
     typed: Typed,
     bytes: u64,
     number: u64,
 ) -> Result<Phase, AllocError>
-    requires { number < 256 }
+    requires few { IsShallow groups.now.items }
+    requires byte { number < 256 }
     ensures step { IfOk result (λ phase. step_of phase ≡ options (kind_of typed.kind) (record { precision = typed.precision; meta = number; size = None; from = bytes }) (asked number)) }
-    ensures placed { IfOk result (IsPlaced place.depth place.id) }
-    ensures rows { OnOk result (flat.new ≡ applied (header_change place.depth place.id (kind_of typed.kind) typed.precision number (asked number)) flat.old) }
+    ensures placed { IfOk result (IsPlacedIn groups.now.items) }
+    ensures rows { OnOk result (flat.new ≡ applied (header_change (length (groups_of groups.now.items)) (id_in (groups_of groups.now.items)) (kind_of typed.kind) typed.precision number (asked number)) flat.old) }
 {
-    let head = head_of_byte(typed, number, bytes);
-    go_behind(flat, alloc, place, typed.kind, head, behind_metadata(head))
+    let head = head_within(groups, typed, bytes, number);
+    go_to(flat, alloc, typed.kind, head, first_part(head.metadata))
 }
 
 /// What follows an optional part. Takes memory for a row.
 pub fn after_option(
     flat: &mut Flat,
     alloc: Global,
-    place: Place,
     kind: Kind,
     head: Head,
     part: Optional,
@@ -323,9 +256,15 @@ pub fn after_option(
     number: u64,
 ) -> Result<Phase, AllocError>
     ensures step { IfOk result (λ phase. step_of phase ≡ options (kind_of kind) (with_option (head_of head) (role_of_part part) number bytes) (roles_behind head.metadata part)) }
-    ensures placed { IfOk result (IsPlaced place.depth place.id) }
-    ensures rows { OnOk result (flat.new ≡ applied (header_change place.depth place.id (kind_of kind) head.precision head.metadata (roles_behind head.metadata part)) flat.old) }
+    ensures placed { IfOk result (IsPlaced head.depth head.id) }
+    ensures rows { OnOk result (flat.new ≡ applied (header_change head.depth head.id (kind_of kind) head.precision head.metadata (roles_behind head.metadata part)) flat.old) }
 {
-    let head = head_with(head, part, bytes, number);
-    go_behind(flat, alloc, place, kind, head, behind_part(head, part))
+    let next = next_part(head.metadata, part);
+    go_to(
+        flat,
+        alloc,
+        kind,
+        head_with(head, part, bytes, number),
+        next,
+    )
 }

@@ -1,14 +1,22 @@
 //! What an item announces.
 ghost use Rattle.std.specs.Prelude.{◌≡◌, ℕ, Some};
-ghost use Rattle.twkb_grammar.specs.Fault.{nodes_by, points_by};
+ghost use Rattle.twkb_grammar.specs.Fault.{announces_point as announces, nodes_by, points_by};
 ghost use Rattle.twkb_grammar.specs.Roles.{Role};
+ghost use Rattle.twkb_grammar.specs.Machine.{kind_number};
 ghost use Rattle.twkb_outline.specs.Outline.{step_role};
-ghost use Rattle.twkb_engine.specs.State.{step_of};
+ghost use Rattle.twkb_engine.specs.State.{kind_of, step_of};
 
 use crate::header::{EMPTY, has_bit};
 use crate::lefts::Spot;
 use crate::phase::{Kind, Many, Phase};
 use crate::site::Form;
+
+/// Whether a geometry of this type and with this metadata byte is a point that its header announces.
+pub fn announces_point(kind: Kind, number: u64) -> bool
+    ensures { result ≡ announces (kind_number (kind_of kind)) number }
+{
+    kind == Kind::Simple(Form::Point) && !has_bit(number, EMPTY)
+}
 
 /// The nodes and the points that the item announces which has this number.
 pub fn announced(phase: &Phase, number: u64) -> (u64, u64)
@@ -16,13 +24,7 @@ pub fn announced(phase: &Phase, number: u64) -> (u64, u64)
     ensures points { (level bytes : ℕ) (r : Role) → step_role level bytes (step_of phase.now) ≡ Some r → result.1 ≡ points_by r number }
 {
     match phase {
-        Phase::Metadata(typed) => {
-            if typed.kind == Kind::Simple(Form::Point) && !has_bit(number, EMPTY) {
-                (0, 1)
-            } else {
-                (0, 0)
-            }
-        }
+        Phase::Metadata(typed) if announces_point(typed.kind, number) => (0, 1),
         Phase::Count { many, .. } => match many {
             Many::Points => (number, number),
             Many::Lines | Many::Areas | Many::Geometries => (number, 0),

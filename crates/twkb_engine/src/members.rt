@@ -6,18 +6,18 @@ ghost use Rattle.twkb_outline.specs.Outline.{OnId, members_open, many_counted, o
 ghost use Rattle.twkb_outline.specs.Growing.{applied, count_change, kind_with, own_of, step_change, NewRow};
 ghost use Rattle.twkb_engine.specs.Body.{form_of, after_of};
 ghost use Rattle.twkb_engine.specs.Names.{ids_of};
-ghost use Rattle.twkb_engine.specs.State.{kind_of, many_of, head_of, step_of, groups_of, IsPlaced, IsBody, IsShallow};
+ghost use Rattle.twkb_engine.specs.State.{kind_of, many_of, head_of, step_of, groups_of, IsPlaced, HasHead, IsShallow};
 ghost use Rattle.twkb_engine.specs.Stops.{IsPast};
 ghost use Rattle.twkb_engine.specs.declared.phase.Many.{Many};
 
 use crate::blob_reason::BlobReason;
 use crate::body::Body;
-use crate::header::{IDS, has_bit, site_of};
+use crate::header::{IDS, has_bit};
 use crate::lefts::{After, Lefts, open_area, open_areas, open_line};
 use crate::names::Names;
 use crate::phase::{DEEPEST, Group, Groups, Kind, Many, Phase};
-use crate::place::{Head, Place};
-use crate::site::{Form, begin_row, whole_row};
+use crate::place::Head;
+use crate::site::{Form, push_row, whole_row};
 use crate::stop::Stop;
 use std::alloc::{AllocError, Global};
 use twkb_flat::Flat;
@@ -36,26 +36,15 @@ fn many_kind(many: Many) -> Kind
 }
 
 /// A body goes on, or its geometry is done.
-fn body_phase(place: Place, head: Head, form: Form, mut names: Names, after: After) -> Phase
+fn body_phase(head: Head, form: Form, mut names: Names, after: After) -> Phase
     ensures step { step_of result ≡ after_of (head_of head) (form_of form) (ids_of names) after }
-    ensures placed { IsPlaced place.depth place.id result }
+    ensures placed { IsPlaced head.depth head.id result }
 {
     if after.next_member {
         names.go_on();
     }
     match after.spot {
-        Some(spot) => {
-            let site = site_of(place, head);
-            Phase::Body(
-                head,
-                Body {
-                    site,
-                    form,
-                    names,
-                    spot,
-                },
-            )
-        }
+        Some(spot) => Phase::Body(head, Body { form, names, spot }),
         None => Phase::End(head),
     }
 }
@@ -69,7 +58,7 @@ fn begin_collection(
 ) -> Result<Phase, AllocError>
     ensures step { IfOk result (λ phase. (groups_of groups.new.items, step_of phase) ≡ members_open (many_of Many.Geometries) (head_of head) (groups_of groups.old.items) (ids_of names) count) }
     ensures placed { (d : ℕ) (id : Option ℤ) → IfOk result (IsPlaced d id) }
-    ensures kept { IfOk result (λ phase. IsBody phase → groups_of groups.new.items ≡ groups_of groups.old.items) }
+    ensures kept { IfOk result (λ phase. HasHead phase → groups_of groups.new.items ≡ groups_of groups.old.items) }
     ensures few { IsShallow groups.old.items → IsShallow groups.new.items }
 {
     if count == 0 {
@@ -83,55 +72,29 @@ fn begin_collection(
     Ok(Phase::Header)
 }
 
-/// Members begin, behind their ids. A group takes memory.
+/// A geometry with members has its row, and they begin, behind their ids. Takes memory for the row and a group.
 fn begin_members(
-    groups: &mut Groups,
-    place: Place,
-    many: Many,
-    head: Head,
-    names: Names,
-    count: u64,
-) -> Result<Phase, AllocError>
-    ensures step { IfOk result (λ phase. (groups_of groups.new.items, step_of phase) ≡ members_open (many_of many) (head_of head) (groups_of groups.old.items) (ids_of names) count) }
-    ensures placed { IfOk result (IsPlaced place.depth place.id) }
-    ensures kept { IfOk result (λ phase. IsBody phase → groups_of groups.new.items ≡ groups_of groups.old.items) }
-    ensures few { IsShallow groups.old.items → IsShallow groups.new.items }
-{
-    match many {
-        Many::Points => {
-            let after = open_line(Lefts::Empty, count);
-            Ok(body_phase(place, head, Form::MultiPoint, names, after))
-        }
-        Many::Lines => {
-            let after = open_area(Lefts::Empty, count);
-            Ok(body_phase(place, head, Form::MultiLine, names, after))
-        }
-        Many::Areas => {
-            let after = open_areas(count);
-            Ok(body_phase(place, head, Form::MultiPolygon, names, after))
-        }
-        Many::Geometries => begin_collection(groups, head, names, count),
-    }
-}
-
-/// A geometry with members has its row, and they begin. Takes memory for the row and a group.
-fn begin_many(
     flat: &mut Flat,
     groups: &mut Groups,
-    place: Place,
     many: Many,
     head: Head,
     names: Names,
     count: u64,
 ) -> Result<Phase, AllocError>
     ensures step { IfOk result (λ phase. (groups_of groups.new.items, step_of phase) ≡ members_open (many_of many) (head_of head) (groups_of groups.old.items) (ids_of names) count) }
-    ensures placed { IfOk result (IsPlaced place.depth place.id) }
-    ensures rows { OnOk result (flat.new ≡ applied (NewRow (own_of place.depth place.id (kind_with (many_of many)) head.precision)) flat.old) }
-    ensures kept { IfOk result (λ phase. IsBody phase → groups_of groups.new.items ≡ groups_of groups.old.items) }
+    ensures placed { IfOk result (IsPlaced head.depth head.id) }
+    ensures rows { OnOk result (flat.new ≡ applied (NewRow (own_of head.depth head.id (kind_with (many_of many)) head.precision)) flat.old) }
+    ensures kept { IfOk result (λ phase. HasHead phase → groups_of groups.new.items ≡ groups_of groups.old.items) }
     ensures few { IsShallow groups.old.items → IsShallow groups.new.items }
 {
-    begin_row(flat, whole_row(site_of(place, head), many_kind(many)))?;
-    begin_members(groups, place, many, head, names, count)
+    push_row(flat, whole_row(head, many_kind(many)), &[])?;
+    let (form, after) = match many {
+        Many::Points => (Form::MultiPoint, open_line(Lefts::Empty, count)),
+        Many::Lines => (Form::MultiLine, open_area(Lefts::Empty, count)),
+        Many::Areas => (Form::MultiPolygon, open_areas(count)),
+        Many::Geometries => return begin_collection(groups, head, names, count),
+    };
+    Ok(body_phase(head, form, names, after))
 }
 
 /// The members were counted. A row and a group take memory, the count reserves nothing.
@@ -139,25 +102,19 @@ pub fn after_count(
     flat: &mut Flat,
     alloc: Global,
     groups: &mut Groups,
-    place: Place,
     many: Many,
     head: Head,
     count: u64,
 ) -> Result<Phase, AllocError>
     ensures step { IfOk result (λ phase. (groups_of groups.new.items, step_of phase) ≡ many_counted (many_of many) (head_of head) (groups_of groups.old.items) count) }
-    ensures placed { IfOk result (IsPlaced place.depth place.id) }
-    ensures rows { OnOk result (flat.new ≡ applied (count_change place.depth place.id (many_of many) (head_of head) count) flat.old) }
-    ensures kept { IfOk result (λ phase. IsBody phase → groups_of groups.new.items ≡ groups_of groups.old.items) }
+    ensures placed { IfOk result (IsPlaced head.depth head.id) }
+    ensures rows { OnOk result (flat.new ≡ applied (count_change head.depth head.id (many_of many) (head_of head) count) flat.old) }
+    ensures kept { IfOk result (λ phase. HasHead phase → groups_of groups.new.items ≡ groups_of groups.old.items) }
     ensures few { IsShallow groups.old.items → IsShallow groups.new.items }
 {
     let ids = Vec::new(alloc);
     if count == 0 {
-        let names = Names {
-            named: false,
-            ids,
-            given: 0,
-        };
-        return begin_many(flat, groups, place, many, head, names, 0);
+        return begin_members(flat, groups, many, head, Names::new(false, ids), 0);
     }
     if has_bit(u64::from(head.metadata), IDS) {
         return Ok(Phase::Id {
@@ -168,19 +125,13 @@ pub fn after_count(
             left: count - 1,
         });
     }
-    let names = Names {
-        named: false,
-        ids,
-        given: 0,
-    };
-    begin_many(flat, groups, place, many, head, names, count)
+    begin_members(flat, groups, many, head, Names::new(false, ids), count)
 }
 
 /// An id of a member. It takes memory, as do a row and a group behind the last.
 pub fn after_id(
     flat: &mut Flat,
     groups: &mut Groups,
-    place: Place,
     many: Many,
     head: Head,
     members: u64,
@@ -189,9 +140,9 @@ pub fn after_id(
     number: u64,
 ) -> Result<Phase, AllocError>
     ensures step { (bytes : ℕ) → IfOk result (λ phase. (groups_of groups.new.items, step_of phase) ≡ outline_advanced bytes number (groups_of groups.old.items, OnId (many_of many) (head_of head) members ids.items left)) }
-    ensures placed { IfOk result (IsPlaced place.depth place.id) }
-    ensures rows { (p : Point) → OnOk result (flat.new ≡ applied (step_change p number place.depth place.id (OnId (many_of many) (head_of head) members ids.items left)) flat.old) }
-    ensures kept { IfOk result (λ phase. IsBody phase → groups_of groups.new.items ≡ groups_of groups.old.items) }
+    ensures placed { IfOk result (IsPlaced head.depth head.id) }
+    ensures rows { (p : Point) → OnOk result (flat.new ≡ applied (step_change p number head.depth head.id (OnId (many_of many) (head_of head) members ids.items left)) flat.old) }
+    ensures kept { IfOk result (λ phase. HasHead phase → groups_of groups.new.items ≡ groups_of groups.old.items) }
     ensures few { IsShallow groups.old.items → IsShallow groups.new.items }
 {
     ids.push(unzigzag(number))?;
@@ -204,12 +155,7 @@ pub fn after_id(
             left: left - 1,
         });
     }
-    let names = Names {
-        named: true,
-        ids,
-        given: 0,
-    };
-    begin_many(flat, groups, place, many, head, names, members)
+    begin_members(flat, groups, many, head, Names::new(true, ids), members)
 }
 
 /// Whether a geometry that ends behind so many bytes has the size that it declared, if any.

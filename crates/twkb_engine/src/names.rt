@@ -1,5 +1,5 @@
 //! The ids of the members of a body.
-ghost use Rattle.std.specs.Prelude.{◌≡◌};
+ghost use Rattle.std.specs.Prelude.{◌≡◌, if◌then◌else◌, Some, None};
 ghost use Rattle.twkb_geom.specs.Rows.{first_id, other_ids};
 
 /// The ids of the members, if they have any, and how many of them were given.
@@ -12,6 +12,17 @@ pub struct Names {
 
 impl Names {
     ghost use Rattle.twkb_engine.specs.Names.{ids_of};
+
+    /// No ids, or these.
+    pub fn new(named: bool, ids: Vec<i64>) -> Names
+        ensures { ids_of result ≡ (if named then Some ids.items else None) }
+    {
+        Names {
+            named,
+            ids,
+            given: 0,
+        }
+    }
 
     /// The id of the member that stands open.
     pub fn next(&self) -> Option<i64>

@@ -37,17 +37,6 @@ pub enum Optional {
     Box { left: u8 },
 }
 
-/// What stands behind a header's byte or part.
-#[derive(Clone, Copy, Debug, PartialEq, Eq)]
-pub enum Behind {
-    /// An optional part.
-    Part(Optional),
-    /// The body.
-    Body,
-    /// No body: the geometry ends.
-    Nothing,
-}
-
 /// A collection that is begun and not finished: its header, the ids from the member on that stands open, and how many follow
 /// that one.
 #[derive(Debug, Drop)]
@@ -74,12 +63,10 @@ impl MadeWith<Global> for Group {
                 metadata: 0,
                 size: None,
                 from: 0,
+                depth: 0,
+                id: None,
             },
-            names: Names {
-                named: false,
-                ids: Vec::new(alloc),
-                given: 0,
-            },
+            names: Names::new(false, Vec::new(alloc)),
             left: 0,
         }
     }

@@ -12,30 +12,16 @@ pub struct Typed {
     ghost fits: { IsPrecision precision },
 }
 
-/// A header: what its type byte and metadata byte say, its size if it has one, and behind how many bytes that counts.
+/// A header: what its type byte and metadata byte say, its size if it has one, and behind how many bytes that counts; and where its
+/// geometry stands, how deep and with which id.
 #[derive(Clone, Copy, Debug)]
 pub struct Head {
     pub precision: i8,
     pub metadata: u8,
     pub size: Option<u64>,
     pub from: u64,
-    ghost fits: { IsPrecision precision },
-}
-
-/// How deep a geometry stands, and its id.
-#[derive(Clone, Copy, Debug)]
-pub struct Place {
     pub depth: u32,
     pub id: Option<i64>,
-    ghost shallow: { depth + 2 < 2 ^ 32 },
-}
-
-/// Where a geometry stands among the rows.
-#[derive(Clone, Copy, Debug)]
-pub struct Site {
-    pub depth: u32,
-    pub id: Option<i64>,
-    pub precision: i8,
-    ghost shallow: { depth + 2 < 2 ^ 32 },
     ghost fits: { IsPrecision precision },
+    ghost shallow: { depth + 2 < 2 ^ 32 },
 }

@@ -1,19 +1,18 @@
 //! Points that stand whole in front of the bytes, taken many at a time.
-ghost use Rattle.std.specs.Prelude.{◌≡◌, ℕ, ◌∷◌, ◌<◌, ◌≤◌, ◌+◌, ◌^◌, IfOk, IfSome, None, Some, true, false, take, length};
+ghost use Rattle.std.specs.Prelude.{◌≡◌, ℕ, ◌∷◌, ◌<◌, ◌≤◌, ◌+◌, ◌^◌, IfOk, IfSome, None, true, take, length};
 ghost use Rattle.twkb_geom.specs.Rows.{row_points};
 ghost use Rattle.twkb_geom.specs.RowGrowth.{EndsInLine};
-ghost use Rattle.twkb_grammar.specs.Machine.{Head};
 ghost use Rattle.twkb_outline.specs.Outline.{next_ids};
-ghost use Rattle.twkb_engine.specs.Body.{form_of, lefts_of, step_at, ids_at};
+ghost use Rattle.twkb_engine.specs.Body.{form_of, lefts_of};
 ghost use Rattle.twkb_engine.specs.Names.{ids_of};
-ghost use Rattle.twkb_engine.specs.State.{goes_on};
-ghost use Rattle.twkb_engine.specs.Running.{ListRuns, PhaseRuns, HasLists, outer};
+ghost use Rattle.twkb_engine.specs.Running.{ListRuns, HasLists, outer};
+ghost use Rattle.twkb_engine.specs.declared.place.Head.{Head};
 
 use crate::body::Body;
 use crate::front::front_point;
 use crate::lefts::{Lefts, Spot, shut_point};
 use crate::names::Names;
-use crate::phase::Phase;
+use crate::place::Head;
 use crate::site::{Form, put_point};
 use std::alloc::AllocError;
 use twkb_flat::Flat;
@@ -42,43 +41,27 @@ fn takes_points(flat: &Flat, count: u64) -> bool
     count <= MOST_POINTS - u64::from(flat.point_count())
 }
 
-/// Points of a list that were taken: how many bytes they had, the last of them, or where none was taken the point before, and how
-/// many values are left behind the one that is wanted then.
-#[derive(Clone, Copy, Debug, PartialEq, Eq)]
-struct Listed {
-    used: usize,
-    position: Pt,
-    left: u64,
-}
-
-/// Takes points of a list that stand whole in front, while others have to follow them. Takes memory.
-fn take_list(flat: &mut Flat, most: u64, from: Pt, bytes: &[u8]) -> Result<Listed, AllocError>
+/// Takes points of a list that stand whole in front, while others have to follow them, and answers how many values are left behind the
+/// one that is wanted then. Takes memory.
+fn take_list(flat: &mut Flat, most: u64, from: Pt, bytes: &[u8]) -> Result<(Taken, u64), AllocError>
     requires line { EndsInLine flat.old }
     requires room { length (row_points flat.old) + most ≤ 2 ^ 24 }
-    ensures run { IfOk result (λ taken. ListRuns flat.old most from (take taken.used bytes.now) flat.new taken.left taken.position) }
-    ensures within { IfOk result (λ taken. taken.used ≤ length bytes.now) }
+    ensures run { IfOk result (λ taken. ListRuns flat.old most from (take taken.0.used bytes.now) flat.new taken.1 taken.0.position) }
+    ensures within { IfOk result (λ taken. taken.0.used ≤ length bytes.now) }
 {
     let mut used = 0;
     let mut position = from;
     let mut left = most;
     while left > 0 {
         let Some((to, count)) = front_point(position, &bytes[used..]) else {
-            return Ok(Listed {
-                used,
-                position,
-                left,
-            });
+            break;
         };
         flat.add_point(to)?;
         left -= 1;
         position = to;
         used += count;
     }
-    Ok(Listed {
-        used,
-        position,
-        left,
-    })
+    Ok((Taken { used, position }, left))
 }
 
 /// How many values are left in the innermost list, if there are any.
@@ -127,30 +110,18 @@ fn has_lists(form: Form) -> bool
 }
 
 impl Body {
-    ghost use Rattle.twkb_engine.specs.Steps.{body_at};
     ghost use Rattle.twkb_engine.specs.Running.{RunsTo};
-
-    /// Goes to what follows a value behind which the body goes on.
-    fn go_to(&mut self, spot: Spot, next_member: bool)
-        ensures step { (h : Head) → step_at h (form_of self.old.form) (ids_at next_member (ids_of self.old.names)) (Some spot) ≡ body_at h self.new false }
-        ensures site { self.new.site ≡ self.old.site }
-        ensures form { self.new.form ≡ self.old.form }
-    {
-        if next_member {
-            self.names.go_on();
-        }
-        self.spot = spot;
-    }
 
     /// Takes a point that stands whole in front, where one is wanted with which the body is not done; `None` changes nothing. Takes
     /// memory.
     fn take_point(
         &mut self,
         flat: &mut Flat,
+        head: Head,
         from: Pt,
         bytes: &[u8],
     ) -> Result<Option<Taken>, AllocError>
-        ensures run { IfOk result (λ found. IfSome found (λ taken. RunsTo self.old flat.old from (take taken.used bytes.now) self.new flat.new taken.position)) }
+        ensures run { IfOk result (λ found. IfSome found (λ taken. RunsTo head self.old flat.old from (take taken.used bytes.now) self.new flat.new taken.position)) }
         ensures some { IfOk result (λ found. IfSome found (λ taken. (0 < taken.used) × (taken.used ≤ length bytes.now))) }
         ensures left { IfOk result (λ found. found ≡ None → (self.new ≡ self.old) × (flat.new ≡ flat.old)) }
     {
@@ -158,27 +129,33 @@ impl Body {
             return Ok(None);
         };
         let after = shut_point(lefts);
-        let Some(next) = after.spot else {
+        let Some(_) = after.spot else {
             return Ok(None);
         };
         let Some((position, used)) = front_point(from, bytes) else {
             return Ok(None);
         };
         let member = self.names.next();
-        put_point(flat, self.site, self.form, member, position)?;
-        self.go_to(next, after.next_member);
+        put_point(flat, head, self.form, member, position)?;
+        self.go_behind(after);
         Ok(Some(Taken { used, position }))
     }
 
     /// Takes points as far as they stand whole in front and the body is not done with them. Takes memory.
-    fn take_each(&mut self, flat: &mut Flat, from: Pt, bytes: &[u8]) -> Result<Taken, AllocError>
-        ensures run { IfOk result (λ taken. RunsTo self.old flat.old from (take taken.used bytes.now) self.new flat.new taken.position) }
+    fn take_each(
+        &mut self,
+        flat: &mut Flat,
+        head: Head,
+        from: Pt,
+        bytes: &[u8],
+    ) -> Result<Taken, AllocError>
+        ensures run { IfOk result (λ taken. RunsTo head self.old flat.old from (take taken.used bytes.now) self.new flat.new taken.position) }
         ensures within { IfOk result (λ taken. taken.used ≤ length bytes.now) }
     {
         let mut used = 0;
         let mut position = from;
         while used < bytes.len() {
-            let Some(taken) = self.take_point(flat, position, &bytes[used..])? else {
+            let Some(taken) = self.take_point(flat, head, position, &bytes[used..])? else {
                 return Ok(Taken { used, position });
             };
             used += taken.used;
@@ -190,7 +167,7 @@ impl Body {
     /// Takes points of the list that stands open, but not its last, as far as they stand whole in front; none where each is a row of its
     /// own. Takes memory.
     fn take_in_list(&mut self, flat: &mut Flat, from: Pt, bytes: &[u8]) -> Result<Taken, AllocError>
-        ensures run { IfOk result (λ taken. RunsTo self.old flat.old from (take taken.used bytes.now) self.new flat.new taken.position) }
+        ensures run { (h : Head) → IfOk result (λ taken. RunsTo h self.old flat.old from (take taken.used bytes.now) self.new flat.new taken.position) }
         ensures within { IfOk result (λ taken. taken.used ≤ length bytes.now) }
     {
         let none = Taken {
@@ -212,50 +189,27 @@ impl Body {
         if !takes_points(flat, most) {
             return Err(AllocError);
         }
-        let taken = take_list(flat, most, from, bytes)?;
-        self.spot = Spot::X(with_left(lefts, taken.left));
-        Ok(Taken {
-            used: taken.used,
-            position: taken.position,
-        })
+        let (taken, left) = take_list(flat, most, from, bytes)?;
+        self.spot = Spot::X(with_left(lefts, left));
+        Ok(taken)
     }
 
     /// Takes points as far as they stand whole in front and the body is not done with them. Takes memory.
     pub fn take_points(
         &mut self,
         flat: &mut Flat,
+        head: Head,
         from: Pt,
         bytes: &[u8],
     ) -> Result<Taken, AllocError>
-        ensures run { IfOk result (λ taken. RunsTo self.old flat.old from (take taken.used bytes.now) self.new flat.new taken.position) }
+        ensures run { IfOk result (λ taken. RunsTo head self.old flat.old from (take taken.used bytes.now) self.new flat.new taken.position) }
         ensures within { IfOk result (λ taken. taken.used ≤ length bytes.now) }
     {
         let first = self.take_in_list(flat, from, bytes)?;
-        let rest = self.take_each(flat, first.position, &bytes[first.used..])?;
+        let rest = self.take_each(flat, head, first.position, &bytes[first.used..])?;
         Ok(Taken {
             used: first.used + rest.used,
             position: rest.position,
         })
-    }
-}
-
-/// Takes points of a body as far as they stand whole in front and it is not done with them; none where no body stands open. Takes
-/// memory.
-pub fn take_points(
-    flat: &mut Flat,
-    phase: &mut Phase,
-    from: Pt,
-    bytes: &[u8],
-) -> Result<Taken, AllocError>
-    ensures run { IfOk result (λ taken. PhaseRuns phase.old flat.old from (take taken.used bytes.now) phase.new flat.new taken.position) }
-    ensures within { IfOk result (λ taken. taken.used ≤ length bytes.now) }
-    ensures goes_on { goes_on phase.new ≡ goes_on phase.old }
-{
-    match phase {
-        Phase::Body(_, body) => body.take_points(flat, from, bytes),
-        _ => Ok(Taken {
-            used: 0,
-            position: from,
-        }),
     }
 }

@@ -7,7 +7,7 @@ ghost use Rattle.twkb_engine.specs.Body.{form_of};
 ghost use Rattle.twkb_engine.specs.State.{kind_of};
 
 use crate::phase::Kind;
-use crate::place::Site;
+use crate::place::Head;
 use std::alloc::AllocError;
 use twkb_flat::{Flat, Row};
 use twkb_geom::Kind as RowKind;
@@ -26,7 +26,7 @@ pub enum Form {
 
 /// Appends a row with these points, if it goes on with the rows: wherever a reader stands it does. Takes memory; an `Err` changes
 /// nothing.
-fn push_row(flat: &mut Flat, row: Row, points: &[Pt]) -> Result<(), AllocError>
+pub fn push_row(flat: &mut Flat, row: Row, points: &[Pt]) -> Result<(), AllocError>
     ensures pushed { OnOk result (flat.new ≡ flat.old ++ row_with row points.now ∷ []) }
     ensures same { OnErr result (flat.new ≡ flat.old) }
 {
@@ -40,27 +40,27 @@ fn push_row(flat: &mut Flat, row: Row, points: &[Pt]) -> Result<(), AllocError>
 /// they do. Takes memory; an `Err` changes nothing.
 pub fn put_point(
     flat: &mut Flat,
-    site: Site,
+    head: Head,
     form: Form,
     member: Option<i64>,
     point: Pt,
 ) -> Result<(), AllocError>
-    ensures put { OnOk result (flat.new ≡ applied (point_change point site.depth site.id site.precision (form_of form) member) flat.old) }
+    ensures put { OnOk result (flat.new ≡ applied (point_change point head.depth head.id head.precision (form_of form) member) flat.old) }
     ensures same { OnErr result (flat.new ≡ flat.old) }
 {
     match form {
         Form::Point => {
             let row = Row {
-                depth: site.depth,
+                depth: head.depth,
                 kind: RowKind::Point,
-                id: site.id,
-                precision: Some(site.precision),
+                id: head.id,
+                precision: Some(head.precision),
             };
             push_row(flat, row, &[point])
         }
         Form::MultiPoint => {
             let row = Row {
-                depth: site.depth + 1,
+                depth: head.depth + 1,
                 kind: RowKind::Point,
                 id: member,
                 precision: None,
@@ -92,14 +92,14 @@ fn row_kind(kind: Kind) -> RowKind
 }
 
 /// A geometry's own row.
-pub fn whole_row(site: Site, kind: Kind) -> Row
-    ensures { row_with result [] ≡ own_of site.depth site.id (kind_of kind) site.precision }
+pub fn whole_row(head: Head, kind: Kind) -> Row
+    ensures { row_with result [] ≡ own_of head.depth head.id (kind_of kind) head.precision }
 {
     Row {
-        depth: site.depth,
+        depth: head.depth,
         kind: row_kind(kind),
-        id: site.id,
-        precision: Some(site.precision),
+        id: head.id,
+        precision: Some(head.precision),
     }
 }
 
@@ -116,31 +116,23 @@ fn part_row(depth: u32, kind: RowKind, id: Option<i64>) -> Row
 }
 
 /// The row of a list of points that begins.
-pub fn line_row(site: Site, form: Form, member: Option<i64>) -> Row
-    ensures { row_with result [] ≡ list_row site.depth site.id site.precision (form_of form) member 0 }
+pub fn line_row(head: Head, form: Form, member: Option<i64>) -> Row
+    ensures { row_with result [] ≡ list_row head.depth head.id head.precision (form_of form) member 0 }
 {
     match form {
-        Form::Polygon => part_row(site.depth + 1, RowKind::Ring, None),
-        Form::MultiLine => part_row(site.depth + 1, RowKind::Linestring, member),
-        Form::MultiPolygon => part_row(site.depth + 2, RowKind::Ring, None),
-        _ => whole_row(site, Kind::Simple(form)),
+        Form::Polygon => part_row(head.depth + 1, RowKind::Ring, None),
+        Form::MultiLine => part_row(head.depth + 1, RowKind::Linestring, member),
+        Form::MultiPolygon => part_row(head.depth + 2, RowKind::Ring, None),
+        _ => whole_row(head, Kind::Simple(form)),
     }
 }
 
 /// The row of a list of lines or rings that begins.
-pub fn area_row(site: Site, form: Form, member: Option<i64>) -> Row
-    ensures { row_with result [] ≡ list_row site.depth site.id site.precision (form_of form) member 1 }
+pub fn area_row(head: Head, form: Form, member: Option<i64>) -> Row
+    ensures { row_with result [] ≡ list_row head.depth head.id head.precision (form_of form) member 1 }
 {
     match form {
-        Form::MultiPolygon => part_row(site.depth + 1, RowKind::Polygon, member),
-        _ => whole_row(site, Kind::Simple(form)),
+        Form::MultiPolygon => part_row(head.depth + 1, RowKind::Polygon, member),
+        _ => whole_row(head, Kind::Simple(form)),
     }
-}
-
-/// Begins a row, if it goes on with the rows: wherever a reader stands it does. Takes memory; an `Err` changes nothing.
-pub fn begin_row(flat: &mut Flat, row: Row) -> Result<(), AllocError>
-    ensures begun { OnOk result (flat.new ≡ flat.old ++ row_with row [] ∷ []) }
-    ensures same { OnErr result (flat.new ≡ flat.old) }
-{
-    push_row(flat, row, &[])
 }

@@ -8,25 +8,10 @@ ghost use Rattle.twkb_engine.specs.Led.{IsLed, IsPut};
 use crate::header::{after_metadata, after_option, after_type};
 use crate::members::{after_count, after_id};
 use crate::phase::{Groups, Phase};
-use crate::place::{Head, Place};
+use crate::place::Head;
 use std::alloc::{AllocError, Global};
 use twkb_flat::Flat;
 use twkb_points::Pt;
-
-/// Where the geometry stands that is read in these collections.
-fn place_in(groups: &Groups) -> Place
-    requires { IsShallow groups.now.items }
-    ensures depth { result.depth ≡ length (groups_of groups.now.items) }
-    ensures id { result.id ≡ id_in (groups_of groups.now.items) }
-{
-    let depth = groups.len();
-    if depth == 0 {
-        return Place { depth: 0, id: None };
-    }
-    let id = groups[depth - 1].names.next();
-    let depth = depth as u32;
-    Place { depth, id }
-}
 
 /// What a number of a body led to.
 pub enum Led {
@@ -52,7 +37,7 @@ pub fn take_in_body(
 {
     match phase {
         Phase::Body(head, body) => {
-            if body.take(flat, number, position)? {
+            if body.take(flat, *head, number, position)? {
                 Ok(Led::Ended(*head))
             } else {
                 Ok(Led::On)
@@ -83,28 +68,18 @@ pub fn next(
 {
     match phase {
         Phase::Header => Ok(after_type(number)),
-        Phase::Metadata(typed) => {
-            let place = place_in(groups);
-            after_metadata(flat, alloc, place, typed, bytes, number)
-        }
+        Phase::Metadata(typed) => after_metadata(flat, alloc, groups, typed, bytes, number),
         Phase::Optional { kind, head, part } => {
-            let place = place_in(groups);
-            after_option(flat, alloc, place, kind, head, part, bytes, number)
+            after_option(flat, alloc, kind, head, part, bytes, number)
         }
-        Phase::Count { many, head } => {
-            let place = place_in(groups);
-            after_count(flat, alloc, groups, place, many, head, number)
-        }
+        Phase::Count { many, head } => after_count(flat, alloc, groups, many, head, number),
         Phase::Id {
             many,
             head,
             members,
             ids,
             left,
-        } => {
-            let place = place_in(groups);
-            after_id(flat, groups, place, many, head, members, ids, left, number)
-        }
+        } => after_id(flat, groups, many, head, members, ids, left, number),
         Phase::Body(_, _) | Phase::End(_) => unreachable!(),
     }
 }

@@ -1,12 +1,13 @@
 -- Canonical decimals, as std reads and prints them.
-use Rattle.std.proofs.Common.{◌≡◌, ℕ, ◌+◌, ◌-◌, ◌<◌, ◌≤◌, ◌^◌, int_le, nat_abs, true, List, [], ◌∷◌, length, slice_index_or, decimal, Result, Ok, Err, sym, ◌∙◌, ap, subst, arith, ℤ, pos, negsuc, FitsSigned, w64}
+use Rattle.std.proofs.Common.{◌≡◌, ℕ, ◌+◌, ◌-◌, ◌<◌, ◌≤◌, ◌^◌, int_le, nat_abs, ◌==◌, true, false, List, [], ◌∷◌, length, slice_index_or, get_or, take, decimal, ◌++◌, ◌*◌, ◌/◌, ◌%◌, Result, Ok, Err, sym, ◌∙◌, ap, subst, arith, ℤ, pos, negsuc, FitsSigned, w64}
 use Rattle.std.proofs.lemmas.Bool.{leb-true}
 use Rattle.std.proofs.lemmas.Int.{ints}
+use Rattle.std.proofs.lemmas.List.{take_more}
 use Rattle.std.specs.Fmt.{signed_decimal}
 use Rattle.std.specs.Int.Signed.{mag}
 use Rattle.std.specs.Str.{IsUtf8}
 use Rattle.std.specs.Str.Parse.{ParsesSigned}
-use Rattle.std.proofs.lemmas.Fmt.{decimal_digit, IsAscii-signed, parse-signed_decimal, signed_decimal_injective}
+use Rattle.std.proofs.lemmas.Fmt.{decimal_digit, decimal_step, IsAscii-signed, parse-signed_decimal, signed_decimal_injective}
 use Rattle.std.proofs.lemmas.Str.{IsUtf8-from_ascii}
 use Rattle.twkb_geom.specs.Tree.{IsId, IsPrecision}
 use Rattle.twkb_table.specs.Fields.{IsDepthField, IsIdField, IsPrecisionField}
@@ -71,3 +72,18 @@ one_digit (d ∷ e ∷ rest) some few low high = absurd (omega arith)
 pub digit_put : (number seen : ℤ) → seen ≡ number → int_le (pos 0) seen ≡ true → int_le seen (pos 9) ≡ true → signed_decimal number ≡ (48 + nat_abs seen) ∷ []
 digit_put number (pos n) same least most = ap signed_decimal (sym same) ∙ decimal_digit n (let few = leb-true n 9 most in omega arith)
 digit_put number (negsuc n) same least most = absurd (cc least)
+
+-- the first digit alone
+pub digit_first : (field : List ℕ) → false ≡ (length field == 0) → 49 ≤ get_or field 0 0 → get_or field 0 0 ≤ 57 → decimal (get_or field 0 0 - 48) ≡ take 1 field
+digit_first [] some low high = absurd (cc some)
+digit_first (d ∷ ds) some low high = let value : 48 + (d - 48) ≡ d = omega arith in decimal_digit (d - 48) (omega arith) ∙ ap (λ n. n ∷ []) value
+
+-- a digit more behind a number that is not 0
+pub digit_more : (field : List ℕ) (at n : ℕ) → at < length field → 0 < n → 48 ≤ get_or field at 0 → get_or field at 0 ≤ 57 → n * 10 + (get_or field at 0 - 48) < 2 ^ 64 → decimal n ≡ take at field
+    → decimal (n * 10 + (get_or field at 0 - 48)) ≡ take (at + 1) field
+digit_more field at n more some low high fits h =
+    let d = get_or field at 0 in
+    let m = n * 10 + (d - 48) in
+    let front : m / 10 ≡ n = omega arith in
+    let last : 48 + m % 10 ≡ d = omega arith in
+    decimal_step m (omega arith) fits ∙ ap (λ k. decimal k ++ (48 + m % 10) ∷ []) front ∙ ap (λ u. decimal n ++ u ∷ []) last ∙ ap (λ ds. ds ++ d ∷ []) h ∙ sym (take_more field at 0 more)

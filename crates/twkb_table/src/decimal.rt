@@ -11,6 +11,9 @@ const GREATEST_DEPTH: i64 = 999;
 /// The greatest number of one digit.
 const GREATEST_DIGIT: i64 = 9;
 
+/// The greatest number that is an i64 with any digit more behind it.
+const MOST_BEFORE_A_DIGIT: u64 = 922_337_203_685_477_579;
+
 const LEAST_PRECISION: i64 = -8;
 
 const GREATEST_PRECISION: i64 = 7;
@@ -45,10 +48,44 @@ pub fn parse_id(field: &[u8]) -> Option<i64>
     if let Some(id) = digit_of(field) {
         return Some(id);
     }
+    read_number(field)
+}
+
+/// The number that a field of digits spells, of which the first is not 0. `None` says nothing.
+#[inline(always)]
+fn digits_of(field: &[u8]) -> Option<i64>
+    ensures some { IfSome result (λ id. IsIdField field.now id) }
+{
+    if field.is_empty() {
+        return None;
+    }
+    let first = field[0];
+    if first < b'1' || b'9' < first {
+        return None;
+    }
+    let mut number = u64::from(first - b'0');
+    for at in 1..field.len() {
+        let digit = field[at];
+        if digit < b'0' || b'9' < digit || MOST_BEFORE_A_DIGIT < number {
+            return None;
+        }
+        number = number * 10 + u64::from(digit - b'0');
+    }
+    Some(number.cast_signed())
+}
+
+/// The id whose canonical decimal the field is, of any length: most are of a few digits alone.
+#[inline(never)]
+fn read_number(field: &[u8]) -> Option<i64>
+    ensures reads { Reads (IsIdField field.now) result }
+{
+    if let Some(id) = digits_of(field) {
+        return Some(id);
+    }
     read_decimal(field)
 }
 
-/// The id whose canonical decimal the field is, of any length.
+/// The same by std's reader and printer.
 #[inline(never)]
 fn read_decimal(field: &[u8]) -> Option<i64>
     ensures reads { Reads (IsIdField field.now) result }

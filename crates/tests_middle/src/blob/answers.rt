@@ -104,14 +104,6 @@ pub fn feeds_short_line(session: &mut Session, piece: &[u8], count: usize) -> bo
     }
 }
 
-/// Whether a session gives a geometry behind so many bytes of the piece.
-pub fn feeds_geometry(session: &mut Session, piece: &[u8], count: usize) -> bool {
-    match session.feed(piece) {
-        Ok((used, Some(_))) => used == count,
-        _ => false,
-    }
-}
-
 /// Whether a session refuses the piece with this fault.
 pub fn refuses_piece(session: &mut Session, piece: &[u8], fault: BlobFault) -> bool {
     match session.feed(piece) {

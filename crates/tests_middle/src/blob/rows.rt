@@ -1,6 +1,8 @@
 //! Rows of blobs in a flat form: by a reader and by a session, with the calls for trees between them, and what is left behind a fault,
 //! a failed read and want of memory. Run with each allocation refused in turn (`rt try --test --fail-alloc N`) too.
-use super::answers::{feeds_short_line, gives_end, gives_point, refuses, refuses_piece};
+use super::answers::{
+    feeds_short_line, gives_end, gives_point, refuses, refuses_end, refuses_piece,
+};
 use std::alloc::Global;
 use std::io::Read;
 use twkb_blob::{BlobFault, BlobReason, Reader, Session};
@@ -198,5 +200,60 @@ fn spans_are_given_without_a_geometry(rt: HostRuntime) {
     assert!(rt;
         count == Ok(4) || count == Err(BlobFault::Memory),
         "four headers"
+    );
+}
+
+/// A line of three points, and behind it, in 12 bytes, one that announces 2^24 points and has three.
+const ANNOUNCED: [u8; 21] = [
+    0x02, 0x00, 0x03, 0x02, 0x02, 0x02, 0x02, 0x02, 0x02, 0x02, 0x00, 0x80, 0x80, 0x80, 0x08, 0x02,
+    0x02, 0x02, 0x02, 0x02, 0x02,
+];
+
+/// What is answered at the end of these bytes.
+const CUT: BlobFault = BlobFault::At {
+    offset: 21,
+    reason: BlobReason::Truncated,
+};
+
+/// Whether a reader refuses the second line as cut, or lacked memory for the first.
+fn reads_into_grown_rows<R: Read>(alloc: Global, tap: &mut Tap<R>) -> bool {
+    let mut reader = Reader::new(Input::new(tap), Limits::standard());
+    let mut flat = Flat::new(alloc);
+    match reader.next_flat(alloc, &mut flat) {
+        Ok(is_made) => {
+            is_made && has(&flat, 1, 3) && refuses_rows(alloc, &mut reader, &mut flat, CUT)
+        }
+        Err(fault) => fault == BlobFault::Memory,
+    }
+}
+
+#[test]
+fn a_reader_reserves_nothing_for_an_announced_count(rt: HostRuntime) {
+    let mut tap = Tap::new(ANNOUNCED.as_slice());
+    assert!(rt;
+        reads_into_grown_rows(rt.alloc(), &mut tap),
+        "2^24 points in 12 bytes"
+    );
+}
+
+/// Whether a session takes the second line's bytes into grown rows, and then may not end.
+fn takes_the_second_line(session: &mut Session) -> bool {
+    feeds_rows(session, &ANNOUNCED[9..], (12, false), 1, 3) && refuses_end(session, CUT)
+}
+
+/// Whether a session refuses the second line as cut, or lacked memory for the first.
+fn feeds_into_grown_rows(session: &mut Session) -> bool {
+    match session.feed_flat(&ANNOUNCED[..9]) {
+        Ok((used, is_made)) => used == 9 && is_made && takes_the_second_line(session),
+        Err(fault) => fault == BlobFault::Memory,
+    }
+}
+
+#[test]
+fn a_session_reserves_nothing_for_an_announced_count(rt: HostRuntime) {
+    let mut session = Session::new(rt.alloc(), Limits::standard());
+    assert!(rt;
+        feeds_into_grown_rows(&mut session),
+        "2^24 points in 12 bytes"
     );
 }

@@ -1,7 +1,7 @@
 //! Sessions: bytes in pieces, what is held, and the end.
-use super::answers::{feeds_geometry, feeds_short_line, goes_on, refuses_end, refuses_piece};
-use twkb_blob::{BlobFault, BlobReason, Session};
-use twkb_geom::Limits;
+use super::answers::{feeds_short_line, goes_on, refuses_end, refuses_piece};
+use twkb_blob::{BlobFault, BlobReason, Session, laws};
+use twkb_geom::{Geometry, Limits, Shape};
 
 /// Whether half a line is used, and counted as a geometry that is begun.
 fn begins_a_line(session: &mut Session) -> bool {
@@ -61,14 +61,64 @@ fn ends_between_blobs(session: &mut Session, piece: &[u8]) -> bool {
     session.finish().is_ok() && refuses_piece(session, piece, BlobFault::Spent)
 }
 
+/// The member of a collection of precision 0 that has one, without ids.
+fn only_member(geometry: &Geometry) -> Option<&Geometry> {
+    if geometry.precision() != 0 {
+        return None;
+    }
+    match geometry.shape() {
+        Shape::Collection(members, None) => {
+            let members = members.as_slice();
+            if members.len() == 1 {
+                members.first()
+            } else {
+                None
+            }
+        }
+        _ => None,
+    }
+}
+
+/// Whether this is the empty point of precision 0.
+fn is_empty_point(geometry: &Geometry) -> bool {
+    geometry.precision() == 0 && matches!(geometry.shape(), Shape::Point(None))
+}
+
+/// Whether this is a collection of a collection of the empty point.
+fn is_nested_twice(geometry: &Geometry) -> bool {
+    let Some(inner) = only_member(geometry) else {
+        return false;
+    };
+    match only_member(inner) {
+        Some(point) => is_empty_point(point),
+        None => false,
+    }
+}
+
+/// Whether a session gives that geometry behind so many bytes of the piece.
+fn feeds_nested_twice(session: &mut Session, piece: &[u8], count: usize) -> bool {
+    match session.feed(piece) {
+        Ok((used, Some(geometry))) => used == count && is_nested_twice(&geometry),
+        _ => false,
+    }
+}
+
+/// Whether a session has so many geometries begun, and holds no byte of a number.
+fn has_begun(session: &Session, count: usize) -> bool {
+    session.frames() == count && session.held() == 0
+}
+
 #[test]
 fn collections_are_counted_as_they_open(rt: HostRuntime) {
     let mut session = Session::new(rt.alloc(), Limits::standard());
     let is_used = goes_on(&mut session, b"\x07\x00\x01\x07\x00\x01");
-    assert!(rt; is_used && session.frames() == 2, "two collections");
-    let is_used = feeds_geometry(&mut session, b"\x01\x10\x02", 2);
-    assert!(rt; is_used, "the empty point, and with it both collections");
-    let is_used = goes_on(&mut session, &[]);
+    assert!(rt; is_used && has_begun(&session, 2), "two collections");
+    let is_used = feeds_nested_twice(&mut session, b"\x01\x10\x02", 2);
+    assert!(rt;
+        is_used && has_begun(&session, 0),
+        "the empty point, and with it both collections"
+    );
+    let is_used = goes_on(&mut session, &[]) && has_begun(&session, 0);
     assert!(rt;
         is_used && ends_between_blobs(&mut session, &[]),
         "no bytes"
@@ -79,4 +129,9 @@ fn collections_are_counted_as_they_open(rt: HostRuntime) {
 fn a_new_session_ends_between_two_blobs(rt: HostRuntime) {
     let mut session = Session::new(rt.alloc(), Limits::standard());
     assert!(rt; ends_between_blobs(&mut session, b"\x01"), "no bytes");
+}
+
+#[test]
+fn the_law_of_counts_is_the_contract_of_a_function_that_does_nothing() {
+    laws::one_count();
 }

@@ -141,6 +141,21 @@ fn a_refusal_clears_the_form_and_is_for_good(rt: HostRuntime) {
     assert!(rt; refused(rt.alloc(), &mut tap, &mut flat));
 }
 
+/// Whether a reader of geometries gives the first point, refuses the record behind the second, and is
+/// spent.
+fn gives_one_and_refuses<R: Read>(alloc: Global, tap: &mut Tap<R>) -> bool {
+    let mut reader = TableReader::new(alloc, tap, Limits::standard());
+    gives(alloc, &mut reader, FIRST_POINT)
+        && reader.next().err() == Some(REFUSED)
+        && matches!(reader.next(), Err(TableFault::Spent))
+}
+
+#[test]
+fn a_refused_record_comes_behind_the_geometry_that_is_complete(rt: HostRuntime) {
+    let mut tap = Tap::new(TWO_AND_A_FAULT);
+    assert!(rt; gives_one_and_refuses(rt.alloc(), &mut tap));
+}
+
 const MANY_KINDS: &[u8] =
     b"depth,kind,id,precision,polyline\n0,multipolygon,,0,\n1,polygon,3,,\n2,ring,,,AA\n2,ring,,,\n1,polygon,4,,\n0,multilinestring,,0,\n1,linestring,,,\n0,linestring,,0,AAGG\n";
 

@@ -1,15 +1,19 @@
-use Rattle.std.proofs.Common.{rules, ◌≡◌, ◌∙◌, subst, refl, SFits, w64}
+use Rattle.std.proofs.Common.{rules, ◌≡◌, ◌∙◌, ap, subst, refl, SFits, w64}
+use Rattle.std.specs.Prelude.{◌+ℤ◌}
 use Rattle.std.proofs.lemmas.Int.{to_z-of_z}
+use Rattle.twkb_num.specs.Zigzag.{unzigzag_of}
 use Rattle.twkb_points.specs.Point.{IsCoordinate, point_at}
 use Rattle.twkb_engine.proofs.Ranges.{passes}
 use Rattle.twkb_engine.proofs.front.near.Goals as goal
 
 pub returns : goal.returns
 returns c =
-    let x_fits : SFits w64 c.near_x.result = search rules in
-    let y_fits : SFits w64 c.near_y.result = search rules in
-    let x_is = to_z-of_z w64 c.near_x.result x_fits ∙ c.near_x.ensures in
-    let y_is = to_z-of_z w64 c.near_y.result y_fits ∙ c.near_y.ensures in
+    let from_x : SFits w64 c.x.result = search rules in
+    let from_y : SFits w64 c.y.result = search rules in
+    let to_x : SFits w64 c.near_coordinate.result = search rules in
+    let to_y : SFits w64 c.near_coordinate-2.result = search rules in
+    let x_is = to_z-of_z w64 c.near_coordinate.result to_x ∙ (c.near_coordinate.ensures ∙ ap (λ z. z +ℤ unzigzag_of c.args.x) (to_z-of_z w64 c.x.result from_x ∙ c.x.ensures.value)) in
+    let y_is = to_z-of_z w64 c.near_coordinate-2.result to_y ∙ (c.near_coordinate-2.ensures ∙ ap (λ z. z +ℤ unzigzag_of c.args.y) (to_z-of_z w64 c.y.result from_y ∙ c.y.ensures.value)) in
     let kept = c.in_ok-to.ensures.range.0 refl in
     record {
       x_kept = passes _ (subst IsCoordinate x_is kept.0);

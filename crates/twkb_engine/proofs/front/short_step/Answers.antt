@@ -1,4 +1,4 @@
-use Rattle.std.proofs.Common.{◌≡◌, ◌∙◌, sym, subst, rules, SFits, w64}
+use Rattle.std.proofs.Common.{◌∙◌, sym, subst, rules, SFits, w64}
 use Rattle.std.proofs.lemmas.Int.{to_z-of_z}
 use Rattle.twkb_points.specs.Point.{IsCoordinate}
 use Rattle.twkb_engine.proofs.Numbers.{unzigzag_back, small_step}

@@ -1,15 +1,15 @@
 use Rattle.std.proofs.Common.{arith, length, ◌≡◌, ◌+◌, sym, ap, subst, ◌∙◌, IfSome}
 use Rattle.twkb_grammar.specs.Fault.{nodes_by, points_by, moved}
 use Rattle.twkb_engine.specs.State.{groups_of}
-use Rattle.twkb_engine.specs.Building.{sums_of, outline_in}
-use Rattle.twkb_engine.proofs.Adding.{nodes_fit, points_fit, added_sums}
+use Rattle.twkb_engine.specs.Building.{sums_of}
+use Rattle.twkb_engine.proofs.Adding.{sums_fit, added_sums}
 use Rattle.twkb_engine.proofs.builder.Builder.add.Goals as goal
 
 pub overflow_add-self-2 : goal.overflow_add-self-2
-overflow_add-self-2 c = let most = nodes_fit c.args.self.now c.args.number c.announced-nodes.result.0 c.requires.allowed c.announced-nodes.ensures.nodes in omega (arith, most)
+overflow_add-self-2 c = let most = (sums_fit c.args.self.now c.args.number c.announced-nodes.result.0 c.announced-nodes.result.1 c.requires.allowed c.announced-nodes.ensures.nodes c.announced-nodes.ensures.points).0 in omega (arith, most)
 
 pub overflow_add-self-3 : goal.overflow_add-self-3
-overflow_add-self-3 c = let most = points_fit c.args.self.now c.args.number c.announced-nodes.result.1 c.requires.allowed c.announced-nodes.ensures.points in omega (arith, most)
+overflow_add-self-3 c = let most = (sums_fit c.args.self.now c.args.number c.announced-nodes.result.0 c.announced-nodes.result.1 c.requires.allowed c.announced-nodes.ensures.nodes c.announced-nodes.ensures.points).1 in omega (arith, most)
 
 pub returns-clause-added : goal.returns-clause-added
 returns-clause-added c = λ i says en el.
@@ -19,7 +19,7 @@ returns-clause-added c = λ i says en el.
     (ap (λ n. c.args.self.now.points + n) (c.announced-nodes.ensures.points (length (groups_of c.args.self.now.groups.items)) c.args.self.now.bytes i.role says ∙ ap (λ n. points_by i.role n) (sym en)))
 
 pub invariant_of-self-clause-nodes_kept : goal.invariant_of-self-clause-nodes_kept
-invariant_of-self-clause-nodes_kept c = let most = nodes_fit c.args.self.now c.args.number c.announced-nodes.result.0 c.requires.allowed c.announced-nodes.ensures.nodes in omega (arith, most)
+invariant_of-self-clause-nodes_kept c = let most = (sums_fit c.args.self.now c.args.number c.announced-nodes.result.0 c.announced-nodes.result.1 c.requires.allowed c.announced-nodes.ensures.nodes c.announced-nodes.ensures.points).0 in omega (arith, most)
 
 pub invariant_of-self-clause-points_kept : goal.invariant_of-self-clause-points_kept
-invariant_of-self-clause-points_kept c = let most = points_fit c.args.self.now c.args.number c.announced-nodes.result.1 c.requires.allowed c.announced-nodes.ensures.points in omega (arith, most)
+invariant_of-self-clause-points_kept c = let most = (sums_fit c.args.self.now c.args.number c.announced-nodes.result.0 c.announced-nodes.result.1 c.requires.allowed c.announced-nodes.ensures.nodes c.announced-nodes.ensures.points).1 in omega (arith, most)

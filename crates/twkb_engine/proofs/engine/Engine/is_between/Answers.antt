@@ -4,7 +4,7 @@ use Rattle.twkb_grammar.specs.Fault.{FirstFault, Truncated}
 use Rattle.twkb_engine.specs.State.{groups_of}
 use Rattle.twkb_engine.specs.Building.{sums_of, outline_in}
 use Rattle.twkb_engine.proofs.Roles.{has_role, is_number, no_end}
-use Rattle.twkb_engine.proofs.Feeding.{cut_number, none_of, spelled_by, not_none}
+use Rattle.twkb_engine.proofs.Feeding.{none_of, spelled_by, not_none}
 use Rattle.twkb_engine.proofs.engine.Engine.is_between.Goals as goal
 
 pub returns-then-len-gt0 : goal.returns-then-len-gt0
@@ -14,17 +14,18 @@ returns-then-len-gt0 c = λ bs rs s.
     let r = has_role level b.bytes b.phase b.waits in
     let held = c.args.self.now.partial in
     let some : 0 < length held = omega (arith, c.len.ensures.count, c.if-len-gt0.true) in
+    let begun = (c.varints.ensures.begun held).1 c.len.ensures.held in
     subst (λ l. FirstFault b.limits l b.bytes Truncated) (sym s.whole)
-    (c.reading.ensures.cut b.limits s.front (sums_of b) (outline_in b) rs held r.0 s.outlined r.1 (is_number level b.bytes b.phase b.waits (spelled_by b.phase held some s.spelled)) (cut_number held ((c.varints.ensures.begun held).1 c.len.ensures.held)))
+    (c.reading.ensures.cut b.limits s.front (sums_of b) (outline_in b) rs held r.0 s.outlined r.1 (is_number level b.bytes b.phase b.waits (spelled_by b.phase held some s.spelled)) (omega (arith, begun.room), begun.high))
 
-pub returns-then-bytes-gt0 : goal.returns-then-bytes-gt0
-returns-then-bytes-gt0 c = λ bs rs s.
+pub returns-then-self-gt0 : goal.returns-then-self-gt0
+returns-then-self-gt0 c = λ bs rs s.
     let b = c.args.self.now.builder in
     let level = length (groups_of b.groups.items) in
     let r = has_role level b.bytes b.phase b.waits in
     let held = c.args.self.now.partial in
     let none : held ≡ [] = none_of held (omega (arith, c.len.ensures.count, c.if-len-gt0.false)) in
-    let some : 0 < length s.front = omega (arith, c.reading.ensures.offset b.limits s.front (sums_of b) (outline_in b) rs s.outlined, c.bytes.ensures, c.if-bytes-gt0.true) in
+    let some : 0 < length s.front = omega (arith, c.reading.ensures.offset b.limits s.front (sums_of b) (outline_in b) rs s.outlined, c.if-self-gt0.true) in
     subst (λ l. FirstFault b.limits l b.bytes Truncated) (sym (s.whole ∙ (ap (λ l. s.front ++ l) none ∙ append-nil s.front)))
     (c.reading.ensures.missing b.limits s.front (sums_of b) (outline_in b) rs r.0 s.outlined r.1 (not_none s.front some) (no_end level b.bytes b.phase b.waits))
 
@@ -33,5 +34,5 @@ returns c = λ bs rs s.
     let b = c.args.self.now.builder in
     let held = c.args.self.now.partial in
     let none : held ≡ [] = none_of held (omega (arith, c.len.ensures.count, c.if-len-gt0.false)) in
-    let front : s.front ≡ [] = none_of s.front (omega (arith, c.reading.ensures.offset b.limits s.front (sums_of b) (outline_in b) rs s.outlined, c.bytes.ensures, c.if-bytes-gt0.false)) in
+    let front : s.front ≡ [] = none_of s.front (omega (arith, c.reading.ensures.offset b.limits s.front (sums_of b) (outline_in b) rs s.outlined, c.if-self-gt0.false)) in
     s.whole ∙ (ap (λ l. s.front ++ l) none ∙ ap (λ l. l ++ []) front)

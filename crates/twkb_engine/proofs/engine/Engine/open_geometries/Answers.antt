@@ -1,10 +1,27 @@
-use Rattle.std.proofs.Common.{arith}
+use Rattle.std.proofs.Common.{◌≡◌, ◌+◌, suc, length, ◌∙◌, sym, [], arith}
 use Rattle.twkb_outline.proofs.Outlined.{outlined_depth}
+use Rattle.twkb_engine.specs.State.{groups_of}
 use Rattle.twkb_engine.specs.Building.{sums_of, outline_in}
-use Rattle.twkb_engine.proofs.Opening.{few_open}
+use Rattle.twkb_engine.proofs.Groups.{groups_length}
+use Rattle.twkb_engine.proofs.Opening.{one_inside}
 use Rattle.twkb_engine.proofs.engine.Engine.open_geometries.Goals as goal
 
-pub returns-clause-few : goal.returns-clause-few
-returns-clause-few c = λ bs rs s.
+pub returns-in-Header-clause-open : goal.returns-in-Header-clause-open
+returns-in-Header-clause-open c =
+    let as_many : c.len-groups.result ≡ length (groups_of c.args.self.now.builder.groups.items) = omega (arith, groups_length [] c.args.self.now.builder.groups.items, c.len-groups.ensures.value) in
+    rw c.in-Header.is as_many
+
+pub returns-in-Header-clause-few : goal.returns-in-Header-clause-few
+returns-in-Header-clause-few c = λ bs rs s.
     let b = c.args.self.now.builder in
-    omega (arith, c.open_geometries.ensures, few_open (outline_in b) b.limits.nest (outlined_depth b.limits s.front (sums_of b) (outline_in b) rs s.outlined))
+    omega (arith, c.len-groups.ensures.value, groups_length [] b.groups.items, outlined_depth b.limits s.front (sums_of b) (outline_in b) rs s.outlined)
+
+pub returns-in_default-clause-open : goal.returns-in_default-clause-open
+returns-in_default-clause-open c =
+    let as_many : c.len-groups.result + 1 ≡ suc (length (groups_of c.args.self.now.builder.groups.items)) = omega (arith, groups_length [] c.args.self.now.builder.groups.items, c.len-groups.ensures.value) in
+    as_many ∙ sym (one_inside (groups_of c.args.self.now.builder.groups.items) c.args.self.now.builder.phase c.in_default.not-Header)
+
+pub returns-in_default-clause-few : goal.returns-in_default-clause-few
+returns-in_default-clause-few c = λ bs rs s.
+    let b = c.args.self.now.builder in
+    omega (arith, c.len-groups.ensures.value, groups_length [] b.groups.items, outlined_depth b.limits s.front (sums_of b) (outline_in b) rs s.outlined)

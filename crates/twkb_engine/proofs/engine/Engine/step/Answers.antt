@@ -1,19 +1,18 @@
-use Rattle.std.proofs.Common.{rules, ◌≡◌, refl, ◌+◌, ◌∙◌, subst, sym, ap, length, ◌++◌, ◌∷◌, [], arith}
-use Rattle.twkb_engine.specs.State.{IsSpelled, IsByte}
+use Rattle.std.proofs.Common.{rules, ◌≡◌, refl, ◌∙◌, ◌++◌, ◌∷◌, [], arith}
 use Rattle.twkb_engine.specs.Standing.{held_in}
-use Rattle.twkb_engine.proofs.Stepping.{Takes, byte_stepped, number_stepped, long_refused}
+use Rattle.twkb_engine.proofs.Stepping.{byte_stepped, number_stepped, long_refused}
 use Rattle.twkb_engine.proofs.engine.Engine.step.Goals as goal
 
 pub returns-then-wants_byte-clause-step : goal.returns-then-wants_byte-clause-step
 returns-then-wants_byte-clause-step c = λ bs s.
     let same : c.args.byte ≡ c.from.result = search rules in
-    byte_stepped bs c.args.byte c.args.flat.now c.take.new.flat c.args.self.now (record { builder = c.take.new.self; partial = c.args.self.now.partial }) c.take.result s (subst IsByte c.phase.ensures (c.wants_byte.ensures.byte c.if-wants_byte.true)) c.ranges.byte.fits refl (λ front i b says gives at len. c.take.ensures.taken front i b says gives (at ∙ same) len)
+    byte_stepped bs c.args.byte c.args.flat.now c.take.new.flat c.args.self.now (record { builder = c.take.new.self; partial = c.args.self.now.partial }) c.take.result s (c.wants_byte.ensures.byte c.if-wants_byte.true) c.ranges.byte.fits refl (λ front i b says gives at len. c.take.ensures.taken front i b says gives (at ∙ same) len)
 
 pub returns-in-Done-clause-step : goal.returns-in-Done-clause-step
 returns-in-Done-clause-step c = λ bs s.
     let d = c.args.self.now in
     let whole = (c.varints.ensures.whole (held_in d ++ c.args.byte ∷ []) c.in-Done.value).1 c.in-Done.ensures.answer.0 in
-    number_stepped bs c.args.byte c.in-Done.value c.args.flat.now c.take-in-Done.new.flat d (record { builder = c.take-in-Done.new.self; partial = c.step.new.self }) c.take-in-Done.result s (subst IsSpelled c.phase.ensures (c.wants_byte.ensures.spelled c.if-wants_byte.false)) whole c.in-Done.ensures.held
+    number_stepped bs c.args.byte c.in-Done.value c.args.flat.now c.take-in-Done.new.flat d (record { builder = c.take-in-Done.new.self; partial = c.step.new.self }) c.take-in-Done.result s (c.wants_byte.ensures.spelled c.if-wants_byte.false) whole c.in-Done.ensures.held
     (λ front i b says gives at len. c.take-in-Done.ensures.taken front i b says gives at (len ∙ omega (arith, c.len.ensures.count)))
 
 pub returns-in-TooLong-clause-step : goal.returns-in-TooLong-clause-step
@@ -21,4 +20,4 @@ returns-in-TooLong-clause-step c = λ bs s more.
     let d = c.args.self.now in
     let begun = (c.varints.ensures.begun (held_in d)).1 c.len.ensures.held in
     let long = (c.long_varints.ensures (held_in d) c.args.byte begun c.ranges.byte.fits).0 c.in-TooLong.ensures.answer in
-    long_refused bs more c.args.byte c.args.flat.now d s (subst IsSpelled c.phase.ensures (c.wants_byte.ensures.spelled c.if-wants_byte.false)) begun long.0 long.1
+    long_refused bs more c.args.byte c.args.flat.now d s (c.wants_byte.ensures.spelled c.if-wants_byte.false) begun long.0 long.1

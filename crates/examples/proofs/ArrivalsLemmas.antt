@@ -1,0 +1,109 @@
+-- Pieces of a stream, taken by a session.
+use Rattle.std.proofs.Common.{◌≡◌, ◌∙◌, ◌+◌, ◌<◌, ◌≤◌, ◌^◌, ℕ, Bool, true, false, List, [], ◌∷◌, ◌++◌, Option, length, take, drop, ap, arith, refl, sym, subst, append_assoc, length-append, length-drop}
+use Rattle.std.specs.Prelude.{Ok}
+use Rattle.std.proofs.lemmas.List.{append-nil, take-append-drop}
+use Rattle.std.proofs.Math.Seq.{take-add}
+use Rattle.std.proofs.KnownBytes.{Consumes-nil, Consumes-trans, Consumes-whole}
+use Rattle.std.specs.Io.KnownBytes.{Consumes, IsAtEnd}
+use Rattle.twkb_geom.specs.Tree.{Tree}
+use Rattle.twkb_geom.specs.Limits.{Allowance}
+use Rattle.twkb_grammar.specs.Blob.{Stream}
+use Rattle.twkb_blob.specs.Sessions.{FedFlat, Stands, session_limits}
+use Rattle.twkb_blob.specs.declared.session.Session.{Session}
+use Rattle.examples.specs.Counting.{HasGeometries, TookPiece}
+
+-- ---- one piece
+
+-- a session stands behind some bytes
+abbrev pub Stood : Session → Type 0
+Stood session = (bytes : List ℕ) × (gs : List Tree) × Stands bytes gs session
+
+-- what a session that stood somewhere took of a piece
+abbrev pub Takes : Session → List ℕ → ℕ → Session → Type 0
+Takes start piece count session = (bytes : List ℕ) (gs : List Tree) → Stands bytes gs start → TookPiece bytes gs piece count session
+
+-- what one feed answers
+abbrev pub Feeds : Session → List ℕ → ℕ → Bool → Session → Type 0
+Feeds old rest used whole new = (bytes : List ℕ) (gs : List Tree) → Stands bytes gs old → FedFlat bytes gs rest (Ok (used, whole)) new
+
+pub took_none : (session : Session) → Takes session [] 0 session
+took_none session bytes gs stands = record {
+  more = [];
+  stands = subst (λ bs. Stands bs (gs ++ []) session) (sym (append-nil bytes)) (subst (λ hs. Stands bytes hs session) (sym (append-nil gs)) stands);
+  counted = refl;
+}
+
+-- a geometry ends behind some bytes of the rest
+pub fed_some : (start old new : Session) (piece : List ℕ) (at count used : ℕ) (whole : Bool) → Stood start → Takes start (take at piece) count old → Feeds old (drop at piece) used whole new
+    → whole ≡ true → at ≤ length piece → (0 < used) × (at + used ≤ length piece)
+fed_some start old new piece at count used whole stood takes feeds is within =
+    let took = takes stood.0 stood.1 stood.2 in
+    let fed : FedFlat (stood.0 ++ take at piece) (stood.1 ++ took.more) (drop at piece) (Ok (used, true)) new =
+    subst (λ b. FedFlat (stood.0 ++ take at piece) (stood.1 ++ took.more) (drop at piece) (Ok (used, b)) new) is (feeds _ _ took.stands) in
+    (fed.1.0, omega (arith, fed.1.1, within, length-drop at piece))
+
+pub took_more : (start old new : Session) (piece : List ℕ) (at count used : ℕ) (whole : Bool) → Takes start (take at piece) count old → Feeds old (drop at piece) used whole new
+    → whole ≡ true → Takes start (take (at + used) piece) (count + 1) new
+took_more start old new piece at count used whole takes feeds is bytes gs stands =
+    let took = takes bytes gs stands in
+    let fed : FedFlat (bytes ++ take at piece) (gs ++ took.more) (drop at piece) (Ok (used, true)) new =
+    subst (λ b. FedFlat (bytes ++ take at piece) (gs ++ took.more) (drop at piece) (Ok (used, b)) new) is (feeds _ _ took.stands) in
+    let place : (bytes ++ take at piece) ++ take used (drop at piece) ≡ bytes ++ take (at + used) piece =
+    append_assoc bytes (take at piece) (take used (drop at piece)) ∙ ap (λ l. bytes ++ l) (sym (take-add at used piece)) in
+    record {
+      more = took.more ++ fed.0 ∷ [];
+      stands = subst (λ bs. Stands bs (gs ++ (took.more ++ fed.0 ∷ [])) new) place
+          (subst (λ hs. Stands ((bytes ++ take at piece) ++ take used (drop at piece)) hs new) (append_assoc gs took.more (fed.0 ∷ [])) fed.1.3);
+      counted = omega (arith, took.counted, length-append took.more (fed.0 ∷ []));
+    }
+
+-- no geometry ends in the rest
+pub took_all : (start old new : Session) (piece : List ℕ) (at count used : ℕ) (whole : Bool) → Takes start (take at piece) count old → Feeds old (drop at piece) used whole new
+    → whole ≡ false → Takes start piece count new
+took_all start old new piece at count used whole takes feeds is bytes gs stands =
+    let took = takes bytes gs stands in
+    let fed : FedFlat (bytes ++ take at piece) (gs ++ took.more) (drop at piece) (Ok (used, false)) new =
+    subst (λ b. FedFlat (bytes ++ take at piece) (gs ++ took.more) (drop at piece) (Ok (used, b)) new) is (feeds _ _ took.stands) in
+    record {
+      more = took.more;
+      stands = subst (λ bs. Stands bs (gs ++ took.more) new) (append_assoc bytes (take at piece) (drop at piece) ∙ ap (λ l. bytes ++ l) (take-append-drop at piece)) fed.1;
+      counted = took.counted;
+    }
+
+-- ---- all pieces
+
+-- Of what a device told a session took so many bytes, and gave so many geometries; the rest is left.
+pub record TookBytes (told rest : Option (List ℕ)) (taken count : ℕ) (session : Session) : Type 0 where
+  pub bytes : List ℕ
+  pub geometries : List Tree
+  pub stands : Stands bytes geometries session
+  pub used : Consumes told rest bytes
+  pub size : taken ≡ length bytes
+  pub counted : count ≡ length geometries
+
+pub bytes_none : (told : Option (List ℕ)) (session : Session) → Stands [] [] session → TookBytes told told 0 0 session
+bytes_none told session stands = record { bytes = []; geometries = []; stands = stands; used = Consumes-nil told; size = refl; counted = refl }
+
+-- one piece more
+pub bytes_more : (told rest left : Option (List ℕ)) (taken count more : ℕ) (piece : List ℕ) (old new : Session) (took : TookBytes told rest taken count old)
+    → TookPiece took.bytes took.geometries piece more new → Consumes rest left piece → TookBytes told left (taken + length piece) (count + more) new
+bytes_more told rest left taken count more piece old new took one used = record {
+  bytes = took.bytes ++ piece;
+  geometries = took.geometries ++ one.more;
+  stands = one.stands;
+  used = Consumes-trans told rest left took.bytes piece took.used used;
+  size = omega (arith, took.size, length-append took.bytes piece);
+  counted = omega (arith, took.counted, one.counted, length-append took.geometries one.more);
+}
+
+-- at the end of the device
+pub bytes_all : (limits : Allowance) (told rest left : Option (List ℕ)) (taken count : ℕ) (session : Session) (took : TookBytes told rest taken count session)
+    → Consumes rest left [] → IsAtEnd left → Stream limits took.bytes took.geometries → HasGeometries limits told count taken
+bytes_all limits told rest left taken count session took none ended stream =
+    let used : Consumes told left (took.bytes ++ []) = Consumes-trans told rest left took.bytes [] took.used none in
+    let all : Consumes told left took.bytes = subst (λ bs. Consumes told left bs) (append-nil took.bytes) used in
+    record {
+      geometries = took.geometries;
+      stream = Consumes-whole told left took.bytes (λ bytes. Stream limits bytes took.geometries × (taken ≡ length bytes)) all ended (stream, took.size);
+      counted = took.counted;
+    }

@@ -1,0 +1,2 @@
+pub mod PointsLemmas
+pub mod ArrivalsLemmas

@@ -1,0 +1,72 @@
+-- The points of blobs that a reader gave, counted.
+use Rattle.std.proofs.Common.{◌≡◌, ◌∙◌, ◌+◌, ℕ, List, [], ◌∷◌, ◌++◌, Option, length, ap, arith, refl, sym, subst, length-append, false}
+use Rattle.std.specs.Prelude.{None, Some, Ok, IfSome}
+use Rattle.std.proofs.lemmas.List.{append-nil}
+use Rattle.std.proofs.KnownBytes.{Consumes-nil, Consumes-trans, Consumes-whole}
+use Rattle.std.specs.Io.KnownBytes.{Consumes}
+use Rattle.std.specs.declared.io.traits.Read.{Ghosts}
+use Rattle.twkb_geom.specs.Tree.{Tree, flat, saturated}
+use Rattle.twkb_geom.specs.Limits.{Allowance}
+use Rattle.twkb_grammar.specs.Blob.{Stream}
+use Rattle.twkb_grammar.proofs.Streams.{stream-append}
+use Rattle.twkb_io.specs.Inputs.{rest_of}
+use Rattle.twkb_blob.specs.Readers.{IsNext, Makes, has_ended, is_spent, reader_input, reader_limits}
+use Rattle.twkb_blob.specs.declared.reader.Reader.{Reader}
+use Rattle.examples.specs.Counting.{HasPoints, all_points}
+
+-- A reader of all that a device told gave geometries, which have so many points.
+pub record GavePoints {R : Type 0} {read : Ghosts R} (limits : Allowance) (told : Option (List ℕ)) (reader : Reader R read) (count : ℕ) : Type 0 where
+  pub geometries : List Tree
+  pub bytes : List ℕ
+  pub stream : Stream limits bytes geometries
+  pub used : Consumes told (rest_of (reader_input reader)) bytes
+  pub points : count ≡ saturated (length (all_points geometries))
+  pub limited : reader_limits reader ≡ limits
+  pub live : is_spent reader ≡ false
+  pub going_on : has_ended reader ≡ false
+
+-- the points of one geometry more
+points_more : (gs : List Tree) (g : Tree) → length (all_points (gs ++ g ∷ [])) ≡ length (all_points gs) + length (flat g)
+points_more [] g = omega (arith, length-append (flat g) [])
+points_more (h ∷ gs) g =
+    omega (arith, length-append (flat h) (all_points (gs ++ g ∷ [])), length-append (flat h) (all_points gs), points_more gs g)
+
+module _ {R : Type 0} {read : Ghosts R} (limits : Allowance) (told : Option (List ℕ)) where
+  -- before the first blob
+  pub gave_none : (reader : Reader R read) → rest_of (reader_input reader) ≡ told → reader_limits reader ≡ limits → is_spent reader ≡ false → has_ended reader ≡ false → GavePoints limits told reader 0
+  gave_none reader same limited live going_on = record {
+    geometries = [];
+    bytes = [];
+    stream = refl;
+    used = subst (λ rest. Consumes told rest []) (sym same) (Consumes-nil told);
+    points = omega arith;
+    limited = limited;
+    live = live;
+    going_on = going_on;
+  }
+
+  -- behind one blob more
+  pub gave_more : (old new : Reader R read) (count points total : ℕ) (found : Option Tree) (g : Tree) → GavePoints limits told old count
+      → IsNext (reader_limits old) (reader_input old) (reader_input new) (Ok found) → found ≡ Some g → points ≡ saturated (length (flat g)) → total ≡ saturated (count + points)
+      → reader_limits new ≡ reader_limits old → is_spent new ≡ false → IfSome found (λ _. has_ended new ≡ false) → GavePoints limits told new total
+  gave_more old new count points total found g gave next is own sum same live going_on =
+      let makes : Makes (reader_limits old) [] (reader_input old) (reader_input new) g = subst (λ f. IsNext (reader_limits old) (reader_input old) (reader_input new) (Ok f)) is next in
+      let here : Makes limits [] (reader_input old) (reader_input new) g = subst (λ l. Makes l [] (reader_input old) (reader_input new) g) gave.limited makes in
+      record {
+        geometries = gave.geometries ++ g ∷ [];
+        bytes = gave.bytes ++ here.bytes;
+        stream = stream-append limits gave.bytes here.bytes gave.geometries (g ∷ []) gave.stream (here.bytes, [], sym (append-nil here.bytes), here.blob, refl);
+        used = Consumes-trans told (rest_of (reader_input old)) (rest_of (reader_input new)) gave.bytes here.bytes gave.used here.left.consumed;
+        points = omega (arith, sum, own, gave.points, points_more gave.geometries g);
+        limited = same ∙ gave.limited;
+        live = live;
+        going_on = subst (λ f. IfSome f (λ _. has_ended new ≡ false)) is going_on;
+      }
+
+  -- at the end
+  pub gave_all : (old new : Reader R read) (count : ℕ) → GavePoints limits told old count → IsNext (reader_limits old) (reader_input old) (reader_input new) (Ok None) → HasPoints limits told count
+  gave_all old new count gave next = record {
+    geometries = gave.geometries;
+    stream = Consumes-whole told (rest_of (reader_input old)) gave.bytes (λ bytes. Stream limits bytes gave.geometries) gave.used next.0 gave.stream;
+    points = gave.points;
+  }

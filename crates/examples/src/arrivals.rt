@@ -1,0 +1,62 @@
+//! Blobs that arrive in pieces, counted.
+ghost use Rattle.std.specs.Prelude.{◌≡◌, ◌≤◌, List, ℕ, length, IfOk};
+ghost use Rattle.twkb_geom.specs.Tree.{Tree};
+ghost use Rattle.twkb_geom.specs.Limits.{standard_limits};
+ghost use Rattle.twkb_blob.specs.Sessions.{Stands, session_limits};
+ghost use Rattle.examples.specs.Counting.{HasGeometries, TookPiece};
+
+use std::alloc::Global;
+use std::io::Read;
+use twkb_blob::{BlobFault, Session};
+use twkb_geom::Limits;
+use twkb_io::InFault;
+
+/// What arrived.
+#[derive(Clone, Copy, Debug, PartialEq, Eq)]
+pub struct Arrived {
+    pub geometries: u64,
+    pub bytes: u64,
+}
+
+/// Reads a socket to its end, and counts the geometries of its stream as they become whole. Between two reads it keeps the
+/// rows of the geometry that is begun, and no byte but those of a number. Takes memory for these rows.
+pub fn count_arrivals<R: Read>(alloc: Global, socket: &mut R) -> Result<Arrived, BlobFault>
+    ensures { IfOk result (λ arrived. HasGeometries standard_limits (R.remaining socket.old) arrived.geometries arrived.bytes) }
+{
+    let mut session = Session::new(alloc, Limits::standard());
+    let mut piece = [0; 512];
+    let mut arrived = Arrived {
+        geometries: 0,
+        bytes: 0,
+    };
+    loop {
+        let Ok(count) = socket.read(&mut piece) else {
+            return Err(BlobFault::Device(InFault::Read));
+        };
+        if count == 0 {
+            session.finish()?;
+            return Ok(arrived);
+        }
+        arrived.geometries += take_piece(&mut session, &piece[..count])?;
+        arrived.bytes += count as u64;
+    }
+}
+
+// Feeds a piece to its end, and counts the geometries that end in it: while one does, the rest is fed again.
+fn take_piece(session: &mut Session, piece: &[u8]) -> Result<u64, BlobFault>
+    requires stands { (bytes : List ℕ) × (gs : List Tree) × Stands bytes gs session.old }
+    ensures took { (bytes : List ℕ) (gs : List Tree) → Stands bytes gs session.old → IfOk result (λ count. TookPiece bytes gs piece.now count session.new) }
+    ensures few { IfOk result (λ count. count ≤ length piece.now) }
+    ensures limits { session_limits session.new ≡ session_limits session.old }
+{
+    let mut at = 0;
+    let mut count = 0;
+    loop {
+        let (used, is_whole) = session.feed_flat(&piece[at..])?;
+        if !is_whole {
+            return Ok(count);
+        }
+        count += 1;
+        at += used;
+    }
+}

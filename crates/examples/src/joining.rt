@@ -1,0 +1,20 @@
+//! Two routes as one, each a polyline.
+ghost use Rattle.std.specs.Prelude.{IfOk};
+ghost use Rattle.examples.specs.Routes.{IsJoined};
+
+use std::alloc::Global;
+use twkb_polyline::{PolyFault, decode, decode_into, encode};
+
+/// The most points that each route may have.
+const MOST: u32 = 10_000;
+
+/// The polyline of the points of both routes, one behind the other. A text that is no polyline, or has too many points,
+/// is refused with its place and reason. Takes memory for the points and the new text.
+pub fn joined(alloc: Global, first: &[u8], second: &[u8]) -> Result<Vec<u8>, PolyFault>
+    ensures { IfOk result (λ text. IsJoined first.now second.now text.items) }
+{
+    let mut points = decode(alloc, first, MOST)?;
+    decode_into(second, MOST, &mut points)?;
+    let text = encode(alloc, points.as_slice())?;
+    Ok(text)
+}

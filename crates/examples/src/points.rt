@@ -1,0 +1,32 @@
+//! The points of a stream of blobs, counted.
+ghost use Rattle.std.specs.Prelude.{◌≡◌, length, IfOk};
+ghost use Rattle.twkb_io.specs.Taps.{device_of};
+ghost use Rattle.twkb_geom.specs.Limits.{standard_limits};
+ghost use Rattle.twkb_geom.specs.Tree.{flat, saturated};
+ghost use Rattle.examples.specs.Counting.{HasPoints};
+
+use std::alloc::Global;
+use std::io::Read;
+use twkb_blob::{BlobFault, Reader};
+use twkb_geom::{Geometry, Limits};
+use twkb_io::{Input, Tap};
+
+/// How many points there are in the blobs of a device, read to its end; at most `u64::MAX`. A device that fails, and bytes
+/// that are no stream of blobs, are answered with the fault. Takes memory for one geometry.
+pub fn count_points<R: Read>(alloc: Global, device: &mut Tap<R>) -> Result<u64, BlobFault>
+    ensures { IfOk result (λ count. HasPoints standard_limits (R.remaining (device_of device.old)) count) }
+{
+    let mut blobs = Reader::new(Input::new(device), Limits::standard());
+    let mut count = 0u64;
+    while let Some(geometry) = blobs.next(alloc)? {
+        count = count.saturating_add(points_of(geometry));
+    }
+    Ok(count)
+}
+
+// The points of a geometry, which is then let go.
+fn points_of(geometry: Geometry) -> u64
+    ensures { result ≡ saturated (length (flat geometry)) }
+{
+    geometry.points()
+}

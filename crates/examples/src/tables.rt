@@ -1,0 +1,24 @@
+//! A table that code writes.
+ghost use Rattle.std.specs.Prelude.{◌≡◌, ◌∷◌, [], pos, Some, IfOk};
+ghost use Rattle.twkb_geom.specs.Tree.{simple, multi_point};
+ghost use Rattle.twkb_table.specs.Record.{table};
+ghost use Rattle.twkb_table.specs.Text.{csvtext};
+
+use crate::stops::{StopsFault, make_stops};
+use std::alloc::Global;
+use twkb_points::Pt;
+use twkb_table::{header_text, put_rows};
+
+/// The table of one geometry, that of the stops. Takes memory for the text alone.
+pub fn stops_table(alloc: Global, points: Vec<Pt>, numbers: Vec<i64>) -> Result<Vec<u8>, StopsFault>
+    ensures { IfOk result (λ text. text.items ≡ csvtext (table (simple (pos 5) (multi_point (Some numbers.items) points.items) ∷ []))) }
+{
+    let stops = make_stops(points, numbers)?;
+    let Ok(mut text) = Vec::from_slice(alloc, header_text()) else {
+        return Err(StopsFault::Memory);
+    };
+    if put_rows(&stops, &mut text).is_err() {
+        return Err(StopsFault::Memory);
+    }
+    Ok(text)
+}

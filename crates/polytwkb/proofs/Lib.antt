@@ -1,8 +1,0 @@
-pub mod PassedLemmas
-pub mod NestLemmas
-pub mod RequestLemmas
-pub mod CommandLineLemmas
-pub mod NamedLemmas
-pub mod Asked
-pub mod PrintLemmas
-pub mod RefusalLemmas

@@ -1,8 +1,0 @@
-use Rattle.polytwkb.proofs.PrintLemmas.{prints_join}
-use Rattle.polytwkb.proofs.lines.put_text_reason.Goals as goal
-
-pub returns-clause-prints : goal.returns-clause-prints
-returns-clause-prints g c =
-    let join = prints_join g.W.Write.contents in
-    join _ _ _ _ _ c.put_text.ensures (join _ _ _ _ _ c.put_decimal.ensures.prints
-    (join _ _ _ _ _ c.put_text-2.ensures (rw c.point_text_fault.ensures.text at c.put_text-3.ensures)))

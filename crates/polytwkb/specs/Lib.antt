@@ -1,7 +1,0 @@
-pub mod CommandLine
-pub mod Words
-pub mod Lines
-pub mod Printing
-pub mod Status
-pub mod Conversions
-pub mod Runs

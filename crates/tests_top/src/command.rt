@@ -1,0 +1,79 @@
+//! Runs of the command, and its texts. A run is given a line of words, an input and its devices.
+mod causes;
+mod devices;
+mod endings;
+mod help;
+mod memory;
+mod nesting;
+mod packing;
+mod showing;
+mod unpacking;
+mod usage;
+mod words;
+
+use std::alloc::Global;
+use std::io::{Read, Write};
+use twkb_command::run;
+use twkb_io::{Fuse, FuseEnd, Tap};
+
+const HEADER: &str = "depth,kind,id,precision,polyline\n";
+
+// Two points, (2, 1) and (1, 1), as a table and as blobs.
+const POINT_TABLE: &[u8] = b"depth,kind,id,precision,polyline\n0,point,,0,AC\n0,point,,0,AA\n";
+
+const POINT_BLOBS: &[u8] = b"\x01\x02\x02\x04\x02\x01\x02\x02\x02\x02";
+
+// A collection of a point with id 7 and an empty linestring with id -1, as a table, as a blob and
+// as what is shown of it.
+const COLLECTION_TABLE: &[u8] =
+    b"depth,kind,id,precision,polyline\n0,collection,,0,\n1,point,7,0,AA\n1,linestring,-1,0,\n";
+
+const COLLECTION_BLOB: &[u8] =
+    b"\x07\x07\x0F\x02\x00\x02\x00\x02\x0E\x01\x01\x02\x02\x02\x02\x02\x12\x00";
+
+const COLLECTION_LINES: &[u8] =
+    b"0 0 collection 0 07 18 1\n1 10 point 0 02 5 1\n1 15 linestring 0 12 3 0\n";
+
+// The words of a line, which names the program first, where memory is found.
+fn words_of(alloc: Global, line: &str) -> Option<Vec<String>> {
+    let mut words = Vec::new(alloc);
+    for name in line.split(' ') {
+        let Ok(word) = format!(in alloc; "{name}") else {
+            return None;
+        };
+        if words.push(word).is_err() {
+            return None;
+        }
+    }
+    Some(words)
+}
+
+// The status of a run with the words of a line, where memory is found for these.
+fn run_line<R: Read, W: Write, E: Write>(
+    alloc: Global,
+    line: &str,
+    reader: &mut Tap<R>,
+    writer: &mut Tap<W>,
+    errors: &mut Tap<E>,
+) -> Option<u8> {
+    let Some(words) = words_of(alloc, line) else {
+        return None;
+    };
+    Some(run(alloc, &words, reader, writer, errors))
+}
+
+// Whether a run over an input in memory has this status, and writes this output and these errors.
+fn ends(alloc: Global, line: &str, input: &[u8], status: u8, output: &[u8], errors: &[u8]) -> bool {
+    let mut reader = Tap::new(input);
+    let mut writer = Tap::new(Vec::new(alloc));
+    let mut told = Tap::new(Vec::new(alloc));
+    let found = run_line(alloc, line, &mut reader, &mut writer, &mut told);
+    let is_written = writer.into_inner().as_slice() == output;
+    let is_told = told.into_inner().as_slice() == errors;
+    found == Some(status) && is_written && is_told
+}
+
+// A device that takes so many bytes, one a write, and then ends so.
+fn cut_writer(alloc: Global, taken: usize, end: FuseEnd, flush_fails: bool) -> Tap<Fuse<Vec<u8>>> {
+    Tap::new(Fuse::new(Vec::new(alloc), taken as u64, 1, end, flush_fails))
+}

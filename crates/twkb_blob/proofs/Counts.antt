@@ -1,0 +1,217 @@
+-- How many bytes are held and how many geometries are begun, told by the bytes.
+use Rattle.std.proofs.Common.{◌≡◌, ℕ, zero, suc, ◌+◌, ◌<◌, inl, inr, List, [], ◌∷◌, ◌++◌, length, refl, sym, ap, ◌∙◌, subst, append_assoc, append-nil, Option, Bool, true, false, Some, arith}
+use Rattle.std.specs.Prelude.{sum_by}
+use Rattle.std.proofs.lemmas.List.Sums.{sum_by-append, sum_by-cons}
+use Rattle.twkb_num.specs.Varint.{IsOpenVarint}
+use Rattle.twkb_geom.specs.Tree.{Tree}
+use Rattle.twkb_geom.specs.Rows.{Row}
+use Rattle.twkb_geom.specs.Limits.{Allowance}
+use Rattle.twkb_grammar.specs.Roles.{Role, Header, Metadata, Extended, Size, Box, Count, Id, X, Y, End, Item, join}
+use Rattle.twkb_grammar.specs.Blob.{Stream}
+use Rattle.twkb_grammar.specs.Fault.{Part, FirstFault, StreamFault, Truncated}
+use Rattle.twkb_grammar.specs.Machine.{Frame, Phase, AtHeader, AtMetadata, AtOption, AtCount, AtId, AtBody, AtEnd, Finished, Sums, nothing, sums_after, Stack, started, role_at, Runs}
+use Rattle.twkb_grammar.specs.Reading as reading
+use Rattle.twkb_grammar.specs.Reading.{Reached, open_by, open_after, frame_count}
+use Rattle.twkb_grammar.proofs.One.{one_blob_lem, peel}
+use Rattle.twkb_grammar.proofs.Parts.{runs_split, runs_same}
+use Rattle.twkb_grammar.proofs.Running.{part_ran, ran_part}
+use Rattle.twkb_grammar.proofs.TwoFronts.{Compared, longer, shorter, same, two_fronts, part_front, none_beyond_fault}
+use Rattle.twkb_grammar.proofs.Streams.{first_item, no_stream, one_stream_fault}
+use Rattle.twkb_grammar.proofs.Frames.{reached_frames}
+use Rattle.twkb_grammar.proofs.Standing.{none_longer}
+use Rattle.twkb_outline.specs.Reading.{open_count}
+use Rattle.twkb_engine.specs.Building.{sums_of}
+use Rattle.twkb_engine.specs.Standing.{StandsAt, IsEnd, allowance_of, held_in, offset_in, open_in}
+use Rattle.twkb_engine.specs.declared.engine.Engine.{Engine}
+use Rattle.twkb_blob.specs.Sessions.{Stands, HeldOf, FramesOf, AreOpen, begun_by, ended_by, begun_rows, session_limits}
+use Rattle.twkb_blob.specs.declared.session.Session.{Session}
+use Rattle.twkb_blob.proofs.Standing.{OffsetLaw, counted, so_many, ended, cut_short}
+use Rattle.twkb_blob.proofs.Noted.{NoteLaws, stands_of}
+
+-- ---- headers less ends
+
+-- at the end of a geometry one is open
+frame_at_end : (e : Sums) (fs : List Frame) (p : Phase) (r : Role) (d : Option ℕ) (came : ℕ) → role_at e (fs, p) ≡ Some r → r ≡ End d came → 0 < frame_count (fs, p)
+frame_at_end e fs AtHeader r d came says is = absurd cc
+frame_at_end e fs (AtMetadata k p) r d came says is = omega arith
+frame_at_end e fs (AtOption k h o rs) r d came says is = omega arith
+frame_at_end e fs (AtCount m h) r d came says is = omega arith
+frame_at_end e fs (AtId m h members ids left) r d came says is = omega arith
+frame_at_end e fs (AtBody h f ids b) r d came says is = omega arith
+frame_at_end e fs (AtEnd h g) r d came says is = omega arith
+frame_at_end e fs (Finished g) r d came says is = absurd cc
+
+open_at_end : (limits : Allowance) (before : List Item) (i : Item) (d : Option ℕ) (came : ℕ) → Part limits (before ++ i ∷ []) → i.role ≡ End d came → 0 < open_after 0 before
+open_at_end limits before i d came part is =
+    let whole = part_ran limits (before ++ i ∷ []) part in
+    let front = part_ran limits before (part_front limits before (i ∷ []) part) in
+    let s = runs_split before (i ∷ []) nothing started whole.0 whole.1.runs in
+    let mid : s.mid ≡ front.0 = runs_same before nothing started s.mid front.0 s.front front.1.runs in
+    let reached : Reached limits (join before) (sums_after nothing before) front.0 = record { items = before; ran = front.1; sums = refl; spelled = refl } in
+    let frames : frame_count front.0 ≡ open_after 0 before = reached_frames limits (join before) (sums_after nothing before) front.0 reached in
+    subst (λ n. 0 < n) (ap frame_count mid ∙ frames) (frame_at_end (sums_after nothing before) s.mid.0 s.mid.1 i.role d came s.rest.0 is)
+
+-- one item more
+open_step : (n a b : ℕ) (r : Role) → ((d : Option ℕ) (came : ℕ) → r ≡ End d came → 0 < n) → n + a ≡ b → open_by n r + (a + ended_by r) ≡ b + begun_by r
+open_step n a b Header some h = omega (arith, h)
+open_step zero a b (End d came) some h = absurd (omega (arith, some d came refl))
+open_step (suc n) a b (End d came) some h = omega (arith, h)
+open_step zero a b (Metadata k) some h = omega (arith, h)
+open_step (suc n) a b (Metadata k) some h = omega (arith, h)
+open_step zero a b Extended some h = omega (arith, h)
+open_step (suc n) a b Extended some h = omega (arith, h)
+open_step zero a b Size some h = omega (arith, h)
+open_step (suc n) a b Size some h = omega (arith, h)
+open_step zero a b Box some h = omega (arith, h)
+open_step (suc n) a b Box some h = omega (arith, h)
+open_step zero a b (Count c) some h = omega (arith, h)
+open_step (suc n) a b (Count c) some h = omega (arith, h)
+open_step zero a b Id some h = omega (arith, h)
+open_step (suc n) a b Id some h = omega (arith, h)
+open_step zero a b X some h = omega (arith, h)
+open_step (suc n) a b X some h = omega (arith, h)
+open_step zero a b Y some h = omega (arith, h)
+open_step (suc n) a b Y some h = omega (arith, h)
+
+open_after-last : (n : ℕ) (is : List Item) (i : Item) → open_after n (is ++ i ∷ []) ≡ open_by (open_after n is) i.role
+open_after-last n [] i = refl
+open_after-last n (j ∷ is) i = open_after-last (open_by n j.role) is i
+
+open_behind : (limits : Allowance) (before is : List Item) → Part limits (before ++ is) → AreOpen before (open_after 0 before) → AreOpen (before ++ is) (open_after 0 (before ++ is))
+open_behind limits before [] part h = subst (λ l. AreOpen l (open_after 0 l)) (sym (append-nil before)) h
+open_behind limits before (i ∷ is) part h =
+    let at : (before ++ i ∷ []) ++ is ≡ before ++ i ∷ is = append_assoc before (i ∷ []) is in
+    let whole : Part limits ((before ++ i ∷ []) ++ is) = subst (λ l. Part limits l) (sym at) part in
+    let step = open_step (open_after 0 before) (sum_by (λ i. ended_by i.role) before) (sum_by (λ i. begun_by i.role) before) i.role
+    (λ d came e. open_at_end limits before i d came (part_front limits (before ++ i ∷ []) is whole) e) h in
+    let more : AreOpen (before ++ i ∷ []) (open_after 0 (before ++ i ∷ [])) =
+    omega (
+      arith,
+      step,
+      open_after-last 0 before i,
+      sum_by-append (λ i. ended_by i.role) before (i ∷ []),
+      sum_by-cons (λ i. ended_by i.role) i [],
+      sum_by-append (λ i. begun_by i.role) before (i ∷ []),
+      sum_by-cons (λ i. begun_by i.role) i [],
+    ) in
+    subst (λ l. AreOpen l (open_after 0 l)) at (open_behind limits (before ++ i ∷ []) is whole more)
+
+-- of a part, those that are begun and not ended are the headers less the ends
+part_open : (limits : Allowance) (is : List Item) → Part limits is → AreOpen is (open_after 0 is)
+part_open limits is part = open_behind limits [] is part refl
+
+-- ---- what an engine holds and has begun
+
+-- no bytes have no items
+no_items : (is : List Item) (st : Stack) → Runs nothing started is st → join is ≡ [] → is ≡ []
+no_items [] st r e = refl
+no_items (i ∷ is) st r e = absurd (first_item i is st r e)
+
+no_front : (a b : List ℕ) → a ++ b ≡ [] → a ≡ []
+no_front [] b e = refl
+no_front (x ∷ a) b e = absurd cc
+
+-- the geometries that are begun are those of the items that were taken
+frames_are : NoteLaws → (bs : List ℕ) (rs : List Row) (d : Engine) (s : StandsAt bs rs d) → open_in d ≡ open_after 0 s.outlined.reached.items
+frames_are laws bs rs d s =
+    sym (laws.count s.outlined.stack ∙ ap open_count s.outlined.outline) ∙ reached_frames (allowance_of d) s.front (sums_of d.builder) s.outlined.stack s.outlined.reached
+
+-- the items before the place where one is missing are those that a reader has taken
+before_is : (limits : Allowance) (bytes : List ℕ) (e : Sums) (st : Stack) (held : List ℕ) (s : reading.Stands limits bytes [] e st held) (offset : ℕ) → bytes ≡ s.middle ++ held
+    → (f : FirstFault limits bytes offset Truncated) → f.fault.before ≡ s.reached.items
+before_is limits bytes e st held s offset at f =
+    go (two_fronts f.fault.before s.reached.items nothing started ran.0 st f.fault.rest held ran.1.runs s.reached.ran.runs (there ∙ sym (ap (λ l. l ++ held) s.reached.spelled)))
+  where
+    ran : (st : Stack) × reading.Ran limits f.fault.before st
+    ran = part_ran limits f.fault.before f.alive
+
+    there : join f.fault.before ++ f.fault.rest ≡ s.middle ++ held
+    there = sym f.fault.split ∙ at
+
+    go : Compared f.fault.before s.reached.items → f.fault.before ≡ s.reached.items
+    go (longer n) = absurd (none_longer limits bytes [] e st held s f.fault.before ran.0 f.fault.rest ran.1.runs there n)
+    go (shorter n) =
+        absurd (none_beyond_fault limits bytes offset Truncated f.fault s.reached.items held (ran_part limits s.reached.items st s.reached.ran) (ap (λ l. l ++ held) s.reached.spelled ∙ sym at) n)
+    go (same i) = i
+
+-- ---- what a session answers
+
+-- the bytes that it holds
+pub held_told : OffsetLaw → (bytes : List ℕ) (gs : List Tree) (old : Session) (s : Stands bytes gs old) (between : Bool) → IsEnd (session_limits old) s.rest (offset_in old.engine) between
+    → HeldOf (session_limits old) bytes gs (length (held_in old.engine))
+held_told law bytes gs old s true none =
+    inl (ended bytes gs old s none, (let n : length s.rest ≡ 0 = ap length none in omega (arith, n, counted law s.rest (begun_rows old) old.engine s.begun)))
+held_told law bytes gs old s false first =
+    inr (old.start + offset_in old.engine, cut_short bytes gs old (offset_in old.engine) s first, omega (arith, so_many law bytes gs old s))
+
+-- the geometries that are begun
+pub frames_told : NoteLaws → (bytes : List ℕ) (gs : List Tree) (old : Session) (s : Stands bytes gs old) → IsOpenVarint (held_in old.engine) → (between : Bool)
+    → IsEnd (session_limits old) s.rest (offset_in old.engine) between → FramesOf (session_limits old) bytes gs (open_in old.engine)
+frames_told laws bytes gs old s o true none =
+    let b = s.begun in
+    let front : b.front ≡ [] = no_front b.front (held_in old.engine) (sym b.whole ∙ none) in
+    let items : b.outlined.reached.items ≡ [] = no_items b.outlined.reached.items b.outlined.stack b.outlined.reached.ran.runs (b.outlined.reached.spelled ∙ front) in
+    inl (ended bytes gs old s none, frames_are laws s.rest (begun_rows old) old.engine b ∙ ap (open_after 0) items)
+frames_told laws bytes gs old s o false first =
+    let limits = session_limits old in
+    let b = s.begun in
+    let stands = stands_of laws s.rest (begun_rows old) old.engine o b in
+    let cut : StreamFault limits bytes gs (length s.front + offset_in old.engine) Truncated =
+    record { front = s.front; rest = s.rest; within = offset_in old.engine; whole = s.whole; blobs = s.blobs; first = first; place = refl } in
+    let before : first.fault.before ≡ b.outlined.reached.items =
+    before_is limits s.rest (sums_of old.engine.builder) b.outlined.stack (held_in old.engine) stands (offset_in old.engine) b.whole first in
+    let many : open_in old.engine ≡ open_after 0 first.fault.before = frames_are laws s.rest (begun_rows old) old.engine b ∙ ap (open_after 0) (sym before) in
+    inr (length s.front + offset_in old.engine, cut, subst (λ n. AreOpen first.fault.before n) (sym many) (part_open limits first.fault.before first.alive))
+
+-- ---- the bytes tell both
+
+-- no bytes are whole blobs and cut inside one
+whole_or_cut : (limits : Allowance) (bytes : List ℕ) (gs hs : List Tree) (offset : ℕ) → Stream limits bytes gs → StreamFault limits bytes hs offset Truncated → ⊥
+whole_or_cut limits bytes gs hs offset s f =
+    no_stream limits f.front f.rest hs gs f.within Truncated f.blobs f.first.fault (subst (λ l. Stream limits l gs) f.whole s)
+
+-- the same blobs in front of the same bytes
+same_blobs : (limits : Allowance) (gs : List Tree) (a b x y : List ℕ) → Stream limits a gs → Stream limits b gs → a ++ x ≡ b ++ y → a ≡ b
+same_blobs limits [] a b x y s t e = s ∙ sym t
+same_blobs limits (g ∷ gs) a b x y s t e =
+    let whole : s.0 ++ (s.1 ++ x) ≡ t.0 ++ (t.1 ++ y) = sym (append_assoc s.0 s.1 x) ∙ (ap (λ l. l ++ x) (sym s.2) ∙ (e ∙ (ap (λ l. l ++ y) t.2 ∙ append_assoc t.0 t.1 y))) in
+    let one = one_blob_lem limits s.0 t.0 (s.1 ++ x) (t.1 ++ y) g g s.3 t.3 whole in
+    let rest = same_blobs limits gs s.1 t.1 x y s.4 t.4 (peel s.0 t.0 (s.1 ++ x) (t.1 ++ y) one.1 whole) in
+    s.2 ∙ (ap (λ l. l ++ s.1) one.1 ∙ (ap (λ l. t.0 ++ l) rest ∙ sym t.2))
+
+-- the same items before two places where one is missing
+same_before : (limits : Allowance) (bytes other : List ℕ) (o p : ℕ) → bytes ≡ other → (a : FirstFault limits bytes o Truncated) (b : FirstFault limits other p Truncated) → a.fault.before ≡ b.fault.before
+same_before limits bytes other o p e a b =
+    go (two_fronts a.fault.before b.fault.before nothing started ran.0 run.0 a.fault.rest b.fault.rest ran.1.runs run.1.runs (sym a.fault.split ∙ (e ∙ b.fault.split)))
+  where
+    ran : (st : Stack) × reading.Ran limits a.fault.before st
+    ran = part_ran limits a.fault.before a.alive
+
+    run : (st : Stack) × reading.Ran limits b.fault.before st
+    run = part_ran limits b.fault.before b.alive
+
+    go : Compared a.fault.before b.fault.before → a.fault.before ≡ b.fault.before
+    go (longer n) = absurd (none_beyond_fault limits other p Truncated b.fault a.fault.before a.fault.rest a.alive (sym a.fault.split ∙ e) n)
+    go (shorter n) = absurd (none_beyond_fault limits bytes o Truncated a.fault b.fault.before b.fault.rest b.alive (sym b.fault.split ∙ sym e) n)
+    go (same i) = i
+
+-- one number of bytes
+pub one_held : (limits : Allowance) (bytes : List ℕ) (gs hs : List Tree) (m n : ℕ) → HeldOf limits bytes gs m → HeldOf limits bytes hs n → m ≡ n
+one_held limits bytes gs hs m n (inl a) (inl b) = a.1 ∙ sym b.1
+one_held limits bytes gs hs m n (inl a) (inr b) = absurd (whole_or_cut limits bytes gs hs b.0 a.0 b.1)
+one_held limits bytes gs hs m n (inr a) (inl b) = absurd (whole_or_cut limits bytes hs gs a.0 b.0 a.1)
+one_held limits bytes gs hs m n (inr a) (inr b) =
+    let one = one_stream_fault limits bytes gs hs a.0 b.0 Truncated Truncated a.1 b.1 in omega (arith, one.1, a.2, b.2)
+
+-- one number of geometries
+pub one_frames : (limits : Allowance) (bytes : List ℕ) (gs hs : List Tree) (m n : ℕ) → FramesOf limits bytes gs m → FramesOf limits bytes hs n → m ≡ n
+one_frames limits bytes gs hs m n (inl a) (inl b) = a.1 ∙ sym b.1
+one_frames limits bytes gs hs m n (inl a) (inr b) = absurd (whole_or_cut limits bytes gs hs b.0 a.0 b.1)
+one_frames limits bytes gs hs m n (inr a) (inl b) = absurd (whole_or_cut limits bytes hs gs a.0 b.0 a.1)
+one_frames limits bytes gs hs m n (inr (o, a, many)) (inr (p, b, much)) =
+    let one = one_stream_fault limits bytes gs hs o p Truncated Truncated a b in
+    let here : a.front ++ a.rest ≡ b.front ++ b.rest = sym a.whole ∙ b.whole in
+    let front : a.front ≡ b.front = same_blobs limits hs a.front b.front a.rest b.rest (subst (λ l. Stream limits a.front l) one.0 a.blobs) b.blobs here in
+    let before : a.first.fault.before ≡ b.first.fault.before = same_before limits a.rest b.rest a.within b.within (peel a.front b.front a.rest b.rest front here) a.first b.first in
+    let all : AreOpen b.first.fault.before m = subst (λ l. AreOpen l m) before many in
+    omega (arith, all, much)

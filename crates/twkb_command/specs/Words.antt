@@ -1,0 +1,93 @@
+-- What the words ask for.
+use Rattle.std.specs.Prelude.{◌≡◌, ◌≢◌, ◌≤◌, ◌↔◌, ◌⊎◌, ⊤, List, [], ◌∷◌, Option, Some, None, Result, IfOk, IfErr, OnOk, codes}
+use Rattle.std.specs.Str.Parse.{IsNumeral, digits_value, without_leading_plus}
+use Rattle.clap.specs.Words.{App, IsAmong, Kinds, Row, Text, fault_of, first_of, one_of, subcommand_of}
+use Rattle.clap.specs.declared.error.kind.ErrorKind.{ErrorKind}
+use Rattle.clap.specs.declared.error.kind.ErrorKind.TheVariants.{DisplayHelp, DisplayVersion}
+use Rattle.twkb_geom.specs.Limits.{Allowance, standard_limits}
+use Rattle.twkb_grammar.specs.declared.style.Style.{Style}
+use Rattle.twkb_grammar.specs.declared.style.Style.TheVariants.{Full, Plain}
+use Rattle.twkb_request.specs.declared.request.Conversion.{Conversion}
+use Rattle.twkb_request.specs.declared.request.Conversion.TheVariants as conversion
+use Rattle.twkb_request.specs.declared.refusal.Refusal.{Refusal}
+use Rattle.twkb_request.specs.declared.refusal.Refusal.TheVariants as refusal
+use Rattle.twkb_request.specs.declared.request.Request.{Request}
+
+-- the word of a conversion
+abbrev pub name_of : Conversion → Text
+name_of conversion.Pack = codes "pack"
+name_of conversion.Unpack = codes "unpack"
+name_of conversion.Show = codes "show"
+
+-- the text is a number from 0 to 32
+abbrev pub IsNest : Text → Type 0
+IsNest digits = IsNumeral 10 (without_leading_plus digits) × (digits_value 10 (without_leading_plus digits) ≤ 32)
+
+-- the limits with the nesting that the option gives, a number from 0 to 32, the standard ones where it gives none
+abbrev pub AreLimits : Option Text → Allowance → Type 0
+AreLimits None l = l ≡ standard_limits
+AreLimits (Some digits) l = IsNest digits × (l ≡ record standard_limits { nest = digits_value 10 (without_leading_plus digits) })
+
+-- the option gives nothing, or a number from 0 to 32
+abbrev pub GivesNest : Option Text → Type 0
+GivesNest None = ⊤
+GivesNest (Some digits) = IsNest digits
+
+-- the option gives a text that is no number from 0 to 32
+abbrev pub GivesNoNest : Option Text → Type 0
+GivesNoNest None = ⊥
+GivesNoNest (Some digits) = IsNest digits → ⊥
+
+-- the style that the option gives: plain for `plain`, and full for `full` or where it gives none
+abbrev pub IsStyle : Option Text → Style → Type 0
+IsStyle None style = style ≡ Full
+IsStyle (Some name) style = (style ≡ Plain) ↔ (name ≡ codes "plain")
+
+-- the rows of a subcommand name this conversion, with these limits and this style
+abbrev pub IsAskedBy : Option (Text × List Row) → Request → Type 0
+IsAskedBy None request = ⊥
+IsAskedBy (Some (name, rows)) request =
+    (name ≡ name_of request.conversion) × AreLimits (one_of (codes "max-nest") rows) request.limits × IsStyle (first_of (codes "style") rows) request.style
+
+-- the option of a subcommand gives nothing, or a number from 0 to 32
+abbrev pub HasNest : Option (Text × List Row) → Type 0
+HasNest None = ⊤
+HasNest (Some (name, rows)) = GivesNest (one_of (codes "max-nest") rows)
+
+-- a conversion has this name
+abbrev pub IsConversionName : Text → Type 0
+IsConversionName name = (c : Conversion) × (name ≡ name_of c)
+
+-- the rows of a subcommand are those of a conversion
+abbrev pub NamesConversion : Option (Text × List Row) → Type 0
+NamesConversion None = ⊥
+NamesConversion (Some (name, rows)) = IsConversionName name
+
+-- the words name this conversion, with these limits and this style
+abbrev pub AsksFor : App → List Text → Request → Type 0
+AsksFor line words request = IsAskedBy (subcommand_of line words) request
+
+-- the refusal that an error of this kind is, unless no memory was found
+abbrev pub IsRefusal : ErrorKind → Refusal → Type 0
+IsRefusal kind refusal.Memory = ⊤
+IsRefusal kind (refusal.Help text) = kind ≡ DisplayHelp
+IsRefusal kind (refusal.Version text) = kind ≡ DisplayVersion
+IsRefusal kind (refusal.Usage text) = (kind ≢ DisplayHelp) × (kind ≢ DisplayVersion)
+
+-- the refusal of words that may have these kinds of error: help or the version where it was asked for, unless no memory was found
+abbrev pub IsRefusalAmong : Kinds → Refusal → Type 0
+IsRefusalAmong kinds refusal.Memory = ⊤
+IsRefusalAmong kinds (refusal.Help text) = IsAmong DisplayHelp kinds
+IsRefusalAmong kinds (refusal.Version text) = IsAmong DisplayVersion kinds
+IsRefusalAmong kinds (refusal.Usage text) = (kind : ErrorKind) × IsAmong kind kinds × (kind ≢ DisplayHelp) × (kind ≢ DisplayVersion)
+
+-- the fault of words asks for help alone, for the version alone, or for neither
+abbrev pub IsOneRequest : Kinds → Type 0
+IsOneRequest kinds = (kinds ≡ DisplayHelp ∷ []) ⊎ (kinds ≡ DisplayVersion ∷ []) ⊎ ((IsAmong DisplayHelp kinds → ⊥) × (IsAmong DisplayVersion kinds → ⊥))
+
+-- What reading words answers: what they ask for where they have no fault, else a refusal of one of its kinds, and their fault asks for help alone, for the version alone, or for neither.
+pub record Reads (line : App) (words : List Text) (answer : Result Request Refusal) : Type 0 where
+  pub asked : IfOk answer (AsksFor line words)
+  pub fits : OnOk answer (fault_of line words ≡ [])
+  pub refused : IfErr answer (IsRefusalAmong (fault_of line words))
+  pub one_request : IsOneRequest (fault_of line words)

@@ -1,0 +1,105 @@
+//! The command line, as `clap` is told of it.
+ghost use Rattle.std.specs.Prelude.{◌≡◌, false, codes, IfOk};
+ghost use Rattle.clap.specs.Words.{app_of, new_app, rule_of, shape_of};
+ghost use Rattle.clap.specs.declared.builder.command.Command.TheViews.{out-Command};
+ghost use Rattle.twkb_command.specs.CommandLine.{bare_app, command_line, conversion_shape, max_nest, pack_shape, style_option};
+
+use crate::help;
+use clap::{Arg, Command, value_parser};
+use std::alloc::{AllocError, Global};
+
+/// The option `--max-nest`.
+fn max_nest_option<'a>(alloc: Global) -> Arg<'a>
+    ensures rule { rule_of result ≡ max_nest }
+    ensures local { result.global ≡ false }
+{
+    let nest = Arg::new(alloc, "max-nest")
+        .long("max-nest")
+        .value_name("N")
+        .value_parser(value_parser!(u32).range(0..=32));
+    described(nest, help::MAX_NEST)
+}
+
+/// The option `--style`, which takes one of these names.
+fn style_choice<'a>(alloc: Global, styles: &'a [&'a str]) -> Arg<'a>
+    ensures rule { rule_of result ≡ style_option styles.entry }
+    ensures local { result.global ≡ false }
+{
+    let style = Arg::new(alloc, "style")
+        .long("style")
+        .value_name("STYLE")
+        .value_parser(styles);
+    described(style, help::STYLE)
+}
+
+/// The option with what help says of it.
+fn described<'a>(option: Arg<'a>, help: &'a str) -> Arg<'a>
+    ensures rule { rule_of result ≡ rule_of option.entry }
+    ensures local { result.global ≡ option.entry.global }
+{
+    option.help(help)
+}
+
+/// A subcommand without options.
+fn subcommand<'a>(alloc: Global, name: &'a str, about: &'a str) -> Command<'a>
+    ensures app { app_of result ≡ new_app name.entry.now }
+    ensures local { (out-Command result).has_globals ≡ false }
+{
+    Command::new(alloc, name)
+        .about(about)
+        .after_help(help::ELSEWHERE)
+}
+
+/// A subcommand with the option `--max-nest`.
+fn conversion_command<'a>(
+    alloc: Global,
+    name: &'a str,
+    about: &'a str,
+) -> Result<Command<'a>, AllocError>
+    ensures shape { IfOk result (λ command. shape_of command ≡ conversion_shape name.entry.now) }
+    ensures local { IfOk result (λ command. (out-Command command).has_globals ≡ false) }
+{
+    subcommand(alloc, name, about).arg(max_nest_option(alloc))
+}
+
+/// The subcommand `pack`, which has the option `--style` too.
+fn pack_command<'a>(alloc: Global, styles: &'a [&'a str]) -> Result<Command<'a>, AllocError>
+    ensures shape { IfOk result (λ command. shape_of command ≡ pack_shape styles.entry) }
+    ensures local { IfOk result (λ command. (out-Command command).has_globals ≡ false) }
+{
+    subcommand(alloc, "pack", help::PACK)
+        .arg(max_nest_option(alloc))?
+        .arg(style_choice(alloc, styles))
+}
+
+/// The program's command, with what help says of it.
+fn described_command<'a>(alloc: Global) -> Command<'a>
+    ensures app { app_of result ≡ new_app (codes "polytwkb") }
+    ensures local { (out-Command result).has_globals ≡ false }
+{
+    Command::new(alloc, "polytwkb")
+        .about(help::PROGRAM)
+        .after_long_help(help::MORE)
+}
+
+/// The program's command, without its subcommands.
+fn bare_command<'a>(alloc: Global) -> Command<'a>
+    ensures app { app_of result ≡ bare_app }
+    ensures local { (out-Command result).has_globals ≡ false }
+{
+    described_command(alloc)
+        .version(help::VERSION)
+        .subcommand_required(true)
+        .disable_help_subcommand(true)
+}
+
+/// The command line: one of the subcommands.
+#[tactic(auto, unfolding(crate::specs::CommandLine::command_line))]
+pub fn command<'a>(alloc: Global, styles: &'a [&'a str]) -> Result<Command<'a>, AllocError>
+    ensures { IfOk result (λ command. app_of command ≡ command_line styles.entry) }
+{
+    bare_command(alloc)
+        .subcommand(pack_command(alloc, styles)?)?
+        .subcommand(conversion_command(alloc, "unpack", help::UNPACK)?)?
+        .subcommand(conversion_command(alloc, "show", help::SHOW)?)
+}

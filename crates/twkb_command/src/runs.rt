@@ -1,0 +1,33 @@
+//! A run of the command.
+ghost use Rattle.std.specs.Prelude.{map, string_bytes};
+ghost use Rattle.clap.specs.Words.{App, fault_of};
+ghost use Rattle.twkb_command.specs.CommandLine.{IsCommandLine};
+ghost use Rattle.twkb_command.specs.Runs.{RunsAccepted, RunsRefused};
+ghost use Rattle.twkb_command.specs.Words.{IsOneRequest};
+
+use crate::words::read_words;
+use std::alloc::Global;
+use std::io::{Read, Write};
+use twkb_io::Tap;
+use twkb_request::{carry_out, refuse};
+
+/// Runs the command with its words, of which the first is the program's name, and answers its
+/// status: 0 where all was converted, or where help or the version was asked for, 1 where the input
+/// is refused or a length passes its bound, 2 where the words are refused, 3 where a device failed,
+/// 4 for want of memory. A fault is told to `errors`; a failure there changes nothing else.
+pub fn run<R: Read, W: Write, E: Write>(
+    alloc: Global,
+    words: &[String],
+    reader: &mut Tap<R>,
+    writer: &mut Tap<W>,
+    errors: &mut Tap<E>,
+) -> u8
+    ensures accepted { (line : App) × IsCommandLine line × RunsAccepted R.remaining W.contents E.contents line (map string_bytes words.now) reader.old writer.old errors.old reader.new writer.new errors.new result }
+    ensures refused { (line : App) × IsCommandLine line × RunsRefused R.remaining W.contents E.contents line (map string_bytes words.now) reader.old writer.old errors.old reader.new writer.new errors.new result }
+    ensures one_request { (line : App) × IsCommandLine line × IsOneRequest (fault_of line (map string_bytes words.now)) }
+{
+    match read_words(alloc, words) {
+        Ok(request) => carry_out(alloc, request, reader, writer, errors),
+        Err(refusal) => refuse(&refusal, writer, errors),
+    }
+}

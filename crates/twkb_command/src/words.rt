@@ -1,0 +1,129 @@
+//! From the words of a command line to a request.
+ghost use Rattle.std.specs.Prelude.{◌≡◌, [], map, string_bytes, codes, IfNone, IfOk, IfErr, IfSome, OnOk};
+ghost use Rattle.clap.specs.Words.{App, FailsBy, fault_of, first_value, found_of, kind_of, one_text, subcommand_of, subcommand_rows_of};
+ghost use Rattle.twkb_command.specs.CommandLine.{IsCommandLine, command_line};
+ghost use Rattle.twkb_command.specs.Words.{AreLimits, AsksFor, GivesNest, GivesNoNest, HasNest, IsAskedBy, IsConversionName, IsRefusal, IsRefusalAmong, IsStyle, NamesConversion, Reads, name_of};
+
+use crate::command_line::command;
+use clap::error::ErrorKind;
+use clap::{ArgMatches, Error};
+use std::alloc::Global;
+use twkb_convert::Style;
+use twkb_geom::Limits;
+use twkb_request::{Conversion, Refusal, Request, nested_limits, style_named};
+
+// The matches of the words.
+fn matches_of<'a>(
+    alloc: Global,
+    styles: &'a [&'a str],
+    words: &'a [String],
+) -> Result<ArgMatches<'a>, Error>
+    ensures ok { IfOk result (λ m. subcommand_rows_of m ≡ subcommand_of (command_line styles.entry) (map string_bytes words.entry.now)) }
+    ensures named { IfOk result (λ m. NamesConversion (subcommand_rows_of m)) }
+    ensures nest { IfOk result (λ m. HasNest (subcommand_rows_of m)) }
+    ensures kinds { FailsBy (fault_of (command_line styles.entry) (map string_bytes words.entry.now)) result }
+{
+    command(alloc, styles)?.try_get_matches_from(words)
+}
+
+// The conversion of a name.
+fn conversion_of(name: &str) -> Conversion
+    requires { IsConversionName name.now }
+    ensures { name.now ≡ name_of result }
+{
+    match name {
+        "pack" => Conversion::Pack,
+        "unpack" => Conversion::Unpack,
+        "show" => Conversion::Show,
+        _ => unreachable!(),
+    }
+}
+
+// The standard limits, with the nesting that the matches of a subcommand give, if it is one.
+fn given_limits(matches: &ArgMatches<'_>) -> Option<Limits>
+    ensures some { IfSome result (AreLimits (one_text (found_of matches.now) (codes "max-nest"))) }
+    ensures none { IfNone result (GivesNoNest (one_text (found_of matches.now) (codes "max-nest"))) }
+{
+    match matches.try_get_one::<u32>("max-nest") {
+        Ok(Some(nest)) => nested_limits(nest),
+        Ok(None) => Some(Limits::standard()),
+        Err(_) => None,
+    }
+}
+
+// The standard limits, with the nesting that the matches of a subcommand give.
+fn limits_of(matches: &ArgMatches<'_>) -> Limits
+    requires { GivesNest (one_text (found_of matches.now) (codes "max-nest")) }
+    ensures { AreLimits (one_text (found_of matches.now) (codes "max-nest")) result }
+{
+    match given_limits(matches) {
+        Some(limits) => limits,
+        None => unreachable!(),
+    }
+}
+
+// The style that the matches of a subcommand give.
+fn style_of(matches: &ArgMatches<'_>) -> Style
+    ensures { IsStyle (first_value (found_of matches.now) (codes "style")) result }
+{
+    match matches.get_str("style") {
+        Some(name) => style_named(name),
+        None => Style::Full,
+    }
+}
+
+// What the matches of the words ask for.
+fn request_of(matches: &ArgMatches<'_>) -> Request
+    requires named { NamesConversion (subcommand_rows_of matches.now) }
+    requires nest { HasNest (subcommand_rows_of matches.now) }
+    ensures { IsAskedBy (subcommand_rows_of matches.now) result }
+{
+    match matches.subcommand() {
+        Some((name, inner)) => Request {
+            conversion: conversion_of(name),
+            limits: limits_of(inner),
+            style: style_of(inner),
+        },
+        None => unreachable!(),
+    }
+}
+
+// The refusal that an error of `clap` is, with its text.
+fn refusal_of(alloc: Global, error: &Error) -> Refusal
+    ensures memory { kind_of error.now ≡ ErrorKind.OutOfMemory → result ≡ Refusal.Memory }
+    ensures kind { IsRefusal (kind_of error.now) result }
+{
+    let kind = error.kind();
+    if kind == ErrorKind::OutOfMemory {
+        return Refusal::Memory;
+    }
+    let Ok(text) = format!(in alloc; "{error}") else {
+        return Refusal::Memory;
+    };
+    match kind {
+        ErrorKind::DisplayHelp => Refusal::Help(text),
+        ErrorKind::DisplayVersion => Refusal::Version(text),
+        _ => Refusal::Usage(text),
+    }
+}
+
+// What the words ask for, where the styles have these names.
+fn read_styled_words(alloc: Global, styles: &[&str], words: &[String]) -> Result<Request, Refusal>
+    ensures asked { IfOk result (AsksFor (command_line styles.entry) (map string_bytes words.now)) }
+    ensures fits { OnOk result (fault_of (command_line styles.entry) (map string_bytes words.now) ≡ []) }
+    ensures refused { IfErr result (IsRefusalAmong (fault_of (command_line styles.entry) (map string_bytes words.now))) }
+{
+    match matches_of(alloc, styles, words) {
+        Ok(matches) => Ok(request_of(&matches)),
+        Err(error) => Err(refusal_of(alloc, &error)),
+    }
+}
+
+/// What the words ask for, of which the first is the program's name, or why they ask for nothing.
+/// Takes memory to read them, and for the text of a refusal.
+pub fn read_words(alloc: Global, words: &[String]) -> Result<Request, Refusal>
+    ensures { (line : App) × IsCommandLine line × Reads line (map string_bytes words.now) result }
+{
+    let styles = ["full", "plain"];
+    read_styled_words(alloc, styles.as_slice(), words)
+}

@@ -1,7 +1,0 @@
-use Rattle.std.proofs.Common.{arith}
-use Rattle.twkb_engine.proofs.Feeding.{none_of}
-use Rattle.twkb_engine.proofs.Stepping.{runs_ahead}
-use Rattle.twkb_engine.proofs.engine.Engine.take_ahead.Goals as goal
-
-pub returns-clause-ahead : goal.returns-clause-ahead
-returns-clause-ahead c = runs_ahead c.args.rest.now c.args.self.now c.take_points.new.self c.args.flat.now c.take_points.new.flat c.take_points.result (none_of c.args.self.now.partial (omega (arith, c.len.ensures.count, c.if-len-gt0.false))) c.take_points.ensures.run

@@ -1,0 +1,5 @@
+pub mod Lines
+pub mod Printing
+pub mod Status
+pub mod Conversions
+pub mod Carrying

@@ -1,0 +1,14 @@
+//! A request of the command: what it converts, how it is carried out, and what is told of it.
+#![tactic(auto)]
+
+mod carrying;
+mod lines;
+mod refusal;
+mod request;
+mod status;
+
+pub use carrying::{carry_out, lack_memory, lack_words, refuse};
+pub use lines::print_line;
+pub use refusal::Refusal;
+pub use request::{Conversion, Request, nested_limits, style_named};
+pub use status::exit_status;

@@ -1,0 +1,45 @@
+//! What is converted, within which limits and in which style.
+ghost use Rattle.std.specs.Prelude.{◌≡◌, ◌≤◌, ◌↔◌, IfSome, IsSome, codes};
+ghost use Rattle.twkb_geom.specs.Limits.{standard_limits};
+
+use twkb_convert::Style;
+use twkb_geom::Limits;
+
+/// What a request converts.
+#[derive(Clone, Copy, PartialEq, Eq, Debug)]
+pub enum Conversion {
+    /// A table to a stream.
+    Pack,
+    /// A stream to a table.
+    Unpack,
+    /// A stream to lines of its headers.
+    Show,
+}
+
+/// What is asked for.
+#[derive(Clone, Copy, PartialEq, Eq, Debug)]
+pub struct Request {
+    pub conversion: Conversion,
+    pub limits: Limits,
+    /// The style of packed blobs.
+    pub style: Style,
+}
+
+/// The standard limits, with a nesting of 0 to 32, and `None` where it is larger. Takes no memory.
+pub fn nested_limits(nest: u32) -> Option<Limits>
+    ensures accepted { IsSome result ↔ (nest ≤ 32) }
+    ensures value { IfSome result (λ l. l ≡ record standard_limits { nest = nest }) }
+{
+    let standard = Limits::standard();
+    Limits::try_new(nest, standard.nodes(), standard.points())
+}
+
+/// The style of a name: plain for `plain`, and full for any other.
+pub fn style_named(name: &str) -> Style
+    ensures { (result ≡ Style.Plain) ↔ (name.now ≡ codes "plain") }
+{
+    match name {
+        "plain" => Style::Plain,
+        _ => Style::Full,
+    }
+}
