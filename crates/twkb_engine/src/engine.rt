@@ -106,6 +106,14 @@ impl Engine {
         ensures within { IfOk result (λ taken. taken.0 ≤ length_of rest.now) }
         ensures taken { (bs : List ℕ) → StandsAt bs flat.old self.old → IsTakenFrom (allowance_of self.old) bs rest.now result flat.new self.new }
     {
+        if self.partial.len() == 0 {
+            if let Some((to, count)) = self.builder.point_in_front(rest) {
+                return match self.builder.take_point(flat, rest[0], to, count as u64) {
+                    Ok(ended) => Ok((count, ended)),
+                    Err(stop) => Err(stop),
+                };
+            }
+        }
         if let Some((number, count)) = self.front_item(rest) {
             return match self.builder.take(flat, number, count as u64) {
                 Ok(ended) => Ok((count, ended)),
