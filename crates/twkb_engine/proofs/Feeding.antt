@@ -14,13 +14,15 @@ use Rattle.twkb_engine.specs.declared.phase.Phase.{Phase}
 use Rattle.twkb_engine.specs.declared.stop.Stop.{Stop}
 use Rattle.twkb_engine.specs.declared.stop.Stop.TheVariants.{Memory, Refused}
 
--- no bytes were taken, and then the first one
-pub stepped_first : (limits own : Allowance) (bs rest : List ℕ) (used : ℕ) (r : Result Bool Stop) (rs : List Row) (d : Engine) → own ≡ limits → used ≡ 0 → 0 < length rest
-    → IsStep own ((bs ++ take used rest) ++ get_or rest 0 0 ∷ []) r rs d → IsStep limits (bs ++ take 1 rest) r rs d
-stepped_first limits own bs rest used r rs d same none some h =
-    let a : (bs ++ take used rest) ++ get_or rest 0 0 ∷ [] ≡ bs ++ take 1 rest =
-    ap (λ n. (bs ++ take n rest) ++ get_or rest 0 0 ∷ []) none ∙ (ap (λ l. l ++ get_or rest 0 0 ∷ []) (append-nil bs) ∙ ap (λ l. bs ++ l) (sym (take-suc rest 0 0 some))) in
-    subst (λ l. IsStep l (bs ++ take 1 rest) r rs d) same (subst (λ l. IsStep own l r rs d) a h)
+-- no bytes were taken, and then some
+pub taken_first : (limits own : Allowance) (bs rest : List ℕ) (used : ℕ) (r : Result (ℕ × Bool) Stop) (rs : List Row) (d : Engine) → own ≡ limits → used ≡ 0 → IsTakenFrom own (bs ++ take used rest) rest r rs d → IsTakenFrom limits bs rest r rs d
+taken_first limits own bs rest used r rs d same none h =
+    let a : bs ++ take used rest ≡ bs = ap (λ n. bs ++ take n rest) none ∙ append-nil bs in
+    subst (λ l. IsTakenFrom l bs rest r rs d) same (subst (λ l. IsTakenFrom own l rest r rs d) a h)
+
+-- the first byte was taken
+pub stepped_first : (limits : Allowance) (bs rest : List ℕ) (r : Result Bool Stop) (rs : List Row) (d : Engine) → 0 < length rest → IsStep limits (bs ++ get_or rest 0 0 ∷ []) r rs d → IsStep limits (bs ++ take 1 rest) r rs d
+stepped_first limits bs rest r rs d some h = subst (λ l. IsStep limits (bs ++ l) r rs d) (sym (take-suc rest 0 0 some)) h
 
 -- the front of what is left of a piece stands behind what was used
 pub one_front : (bs piece : List ℕ) (used count : ℕ) → (bs ++ take used piece) ++ take count (take (length piece - used) (drop used piece)) ≡ bs ++ take (used + count) piece

@@ -15,3 +15,4 @@ pub mod Ahead
 pub mod Keeping
 pub mod Adding
 pub mod LinePoints
+pub mod BarePoints

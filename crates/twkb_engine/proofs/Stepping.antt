@@ -1,6 +1,6 @@
 -- An engine takes a byte.
 use Rattle.std.proofs.Common.{◌≡◌, inl, inr, ℕ, ◌+◌, ◌<◌, ◌≤◌, List, [], ◌∷◌, ◌++◌, length, refl, sym, ap, ◌∙◌, subst, append_assoc, length-append, take, IfOk, true, false, Bool, Result, Some, Ok, Err, arith}
-use Rattle.std.proofs.lemmas.List.{append-nil}
+use Rattle.std.proofs.lemmas.List.{append-nil, length-take}
 use Rattle.twkb_num.specs.Varint.{IsVarint, IsOpenVarint}
 use Rattle.twkb_geom.specs.Limits.{Allowance}
 use Rattle.twkb_geom.specs.Rows.{Row}
@@ -12,7 +12,7 @@ use Rattle.twkb_outline.proofs.Outlined.{outlined_long}
 use Rattle.twkb_engine.specs.State.{groups_of, IsSpelled, IsByte}
 use Rattle.twkb_engine.specs.Building.{sums_of, outline_in, StandsBehind, IsTaken}
 use Rattle.twkb_engine.specs.Ahead.{RunsBehind}
-use Rattle.twkb_engine.specs.Standing.{StandsAt, LeadsOn, IsStep, allowance_of, held_in, offset_in}
+use Rattle.twkb_engine.specs.Standing.{StandsAt, LeadsOn, IsStep, ItemInFront, allowance_of, held_in, offset_in}
 use Rattle.twkb_engine.specs.declared.builder.Builder.{Builder}
 use Rattle.twkb_engine.specs.declared.engine.Engine.{Engine}
 use Rattle.twkb_engine.specs.declared.stop.Stop.{Stop}
@@ -55,6 +55,23 @@ stepped limits bytes (Err (Refused x)) rs d none t = t
 -- what a builder does with each item of this number and so many bytes that may come next
 abbrev pub Takes : Builder → (n len : ℕ) → List Row → Result Bool Stop → List Row → Builder → Type 0
 Takes b n len rs r more new = (front : List ℕ) (i : Item) → StandsBehind front rs b → outline_role (sums_of b) (outline_in b) ≡ Some i.role → Gives i.role i.number i.bytes → i.number ≡ n → length i.bytes ≡ len → IsTaken b.limits (front ++ i.bytes) r more new
+
+-- whole items that stood in front
+pub whole_stepped : (bs bytes : List ℕ) (rs more : List Row) (d : Engine) (c : Builder) (r : Result Bool Stop) → held_in d ≡ [] → ((front : List ℕ) → StandsBehind front rs d.builder → IsTaken (allowance_of d) (front ++ bytes) r more c) → StandsAt bs rs d
+    → IsStep (allowance_of d) (bs ++ bytes) r more (record { builder = c; partial = d.partial })
+whole_stepped bs bytes rs more d c r none taken s =
+    let e : Engine = record { builder = c; partial = d.partial } in
+    subst (λ l. IsStep (allowance_of d) (l ++ bytes) r more e) (sym (all_whole bs rs d none s)) (stepped (allowance_of d) (s.front ++ bytes) r more e none (taken s.front (before_item bs rs d s)))
+
+-- an item
+pub item_stepped : (bs rest : List ℕ) (n count : ℕ) (rs more : List Row) (d : Engine) (c : Builder) (r : Result Bool Stop) → ItemInFront d rest n count → Takes d.builder n count rs r more c → StandsAt bs rs d
+    → IsStep (allowance_of d) (bs ++ take count rest) r more (record { builder = c; partial = d.partial })
+item_stepped bs rest n count rs more d c r f takes s =
+    let b = d.builder in
+    let role = has_role (length (groups_of b.groups.items)) b.bytes b.phase b.waits in
+    let i : Item = record { role = role.0; number = n; bytes = take count rest } in
+    let size : length (take count rest) ≡ count = let within = f.within in omega (arith, length-take count rest, within) in
+    whole_stepped bs (take count rest) rs more d c r f.alone (λ front here. takes front i here role.1 (f.gives role.0 role.1) refl size) s
 
 -- a byte at a byte's place
 pub byte_stepped : (bs : List ℕ) (u : ℕ) (rs more : List Row) (d e : Engine) (r : Result Bool Stop) → StandsAt bs rs d → IsByte d.builder.phase → u < 256 → held_in e ≡ held_in d

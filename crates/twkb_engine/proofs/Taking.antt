@@ -1,5 +1,5 @@
 -- A builder takes an item.
-use Rattle.std.proofs.Common.{◌≡◌, ℕ, List, [], ◌++◌, sym, ap, ◌∙◌, subst, append_assoc, true, false, Bool, Result, Some, None, Ok, Err, OnOk}
+use Rattle.std.proofs.Common.{◌≡◌, ℕ, List, [], ◌++◌, sym, ◌∙◌, subst, append_assoc, true, false, Bool, Result, Some, None, Ok, Err, OnOk}
 use Rattle.twkb_geom.specs.Limits.{Allowance}
 use Rattle.twkb_geom.specs.Rows.{Row}
 use Rattle.twkb_grammar.specs.Fault as fault
@@ -12,7 +12,7 @@ use Rattle.twkb_outline.specs.Outline.{Outline, OnFinished, outline_role, outlin
 use Rattle.twkb_outline.specs.Growing.{applied, change_of}
 use Rattle.twkb_outline.specs.Reading.{Outlined, OutlineLanded, outline_after, change_after}
 use Rattle.twkb_outline.proofs.Outlined.{outlined_item, outlined_refused, outlined_ends, outlined_whole}
-use Rattle.twkb_engine.specs.State.{groups_of, step_of, IsPlacedIn}
+use Rattle.twkb_engine.specs.State.{IsPlacedIn}
 use Rattle.twkb_engine.specs.Stops.{reason_of}
 use Rattle.twkb_engine.specs.Building.{sums_of, outline_in, refusal, objection_at, StandsBehind, IsAt, IsTaken}
 use Rattle.twkb_engine.specs.declared.builder.Builder.{Builder}
@@ -21,7 +21,7 @@ use Rattle.twkb_engine.specs.declared.stop.Stop.{Stop}
 use Rattle.twkb_engine.specs.declared.stop.Stop.TheVariants.{Memory, Refused}
 
 -- what the code did with the ends behind an item, where the laws say how it goes on
-landed : (limits : Allowance) (bytes : List ℕ) (e : Sums) (rs more : List Row) (way : Result Outline fault.Reason) (r : Result Bool Stop) (b : Builder) → b.limits ≡ limits
+pub landed : (limits : Allowance) (bytes : List ℕ) (e : Sums) (rs more : List Row) (way : Result Outline fault.Reason) (r : Result Bool Stop) (b : Builder) → b.limits ≡ limits
     → OutlineLanded limits bytes e rs way → IsAt way e r b → OnOk r (more ≡ rs) → OnOk r (IsPlacedIn b.groups.items b.phase) → IsTaken limits bytes r more b
 landed limits bytes e rs more way (Ok false) b same l at grown placed =
     let a : Outlined limits bytes e (outline_in b) rs = subst (λ w. OutlineLanded limits bytes e rs w) at.0 l in

@@ -1,8 +1,8 @@
 -- What stands in front of bytes.
-use Rattle.std.specs.Prelude.{◌≡◌, true, ◌+ℤ◌, ℕ, ◌<◌, ◌≤◌, List, length, take}
+use Rattle.std.specs.Prelude.{◌≡◌, true, ◌+ℤ◌, ℕ, ◌<◌, ◌≤◌, List, ◌∷◌, length, take, get_or, ◌%◌}
 use Rattle.twkb_num.specs.Varint.{IsVarint}
 use Rattle.twkb_num.specs.Zigzag.{unzigzag_of}
-use Rattle.twkb_points.specs.Point.{Point, point_at}
+use Rattle.twkb_points.specs.Point.{Point, point_at, origin}
 use Rattle.twkb_grammar.specs.PlainReader.{in_range}
 use Rattle.twkb_outline.specs.Reading.{Pair}
 
@@ -17,6 +17,15 @@ pub record PointInFront (from : Point) (bytes : List ℕ) (to : Point) (count : 
   pub some : 0 < count
   pub within : count ≤ length bytes
   pub pair : Pair from (take count bytes) to
+
+-- so many of the bytes are a point behind a header of its own that asks for nothing
+pub record BarePoint (bytes : List ℕ) (to : Point) (count : ℕ) : Type 0 where
+  pub some : 0 < count
+  pub within : count ≤ length bytes
+  pub kind : get_or bytes 0 0 % 16 ≡ 1
+  pub steps : List ℕ
+  pub whole : take count bytes ≡ get_or bytes 0 0 ∷ 0 ∷ steps
+  pub pair : Pair origin steps to
 
 -- two numbers spell the steps from one point to another, both in range
 pub record StepsTo (from : Point) (x y : ℕ) (to : Point) : Type 0 where

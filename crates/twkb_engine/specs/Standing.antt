@@ -1,10 +1,13 @@
 -- What an engine stands for.
-use Rattle.std.specs.Prelude.{◌≡◌, ◌⊎◌, ℕ, ◌+◌, ◌<◌, ◌≤◌, List, [], ◌++◌, length, take, Bool, true, false, Result, Ok, Err, ⊤}
+use Rattle.std.specs.Prelude.{◌≡◌, ◌⊎◌, ℕ, ◌+◌, ◌<◌, ◌≤◌, List, [], ◌++◌, length, take, Bool, true, false, Result, Ok, Err, Some, ⊤}
 use Rattle.twkb_geom.specs.Tree.{Tree}
 use Rattle.twkb_geom.specs.Limits.{Allowance}
 use Rattle.twkb_geom.specs.Rows.{Row, rows}
 use Rattle.twkb_grammar.specs.Blob.{Blob}
 use Rattle.twkb_grammar.specs.Fault.{FirstFault, Reason, Truncated}
+use Rattle.twkb_grammar.specs.Roles.{Role}
+use Rattle.twkb_grammar.specs.Reading.{Gives}
+use Rattle.twkb_outline.specs.Outline.{outline_role}
 use Rattle.twkb_outline.specs.Reading.{Outlined, open_count}
 use Rattle.twkb_outline.specs.Noting.{notes_in}
 use Rattle.twkb_engine.specs.State.{IsSpelled, IsPlacedIn, step_of}
@@ -55,6 +58,14 @@ pub record StandsAt (bytes : List ℕ) (rs : List Row) (d : Engine) : Type 0 whe
 -- wherever the engine stands, these bytes lead it on, and note nothing of spans
 abbrev pub LeadsOn : List Row → Engine → List ℕ → List Row → Engine → Type 0
 LeadsOn rs d bytes more e = (front : List ℕ) (s : StandsAt front rs d) → (t : StandsAt (front ++ bytes) more e) × ((start : ℕ) → notes_in start t.outlined ≡ notes_in start s.outlined)
+
+-- no byte is held, and so many of the bytes say this number in the role of the next item
+pub record ItemInFront (d : Engine) (bytes : List ℕ) (n count : ℕ) : Type 0 where
+  pub alone : held_in d ≡ []
+  pub some : 0 < count
+  pub within : count ≤ length bytes
+  pub fits : (n < 256) ⊎ IsSpelled d.builder.phase
+  pub gives : (r : Role) → outline_role (sums_of d.builder) (outline_in d.builder) ≡ Some r → Gives r n (take count bytes)
 
 -- the bytes are a blob so far, or a blob with these rows and none of a further one, or they have a first fault, whatever follows
 abbrev pub IsStep : Allowance → List ℕ → Result Bool Stop → List Row → Engine → Type 0

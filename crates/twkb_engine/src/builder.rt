@@ -36,7 +36,7 @@ pub struct Builder {
     alloc: Global,
     pub limits: Limits,
     pub bytes: u64,
-    position: Pt,
+    pub position: Pt,
     nodes: u64,
     pub points: u64,
     pub groups: Groups,
@@ -184,7 +184,7 @@ impl Builder {
     }
 
     /// A geometry ends; answers whether it is the outermost one.
-    fn finish(&mut self, head: Head) -> Result<bool, Stop>
+    pub fn finish(&mut self, head: Head) -> Result<bool, Stop>
         ensures limits { self.new.limits ≡ self.old.limits }
         ensures bytes { self.new.bytes ≤ self.old.bytes }
         ensures landed { IsAt (outline_past_end (exact head.size (self.old.bytes - head.from)) self.old.bytes (groups_of self.old.groups.items)) (sums_of self.old) result self.new }

@@ -1,12 +1,13 @@
 //! A blob that is read byte by byte into a flat form.
-ghost use Rattle.std.specs.Prelude.{◌≡◌, IfOk, ◌+◌, ◌<◌, ◌≤◌, ◌^◌, ◌++◌, ◌∷◌, [], List, ℕ, take, length as length_of};
+ghost use Rattle.std.specs.Prelude.{◌≡◌, IfOk, ◌+◌, ◌<◌, ◌≤◌, ◌^◌, ◌++◌, ◌∷◌, [], List, ℕ, take, IfSome, length as length_of};
 ghost use Rattle.twkb_num.specs.Varint.{IsOpenVarint};
 ghost use Rattle.twkb_geom.specs.Rows.{Row};
-ghost use Rattle.twkb_engine.specs.Standing.{StandsAt, LeadsOn, IsStep, IsTakenFrom, IsFed, IsEnd, count_of, offset_in, points_in, awaited_in, held_in, open_in, allowance_of};
+ghost use Rattle.twkb_engine.specs.Standing.{StandsAt, LeadsOn, IsStep, IsTakenFrom, ItemInFront, IsFed, IsEnd, count_of, offset_in, points_in, awaited_in, held_in, open_in, allowance_of};
 
 use crate::awaited::Awaited;
 use crate::blob_reason::BlobReason;
 use crate::builder::Builder;
+use crate::front::front_number;
 use crate::phase::{Phase, wants_byte};
 use crate::stop::Stop;
 use std::alloc::{AllocError, Global};
@@ -78,6 +79,53 @@ impl Engine {
         self.builder.take_points(flat, rest)
     }
 
+    /// The number of the next item and how many bytes it has, where no byte of it is held and it stands whole in front.
+    #[inline]
+    fn front_item(&self, rest: &[u8]) -> Option<(u64, usize)>
+        requires some { 0 < length_of rest.now }
+        ensures { IfSome result (λ item. ItemInFront self.now rest.now item.0 item.1) }
+    {
+        if self.partial.len() > 0 {
+            return None;
+        }
+        if wants_byte(&self.builder.phase) {
+            return Some((u64::from(rest[0]), 1));
+        }
+        front_number(rest)
+    }
+
+    /// Takes the next item, or a byte of it where it does not stand whole in front, and answers how many bytes were taken, and whether a
+    /// geometry ends behind them.
+    fn take_item(&mut self, flat: &mut Flat, rest: &[u8]) -> Result<(usize, bool), Stop>
+        requires some { 0 < length_of rest.now }
+        requires room { count_of self.old + length_of rest.now ≤ 2 ^ 63 }
+        ensures limits { allowance_of self.new ≡ allowance_of self.old }
+        ensures count { IfOk result (λ taken. count_of self.new ≤ count_of self.old + taken.0) }
+        ensures few { count_of self.new ≤ count_of self.old + length_of rest.now }
+        ensures some { IfOk result (λ taken. 0 < taken.0) }
+        ensures within { IfOk result (λ taken. taken.0 ≤ length_of rest.now) }
+        ensures taken { (bs : List ℕ) → StandsAt bs flat.old self.old → IsTakenFrom (allowance_of self.old) bs rest.now result flat.new self.new }
+    {
+        if self.partial.len() == 0 {
+            if let Some((to, count)) = self.builder.point_in_front(rest) {
+                return match self.builder.take_point(flat, rest[0], to, count as u64) {
+                    Ok(ended) => Ok((count, ended)),
+                    Err(stop) => Err(stop),
+                };
+            }
+        }
+        if let Some((number, count)) = self.front_item(rest) {
+            return match self.builder.take(flat, number, count as u64) {
+                Ok(ended) => Ok((count, ended)),
+                Err(stop) => Err(stop),
+            };
+        }
+        match self.step(flat, rest[0]) {
+            Ok(ended) => Ok((1, ended)),
+            Err(stop) => Err(stop),
+        }
+    }
+
     /// Takes the next bytes of a piece, one at least, and answers how many, and whether a geometry ends behind them.
     fn take_some(&mut self, flat: &mut Flat, rest: &[u8]) -> Result<(usize, bool), Stop>
         requires some { 0 < length_of rest.now }
@@ -96,10 +144,7 @@ impl Engine {
         if used > 0 {
             return Ok((used, false));
         }
-        match self.step(flat, rest[0]) {
-            Ok(ended) => Ok((1, ended)),
-            Err(stop) => Err(stop),
-        }
+        self.take_item(flat, rest)
     }
 
     /// Takes bytes up to the end of a geometry, else all of them, and answers how many, and whether a geometry ends behind them. The

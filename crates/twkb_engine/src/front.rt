@@ -44,7 +44,7 @@ fn short_number(bytes: &[u8]) -> Option<(u64, usize)>
 }
 
 /// The number that stands in front, and how many bytes it has; `None` where its varint is not whole, or is none.
-fn front_number(bytes: &[u8]) -> Option<(u64, usize)>
+pub fn front_number(bytes: &[u8]) -> Option<(u64, usize)>
     ensures { IfSome result (λ front. NumberInFront bytes.now front.0 front.1) }
 {
     twkb_num::laws::varints();

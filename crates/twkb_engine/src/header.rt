@@ -93,7 +93,7 @@ fn id_within(groups: &Groups) -> Option<i64>
 }
 
 /// The header behind a metadata byte, before its optional parts.
-fn head_within(groups: &Groups, typed: Typed, bytes: u64, number: u64) -> Head
+pub fn head_within(groups: &Groups, typed: Typed, bytes: u64, number: u64) -> Head
     requires few { IsShallow groups.now.items }
     requires byte { number < 256 }
     ensures head { head_of result ≡ record { precision = typed.precision; meta = number; size = None; from = bytes } }

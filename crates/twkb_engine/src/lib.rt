@@ -19,6 +19,7 @@ mod runs;
 mod site;
 mod steps;
 mod stop;
+mod whole;
 
 pub use awaited::Awaited;
 pub use blob_reason::BlobReason;

@@ -1,4 +1,4 @@
-use Rattle.std.proofs.Common.{rules, ◌≡◌, ◌∙◌, ap, subst, refl, SFits, w64}
+use Rattle.std.proofs.Common.{rules, ◌∙◌, ap, subst, refl, SFits, w64}
 use Rattle.std.specs.Prelude.{◌+ℤ◌}
 use Rattle.std.proofs.lemmas.Int.{to_z-of_z}
 use Rattle.twkb_num.specs.Zigzag.{unzigzag_of}
