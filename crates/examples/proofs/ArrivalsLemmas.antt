@@ -87,20 +87,24 @@ pub bytes_none : (told : Option (List ℕ)) (session : Session) → Stands [] []
 bytes_none told session stands = record { bytes = []; geometries = []; stands = stands; used = Consumes-nil told; size = refl; counted = refl }
 
 -- one piece more: the front of a buffer
-pub bytes_more : (told rest left : Option (List ℕ)) (taken count size more : ℕ) (buffer piece : List ℕ) (old new : Session) (took : TookBytes told rest taken count old)
-    → size ≤ length buffer → piece ≡ take size buffer → TookPiece took.bytes took.geometries piece more new → Consumes rest left (take size buffer) → TookBytes told left (taken + size) (count + more) new
-bytes_more told rest left taken count size more buffer piece old new took fits cut one used = record {
+pub bytes_more : (told rest left : Option (List ℕ)) (taken count n more : ℕ) (buffer piece : List ℕ) (old new : Session) (took : TookBytes told rest taken count old)
+    → n ≤ length buffer → piece ≡ take n buffer → TookPiece took.bytes took.geometries piece more new → Consumes rest left (take n buffer) → TookBytes told left (taken + n) (count + more) new
+bytes_more told rest left taken count n more buffer piece old new took fits cut one used = record {
   bytes = took.bytes ++ piece;
   geometries = took.geometries ++ one.more;
   stands = one.stands;
   used = Consumes-trans told rest left took.bytes piece took.used (subst (λ bs. Consumes rest left bs) (sym cut) used);
-  size = omega (arith, took.size, length-append took.bytes piece, ap length cut, length-take-le size buffer fits);
+  size = omega (arith, took.size, length-append took.bytes piece, ap length cut, length-take-le n buffer fits);
   counted = omega (arith, took.counted, one.counted, length-append took.geometries one.more);
 }
 
 -- so fewer bytes may still be taken
-pub bytes_fewer : (told rest : Option (List ℕ)) (taken count size : ℕ) (session : Session) → TookBytes told rest (taken + size) count session → 0 < size → 2 ^ 62 - (taken + size) < 2 ^ 62 - taken
-bytes_fewer told rest taken count size session took some = omega (arith, took.size, took.stands.few, some)
+pub bytes_fewer : (told rest : Option (List ℕ)) (taken count n : ℕ) (session : Session) → TookBytes told rest (taken + n) count session → 0 < n → 2 ^ 62 - (taken + n) < 2 ^ 62 - taken
+bytes_fewer told rest taken count n session took some = omega (arith, took.size, took.stands.few, some)
+
+-- and the geometries are still no more than the bytes
+pub few_more : (geometries bytes n more : ℕ) (buffer piece : List ℕ) → geometries ≤ bytes → more ≤ length piece → piece ≡ take n buffer → n ≤ length buffer → geometries + more ≤ bytes + n
+few_more geometries bytes n more buffer piece few fewer cut fits = omega (arith, few, fewer, ap length cut, length-take-le n buffer fits)
 
 -- at the end of the device
 pub bytes_all : (limits : Allowance) (told rest left : Option (List ℕ)) (taken count : ℕ) (session : Session) (took : TookBytes told rest taken count session)
