@@ -1,5 +1,0 @@
-pub mod RunLemmas
-pub mod FillLemmas
-pub mod LengthLemmas
-pub mod MeasureLemmas
-pub mod ExportLemmas
