@@ -8,7 +8,7 @@ use Rattle.std.specs.Io.KnownBytes.{Consumes, IsAtEnd}
 use Rattle.twkb_geom.specs.Tree.{Tree}
 use Rattle.twkb_geom.specs.Limits.{Allowance}
 use Rattle.twkb_grammar.specs.Blob.{Stream}
-use Rattle.twkb_blob.specs.Sessions.{FedFlat, Stands, session_limits}
+use Rattle.twkb_blob.specs.Sessions.{FedFlat, Stands}
 use Rattle.twkb_blob.specs.declared.session.Session.{Session}
 use Rattle.examples.specs.Counting.{HasGeometries, TookPiece}
 

@@ -1,5 +1,5 @@
 -- The points of blobs that a reader gave, counted.
-use Rattle.std.proofs.Common.{◌≡◌, ◌∙◌, ◌+◌, ℕ, List, [], ◌∷◌, ◌++◌, Option, length, ap, arith, refl, sym, subst, length-append, false}
+use Rattle.std.proofs.Common.{◌≡◌, ◌∙◌, ◌+◌, ℕ, List, [], ◌∷◌, ◌++◌, Option, length, arith, refl, sym, subst, length-append, false}
 use Rattle.std.specs.Prelude.{None, Some, Ok, IfSome}
 use Rattle.std.proofs.lemmas.List.{append-nil}
 use Rattle.std.proofs.KnownBytes.{Consumes-nil, Consumes-trans, Consumes-whole}
