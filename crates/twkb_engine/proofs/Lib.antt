@@ -1,7 +1,4 @@
-pub mod Ranges
 pub mod NameLemmas
-pub mod InFront
-pub mod Numbers
 pub mod PointRuns
 pub mod Groups
 pub mod Depth

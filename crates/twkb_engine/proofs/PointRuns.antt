@@ -16,7 +16,7 @@ use Rattle.twkb_outline.specs.Growing.{applied, NewPoint, point_change, id_in}
 use Rattle.twkb_outline.specs.Reading.{Pair, sums_past, point_after}
 use Rattle.twkb_outline.specs.Noting.{NotedOutline}
 use Rattle.twkb_outline.proofs.NotedPairs.{noted_point}
-use Rattle.twkb_engine.specs.Front.{PointInFront}
+use Rattle.twkb_front.specs.Front.{PointInFront}
 use Rattle.twkb_engine.specs.Body.{form_of, spot_of, after_of}
 use Rattle.twkb_engine.specs.Names.{ids_of}
 use Rattle.twkb_engine.specs.Steps.{body_at}

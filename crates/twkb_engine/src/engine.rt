@@ -7,11 +7,11 @@ ghost use Rattle.twkb_engine.specs.Standing.{StandsAt, LeadsOn, IsStep, IsTakenF
 use crate::awaited::Awaited;
 use crate::blob_reason::BlobReason;
 use crate::builder::Builder;
-use crate::front::front_number;
 use crate::phase::{Phase, wants_byte};
 use crate::stop::Stop;
 use std::alloc::{AllocError, Global};
 use twkb_flat::Flat;
+use twkb_front::front_number;
 use twkb_geom::Limits;
 use twkb_num::{Leb128, Partial, Step};
 

@@ -9,13 +9,13 @@ ghost use Rattle.twkb_engine.specs.Running.{ListRuns, HasLists, outer};
 ghost use Rattle.twkb_engine.specs.declared.place.Head.{Head};
 
 use crate::body::Body;
-use crate::front::front_point;
 use crate::lefts::{Lefts, Spot, shut_point};
 use crate::names::Names;
 use crate::place::Head;
 use crate::site::{Form, put_point};
 use std::alloc::AllocError;
 use twkb_flat::Flat;
+use twkb_front::front_point;
 use twkb_points::Pt;
 
 /// Points that were taken.

@@ -4,14 +4,13 @@ ghost use Rattle.twkb_engine.specs.Front.{BarePoint};
 ghost use Rattle.twkb_engine.specs.declared.phase.Phase.TheVariants.{Header};
 
 use crate::builder::Builder;
-use crate::front::front_point;
 use crate::header::{head_within, precision_at};
-use crate::motion::origin;
 use crate::phase::{Kind, Phase};
 use crate::place::Typed;
 use crate::site::{Form, put_point};
 use crate::stop::Stop;
 use twkb_flat::Flat;
+use twkb_front::{front_point, origin};
 use twkb_points::Pt;
 
 /// Bytes of a header that asks for no optional part: a type byte and a metadata byte.

@@ -3,8 +3,8 @@ use Rattle.std.specs.Prelude.{◌+ℤ◌}
 use Rattle.std.proofs.lemmas.Int.{to_z-of_z}
 use Rattle.twkb_num.specs.Zigzag.{unzigzag_of}
 use Rattle.twkb_points.specs.Point.{IsCoordinate, point_at}
-use Rattle.twkb_engine.proofs.Ranges.{passes}
-use Rattle.twkb_engine.proofs.front.near.Goals as goal
+use Rattle.twkb_front.proofs.Ranges.{passes}
+use Rattle.twkb_front.proofs.points.near.Goals as goal
 
 pub returns : goal.returns
 returns c =

@@ -1,66 +1,13 @@
-//! What stands whole in front of bytes: a number, or a point by its two steps.
-ghost use Rattle.std.specs.Prelude.{◌≡◌, ◌<◌, ◌^◌, ◌+ℤ◌, ◌++◌, ◌∷◌, [], IfSome, take};
-ghost use Rattle.twkb_num.specs.Varint.{IsVarint};
+//! Points that stand whole in front of bytes, by the two steps to them.
+ghost use Rattle.std.specs.Prelude.{◌≡◌, ◌<◌, ◌^◌, ◌+ℤ◌, IfSome};
 ghost use Rattle.twkb_num.specs.Zigzag.{unzigzag_of};
 ghost use Rattle.twkb_points.specs.Point.{IsCoordinate};
-ghost use Rattle.twkb_engine.specs.Front.{NumberInFront, PointInFront, StepsTo};
+ghost use Rattle.twkb_front.specs.Front.{PointInFront, StepsTo};
 
 use crate::motion::{moved_x, moved_y};
-use twkb_num::{Leb128, Partial, Step, unzigzag};
+use crate::numbers::{byte_number, front_number, short_number};
+use twkb_num::unzigzag;
 use twkb_points::Pt;
-
-/// A byte with this bit set goes on (TWKB, varints).
-pub const GOES_ON: u8 = 0x80;
-
-/// The number that stands in front in one byte.
-#[inline(always)]
-fn byte_number(bytes: &[u8]) -> Option<u64>
-    ensures front { IfSome result (λ number. NumberInFront bytes.now number 1) }
-    ensures small { IfSome result (λ number. number < 2 ^ 14) }
-{
-    let first = *bytes.first()?;
-    if first < GOES_ON {
-        Some(u64::from(first))
-    } else {
-        None
-    }
-}
-
-/// The number that stands in front in one or two bytes, and how many those are.
-#[inline(always)]
-fn short_number(bytes: &[u8]) -> Option<(u64, usize)>
-    ensures front { IfSome result (λ front. NumberInFront bytes.now front.0 front.1) }
-    ensures small { IfSome result (λ front. front.0 < 2 ^ 14) }
-{
-    let first = *bytes.first()?;
-    if first < GOES_ON {
-        return Some((u64::from(first), 1));
-    }
-    let second = *bytes.get(1)?;
-    if second < GOES_ON {
-        return Some((u64::from(first - GOES_ON) + u64::from(second) * 128, 2));
-    }
-    None
-}
-
-/// The number that stands in front, and how many bytes it has; `None` where its varint is not whole, or is none.
-pub fn front_number(bytes: &[u8]) -> Option<(u64, usize)>
-    ensures { IfSome result (λ front. NumberInFront bytes.now front.0 front.1) }
-{
-    twkb_num::laws::varints();
-    if let Some(front) = short_number(bytes) {
-        return Some(front);
-    }
-    let mut partial = Partial::<Leb128>::new();
-    for (index, byte) in bytes.iter().enumerate() {
-        match partial.step(*byte) {
-            Step::More => {}
-            Step::Done { value, .. } => return Some((value, index + 1)),
-            Step::TooLong | Step::BadUnit => return None,
-        }
-    }
-    None
-}
 
 /// The step that a number of one or two bytes spells.
 #[inline(always)]

@@ -1,8 +1,8 @@
 use Rattle.std.proofs.Common.{◌∙◌, sym, subst, rules, SFits, w64}
 use Rattle.std.proofs.lemmas.Int.{to_z-of_z}
 use Rattle.twkb_points.specs.Point.{IsCoordinate}
-use Rattle.twkb_engine.proofs.Numbers.{unzigzag_back, small_step}
-use Rattle.twkb_engine.proofs.front.short_step.Goals as goal
+use Rattle.twkb_front.proofs.Steps.{unzigzag_back, small_step}
+use Rattle.twkb_front.proofs.points.short_step.Goals as goal
 
 pub returns-clause-value : goal.returns-clause-value
 returns-clause-value c =

@@ -1,14 +1,10 @@
--- Coordinates and precisions in the code.
-use Rattle.std.proofs.Common.{◌≡◌, ◌<◌, ◌^◌, true, pos, negsuc, SFits, w8, arith, rules}
+-- Coordinates in the code.
+use Rattle.std.proofs.Common.{◌≡◌, ◌<◌, ◌^◌, true, pos, negsuc, arith}
 use Rattle.std.specs.Prelude.{ℤ}
 use Rattle.std.proofs.lemmas.Bool.Decides.{nat_tests}
 use Rattle.std.proofs.lemmas.Int.{ints}
 use Rattle.twkb_points.specs.Point.{IsCoordinate}
-use Rattle.twkb_geom.specs.Tree.{IsPrecision}
 use Rattle.twkb_grammar.specs.PlainReader.{in_range}
-
-pub precision_fits : (n : ℤ) → IsPrecision n → SFits w8 n
-precision_fits n h = search rules
 
 -- a number that passes is a coordinate
 pub coordinate : (z : ℤ) → in_range z ≡ true → IsCoordinate z

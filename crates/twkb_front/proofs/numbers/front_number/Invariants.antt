@@ -1,5 +1,5 @@
 use Rattle.std.proofs.Common.{◌≡◌, take}
-use Rattle.twkb_engine.proofs.front.front_number.Given as goal
+use Rattle.twkb_front.proofs.numbers.front_number.Given as goal
 
 -- the bytes so far are held
 abbrev pub invariant-loop-index : goal.invariant-loop-index

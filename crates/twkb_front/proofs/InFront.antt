@@ -6,8 +6,8 @@ use Rattle.std.proofs.lemmas.List.{length-drop, take_rest}
 use Rattle.twkb_num.specs.Zigzag.{zigzag_of, unzigzag_of}
 use Rattle.twkb_points.specs.Point.{Point, point_at}
 use Rattle.twkb_grammar.specs.PlainReader.{in_range}
-use Rattle.twkb_engine.specs.Front.{NumberInFront, PointInFront, StepsTo}
-use Rattle.twkb_engine.proofs.Numbers.{unzigzag_back}
+use Rattle.twkb_front.specs.Front.{NumberInFront, PointInFront, StepsTo}
+use Rattle.twkb_front.proofs.Steps.{unzigzag_back}
 
 -- two numbers, one behind the other, are the steps to a point
 pub pair_in_front : (from to : Point) (bytes : List ℕ) (x y w h : ℕ) → NumberInFront bytes x w → NumberInFront (take (length bytes - w) (drop w bytes)) y h → StepsTo from x y to → PointInFront from bytes to (w + h)

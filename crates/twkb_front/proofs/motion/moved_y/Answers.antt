@@ -2,8 +2,8 @@ use Rattle.std.proofs.Common.{◌≡◌, SFits, w64, subst, sym, ap, ◌∙◌, 
 use Rattle.std.specs.Prelude.{◌+ℤ◌}
 use Rattle.std.proofs.lemmas.Int.{to_z-of_z}
 use Rattle.twkb_points.specs.Point.{IsCoordinate}
-use Rattle.twkb_engine.proofs.Ranges.{coordinate, passes}
-use Rattle.twkb_engine.proofs.motion.moved_y.Goals as goal
+use Rattle.twkb_front.proofs.Ranges.{coordinate, passes}
+use Rattle.twkb_front.proofs.motion.moved_y.Goals as goal
 
 pub returns-clause-range : goal.returns-clause-range
 returns-clause-range c =

@@ -1,0 +1,25 @@
+-- What stands in front of bytes.
+use Rattle.std.specs.Prelude.{◌≡◌, true, ◌+ℤ◌, ℕ, ◌<◌, ◌≤◌, List, length, take}
+use Rattle.twkb_num.specs.Varint.{IsVarint}
+use Rattle.twkb_num.specs.Zigzag.{unzigzag_of}
+use Rattle.twkb_points.specs.Point.{Point, point_at}
+use Rattle.twkb_grammar.specs.PlainReader.{in_range}
+use Rattle.twkb_outline.specs.Reading.{Pair}
+
+-- so many of the bytes spell this number
+pub record NumberInFront (bytes : List ℕ) (n count : ℕ) : Type 0 where
+  pub some : 0 < count
+  pub within : count ≤ length bytes
+  pub spelled : IsVarint (take count bytes) n
+
+-- so many of the bytes are the two numbers of a point
+pub record PointInFront (from : Point) (bytes : List ℕ) (to : Point) (count : ℕ) : Type 0 where
+  pub some : 0 < count
+  pub within : count ≤ length bytes
+  pub pair : Pair from (take count bytes) to
+
+-- two numbers spell the steps from one point to another, both in range
+pub record StepsTo (from : Point) (x y : ℕ) (to : Point) : Type 0 where
+  pub x_kept : in_range (from.x +ℤ unzigzag_of x) ≡ true
+  pub y_kept : in_range (from.y +ℤ unzigzag_of y) ≡ true
+  pub leads : to ≡ point_at (from.x +ℤ unzigzag_of x) (from.y +ℤ unzigzag_of y)

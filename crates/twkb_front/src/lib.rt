@@ -1,0 +1,11 @@
+//! What stands whole in front of bytes, taken at once: a number, and a point by the two steps to it. `None` says nothing: what is not
+//! taken so is read byte by byte.
+#![tactic(auto)]
+
+mod motion;
+mod numbers;
+mod points;
+
+pub use motion::{moved_x, moved_y, origin};
+pub use numbers::front_number;
+pub use points::front_point;

@@ -1,0 +1,59 @@
+//! Numbers that stand whole in front of bytes.
+ghost use Rattle.std.specs.Prelude.{◌≡◌, ◌<◌, ◌^◌, ◌++◌, ◌∷◌, [], IfSome, take};
+ghost use Rattle.twkb_num.specs.Varint.{IsVarint};
+ghost use Rattle.twkb_front.specs.Front.{NumberInFront};
+
+use twkb_num::{Leb128, Partial, Step};
+
+/// A byte with this bit set goes on (TWKB, varints).
+const GOES_ON: u8 = 0x80;
+
+/// The number that stands in front in one byte.
+#[inline(always)]
+pub(crate) fn byte_number(bytes: &[u8]) -> Option<u64>
+    ensures front { IfSome result (λ number. NumberInFront bytes.now number 1) }
+    ensures small { IfSome result (λ number. number < 2 ^ 14) }
+{
+    let first = *bytes.first()?;
+    if first < GOES_ON {
+        Some(u64::from(first))
+    } else {
+        None
+    }
+}
+
+/// The number that stands in front in one or two bytes, and how many those are.
+#[inline(always)]
+pub(crate) fn short_number(bytes: &[u8]) -> Option<(u64, usize)>
+    ensures front { IfSome result (λ front. NumberInFront bytes.now front.0 front.1) }
+    ensures small { IfSome result (λ front. front.0 < 2 ^ 14) }
+{
+    let first = *bytes.first()?;
+    if first < GOES_ON {
+        return Some((u64::from(first), 1));
+    }
+    let second = *bytes.get(1)?;
+    if second < GOES_ON {
+        return Some((u64::from(first - GOES_ON) + u64::from(second) * 128, 2));
+    }
+    None
+}
+
+/// The number that stands in front, and how many bytes it has; `None` where its varint is not whole, or is none.
+pub fn front_number(bytes: &[u8]) -> Option<(u64, usize)>
+    ensures { IfSome result (λ front. NumberInFront bytes.now front.0 front.1) }
+{
+    twkb_num::laws::varints();
+    if let Some(front) = short_number(bytes) {
+        return Some(front);
+    }
+    let mut partial = Partial::<Leb128>::new();
+    for (index, byte) in bytes.iter().enumerate() {
+        match partial.step(*byte) {
+            Step::More => {}
+            Step::Done { value, .. } => return Some((value, index + 1)),
+            Step::TooLong | Step::BadUnit => return None,
+        }
+    }
+    None
+}
