@@ -12,4 +12,4 @@ pub mod Ahead
 pub mod Keeping
 pub mod Adding
 pub mod LinePoints
-pub mod BarePoints
+pub mod WholePoints

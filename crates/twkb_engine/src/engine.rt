@@ -107,8 +107,9 @@ impl Engine {
         ensures taken { (bs : List ℕ) → StandsAt bs flat.old self.old → IsTakenFrom (allowance_of self.old) bs rest.now result flat.new self.new }
     {
         if self.partial.len() == 0 {
-            if let Some((to, count)) = self.builder.point_in_front(rest) {
-                return match self.builder.take_point(flat, rest[0], to, count as u64) {
+            if let Some(point) = self.builder.point_in_front(rest) {
+                let count = point.used;
+                return match self.builder.take_point(flat, rest[0], point) {
                     Ok(ended) => Ok((count, ended)),
                     Err(stop) => Err(stop),
                 };

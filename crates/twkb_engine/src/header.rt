@@ -154,7 +154,7 @@ fn next_part(metadata: u8, part: Optional) -> Option<Optional>
 }
 
 /// The header with an optional part of this number, behind so many bytes.
-fn head_with(mut head: Head, part: Optional, bytes: u64, number: u64) -> Head
+pub fn head_with(mut head: Head, part: Optional, bytes: u64, number: u64) -> Head
     ensures head { head_of result ≡ with_option (head_of head) (role_of_part part) number bytes }
     ensures precision { result.precision ≡ head.precision }
     ensures metadata { result.metadata ≡ head.metadata }

@@ -1,46 +1,86 @@
 //! A point that stands whole in front, with its header.
 ghost use Rattle.std.specs.Prelude.{◌≡◌, ◌+◌, ◌<◌, ◌≤◌, ◌^◌, ◌++◌, ℕ, List, IfSome, take, get_or, length};
-ghost use Rattle.twkb_engine.specs.Front.{BarePoint};
+ghost use Rattle.twkb_engine.specs.Front.{HeaderInFront, WholePoint, point_head};
 ghost use Rattle.twkb_engine.specs.declared.phase.Phase.TheVariants.{Header};
 
 use crate::builder::Builder;
-use crate::header::{head_within, precision_at};
-use crate::phase::{Kind, Phase};
-use crate::place::Typed;
+use crate::header::{SIZE, head_with, head_within, precision_at};
+use crate::phase::{Kind, Optional, Phase};
+use crate::place::{Head, Typed};
 use crate::site::{Form, put_point};
 use crate::stop::Stop;
 use twkb_flat::Flat;
-use twkb_front::{front_point, origin};
+use twkb_front::{GOES_ON, front_point, origin};
 use twkb_points::Pt;
 
-/// Bytes of a header that asks for no optional part: a type byte and a metadata byte.
+/// Bytes of a header without optional parts: a type byte and a metadata byte.
 const BARE: usize = 2;
 
-/// Where a point leads that stands whole in front behind such a header, and how many bytes it has with it.
+/// Bytes of a header with a size of one byte, and no other optional part.
+const SIZED: usize = 3;
+
+/// The metadata byte of the first.
+const PLAIN: u8 = 0;
+
+/// The metadata byte of the second.
+const ONLY_SIZE: u8 = 1 << SIZE;
+
+/// A point that stands whole in front with its header: where it leads, how many bytes both have, and the size that is declared.
+#[derive(Clone, Copy, Debug)]
+pub struct Whole {
+    pub to: Pt,
+    pub used: usize,
+    pub size: Option<u64>,
+    ghost long: { 3 ≤ used },
+}
+
+/// The size that a point's own header in front declares, if any, and how many bytes the header has; `None` where it is no point's,
+/// or asks for more.
 #[inline]
-fn bare_point(bytes: &[u8]) -> Option<(Pt, usize)>
-    ensures { IfSome result (λ front. BarePoint bytes.now front.0 front.1) }
+fn front_header(bytes: &[u8]) -> Option<(Option<u64>, usize)>
+    ensures { IfSome result (λ front. HeaderInFront bytes.now front.0 front.1) }
 {
-    if bytes.len() < BARE {
+    let first = *bytes.first()?;
+    if first % 16 != 1 {
         return None;
     }
-    if bytes[0] % 16 != 1 {
+    let metadata = *bytes.get(1)?;
+    if metadata == PLAIN {
+        return Some((None, BARE));
+    }
+    if metadata != ONLY_SIZE {
         return None;
     }
-    if bytes[1] != 0 {
+    let size = *bytes.get(2)?;
+    if size >= GOES_ON {
         return None;
     }
-    let (to, used) = front_point(origin(), &bytes[BARE..])?;
-    Some((to, BARE + used))
+    Some((Some(u64::from(size)), SIZED))
+}
+
+/// The point that stands whole in front behind such a header.
+#[inline]
+fn whole_point(bytes: &[u8]) -> Option<Whole>
+    ensures { IfSome result (λ front. WholePoint bytes.now front.to front.used front.size) }
+{
+    let (size, header) = front_header(bytes)?;
+    let (to, steps) = front_point(origin(), &bytes[header..])?;
+    Some(Whole {
+        to,
+        used: header + steps,
+        size,
+    })
 }
 
 impl Builder {
     ghost use Rattle.twkb_engine.specs.Building.{StandsBehind, IsTaken};
+    ghost use Rattle.twkb_engine.specs.State.{groups_of, head_of};
+    ghost use Rattle.twkb_outline.specs.Growing.{id_in};
 
     /// The same, where a geometry comes next, and a point more may.
     #[inline]
-    pub fn point_in_front(&self, bytes: &[u8]) -> Option<(Pt, usize)>
-        ensures point { IfSome result (λ front. BarePoint bytes.now front.0 front.1) }
+    pub fn point_in_front(&self, bytes: &[u8]) -> Option<Whole>
+        ensures point { IfSome result (λ front. WholePoint bytes.now front.to front.used front.size) }
         ensures header { IfSome result (λ front. self.now.phase ≡ Header) }
         ensures room { IfSome result (λ front. self.now.points < self.now.limits.points) }
     {
@@ -50,32 +90,42 @@ impl Builder {
         if self.points >= u64::from(self.limits.points()) {
             return None;
         }
-        bare_point(bytes)
+        whole_point(bytes)
     }
 
-    /// Takes such a point with this type byte, and the ends behind it; answers whether a geometry is whole. Its row takes memory.
-    pub fn take_point(
-        &mut self,
-        flat: &mut Flat,
-        first: u8,
-        to: Pt,
-        used: u64,
-    ) -> Result<bool, Stop>
-        requires allowed { self.old.points < self.old.limits.points }
-        requires room { self.old.bytes + used < 2 ^ 64 }
-        ensures limits { self.new.limits ≡ self.old.limits }
-        ensures bytes { self.new.bytes ≤ self.old.bytes + used }
-        ensures taken { (front bytes : List ℕ) → StandsBehind front flat.old self.old → self.old.phase ≡ Header → BarePoint bytes to used → first ≡ get_or bytes 0 0 → IsTaken self.old.limits (front ++ take used bytes) result flat.new self.new }
+    /// The header of such a point with this type byte, where it comes next.
+    #[inline]
+    fn point_head(&self, first: u8, size: Option<u64>) -> Head
+        requires room { self.now.bytes + 3 < 2 ^ 64 }
+        ensures head { head_of result ≡ point_head self.now.bytes first size }
+        ensures depth { result.depth ≡ length (groups_of self.now.groups.items) }
+        ensures id { result.id ≡ id_in (groups_of self.now.groups.items) }
     {
-        let _most = self.limits.points();
         let typed = Typed {
             kind: Kind::Simple(Form::Point),
             precision: precision_at(u64::from(first) / 16),
         };
-        let head = head_within(&self.groups, typed, self.bytes, 0);
-        put_point(flat, head, Form::Point, None, to)?;
-        self.bytes += used;
-        self.position = to;
+        let bare = self.bytes + BARE as u64;
+        let Some(size) = size else {
+            return head_within(&self.groups, typed, bare, u64::from(PLAIN));
+        };
+        let head = head_within(&self.groups, typed, bare, u64::from(ONLY_SIZE));
+        head_with(head, Optional::Size, self.bytes + SIZED as u64, size)
+    }
+
+    /// Takes such a point with this type byte, and the ends behind it; answers whether a geometry is whole. Its row takes memory.
+    pub fn take_point(&mut self, flat: &mut Flat, first: u8, point: Whole) -> Result<bool, Stop>
+        requires allowed { self.old.points < self.old.limits.points }
+        requires room { self.old.bytes + point.used < 2 ^ 64 }
+        ensures limits { self.new.limits ≡ self.old.limits }
+        ensures bytes { self.new.bytes ≤ self.old.bytes + point.used }
+        ensures taken { (front bytes : List ℕ) → StandsBehind front flat.old self.old → self.old.phase ≡ Header → WholePoint bytes point.to point.used point.size → first ≡ get_or bytes 0 0 → IsTaken self.old.limits (front ++ take point.used bytes) result flat.new self.new }
+    {
+        let _most = self.limits.points();
+        let head = self.point_head(first, point.size);
+        put_point(flat, head, Form::Point, None, point.to)?;
+        self.bytes += point.used as u64;
+        self.position = point.to;
         self.points += 1;
         self.finish(head)
     }

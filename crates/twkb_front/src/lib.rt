@@ -7,5 +7,5 @@ mod numbers;
 mod points;
 
 pub use motion::{moved_x, moved_y, origin};
-pub use numbers::front_number;
+pub use numbers::{GOES_ON, front_number};
 pub use points::front_point;

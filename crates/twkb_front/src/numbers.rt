@@ -6,7 +6,7 @@ ghost use Rattle.twkb_front.specs.Front.{NumberInFront};
 use twkb_num::{Leb128, Partial, Step};
 
 /// A byte with this bit set goes on (TWKB, varints).
-const GOES_ON: u8 = 0x80;
+pub const GOES_ON: u8 = 0x80;
 
 /// The number that stands in front in one byte.
 #[inline(always)]
