@@ -20,7 +20,8 @@ use Rattle.twkb_outline.specs.Reading.{Outlined, Pair, sums_past, outline_after,
 use Rattle.twkb_outline.proofs.Outlined.{outlined_item, outlined_ends}
 use Rattle.twkb_outline.proofs.PointPairs.{outlined_point}
 use Rattle.twkb_engine.specs.State.{groups_of, head_of, step_of, IsPlacedIn}
-use Rattle.twkb_engine.specs.Front.{PointInFront, HeaderInFront, WholePoint, metadata_with, header_bytes, point_head}
+use Rattle.twkb_front.specs.Front.{PointInFront}
+use Rattle.twkb_engine.specs.Front.{HeaderInFront, WholePoint, metadata_with, header_bytes, point_head}
 use Rattle.twkb_engine.specs.Building.{sums_of, StandsBehind, IsAt, IsTaken}
 use Rattle.twkb_engine.specs.declared.place.Head as place
 use Rattle.twkb_engine.specs.declared.phase.Phase.TheVariants as phase
