@@ -15,7 +15,7 @@ use Rattle.twkb_grammar.specs.Machine.{PointForm, SimpleKind, Sums, added, kind_
 use Rattle.twkb_outline.specs.Outline.{Group, OnHeader, OnMetadata, OnBody, OnEnd, Wanted, outline_past_end}
 use Rattle.twkb_outline.specs.Growing.{applied, point_change, id_in}
 use Rattle.twkb_outline.specs.Reading.{Outlined, Pair, sums_past}
-use Rattle.twkb_outline.proofs.Outlined.{outlined_item, outlined_ends}
+use Rattle.twkb_outline.proofs.Outlined.{outlined_item, outlined_part, outlined_ends}
 use Rattle.twkb_outline.proofs.PointPairs.{outlined_point}
 use Rattle.twkb_engine.specs.State.{groups_of, step_of, IsPlacedIn}
 use Rattle.twkb_engine.specs.Front.{BarePoint}
@@ -86,5 +86,6 @@ point_taken front rs more b new bytes first used to h r s header room p starts l
     let ends = outlined_ends b.limits (front ++ take used bytes) (sums_behind e used to) (gs, OnEnd (bare_head e first)) Rows ended in
     let rows : more ≡ Rows = put ∙ (ap (λ d. applied (point_change to d h.id h.precision PointForm None) rs) depth
     ∙ (ap (λ i. applied (point_change to (length gs) i h.precision PointForm None) rs) id ∙ ap (λ q. applied (point_change to (length gs) (id_in gs) q PointForm None) rs) precision)) in
-    landed b.limits (front ++ take used bytes) (sums_behind e used to) Rows more (outline_past_end true (b.bytes + used) gs) r new limits ends
+    landed b.limits (front ++ take used bytes) (sums_behind e used to) Rows more (outline_past_end true (b.bytes + used) gs) r new limits
+    (outlined_part b.limits (front ++ take used bytes) (sums_behind e used to) (gs, OnEnd (bare_head e first)) Rows ended) ends
     (subst (λ z. IsAt (outline_past_end (is_exact z ((b.bytes + used) - h.from)) (b.bytes + used) gs) (sums_behind e used to) r new) none at) (always r rows) placed
