@@ -7,8 +7,8 @@ use Rattle.twkb_outline.specs.Reading.{sums_past}
 use Rattle.twkb_outline.specs.Noting.{NotedOutline, notes_in}
 use Rattle.twkb_engine.specs.State.{groups_of, step_of, IsPlacedIn}
 use Rattle.twkb_engine.specs.Building.{sums_of, outline_in, StandsBehind}
-use Rattle.twkb_engine.specs.Running.{InPhase, PhaseRuns}
-use Rattle.twkb_engine.specs.Ahead.{RunsBehind}
+use Rattle.twkb_engine.specs.Running.{InPhase, PhaseRuns, PhaseStops}
+use Rattle.twkb_engine.specs.Ahead.{RunsBehind, StopsBehind}
 use Rattle.twkb_engine.specs.declared.builder.Builder.{Builder}
 
 pub builder_runs : (b c : Builder) (rs more : List Row) (bytes : List ℕ) (to : Point) → PhaseRuns b.phase rs b.position bytes c.phase more to → c.limits ≡ b.limits → c.groups.items ≡ b.groups.items
@@ -24,3 +24,8 @@ builder_runs b c rs more bytes to run limits groups count at nodes points = λ f
     let moved = subst (λ l. NotedOutline l (front ++ bytes) (sums_of c) (outline_in c) more told) (sym limits) by_groups in
     let stands : StandsBehind (front ++ bytes) more c = record { outlined = moved.outlined; placed = subst (λ gs. IsPlacedIn gs c.phase) (sym groups) there.placed } in
     (stands, moved.notes)
+
+-- there is no memory for one of them
+pub builder_stops : (b : Builder) (rs : List Row) (bytes : List ℕ) → PhaseStops b.phase rs b.position bytes → StopsBehind b rs bytes
+builder_stops b rs bytes stops = λ front s.
+    stops b.limits front (sums_of b) (groups_of b.groups.items) (λ start. notes_in start s.outlined) (record { outlined = record { outlined = s.outlined; notes = λ start. refl }; placed = s.placed; position = refl })

@@ -1,18 +1,23 @@
 -- An engine takes the bytes of a piece, and comes to the end of the bytes.
-use Rattle.std.proofs.Common.{◌≡◌, ◌⊎◌, inl, inr, ℕ, ◌+◌, ◌-◌, ◌<◌, ◌≤◌, List, [], ◌∷◌, ◌++◌, length, take, drop, get_or, refl, sym, ap, ◌∙◌, subst, append_assoc, true, false, Bool, Result, Ok, Err, arith}
+use Rattle.std.proofs.Common.{◌≡◌, ◌⊎◌, inl, inr, ℕ, ◌+◌, ◌-◌, ◌<◌, ◌≤◌, List, [], ◌∷◌, ◌++◌, length, take, drop, get_or, refl, sym, ap, ◌∙◌, subst, append_assoc, true, false, Bool, Result, Ok, Err, OnErr, arith}
 use Rattle.std.proofs.Math.Seq.{take-suc, take-add}
 use Rattle.std.proofs.lemmas.List.{append-nil, length-drop, take_rest}
 use Rattle.twkb_geom.specs.Limits.{Allowance}
 use Rattle.twkb_geom.specs.Rows.{Row}
 use Rattle.twkb_grammar.specs.Blob.{Blob}
-use Rattle.twkb_grammar.specs.Fault.{FirstFault}
+use Rattle.twkb_grammar.specs.Fault.{FirstFault, IsPart}
 use Rattle.twkb_engine.specs.State.{IsSpelled}
 use Rattle.twkb_engine.specs.Stops.{reason_of}
+use Rattle.twkb_engine.specs.Parts.{PartIn}
 use Rattle.twkb_engine.specs.Standing.{StandsAt, IsStep, IsTakenFrom, IsFed, offset_in}
 use Rattle.twkb_engine.specs.declared.engine.Engine.{Engine}
 use Rattle.twkb_engine.specs.declared.phase.Phase.{Phase}
 use Rattle.twkb_engine.specs.declared.stop.Stop.{Stop}
 use Rattle.twkb_engine.specs.declared.stop.Stop.TheVariants.{Memory, Refused}
+
+-- there is no memory for one of the points that stand whole in front
+pub part_taken : (limits : Allowance) (bs rest : List ℕ) (rs : List Row) (d : Engine) → PartIn limits bs rest → IsTakenFrom limits bs rest (Err Memory) rs d
+part_taken limits bs rest rs d p = (p.used, p.some, p.within, p.part)
 
 -- no bytes were taken, and then some
 pub taken_first : (limits own : Allowance) (bs rest : List ℕ) (used : ℕ) (r : Result (ℕ × Bool) Stop) (rs : List Row) (d : Engine) → own ≡ limits → used ≡ 0 → IsTakenFrom own (bs ++ take used rest) rest r rs d → IsTakenFrom limits bs rest r rs d
@@ -55,10 +60,25 @@ made limits own bs piece used (count, true) rs d same on some within h = (
   h.3,
 )
 
+-- what holds in any case holds where an error is answered
+pub on_err : {A E P : Type 0} (r : Result A E) → P → OnErr r P
+on_err (Ok x) p = tt
+on_err (Err e) p = p
+
+-- a part that ends in what is left ends in the piece
+pub part_further : (limits : Allowance) (bs piece : List ℕ) (used : ℕ) → used ≤ length piece → PartIn limits (bs ++ take used piece) (take (length piece - used) (drop used piece)) → PartIn limits bs piece
+part_further limits bs piece used within p = record {
+  used = used + p.used;
+  some = (let some = p.some in omega (arith, some));
+  within = one_within piece used p.used within p.within;
+  part = subst (IsPart limits) (one_front bs piece used p.used) p.part;
+}
+
 -- an item that is refused in what is left is refused in the piece
 pub refused : (limits own : Allowance) (bs piece : List ℕ) (used : ℕ) (stop : Stop) (rs : List Row) (d : Engine) → own ≡ limits → used ≤ length piece
     → IsTakenFrom own (bs ++ take used piece) (take (length piece - used) (drop used piece)) (Err stop) rs d → IsFed limits bs piece (Err stop) rs d
-refused limits own bs piece used Memory rs d same within h = tt
+refused limits own bs piece used Memory rs d same within (count, some, few, h) =
+    subst (λ l. PartIn l bs piece) same (part_further own bs piece used within (record { used = count; some = some; within = few; part = h }))
 refused limits own bs piece used (Refused r) rs d same within (count, some, few, h) = record {
   used = used + count;
   some = omega arith;

@@ -1,4 +1,4 @@
--- Points that stand whole in front lead a list on, and a body.
+-- Points that stand whole in front lead a list on, and a body; and the bytes up to one for which there is no memory are a part.
 use Rattle.std.proofs.Common.{◌≡◌, ℕ, zero, suc, ◌+◌, ◌-◌, ◌<◌, ◌≤◌, List, [], ◌∷◌, ◌++◌, length, take, drop, Bool, false, refl, sym, ap, ◌∙◌, subst, append_assoc, append-nil, length-append, arith}
 use Rattle.std.specs.Prelude.{Option, ℤ}
 use Rattle.std.proofs.Math.Seq.{take-add}
@@ -15,18 +15,20 @@ use Rattle.twkb_outline.specs.Outline.{Group, Outline, Step, OnBody, Wanted, shu
 use Rattle.twkb_outline.specs.Growing.{applied, NewPoint, point_change, id_in}
 use Rattle.twkb_outline.specs.Reading.{Pair, sums_past, point_after}
 use Rattle.twkb_outline.specs.Noting.{NotedOutline}
+use Rattle.twkb_outline.proofs.Outlined.{outlined_part}
 use Rattle.twkb_outline.proofs.NotedPairs.{noted_point}
 use Rattle.twkb_front.specs.Front.{PointInFront}
 use Rattle.twkb_engine.specs.Body.{form_of, spot_of, after_of}
 use Rattle.twkb_engine.specs.Names.{ids_of}
 use Rattle.twkb_engine.specs.Steps.{body_at}
-use Rattle.twkb_engine.specs.Running.{RunsTo, HasLists, ListPlace, ListRuns, PhaseRuns}
+use Rattle.twkb_engine.specs.Running.{RunsTo, HasLists, ListPlace, ListRuns, ListStops, PhaseRuns, PhaseStops, StopsWith}
 use Rattle.twkb_engine.specs.State.{head_of, step_of, IsHeadAt}
 use Rattle.twkb_engine.specs.declared.place.Head as place
 use Rattle.twkb_engine.specs.declared.phase.Phase.{Phase}
 use Rattle.twkb_engine.specs.declared.lefts.After.{After}
 use Rattle.twkb_engine.specs.declared.lefts.Spot.{Spot}
 use Rattle.twkb_engine.specs.declared.body.Body.{Body}
+use Rattle.twkb_engine.proofs.Feeding.{part_further}
 
 -- the sums behind two pieces
 sums_join : (e : Sums) (xs ys : List ℕ) (at to : Point) → sums_past (sums_past e xs at) ys to ≡ sums_past e (xs ++ ys) to
@@ -102,6 +104,18 @@ list_more rs mid more all (suc left) used count from at to bytes some added cut 
     (list_join rs mid (point_added to mid) all (suc left) left from at to (take used bytes) (take count (take (length bytes - used) (drop used bytes))) run
     (list_point mid left at to (take count (take (length bytes - used) (drop used bytes))) cut.pair))
 
+-- there is no memory for a point more in the piece
+pub list_stops : (rs mid : List Row) (all left used count : ℕ) (from at to : Point) (bytes : List ℕ) → 0 < left → used ≤ length bytes → PointInFront at (take (length bytes - used) (drop used bytes)) to count
+    → ListRuns rs all from (take used bytes) mid left at → ListStops rs all from bytes
+list_stops rs mid all left used count from at to bytes some within cut run = λ p front e i.
+    let there = list_more rs mid (point_added to mid) all left used count from at to bytes some refl cut run p front e i in
+    record {
+      used = used + count;
+      some = (let one = cut.some in omega (arith, one));
+      within = used_within bytes used count cut.within within;
+      part = outlined_part p.limits (front ++ take (used + count) bytes) (sums_past e (take (used + count) bytes) to) (p.groups, OnBody p.head p.form p.ids (Wanted 0 ((left - 1) ∷ p.lefts))) (point_added to mid) there.outlined.outlined;
+    }
+
 -- ---- what comes next
 
 pub phase_none : (p : Phase) (rs : List Row) (from : Point) → PhaseRuns p rs from [] p rs from
@@ -116,6 +130,12 @@ phase_more p q r rs mid more from at to bytes used count first second =
     subst (λ l. PhaseRuns p rs from l r more to) (sym (used_join bytes used count)) (λ limits front e gs told i.
     let two = second limits (front ++ xs) (sums_past e xs at) gs told (first limits front e gs told i) in
     record { outlined = noted_join limits front e (gs, step_of r) more told xs ys at to two.outlined; placed = two.placed; position = refl })
+
+-- some bytes of a piece, and then there is no memory for others
+pub phase_stops_behind : (p q : Phase) (rs mid : List Row) (from at : Point) (bytes : List ℕ) (used : ℕ) → used ≤ length bytes
+    → PhaseRuns p rs from (take used bytes) q mid at → PhaseStops q mid at (take (length bytes - used) (drop used bytes)) → PhaseStops p rs from bytes
+phase_stops_behind p q rs mid from at bytes used within first second = λ limits front e gs told i.
+    part_further limits front bytes used within (second limits (front ++ take used bytes) (sums_past e (take used bytes) at) gs told (first limits front e gs told i))
 
 -- a list of a body
 pub list_in_body : (h : place.Head) (b : Body) (s : Spot) (rs more : List Row) (left after : ℕ) (lefts : List ℕ) (from to : Point) (bytes : List ℕ) → ListRuns rs left from bytes more after to
@@ -144,3 +164,24 @@ point_runs h b c rs more from to bytes lefts member a done spot pair same put sh
     let rows : applied (point_after to gs (head_of h) f ids) rs ≡ more = sym (put ∙ ap (λ m. applied (point_change to h.depth h.id h.precision f m) rs) same ∙ ap (λ k. applied k rs) (same_change to gs h f ids i.placed)) in
     let step : shut (head_of h) f ids 0 lefts ≡ body_at (head_of h) c false = sym (shuts (head_of h) f ids) ∙ (goes (head_of h) ∙ ap (λ d. body_at (head_of h) c d) on) in
     record { outlined = subst (λ l. Behind (body_at (head_of h) c false) l) rows (subst (λ s. Behind s (applied (point_after to gs (head_of h) f ids) rs)) step next); placed = i.placed; position = refl }
+
+-- there is no memory for a point of a list of a body
+pub list_stops_in_body : (h : place.Head) (b : Body) (rs : List Row) (left : ℕ) (lefts : List ℕ) (from : Point) (bytes : List ℕ) → ListStops rs left from bytes → spot_of b.spot ≡ Wanted 0 (left ∷ lefts)
+    → HasLists (form_of b.form) → next_ids lefts (ids_of b.names) ≡ ids_of b.names → StopsWith h b rs from bytes
+list_stops_in_body h b rs left lefts from bytes stops begins lists same = λ limits front e gs told i.
+    let place : ListPlace = record { limits = limits; groups = gs; head = head_of h; form = form_of b.form; ids = ids_of b.names; lefts = lefts; told = told; has_lists = lists; same_ids = same } in
+    stops place front e (record { outlined = subst (λ k. NotedOutline limits front e (gs, OnBody (head_of h) (form_of b.form) (ids_of b.names) k) rs told) begins i.outlined; position = i.position })
+
+-- there is no memory for a point
+pub point_stops : (h : place.Head) (b : Body) (rs : List Row) (from to : Point) (bytes lefts : List ℕ) (used : ℕ) → spot_of b.spot ≡ Wanted 0 lefts → PointInFront from bytes to used → StopsWith h b rs from bytes
+point_stops h b rs from to bytes lefts used spot cut = λ limits front e gs told i.
+    let f = form_of b.form in
+    let ids = ids_of b.names in
+    let here = subst (λ s. NotedOutline limits front e (gs, OnBody (head_of h) f ids s) rs told) spot i.outlined in
+    let next = noted_point limits front e gs (head_of h) f ids lefts rs told (take used bytes) to here (subst (λ q. Pair q (take used bytes) to) (sym i.position) cut.pair) in
+    record {
+      used = used;
+      some = cut.some;
+      within = cut.within;
+      part = outlined_part limits (front ++ take used bytes) (sums_past e (take used bytes) to) (gs, shut (head_of h) f ids 0 lefts) (applied (point_after to gs (head_of h) f ids) rs) next.outlined;
+    }

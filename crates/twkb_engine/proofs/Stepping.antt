@@ -1,5 +1,5 @@
 -- An engine takes a byte.
-use Rattle.std.proofs.Common.{◌≡◌, inl, inr, ℕ, ◌+◌, ◌<◌, ◌≤◌, List, [], ◌∷◌, ◌++◌, length, refl, sym, ap, ◌∙◌, subst, append_assoc, length-append, take, IfOk, true, false, Bool, Result, Some, Ok, Err, arith}
+use Rattle.std.proofs.Common.{◌≡◌, inl, inr, ℕ, ◌+◌, ◌<◌, ◌≤◌, List, [], ◌∷◌, ◌++◌, length, refl, sym, ap, ◌∙◌, subst, append_assoc, length-append, take, IfOk, OnErr, true, false, Bool, Result, Some, Ok, Err, arith}
 use Rattle.std.proofs.lemmas.List.{append-nil, length-take}
 use Rattle.twkb_num.specs.Varint.{IsVarint, IsOpenVarint}
 use Rattle.twkb_geom.specs.Limits.{Allowance}
@@ -10,9 +10,10 @@ use Rattle.twkb_grammar.specs.Reading.{Gives}
 use Rattle.twkb_outline.specs.Outline.{outline_role}
 use Rattle.twkb_outline.proofs.Outlined.{outlined_long}
 use Rattle.twkb_engine.specs.State.{groups_of, IsSpelled, IsByte}
+use Rattle.twkb_engine.specs.Parts.{PartIn}
 use Rattle.twkb_engine.specs.Building.{sums_of, outline_in, StandsBehind, IsTaken}
-use Rattle.twkb_engine.specs.Ahead.{RunsBehind}
-use Rattle.twkb_engine.specs.Standing.{StandsAt, LeadsOn, IsStep, ItemInFront, allowance_of, held_in, offset_in}
+use Rattle.twkb_engine.specs.Ahead.{RunsBehind, StopsBehind}
+use Rattle.twkb_engine.specs.Standing.{StandsAt, LeadsOn, StopsIn, IsStep, ItemInFront, allowance_of, held_in, offset_in}
 use Rattle.twkb_engine.specs.declared.builder.Builder.{Builder}
 use Rattle.twkb_engine.specs.declared.engine.Engine.{Engine}
 use Rattle.twkb_engine.specs.declared.stop.Stop.{Stop}
@@ -45,11 +46,16 @@ runs_ahead rest d c rs more (Ok used) none run = λ bs s.
     (record { front = items; whole = whole; outlined = t.outlined; placed = t.placed; spelled = inr none }, same)
 runs_ahead rest d c rs more (Err e) none run = tt
 
+-- there was no memory for one of them
+pub stops_ahead : {A E : Type 0} (rest : List ℕ) (d : Engine) (rs : List Row) (r : Result A E) → held_in d ≡ [] → OnErr r (StopsBehind d.builder rs rest) → OnErr r (StopsIn rs d rest)
+stops_ahead rest d rs (Ok x) none stops = tt
+stops_ahead rest d rs (Err e) none stops = λ bs s. subst (λ l. PartIn (allowance_of d) l rest) (sym (all_whole bs rs d none s)) (stops s.front (record { outlined = s.outlined; placed = s.placed }))
+
 -- what an item led to, where no byte is held
 pub stepped : (limits : Allowance) (bytes : List ℕ) (r : Result Bool Stop) (rs : List Row) (d : Engine) → held_in d ≡ [] → IsTaken limits bytes r rs d.builder → IsStep limits bytes r rs d
 stepped limits bytes (Ok false) rs d none t = behind_items bytes rs d none t
 stepped limits bytes (Ok true) rs d none t = (t.0, t.1, t.2, behind_items [] [] d none t.3)
-stepped limits bytes (Err Memory) rs d none t = tt
+stepped limits bytes (Err Memory) rs d none t = t
 stepped limits bytes (Err (Refused x)) rs d none t = t
 
 -- what a builder does with each item of this number and so many bytes that may come next

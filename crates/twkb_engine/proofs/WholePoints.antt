@@ -17,7 +17,7 @@ use Rattle.twkb_grammar.specs.Machine.{PointForm, SimpleKind, Sums, added, kind_
 use Rattle.twkb_outline.specs.Outline.{Group, Outline, OnHeader, OnMetadata, OnOption, OnBody, OnEnd, Wanted, outline_past_end}
 use Rattle.twkb_outline.specs.Growing.{applied, point_change, id_in}
 use Rattle.twkb_outline.specs.Reading.{Outlined, Pair, sums_past, outline_after, change_after}
-use Rattle.twkb_outline.proofs.Outlined.{outlined_item, outlined_ends}
+use Rattle.twkb_outline.proofs.Outlined.{outlined_item, outlined_part, outlined_ends}
 use Rattle.twkb_outline.proofs.PointPairs.{outlined_point}
 use Rattle.twkb_engine.specs.State.{groups_of, head_of, step_of, IsPlacedIn}
 use Rattle.twkb_front.specs.Front.{PointInFront}
@@ -152,5 +152,5 @@ point_taken front rs more b new bytes first used size to h r s header room p sta
     let rows : more ≡ Rows = put ∙ (ap (λ d. applied (point_change to d h.id h.precision PointForm None) rs) depth
     ∙ (ap (λ i. applied (point_change to (length gs) i h.precision PointForm None) rs) id ∙ ap (λ (k : machine.Head). applied (point_change to (length gs) (id_in gs) k.precision PointForm None) rs) head)) in
     let way : machine.Head → Result Outline Reason = λ k. outline_past_end (is_exact k.size ((b.bytes + used) - k.from)) (b.bytes + used) gs in
-    landed b.limits (front ++ take used bytes) (sums_behind e used to) Rows more (way known) r new limits ends
+    landed b.limits (front ++ take used bytes) (sums_behind e used to) Rows more (way known) r new limits (outlined_part b.limits (front ++ take used bytes) (sums_behind e used to) (gs, OnEnd known) Rows ended) ends
     (subst (λ (k : machine.Head). IsAt (way k) (sums_behind e used to) r new) head at) (always r rows) placed

@@ -1,10 +1,15 @@
--- A builder behind points that stood whole in front.
+-- A builder behind points that stood whole in front, or that has no memory for one of them.
 use Rattle.std.specs.Prelude.{◌≡◌, ℕ, List, ◌++◌}
 use Rattle.twkb_geom.specs.Rows.{Row}
 use Rattle.twkb_outline.specs.Noting.{notes_in}
+use Rattle.twkb_engine.specs.Parts.{PartIn}
 use Rattle.twkb_engine.specs.Building.{StandsBehind}
 use Rattle.twkb_engine.specs.declared.builder.Builder.{Builder}
 
 -- wherever it stands, the bytes lead it on, and note nothing
 abbrev pub RunsBehind : Builder → List Row → List ℕ → Builder → List Row → Type 0
 RunsBehind b rs bytes c more = (front : List ℕ) (s : StandsBehind front rs b) → (t : StandsBehind (front ++ bytes) more c) × ((start : ℕ) → notes_in start t.outlined ≡ notes_in start s.outlined)
+
+-- wherever it stands, a front of the bytes ends a part
+abbrev pub StopsBehind : Builder → List Row → List ℕ → Type 0
+StopsBehind b rs bytes = (front : List ℕ) → StandsBehind front rs b → PartIn b.limits front bytes

@@ -15,7 +15,7 @@ use Rattle.twkb_engine.specs.declared.builder.Builder.{Builder}
 use Rattle.twkb_geom.specs.Tree.{Tree}
 use Rattle.twkb_geom.specs.Rows.{Row, rows}
 use Rattle.twkb_grammar.specs.Blob.{Blob}
-use Rattle.twkb_grammar.specs.Fault.{FirstFault}
+use Rattle.twkb_grammar.specs.Fault.{FirstFault, IsPart}
 
 -- what its items so far sum to
 abbrev pub sums_of : Builder → Sums
@@ -46,9 +46,9 @@ IsAt way e (Ok true) b = (way ≡ Ok ([], OnFinished)) × StandsBehind [] [] b
 IsAt way e (Err Memory) b = ⊤
 IsAt way e (Err (Refused r)) b = (way ≡ Err (reason_of r)) × (b.bytes ≡ e.bytes)
 
--- the last item leads on, or ends a blob with these rows, or is refused, whatever follows
+-- the last item leads on, or ends a blob with these rows, or may stand there but there is no memory for it, or is refused, whatever follows
 abbrev pub IsTaken : Allowance → List ℕ → Result Bool Stop → List Row → Builder → Type 0
 IsTaken limits bytes (Ok false) rs b = StandsBehind bytes rs b
 IsTaken limits bytes (Ok true) rs b = (g : Tree) × Blob limits bytes g × (rs ≡ rows 0 g) × StandsBehind [] [] b
-IsTaken limits bytes (Err Memory) rs b = ⊤
+IsTaken limits bytes (Err Memory) rs b = IsPart limits bytes
 IsTaken limits bytes (Err (Refused r)) rs b = (more : List ℕ) → FirstFault limits (bytes ++ more) b.bytes (reason_of r)

@@ -7,6 +7,7 @@ pub mod State
 pub mod Led
 pub mod Stops
 pub mod Open
+pub mod Parts
 pub mod Building
 pub mod Ahead
 pub mod Standing

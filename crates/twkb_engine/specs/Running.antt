@@ -1,4 +1,4 @@
--- Lists of points, bodies, and what comes next, that are read on in front of bytes.
+-- Lists of points, bodies, and what comes next, that are read on in front of bytes, or for which there is no memory.
 use Rattle.std.specs.Prelude.{◌≡◌, ⊤, ℕ, List, [], ◌∷◌, ◌++◌, length}
 use Rattle.twkb_points.specs.Point.{Point}
 use Rattle.twkb_geom.specs.Tree.{Ids}
@@ -12,6 +12,7 @@ use Rattle.twkb_outline.specs.Growing.{id_in}
 use Rattle.twkb_outline.specs.Reading.{sums_past}
 use Rattle.twkb_outline.specs.Noting.{NotedOutline}
 use Rattle.twkb_engine.specs.State.{step_of, IsPlaced}
+use Rattle.twkb_engine.specs.Parts.{PartIn}
 use Rattle.twkb_engine.specs.declared.place.Head as place
 use Rattle.twkb_engine.specs.declared.phase.Phase.{Phase}
 use Rattle.twkb_engine.specs.declared.phase.Phase.TheVariants as phase
@@ -49,6 +50,10 @@ pub record InList (p : ListPlace) (front : List ℕ) (e : Sums) (left : ℕ) (rs
 abbrev pub ListRuns : List Row → ℕ → Point → List ℕ → List Row → ℕ → Point → Type 0
 ListRuns rs left from bytes more after to = (p : ListPlace) (front : List ℕ) (e : Sums) → InList p front e left rs from → InList p (front ++ bytes) (sums_past e bytes to) after more to
 
+-- wherever it stands, a front of the bytes ends a part
+abbrev pub ListStops : List Row → ℕ → Point → List ℕ → Type 0
+ListStops rs left from bytes = (p : ListPlace) (front : List ℕ) (e : Sums) → InList p front e left rs from → PartIn p.limits front bytes
+
 -- behind these bytes and inside these collections this comes next, and this is noted of spans
 pub record InPhase (limits : Allowance) (front : List ℕ) (e : Sums) (gs : List Group) (told : ℕ → Notes) (p : Phase) (rs : List Row) (at : Point) : Type 0 where
   pub outlined : NotedOutline limits front e (gs, step_of p) rs told
@@ -60,6 +65,13 @@ abbrev pub PhaseRuns : Phase → List Row → Point → List ℕ → Phase → L
 PhaseRuns p rs from bytes q more to =
     (limits : Allowance) (front : List ℕ) (e : Sums) (gs : List Group) (told : ℕ → Notes) → InPhase limits front e gs told p rs from → InPhase limits (front ++ bytes) (sums_past e bytes to) gs told q more to
 
+-- wherever it comes next, a front of the bytes ends a part
+abbrev pub PhaseStops : Phase → List Row → Point → List ℕ → Type 0
+PhaseStops p rs from bytes = (limits : Allowance) (front : List ℕ) (e : Sums) (gs : List Group) (told : ℕ → Notes) → InPhase limits front e gs told p rs from → PartIn limits front bytes
+
 -- the same of a body with this header
 abbrev pub RunsTo : place.Head → Body → List Row → Point → List ℕ → Body → List Row → Point → Type 0
 RunsTo h b rs from bytes c more to = PhaseRuns (phase.Body h b) rs from bytes (phase.Body h c) more to
+
+abbrev pub StopsWith : place.Head → Body → List Row → Point → List ℕ → Type 0
+StopsWith h b rs from bytes = PhaseStops (phase.Body h b) rs from bytes

@@ -1,10 +1,10 @@
 -- What an engine stands for.
-use Rattle.std.specs.Prelude.{◌≡◌, ◌⊎◌, ℕ, ◌+◌, ◌<◌, ◌≤◌, List, [], ◌++◌, length, take, Bool, true, false, Result, Ok, Err, Some, ⊤}
+use Rattle.std.specs.Prelude.{◌≡◌, ◌⊎◌, ℕ, ◌+◌, ◌<◌, ◌≤◌, List, [], ◌++◌, length, take, Bool, true, false, Result, Ok, Err, Some}
 use Rattle.twkb_geom.specs.Tree.{Tree}
 use Rattle.twkb_geom.specs.Limits.{Allowance}
 use Rattle.twkb_geom.specs.Rows.{Row, rows}
 use Rattle.twkb_grammar.specs.Blob.{Blob}
-use Rattle.twkb_grammar.specs.Fault.{FirstFault, Reason, Truncated}
+use Rattle.twkb_grammar.specs.Fault.{FirstFault, IsPart, Reason, Truncated}
 use Rattle.twkb_grammar.specs.Roles.{Role}
 use Rattle.twkb_grammar.specs.Reading.{Gives}
 use Rattle.twkb_outline.specs.Outline.{outline_role}
@@ -12,6 +12,7 @@ use Rattle.twkb_outline.specs.Reading.{Outlined, open_count}
 use Rattle.twkb_outline.specs.Noting.{notes_in}
 use Rattle.twkb_engine.specs.State.{IsSpelled, IsPlacedIn, step_of}
 use Rattle.twkb_engine.specs.Open.{awaited_at}
+use Rattle.twkb_engine.specs.Parts.{PartIn}
 use Rattle.twkb_engine.specs.Stops.{reason_of}
 use Rattle.twkb_engine.specs.Building.{sums_of, outline_in}
 use Rattle.twkb_engine.specs.declared.awaited.Awaited.{Awaited}
@@ -59,6 +60,10 @@ pub record StandsAt (bytes : List ℕ) (rs : List Row) (d : Engine) : Type 0 whe
 abbrev pub LeadsOn : List Row → Engine → List ℕ → List Row → Engine → Type 0
 LeadsOn rs d bytes more e = (front : List ℕ) (s : StandsAt front rs d) → (t : StandsAt (front ++ bytes) more e) × ((start : ℕ) → notes_in start t.outlined ≡ notes_in start s.outlined)
 
+-- wherever the engine stands, a front of these bytes ends a part
+abbrev pub StopsIn : List Row → Engine → List ℕ → Type 0
+StopsIn rs d bytes = (front : List ℕ) → StandsAt front rs d → PartIn (allowance_of d) front bytes
+
 -- no byte is held, and so many of the bytes say this number in the role of the next item
 pub record ItemInFront (d : Engine) (bytes : List ℕ) (n count : ℕ) : Type 0 where
   pub alone : held_in d ≡ []
@@ -67,14 +72,16 @@ pub record ItemInFront (d : Engine) (bytes : List ℕ) (n count : ℕ) : Type 0 
   pub fits : (n < 256) ⊎ IsSpelled d.builder.phase
   pub gives : (r : Role) → outline_role (sums_of d.builder) (outline_in d.builder) ≡ Some r → Gives r n (take count bytes)
 
--- the bytes are a blob so far, or a blob with these rows and none of a further one, or they have a first fault, whatever follows
+-- the bytes are a blob so far, or a blob with these rows and none of a further one, or a part for whose last item there is no memory, or they
+-- have a first fault, whatever follows
 abbrev pub IsStep : Allowance → List ℕ → Result Bool Stop → List Row → Engine → Type 0
 IsStep limits bytes (Ok false) rs d = StandsAt bytes rs d
 IsStep limits bytes (Ok true) rs d = (g : Tree) × Blob limits bytes g × (rs ≡ rows 0 g) × StandsAt [] [] d
-IsStep limits bytes (Err Memory) rs d = ⊤
+IsStep limits bytes (Err Memory) rs d = IsPart limits bytes
 IsStep limits bytes (Err (Refused r)) rs d = (more : List ℕ) → FirstFault limits (bytes ++ more) (offset_in d) (reason_of r)
 
--- some bytes were taken from the front of the rest of a piece, or a byte of it is the last of an item that is refused
+-- some bytes were taken from the front of the rest of a piece, or a byte of it is the last of an item for which there is no memory, or that is
+-- refused
 abbrev pub IsTakenFrom : Allowance → List ℕ → List ℕ → Result (ℕ × Bool) Stop → List Row → Engine → Type 0
 IsTakenFrom limits bs rest (Ok (used, found)) rs d = IsStep limits (bs ++ take used rest) (Ok found) rs d
 IsTakenFrom limits bs rest (Err stop) rs d = (used : ℕ) × (0 < used) × (used ≤ length rest) × IsStep limits (bs ++ take used rest) (Err stop) rs d
@@ -94,11 +101,11 @@ pub record MadeIn (limits : Allowance) (bs piece : List ℕ) (used : ℕ) (rs : 
   pub blob : Blob limits (bs ++ take used piece) geometry
   pub made : rs ≡ rows 0 geometry
 
--- the whole piece was used, or the front that ends a blob, or an item was refused in it
+-- the whole piece was used, or the front that ends a blob, or there was no memory for an item of it, or one was refused
 abbrev pub IsFed : Allowance → List ℕ → List ℕ → Result (ℕ × Bool) Stop → List Row → Engine → Type 0
 IsFed limits bs piece (Ok (used, false)) rs d = (used ≡ length piece) × StandsAt (bs ++ piece) rs d
 IsFed limits bs piece (Ok (used, true)) rs d = MadeIn limits bs piece used rs × StandsAt [] [] d
-IsFed limits bs piece (Err Memory) rs d = ⊤
+IsFed limits bs piece (Err Memory) rs d = PartIn limits bs piece
 IsFed limits bs piece (Err (Refused r)) rs d = RefusedIn limits bs piece (offset_in d) (reason_of r)
 
 -- there are no bytes, or they end inside a blob

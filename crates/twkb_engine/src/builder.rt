@@ -1,5 +1,5 @@
 //! A geometry that is read item by item into a flat form.
-ghost use Rattle.std.specs.Prelude.{◌≡◌, ◌≤◌, ◌++◌, ℕ, List, ◌+◌, ◌-◌, ◌^◌, ◌%◌, ◌||◌, [], nat_eq, nat_lt, IfSome, IsSome, None, Some, true, length, length as length_of, false, ◌<◌, ◌⊎◌, OnOk, IfOk, take};
+ghost use Rattle.std.specs.Prelude.{◌≡◌, ◌≤◌, ◌++◌, ℕ, List, ◌+◌, ◌-◌, ◌^◌, ◌%◌, ◌||◌, [], nat_eq, nat_lt, IfSome, IsSome, None, Some, true, length, length as length_of, false, ◌<◌, ◌⊎◌, OnOk, OnErr, IfOk, take};
 ghost use Rattle.twkb_grammar.specs.PlainReader.{unless, objection as objection_in, is_exact as exact};
 ghost use Rattle.twkb_grammar.specs.Fault as fault;
 ghost use Rattle.twkb_grammar.specs.Fault.{moved as moved_by};
@@ -61,7 +61,7 @@ fn bad_type(number: u64) -> Option<BlobReason>
 
 impl Builder {
     ghost use Rattle.twkb_engine.specs.Building.{sums_of, outline_in, refusal, objection_at, StandsBehind, IsAt, IsTaken};
-    ghost use Rattle.twkb_engine.specs.Ahead.{RunsBehind};
+    ghost use Rattle.twkb_engine.specs.Ahead.{RunsBehind, StopsBehind};
 
     /// One that has read nothing. Takes no memory.
     pub fn new(alloc: Global, limits: Limits) -> Builder
@@ -305,6 +305,7 @@ impl Builder {
         ensures bytes { IfOk result (λ used. self.new.bytes ≡ self.old.bytes + used) }
         ensures few { self.new.bytes ≤ self.old.bytes + length_of rest.now }
         ensures run { IfOk result (λ used. RunsBehind self.old flat.old (take used rest.now) self.new flat.new) }
+        ensures memory { OnErr result (StopsBehind self.old flat.old rest.now) }
     {
         let Phase::Body(head, body) = &mut self.phase else {
             return Ok(0);

@@ -1,8 +1,8 @@
 //! A blob that is read byte by byte into a flat form.
-ghost use Rattle.std.specs.Prelude.{◌≡◌, IfOk, ◌+◌, ◌<◌, ◌≤◌, ◌^◌, ◌++◌, ◌∷◌, [], List, ℕ, take, IfSome, length as length_of};
+ghost use Rattle.std.specs.Prelude.{◌≡◌, IfOk, OnErr, ◌+◌, ◌<◌, ◌≤◌, ◌^◌, ◌++◌, ◌∷◌, [], List, ℕ, take, IfSome, length as length_of};
 ghost use Rattle.twkb_num.specs.Varint.{IsOpenVarint};
 ghost use Rattle.twkb_geom.specs.Rows.{Row};
-ghost use Rattle.twkb_engine.specs.Standing.{StandsAt, LeadsOn, IsStep, IsTakenFrom, ItemInFront, IsFed, IsEnd, count_of, offset_in, points_in, awaited_in, held_in, open_in, allowance_of};
+ghost use Rattle.twkb_engine.specs.Standing.{StandsAt, LeadsOn, StopsIn, IsStep, IsTakenFrom, ItemInFront, IsFed, IsEnd, count_of, offset_in, points_in, awaited_in, held_in, open_in, allowance_of};
 
 use crate::awaited::Awaited;
 use crate::blob_reason::BlobReason;
@@ -69,6 +69,7 @@ impl Engine {
         ensures few { count_of self.new ≤ count_of self.old + length_of rest.now }
         ensures within { IfOk result (λ used. used ≤ length_of rest.now) }
         ensures ahead { IfOk result (λ used. LeadsOn flat.old self.old (take used rest.now) flat.new self.new) }
+        ensures memory { OnErr result (StopsIn flat.old self.old rest.now) }
     {
         if rest.len() < SHORTEST {
             return Ok(0);

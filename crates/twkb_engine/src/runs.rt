@@ -1,11 +1,11 @@
 //! Points that stand whole in front of the bytes, taken many at a time.
-ghost use Rattle.std.specs.Prelude.{◌≡◌, ℕ, ◌∷◌, ◌<◌, ◌≤◌, ◌+◌, ◌^◌, IfOk, IfSome, None, true, take, length};
+ghost use Rattle.std.specs.Prelude.{◌≡◌, ℕ, ◌∷◌, ◌<◌, ◌≤◌, ◌+◌, ◌^◌, IfOk, OnErr, IfSome, None, true, take, length};
 ghost use Rattle.twkb_geom.specs.Rows.{row_points};
 ghost use Rattle.twkb_geom.specs.RowGrowth.{EndsInLine};
 ghost use Rattle.twkb_outline.specs.Outline.{next_ids};
 ghost use Rattle.twkb_engine.specs.Body.{form_of, lefts_of};
 ghost use Rattle.twkb_engine.specs.Names.{ids_of};
-ghost use Rattle.twkb_engine.specs.Running.{ListRuns, HasLists, outer};
+ghost use Rattle.twkb_engine.specs.Running.{ListRuns, ListStops, HasLists, outer};
 ghost use Rattle.twkb_engine.specs.declared.place.Head.{Head};
 
 use crate::body::Body;
@@ -48,6 +48,7 @@ fn take_list(flat: &mut Flat, most: u64, from: Pt, bytes: &[u8]) -> Result<(Take
     requires room { length (row_points flat.old) + most ≤ 2 ^ 24 }
     ensures run { IfOk result (λ taken. ListRuns flat.old most from (take taken.0.used bytes.now) flat.new taken.1 taken.0.position) }
     ensures within { IfOk result (λ taken. taken.0.used ≤ length bytes.now) }
+    ensures memory { OnErr result (ListStops flat.old most from bytes.now) }
 {
     let mut used = 0;
     let mut position = from;
@@ -110,7 +111,7 @@ fn has_lists(form: Form) -> bool
 }
 
 impl Body {
-    ghost use Rattle.twkb_engine.specs.Running.{RunsTo};
+    ghost use Rattle.twkb_engine.specs.Running.{RunsTo, StopsWith};
 
     /// Takes a point that stands whole in front, where one is wanted with which the body is not done; `None` changes nothing. Takes
     /// memory.
@@ -124,6 +125,7 @@ impl Body {
         ensures run { IfOk result (λ found. IfSome found (λ taken. RunsTo head self.old flat.old from (take taken.used bytes.now) self.new flat.new taken.position)) }
         ensures some { IfOk result (λ found. IfSome found (λ taken. (0 < taken.used) × (taken.used ≤ length bytes.now))) }
         ensures left { IfOk result (λ found. found ≡ None → (self.new ≡ self.old) × (flat.new ≡ flat.old)) }
+        ensures memory { OnErr result (StopsWith head self.old flat.old from bytes.now) }
     {
         let Spot::X(lefts) = self.spot else {
             return Ok(None);
@@ -151,6 +153,7 @@ impl Body {
     ) -> Result<Taken, AllocError>
         ensures run { IfOk result (λ taken. RunsTo head self.old flat.old from (take taken.used bytes.now) self.new flat.new taken.position) }
         ensures within { IfOk result (λ taken. taken.used ≤ length bytes.now) }
+        ensures memory { OnErr result (StopsWith head self.old flat.old from bytes.now) }
     {
         let mut used = 0;
         let mut position = from;
@@ -169,6 +172,7 @@ impl Body {
     fn take_in_list(&mut self, flat: &mut Flat, from: Pt, bytes: &[u8]) -> Result<Taken, AllocError>
         ensures run { (h : Head) → IfOk result (λ taken. RunsTo h self.old flat.old from (take taken.used bytes.now) self.new flat.new taken.position) }
         ensures within { IfOk result (λ taken. taken.used ≤ length bytes.now) }
+        ensures memory { (h : Head) → OnErr result (StopsWith h self.old flat.old from bytes.now) }
     {
         let none = Taken {
             used: 0,
@@ -187,7 +191,7 @@ impl Body {
             return Ok(none);
         }
         if !takes_points(flat, most) {
-            return Err(AllocError);
+            return Ok(none);
         }
         let (taken, left) = take_list(flat, most, from, bytes)?;
         self.spot = Spot::X(with_left(lefts, left));
@@ -204,6 +208,7 @@ impl Body {
     ) -> Result<Taken, AllocError>
         ensures run { IfOk result (λ taken. RunsTo head self.old flat.old from (take taken.used bytes.now) self.new flat.new taken.position) }
         ensures within { IfOk result (λ taken. taken.used ≤ length bytes.now) }
+        ensures memory { OnErr result (StopsWith head self.old flat.old from bytes.now) }
     {
         let first = self.take_in_list(flat, from, bytes)?;
         let rest = self.take_each(flat, head, first.position, &bytes[first.used..])?;

@@ -29,6 +29,7 @@ pub mod Reaching
 pub mod Decoding
 pub mod TwoFronts
 pub mod OneFault
+pub mod PartBytes
 pub mod Streams
 pub mod Depths
 pub mod Frames

@@ -39,7 +39,7 @@ one_reason limits before rest Y r s a b = number_same r s rest (when_same r s _ 
 one_reason limits before rest (End d c) r s a b = when_same r s _ (neither r s) a b
 
 -- the items before a fault are run through
-fault_runs : (limits : Allowance) (bytes : List ℕ) (offset : ℕ) (reason : Reason) (f : Fault limits bytes offset reason) → (st : Stack) × Runs nothing started f.before st
+pub fault_runs : (limits : Allowance) (bytes : List ℕ) (offset : ℕ) (reason : Reason) (f : Fault limits bytes offset reason) → (st : Stack) × Runs nothing started f.before st
 fault_runs limits bytes offset reason f = front_runs f.before f.begins.1 f.begins.0 f.begins.2 f.begins.3
 
 -- a fault behind the same items has the same role

@@ -23,6 +23,12 @@ pub record Part (limits : Allowance) (is : List Item) : Type 0 where
   pub items : Items 0 tree (is ++ more)
   pub exact : AreExact is
 
+-- The bytes are the items of a part: whole items, and none of them is refused.
+pub record IsPart (limits : Allowance) (bytes : List ℕ) : Type 0 where
+  pub items : List Item
+  pub part : Part limits items
+  pub spelled : join items ≡ bytes
+
 -- The nodes, which are rows of a table, that a count of n announces (profile).
 abbrev pub nodes_of : Counted → ℕ → ℕ
 nodes_of Vertices n = 0

@@ -9,7 +9,7 @@ ghost use Rattle.twkb_grammar.specs.Roles.{Item, Role, End, IsNumber, join};
 ghost use Rattle.twkb_grammar.specs.Items.{Items};
 ghost use Rattle.twkb_grammar.specs.Blob.{Blob, BlobInFront, Stream};
 ghost use Rattle.twkb_grammar.specs.Written.{canonical_blob, canonical_stream};
-ghost use Rattle.twkb_grammar.specs.Fault.{Refused, Fault, FirstFault, StreamFault, Reason, Truncated, BadVarint, Part, IsCut, IsTooLong};
+ghost use Rattle.twkb_grammar.specs.Fault.{Refused, Fault, FirstFault, StreamFault, Reason, Truncated, BadVarint, Part, IsPart, IsCut, IsTooLong};
 ghost use Rattle.twkb_grammar.specs.Machine.{Runs, Sums, nothing, started, Finished, Stack, role_at, sums_after};
 ghost use Rattle.twkb_grammar.specs.PlainReader.{decode, objection, Made, RefusedAt, GoesOn};
 ghost use Rattle.twkb_grammar.specs.Spans.{spans_of_blob, moved_span, geometries, CoversBlob};
@@ -82,9 +82,13 @@ pub fn completions()
     ensures { (before : List Item) (st : Stack) → Runs nothing started before st → (more : List Item) × (g : Tree) × Runs (sums_after nothing before) st more ([], Finished g) }
 {}
 
-/// The parts are exactly what the machine runs through within the limits, with exact sizes.
+/// The parts are exactly what the machine runs through within the limits, with exact sizes. What a reader of items has read is a part, and
+/// so is a blob; and whatever follows a part, a fault lies at its end or behind it.
 pub fn parts()
-    ensures { (limits : Allowance) (before : List Item) → Part limits before ↔ ((st : Stack) × Ran limits before st) }
+    ensures items { (limits : Allowance) (before : List Item) → Part limits before ↔ ((st : Stack) × Ran limits before st) }
+    ensures reached { (limits : Allowance) (bytes : List ℕ) (e : Sums) (st : Stack) → Reached limits bytes e st → IsPart limits bytes }
+    ensures blob { (limits : Allowance) (bytes : List ℕ) (g : Tree) → Blob limits bytes g → IsPart limits bytes }
+    ensures behind { (limits : Allowance) (bytes more : List ℕ) (offset : ℕ) (reason : Reason) → IsPart limits bytes → Fault limits (bytes ++ more) offset reason → length bytes ≤ offset }
 {}
 
 /// Where the machine waits for an item, and a reason holds first of the bytes that are left, the bytes are refused there for it;

@@ -11,11 +11,12 @@ use Rattle.twkb_geom.proofs.RootLimits.{continues_row}
 use Rattle.twkb_geom.proofs.LargestLimits.{continues_largest}
 use Rattle.twkb_grammar.specs.Roles.{Role, Count, End, IsNumber, Item}
 use Rattle.twkb_grammar.specs.Blob.{Blob}
-use Rattle.twkb_grammar.specs.Fault.{Reason, Truncated, BadVarint, FirstFault, IsCut, IsTooLong, moved}
+use Rattle.twkb_grammar.specs.Fault.{Reason, Truncated, BadVarint, FirstFault, IsPart, IsCut, IsTooLong, moved}
 use Rattle.twkb_grammar.specs.PlainReader.{objection}
 use Rattle.twkb_grammar.specs.Machine.{first_count, Around, top, within, Want, WantY, Done, Frame, Phase, AtHeader, AtMetadata, AtOption, AtCount, AtId, AtBody, AtEnd, Finished, Sums, nothing, added, Stack, started, role_at, stack_after}
 use Rattle.twkb_grammar.specs.Reading.{Reached, Gives, Landed, Leads, ends}
 use Rattle.twkb_grammar.proofs.Reaching.{reached_nothing, reached_bytes, reached_on, landed, leads, reached_blob, reached_cut, reached_long, reached_end}
+use Rattle.twkb_grammar.proofs.PartBytes.{reached_part}
 use Rattle.twkb_grammar.proofs.Depths.{reached_depth}
 use Rattle.twkb_outline.specs.Outline.{OnHeader, OnFinished, Outline, group_of, lefts_of, step_of, outline_of, outline_role, outline_in, outline_ends}
 use Rattle.twkb_outline.specs.Growing.{rows_so_far, Takes, applied, change_of}
@@ -124,6 +125,9 @@ module _ (limits : Allowance) where
 
   pub outlined_bytes : (bytes : List ℕ) (e : Sums) (o : Outline) (rs : List Row) → Outlined limits bytes e o rs → length bytes ≡ e.bytes
   outlined_bytes bytes e o rs r = reached_bytes limits bytes e r.stack r.reached
+
+  pub outlined_part : (bytes : List ℕ) (e : Sums) (o : Outline) (rs : List Row) → Outlined limits bytes e o rs → IsPart limits bytes
+  outlined_part bytes e o rs r = reached_part limits bytes e r.stack r.reached
 
   pub outlined_depth : (bytes : List ℕ) (e : Sums) (o : Outline) (rs : List Row) → Outlined limits bytes e o rs → length o.0 ≤ limits.nest
   outlined_depth bytes e o rs r =

@@ -8,7 +8,7 @@ ghost use Rattle.twkb_geom.specs.Accepted.{Continues};
 ghost use Rattle.twkb_geom.specs.RowLists.{AreValidRowsOfOne};
 ghost use Rattle.twkb_grammar.specs.Roles.{Role, End, IsNumber, Item};
 ghost use Rattle.twkb_grammar.specs.Blob.{Blob};
-ghost use Rattle.twkb_grammar.specs.Fault.{Reason, Truncated, BadVarint, FirstFault, IsCut, IsTooLong};
+ghost use Rattle.twkb_grammar.specs.Fault.{Reason, Truncated, BadVarint, FirstFault, IsPart, IsCut, IsTooLong};
 ghost use Rattle.twkb_grammar.specs.PlainReader.{objection};
 ghost use Rattle.twkb_grammar.specs.Machine.{Form, Head, Sums, nothing, added, Stack, Finished, role_at, advanced};
 ghost use Rattle.twkb_grammar.specs.Reading.{Reached, Gives, ends, frame_count};
@@ -44,7 +44,7 @@ pub fn valid()
 {}
 
 /// Where a reader stands that keeps an outline and rows: at the start, behind an item, behind the ends of geometries, at a blob's end, and where bytes are missing
-/// or a number is too long. A row that an item begins goes on with the rows before it, and a point that it brings comes to a line's row.
+/// or a number is too long. What it has read is a part. A row that an item begins goes on with the rows before it, and a point that it brings comes to a line's row.
 pub fn reading()
     ensures starts { (limits : Allowance) → IsAllowance limits → Outlined limits [] nothing ([], OnHeader) [] }
     ensures item { (limits : Allowance) (bytes : List ℕ) (e : Sums) (o : Outline) (rs : List Row) (i : Item) → Outlined limits bytes e o rs → outline_role e o ≡ Some i.role → Gives i.role i.number i.bytes
@@ -60,6 +60,7 @@ pub fn reading()
     ensures fits { (limits : Allowance) (bytes : List ℕ) (e : Sums) (o : Outline) (rs : List Row) → Outlined limits bytes e o rs → StepFits o.1 }
     ensures offset { (limits : Allowance) (bytes : List ℕ) (e : Sums) (o : Outline) (rs : List Row) → Outlined limits bytes e o rs → length bytes ≡ e.bytes }
     ensures depth { (limits : Allowance) (bytes : List ℕ) (e : Sums) (o : Outline) (rs : List Row) → Outlined limits bytes e o rs → length o.0 ≤ limits.nest }
+    ensures part { (limits : Allowance) (bytes : List ℕ) (e : Sums) (o : Outline) (rs : List Row) → Outlined limits bytes e o rs → IsPart limits bytes }
     ensures cut { (limits : Allowance) (bytes : List ℕ) (e : Sums) (o : Outline) (rs : List Row) (rest : List ℕ) (role : Role) → Outlined limits bytes e o rs → outline_role e o ≡ Some role
         → IsNumber role → IsCut rest → FirstFault limits (bytes ++ rest) e.bytes Truncated }
     ensures long { (limits : Allowance) (bytes : List ℕ) (e : Sums) (o : Outline) (rs : List Row) (rest : List ℕ) (role : Role) → Outlined limits bytes e o rs → outline_role e o ≡ Some role

@@ -1,4 +1,4 @@
-use Rattle.twkb_outline.proofs.Outlined.{outlined_start, outlined_item, outlined_refused, outlined_ends, outlined_whole, outlined_valid, outlined_largest, row_goes_on, outlined_takes, outlined_fits, outlined_bytes, outlined_depth, outlined_cut, outlined_long, outlined_missing}
+use Rattle.twkb_outline.proofs.Outlined.{outlined_start, outlined_item, outlined_refused, outlined_ends, outlined_whole, outlined_valid, outlined_largest, row_goes_on, outlined_takes, outlined_fits, outlined_bytes, outlined_depth, outlined_part, outlined_cut, outlined_long, outlined_missing}
 use Rattle.twkb_outline.proofs.laws.reading.Goals as goal
 
 pub returns-clause-starts : goal.returns-clause-starts
@@ -33,6 +33,9 @@ returns-clause-offset c = outlined_bytes
 
 pub returns-clause-depth : goal.returns-clause-depth
 returns-clause-depth c = outlined_depth
+
+pub returns-clause-part : goal.returns-clause-part
+returns-clause-part c = outlined_part
 
 pub returns-clause-cut : goal.returns-clause-cut
 returns-clause-cut c = outlined_cut

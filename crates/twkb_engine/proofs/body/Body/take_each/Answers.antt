@@ -3,11 +3,18 @@ use Rattle.twkb_geom.specs.Rows.{Row}
 use Rattle.twkb_engine.specs.declared.body.Body.{Body}
 use Rattle.twkb_engine.specs.declared.phase.Phase.TheVariants as phase
 use Rattle.twkb_engine.specs.Running.{RunsTo}
-use Rattle.twkb_engine.proofs.PointRuns.{phase_none, phase_more, used_within}
+use Rattle.twkb_engine.proofs.Feeding.{on_err}
+use Rattle.twkb_engine.proofs.PointRuns.{phase_none, phase_more, phase_stops_behind, used_within}
 use Rattle.twkb_engine.proofs.body.Body.take_each.Goals as goal
 
 pub loop-used-init : goal.loop-used-init
 loop-used-init c = record { run = phase_none (phase.Body c.args.head c.args.self.now) c.args.flat.now c.args.from; within = omega arith }
+
+pub returns-in_err-taken-clause-memory : goal.returns-in_err-taken-clause-memory
+returns-in_err-taken-clause-memory c =
+    on_err c.from_residual.result
+    (phase_stops_behind (phase.Body c.args.head c.args.self.now) (phase.Body c.args.head c.loop-used.self) c.args.flat.now c.loop-used.flat c.args.from c.loop-used.position c.args.bytes.now c.loop-used.used
+    c.loop-used.invariant.within c.loop-used.invariant.run c.in_err-taken.ensures.memory)
 
 pub returns-in_default-clause-run : goal.returns-in_default-clause-run
 returns-in_default-clause-run c =

@@ -1,7 +1,11 @@
 use Rattle.std.proofs.Common.{ap, refl, subst, sym, IsSome}
 use Rattle.twkb_engine.specs.Body.{spot_of, lefts_of}
-use Rattle.twkb_engine.proofs.PointRuns.{point_runs}
+use Rattle.twkb_engine.proofs.Feeding.{on_err}
+use Rattle.twkb_engine.proofs.PointRuns.{point_runs, point_stops}
 use Rattle.twkb_engine.proofs.body.Body.take_point.Goals as goal
+
+pub returns-in_err-put_point-clause-memory : goal.returns-in_err-put_point-clause-memory
+returns-in_err-put_point-clause-memory c = on_err c.from_residual.result (point_stops c.args.head c.args.self.now c.args.flat.now c.args.from _ c.args.bytes.now (lefts_of c.in-X.lefts) _ (ap spot_of c.in-X.is) c.in-Some-front_point.ensures)
 
 pub returns-clause-run : goal.returns-clause-run
 returns-clause-run c =
