@@ -1,6 +1,7 @@
 //! The header of a TWKB geometry: type byte, metadata byte, size and box.
 ghost use Rattle.std.specs.Prelude.{◌≡◌, ◌≤◌, ◌<◌, ◌++◌, OnOk, IfErr};
-ghost use Rattle.twkb_writer.specs.Bytes.{type_of, type_byte, is_bare, body_bits, box_bit, metadata_of, size_bytes, box_bytes, header};
+ghost use Rattle.twkb_writer.specs.Bytes.{type_of, type_byte, is_bare, body_bits, box_bit, metadata_of, size_bytes, box_bytes};
+ghost use Rattle.twkb_writer.specs.Nodes.{header_of};
 ghost use Rattle.twkb_writer.specs.Putting.{Moved, Failed};
 
 use crate::gatherer::Gatherer;
@@ -137,8 +138,8 @@ pub(crate) fn put_header<S: Sink>(
     entry: &Entry,
     gatherer: &mut Gatherer<'_, S>,
 ) -> Result<(), S::Fault>
-    ensures ok { OnOk result (Moved S.took gatherer.old (header style node.now.row.kind precision node.now.points entry.now) gatherer.new) }
-    ensures err { IfErr result (λ fault. Failed S.refused gatherer.old (header style node.now.row.kind precision node.now.points entry.now) fault gatherer.new) }
+    ensures ok { OnOk result (Moved S.took gatherer.old (header_of style precision entry.now node.now) gatherer.new) }
+    ensures err { IfErr result (λ fault. Failed S.refused gatherer.old (header_of style precision entry.now node.now) fault gatherer.new) }
 {
     let bytes = [
         type_and_precision(node.row.kind, precision),

@@ -1,11 +1,9 @@
 //! The rows of a flat form, one after another.
-ghost use Rattle.std.specs.Prelude.{◌≡◌, ◌+◌, ◌*◌, ◌≤◌, ◌++◌, length, drop, OnOk, IfOk, IfErr, if◌then◌else◌};
-ghost use Rattle.twkb_points.specs.Point.{origin};
+ghost use Rattle.std.specs.Prelude.{◌≡◌, ◌+◌, ◌*◌, ◌≤◌, length, OnOk, IfOk, IfErr, if◌then◌else◌};
 ghost use Rattle.twkb_geom.specs.Rows.{row_points};
-ghost use Rattle.twkb_num.specs.Varint.{varint_of};
 ghost use Rattle.twkb_flat.specs.Rows.{IsNode};
-ghost use Rattle.twkb_writer.specs.Bytes.{way_start, entry_count, entries_in, rows_bytes};
-ghost use Rattle.twkb_writer.specs.Nodes.{members_of, ids_of, counts_of, own_of, part_of, lead_of};
+ghost use Rattle.twkb_writer.specs.Bytes.{way_start, entry_count, entries_in};
+ghost use Rattle.twkb_writer.specs.Nodes.{members_of, listed_of, counts_of, own_of, part_of, lead_of, bytes_of};
 ghost use Rattle.twkb_writer.specs.Putting.{Moved, Failed};
 ghost use Rattle.twkb_writer.specs.Reads.{Reads};
 
@@ -29,8 +27,8 @@ fn put_members<S: Sink>(
     work: &mut Work,
 ) -> Result<(), S::Fault>
     requires { IsNode flat.now at.now.id.0 at.now.node }
-    ensures ok { OnOk result (Moved S.took gatherer.old (varint_of members.count ++ (ids_of members.named flat.now at.now)) gatherer.new) }
-    ensures err { IfErr result (λ fault. Failed S.refused gatherer.old (varint_of members.count ++ (ids_of members.named flat.now at.now)) fault gatherer.new) }
+    ensures ok { OnOk result (Moved S.took gatherer.old (listed_of members flat.now at.now) gatherer.new) }
+    ensures err { IfErr result (λ fault. Failed S.refused gatherer.old (listed_of members flat.now at.now) fault gatherer.new) }
     ensures reads { OnOk result (Reads work.old (if members.named then length (members_of flat.now at.now) else 0) 0 work.new) }
 {
     gatherer.put_number(members.count as u64)?;
@@ -124,10 +122,10 @@ fn put_lead<S: Sink>(
 ) -> Result<Place, S::Fault>
     requires node { IsNode job.now.flat.now at.now.id.0 at.now.node }
     requires room { place.entry + entry_count at.now.node.row.precision ≤ length job.now.sizes.now }
-    ensures ok { IfOk result (λ next. Moved S.took gatherer.old (lead_of job.now.style (drop place.entry job.now.sizes.now) job.now.flat.now at.now) gatherer.new) }
+    ensures ok { IfOk result (λ next. Moved S.took gatherer.old (lead_of job.now place.entry at.now) gatherer.new) }
     ensures at { IfOk result (λ next. next.cursor ≡ way_start at.now.node.row.precision place.cursor) }
     ensures entry { IfOk result (λ next. next.entry ≡ place.entry + entry_count at.now.node.row.precision) }
-    ensures err { IfErr result (λ fault. Failed S.refused gatherer.old (lead_of job.now.style (drop place.entry job.now.sizes.now) job.now.flat.now at.now) fault gatherer.new) }
+    ensures err { IfErr result (λ fault. Failed S.refused gatherer.old (lead_of job.now place.entry at.now) fault gatherer.new) }
     ensures reads { IfOk result (λ next. Reads work.old (length (members_of job.now.flat.now at.now)) 0 work.new) }
 {
     match at.node.row.precision {
@@ -155,8 +153,8 @@ pub(crate) fn put_rows<S: Sink>(
     work: &mut Work,
 ) -> Result<(), S::Fault>
     requires { entries_in job.now.flat.now ≤ length job.now.sizes.now }
-    ensures ok { OnOk result (Moved S.took gatherer.old (rows_bytes job.now.style origin job.now.sizes.now job.now.flat.now) gatherer.new) }
-    ensures err { IfErr result (λ fault. Failed S.refused gatherer.old (rows_bytes job.now.style origin job.now.sizes.now job.now.flat.now) fault gatherer.new) }
+    ensures ok { OnOk result (Moved S.took gatherer.old (bytes_of job.now) gatherer.new) }
+    ensures err { IfErr result (λ fault. Failed S.refused gatherer.old (bytes_of job.now) fault gatherer.new) }
     ensures reads { OnOk result (Reads work.old (2 * length job.now.flat.now) (length (row_points job.now.flat.now)) work.new) }
 {
     let flat = job.flat;
