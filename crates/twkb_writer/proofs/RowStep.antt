@@ -85,14 +85,14 @@ own_geometry style p es h e k d own rs within is =
     ap (λ (l : List Entry). lead style (Some p) l k d own rs) (drop_more es h e within ∙ ap (λ (x : Entry). x ∷ drop (h + 1) es) (sym is))
 
 -- a geometry of its own has the entry at its place
-pub own_at : (style : Style) (o a : Option ℤ) (p : ℤ) (es : List Entry) (h : ℕ) (e : Entry) (k : Kind) (d own : ℕ) (rs : List Row) → o ≡ a → a ≡ Some p → h < length es → e ≡ get_or es h e
+pub own_at : (style : Style) (o : Option ℤ) (p : ℤ) (es : List Entry) (h : ℕ) (e : Entry) (k : Kind) (d own : ℕ) (rs : List Row) → o ≡ Some p → h < length es → e ≡ get_or es h e
     → lead style o (drop h es) k d own rs ≡ geometry_lead style p e k d own rs
-own_at style o a p es h e k d own rs same some within is =
-    ap (λ (q : Option ℤ). lead style q (drop h es) k d own rs) (same ∙ some) ∙ own_geometry style p es h e k d own rs within is
+own_at style o p es h e k d own rs some within is =
+    ap (λ (q : Option ℤ). lead style q (drop h es) k d own rs) some ∙ own_geometry style p es h e k d own rs within is
 
 -- which is there
-pub room_here : (o a : Option ℤ) (p : ℤ) (h n : ℕ) → o ≡ a → a ≡ Some p → h + entry_count o ≤ n → h < n
-room_here o a p h n same some room = let one : entry_count o ≡ 1 = ap entry_count (same ∙ some) in omega arith
+pub room_here : (o : Option ℤ) (p : ℤ) (h n : ℕ) → o ≡ Some p → h + entry_count o ≤ n → h < n
+room_here o p h n some room = let one : entry_count o ≡ 1 = ap entry_count some in omega arith
 
 -- the way of a row from where it starts, and what follows
 pub next_rows : (style : Style) (p : Option ℤ) (es : List Entry) (h after : ℕ) (at last from : Point) (ps : List Point) (rs : List Row)

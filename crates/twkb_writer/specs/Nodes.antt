@@ -1,42 +1,57 @@
 -- What stands before the points of a node among the rows of a flat form.
-use Rattle.std.specs.Prelude.{ℕ, ◌+◌, Bool, if◌then◌else◌, List, [], take, drop, ℤ}
-use Rattle.twkb_points.specs.Point.{Point}
+use Rattle.std.specs.Prelude.{ℕ, ◌+◌, Bool, if◌then◌else◌, List, [], ◌++◌, take, drop, ℤ}
+use Rattle.twkb_num.specs.Varint.{varint_of}
+use Rattle.twkb_points.specs.Point.{Point, origin}
 use Rattle.twkb_geom.specs.Rows.{Row, row_points}
 use Rattle.twkb_flat.specs.declared.node.Node.{Node}
-use Rattle.twkb_flat.specs.declared.node.NodeId.{NodeId}
-use Rattle.twkb_flat.specs.declared.node.PointId.{PointId}
 use Rattle.twkb_grammar.specs.declared.style.Style.{Style}
+use Rattle.twkb_writer.specs.declared.job.Job.{Job}
+use Rattle.twkb_writer.specs.declared.job.Placed.{Placed}
+use Rattle.twkb_writer.specs.declared.members.Members.{Members}
 use Rattle.twkb_writer.specs.declared.sizes.Entry.{Entry}
-use Rattle.twkb_writer.specs.Bytes.{members_below, ids_bytes, counts_bytes, geometry_lead, part_lead, lead}
+use Rattle.twkb_writer.specs.Bytes.{members_below, ids_bytes, counts_bytes, is_bare, header, part_lead, lead, rows_bytes}
 
 -- the rows after the node
-abbrev pub rows_after : List Row → NodeId → List Row
-rows_after rows id = drop (id.0 + 1) rows
+abbrev pub rows_after : List Row → Placed → List Row
+rows_after rows at = drop (at.id.0 + 1) rows
 
 -- its members
-abbrev pub members_of : List Row → NodeId → Node → List Row
-members_of rows id node = members_below node.row.depth (rows_after rows id)
+abbrev pub members_of : List Row → Placed → List Row
+members_of rows at = members_below at.node.row.depth (rows_after rows at)
 
--- their ids, where they have some
-abbrev pub ids_of : Bool → List Row → NodeId → Node → List ℕ
-ids_of named rows id node = if named then ids_bytes (members_of rows id node) else []
+-- their ids, where these are written
+abbrev pub ids_of : Bool → List Row → Placed → List ℕ
+ids_of named rows at = if named then ids_bytes (members_of rows at) else []
 
--- its counts, and the ids of its members where they have some
-abbrev pub counts_of : ℕ → Bool → List Row → NodeId → Node → List ℕ
-counts_of count named rows id node = counts_bytes node.row.kind node.points count (ids_of named rows id node)
+-- the count of its members, and their ids where these are written
+abbrev pub listed_of : Members → List Row → Placed → List ℕ
+listed_of members rows at = varint_of members.count ++ ids_of members.named rows at
 
--- header, counts and ids of a node that is a geometry of its own
-abbrev pub geometry_of : Style → ℤ → Entry → List Row → NodeId → Node → List ℕ
-geometry_of style p e rows id node = geometry_lead style p e node.row.kind node.row.depth node.points (rows_after rows id)
+-- its counts, and the ids of its members where these are written
+abbrev pub counts_of : Members → List Row → Placed → List ℕ
+counts_of members rows at = counts_bytes at.node.row.kind at.node.points members.count (ids_of members.named rows at)
+
+-- the header of a node that is a geometry of its own
+abbrev pub header_of : Style → ℤ → Entry → Node → List ℕ
+header_of style p e node = header style node.row.kind p node.points e
+
+-- what stands behind the header of a node that is a geometry of its own: nothing where it has no body
+abbrev pub own_of : Entry → List Row → Placed → List ℕ
+own_of e rows at = if is_bare at.node.points e then [] else counts_of (record { count = e.members; named = e.named }) rows at
 
 -- the counts of a node that is a part of a geometry
-abbrev pub part_of : List Row → NodeId → Node → List ℕ
-part_of rows id node = part_lead node.row.kind node.row.depth node.points (rows_after rows id)
+abbrev pub part_of : List Row → Placed → List ℕ
+part_of rows at = part_lead at.node.row.kind at.node.row.depth at.node.points (rows_after rows at)
 
--- either, by the next entries
-abbrev pub lead_of : Style → List Entry → List Row → NodeId → Node → List ℕ
-lead_of style es rows id node = lead style node.row.precision es node.row.kind node.row.depth node.points (rows_after rows id)
+-- what stands before its points, by the entries from this one on
+abbrev pub lead_of : Job → ℕ → Placed → List ℕ
+lead_of job entry at =
+    lead job.style at.node.row.precision (drop entry job.sizes.now) at.node.row.kind at.node.row.depth at.node.points (rows_after job.flat.now at)
 
--- so many points of the rows, from the first of them on
-abbrev pub points_from : List Row → PointId → ℕ → List Point
-points_from rows first count = take count (drop first.0 (row_points rows))
+-- the bytes of all rows
+abbrev pub bytes_of : Job → List ℕ
+bytes_of job = rows_bytes job.style origin job.sizes.now job.flat.now
+
+-- the node's own points among those of the rows
+abbrev pub own_points_of : List Row → Node → List Point
+own_points_of rows node = take node.points (drop node.first.0 (row_points rows))

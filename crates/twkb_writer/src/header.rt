@@ -1,11 +1,12 @@
 //! The header of a TWKB geometry: type byte, metadata byte, size and box.
 ghost use Rattle.std.specs.Prelude.{◌≡◌, ◌≤◌, ◌<◌, ◌++◌, OnOk, IfErr};
-ghost use Rattle.twkb_writer.specs.Bytes.{type_of, type_byte, is_bare, body_bits, box_bit, metadata_of, size_bytes, box_bytes, header};
+ghost use Rattle.twkb_writer.specs.Bytes.{type_of, type_byte, is_bare, body_bits, box_bit, metadata_of, size_bytes, box_bytes};
+ghost use Rattle.twkb_writer.specs.Nodes.{header_of};
 ghost use Rattle.twkb_writer.specs.Putting.{Moved, Failed};
 
-use crate::piece::Piece;
-use crate::putting::{put_all, put_number, put_two};
+use crate::gatherer::Gatherer;
 use crate::sizes::Entry;
+use twkb_flat::Node;
 use twkb_geom::Kind;
 use twkb_grammar::Style;
 use twkb_io::Sink;
@@ -94,25 +95,24 @@ fn metadata(style: Style, points: u32, entry: &Entry) -> u8
 fn put_size<S: Sink>(
     style: Style,
     entry: &Entry,
-    sink: &mut S,
-    piece: &mut Piece,
+    gatherer: &mut Gatherer<'_, S>,
 ) -> Result<(), S::Fault>
-    ensures ok { OnOk result (Moved S.took sink.old piece.old (size_bytes style entry.now) sink.new piece.new) }
-    ensures err { IfErr result (λ fault. Failed S.refused sink.old piece.old (size_bytes style entry.now) fault sink.new) }
+    ensures ok { OnOk result (Moved S.took gatherer.old (size_bytes style entry.now) gatherer.new) }
+    ensures err { IfErr result (λ fault. Failed S.refused gatherer.old (size_bytes style entry.now) fault gatherer.new) }
 {
     match style {
-        Style::Full => put_number(sink, piece, entry.size),
+        Style::Full => gatherer.put_number(entry.size),
         Style::Plain => Ok(()),
     }
 }
 
 // Puts the box, where there is one.
-fn put_box<S: Sink>(entry: &Entry, sink: &mut S, piece: &mut Piece) -> Result<(), S::Fault>
-    ensures ok { OnOk result (Moved S.took sink.old piece.old (box_bytes entry.now.bounds) sink.new piece.new) }
-    ensures err { IfErr result (λ fault. Failed S.refused sink.old piece.old (box_bytes entry.now.bounds) fault sink.new) }
+fn put_box<S: Sink>(entry: &Entry, gatherer: &mut Gatherer<'_, S>) -> Result<(), S::Fault>
+    ensures ok { OnOk result (Moved S.took gatherer.old (box_bytes entry.now.bounds) gatherer.new) }
+    ensures err { IfErr result (λ fault. Failed S.refused gatherer.old (box_bytes entry.now.bounds) fault gatherer.new) }
 {
     match entry.bounds {
-        Some(bounds) => put_all(sink, piece, &bounds.items()),
+        Some(bounds) => gatherer.put_all(&bounds.items()),
         None => Ok(()),
     }
 }
@@ -121,33 +121,30 @@ fn put_box<S: Sink>(entry: &Entry, sink: &mut S, piece: &mut Piece) -> Result<()
 fn put_size_and_box<S: Sink>(
     style: Style,
     entry: &Entry,
-    sink: &mut S,
-    piece: &mut Piece,
+    gatherer: &mut Gatherer<'_, S>,
 ) -> Result<(), S::Fault>
-    ensures ok { OnOk result (Moved S.took sink.old piece.old (size_bytes style entry.now ++ box_bytes entry.now.bounds) sink.new piece.new) }
-    ensures err { IfErr result (λ fault. Failed S.refused sink.old piece.old (size_bytes style entry.now ++ box_bytes entry.now.bounds) fault sink.new) }
+    ensures ok { OnOk result (Moved S.took gatherer.old (size_bytes style entry.now ++ box_bytes entry.now.bounds) gatherer.new) }
+    ensures err { IfErr result (λ fault. Failed S.refused gatherer.old (size_bytes style entry.now ++ box_bytes entry.now.bounds) fault gatherer.new) }
 {
-    put_size(style, entry, sink, piece)?;
-    put_box(entry, sink, piece)
+    put_size(style, entry, gatherer)?;
+    put_box(entry, gatherer)
 }
 
-/// Puts type byte, metadata byte, size and box of a geometry with so many points of its own.
+/// Puts type byte, metadata byte, size and box of a node that is a geometry of its own.
 pub(crate) fn put_header<S: Sink>(
     style: Style,
-    kind: Kind,
+    node: &Node,
     precision: i8,
-    points: u32,
     entry: &Entry,
-    sink: &mut S,
-    piece: &mut Piece,
+    gatherer: &mut Gatherer<'_, S>,
 ) -> Result<(), S::Fault>
-    ensures ok { OnOk result (Moved S.took sink.old piece.old (header style kind precision points entry.now) sink.new piece.new) }
-    ensures err { IfErr result (λ fault. Failed S.refused sink.old piece.old (header style kind precision points entry.now) fault sink.new) }
+    ensures ok { OnOk result (Moved S.took gatherer.old (header_of style precision entry.now node.now) gatherer.new) }
+    ensures err { IfErr result (λ fault. Failed S.refused gatherer.old (header_of style precision entry.now node.now) fault gatherer.new) }
 {
     let bytes = [
-        type_and_precision(kind, precision),
-        metadata(style, points, entry),
+        type_and_precision(node.row.kind, precision),
+        metadata(style, node.points, entry),
     ];
-    put_two(sink, piece, bytes)?;
-    put_size_and_box(style, entry, sink, piece)
+    gatherer.put_two(bytes)?;
+    put_size_and_box(style, entry, gatherer)
 }

@@ -3,7 +3,9 @@
 
 mod depths;
 mod encoding;
+mod gatherer;
 mod header;
+mod job;
 pub mod laws;
 mod lengths;
 mod levels;
@@ -12,7 +14,6 @@ mod members;
 mod piece;
 mod points;
 mod precisions;
-mod putting;
 mod rows;
 mod sizes;
 mod tails;

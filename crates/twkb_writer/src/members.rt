@@ -6,43 +6,48 @@ ghost use Rattle.twkb_writer.specs.Nodes.{members_of};
 ghost use Rattle.twkb_writer.specs.Putting.{Moved, Failed};
 ghost use Rattle.twkb_writer.specs.Reads.{Reads};
 
-use crate::piece::Piece;
-use crate::putting::put_id;
-use twkb_flat::{Flat, Node, NodeId, Work};
+use crate::gatherer::Gatherer;
+use crate::job::Placed;
+use twkb_flat::{Flat, NodeId, Work};
 use twkb_io::Sink;
+
+/// What is written of a node's members: how many they are, and their ids where these are written.
+#[derive(Clone, Copy)]
+pub(crate) struct Members {
+    pub(crate) count: u32,
+    pub(crate) named: bool,
+}
 
 /// Puts the ids of a node's members. Reads each member once.
 pub(crate) fn put_ids<S: Sink>(
     flat: &Flat,
-    id: NodeId,
-    node: &Node,
-    sink: &mut S,
-    piece: &mut Piece,
+    at: &Placed,
+    gatherer: &mut Gatherer<'_, S>,
     work: &mut Work,
 ) -> Result<(), S::Fault>
-    requires { IsNode flat.now id.0 node.now }
-    ensures ok { OnOk result (Moved S.took sink.old piece.old (ids_bytes (members_of flat.now id node.now)) sink.new piece.new) }
-    ensures err { IfErr result (λ fault. Failed S.refused sink.old piece.old (ids_bytes (members_of flat.now id node.now)) fault sink.new) }
-    ensures reads { OnOk result (Reads work.old (length (members_of flat.now id node.now)) 0 work.new) }
+    requires { IsNode flat.now at.now.id.0 at.now.node }
+    ensures ok { OnOk result (Moved S.took gatherer.old (ids_bytes (members_of flat.now at.now)) gatherer.new) }
+    ensures err { IfErr result (λ fault. Failed S.refused gatherer.old (ids_bytes (members_of flat.now at.now)) fault gatherer.new) }
+    ensures reads { OnOk result (Reads work.old (length (members_of flat.now at.now)) 0 work.new) }
 {
-    let end = node.next.0;
-    let mut child = id.0 + 1;
+    let end = at.node.next.0;
+    let mut child = at.id.0 + 1;
     while child < end {
         let member = flat.node(NodeId(child), work);
-        put_id(sink, piece, member.row.id)?;
+        gatherer.put_id(member.row.id)?;
         child = member.next.0;
     }
     Ok(())
 }
 
 /// How many members a node has. Reads each once.
-pub(crate) fn count_members(flat: &Flat, id: NodeId, node: &Node, work: &mut Work) -> u32
-    requires { IsNode flat.now id.0 node.now }
-    ensures count { result ≡ length (members_of flat.now id node.now) }
-    ensures reads { Reads work.old (length (members_of flat.now id node.now)) 0 work.new }
+pub(crate) fn count_members(flat: &Flat, at: &Placed, work: &mut Work) -> u32
+    requires { IsNode flat.now at.now.id.0 at.now.node }
+    ensures count { result ≡ length (members_of flat.now at.now) }
+    ensures reads { Reads work.old (length (members_of flat.now at.now)) 0 work.new }
 {
-    let end = node.next.0;
-    let mut child = id.0 + 1;
+    let end = at.node.next.0;
+    let mut child = at.id.0 + 1;
     let mut count = 0;
     while child < end {
         let member = flat.node(NodeId(child), work);

@@ -7,8 +7,9 @@ ghost use Rattle.twkb_grammar.specs.Written.{canonical_blob};
 ghost use Rattle.twkb_writer.specs.Sizes.{AreSizes};
 ghost use Rattle.twkb_writer.specs.Reads.{Reads};
 
+use crate::gatherer::Gatherer;
+use crate::job::Job;
 use crate::piece::Piece;
-use crate::putting::flush;
 use crate::rows::put_rows;
 use crate::sizes::Sizes;
 use twkb_flat::{Flat, Work};
@@ -41,8 +42,10 @@ pub fn write_through<S: Sink>(
         return Ok(());
     }
     piece.clear();
-    put_rows(flat, style, sizes, sink, piece, work)?;
-    flush(sink, piece)
+    let job = Job { flat, style, sizes };
+    let mut gatherer = Gatherer { sink, piece };
+    put_rows(&job, &mut gatherer, work)?;
+    gatherer.flush()
 }
 
 /// Writes the canonical blob of a flat form in a style, with its sizes in that style: exactly these bytes where it answers
