@@ -16,3 +16,4 @@ pub mod Keeping
 pub mod Adding
 pub mod LinePoints
 pub mod BarePoints
+pub mod WholeNumbers
