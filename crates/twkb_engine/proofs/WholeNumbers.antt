@@ -1,5 +1,5 @@
 -- A number that is taken at once.
-use Rattle.std.proofs.Common.{◌≡◌, inl, inr, ℕ, zero, suc, ◌-◌, ◌<◌, ◌≤◌, List, [], ◌∷◌, length, take, refl, subst, Option, Some, None, arith}
+use Rattle.std.proofs.Common.{◌≡◌, inr, ℕ, zero, suc, ◌-◌, ◌<◌, ◌≤◌, List, [], ◌∷◌, length, take, subst, Option, Some, None, arith}
 use Rattle.std.proofs.lemmas.List.{length-take-le}
 use Rattle.std.specs.List.{AllByRecursion}
 use Rattle.std.specs.Prelude.{IfSome}
