@@ -1,19 +1,20 @@
--- Bytes of an input, one after another, make a geometry with its spans, or a fault.
-use Rattle.std.proofs.Common.{◌≡◌, ℕ, ◌+◌, ◌<◌, ◌≤◌, List, [], ◌∷◌, ◌++◌, length, take, sym, ap, ◌∙◌, subst, append_assoc, Option, Some, None, Result, Ok, Err, true, false, arith}
+-- Items of an input, one after another, make a geometry with its spans, or a fault.
+use Rattle.std.proofs.Common.{◌≡◌, ℕ, ◌+◌, ◌<◌, ◌≤◌, List, ◌++◌, length, take, sym, ap, ◌∙◌, subst, Bool, Option, Some, None, Result, Ok, Err, true, false, arith}
 use Rattle.std.proofs.lemmas.List.{append-nil, length-take-le}
 use Rattle.std.specs.Prelude.{IfSome}
-use Rattle.std.specs.Io.KnownBytes.{Consumes}
+use Rattle.std.specs.Io.{StartsWith}
+use Rattle.std.specs.Io.KnownBytes.{Consumes, Keeps}
 use Rattle.std.specs.declared.io.traits.Read.{Ghosts}
 use Rattle.twkb_geom.specs.Tree.{Tree}
-use Rattle.twkb_geom.specs.Rows.{Row}
+use Rattle.twkb_geom.specs.Rows.{Row, rows}
 use Rattle.twkb_geom.specs.Limits.{Allowance}
-use Rattle.twkb_grammar.specs.Fault.{FirstFault, Reason}
+use Rattle.twkb_grammar.specs.Blob.{Blob}
 use Rattle.twkb_grammar.specs.Spans.{spans_of_blob}
 use Rattle.twkb_grammar.specs.Noting.{Notes}
 use Rattle.twkb_grammar.specs.declared.span.Span.{Span}
 use Rattle.twkb_io.specs.declared.input.Input.{Input}
 use Rattle.twkb_io.specs.Inputs.{given, rest_of, held_of, is_spent}
-use Rattle.twkb_engine.specs.Standing.{LeadsOn, RefusedIn, StandsAt, offset_in}
+use Rattle.twkb_engine.specs.Standing.{LeadsOn, IsTakenFrom, StandsAt, offset_in}
 use Rattle.twkb_engine.specs.Stops.{reason_of}
 use Rattle.twkb_engine.specs.declared.engine.Engine.{Engine}
 use Rattle.twkb_engine.specs.declared.stop.Stop.{Stop}
@@ -23,11 +24,8 @@ use Rattle.twkb_blob.specs.Located.{HasSpans, IsSpanned, IsSpannedFlat, IsLocate
 use Rattle.twkb_blob.specs.declared.fault.BlobFault.{BlobFault}
 use Rattle.twkb_blob.specs.declared.reading.Piece.TheVariants as piece
 use Rattle.twkb_blob.specs.declared.reading.Halt.TheVariants as halt
+use Rattle.twkb_blob.proofs.Pieces.{left_after, refused_known}
 use Rattle.twkb_blob.proofs.Blobs.{left_join}
-
--- a piece of one byte is that byte
-pub one_byte : (used byte : ℕ) → 0 < used → used ≤ length (byte ∷ []) → take used (byte ∷ []) ≡ byte ∷ []
-one_byte used byte some few = ap (λ n. take n (byte ∷ [])) (let z : used ≡ 1 = omega (arith, some, few) in z)
 
 -- no bytes lead an engine nowhere
 pub stands_still : (bs held : List ℕ) (used : ℕ) (rs more : List Row) (d e : Engine) → used ≡ 0 → LeadsOn rs d (take used held) more e → (s : StandsAt bs rs d)
@@ -37,50 +35,53 @@ stands_still bs held used rs more d e none run s =
     let same : bs ++ take used held ≡ bs = ap (λ n. bs ++ take n held) none ∙ append-nil bs in
     (record { front = on.0.front; whole = sym same ∙ on.0.whole; outlined = on.0.outlined; placed = on.0.placed; spelled = on.0.spelled }, on.1)
 
--- an item that is refused at a byte is refused in what the input had
-refused_byte : (limits : Allowance) (a b : Option (List ℕ)) (bs : List ℕ) (byte offset : ℕ) (reason : Reason) → Consumes a b (byte ∷ []) → RefusedIn limits bs (byte ∷ []) offset reason → IfSome a (λ rest. FirstFault limits (bs ++ rest) offset reason)
-refused_byte limits None b bs byte offset reason loses h = tt
-refused_byte limits (Some xs) None bs byte offset reason loses h = absurd loses
-refused_byte limits (Some xs) (Some ys) bs byte offset reason loses h =
-    let whole : (bs ++ take h.used (byte ∷ [])) ++ ys ≡ bs ++ xs =
-    ap (λ l. (bs ++ l) ++ ys) (one_byte h.used byte h.some h.within) ∙ (append_assoc bs (byte ∷ []) ys ∙ ap (λ l. bs ++ l) (sym loses)) in
-    subst (λ l. FirstFault limits l offset reason) whole (h.fault ys)
+-- a blob goes on behind bytes that were taken
+pub item_went : (limits : Allowance) (bs held : List ℕ) (taken : ℕ × Bool) (rs : List Row) (d : Engine) → taken.1 ≡ false → IsTakenFrom limits bs held (Ok taken) rs d → StandsAt (bs ++ take taken.0 held) rs d
+item_went limits bs held (used, true) rs d off h = absurd cc
+item_went limits bs held (used, false) rs d off h = h
+
+-- or ends behind them
+pub item_ended : (limits : Allowance) (bs held : List ℕ) (taken : ℕ × Bool) (rs : List Row) (d : Engine) → taken.1 ≡ true → IsTakenFrom limits bs held (Ok taken) rs d → (g : Tree) × Blob limits (bs ++ take taken.0 held) g × (rs ≡ rows 0 g)
+item_ended limits bs held (used, false) rs d on h = absurd cc
+item_ended limits bs held (used, true) rs d on h = (h.0, h.1, h.2)
+
+-- an item that is refused in bytes
+pub item_refused : (limits : Allowance) (start : ℕ) (bs held : List ℕ) (stop : Stop) (rs : List Row) (d : Engine) (w : Notes) → IsTakenFrom limits bs held (Err stop) rs d → IsNotedFed limits start bs held (Err stop) rs d w
+item_refused limits start bs held Memory rs d w h = tt
+item_refused limits start bs held (Refused r) rs d w (used, some, within, fault) = record { used = used; some = some; within = within; fault = fault }
 
 module _ {R : Type 0} {read : Ghosts R} where
-  -- a byte leaves
-  byte_left : (a b : Input R read) (byte : ℕ) → Consumes (rest_of a) (rest_of b) (byte ∷ []) → given b ≡ given a + 1 → Left a b (byte ∷ [])
-  byte_left a b byte loses counted = record { consumed = loses; counted = counted }
+  -- held bytes leave
+  held_left : (a b c : Input R read) (held : List ℕ) (used : ℕ) → Keeps (rest_of a) (rest_of b) → given b ≡ given a → held ≡ held_of b → used ≤ length held → Consumes (rest_of b) (rest_of c) (take used (held_of b)) → given c ≡ given b + used
+      → Left a c (take used held)
+  held_left a b c held used keeps same is within loses counted =
+      left_after a b c (take used held) keeps same (subst (λ l. Consumes (rest_of b) (rest_of c) (take used l)) (sym is) loses) (omega (arith, counted, length-take-le used held within))
 
   -- the blob goes on
-  pub byte_more : (limits : Allowance) (start : ℕ) (bs : List ℕ) (byte : ℕ) (a b : Input R read) (rs : List Row) (d : Engine) (w : Notes) → Consumes (rest_of a) (rest_of b) (byte ∷ []) → given b ≡ given a + 1 → is_spent b ≡ false
-      → IsNotedFed limits start bs byte (Ok false) rs d w → IsNotedRead limits start bs a b (Ok piece.More) rs d w
-  byte_more limits start bs byte a b rs d w loses counted live h = (byte ∷ [], omega arith, byte_left a b byte loses counted, h.0, h.1, λ e. absurd (cc (e, live)))
+  pub item_more : (limits : Allowance) (start : ℕ) (bs held : List ℕ) (a b c : Input R read) (used : ℕ) (rs : List Row) (d : Engine) (w : Notes) → Keeps (rest_of a) (rest_of b) → given b ≡ given a → held ≡ held_of b → 0 < used → used ≤ length held
+      → Consumes (rest_of b) (rest_of c) (take used (held_of b)) → given c ≡ given b + used → is_spent c ≡ false → IsNotedFed limits start bs held (Ok (used, false)) rs d w → IsNotedRead limits start bs a c (Ok piece.More) rs d w
+  item_more limits start bs held a b c used rs d w keeps same is some within loses counted live h =
+      (take used held, omega (arith, some, length-take-le used held within), held_left a b c held used keeps same is within loses counted, h.0, h.1, live)
 
   -- points leave, and the blob goes on
-  pub points_more : (limits : Allowance) (start : ℕ) (bs held : List ℕ) (a b : Input R read) (used : ℕ) (rs more : List Row) (d e : Engine) (w : Notes) → held ≡ held_of a → 0 < used → used ≤ length held
-      → Consumes (rest_of a) (rest_of b) (take used (held_of a)) → given b ≡ given a + used → is_spent b ≡ is_spent a → LeadsOn rs d (take used held) more e → (s : StandsAt bs rs d) → w ≡ notes_at start s
-      → IsNotedRead limits start bs a b (Ok piece.More) more e w
-  points_more limits start bs held a b used rs more d e w is some within loses counted stays run s told =
+  pub points_more : (limits : Allowance) (start : ℕ) (bs held : List ℕ) (a b c : Input R read) (used : ℕ) (rs more : List Row) (d e : Engine) (w : Notes) → Keeps (rest_of a) (rest_of b) → given b ≡ given a → held ≡ held_of b → 0 < used → used ≤ length held
+      → Consumes (rest_of b) (rest_of c) (take used (held_of b)) → given c ≡ given b + used → is_spent c ≡ false → LeadsOn rs d (take used held) more e → (s : StandsAt bs rs d) → w ≡ notes_at start s
+      → IsNotedRead limits start bs a c (Ok piece.More) more e w
+  points_more limits start bs held a b c used rs more d e w keeps same is some within loses counted live run s told =
       let on = run bs s in
-      let many : length (take used held) ≡ used = length-take-le used held within in (
-        take used held,
-        omega (arith, some, many),
-        record { consumed = subst (λ l. Consumes (rest_of a) (rest_of b) (take used l)) (sym is) loses; counted = omega (arith, counted, many) },
-        on.0,
-        told ∙ sym (on.1 start),
-        λ spent. sym stays ∙ spent,
-      )
+      item_more limits start bs held a b c used more e w keeps same is some within loses counted live (on.0, told ∙ sym (on.1 start))
 
   -- the blob ends
-  pub byte_made : (limits : Allowance) (start : ℕ) (bs : List ℕ) (byte : ℕ) (a b : Input R read) (rs : List Row) (d : Engine) (w : Notes) → Consumes (rest_of a) (rest_of b) (byte ∷ []) → given b ≡ given a + 1 → is_spent b ≡ false
-      → IsNotedFed limits start bs byte (Ok true) rs d w → IsNotedRead limits start bs a b (Ok piece.Made) rs d w
-  byte_made limits start bs byte a b rs d w loses counted live (g, blob, told, is) = (g, record { bytes = byte ∷ []; left = byte_left a b byte loses counted; blob = blob; unspent = live }, told, is)
+  pub item_made : (limits : Allowance) (start : ℕ) (bs held : List ℕ) (a b c : Input R read) (used : ℕ) (rs : List Row) (d : Engine) (w : Notes) → Keeps (rest_of a) (rest_of b) → given b ≡ given a → held ≡ held_of b → used ≤ length held
+      → Consumes (rest_of b) (rest_of c) (take used (held_of b)) → given c ≡ given b + used → is_spent c ≡ false → IsNotedFed limits start bs held (Ok (used, true)) rs d w → IsNotedRead limits start bs a c (Ok piece.Made) rs d w
+  item_made limits start bs held a b c used rs d w keeps same is within loses counted live (g, blob, told, made) =
+      (g, record { bytes = take used held; left = held_left a b c held used keeps same is within loses counted; blob = blob; unspent = live }, told, made)
 
-  -- the engine stopped at a byte
-  pub byte_stopped : (limits : Allowance) (start : ℕ) (bs : List ℕ) (byte : ℕ) (a b : Input R read) (stop : Stop) (rs : List Row) (d : Engine) (w : Notes) → Consumes (rest_of a) (rest_of b) (byte ∷ [])
-      → IsNotedFed limits start bs byte (Err stop) rs d w → IsRead limits bs a b (Err (halt.Engine stop)) rs d
-  byte_stopped limits start bs byte a b Memory rs d w loses h = tt
-  byte_stopped limits start bs byte a b (Refused r) rs d w loses h = refused_byte limits (rest_of a) (rest_of b) bs byte (offset_in d) (reason_of r) loses h
+  -- the engine stopped in the held bytes
+  pub item_stopped : (limits : Allowance) (start : ℕ) (bs held : List ℕ) (a b : Input R read) (stop : Stop) (rs : List Row) (d : Engine) (w : Notes) → Keeps (rest_of a) (rest_of b) → IfSome (rest_of b) (λ rest. StartsWith rest held)
+      → IsNotedFed limits start bs held (Err stop) rs d w → IsRead limits bs a b (Err (halt.Engine stop)) rs d
+  item_stopped limits start bs held a b Memory rs d w keeps starts h = tt
+  item_stopped limits start bs held a b (Refused r) rs d w keeps starts h = refused_known limits (rest_of a) (rest_of b) bs held (offset_in d) (reason_of r) keeps starts h
 
   -- a blob left the input, with these spans
   pub made_spans : (limits own : Allowance) (start : ℕ) (bs : List ℕ) (a b c : Input R read) (g : Tree) (spans told : List Span) → own ≡ limits → start ≡ given a → Left a b bs

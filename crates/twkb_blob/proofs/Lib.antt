@@ -4,5 +4,6 @@ pub mod Pieces
 pub mod Blobs
 pub mod Changing
 pub mod Noted
+pub mod NotedItems
 pub mod Bytes
 pub mod Counts

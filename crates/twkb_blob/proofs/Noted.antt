@@ -1,5 +1,5 @@
 -- What a byte that is fed adds to the notes.
-use Rattle.std.proofs.Common.{◌≡◌, inl, inr, ℕ, ◌+◌, ◌<◌, ◌^◌, List, [], ◌∷◌, ◌++◌, length, refl, sym, ap, ◌∙◌, subst, arith, Err}
+use Rattle.std.proofs.Common.{◌≡◌, inl, inr, ℕ, ◌+◌, ◌<◌, ◌^◌, List, [], ◌∷◌, ◌++◌, length, refl, sym, ap, ◌∙◌, subst, arith}
 use Rattle.twkb_num.specs.Varint.{IsOpenVarint}
 use Rattle.twkb_geom.specs.Tree.{Tree, flat}
 use Rattle.twkb_geom.specs.Rows.{Row, rows, row_points}
@@ -22,17 +22,14 @@ use Rattle.twkb_outline.specs.Reading.{open_count}
 use Rattle.twkb_engine.specs.State.{step_of, groups_of}
 use Rattle.twkb_engine.specs.Open.{awaited_at}
 use Rattle.twkb_engine.specs.Building.{sums_of}
-use Rattle.twkb_engine.specs.Standing.{StandsAt, IsFed, MadeIn, allowance_of, held_in, offset_in, points_in, awaited_in, open_in}
+use Rattle.twkb_engine.specs.Standing.{StandsAt, allowance_of, held_in, offset_in, points_in, awaited_in, open_in}
 use Rattle.twkb_engine.specs.declared.engine.Engine.{Engine}
 use Rattle.twkb_engine.specs.declared.phase.Phase.{Phase}
 use Rattle.twkb_engine.specs.declared.phase.Phase.TheVariants as phase
 use Rattle.twkb_engine.specs.declared.phase.Optional.TheVariants as part
 use Rattle.twkb_engine.specs.declared.awaited.Awaited.{Awaited}
-use Rattle.twkb_engine.specs.declared.stop.Stop.{Stop}
-use Rattle.twkb_engine.specs.declared.stop.Stop.TheVariants.{Memory, Refused}
 use Rattle.twkb_engine.proofs.Roles.{has_role, is_number, no_end}
-use Rattle.twkb_blob.specs.Located.{note_awaited, notes_at, IsNotedFed}
-use Rattle.twkb_blob.proofs.Bytes.{one_byte}
+use Rattle.twkb_blob.specs.Located.{note_awaited, notes_at}
 
 -- the laws of outlines that a reader of spans needs
 pub record NoteLaws : Type 0 where
@@ -116,11 +113,6 @@ none_noted start rs d s = go s.outlined.stack s.outlined.reached.items s.outline
     go st [] r e = refl
     go st (i ∷ is) r e = absurd (first_item i is st r e)
 
--- what is fed is refused
-pub fed_refused : (limits : Allowance) (start : ℕ) (bs : List ℕ) (byte : ℕ) (stop : Stop) (rs : List Row) (d : Engine) (w : Notes) → IsFed limits bs (byte ∷ []) (Err stop) rs d → IsNotedFed limits start bs byte (Err stop) rs d w
-fed_refused limits start bs byte Memory rs d w h = tt
-fed_refused limits start bs byte (Refused r) rs d w h = h
-
 module _ (laws : NoteLaws) (start byte : ℕ) (bs : List ℕ) (ps : List Row) (d : Engine) (s : StandsAt bs ps d) (held : IsOpenVarint (held_in d)) where
   -- what was noted of the byte alone
   abbrev before : Notes
@@ -154,15 +146,10 @@ module _ (laws : NoteLaws) (start byte : ℕ) (bs : List ℕ) (ps : List Row) (d
         grown = subst Grown (sym same) (λ x. goes_on (allowance_of d) bs (sums_of d.builder) s.outlined.stack (held_in d) (stands_of laws bs ps d held s) start byte (sums_of after.builder) t.outlined.stack (held_in after) x (calm_at laws bs ps d s))
 
     -- a blob ends with the byte
-    pub fed_blob : (rs : List Row) (used end many_now : ℕ) (u : Notes) → MadeIn (allowance_of d) bs (byte ∷ []) used rs → ((g : Tree) → row_points (rows 0 g) ≡ flat g) → many_now ≡ length (row_points rs)
-        → u ≡ note_ends_to 0 end many_now v → end ≡ start + length (bs ++ byte ∷ [])
-        → (g : Tree) × (x : Blob (allowance_of d) (bs ++ byte ∷ []) g) × (u.spans ≡ spans_of_blob start x) × (rs ≡ rows 0 g)
-    fed_blob rs used end many_now u made flat_law counts last ends =
-        let g = made.geometry in
-        let b : Blob (allowance_of d) (bs ++ byte ∷ []) g = subst (λ l. Blob (allowance_of d) (bs ++ l) g) (one_byte used byte made.some made.within) made.blob in
-        let exact : many_now ≡ length (flat g) = counts ∙ ap length (ap row_points made.made ∙ flat_law g) in
-        let told : u.spans ≡ spans_of_blob start b =
+    pub fed_blob : (rs : List Row) (end many_now : ℕ) (u : Notes) (g : Tree) (b : Blob (allowance_of d) (bs ++ byte ∷ []) g) → rs ≡ rows 0 g → ((g : Tree) → row_points (rows 0 g) ≡ flat g) → many_now ≡ length (row_points rs)
+        → u ≡ note_ends_to 0 end many_now v → end ≡ start + length (bs ++ byte ∷ []) → u.spans ≡ spans_of_blob start b
+    fed_blob rs end many_now u g b made flat_law counts last ends =
+        let exact : many_now ≡ length (flat g) = counts ∙ ap length (ap row_points made ∙ flat_law g) in
         ap (λ (x : Notes). x.spans) (last ∙ (ap (λ n. note_ends_to 0 n many_now v) ends ∙ (ap (λ n. note_ends_to 0 (start + length (bs ++ byte ∷ [])) n v) exact
         ∙ ap (λ x. note_ends_to 0 (start + length (bs ++ byte ∷ [])) (length (flat g)) x) noted_first)))
-        ∙ sym (ends_blob (allowance_of d) bs (sums_of d.builder) s.outlined.stack (held_in d) (stands_of laws bs ps d held s) start byte g b (calm_at laws bs ps d s)) in
-        (g, b, told, made.made)
+        ∙ sym (ends_blob (allowance_of d) bs (sums_of d.builder) s.outlined.stack (held_in d) (stands_of laws bs ps d held s) start byte g b (calm_at laws bs ps d s))

@@ -1,5 +1,5 @@
 -- What a reader of geometries with their spans answers.
-use Rattle.std.specs.Prelude.{◌≡◌, ℕ, ◌-◌, ◌<◌, Bool, true, false, length, List, [], ◌∷◌, ◌++◌, Option, Some, None, IfOk, IfSome, Result, Ok, Err, ⊤}
+use Rattle.std.specs.Prelude.{◌≡◌, ℕ, ◌-◌, ◌<◌, Bool, true, false, length, take, List, [], ◌++◌, Option, Some, None, IfOk, IfSome, Result, Ok, Err, ⊤}
 use Rattle.std.specs.declared.io.traits.Read.{Ghosts}
 use Rattle.twkb_geom.specs.Tree.{Tree}
 use Rattle.twkb_geom.specs.Rows.{Row, rows}
@@ -67,13 +67,13 @@ note_awaited awaited.Other offset points byte w = w
 abbrev pub notes_at : {bytes : List ℕ} {rs : List Row} {d : Engine} → (start : ℕ) → StandsAt bytes rs d → Notes
 notes_at start s = noted start nothing no_notes s.outlined.reached.items
 
--- the engine stands for the bytes with this one, and the notes are those of their items; or they are a blob, and the notes are its spans;
--- or an item was refused
-abbrev pub IsNotedFed : Allowance → (start : ℕ) → List ℕ → (byte : ℕ) → Result Bool Stop → List Row → Engine → Notes → Type 0
-IsNotedFed limits start bs byte (Ok false) rs d w = (s : StandsAt (bs ++ byte ∷ []) rs d) × (w ≡ notes_at start s)
-IsNotedFed limits start bs byte (Ok true) rs d w = (g : Tree) × (b : Blob limits (bs ++ byte ∷ []) g) × (w.spans ≡ spans_of_blob start b) × (rs ≡ rows 0 g)
-IsNotedFed limits start bs byte (Err Memory) rs d w = ⊤
-IsNotedFed limits start bs byte (Err (Refused r)) rs d w = RefusedIn limits bs (byte ∷ []) (offset_in d) (reason_of r)
+-- the engine stands for the bytes with those of these that were taken, and the notes are those of their items; or they are a blob, and
+-- the notes are its spans; or an item was refused
+abbrev pub IsNotedFed : Allowance → (start : ℕ) → List ℕ → (held : List ℕ) → Result (ℕ × Bool) Stop → List Row → Engine → Notes → Type 0
+IsNotedFed limits start bs held (Ok (used, false)) rs d w = (s : StandsAt (bs ++ take used held) rs d) × (w ≡ notes_at start s)
+IsNotedFed limits start bs held (Ok (used, true)) rs d w = (g : Tree) × (b : Blob limits (bs ++ take used held) g) × (w.spans ≡ spans_of_blob start b) × (rs ≡ rows 0 g)
+IsNotedFed limits start bs held (Err Memory) rs d w = ⊤
+IsNotedFed limits start bs held (Err (Refused r)) rs d w = RefusedIn limits bs held (offset_in d) (reason_of r)
 
 -- the same, with bytes that left an input; or it gave none
 abbrev pub IsNotedRead :
@@ -81,6 +81,6 @@ abbrev pub IsNotedRead :
     → Input R read → Input R read → Result Piece Halt → List Row → Engine → Notes → Type 0
 IsNotedRead limits start bs old new (Ok piece.More) rs d w =
     (bytes : List ℕ) × (0 < length bytes) × Left old new bytes × (s : StandsAt (bs ++ bytes) rs d)
-    × (w ≡ notes_at start s) × (input_spent new ≡ true → input_spent old ≡ true)
+    × (w ≡ notes_at start s) × (input_spent new ≡ false)
 IsNotedRead limits start bs old new (Ok piece.Made) rs d w = (g : Tree) × (made : Makes limits bs old new g) × (w.spans ≡ spans_of_blob start made.blob) × (rs ≡ rows 0 g)
 IsNotedRead limits start bs old new answer rs d w = IsRead limits bs old new answer rs d

@@ -1,4 +1,4 @@
-//! The spans of a blob that is read: its points as many at once as there are, all else byte by byte.
+//! The spans of a blob that is read: its points as many at once as there are, all else item by item.
 ghost use Rattle.std.specs.Prelude.{◌≡◌, ◌≤◌, ◌<◌, ◌+◌, ◌^◌, ℕ, List, [], length, IfOk, IfSome};
 ghost use Rattle.twkb_io.specs.Taps.{count_failure};
 ghost use Rattle.twkb_io.specs.Inputs.{input_failures, input_tap};
@@ -17,20 +17,25 @@ use twkb_engine::{BlobReason, Engine, Stop};
 use twkb_flat::Flat;
 use twkb_io::Input;
 
-/// Gives a byte to an engine, and notes what it tells. The blob begins at `start`.
-fn feed_byte(
+/// Gives the item that comes next of these bytes to an engine, or a byte of it where it does not stand whole in front, and notes what
+/// it tells; answers how many bytes were taken, and whether a geometry ends behind them. The blob begins at `start`.
+fn feed_item(
     engine: &mut Engine,
     flat: &mut Flat,
     notes: &mut SpanNotes,
     start: u64,
-    byte: u8,
-) -> Result<bool, Stop>
+    held: &[u8],
+) -> Result<(usize, bool), Stop>
+    requires some { 0 < length held.now }
     requires few { count_of engine.old ≤ 2 ^ 62 }
+    requires room { length held.now ≤ 2 ^ 62 }
     requires begin { start ≤ 2 ^ 62 }
     ensures limits { allowance_of engine.new ≡ allowance_of engine.old }
-    ensures count { count_of engine.new ≤ count_of engine.old + 1 }
+    ensures count { count_of engine.new ≤ count_of engine.old + length held.now }
+    ensures some { IfOk result (λ taken. 0 < taken.0) }
+    ensures within { IfOk result (λ taken. taken.0 ≤ length held.now) }
     ensures fed { (bs : List ℕ) (s : StandsAt bs flat.old engine.old) → notes.old ≡ notes_at start s
-        → IsNotedFed (allowance_of engine.old) start bs byte result flat.new engine.new notes.new }
+        → IsNotedFed (allowance_of engine.old) start bs held.now result flat.new engine.new notes.new }
 {
     twkb_geom::laws::nodes_are_rows();
     twkb_outline::laws::reading();
@@ -40,57 +45,29 @@ fn feed_byte(
     let awaited = engine.awaited();
     let offset = start + engine.offset();
     let points = engine.points();
-    let end = offset + engine.held() as u64 + 1;
-    let is_whole = match engine.feed(flat, &[byte]) {
-        Ok((_, is_whole)) => is_whole,
+    let before = offset + engine.held() as u64;
+    let (used, is_whole) = match engine.take_item(flat, held) {
+        Ok(taken) => taken,
         Err(stop) => return Err(stop),
     };
-    match notes.note(awaited, offset, points, byte) {
+    match notes.note(awaited, offset, points, held[0]) {
         Ok(()) => {}
         Err(_) => return Err(Stop::Memory),
     }
     if is_whole {
+        let end = before + used as u64;
         notes.end_to(0, end, u64::from(flat.point_count()));
-        return Ok(true);
+        return Ok((used, true));
     }
     engine.held();
     let left = engine.open_geometries();
     notes.end_to(left, start + engine.offset(), engine.points());
-    Ok(false)
-}
-
-/// Gives the next byte of an input to an engine, and notes what it tells.
-fn read_byte<R: Read>(
-    input: &mut Input<'_, R>,
-    engine: &mut Engine,
-    flat: &mut Flat,
-    notes: &mut SpanNotes,
-    start: u64,
-) -> Result<Piece, Halt>
-    requires few { count_of engine.old ≤ 2 ^ 62 }
-    requires begin { start ≤ 2 ^ 62 }
-    ensures same_tap { (input_tap input.new).ghost_name ≡ (input_tap input.old).ghost_name }
-    ensures limits { allowance_of engine.new ≡ allowance_of engine.old }
-    ensures offset { offset_in engine.new ≤ 2 ^ 63 }
-    ensures read { (bs : List ℕ) (s : StandsAt bs flat.old engine.old) → notes.old ≡ notes_at start s
-        → IsNotedRead (allowance_of engine.old) start bs input.old input.new result flat.new engine.new notes.new }
-    ensures failures { input_failures input.new ≡ count_failure (halted_by_read result) (input_failures input.old) }
-{
-    let byte = match input.next() {
-        Ok(Some(byte)) => byte,
-        Ok(None) => return Ok(Piece::End),
-        Err(fault) => return Err(Halt::Device(fault)),
-    };
-    match feed_byte(engine, flat, notes, start, byte) {
-        Ok(false) => Ok(Piece::More),
-        Ok(true) => Ok(Piece::Made),
-        Err(stop) => Err(Halt::Engine(stop)),
-    }
+    Ok((used, false))
 }
 
 /// Gives points that stand whole in front of the held bytes of an input to an engine, as many as there are: they note nothing. Else
-/// gives it the next byte, and notes what it tells.
-fn read_some<R: Read>(
+/// gives it the next item, and notes what it tells.
+fn read_item<R: Read>(
     input: &mut Input<'_, R>,
     engine: &mut Engine,
     flat: &mut Flat,
@@ -106,16 +83,34 @@ fn read_some<R: Read>(
         → IsNotedRead (allowance_of engine.old) start bs input.old input.new result flat.new engine.new notes.new }
     ensures failures { input_failures input.new ≡ count_failure (halted_by_read result) (input_failures input.old) }
 {
+    if let Err(fault) = input.fill() {
+        return Err(Halt::Device(fault));
+    }
+    let _given = input.offset();
     let held = input.held();
-    let used = match engine.take_points(flat, held) {
-        Ok(used) => used,
+    let count = held.len();
+    if count == 0 {
+        return Ok(Piece::End);
+    }
+    let points = match engine.take_points(flat, held) {
+        Ok(points) => points,
         Err(_) => return Err(Halt::Engine(Stop::Memory)),
     };
-    if used > 0 {
-        input.advance(used);
+    if points > 0 {
+        input.advance(points);
         return Ok(Piece::More);
     }
-    read_byte(input, engine, flat, notes, start)
+    match feed_item(engine, flat, notes, start, held) {
+        Ok((used, false)) => {
+            input.advance(used);
+            Ok(Piece::More)
+        }
+        Ok((used, true)) => {
+            input.advance(used);
+            Ok(Piece::Made)
+        }
+        Err(stop) => Err(Halt::Engine(stop)),
+    }
 }
 
 /// Reads a blob from an input into a form without rows, with an engine that has read nothing and notes of nothing.
@@ -136,7 +131,7 @@ fn read_noted<R: Read>(
     let start = input.offset();
     loop {
         let _given = input.offset();
-        match read_some(input, engine, flat, &mut notes, start) {
+        match read_item(input, engine, flat, &mut notes, start) {
             Ok(Piece::More) => {}
             Ok(Piece::Made) => return Ok(Some(Spans::from_vec(notes.into_spans()))),
             Ok(Piece::End) => {

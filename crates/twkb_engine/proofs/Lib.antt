@@ -13,3 +13,4 @@ pub mod Keeping
 pub mod Adding
 pub mod LinePoints
 pub mod WholePoints
+pub mod WholeNumbers

@@ -1,5 +1,6 @@
 -- What an engine stands for.
-use Rattle.std.specs.Prelude.{◌≡◌, ◌⊎◌, ℕ, ◌+◌, ◌<◌, ◌≤◌, List, [], ◌++◌, length, take, Bool, true, false, Result, Ok, Err, Some}
+use Rattle.std.specs.Prelude.{◌≡◌, ◌⊎◌, ℕ, ◌+◌, ◌-◌, ◌<◌, ◌≤◌, List, [], ◌++◌, length, take, Bool, true, false, Result, Ok, Err, Some}
+use Rattle.twkb_num.specs.Varint.{IsOpenVarint}
 use Rattle.twkb_geom.specs.Tree.{Tree}
 use Rattle.twkb_geom.specs.Limits.{Allowance}
 use Rattle.twkb_geom.specs.Rows.{Row, rows}
@@ -71,6 +72,16 @@ pub record ItemInFront (d : Engine) (bytes : List ℕ) (n count : ℕ) : Type 0 
   pub within : count ≤ length bytes
   pub fits : (n < 256) ⊎ IsSpelled d.builder.phase
   pub gives : (r : Role) → outline_role (sums_of d.builder) (outline_in d.builder) ≡ Some r → Gives r n (take count bytes)
+
+-- no byte is held, a number comes next, and so many of the bytes but the last begin it
+pub record NumberTaken (d : Engine) (bytes : List ℕ) (count : ℕ) : Type 0 where
+  pub alone : held_in d ≡ []
+  pub number : IsSpelled d.builder.phase
+  pub begun : IsOpenVarint (take (count - 1) bytes)
+
+-- so many bytes are one, or those of one number
+abbrev pub IsOneItem : Engine → List ℕ → ℕ → Type 0
+IsOneItem d bytes count = (count ≡ 1) ⊎ NumberTaken d bytes count
 
 -- the bytes are a blob so far, or a blob with these rows and none of a further one, or a part for whose last item there is no memory, or they
 -- have a first fault, whatever follows

@@ -2,7 +2,7 @@
 ghost use Rattle.std.specs.Prelude.{◌≡◌, IfOk, OnErr, ◌+◌, ◌<◌, ◌≤◌, ◌^◌, ◌++◌, ◌∷◌, [], List, ℕ, take, IfSome, length as length_of};
 ghost use Rattle.twkb_num.specs.Varint.{IsOpenVarint};
 ghost use Rattle.twkb_geom.specs.Rows.{Row};
-ghost use Rattle.twkb_engine.specs.Standing.{StandsAt, LeadsOn, StopsIn, IsStep, IsTakenFrom, ItemInFront, IsFed, IsEnd, count_of, offset_in, points_in, awaited_in, held_in, open_in, allowance_of};
+ghost use Rattle.twkb_engine.specs.Standing.{StandsAt, LeadsOn, StopsIn, IsStep, IsTakenFrom, IsOneItem, ItemInFront, IsFed, IsEnd, count_of, offset_in, points_in, awaited_in, held_in, open_in, allowance_of};
 
 use crate::awaited::Awaited;
 use crate::blob_reason::BlobReason;
@@ -84,7 +84,8 @@ impl Engine {
     #[inline]
     fn front_item(&self, rest: &[u8]) -> Option<(u64, usize)>
         requires some { 0 < length_of rest.now }
-        ensures { IfSome result (λ item. ItemInFront self.now rest.now item.0 item.1) }
+        ensures front { IfSome result (λ item. ItemInFront self.now rest.now item.0 item.1) }
+        ensures one { IfSome result (λ item. IsOneItem self.now rest.now item.1) }
     {
         if self.partial.len() > 0 {
             return None;
@@ -96,8 +97,8 @@ impl Engine {
     }
 
     /// Takes the next item, or a byte of it where it does not stand whole in front, and answers how many bytes were taken, and whether a
-    /// geometry ends behind them.
-    fn take_item(&mut self, flat: &mut Flat, rest: &[u8]) -> Result<(usize, bool), Stop>
+    /// geometry ends behind them. It takes memory as `feed` does.
+    pub fn take_item(&mut self, flat: &mut Flat, rest: &[u8]) -> Result<(usize, bool), Stop>
         requires some { 0 < length_of rest.now }
         requires room { count_of self.old + length_of rest.now ≤ 2 ^ 63 }
         ensures limits { allowance_of self.new ≡ allowance_of self.old }
@@ -105,17 +106,9 @@ impl Engine {
         ensures few { count_of self.new ≤ count_of self.old + length_of rest.now }
         ensures some { IfOk result (λ taken. 0 < taken.0) }
         ensures within { IfOk result (λ taken. taken.0 ≤ length_of rest.now) }
+        ensures one { IfOk result (λ taken. IsOneItem self.old rest.now taken.0) }
         ensures taken { (bs : List ℕ) → StandsAt bs flat.old self.old → IsTakenFrom (allowance_of self.old) bs rest.now result flat.new self.new }
     {
-        if self.partial.len() == 0 {
-            if let Some(point) = self.builder.point_in_front(rest) {
-                let count = point.used;
-                return match self.builder.take_point(flat, rest[0], point) {
-                    Ok(ended) => Ok((count, ended)),
-                    Err(stop) => Err(stop),
-                };
-            }
-        }
         if let Some((number, count)) = self.front_item(rest) {
             return match self.builder.take(flat, number, count as u64) {
                 Ok(ended) => Ok((count, ended)),
@@ -145,6 +138,15 @@ impl Engine {
         };
         if used > 0 {
             return Ok((used, false));
+        }
+        if self.partial.len() == 0 {
+            if let Some(point) = self.builder.point_in_front(rest) {
+                let count = point.used;
+                return match self.builder.take_point(flat, rest[0], point) {
+                    Ok(ended) => Ok((count, ended)),
+                    Err(stop) => Err(stop),
+                };
+            }
         }
         self.take_item(flat, rest)
     }

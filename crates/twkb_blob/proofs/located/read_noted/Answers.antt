@@ -18,57 +18,57 @@ loop-notes-init g c = record {
   failures = refl;
 }
 
-pub read_some-requires-clause-few : goal.read_some-requires-clause-few
-read_some-requires-clause-few g c =
+pub read_item-requires-clause-few : goal.read_item-requires-clause-few
+read_item-requires-clause-few g c =
     let (bs, left, stands, told) = c.loop-notes.invariant.read in
     omega (arith, counted c.reading.ensures.offset bs c.loop-notes.flat c.loop-notes.engine stands, left.counted, c.offset-given.ensures.within, c.offset-given.ensures.offset)
 
 pub loop-notes-smaller : goal.loop-notes-smaller
 loop-notes-smaller g c =
     let (bs, left, stands, told) = c.loop-notes.invariant.read in
-    let (bytes, some, more, after, says, still) = rw c.in-Ok-More.field-0-is at (c.in-Ok-More.ensures.read bs stands told) in
-    omega (arith, more.counted, some, c.read_some.new.input.within)
+    let (bytes, some, more, after, says, live) = rw c.in-Ok-More.field-0-is at (c.in-Ok-More.ensures.read bs stands told) in
+    omega (arith, more.counted, some, c.read_item.new.input.within)
 
 pub loop-notes-preserved : goal.loop-notes-preserved
 loop-notes-preserved g c =
     let (bs, left, stands, told) = c.loop-notes.invariant.read in
-    let (bytes, some, more, after, says, still) = rw c.in-Ok-More.field-0-is at (c.in-Ok-More.ensures.read bs stands told) in
+    let (bytes, some, more, after, says, live) = rw c.in-Ok-More.field-0-is at (c.in-Ok-More.ensures.read bs stands told) in
     record {
-      read = (bs ++ bytes, left_join c.args.input.now c.loop-notes.input c.read_some.new.input bs bytes left more, after, says);
-      spent = λ e. c.loop-notes.invariant.spent (still e);
-      limits = c.read_some.ensures.limits ∙ c.loop-notes.invariant.limits;
-      same_tap = c.read_some.ensures.same_tap ∙ c.loop-notes.invariant.same_tap;
+      read = (bs ++ bytes, left_join c.args.input.now c.loop-notes.input c.read_item.new.input bs bytes left more, after, says);
+      spent = λ e. absurd (cc (e, live));
+      limits = c.read_item.ensures.limits ∙ c.loop-notes.invariant.limits;
+      same_tap = c.read_item.ensures.same_tap ∙ c.loop-notes.invariant.same_tap;
       failures = c.in-Ok-More.ensures.failures ∙ c.loop-notes.invariant.failures;
     }
 
 pub returns-in-Ok-Made-clause-next : goal.returns-in-Ok-Made-clause-next
 returns-in-Ok-Made-clause-next g c =
     let (bs, left, stands, told) = c.loop-notes.invariant.read in
-    spans_made (allowance_of c.args.engine.now) (allowance_of c.loop-notes.engine) c.offset-start.result bs c.args.input.now c.loop-notes.input c.read_some.new.input c.read_some.new.flat c.read_some.new.engine c.read_some.new.notes
+    spans_made (allowance_of c.args.engine.now) (allowance_of c.loop-notes.engine) c.offset-start.result bs c.args.input.now c.loop-notes.input c.read_item.new.input c.read_item.new.flat c.read_item.new.engine c.read_item.new.notes
     c.from_vec.result c.loop-notes.invariant.limits c.offset-start.ensures.offset left (c.from_vec.ensures ∙ c.into_spans.ensures) (rw c.in-Ok-Made.field-0-is at (c.in-Ok-Made.ensures.read bs stands told))
 
 pub returns-then-is_between-clause-next : goal.returns-then-is_between-clause-next
 returns-then-is_between-clause-next g c =
     let (bs, left, stands, told) = c.loop-notes.invariant.read in
     let read = rw c.in-Ok-End.field-0-is at (c.in-Ok-End.ensures.read bs stands told) in
-    end_next (allowance_of c.args.engine.now) (allowance_of c.loop-notes.engine) bs c.args.input.now c.loop-notes.input c.read_some.new.input c.read_some.new.flat c.read_some.new.engine left read (c.if-is_between.ensures bs c.read_some.new.flat read.2)
+    end_next (allowance_of c.args.engine.now) (allowance_of c.loop-notes.engine) bs c.args.input.now c.loop-notes.input c.read_item.new.input c.read_item.new.flat c.read_item.new.engine left read (c.if-is_between.ensures bs c.read_item.new.flat read.2)
 
 pub returns-in-Ok-End-clause-next : goal.returns-in-Ok-End-clause-next
 returns-in-Ok-End-clause-next g c =
     let (bs, left, stands, told) = c.loop-notes.invariant.read in
     let read = rw c.in-Ok-End.field-0-is at (c.in-Ok-End.ensures.read bs stands told) in
-    let d = c.read_some.new.engine in
-    let first = subst (λ l. FirstFault l bs (offset_in d) Truncated) c.read_some.ensures.limits (c.if-is_between.ensures bs c.read_some.new.flat read.2) in
-    rw c.offset.ensures (cut_next (allowance_of c.args.engine.now) (allowance_of c.loop-notes.engine) bs c.args.input.now c.loop-notes.input c.read_some.new.input c.offset-start.result (offset_in d) c.read_some.new.flat d c.loop-notes.invariant.limits
+    let d = c.read_item.new.engine in
+    let first = subst (λ l. FirstFault l bs (offset_in d) Truncated) c.read_item.ensures.limits (c.if-is_between.ensures bs c.read_item.new.flat read.2) in
+    rw c.offset.ensures (cut_next (allowance_of c.args.engine.now) (allowance_of c.loop-notes.engine) bs c.args.input.now c.loop-notes.input c.read_item.new.input c.offset-start.result (offset_in d) c.read_item.new.flat d c.loop-notes.invariant.limits
     c.offset-start.ensures.offset left read first)
 
 pub returns-in-Err-Engine-clause-next : goal.returns-in-Err-Engine-clause-next
 returns-in-Err-Engine-clause-next g c =
     let (bs, left, stands, told) = c.loop-notes.invariant.read in
     let read = rw c.in-Err-Engine.field-0-is at (c.in-Err-Engine.ensures.read bs stands told) in
-    engine_told (allowance_of c.args.engine.now) c.args.input.now c.read_some.new.input c.fault_at.result _ (c.offset-start.result + c.offset-in-Err-Engine.result) _ c.in-Err-Engine.stop c.fault_at.ensures (search rules) (search rules)
-    (stopped_next (allowance_of c.args.engine.now) (allowance_of c.loop-notes.engine) bs c.args.input.now c.loop-notes.input c.read_some.new.input c.offset-start.result c.offset-in-Err-Engine.result
-    c.in-Err-Engine.stop c.read_some.new.flat c.read_some.new.engine c.loop-notes.invariant.limits c.offset-start.ensures.offset c.offset-in-Err-Engine.ensures left read)
+    engine_told (allowance_of c.args.engine.now) c.args.input.now c.read_item.new.input c.fault_at.result _ (c.offset-start.result + c.offset-in-Err-Engine.result) _ c.in-Err-Engine.stop c.fault_at.ensures (search rules) (search rules)
+    (stopped_next (allowance_of c.args.engine.now) (allowance_of c.loop-notes.engine) bs c.args.input.now c.loop-notes.input c.read_item.new.input c.offset-start.result c.offset-in-Err-Engine.result
+    c.in-Err-Engine.stop c.read_item.new.flat c.read_item.new.engine c.loop-notes.invariant.limits c.offset-start.ensures.offset c.offset-in-Err-Engine.ensures left read)
 
 pub returns-in-Err-Engine-clause-failures : goal.returns-in-Err-Engine-clause-failures
 returns-in-Err-Engine-clause-failures g c = rw (c.fault_at.ensures, no_device (Option (List Span))) ((rw c.in-Err-Engine.field-0-is at c.in-Err-Engine.ensures.failures) ∙ c.loop-notes.invariant.failures)
@@ -77,7 +77,7 @@ pub returns-in-Err-Device-clause-next : goal.returns-in-Err-Device-clause-next
 returns-in-Err-Device-clause-next g c =
     let (bs, left, stands, told) = c.loop-notes.invariant.read in
     let read = rw c.in-Err-Device.field-0-is at (c.in-Err-Device.ensures.read bs stands told) in
-    device_told (allowance_of c.args.engine.now) c.args.input.now c.read_some.new.input _ c.in-Err-Device.fault (search rules)
-    (halted_next (allowance_of c.args.engine.now) (allowance_of c.loop-notes.engine) c.in-Err-Device.fault bs c.args.input.now c.loop-notes.input c.read_some.new.input c.read_some.new.flat c.read_some.new.engine
-    (offset_in c.read_some.new.engine) c.is_between-between.result c.loop-notes.invariant.limits left c.loop-notes.invariant.spent
-    (subst (λ l. IsEnd l bs (offset_in c.read_some.new.engine) c.is_between-between.result) c.read_some.ensures.limits (c.is_between-between.ensures bs c.read_some.new.flat read.1)) read)
+    device_told (allowance_of c.args.engine.now) c.args.input.now c.read_item.new.input _ c.in-Err-Device.fault (search rules)
+    (halted_next (allowance_of c.args.engine.now) (allowance_of c.loop-notes.engine) c.in-Err-Device.fault bs c.args.input.now c.loop-notes.input c.read_item.new.input c.read_item.new.flat c.read_item.new.engine
+    (offset_in c.read_item.new.engine) c.is_between-between.result c.loop-notes.invariant.limits left c.loop-notes.invariant.spent
+    (subst (λ l. IsEnd l bs (offset_in c.read_item.new.engine) c.is_between-between.result) c.read_item.ensures.limits (c.is_between-between.ensures bs c.read_item.new.flat read.1)) read)

@@ -1,37 +1,21 @@
-use Rattle.std.proofs.Common.{Ok, Err, take, refl, arith}
+use Rattle.std.proofs.Common.{Ok, Err, arith}
 use Rattle.twkb_engine.specs.Standing.{allowance_of}
-use Rattle.twkb_engine.proofs.Feeding.{none_of, stepped_first}
-use Rattle.twkb_engine.proofs.Stepping.{whole_stepped, item_stepped}
+use Rattle.twkb_engine.proofs.Feeding.{stepped_first}
+use Rattle.twkb_engine.proofs.Stepping.{item_stepped}
 use Rattle.twkb_engine.proofs.engine.Engine.take_item.Goals as goal
 
 pub returns-in-Ok-clause-taken : goal.returns-in-Ok-clause-taken
 returns-in-Ok-clause-taken c = λ bs s.
-    let found = c.in-Some.ensures in
-    whole_stepped bs (take _ c.args.rest.now) c.args.flat.now c.take_point.new.flat c.args.self.now c.take_point.new.self (Ok c.in-Ok.ended) (none_of c.args.self.now.partial (omega (arith, c.len.ensures.count, c.if-len-eq0.true)))
-    (λ front here. c.in-Ok.ensures.taken front c.args.rest.now here found.header found.point refl) s
+    let found = c.in-Some in
+    item_stepped bs c.args.rest.now found.number found.count c.args.flat.now c.take.new.flat c.args.self.now c.take.new.self (Ok c.in-Ok.ended) found.ensures.front c.in-Ok.ensures.taken s
 
 pub returns-in-Err-clause-taken : goal.returns-in-Err-clause-taken
 returns-in-Err-clause-taken c = λ bs s.
-    let found = c.in-Some.ensures in (
-      _,
-      found.point.some,
-      found.point.within,
-      whole_stepped bs (take _ c.args.rest.now) c.args.flat.now c.take_point.new.flat c.args.self.now c.take_point.new.self (Err c.in-Err.stop) (none_of c.args.self.now.partial (omega (arith, c.len.ensures.count, c.if-len-eq0.true)))
-          (λ front here. c.in-Err.ensures.taken front c.args.rest.now here found.header found.point refl) s,
-    )
-
-pub returns-in-Ok-take-clause-taken : goal.returns-in-Ok-take-clause-taken
-returns-in-Ok-take-clause-taken c = λ bs s.
-    let found = c.in-Some-front_item in
-    item_stepped bs c.args.rest.now found.number found.count c.args.flat.now c.take.new.flat c.args.self.now c.take.new.self (Ok c.in-Ok-take.ended) found.ensures c.in-Ok-take.ensures.taken s
-
-pub returns-in-Err-take-clause-taken : goal.returns-in-Err-take-clause-taken
-returns-in-Err-take-clause-taken c = λ bs s.
-    let found = c.in-Some-front_item in (
+    let found = c.in-Some in (
       found.count,
-      found.ensures.some,
-      found.ensures.within,
-      item_stepped bs c.args.rest.now found.number found.count c.args.flat.now c.take.new.flat c.args.self.now c.take.new.self (Err c.in-Err-take.stop) found.ensures c.in-Err-take.ensures.taken s,
+      found.ensures.front.some,
+      found.ensures.front.within,
+      item_stepped bs c.args.rest.now found.number found.count c.args.flat.now c.take.new.flat c.args.self.now c.take.new.self (Err c.in-Err.stop) found.ensures.front c.in-Err.ensures.taken s,
     )
 
 pub returns-in-Ok-step-clause-taken : goal.returns-in-Ok-step-clause-taken
