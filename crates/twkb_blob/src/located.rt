@@ -100,16 +100,15 @@ fn read_item<R: Read>(
         input.advance(points);
         return Ok(Piece::More);
     }
-    match feed_item(engine, flat, notes, start, held) {
-        Ok((used, false)) => {
-            input.advance(used);
-            Ok(Piece::More)
-        }
-        Ok((used, true)) => {
-            input.advance(used);
-            Ok(Piece::Made)
-        }
-        Err(stop) => Err(Halt::Engine(stop)),
+    let (used, is_whole) = match feed_item(engine, flat, notes, start, held) {
+        Ok(taken) => taken,
+        Err(stop) => return Err(Halt::Engine(stop)),
+    };
+    input.advance(used);
+    if is_whole {
+        Ok(Piece::Made)
+    } else {
+        Ok(Piece::More)
     }
 }
 

@@ -24,25 +24,25 @@ returns-then-points-gt0-clause-read g c = λ bs s told.
     points_more (allowance_of c.args.engine.now) c.args.start bs c.held-held.result.now c.args.input.now c.fill.new.self c.advance.new.self c.in-Ok.points c.args.flat.now c.take_points.new.flat c.args.engine.now c.take_points.new.self c.args.notes.now
     c.fill.ensures.keeps c.fill.ensures.given c.held-held.ensures.held c.if-points-gt0.true c.in-Ok.ensures.within c.advance.ensures.gives c.advance.ensures.given (c.advance.ensures.stays ∙ c.in_default.ensures.stays) c.in-Ok.ensures.ahead s told
 
-pub returns-in-Ok-default-false-clause-read : goal.returns-in-Ok-default-false-clause-read
-returns-in-Ok-default-false-clause-read g c = λ bs s told.
+pub returns-else-is_whole-clause-read : goal.returns-else-is_whole-clause-read
+returns-else-is_whole-clause-read g c = λ bs s told.
     let none : c.in-Ok.points ≡ 0 = omega (arith, c.if-points-gt0.false) in
     let still = stands_still bs c.held-held.result.now c.in-Ok.points c.args.flat.now c.take_points.new.flat c.args.engine.now c.take_points.new.self none c.in-Ok.ensures.ahead s in
-    let fed = rw c.in-Ok-default-false.field-0-1-test at (c.in-Ok-default-false.ensures.fed bs still.0 (told ∙ sym (still.1 c.args.start))) in
-    subst (λ l. IsNotedRead l c.args.start bs c.args.input.now c.advance-in-Ok-default-false.new.self (Ok piece.More) c.feed_item.new.flat c.feed_item.new.engine c.feed_item.new.notes) c.in-Ok.ensures.limits
-    (item_more (allowance_of c.take_points.new.self) c.args.start bs c.held-held.result.now c.args.input.now c.fill.new.self c.advance-in-Ok-default-false.new.self c.in-Ok-default-false.used c.feed_item.new.flat c.feed_item.new.engine c.feed_item.new.notes
-    c.fill.ensures.keeps c.fill.ensures.given c.held-held.ensures.held c.in-Ok-default-false.ensures.some c.in-Ok-default-false.ensures.within c.advance-in-Ok-default-false.ensures.gives c.advance-in-Ok-default-false.ensures.given
-    (c.advance-in-Ok-default-false.ensures.stays ∙ c.in_default.ensures.stays) fed)
+    let fed = rw c.if-is_whole.false at (c.in-Ok-feed_item.ensures.fed bs still.0 (told ∙ sym (still.1 c.args.start))) in
+    subst (λ l. IsNotedRead l c.args.start bs c.args.input.now c.advance-2.new.self (Ok piece.More) c.feed_item.new.flat c.feed_item.new.engine c.feed_item.new.notes) c.in-Ok.ensures.limits
+    (item_more (allowance_of c.take_points.new.self) c.args.start bs c.held-held.result.now c.args.input.now c.fill.new.self c.advance-2.new.self c.in-Ok-feed_item.taken.0 c.feed_item.new.flat c.feed_item.new.engine c.feed_item.new.notes
+    c.fill.ensures.keeps c.fill.ensures.given c.held-held.ensures.held c.in-Ok-feed_item.ensures.some c.in-Ok-feed_item.ensures.within c.advance-2.ensures.gives c.advance-2.ensures.given
+    (c.advance-2.ensures.stays ∙ c.in_default.ensures.stays) fed)
 
-pub returns-in-Ok-default-true-clause-read : goal.returns-in-Ok-default-true-clause-read
-returns-in-Ok-default-true-clause-read g c = λ bs s told.
+pub returns-then-is_whole-clause-read : goal.returns-then-is_whole-clause-read
+returns-then-is_whole-clause-read g c = λ bs s told.
     let none : c.in-Ok.points ≡ 0 = omega (arith, c.if-points-gt0.false) in
     let still = stands_still bs c.held-held.result.now c.in-Ok.points c.args.flat.now c.take_points.new.flat c.args.engine.now c.take_points.new.self none c.in-Ok.ensures.ahead s in
-    let fed = rw c.in-Ok-default-true.field-0-1-test at (c.in-Ok-default-true.ensures.fed bs still.0 (told ∙ sym (still.1 c.args.start))) in
-    subst (λ l. IsNotedRead l c.args.start bs c.args.input.now c.advance-in-Ok-default-true.new.self (Ok piece.Made) c.feed_item.new.flat c.feed_item.new.engine c.feed_item.new.notes) c.in-Ok.ensures.limits
-    (item_made (allowance_of c.take_points.new.self) c.args.start bs c.held-held.result.now c.args.input.now c.fill.new.self c.advance-in-Ok-default-true.new.self c.in-Ok-default-true.used c.feed_item.new.flat c.feed_item.new.engine c.feed_item.new.notes
-    c.fill.ensures.keeps c.fill.ensures.given c.held-held.ensures.held c.in-Ok-default-true.ensures.within c.advance-in-Ok-default-true.ensures.gives c.advance-in-Ok-default-true.ensures.given
-    (c.advance-in-Ok-default-true.ensures.stays ∙ c.in_default.ensures.stays) fed)
+    let fed = rw c.if-is_whole.true at (c.in-Ok-feed_item.ensures.fed bs still.0 (told ∙ sym (still.1 c.args.start))) in
+    subst (λ l. IsNotedRead l c.args.start bs c.args.input.now c.advance-2.new.self (Ok piece.Made) c.feed_item.new.flat c.feed_item.new.engine c.feed_item.new.notes) c.in-Ok.ensures.limits
+    (item_made (allowance_of c.take_points.new.self) c.args.start bs c.held-held.result.now c.args.input.now c.fill.new.self c.advance-2.new.self c.in-Ok-feed_item.taken.0 c.feed_item.new.flat c.feed_item.new.engine c.feed_item.new.notes
+    c.fill.ensures.keeps c.fill.ensures.given c.held-held.ensures.held c.in-Ok-feed_item.ensures.within c.advance-2.ensures.gives c.advance-2.ensures.given
+    (c.advance-2.ensures.stays ∙ c.in_default.ensures.stays) fed)
 
 pub returns-in-Err-feed_item-clause-read : goal.returns-in-Err-feed_item-clause-read
 returns-in-Err-feed_item-clause-read g c = λ bs s told.
