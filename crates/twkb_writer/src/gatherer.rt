@@ -49,7 +49,9 @@ impl<'a, S: Sink> Gatherer<'a, S> {
         if self.piece.has_room() {
             return Ok(());
         }
-        self.flush()
+        self.sink.put(self.piece.as_slice())?;
+        self.piece.clear();
+        Ok(())
     }
 
     /// Puts two bytes.
