@@ -16,9 +16,9 @@ use Rattle.twkb_polyline.proofs.CharacterLemmas.{open_goes_on, unit_more, unit_l
 use Rattle.twkb_polyline.proofs.GroupLemmas.{length-open_units, spelled_shortest}
 use Rattle.twkb_polyline.proofs.NumberLemmas.{next_at, number_at}
 
--- the group of a character, as the code read it
-pub read_group : (text : List ℕ) (at u d g : ℕ) (more b : Bool) → u ≡ get_or text at 0 → Some (d, more) ≡ five_group u → g ≡ d → more ≡ b → five_group (get_or text at 0) ≡ Some (g, b)
-read_group text at u d g more b e f h k = cc
+-- the group of a character that was read at a place
+pub group_at : (text : List ℕ) (at u d : ℕ) (more : Bool) → u ≡ get_or text at 0 → five_group u ≡ Some (d, more) → five_group (get_or text at 0) ≡ Some (d, more)
+group_at text at u d more e f = subst (λ c. five_group c ≡ Some (d, more)) e f
 
 -- before the first character
 abbrev pub begun_none : (text : List ℕ) (start : ℕ) → start ≤ length text → IsBegun text start start 0

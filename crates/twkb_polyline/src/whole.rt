@@ -1,9 +1,10 @@
 //! Points whose numbers stand whole in a text.
-ghost use Rattle.std.specs.Prelude.{◌≡◌, ◌+◌, IfSome, IfNone};
+ghost use Rattle.std.specs.Prelude.{◌≡◌, ◌+◌, true, false, Some, IfSome, IfNone};
+ghost use Rattle.twkb_num.specs.Alphabet.{five_group};
 ghost use Rattle.twkb_points.specs.Point.{IsInRange};
 ghost use Rattle.twkb_polyline.specs.Reading.{IsNumberAt, IsPointAt, IsBegun};
 
-use twkb_num::{Five, Groups, unzigzag};
+use twkb_num::unzigzag;
 use twkb_points::{Cursor, Pt};
 
 /// Bits of a group.
@@ -26,25 +27,47 @@ pub(crate) fn whole_point(text: &[u8], start: usize, cursor: &mut Cursor) -> Opt
     Some((point, end))
 }
 
+/// The group of a character behind which a number goes on.
+#[inline(always)]
+fn open_group(unit: u8) -> Option<u64>
+    ensures { IfSome result (λ group. five_group unit ≡ Some (group, true)) }
+{
+    match unit {
+        b'_'..=b'~' => Some(u64::from(unit - b'_')),
+        _ => None,
+    }
+}
+
+/// The group of a character that ends a number.
+#[inline(always)]
+fn last_group(unit: u8) -> Option<u64>
+    ensures { IfSome result (λ group. five_group unit ≡ Some (group, false)) }
+{
+    match unit {
+        b'?'..=b'^' => Some(u64::from(unit - b'?')),
+        _ => None,
+    }
+}
+
 /// The number that begins at `start`, and where the text goes on. `None` says nothing.
 #[inline(always)]
 fn whole_number(text: &[u8], start: usize) -> Option<(i64, usize)>
     ensures { IfSome result (λ r. IsNumberAt text.now start r.0 r.1) }
 {
-    let (first, more) = Five::from_unit(*text.get(start)?)?;
-    let first = u64::from(first);
-    if !more {
-        return Some((unzigzag(first), start + 1));
-    }
-    let (second, more) = Five::from_unit(*text.get(start + 1)?)?;
-    let value = first + (u64::from(second) << BITS);
-    if more {
-        return long_number(text, start, value);
-    }
-    if second == 0 {
-        return None;
-    }
-    Some((unzigzag(value), start + 2))
+    let unit = *text.get(start)?;
+    let Some(first) = open_group(unit) else {
+        let only = last_group(unit)?;
+        return Some((unzigzag(only), start + 1));
+    };
+    let unit = *text.get(start + 1)?;
+    let Some(second) = open_group(unit) else {
+        let last = last_group(unit)?;
+        if last == 0 {
+            return None;
+        }
+        return Some((unzigzag(first + (last << BITS)), start + 2));
+    };
+    long_number(text, start, first + (second << BITS))
 }
 
 /// The same of a number whose first two characters go on, and have this value.
@@ -56,14 +79,14 @@ fn long_number(text: &[u8], start: usize, begun: u64) -> Option<(i64, usize)>
     let mut value = begun;
     let mut shift = 2 * BITS;
     for at in start + 2..text.len() {
-        let (group, more) = Five::from_unit(text[at])?;
-        let group = u64::from(group);
-        if !more {
-            if group == 0 || group > u64::MAX >> shift {
+        let unit = text[at];
+        let Some(group) = open_group(unit) else {
+            let last = last_group(unit)?;
+            if last == 0 || last > u64::MAX >> shift {
                 return None;
             }
-            return Some((unzigzag(value + (group << shift)), at + 1));
-        }
+            return Some((unzigzag(value + (last << shift)), at + 1));
+        };
         if shift == LAST_SHIFT {
             return None;
         }

@@ -4,16 +4,15 @@ ghost use Rattle.twkb_points.specs.Point.{Point};
 ghost use Rattle.twkb_geom.specs.Open.{opened};
 ghost use Rattle.twkb_flat.specs.Rows.{row_with};
 
-use smallvec::SmallVec;
 use std::alloc::AllocError;
 use twkb_flat::Row;
 use twkb_geom::OpenRow;
 
 /// Opens a row that was read: the open rows at its depth and below go, its parent has had a child,
-/// and the row stands last. Takes memory where more than eight rows are open; an `Err` changes
-/// nothing.
+/// and the row stands last. Takes memory where more rows are open than ever before; an `Err`
+/// changes nothing.
 #[inline(always)]
-pub(crate) fn open_row(rows: &mut SmallVec<OpenRow, 8>, row: &Row) -> Result<(), AllocError>
+pub(crate) fn open_row(rows: &mut Vec<OpenRow>, row: &Row) -> Result<(), AllocError>
     requires { row.now.depth ≤ length rows.old.items }
     ensures opened { OnOk result ((points : List Point) → rows.new.items ≡ opened row.now.depth rows.old.items (row_with row.now points)) }
     ensures same { OnErr result (rows.new.items ≡ rows.old.items) }

@@ -12,7 +12,6 @@ use crate::judging::{JudgeFault, judge, judge_head};
 use crate::open_rows::open_row;
 use crate::reason::RowReason;
 use csv::ByteRecord;
-use smallvec::SmallVec;
 use std::alloc::{AllocError, Global};
 use twkb_flat::{Flat, PointSource, Row};
 use twkb_geom::{Kind, Limits, OpenRow};
@@ -30,7 +29,7 @@ pub(crate) struct Root {
 #[derive(Drop)]
 pub(crate) struct RowReader {
     limits: Limits,
-    open_rows: SmallVec<OpenRow, 8>,
+    open_rows: Vec<OpenRow>,
     waiting: Option<Root>,
     points: Vec<Pt>,
     ghost waits: { may_wait limits waiting points.items ≡ true },
@@ -46,7 +45,7 @@ impl RowReader {
     {
         RowReader {
             limits,
-            open_rows: SmallVec::new(alloc),
+            open_rows: Vec::new(alloc),
             waiting: None,
             points: Vec::new(alloc),
         }

@@ -70,7 +70,7 @@ impl<'a, R: Read> TableReader<'a, R> {
     /// there was one; after a false and after an `Err` the form is empty. A geometry is given once
     /// the next root was accepted, or at the table's end. After the end each call answers false, and
     /// after an `Err` each call answers `Spent`, and nothing more is read. Takes memory for one record, one root's points and
-    /// the open rows beyond eight, and for the flat form.
+    /// the open rows, and for the flat form.
     pub fn next_flat(&mut self, flat: &mut Flat) -> Result<bool, TableFault>
         ensures gives { IfOk result (λ found. found ≡ true → (l : Allowance) (told : Option (List ℕ)) (records : List Record) (given : List Tree)
             → StandsAfter l R.remaining told records given self.old → GivesNext l R.remaining told records given flat.new self.new) }

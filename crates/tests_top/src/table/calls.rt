@@ -231,7 +231,7 @@ fn is_deep(outcome: &Outcome) -> bool {
     }
 }
 
-// The same, with the growth for the rows that are open below the eighth.
+// The same, with a growth for the rows that are open, ten deep.
 #[test]
 fn a_refused_growth_of_the_open_rows_is_told(rt: HostRuntime) {
     let mut tap = Tap::new(DEEP);

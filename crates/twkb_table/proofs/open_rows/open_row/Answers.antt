@@ -1,4 +1,4 @@
-use Rattle.std.proofs.Common.{◌≡◌, ◌∷◌, [], ◌++◌, List, take, sym, ap, ◌∙◌}
+use Rattle.std.proofs.Common.{◌≡◌, ◌∷◌, [], ◌++◌, List, take, sym, ap, arith, ◌∙◌}
 use Rattle.std.proofs.lemmas.Bool.{false≢true}
 use Rattle.twkb_geom.specs.declared.open_rows.OpenRow.{OpenRow}
 use Rattle.twkb_flat.specs.Rows.{row_with}
@@ -19,6 +19,6 @@ returns-clause-opened c points =
           let noted_is : c.match-pop.rows.items ≡ c.pop.new.self.items ++ w.with_child.result ∷ [] = ap (λ v. v.items) w.rows-is ∙ w.push_reserved.ensures.items in
           c.push_reserved-2.ensures.items ∙ ap (λ (os : List OpenRow). os ++ entered r ∷ []) (noted_is ∙ ap (λ (p : OpenRow). c.pop.new.self.items ++ p ∷ []) child) ∙ sym end
       | in_default w ↦
-          let none = nothing d c.args.rows.now.items c.truncate.new.self.items c.pop.new.self.items c.requires cut w.in_default.ensures.items (λ lt. false≢true (w.in_default.ensures.variant.1 lt)) in
+          let none = nothing d c.args.rows.now.items c.truncate.new.self.items c.pop.new.self.items c.requires cut w.in_default.ensures.items (λ lt. false≢true (w.in_default.ensures.variant.1 (omega (arith, lt, c.truncate.new.self.ok.0)))) in
           c.push_reserved-2.ensures.items ∙ ap (λ (os : List OpenRow). os ++ entered r ∷ []) (ap (λ v. v.items) w.rows-is) ∙ sym (opened_none d c.args.rows.now.items c.pop.new.self.items r none.0 none.1)
     ]

@@ -17,6 +17,6 @@ pub returns-clause-keeps : goal.returns-clause-keeps
 returns-clause-keeps c =
     let l = c.args.self.now.limits in
     let begins = waiting_begins l c.args.self.now.waiting c.in-Some.root c.args.self.now.points.items c.args.self.now.waits c.in-Some.is in
-    let opened_now = c.in_ok-push.ensures.ok ∙ ap (λ (os : List OpenRow). os ++ record { kind = c.in-Some.root.kind; child_ids = None } ∷ []) c.clear.ensures.items in
+    let opened_now = c.in_ok-push.ensures.items ∙ ap (λ (os : List OpenRow). os ++ record { kind = c.in-Some.root.kind; child_ids = None } ∷ []) c.clear.ensures.items in
     let kept = keeps_first l _ c.begin.new.self c.clear.new.self.items c.push.new.self.items begins c.in_ok-begin.ensures.begun c.clear.ensures.items opened_now in
     record { of_one = kept.of_one; some = kept.some; open_rows = kept.open_rows; none = refl }

@@ -1,7 +1,7 @@
 use Rattle.std.proofs.Common.{[], rules, refl, inl, inr}
 use Rattle.csv.specs.Records.{fields_of}
 use Rattle.twkb_table.proofs.RecordJudged.{if_refused}
-use Rattle.twkb_table.proofs.TableSteps.{going_on, begins_next, first_refused, none_before, not_ended, same_parts}
+use Rattle.twkb_table.proofs.TableSteps.{going_on, begins_next, first_refused, none_before, not_ended}
 use Rattle.twkb_table.proofs.TableCalls.{explained, no_record}
 use Rattle.twkb_table.proofs.table_reader.TableReader.first_root.Goals as goal
 
