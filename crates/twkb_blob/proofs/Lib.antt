@@ -1,5 +1,6 @@
 pub mod Trees
 pub mod Standing
+pub mod Parts
 pub mod Pieces
 pub mod Blobs
 pub mod Changing

@@ -1,13 +1,15 @@
 -- A session goes on, gives a geometry, refuses or ends.
-use Rattle.std.proofs.Common.{◌≡◌, ℕ, zero, suc, ◌+◌, ◌-◌, ◌<◌, ◌≤◌, ◌^◌, inl, inr, List, [], ◌∷◌, ◌++◌, length, take, refl, sym, ap, ◌∙◌, subst, append_assoc, length-append, Bool, true, false, Some, None, Ok, Err, arith}
-use Rattle.std.proofs.lemmas.List.{append-nil, length-take-le}
+use Rattle.std.proofs.Common.{◌≡◌, ℕ, zero, suc, ◌+◌, ◌-◌, ◌<◌, ◌≤◌, ◌^◌, inl, inr, List, [], ◌∷◌, ◌++◌, length, take, refl, sym, ap, ◌∙◌, subst, append_assoc, length-append, Bool, true, false, Some, Ok, Err, arith}
+use Rattle.std.proofs.lemmas.List.{append-nil, append_cancel_left, length-take-le}
 use Rattle.std.specs.Prelude.{if◌then◌else◌}
 use Rattle.twkb_geom.specs.Tree.{Tree}
 use Rattle.twkb_geom.specs.Rows.{Row, rows}
 use Rattle.twkb_geom.specs.Limits.{Allowance, IsValid, largest_limits}
 use Rattle.twkb_grammar.specs.Blob.{Blob, Stream}
-use Rattle.twkb_grammar.specs.Fault.{FirstFault, StreamFault, Truncated}
+use Rattle.twkb_grammar.specs.Fault.{FirstFault, IsPart, StreamFault, Truncated}
 use Rattle.twkb_grammar.specs.Machine.{Sums}
+use Rattle.twkb_grammar.proofs.Streams.{behind_stream}
+use Rattle.twkb_grammar.proofs.PartBytes.{blob_is_part}
 use Rattle.twkb_outline.specs.Outline.{Outline}
 use Rattle.twkb_outline.specs.Reading.{Outlined}
 use Rattle.twkb_engine.specs.Building.{sums_of, outline_in}
@@ -18,7 +20,7 @@ use Rattle.twkb_engine.specs.Standing.{StandsAt, IsFed, IsEnd, MadeIn, RefusedIn
 use Rattle.twkb_engine.specs.declared.engine.Engine.{Engine}
 use Rattle.twkb_engine.specs.declared.blob_reason.BlobReason.{BlobReason}
 use Rattle.twkb_blob.specs.Faults.{fault_of}
-use Rattle.twkb_blob.specs.Sessions.{Stands, FedSession, FedFlat, AreBegun, IsTooLong, begun_rows, session_limits, session_rows}
+use Rattle.twkb_blob.specs.Sessions.{Stands, PartAt, FedSession, FedFlat, AreBegun, IsTooLong, begun_rows, session_limits, session_rows}
 use Rattle.twkb_blob.specs.declared.session.Session.{Session}
 use Rattle.twkb_blob.specs.declared.fault.BlobFault.TheVariants as fault
 use Rattle.twkb_blob.proofs.Trees.{TreeLaw, last_tree, tree_made}
@@ -67,7 +69,7 @@ taken_front (suc n) (suc m) [] few = refl
 taken_front (suc n) (suc m) (x ∷ xs) few = ap (λ l. x ∷ l) (taken_front n m xs (omega (arith, few)))
 
 -- the same, of bytes that are a front
-front_of : (used count : ℕ) (cut piece : List ℕ) → cut ≡ take count piece → used ≤ length cut → take used cut ≡ take used piece
+pub front_of : (used count : ℕ) (cut piece : List ℕ) → cut ≡ take count piece → used ≤ length cut → take used cut ≡ take used piece
 front_of used count cut piece is few = ap (λ l. take used l) is ∙ taken_front used count piece (omega (arith, few, ap length is))
 
 -- a stream and one blob more
@@ -166,7 +168,19 @@ refuses bytes gs piece cut old new within count r s is short limits h = record {
 -- the engine stopped in the piece
 pub stops : (bytes : List ℕ) (gs : List Tree) (piece cut : List ℕ) (old new : Session) (offset count : ℕ) (stop : Stop) (rs : List Row) (s : Stands bytes gs old) → cut ≡ take count piece → length cut ≤ length piece
     → session_limits new ≡ session_limits old → offset ≡ old.start + offset_in new.engine → IsFed (session_limits old) s.rest cut (Err stop) rs new.engine → FedSession bytes gs piece (Err (fault_of offset stop)) new
-stops bytes gs piece cut old new offset count Memory rs s is short limits at h = tt
+stops bytes gs piece cut old new offset count Memory rs s is short limits at h =
+    subst (λ l. PartAt l bytes gs piece) (sym limits) (record {
+      front = s.front;
+      rest = s.rest;
+      whole = s.whole;
+      blobs = s.blobs;
+      part = record {
+        used = h.used;
+        some = h.some;
+        within = (let few = h.within in omega (arith, few, short));
+        part = subst (λ l. IsPart (session_limits old) (s.rest ++ l)) (front_of h.used count cut piece is h.within) h.part;
+      };
+    })
 stops bytes gs piece cut old new offset count (Refused r) rs s is short limits at h =
     subst (λ n. FedSession bytes gs piece (Err (fault.At n r)) new) (sym at) (refuses bytes gs piece cut old new (offset_in new.engine) count r s is short limits h)
 
@@ -175,6 +189,22 @@ pub gave_tree : TreeLaw → (bytes : List ℕ) (gs : List Tree) (piece : List �
     → FedSession bytes gs piece (Ok (used, Some h)) new
 gave_tree law bytes gs piece new used h (g, fed, is) made valid =
     subst (λ t. FedSession bytes gs piece (Ok (used, Some t)) new) (tree_made law (session_rows new) g h (last_tree (session_limits new) (bytes ++ take used piece) gs g fed.2) is made valid) fed
+
+-- there is no memory for that tree
+pub no_tree : (bytes : List ℕ) (gs : List Tree) (piece : List ℕ) (old new : Session) (used : ℕ) → Stands bytes gs old → session_limits new ≡ session_limits old → FedFlat bytes gs piece (Ok (used, true)) new → PartAt (session_limits new) bytes gs piece
+no_tree bytes gs piece old new used s limits (g, fed, is) =
+    let blobs : Stream (session_limits new) s.front gs = subst (λ l. Stream l s.front gs) (sym limits) s.blobs in
+    let same : bytes ++ take used piece ≡ s.front ++ (s.rest ++ take used piece) = ap (λ l. l ++ take used piece) s.whole ∙ append_assoc s.front s.rest (take used piece) in
+    let behind = behind_stream (session_limits new) s.front (s.rest ++ take used piece) gs (gs ++ g ∷ []) blobs (subst (λ l. Stream (session_limits new) l (gs ++ g ∷ [])) same fed.2) in
+    let (front, rest, whole, blob, none) = subst (Stream (session_limits new) (s.rest ++ take used piece)) (sym (append_cancel_left gs (g ∷ []) behind.0 behind.1)) behind.2 in
+    let one : front ≡ s.rest ++ take used piece = sym (whole ∙ (ap (λ l. front ++ l) none ∙ append-nil front)) in
+    record {
+      front = s.front;
+      rest = s.rest;
+      whole = s.whole;
+      blobs = blobs;
+      part = record { used = used; some = fed.0; within = fed.1; part = subst (IsPart (session_limits new)) one (blob_is_part (session_limits new) front g blob) };
+    }
 
 -- the stream ends between two blobs
 pub ended : (bytes : List ℕ) (gs : List Tree) (old : Session) (s : Stands bytes gs old) → s.rest ≡ [] → Stream (session_limits old) bytes gs

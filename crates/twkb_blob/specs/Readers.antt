@@ -14,6 +14,7 @@ use Rattle.twkb_io.specs.declared.input.InFault.{InFault}
 use Rattle.twkb_io.specs.Inputs.{given, input_tap, rest_of, is_spent as input_spent}
 use Rattle.twkb_engine.specs.Standing.{StandsAt, offset_in}
 use Rattle.twkb_engine.specs.Stops.{reason_of}
+use Rattle.twkb_engine.specs.Parts.{PartIn}
 use Rattle.twkb_engine.specs.declared.engine.Engine.{Engine}
 use Rattle.twkb_engine.specs.declared.stop.Stop.TheVariants.{Memory, Refused}
 use Rattle.twkb_blob.specs.declared.fault.BlobFault.{BlobFault}
@@ -134,6 +135,10 @@ abbrev pub IsNextFlat : {R : Type 0} {read : Ghosts R} → Allowance → Input R
 IsNextFlat limits old new (Ok true) rs = (g : Tree) × Makes limits [] old new g × (rs ≡ rows 0 g)
 IsNextFlat limits old new (Ok false) rs = IsNext limits old new (Ok None)
 IsNextFlat limits old new (Err why) rs = IsNext limits old new (Err why)
+
+-- Of the known bytes that an input has left a front, one byte at least, ends a part behind these.
+abbrev pub PartAhead : {R : Type 0} {read : Ghosts R} → Allowance → List ℕ → Input R read → Type 0
+PartAhead limits bs input = IfSome (rest_of input) (λ rest. PartIn limits bs rest)
 
 -- whether a piece was missing because the reader failed
 abbrev pub halted_by_read : Result Piece Halt → Bool

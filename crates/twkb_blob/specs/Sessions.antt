@@ -1,5 +1,5 @@
 -- What a session stands for.
-use Rattle.std.specs.Prelude.{ℕ, ◌≡◌, ◌+◌, ◌-◌, ◌<◌, ◌≤◌, ◌^◌, ◌⊎◌, if◌then◌else◌, List, [], ◌∷◌, ◌++◌, length, take, sum_by, Bool, true, false, Option, Some, None, Result, Ok, Err, ⊤}
+use Rattle.std.specs.Prelude.{ℕ, ◌≡◌, ◌+◌, ◌-◌, ◌<◌, ◌≤◌, ◌^◌, ◌⊎◌, if◌then◌else◌, List, [], ◌∷◌, ◌++◌, length, take, sum_by, Bool, true, false, Option, Some, None, Result, Ok, Err}
 use Rattle.twkb_geom.specs.Tree.{Tree}
 use Rattle.twkb_geom.specs.Rows.{Row, rows}
 use Rattle.twkb_geom.specs.Limits.{Allowance}
@@ -8,6 +8,7 @@ use Rattle.twkb_grammar.specs.Blob.{Stream}
 use Rattle.twkb_grammar.specs.Fault.{StreamFault, Truncated}
 use Rattle.twkb_engine.specs.Standing.{StandsAt, allowance_of, held_in, open_in}
 use Rattle.twkb_engine.specs.Stops.{reason_of}
+use Rattle.twkb_engine.specs.Parts.{PartIn}
 use Rattle.twkb_io.specs.declared.input.InFault.TheVariants.{TooLong}
 use Rattle.twkb_blob.specs.Faults.{RefusedAt}
 use Rattle.twkb_blob.specs.declared.session.Session.{Session}
@@ -80,13 +81,21 @@ pub record IsTooLong (limits : Allowance) (bytes : List ℕ) (gs : List Tree) (p
   pub past : 2 ^ 62 < length bytes + length piece
   pub begun : AreBegun limits (bytes ++ take (2 ^ 62 - length bytes) piece) gs
 
+-- The bytes are blobs of these geometries, and then some behind which a front of the piece, one byte at least, ends a part.
+pub record PartAt (limits : Allowance) (bytes : List ℕ) (gs : List Tree) (piece : List ℕ) : Type 0 where
+  pub front : List ℕ
+  pub rest : List ℕ
+  pub whole : bytes ≡ front ++ rest
+  pub blobs : Stream limits front gs
+  pub part : PartIn limits rest piece
+
 -- A feed uses the whole piece, or up to the end of a geometry, which is the next one of the stream; or an item ends in the
--- piece that is refused; or the piece goes past 2^62 bytes.
+-- piece that may stand there, but for which there is no memory, or that is refused; or the piece goes past 2^62 bytes.
 abbrev pub FedSession : List ℕ → List Tree → List ℕ → Result (ℕ × Option Tree) BlobFault → Session → Type 0
 FedSession bytes gs piece (Ok (used, None)) s = (used ≡ length piece) × Stands (bytes ++ piece) gs s
 FedSession bytes gs piece (Ok (used, Some g)) s =
     (0 < used) × (used ≤ length piece) × Stream (session_limits s) (bytes ++ take used piece) (gs ++ g ∷ []) × Stands (bytes ++ take used piece) (gs ++ g ∷ []) s
-FedSession bytes gs piece (Err fault.Memory) s = ⊤
+FedSession bytes gs piece (Err fault.Memory) s = PartAt (session_limits s) bytes gs piece
 FedSession bytes gs piece (Err (fault.Device why)) s = (why ≡ TooLong) × IsTooLong (session_limits s) bytes gs piece
 FedSession bytes gs piece (Err fault.Spent) s = ⊥
 FedSession bytes gs piece (Err (fault.At offset reason)) s = RefusedAt (session_limits s) bytes gs piece offset (reason_of reason)

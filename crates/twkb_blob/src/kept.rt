@@ -1,9 +1,9 @@
 //! What a reader makes for a geometry.
-ghost use Rattle.std.specs.Prelude.{◌≡◌};
+ghost use Rattle.std.specs.Prelude.{◌≡◌, [], Err};
 ghost use Rattle.twkb_io.specs.Taps.{count_failure};
 ghost use Rattle.twkb_io.specs.Inputs.{input_failures, input_tap};
 ghost use Rattle.twkb_engine.specs.Standing.{allowance_of};
-ghost use Rattle.twkb_blob.specs.Readers.{IsNext, failed_by_read};
+ghost use Rattle.twkb_blob.specs.Readers.{IsNext, PartAhead, failed_by_read};
 ghost use Rattle.twkb_blob.specs.Located.{IsLocated};
 
 use crate::fault::BlobFault;
@@ -45,6 +45,7 @@ pub(crate) fn read_tree<R: Read>(
     ensures same_tap { (input_tap input.new).ghost_name ≡ (input_tap input.old).ghost_name }
     ensures limits { allowance_of kept.new.engine ≡ allowance_of kept.old.engine }
     ensures next { IsNext (allowance_of kept.old.engine) input.old input.new result }
+    ensures memory { result ≡ Err BlobFault.Memory → PartAhead (allowance_of kept.old.engine) [] input.old }
     ensures failures { input_failures input.new ≡ count_failure (failed_by_read result) (input_failures input.old) }
 {
     twkb_geom::laws::one_reading();

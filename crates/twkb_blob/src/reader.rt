@@ -25,7 +25,7 @@ pub struct Reader<'a, R: Read> {
 }
 
 impl<'a, R: Read> Reader<'a, R> {
-    ghost use Rattle.twkb_blob.specs.Readers.{reader_input, reader_limits, is_spent, has_ended, IsNext, IsNextFlat, failed_by_read};
+    ghost use Rattle.twkb_blob.specs.Readers.{reader_input, reader_limits, is_spent, has_ended, IsNext, IsNextFlat, PartAhead, failed_by_read};
     ghost use Rattle.twkb_blob.specs.Located.{IsLocated, IsSpanned};
 
     /// A reader of what the input still has. Takes no memory.
@@ -49,6 +49,7 @@ impl<'a, R: Read> Reader<'a, R> {
         ensures same_tap { (input_tap (reader_input self.new)).ghost_name ≡ (input_tap (reader_input self.old)).ghost_name }
         ensures limits { reader_limits self.new ≡ reader_limits self.old }
         ensures next { is_spent self.old ≡ false → has_ended self.old ≡ false → IsNext (reader_limits self.old) (reader_input self.old) (reader_input self.new) result }
+        ensures memory { result ≡ Err BlobFault.Memory → PartAhead (reader_limits self.old) [] (reader_input self.old) }
         ensures failures { input_failures (reader_input self.new) ≡ count_failure (failed_by_read result) (input_failures (reader_input self.old)) }
 
         ensures spent { (result ≡ Err BlobFault.Spent) ↔ (is_spent self.old ≡ true) }
@@ -76,6 +77,7 @@ impl<'a, R: Read> Reader<'a, R> {
         ensures same_tap { (input_tap (reader_input self.new)).ghost_name ≡ (input_tap (reader_input self.old)).ghost_name }
         ensures limits { reader_limits self.new ≡ reader_limits self.old }
         ensures next { is_spent self.old ≡ false → has_ended self.old ≡ false → IsNextFlat (reader_limits self.old) (reader_input self.old) (reader_input self.new) result flat.new }
+        ensures memory { result ≡ Err BlobFault.Memory → PartAhead (reader_limits self.old) [] (reader_input self.old) }
         ensures failures { input_failures (reader_input self.new) ≡ count_failure (failed_by_read result) (input_failures (reader_input self.old)) }
         ensures cleared { (result ≡ Ok true) ⊎ (flat.new ≡ []) }
         ensures some { result ≡ Ok true → 0 < length flat.new }

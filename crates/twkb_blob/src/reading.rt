@@ -1,9 +1,9 @@
 //! A blob that is read into a flat form from the held bytes of an input, as many at once as there are.
-ghost use Rattle.std.specs.Prelude.{◌≡◌, ◌≤◌, ◌<◌, ◌^◌, ◌⊎◌, ℕ, List, [], true, Ok, length};
+ghost use Rattle.std.specs.Prelude.{◌≡◌, ◌≤◌, ◌<◌, ◌^◌, ◌⊎◌, ℕ, List, [], true, Ok, Err, length};
 ghost use Rattle.twkb_io.specs.Taps.{count_failure};
 ghost use Rattle.twkb_io.specs.Inputs.{input_failures, input_tap};
 ghost use Rattle.twkb_engine.specs.Standing.{StandsAt, allowance_of, count_of, offset_in};
-ghost use Rattle.twkb_blob.specs.Readers.{IsRead, IsNextFlat, halted_by_read, failed_by_read};
+ghost use Rattle.twkb_blob.specs.Readers.{IsRead, IsNextFlat, PartAhead, halted_by_read, failed_by_read};
 
 use crate::fault::{BlobFault, fault_at};
 use std::io::Read;
@@ -42,6 +42,7 @@ fn read_piece<R: Read>(
     ensures limits { allowance_of engine.new ≡ allowance_of engine.old }
     ensures offset { offset_in engine.new ≤ 2 ^ 63 }
     ensures read { (bs : List ℕ) → StandsAt bs flat.old engine.old → IsRead (allowance_of engine.old) bs input.old input.new result flat.new engine.new }
+    ensures memory { (bs : List ℕ) → StandsAt bs flat.old engine.old → result ≡ Err (Halt.Engine Stop.Memory) → PartAhead (allowance_of engine.old) bs input.old }
     ensures failures { input_failures input.new ≡ count_failure (halted_by_read result) (input_failures input.old) }
 {
     if let Err(fault) = input.fill() {
@@ -76,6 +77,7 @@ fn read_blob<R: Read>(
     ensures same_tap { (input_tap input.new).ghost_name ≡ (input_tap input.old).ghost_name }
     ensures limits { allowance_of engine.new ≡ allowance_of engine.old }
     ensures next { IsNextFlat (allowance_of engine.old) input.old input.new result flat.new }
+    ensures memory { result ≡ Err BlobFault.Memory → PartAhead (allowance_of engine.old) [] input.old }
     ensures failures { input_failures input.new ≡ count_failure (failed_by_read result) (input_failures input.old) }
 {
     twkb_outline::laws::reading();
@@ -112,6 +114,7 @@ pub(crate) fn read_into<R: Read>(
     ensures same_tap { (input_tap input.new).ghost_name ≡ (input_tap input.old).ghost_name }
     ensures limits { allowance_of engine.new ≡ allowance_of engine.old }
     ensures next { IsNextFlat (allowance_of engine.old) input.old input.new result flat.new }
+    ensures memory { result ≡ Err BlobFault.Memory → PartAhead (allowance_of engine.old) [] input.old }
     ensures cleared { (result ≡ Ok true) ⊎ (flat.new ≡ []) }
     ensures some { result ≡ Ok true → 0 < length flat.new }
     ensures failures { input_failures input.new ≡ count_failure (failed_by_read result) (input_failures input.old) }

@@ -1,8 +1,10 @@
-use Rattle.std.proofs.Common.{◌∙◌, ◌++◌, [], refl, subst, arith}
+use Rattle.std.proofs.Common.{◌∙◌, ◌++◌, [], refl, ap, subst, Err, arith}
 use Rattle.std.specs.Prelude.{Bool}
 use Rattle.twkb_grammar.specs.Fault.{FirstFault, Truncated}
 use Rattle.twkb_engine.specs.Standing.{IsEnd, allowance_of, offset_in}
 use Rattle.twkb_blob.proofs.Standing.{counted}
+use Rattle.twkb_blob.specs.declared.reading.Halt.TheVariants as halt
+use Rattle.twkb_blob.proofs.Parts.{lacks_memory, ahead_after}
 use Rattle.twkb_blob.proofs.Blobs.{nothing_left, left_join, made_next, end_next, cut_next, stopped_next, halted_next, no_device}
 use Rattle.twkb_blob.proofs.reading.read_blob.Goals as goal
 
@@ -59,6 +61,13 @@ returns-in-Err-Engine-clause-next g c =
     let read = rw c.in-Err-Engine.field-0-is at (c.in-Err-Engine.ensures.read bs stands) in
     rw c.fault_at.ensures (stopped_next (allowance_of c.args.engine.now) (allowance_of c.loop-engine.engine) bs c.args.input.now c.loop-engine.input c.read_piece.new.input c.offset-start.result c.offset-in-Err-Engine.result c.in-Err-Engine.stop c.read_piece.new.flat c.read_piece.new.engine c.loop-engine.invariant.limits
     c.offset-start.ensures.offset c.offset-in-Err-Engine.ensures left read)
+
+pub returns-in-Err-Engine-clause-memory : goal.returns-in-Err-Engine-clause-memory
+returns-in-Err-Engine-clause-memory g c = λ is.
+    let (bs, left, stands) = c.loop-engine.invariant.read in
+    let stop = lacks_memory c.fault_at.result _ c.in-Err-Engine.stop c.fault_at.ensures is in
+    ahead_after (allowance_of c.args.engine.now) (allowance_of c.loop-engine.engine) bs c.args.input.now c.loop-engine.input c.loop-engine.invariant.limits left
+    ((rw c.in-Err-Engine.field-0-is at (c.in-Err-Engine.ensures.memory bs stands)) (ap (λ s. Err (halt.Engine s)) stop))
 
 pub returns-in-Err-Engine-clause-failures : goal.returns-in-Err-Engine-clause-failures
 returns-in-Err-Engine-clause-failures g c = rw (c.fault_at.ensures, no_device Bool) ((rw c.in-Err-Engine.field-0-is at c.in-Err-Engine.ensures.failures) ∙ c.loop-engine.invariant.failures)

@@ -1,8 +1,9 @@
 use Rattle.std.proofs.Common.{◌≡◌, ◌<◌, ◌∙◌, sym, [], length, arith}
 use Rattle.std.proofs.lemmas.List.{nil_from_length}
-use Rattle.twkb_io.specs.Inputs.{held_of}
+use Rattle.twkb_io.specs.Inputs.{held_of, rest_of}
 use Rattle.twkb_engine.specs.Standing.{allowance_of}
 use Rattle.twkb_blob.proofs.Pieces.{more_read, made_read, end_read, stopped_read, halted}
+use Rattle.twkb_blob.proofs.Parts.{part_known, part_fed}
 use Rattle.twkb_blob.proofs.reading.read_piece.Goals as goal
 
 pub returns-in-Ok-default-false-clause-read : goal.returns-in-Ok-default-false-clause-read
@@ -19,6 +20,11 @@ returns-in-Ok-default-true-clause-read g c = λ bs s.
 pub returns-in-Err-feed-clause-read : goal.returns-in-Err-feed-clause-read
 returns-in-Err-feed-clause-read g c = λ bs s.
     stopped_read (allowance_of c.args.engine.now) bs c.held-piece.result.now c.args.input.now c.fill.new.self c.in-Err-feed.stop c.feed.new.flat c.feed.new.self c.fill.ensures.keeps c.held-piece.ensures.front (c.in-Err-feed.ensures.fed bs s)
+
+pub returns-in-Err-feed-clause-memory : goal.returns-in-Err-feed-clause-memory
+returns-in-Err-feed-clause-memory g c = λ bs s is.
+    part_known (allowance_of c.args.engine.now) (rest_of c.args.input.now) (rest_of c.fill.new.self) bs c.held-piece.result.now c.fill.ensures.keeps c.held-piece.ensures.front
+    (part_fed (allowance_of c.args.engine.now) bs c.held-piece.result.now c.in-Err-feed.stop c.feed.new.flat c.feed.new.self is (c.in-Err-feed.ensures.fed bs s))
 
 pub returns-then-count-eq0-clause-read : goal.returns-then-count-eq0-clause-read
 returns-then-count-eq0-clause-read g c = λ bs s.

@@ -1,8 +1,8 @@
-use Rattle.std.proofs.Common.{◌≡◌, ◌+◌, ◌-◌, ◌≤◌, ◌^◌, ◌++◌, ◌∙◌, ap, sym, subst, length, take, Err, refl, arith}
+use Rattle.std.proofs.Common.{◌≡◌, ◌+◌, ◌≤◌, ◌++◌, ◌∙◌, ap, sym, subst, length, take, refl, arith}
 use Rattle.std.proofs.Math.Seq.{take-length}
 use Rattle.std.proofs.lemmas.List.{length-take}
 use Rattle.twkb_engine.specs.Standing.{IsEnd, offset_in}
-use Rattle.twkb_blob.specs.Sessions.{IsTooLong, session_rows}
+use Rattle.twkb_blob.specs.Sessions.{IsTooLong}
 use Rattle.twkb_blob.proofs.Standing.{begun_at, so_many, went_on, gave, too_long, stops}
 use Rattle.twkb_blob.proofs.session.Session.feed_flat.Goals as goal
 
