@@ -1,6 +1,6 @@
 -- What a writer into a slice leaves there.
 use Rattle.std.specs.Io.KnownBytes.{Appends}
-use Rattle.std.proofs.Common.{◌≡◌, ◌∙◌, ℕ, ◌≤◌, List, ◌∷◌, ◌++◌, [], length, take, Result, Ok, Err, ap, sym, subst, length-take-le}
+use Rattle.std.proofs.Common.{◌≡◌, ◌∙◌, ℕ, ◌≤◌, List, ◌∷◌, ◌++◌, length, take, Result, Ok, Err, ap, sym, subst, length-take-le}
 use Rattle.twkb_convert.specs.declared.report.ConvertFault.{ConvertFault}
 use Rattle.twkb_convert.specs.declared.report.Report.{Report}
 use Rattle.twkb_table.proofs.FieldLemmas.{head_same, tail_same}
@@ -19,7 +19,7 @@ abbrev held_list : Filler → List ℕ
 held_list f = (buffer_of f).ghost_name ∷ take (filled_of f) (buffer_of f).now
 
 -- what was written behind nothing
-pub filled : (old new : Filler) (bytes : List ℕ) → filled_of old ≡ 0 → Appends (held old) (held new) bytes → Filled old new bytes
+filled : (old new : Filler) (bytes : List ℕ) → filled_of old ≡ 0 → Appends (held old) (held new) bytes → Filled old new bytes
 filled old new bytes none appends =
     let name : ℕ = (buffer_of old).ghost_name in
     let all : held_list new ≡ name ∷ bytes = appends ∙ ap (λ n. (name ∷ take n (buffer_of old).now) ++ bytes) none in
@@ -30,6 +30,12 @@ filled old new bytes none appends =
       within = subst (λ n. n ≤ length (buffer_of new).now) count new.within;
       front = ap (λ n. take n (buffer_of new).now) (sym count) ∙ front;
     }
+
+-- the same of a writer that was moved under a tap, and back
+pub moved_back : (lent started ended given : Filler) (bytes : List ℕ) → started ≡ lent → given ≡ ended → filled_of lent ≡ 0 → Appends (held started) (held ended) bytes → Filled lent given bytes
+moved_back lent started ended given bytes first last none appends =
+    let behind : Appends (held lent) (held ended) bytes = subst (λ (f : Filler). Appends (held f) (held ended) bytes) first appends in
+    filled lent given bytes none (subst (λ (f : Filler). Appends (held lent) (held f) bytes) (sym last) behind)
 
 -- the front of a slice is what was written
 pub fills : (Ended : Ends) (Halted : Stops) (answer : Result Report ConvertFault) (bytes slice : List ℕ) → Answers Ended Halted bytes answer
@@ -46,7 +52,3 @@ fills Ended Halted (Err fault) bytes slice agrees within front =
       fits = subst (λ n. n ≤ length slice) (sym agrees.1) within;
       agrees = (subst (λ written. Halted written fault.done fault.cause) (sym same) agrees.0, agrees.1 ∙ ap length (sym same));
     }
-
--- the same of the slice that the lender gets back
-pub fills_after : (Ended : Ends) (Halted : Stops) (answer : Result Report ConvertFault) (slice after : List ℕ) → Fills Ended Halted slice answer → after ≡ slice → Fills Ended Halted after answer
-fills_after Ended Halted answer slice after filled same = subst (λ (list : List ℕ). Fills Ended Halted list answer) (sym same) filled

@@ -1,5 +1,5 @@
 -- What a report tells, and what limits C names.
-use Rattle.std.specs.Prelude.{◌≡◌, ℕ}
+use Rattle.std.specs.Prelude.{◌≡◌}
 use Rattle.twkb_geom.specs.Limits.{Allowance}
 use Rattle.twkb_convert.specs.declared.report.Cause.{Cause}
 use Rattle.twkb_c.specs.declared.report.BufferLimits.{BufferLimits}

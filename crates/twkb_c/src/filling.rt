@@ -1,6 +1,5 @@
 //! The conversions from a slice into a slice.
 ghost use Rattle.std.specs.Prelude.{◌≡◌, ◌≢◌, ◌<◌, Some};
-ghost use Rattle.twkb_io.specs.Taps.{device_of};
 ghost use Rattle.twkb_c.specs.Calls.{Fills, FillsSlice};
 ghost use Rattle.twkb_c.specs.Conversions.{Finished, HasLength, Stopped};
 ghost use Rattle.twkb_c.specs.Fillers.{buffer_of, filled_of};
@@ -11,22 +10,27 @@ use crate::measuring::output_length;
 use crate::reason_numbers::TOO_SMALL;
 use crate::report::{BufferReport, finished, stopped};
 use std::alloc::Global;
+use std::mem;
 use twkb_convert::{ConvertFault, Limits, Report, Tap};
 
-// Converts a slice into that of a filler which has filled nothing, and keeps its loan.
+// Converts a slice into that of a filler which has filled nothing. Meanwhile the filler is that of
+// the tap; it is moved back, so that who made it sees that the loan is still in it.
 fn run_into(
     alloc: Global,
     what: Conversion,
     input: &[u8],
-    writer: &mut Tap<Filler<'_>>,
+    filler: &mut Filler<'_>,
     limits: Limits,
 ) -> Result<Report, ConvertFault>
-    requires { filled_of (device_of writer.old) ≡ 0 }
-    ensures same_loan { (buffer_of (device_of writer.new)).ghost_name ≡ (buffer_of (device_of writer.old)).ghost_name }
-    ensures fills { Fills (Finished what limits input.now) (Stopped what limits input.now) (buffer_of (device_of writer.new)).now result }
+    requires { filled_of filler.old ≡ 0 }
+    ensures same_loan { (buffer_of filler.new).ghost_name ≡ (buffer_of filler.old).ghost_name }
+    ensures fills { Fills (Finished what limits input.now) (Stopped what limits input.now) (buffer_of filler.new).now result }
 {
     let mut reader = Tap::new(input);
-    run(alloc, what, &mut reader, writer, limits)
+    let mut writer = Tap::new(mem::replace(filler, Filler::new(&mut [])));
+    let answer = run(alloc, what, &mut reader, &mut writer, limits);
+    *filler = writer.into_inner();
+    answer
 }
 
 // Converts a slice into another, as far as there is room.
@@ -39,8 +43,8 @@ fn fill_front(
 ) -> Result<Report, ConvertFault>
     ensures { Fills (Finished what limits input.now) (Stopped what limits input.now) output.new result }
 {
-    let mut writer = Tap::new(Filler::new(output));
-    run_into(alloc, what, input, &mut writer, limits)
+    let mut filler = Filler::new(output);
+    run_into(alloc, what, input, &mut filler, limits)
 }
 
 // The report of a slice that was too small, with the length of the whole output, where it is known.

@@ -1,5 +1,4 @@
-use Rattle.std.proofs.Common.{◌≡◌, Some, ap}
-use Rattle.twkb_io.specs.Taps.{device_of}
+use Rattle.std.proofs.Common.{Some, ap}
 use Rattle.twkb_c.proofs.RunLemmas.{ran}
 use Rattle.twkb_c.proofs.measuring.count_output.Goals as goal
 
