@@ -1,9 +1,9 @@
 //! What C calls. `include/polytwkb.h` declares these.
-ghost use Rattle.std.specs.Prelude.{◌≡◌};
+ghost use Rattle.std.specs.Prelude.{◌≡◌, ◌<◌};
 ghost use Rattle.twkb_geom.specs.Limits.{IsAllowance, standard_limits};
 ghost use Rattle.twkb_grammar.specs.declared.style.Style.{Style};
 ghost use Rattle.twkb_c.specs.Numbers.{IsConversionNumber, IsStyleNumber};
-ghost use Rattle.twkb_c.specs.Reports.{allowance_of};
+ghost use Rattle.twkb_c.specs.Reports.{allowance_of, arguments_report};
 ghost use Rattle.twkb_c.specs.Calls.{FillsSlice, Measures};
 ghost use Rattle.twkb_c.specs.Conversions.{Finished, HasLength, PacksSlice, ShowsSlice, Stopped, UnpacksSlice};
 ghost use Rattle.twkb_c.specs.declared.conversion.Conversion.{Conversion};
@@ -36,6 +36,8 @@ pub extern "C" fn polytwkb_pack(
     style: u32,
 ) -> BufferReport
     ensures packs { IsAllowance (allowance_of limits) → (s : Style) → IsStyleNumber s style → PacksSlice s (allowance_of limits) input.now output.new result }
+    ensures limits_out_of_range { (IsAllowance (allowance_of limits) → ⊥) → result ≡ arguments_report }
+    ensures style_out_of_range { 1 < style → result ≡ arguments_report }
     ensures refused { result.status ≡ 2 → output.new ≡ output.old }
 {
     let Some(limits) = limits.limits() else {
@@ -56,6 +58,7 @@ pub extern "C" fn polytwkb_unpack(
     limits: BufferLimits,
 ) -> BufferReport
     ensures unpacks { IsAllowance (allowance_of limits) → UnpacksSlice (allowance_of limits) input.now output.new result }
+    ensures limits_out_of_range { (IsAllowance (allowance_of limits) → ⊥) → result ≡ arguments_report }
     ensures refused { result.status ≡ 2 → output.new ≡ output.old }
 {
     let Some(limits) = limits.limits() else {
@@ -73,6 +76,7 @@ pub extern "C" fn polytwkb_show(
     limits: BufferLimits,
 ) -> BufferReport
     ensures shows { IsAllowance (allowance_of limits) → ShowsSlice (allowance_of limits) input.now output.new result }
+    ensures limits_out_of_range { (IsAllowance (allowance_of limits) → ⊥) → result ≡ arguments_report }
     ensures refused { result.status ≡ 2 → output.new ≡ output.old }
 {
     let Some(limits) = limits.limits() else {
@@ -91,8 +95,11 @@ pub extern "C" fn polytwkb_measure(
     limits: BufferLimits,
     style: u32,
 ) -> BufferReport
-    ensures { IsAllowance (allowance_of limits) → (s : Style) → IsStyleNumber s style → (what : Conversion) → IsConversionNumber s what conversion
+    ensures measures { IsAllowance (allowance_of limits) → (s : Style) → IsStyleNumber s style → (what : Conversion) → IsConversionNumber s what conversion
         → Measures (Finished what (allowance_of limits) input.now) (Stopped what (allowance_of limits) input.now) (HasLength what (allowance_of limits) input.now) result }
+    ensures limits_out_of_range { (IsAllowance (allowance_of limits) → ⊥) → result ≡ arguments_report }
+    ensures style_out_of_range { 1 < style → result ≡ arguments_report }
+    ensures conversion_out_of_range { 2 < conversion → result ≡ arguments_report }
 {
     let Some(limits) = limits.limits() else {
         return refused_arguments();

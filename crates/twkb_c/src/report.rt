@@ -2,7 +2,7 @@
 ghost use Rattle.std.specs.Prelude.{◌≡◌, ◌≢◌, ◌↔◌, IsSome, IfSome, IsNone};
 ghost use Rattle.twkb_geom.specs.Limits.{IsAllowance};
 ghost use Rattle.twkb_c.specs.Numbers.{IsStyleNumber};
-ghost use Rattle.twkb_c.specs.Reports.{Tells, allowance_of};
+ghost use Rattle.twkb_c.specs.Reports.{Tells, allowance_of, arguments_report};
 
 use crate::reason_numbers::{ARGUMENTS, DONE, place, reason_number, status, text_offset};
 use twkb_convert::{ConvertFault, Limits, Report, Style};
@@ -65,7 +65,7 @@ pub(crate) fn style_of(number: u32) -> Option<Style>
 
 /// The report of arguments that are refused.
 pub(crate) fn refused_arguments() -> BufferReport
-    ensures { result ≡ record { status = 2; reason = 0; place = 0; text_offset = 0; done = 0; sent = 0; needed = 0 } }
+    ensures { result ≡ arguments_report }
 {
     BufferReport {
         status: ARGUMENTS,
