@@ -8,13 +8,14 @@
 # make recipes           each recipe and the check of parts, where its tools are installed
 # make lib               the library for C into out/, static and shared
 # make lib-test          the examples in C and in Python over it, under valgrind where that is installed
+# make lib-bench         times of calls of the library
 # make install           program, page, completions, libraries and licence below PREFIX, in the folder DESTDIR
 # make uninstall         takes these files away
 # make hostile           the built program while memory, devices and inputs are against it
 # make fuzz              the built program beside a second implementation, over random inputs (CASES, SEED, PROCESSES)
 # make bench             times and memory beside a plain program; BENCH has words for bench/run.sh
 # make clean             takes away what was built
-.PHONY: test check build lib lib-test demo bench smoke completions-test docs-test recipes hostile fuzz install uninstall clean
+.PHONY: test check build lib lib-test lib-bench demo bench smoke completions-test docs-test recipes hostile fuzz install uninstall clean
 
 PREFIX ?= /usr/local
 DESTDIR ?=
@@ -55,6 +56,13 @@ out/libpolytwkb.so: out/libpolytwkb.a include/polytwkb.map
 
 out/convert: examples/c/convert.c include/polytwkb.h out/libpolytwkb.a
 	$(CC) -std=c11 -O1 -g -Wall -Wextra -Werror -Iinclude -o $@ $< out/libpolytwkb.a
+
+out/times: bench/library/times.c include/polytwkb.h out/libpolytwkb.a
+	$(CC) -std=c11 -D_GNU_SOURCE -O2 -Wall -Wextra -Werror -Iinclude -o $@ $< out/libpolytwkb.a
+
+# Times of calls of the library.
+lib-bench: out/times
+	out/times
 
 lib-test: lib out/convert
 	out/convert
@@ -129,11 +137,11 @@ uninstall:
 	rm -f '$(DESTDIR)$(STATIC_FILE)' '$(DESTDIR)$(SHARED_FILE)' '$(DESTDIR)$(PACKAGE_FILE)' '$(DESTDIR)$(HEADER_FILE)'
 
 # The commands that documents show, run and compared.
-docs-test: build
+docs-test: build lib
 	scripts/docs_test.py
 
 # The recipes and the check of parts; one whose tools are missing says so and is skipped.
-recipes: build
+recipes: build lib
 	@for recipe in examples/recipes/*.sh examples/scale/check.sh; do echo "$$recipe"; $$recipe || exit 1; done
 
 clean:
