@@ -6,18 +6,23 @@
 # make completions-test  the words of the completions and of the manual page against help
 # make docs-test         the commands that documents show, run and compared
 # make recipes           each recipe and the check of parts, where its tools are installed
-# make install           program, page, completions and licence below PREFIX, in the folder DESTDIR
+# make lib               the library for C into out/, static and shared
+# make lib-test          the examples in C and in Python over it, under valgrind where that is installed
+# make lib-bench         times of calls of the library
+# make install           program, page, completions, libraries and licence below PREFIX, in the folder DESTDIR
 # make uninstall         takes these files away
 # make hostile           the built program while memory, devices and inputs are against it
 # make fuzz              the built program beside a second implementation, over random inputs (CASES, SEED, PROCESSES)
 # make bench             times and memory beside a plain program; BENCH has words for bench/run.sh
 # make clean             takes away what was built
-.PHONY: test check build demo bench smoke completions-test docs-test recipes hostile fuzz install uninstall clean
+.PHONY: test check build lib lib-test lib-bench demo bench smoke completions-test docs-test recipes hostile fuzz install uninstall clean
 
 PREFIX ?= /usr/local
 DESTDIR ?=
 BINDIR ?= $(PREFIX)/bin
 DATADIR ?= $(PREFIX)/share
+LIBDIR ?= $(PREFIX)/lib
+INCLUDEDIR ?= $(PREFIX)/include
 INSTALL ?= install
 
 SOURCES := crates.txt $(shell find crates -name out -prune -o \( -name '*.rt' -o -name '*.antt' \) -print)
@@ -35,6 +40,34 @@ bin/polytwkb: $(SOURCES)
 	cd crates/polytwkb && rt run -- --help > /dev/null
 	mkdir -p bin
 	cp crates/polytwkb/out/polytwkb bin/polytwkb
+
+lib: out/libpolytwkb.a out/libpolytwkb.so
+
+# The crate's archive, and the object of the kit by which it reaches malloc, realloc and free.
+out/libpolytwkb.a: $(SOURCES)
+	cd crates/twkb_c && rt lib > /dev/null
+	rm -rf out/objects $@
+	mkdir -p out/objects
+	cd out/objects && $(AR) x ../../crates/twkb_c/out/libtwkb_c.a && $(AR) x "$$(dirname "$$(rt doc)")/c/liblibc_c.a" heap.pic.o
+	$(AR) rcs $@ out/objects/*.o
+
+out/libpolytwkb.so: out/libpolytwkb.a include/polytwkb.map
+	$(CC) -shared -o $@ -Wl,-soname,libpolytwkb.so -Wl,--version-script=include/polytwkb.map -Wl,--whole-archive $< -Wl,--no-whole-archive
+
+out/convert: examples/c/convert.c include/polytwkb.h out/libpolytwkb.a
+	$(CC) -std=c11 -O1 -g -Wall -Wextra -Werror -Iinclude -o $@ $< out/libpolytwkb.a
+
+out/times: bench/library/times.c include/polytwkb.h out/libpolytwkb.a
+	$(CC) -std=c11 -D_GNU_SOURCE -O2 -Wall -Wextra -Werror -Iinclude -o $@ $< out/libpolytwkb.a
+
+# Times of calls of the library.
+lib-bench: out/times
+	out/times
+
+lib-test: lib out/convert
+	out/convert
+	if command -v valgrind > /dev/null; then valgrind -q --error-exitcode=1 --leak-check=full out/convert; fi
+	examples/python/convert.py out/libpolytwkb.so
 
 demo: build
 	cat examples/collection.csv
@@ -80,26 +113,36 @@ BASH_FILE := $(DATADIR)/bash-completion/completions/polytwkb
 ZSH_FILE := $(DATADIR)/zsh/site-functions/_polytwkb
 FISH_FILE := $(DATADIR)/fish/vendor_completions.d/polytwkb.fish
 LICENCE_FILE := $(DATADIR)/doc/polytwkb/LICENSE
+STATIC_FILE := $(LIBDIR)/libpolytwkb.a
+SHARED_FILE := $(LIBDIR)/libpolytwkb.so
+PACKAGE_FILE := $(LIBDIR)/pkgconfig/polytwkb.pc
+HEADER_FILE := $(INCLUDEDIR)/polytwkb.h
 
-install: build
+install: build lib
 	$(INSTALL) -D -m 755 bin/polytwkb '$(DESTDIR)$(PROGRAM_FILE)'
 	$(INSTALL) -D -m 644 man/polytwkb.1 '$(DESTDIR)$(PAGE_FILE)'
 	$(INSTALL) -D -m 644 completions/polytwkb.bash '$(DESTDIR)$(BASH_FILE)'
 	$(INSTALL) -D -m 644 completions/_polytwkb '$(DESTDIR)$(ZSH_FILE)'
 	$(INSTALL) -D -m 644 completions/polytwkb.fish '$(DESTDIR)$(FISH_FILE)'
 	$(INSTALL) -D -m 644 LICENSE '$(DESTDIR)$(LICENCE_FILE)'
+	$(INSTALL) -D -m 644 out/libpolytwkb.a '$(DESTDIR)$(STATIC_FILE)'
+	$(INSTALL) -D -m 755 out/libpolytwkb.so '$(DESTDIR)$(SHARED_FILE)'
+	$(INSTALL) -D -m 644 include/polytwkb.h '$(DESTDIR)$(HEADER_FILE)'
+	sed -e 's|@PREFIX@|$(PREFIX)|' -e 's|@LIBDIR@|$(LIBDIR)|' -e 's|@INCLUDEDIR@|$(INCLUDEDIR)|' include/polytwkb.pc.in > out/polytwkb.pc
+	$(INSTALL) -D -m 644 out/polytwkb.pc '$(DESTDIR)$(PACKAGE_FILE)'
 
 uninstall:
 	rm -f '$(DESTDIR)$(PROGRAM_FILE)' '$(DESTDIR)$(PAGE_FILE)' '$(DESTDIR)$(BASH_FILE)'
 	rm -f '$(DESTDIR)$(ZSH_FILE)' '$(DESTDIR)$(FISH_FILE)' '$(DESTDIR)$(LICENCE_FILE)'
+	rm -f '$(DESTDIR)$(STATIC_FILE)' '$(DESTDIR)$(SHARED_FILE)' '$(DESTDIR)$(PACKAGE_FILE)' '$(DESTDIR)$(HEADER_FILE)'
 
 # The commands that documents show, run and compared.
-docs-test: build
+docs-test: build lib
 	scripts/docs_test.py
 
 # The recipes and the check of parts; one whose tools are missing says so and is skipped.
-recipes: build
+recipes: build lib
 	@for recipe in examples/recipes/*.sh examples/scale/check.sh; do echo "$$recipe"; $$recipe || exit 1; done
 
 clean:
-	rm -rf bin bench/out crates/*/out
+	rm -rf bin out bench/out crates/*/out

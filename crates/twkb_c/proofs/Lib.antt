@@ -1,0 +1,5 @@
+pub mod RunLemmas
+pub mod FillLemmas
+pub mod LengthLemmas
+pub mod MeasureLemmas
+pub mod ExportLemmas

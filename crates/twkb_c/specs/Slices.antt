@@ -1,0 +1,81 @@
+-- What the conversions do between two slices: the bytes that were read, and those that were written.
+use Rattle.std.specs.Prelude.{◌≡◌, ℕ, ◌^◌, ◌<◌, List, ◌++◌, length, Option, Some}
+use Rattle.twkb_geom.specs.Tree.{Tree}
+use Rattle.twkb_geom.specs.Limits.{Allowance}
+use Rattle.twkb_grammar.specs.Blob.{Stream}
+use Rattle.twkb_grammar.specs.Written.{canonical_stream}
+use Rattle.twkb_grammar.specs.declared.style.Style.{Style}
+use Rattle.twkb_table.specs.Record.{Record}
+use Rattle.twkb_table.specs.Named.{Named}
+use Rattle.twkb_table.specs.CsvRecords.{AreRecordsOf}
+use Rattle.twkb_convert.specs.BlobSending.{HoldsWhole}
+use Rattle.twkb_convert.specs.Listed.{ExplainsListingCause}
+use Rattle.twkb_convert.specs.LocatedBlobs.{LocatedStream, geometries_of, lines_text}
+use Rattle.twkb_convert.specs.Outputs.{AtMostOneCut, table_text}
+use Rattle.twkb_convert.specs.Packed.{ExplainsPackingCause}
+use Rattle.twkb_convert.specs.RefusedRows.{MayBeWritten}
+use Rattle.twkb_convert.specs.declared.report.Cause.{Cause}
+
+-- The records of the table name this many geometries, and their canonical stream was written.
+pub record PackedSlice (style : Style) (l : Allowance) (table written : List ℕ) (done : ℕ) : Type 0 where
+  pub records : List Record
+  pub geometries : List Tree
+  pub all : AreRecordsOf table records
+  pub few : length records < 2 ^ 32
+  pub named : Named l records geometries
+  pub written_is : written ≡ canonical_stream style geometries
+  pub done_is : done ≡ length geometries
+
+-- Geometries of the table may be written: the canonical blobs of this many were, and a front of the next one's. The cause explains that.
+pub record PackedFront (style : Style) (l : Allowance) (table written : List ℕ) (done : ℕ) (why : Cause) : Type 0 where
+  pub whole : List Tree
+  pub later : List Tree
+  pub front : List ℕ
+  pub rest : List ℕ
+  pub ready : MayBeWritten l (Some table) (whole ++ later)
+  pub cut : canonical_stream style later ≡ front ++ rest
+  pub one : AtMostOneCut later rest
+  pub written_is : written ≡ canonical_stream style whole ++ front
+  pub done_is : done ≡ length whole
+  pub given : ℕ
+  pub explains : ExplainsPackingCause style l (Some table) given why whole later front
+
+-- The bytes are this many blobs, and their text was written.
+pub record ListedSlice {A : Type 0} (AreBlobs : List ℕ → List A → Type 0) (text_of : List A → List ℕ) (stream written : List ℕ) (done : ℕ) : Type 0 where
+  pub found : List A
+  pub stream_is : AreBlobs stream found
+  pub written_is : written ≡ text_of found
+  pub done_is : done ≡ length found
+
+-- The bytes begin with blobs, and a front of their text was written, with that of this many of them. The cause explains that.
+pub record ListedFront {A : Type 0} (AreBlobs : List ℕ → List A → Type 0) (trees_of : List A → List Tree) (text_of : List A → List ℕ) (l : Allowance)
+    (stream written : List ℕ) (done : ℕ) (why : Cause) : Type 0 where
+  pub whole : List A
+  pub later : List A
+  pub bytes : List ℕ
+  pub more : List ℕ
+  pub blobs : AreBlobs bytes (whole ++ later)
+  pub begins : stream ≡ bytes ++ more
+  pub left : List ℕ
+  pub cut : text_of (whole ++ later) ≡ written ++ left
+  pub one : AtMostOneCut later left
+  pub holds : HoldsWhole text_of written whole
+  pub done_is : done ≡ length whole
+  pub told : Option (List ℕ)
+  pub explains : ExplainsListingCause trees_of text_of l (Some stream) told bytes why whole later left
+
+-- the same of the table of a stream
+abbrev pub UnpackedSlice : Allowance → List ℕ → List ℕ → ℕ → Type 0
+UnpackedSlice l = ListedSlice (Stream l) table_text
+
+-- a front of the table of the blobs that the bytes begin with
+abbrev pub UnpackedFront : Allowance → List ℕ → List ℕ → ℕ → Cause → Type 0
+UnpackedFront l = ListedFront (Stream l) (λ trees. trees) table_text l
+
+-- the same of the lines of a stream
+abbrev pub ShownSlice : Allowance → List ℕ → List ℕ → ℕ → Type 0
+ShownSlice l = ListedSlice (LocatedStream l 0) lines_text
+
+-- a front of the lines of the blobs that the bytes begin with
+abbrev pub ShownFront : Allowance → List ℕ → List ℕ → ℕ → Cause → Type 0
+ShownFront l = ListedFront (LocatedStream l 0) geometries_of lines_text l

@@ -1,0 +1,114 @@
+//! What C calls. `include/polytwkb.h` declares these.
+ghost use Rattle.std.specs.Prelude.{◌≡◌, ◌<◌};
+ghost use Rattle.twkb_geom.specs.Limits.{IsAllowance, standard_limits};
+ghost use Rattle.twkb_grammar.specs.declared.style.Style.{Style};
+ghost use Rattle.twkb_c.specs.Numbers.{IsConversionNumber, IsStyleNumber};
+ghost use Rattle.twkb_c.specs.Reports.{allowance_of, arguments_report};
+ghost use Rattle.twkb_c.specs.Calls.{FillsSlice, Measures};
+ghost use Rattle.twkb_c.specs.Conversions.{Finished, HasLength, PacksSlice, ShowsSlice, Stopped, UnpacksSlice};
+ghost use Rattle.twkb_c.specs.declared.conversion.Conversion.{Conversion};
+
+use crate::conversion::{Conversion, conversion_of};
+use crate::filling::fill;
+use crate::measuring::measure;
+use crate::report::{BufferLimits, BufferReport, refused_arguments, style_of};
+use std::alloc::Global;
+
+/// Sixteen levels, 2^20 rows and 2^24 points. Takes no memory.
+#[unsafe(no_mangle)]
+pub extern "C" fn polytwkb_standard_limits() -> BufferLimits
+    ensures { allowance_of result ≡ standard_limits }
+{
+    BufferLimits {
+        nest: 16,
+        nodes: 1 << 20,
+        points: 1 << 24,
+    }
+}
+
+/// Packs a table into a buffer.
+#[unsafe(no_mangle)]
+pub extern "C" fn polytwkb_pack(
+    alloc: Global,
+    input: &[u8],
+    output: &mut [u8],
+    limits: BufferLimits,
+    style: u32,
+) -> BufferReport
+    ensures packs { IsAllowance (allowance_of limits) → (s : Style) → IsStyleNumber s style → PacksSlice s (allowance_of limits) input.now output.new result }
+    ensures limits_out_of_range { (IsAllowance (allowance_of limits) → ⊥) → result ≡ arguments_report }
+    ensures style_out_of_range { 1 < style → result ≡ arguments_report }
+    ensures refused { result.status ≡ 2 → output.new ≡ output.old }
+{
+    let Some(limits) = limits.limits() else {
+        return refused_arguments();
+    };
+    let Some(style) = style_of(style) else {
+        return refused_arguments();
+    };
+    fill(alloc, Conversion::Pack(style), input, output, limits)
+}
+
+/// Unpacks a stream into a buffer.
+#[unsafe(no_mangle)]
+pub extern "C" fn polytwkb_unpack(
+    alloc: Global,
+    input: &[u8],
+    output: &mut [u8],
+    limits: BufferLimits,
+) -> BufferReport
+    ensures unpacks { IsAllowance (allowance_of limits) → UnpacksSlice (allowance_of limits) input.now output.new result }
+    ensures limits_out_of_range { (IsAllowance (allowance_of limits) → ⊥) → result ≡ arguments_report }
+    ensures refused { result.status ≡ 2 → output.new ≡ output.old }
+{
+    let Some(limits) = limits.limits() else {
+        return refused_arguments();
+    };
+    fill(alloc, Conversion::Unpack, input, output, limits)
+}
+
+/// Shows the headers of a stream in a buffer.
+#[unsafe(no_mangle)]
+pub extern "C" fn polytwkb_show(
+    alloc: Global,
+    input: &[u8],
+    output: &mut [u8],
+    limits: BufferLimits,
+) -> BufferReport
+    ensures shows { IsAllowance (allowance_of limits) → ShowsSlice (allowance_of limits) input.now output.new result }
+    ensures limits_out_of_range { (IsAllowance (allowance_of limits) → ⊥) → result ≡ arguments_report }
+    ensures refused { result.status ≡ 2 → output.new ≡ output.old }
+{
+    let Some(limits) = limits.limits() else {
+        return refused_arguments();
+    };
+    fill(alloc, Conversion::Show, input, output, limits)
+}
+
+/// How many bytes the output of a conversion has: of packing (0) in a style, of unpacking (1) or of
+/// showing (2). Writes nothing.
+#[unsafe(no_mangle)]
+pub extern "C" fn polytwkb_measure(
+    alloc: Global,
+    conversion: u32,
+    input: &[u8],
+    limits: BufferLimits,
+    style: u32,
+) -> BufferReport
+    ensures measures { IsAllowance (allowance_of limits) → (s : Style) → IsStyleNumber s style → (what : Conversion) → IsConversionNumber s what conversion
+        → Measures (Finished what (allowance_of limits) input.now) (Stopped what (allowance_of limits) input.now) (HasLength what (allowance_of limits) input.now) result }
+    ensures limits_out_of_range { (IsAllowance (allowance_of limits) → ⊥) → result ≡ arguments_report }
+    ensures style_out_of_range { 1 < style → result ≡ arguments_report }
+    ensures conversion_out_of_range { 2 < conversion → result ≡ arguments_report }
+{
+    let Some(limits) = limits.limits() else {
+        return refused_arguments();
+    };
+    let Some(style) = style_of(style) else {
+        return refused_arguments();
+    };
+    match conversion_of(conversion, style) {
+        Some(what) => measure(alloc, what, input, limits),
+        None => refused_arguments(),
+    }
+}

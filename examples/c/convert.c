@@ -1,0 +1,90 @@
+// Packs, shows and unpacks a line in memory, with guard bytes round each buffer.
+#include <polytwkb.h>
+
+#include <stdio.h>
+#include <stdlib.h>
+#include <string.h>
+
+enum { GUARD = 32, GUARD_BYTE = 0xA5 };
+
+// The line from (1, 1) to (5, 5), and the blob that PostGIS writes of it.
+static const char table[] = "depth,kind,id,precision,polyline\n0,linestring,,0,AAGG\n";
+static const uint8_t blob[] = {0x02, 0x00, 0x02, 0x02, 0x02, 0x08, 0x08};
+static const char lines[] = "0 0 linestring 0 00 7 2\n";
+
+static void check(int holds, const char *what) {
+    if (!holds) {
+        fprintf(stderr, "wrong: %s\n", what);
+        exit(1);
+    }
+}
+
+// A buffer of this length between two guards.
+static uint8_t *guarded(size_t length) {
+    uint8_t *whole = malloc(length + 2 * GUARD);
+    check(whole != NULL, "no memory");
+    memset(whole, GUARD_BYTE, length + 2 * GUARD);
+    return whole + GUARD;
+}
+
+// Frees a buffer, whose guards and whose bytes behind `sent` are as they were.
+static void release(uint8_t *buffer, size_t length, size_t sent) {
+    for (size_t i = 1; i <= GUARD; i++) check(buffer[-(ptrdiff_t)i] == GUARD_BYTE, "guard in front");
+    for (size_t i = sent; i < length + GUARD; i++) check(buffer[i] == GUARD_BYTE, "bytes behind the output");
+    free(buffer - GUARD);
+}
+
+// Runs a conversion, or packing in the plain style.
+static polytwkb_report convert(uint32_t conversion, const uint8_t *input, size_t input_length, uint8_t *output, size_t output_length) {
+    polytwkb_limits limits = polytwkb_standard_limits();
+    switch (conversion) {
+    case POLYTWKB_PACK:
+        return polytwkb_pack(input, input_length, output, output_length, limits, POLYTWKB_PLAIN);
+    case POLYTWKB_UNPACK:
+        return polytwkb_unpack(input, input_length, output, output_length, limits);
+    default:
+        return polytwkb_show(input, input_length, output, output_length, limits);
+    }
+}
+
+// Into each room from none to what the output needs and one more, the front of the right output is written.
+static void each_room(uint32_t conversion, const void *given, size_t given_length, const void *due, size_t due_length) {
+    polytwkb_report whole = polytwkb_measure(conversion, given, given_length, polytwkb_standard_limits(), POLYTWKB_PLAIN);
+    check(whole.status == POLYTWKB_DONE && whole.done == 1 && whole.sent == 0 && whole.needed == due_length, "measure");
+    for (size_t room = 0; room <= due_length + 1; room++) {
+        uint8_t *input = guarded(given_length);
+        uint8_t *output = guarded(room);
+        memcpy(input, given, given_length);
+        polytwkb_report report = convert(conversion, input, given_length, output, room);
+        check(report.status == (room < due_length ? POLYTWKB_TOO_SMALL : POLYTWKB_DONE), "status");
+        check(report.needed == due_length, "needed");
+        check(report.sent <= room && memcmp(output, due, report.sent) == 0, "a front of the output");
+        check(report.status != POLYTWKB_DONE || (report.sent == due_length && report.done == 1), "the whole output");
+        check(memcmp(input, given, given_length) == 0, "the input as it was");
+        release(input, given_length, given_length);
+        release(output, room, report.sent);
+    }
+}
+
+int main(void) {
+    each_room(POLYTWKB_PACK, table, sizeof table - 1, blob, sizeof blob);
+    each_room(POLYTWKB_UNPACK, blob, sizeof blob, table, sizeof table - 1);
+    each_room(POLYTWKB_SHOW, blob, sizeof blob, lines, sizeof lines - 1);
+
+    uint8_t none[1];
+    polytwkb_report cut = polytwkb_unpack(blob, 6, none, 0, polytwkb_standard_limits());
+    check(cut.status == POLYTWKB_TOO_SMALL && cut.needed == 33, "the header's line of a cut blob");
+    cut = polytwkb_show(blob, 6, none, 0, polytwkb_standard_limits());
+    check(cut.status == POLYTWKB_REFUSED && cut.reason == POLYTWKB_BLOB_TRUNCATED && cut.place == 6, "a cut blob");
+
+    polytwkb_report half = polytwkb_pack((const uint8_t *)"depth,kind,id,precision,polyline\n0,point,,0,A\n", 46, none, 0,
+                                         polytwkb_standard_limits(), POLYTWKB_FULL);
+    check(half.status == POLYTWKB_REFUSED && half.reason == POLYTWKB_POLYLINE_HALF && half.place == 2 && half.text_offset == 1, "half a point");
+
+    polytwkb_limits wrong = {33, 1, 0};
+    check(polytwkb_show(blob, sizeof blob, none, 0, wrong).status == POLYTWKB_ARGUMENTS, "a limit out of range");
+    check(polytwkb_measure(3, blob, sizeof blob, polytwkb_standard_limits(), POLYTWKB_FULL).status == POLYTWKB_ARGUMENTS, "no conversion");
+
+    printf("%zu bytes of table, %zu of blob, each into any room\n", sizeof table - 1, sizeof blob);
+    return 0;
+}

@@ -1,0 +1,74 @@
+#!/usr/bin/env python3
+"""Lists of encoded polylines to TWKB blobs and back, by ctypes. The first argument is libpolytwkb.so."""
+import csv
+import ctypes
+import io
+import sys
+
+COLUMNS = ["depth", "kind", "id", "precision", "polyline"]
+DONE, REFUSED, TOO_SMALL = 0, 1, 5
+
+
+class Limits(ctypes.Structure):
+    _fields_ = [(name, ctypes.c_uint32) for name in ("nest", "nodes", "points")]
+
+
+class Report(ctypes.Structure):
+    _fields_ = [("status", ctypes.c_uint32), ("reason", ctypes.c_uint32)] + [
+        (name, ctypes.c_uint64) for name in ("place", "text_offset", "done", "sent", "needed")
+    ]
+
+
+class Refused(ValueError):
+    """Why an input is refused, and where."""
+
+
+library = ctypes.CDLL(sys.argv[1])
+library.polytwkb_standard_limits.restype = Limits
+BUFFERS = [ctypes.c_char_p, ctypes.c_size_t, ctypes.c_void_p, ctypes.c_size_t, Limits]
+for name, more in (("polytwkb_pack", [ctypes.c_uint32]), ("polytwkb_unpack", [])):
+    getattr(library, name).argtypes = BUFFERS + more
+    getattr(library, name).restype = Report
+
+
+def convert(call, given, *style):
+    """What a call writes, into a buffer that is made once more where it was too small."""
+    room = len(given) + 64
+    while True:
+        output = ctypes.create_string_buffer(max(room, 1))
+        report = call(given, len(given), output, room, library.polytwkb_standard_limits(), *style)
+        if report.status == DONE:
+            return output.raw[: report.sent]
+        if report.status != TOO_SMALL or report.needed <= room:
+            raise Refused(f"status {report.status}, reason {report.reason} at {report.place}")
+        room = report.needed
+
+
+def blobs_of(polylines, precision, style=0):
+    """The stream of these encoded polylines, each a linestring of this precision."""
+    text = io.StringIO()
+    table = csv.writer(text)
+    table.writerow(COLUMNS)
+    table.writerows([0, "linestring", "", precision, line] for line in polylines)
+    return convert(library.polytwkb_pack, text.getvalue().encode(), style)
+
+
+def polylines_of(stream):
+    """The encoded polylines of the linestrings in a stream."""
+    rows = csv.DictReader(io.StringIO(convert(library.polytwkb_unpack, stream).decode()))
+    return [row["polyline"] for row in rows if row["kind"] == "linestring"]
+
+
+# The line from (1, 1) to (5, 5) is the blob that PostGIS writes.
+assert blobs_of(["AAGG"], 0, 1).hex() == "02000202020808"
+
+# Google's example, a street in Bern, and a line without points.
+column = ["_p~iF~ps|U_ulLnnqC_mqNvxq`@", "yop}Gysml@lAxTfChSgKhK", ""]
+stream = blobs_of(column, 5)
+assert polylines_of(stream) == column
+print(f"{len(column)} polylines, {len(stream)} bytes: {stream.hex()}")
+
+try:
+    polylines_of(stream[:-1])
+except Refused as fault:
+    print(fault)

@@ -1,0 +1,128 @@
+/*
+ * polytwkb: tables of encoded polylines to streams of TWKB blobs and back, from a buffer to a buffer.
+ *
+ * The library is proved: what each call writes, and what its report tells, is the contract of its
+ * function in crates/twkb_c. It keeps nothing between calls, opens no file and prints nothing. It
+ * takes memory by malloc, realloc and free, for one geometry at a time, and gives all of it back.
+ * Calls in several threads at once do not disturb one another, where their outputs are apart. No
+ * call may be made from a signal handler.
+ *
+ * Of the caller's side nothing is checked. A pointer to a buffer is never NULL, also where the
+ * length is 0; a buffer has its length of bytes, at most 2^63 - 1; an output lies apart from the
+ * input, and no one else reads or writes either while a call runs.
+ */
+#ifndef POLYTWKB_H
+#define POLYTWKB_H
+
+#include <stddef.h>
+#include <stdint.h>
+
+#ifdef __cplusplus
+extern "C" {
+#endif
+
+/* The status of a call. 0, 1, 3 and 4 are those of the command. */
+#define POLYTWKB_DONE 0u      /* all was converted */
+#define POLYTWKB_REFUSED 1u   /* the input is refused: reason and place tell why and where */
+#define POLYTWKB_ARGUMENTS 2u /* a limit, the style or the conversion is out of range; nothing was done */
+#define POLYTWKB_DEVICE 3u    /* the input could not be read; no buffer gives that */
+#define POLYTWKB_MEMORY 4u    /* no memory was found */
+#define POLYTWKB_TOO_SMALL 5u /* the output is too small: needed tells how much would do */
+
+/* Why a record of a table is refused: place is the record, counted from 1, which is the header. */
+#define POLYTWKB_BAD_HEADER 1u
+#define POLYTWKB_FIELD_COUNT 2u
+#define POLYTWKB_BAD_DEPTH 3u
+#define POLYTWKB_BAD_KIND 4u
+#define POLYTWKB_BAD_PLACE 5u
+#define POLYTWKB_TOO_DEEP 6u
+#define POLYTWKB_TOO_MANY_ROWS 7u
+#define POLYTWKB_BAD_ID 8u
+#define POLYTWKB_ID_NOT_ALLOWED 9u
+#define POLYTWKB_MIXED_IDS 10u
+#define POLYTWKB_BAD_PRECISION 11u
+#define POLYTWKB_PRECISION_MISSING 12u
+#define POLYTWKB_PRECISION_NOT_ALLOWED 13u
+#define POLYTWKB_POLYLINE_NOT_ALLOWED 14u
+#define POLYTWKB_POINT_COUNT 16u
+
+/* What is wrong with the polyline of a record: text_offset is the byte of the polyline. */
+#define POLYTWKB_POLYLINE_BAD_CHARACTER 21u
+#define POLYTWKB_POLYLINE_CUT 22u
+#define POLYTWKB_POLYLINE_TOO_LONG 23u
+#define POLYTWKB_POLYLINE_PADDED 24u
+#define POLYTWKB_POLYLINE_HALF 25u
+#define POLYTWKB_POLYLINE_RANGE 26u
+#define POLYTWKB_POLYLINE_TOO_MANY 27u
+
+/* Why an item of a blob is refused: place is where it begins, in bytes from the start of the stream. */
+#define POLYTWKB_BLOB_TRUNCATED 41u
+#define POLYTWKB_BLOB_BAD_TYPE 42u
+#define POLYTWKB_BLOB_EXTRA_DIMENSIONS 43u
+#define POLYTWKB_BLOB_BAD_VARINT 44u
+#define POLYTWKB_BLOB_TOO_DEEP 45u
+#define POLYTWKB_BLOB_TOO_MANY_NODES 46u
+#define POLYTWKB_BLOB_TOO_MANY_POINTS 47u
+#define POLYTWKB_BLOB_RANGE 48u
+#define POLYTWKB_BLOB_SIZE_MISMATCH 49u
+
+/* The whole input or output: place is 0. */
+#define POLYTWKB_TOO_LONG 61u         /* more than 2^62 bytes */
+#define POLYTWKB_TOO_MANY_RECORDS 62u /* 2^32 records */
+
+/* Styles of packed blobs. */
+#define POLYTWKB_FULL 0u  /* with sizes, and with boxes where they may be */
+#define POLYTWKB_PLAIN 1u /* without either */
+
+/* Conversions, for polytwkb_measure. */
+#define POLYTWKB_PACK 0u
+#define POLYTWKB_UNPACK 1u
+#define POLYTWKB_SHOW 2u
+
+/* The most that one geometry may have, its members included. */
+typedef struct polytwkb_limits {
+    uint32_t nest;   /* collections that a geometry may stand in, 0 to 32 */
+    uint32_t nodes;  /* rows, 1 to 2^20 */
+    uint32_t points; /* points, 0 to 2^24 */
+} polytwkb_limits;
+
+/* What a call did. */
+typedef struct polytwkb_report {
+    uint32_t status;      /* POLYTWKB_DONE to POLYTWKB_TOO_SMALL */
+    uint32_t reason;      /* why the input is refused, 1 to 62; 0 where it is not */
+    uint64_t place;       /* the refused record, from 1, or the offset of the refused item, from 0; else 0 */
+    uint64_t text_offset; /* where the polyline of the refused record is refused, in bytes; else 0 */
+    uint64_t done;        /* geometries whose output stands in the buffer whole */
+    uint64_t sent;        /* bytes that stand at the front of the buffer: a front of the right output */
+    uint64_t needed;      /* POLYTWKB_TOO_SMALL: bytes of the whole output, more than the buffer has, or 0
+                             where they could not be told (no memory); else as many as sent */
+} polytwkb_report;
+
+/* Sixteen collections, 2^20 rows and 2^24 points. */
+polytwkb_limits polytwkb_standard_limits(void);
+
+/* Packs a table (CSV with the columns depth, kind, id, precision and polyline) to a stream of blobs. */
+polytwkb_report polytwkb_pack(const uint8_t *input, size_t input_length, uint8_t *output, size_t output_length,
+                              polytwkb_limits limits, uint32_t style);
+
+/* Unpacks a stream of blobs to a table. */
+polytwkb_report polytwkb_unpack(const uint8_t *input, size_t input_length, uint8_t *output, size_t output_length,
+                                polytwkb_limits limits);
+
+/* Writes a line for each header in a stream: level, offset, kind, precision, metadata byte, length, points. */
+polytwkb_report polytwkb_show(const uint8_t *input, size_t input_length, uint8_t *output, size_t output_length,
+                              polytwkb_limits limits);
+
+/*
+ * Converts and keeps nothing of the output: sent is 0, and needed is the length of the whole output,
+ * also of an input that is refused; 0 where it could not be told. done and the rest are as the
+ * conversion would tell them. Of style only packing takes notice; it is in range all the same.
+ */
+polytwkb_report polytwkb_measure(uint32_t conversion, const uint8_t *input, size_t input_length,
+                                 polytwkb_limits limits, uint32_t style);
+
+#ifdef __cplusplus
+}
+#endif
+
+#endif
