@@ -42,7 +42,7 @@ class Found:
 def crates():
     """The crates, in the order of crates.txt."""
     with open(os.path.join(REPO, "crates.txt"), encoding="utf-8") as file:
-        return [line.split(":")[0] for line in file if ":" in line and not line.startswith("#")]
+        return [line.split(":")[0].split()[0] for line in file if ":" in line and not line.startswith("#")]
 
 
 def files_of(folder, ending):

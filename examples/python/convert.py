@@ -1,5 +1,6 @@
 #!/usr/bin/env python3
-"""Lists of encoded polylines to TWKB blobs and back, by ctypes. The first argument is libpolytwkb.so."""
+"""A column of encoded polylines to TWKB blobs and back, by ctypes: of a DataFrame where pandas is installed. The first argument is
+libpolytwkb.so."""
 import csv
 import ctypes
 import io
@@ -59,14 +60,28 @@ def polylines_of(stream):
     return [row["polyline"] for row in rows if row["kind"] == "linestring"]
 
 
+def frame_of(columns):
+    """A DataFrame of these columns, or the columns by name where pandas is not installed."""
+    try:
+        import pandas
+    except ImportError:
+        return columns
+    return pandas.DataFrame(columns)
+
+
 # The line from (1, 1) to (5, 5) is the blob that PostGIS writes.
 assert blobs_of(["AAGG"], 0, 1).hex() == "02000202020808"
 
-# Google's example, a street in Bern, and a line without points.
-column = ["_p~iF~ps|U_ulLnnqC_mqNvxq`@", "yop}Gysml@lAxTfChSgKhK", ""]
-stream = blobs_of(column, 5)
-assert polylines_of(stream) == column
-print(f"{len(column)} polylines, {len(stream)} bytes: {stream.hex()}")
+# Google's example, a street in Bern, and a line without points: a column more with the blob of each.
+frame = frame_of({"polyline": ["_p~iF~ps|U_ulLnnqC_mqNvxq`@", "yop}Gysml@lAxTfChSgKhK", ""]})
+frame["twkb"] = [blobs_of([line], 5) for line in frame["polyline"]]
+assert [line for blob in frame["twkb"] for line in polylines_of(blob)] == list(frame["polyline"])
+
+# A stream is the blobs one behind the other, and is made and read by one call.
+stream = b"".join(frame["twkb"])
+assert stream == blobs_of(frame["polyline"], 5)
+assert polylines_of(stream) == list(frame["polyline"])
+print(f"{len(frame['polyline'])} polylines, {len(stream)} bytes: {stream.hex()}")
 
 try:
     polylines_of(stream[:-1])
