@@ -3,8 +3,8 @@ use Rattle.std.specs.Prelude.{◌≡◌, ℕ, List, [], ◌++◌, length, Option
 use Rattle.std.specs.Io.KnownBytes.{Appends}
 use Rattle.twkb_io.specs.Taps.{device_of}
 use Rattle.twkb_io.specs.declared.tap.Tap.{Tap}
-use Rattle.twkb_geom.specs.Tree.{Tree}
-use Rattle.twkb_geom.specs.Limits.{Allowance}
+use Rattle.twkb_tree.specs.Tree.{Tree}
+use Rattle.twkb_tree.specs.Limits.{Allowance}
 use Rattle.twkb_grammar.specs.Written.{canonical_stream}
 use Rattle.twkb_grammar.specs.declared.style.Style.TheVariants.{Full}
 use Rattle.twkb_convert.specs.RefusedRows.{IsRefusedAt, NamesAll}

@@ -1,5 +1,5 @@
 //! A table packed, with an account of what was done.
-ghost use Rattle.twkb_geom.specs.Limits.{standard_limits};
+ghost use Rattle.twkb_tree.specs.Limits.{standard_limits};
 ghost use Rattle.examples.specs.Accounts.{IsAccount};
 
 use std::alloc::Global;

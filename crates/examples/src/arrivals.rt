@@ -1,7 +1,7 @@
 //! Blobs that arrive in pieces, counted.
 ghost use Rattle.std.specs.Prelude.{◌≡◌, ◌≤◌, List, ℕ, length, IfOk};
-ghost use Rattle.twkb_geom.specs.Tree.{Tree};
-ghost use Rattle.twkb_geom.specs.Limits.{standard_limits};
+ghost use Rattle.twkb_tree.specs.Tree.{Tree};
+ghost use Rattle.twkb_tree.specs.Limits.{standard_limits};
 ghost use Rattle.twkb_blob.specs.Sessions.{Stands, session_limits};
 ghost use Rattle.examples.specs.Counting.{HasGeometries, TookPiece};
 

@@ -1,8 +1,8 @@
 //! The points of a stream of blobs, counted.
 ghost use Rattle.std.specs.Prelude.{◌≡◌, length, IfOk};
 ghost use Rattle.twkb_io.specs.Taps.{device_of};
-ghost use Rattle.twkb_geom.specs.Limits.{standard_limits};
-ghost use Rattle.twkb_geom.specs.Tree.{flat, saturated};
+ghost use Rattle.twkb_tree.specs.Limits.{standard_limits};
+ghost use Rattle.twkb_tree.specs.Tree.{flat, saturated};
 ghost use Rattle.examples.specs.Counting.{HasPoints};
 
 use std::alloc::Global;

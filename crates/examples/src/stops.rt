@@ -1,7 +1,7 @@
 //! Stops with their numbers, as one geometry.
 ghost use Rattle.std.specs.Prelude.{◌≡◌, pos, Some, IfOk};
-ghost use Rattle.twkb_geom.specs.Tree.{simple, multi_point};
-ghost use Rattle.twkb_geom.specs.Limits.{IsValid, standard_limits};
+ghost use Rattle.twkb_tree.specs.Tree.{simple, multi_point};
+ghost use Rattle.twkb_tree.specs.Limits.{IsValid, standard_limits};
 
 use thiserror::Error;
 use twkb_geom::{GeomFault, Geometry, IdList, Limits, Pts, Shape};

@@ -1,6 +1,6 @@
 //! A table that code writes.
 ghost use Rattle.std.specs.Prelude.{◌≡◌, ◌∷◌, [], pos, Some, IfOk};
-ghost use Rattle.twkb_geom.specs.Tree.{simple, multi_point};
+ghost use Rattle.twkb_tree.specs.Tree.{simple, multi_point};
 ghost use Rattle.twkb_table.specs.Record.{table};
 ghost use Rattle.twkb_table.specs.Text.{csvtext};
 

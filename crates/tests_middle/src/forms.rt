@@ -1,7 +1,6 @@
 //! Rows of worked tables, and flat forms made of them.
 use std::alloc::Global;
-use twkb_flat::{Flat, Row};
-use twkb_geom::Kind;
+use twkb_geom::{Flat, Kind, Row};
 use twkb_points::Pt;
 
 /// A row at this depth.

@@ -3,9 +3,9 @@ use Rattle.std.proofs.Common.{◌≡◌, ℕ, zero, suc, ◌+◌, ◌<◌, inl, 
 use Rattle.std.specs.Prelude.{sum_by}
 use Rattle.std.proofs.lemmas.List.Sums.{sum_by-append, sum_by-cons}
 use Rattle.twkb_num.specs.Varint.{IsOpenVarint}
-use Rattle.twkb_geom.specs.Tree.{Tree}
-use Rattle.twkb_geom.specs.Rows.{Row}
-use Rattle.twkb_geom.specs.Limits.{Allowance}
+use Rattle.twkb_tree.specs.Tree.{Tree}
+use Rattle.twkb_tree.specs.Rows.{Row}
+use Rattle.twkb_tree.specs.Limits.{Allowance}
 use Rattle.twkb_grammar.specs.Roles.{Role, Header, Metadata, Extended, Size, Box, Count, Id, X, Y, End, Item, join}
 use Rattle.twkb_grammar.specs.Blob.{Stream}
 use Rattle.twkb_grammar.specs.Fault.{Part, FirstFault, StreamFault, Truncated}

@@ -1,9 +1,9 @@
 -- What a byte that is fed adds to the notes.
 use Rattle.std.proofs.Common.{◌≡◌, inl, inr, ℕ, ◌+◌, ◌<◌, ◌^◌, List, [], ◌∷◌, ◌++◌, length, refl, sym, ap, ◌∙◌, subst, arith}
 use Rattle.twkb_num.specs.Varint.{IsOpenVarint}
-use Rattle.twkb_geom.specs.Tree.{Tree, flat}
-use Rattle.twkb_geom.specs.Rows.{Row, rows, row_points}
-use Rattle.twkb_geom.specs.Limits.{Allowance, IsAllowance}
+use Rattle.twkb_tree.specs.Tree.{Tree, flat}
+use Rattle.twkb_tree.specs.Rows.{Row, rows, row_points}
+use Rattle.twkb_tree.specs.Limits.{Allowance, IsAllowance}
 use Rattle.twkb_grammar.specs.Roles.{Item, join}
 use Rattle.twkb_grammar.specs.Blob.{Blob}
 use Rattle.twkb_grammar.specs.Machine as machine

@@ -3,8 +3,8 @@ use Rattle.std.proofs.Common.{◌≡◌, ◌⊎◌, inl, inr, ℕ, suc, ◌+◌,
 use Rattle.std.proofs.Math.Seq.{take-suc}
 use Rattle.std.proofs.lemmas.List.{append-nil}
 use Rattle.twkb_num.specs.Varint.{IsOpenVarint}
-use Rattle.twkb_geom.specs.Tree.{Tree, flat}
-use Rattle.twkb_geom.specs.Rows.{Row, rows, row_points}
+use Rattle.twkb_tree.specs.Tree.{Tree, flat}
+use Rattle.twkb_tree.specs.Rows.{Row, rows, row_points}
 use Rattle.twkb_grammar.specs.Blob.{Blob}
 use Rattle.twkb_grammar.specs.Spans.{spans_of_blob}
 use Rattle.twkb_grammar.specs.Noting.{Notes, note_ends_to}

@@ -2,9 +2,9 @@
 use Rattle.std.proofs.Common.{◌≡◌, ℕ, zero, suc, ◌+◌, ◌-◌, ◌<◌, ◌≤◌, ◌^◌, inl, inr, List, [], ◌∷◌, ◌++◌, length, take, refl, sym, ap, ◌∙◌, subst, append_assoc, length-append, Bool, true, false, Some, Ok, Err, arith}
 use Rattle.std.proofs.lemmas.List.{append-nil, append_cancel_left, length-take-le}
 use Rattle.std.specs.Prelude.{if◌then◌else◌}
-use Rattle.twkb_geom.specs.Tree.{Tree}
-use Rattle.twkb_geom.specs.Rows.{Row, rows}
-use Rattle.twkb_geom.specs.Limits.{Allowance, IsValid, largest_limits}
+use Rattle.twkb_tree.specs.Tree.{Tree}
+use Rattle.twkb_tree.specs.Rows.{Row, rows}
+use Rattle.twkb_tree.specs.Limits.{Allowance, IsValid, largest_limits}
 use Rattle.twkb_grammar.specs.Blob.{Blob, Stream}
 use Rattle.twkb_grammar.specs.Fault.{FirstFault, IsPart, StreamFault, Truncated}
 use Rattle.twkb_grammar.specs.Machine.{Sums}

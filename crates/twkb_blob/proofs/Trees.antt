@@ -2,9 +2,9 @@
 use Rattle.std.proofs.Common.{◌≡◌, ℕ, ◌<◌, ◌++◌, List, [], ◌∷◌, length, sym, ◌∙◌, ap, subst, arith, Option, Some, None, Result, Ok, Err, true}
 use Rattle.std.specs.Prelude.{IfOk, IfSome}
 use Rattle.std.specs.declared.io.traits.Read.{Ghosts}
-use Rattle.twkb_geom.specs.Tree.{Tree, simple, collection, IsTree}
-use Rattle.twkb_geom.specs.Rows.{Row, rows}
-use Rattle.twkb_geom.specs.Limits.{Allowance, IsValid, largest_limits}
+use Rattle.twkb_tree.specs.Tree.{Tree, simple, collection, IsTree}
+use Rattle.twkb_tree.specs.Rows.{Row, rows}
+use Rattle.twkb_tree.specs.Limits.{Allowance, IsValid, largest_limits}
 use Rattle.twkb_grammar.specs.Blob.{Stream}
 use Rattle.twkb_grammar.specs.declared.span.Span.{Span}
 use Rattle.twkb_io.specs.declared.input.Input.{Input}

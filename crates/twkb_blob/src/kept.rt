@@ -14,8 +14,8 @@ use std::alloc::Global;
 use std::io::Read;
 use twkb_engine::Engine;
 use twkb_flat::Flat;
-use twkb_geom::{Geometry, Limits};
 use twkb_io::Input;
+use twkb_tree::{Geometry, Limits};
 
 /// What a reader makes for a geometry: an engine, and a form for the calls to which none is lent.
 #[derive(Drop)]
@@ -48,7 +48,7 @@ pub(crate) fn read_tree<R: Read>(
     ensures memory { result ≡ Err BlobFault.Memory → PartAhead (allowance_of kept.old.engine) [] input.old }
     ensures failures { input_failures input.new ≡ count_failure (failed_by_read result) (input_failures input.old) }
 {
-    twkb_geom::laws::one_reading();
+    twkb_tree::laws::one_reading();
     match read_into(input, &mut kept.engine, &mut kept.flat) {
         Ok(true) => {}
         Ok(false) => return Ok(None),
@@ -71,7 +71,7 @@ pub(crate) fn read_located<R: Read>(
     ensures next { IsLocated (allowance_of kept.old.engine) input.old input.new result }
     ensures failures { input_failures input.new ≡ count_failure (failed_by_read result) (input_failures input.old) }
 {
-    twkb_geom::laws::one_reading();
+    twkb_tree::laws::one_reading();
     let spans = match read_spans(input, alloc, &mut kept.engine, &mut kept.flat) {
         Ok(Some(spans)) => spans,
         Ok(None) => return Ok(None),

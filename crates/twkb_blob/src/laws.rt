@@ -1,7 +1,7 @@
 //! What holds of all blobs: the laws of the grammar that users of blobs ask for first, and what the bytes tell of a session.
 ghost use Rattle.std.specs.Prelude.{◌≡◌, ℕ, List};
-ghost use Rattle.twkb_geom.specs.Tree.{Tree};
-ghost use Rattle.twkb_geom.specs.Limits.{Allowance};
+ghost use Rattle.twkb_tree.specs.Tree.{Tree};
+ghost use Rattle.twkb_tree.specs.Limits.{Allowance};
 ghost use Rattle.twkb_blob.specs.Sessions.{HeldOf, FramesOf};
 
 pub use twkb_grammar::laws::{one_blob, written_is_blob};

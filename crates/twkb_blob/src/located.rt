@@ -37,7 +37,7 @@ fn feed_item(
     ensures fed { (bs : List ℕ) (s : StandsAt bs flat.old engine.old) → notes.old ≡ notes_at start s
         → IsNotedFed (allowance_of engine.old) start bs held.now result flat.new engine.new notes.new }
 {
-    twkb_geom::laws::nodes_are_rows();
+    twkb_tree::laws::nodes_are_rows();
     twkb_outline::laws::reading();
     twkb_outline::laws::role();
     twkb_outline::laws::noting();
@@ -164,7 +164,7 @@ pub(crate) fn read_spans<R: Read>(
     ensures some { IfOk result (λ found. IfSome found (λ spans. 0 < length flat.new)) }
     ensures failures { input_failures input.new ≡ count_failure (failed_by_read result) (input_failures input.old) }
 {
-    twkb_geom::laws::nodes_are_rows();
+    twkb_tree::laws::nodes_are_rows();
     engine.restart();
     flat.clear();
     read_noted(input, engine, flat, SpanNotes::new(alloc))

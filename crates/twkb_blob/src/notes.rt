@@ -7,8 +7,8 @@ ghost use Rattle.twkb_blob.specs.Located.{note_awaited, measured};
 use std::alloc::{AllocError, Global};
 use std::marker::Model;
 use twkb_engine::{Awaited, precision_at};
-use twkb_geom::Kind;
 use twkb_grammar::Span;
+use twkb_tree::Kind;
 
 /// The spans so far, and which of them are of geometries that are begun and not ended, the innermost last.
 #[derive(Drop)]

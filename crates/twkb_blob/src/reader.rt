@@ -13,8 +13,8 @@ use std::alloc::Global;
 use std::io::Read;
 use twkb_engine::Engine;
 use twkb_flat::Flat;
-use twkb_geom::{Geometry, Limits};
 use twkb_io::Input;
+use twkb_tree::{Geometry, Limits};
 
 /// The blobs of an input, one after another, each read as its bytes come.
 #[derive(Drop)]

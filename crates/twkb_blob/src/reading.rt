@@ -119,7 +119,7 @@ pub(crate) fn read_into<R: Read>(
     ensures some { result ≡ Ok true → 0 < length flat.new }
     ensures failures { input_failures input.new ≡ count_failure (failed_by_read result) (input_failures input.old) }
 {
-    twkb_geom::laws::nodes_are_rows();
+    twkb_tree::laws::nodes_are_rows();
     engine.restart();
     flat.clear();
     match read_blob(input, engine, flat) {

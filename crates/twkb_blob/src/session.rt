@@ -1,16 +1,16 @@
 //! A stream of blobs that comes in pieces.
 ghost use Rattle.std.specs.Prelude.{◌≡◌, ◌≤◌, ◌^◌, ◌↔◌, ◌+◌, [], List, ℕ, true, false, Ok, Err, None, is_err, length, IfOk, IfSome};
-ghost use Rattle.twkb_geom.specs.Tree.{Tree};
-ghost use Rattle.twkb_geom.specs.Rows.{rows};
-ghost use Rattle.twkb_geom.specs.Limits.{IsValid, largest_limits};
+ghost use Rattle.twkb_tree.specs.Tree.{Tree};
+ghost use Rattle.twkb_tree.specs.Rows.{rows};
+ghost use Rattle.twkb_tree.specs.Limits.{IsValid, largest_limits};
 ghost use Rattle.twkb_engine.specs.Standing.{count_of, held_in, open_in};
 
 use crate::fault::{BlobFault, fault_at};
 use std::alloc::{AllocError, Global};
 use twkb_engine::{BlobReason, Engine};
 use twkb_flat::Flat;
-use twkb_geom::{Geometry, Limits};
 use twkb_io::{InFault, MAX_BYTES};
+use twkb_tree::{Geometry, Limits};
 
 /// A stream of blobs that comes in pieces. It keeps its limits, the rows of the geometry that is read, as far as they came, and at most
 /// nine bytes of a number, and no other byte of the stream.
@@ -56,7 +56,7 @@ impl Session {
         ensures stays { is_spent self.new ≡ is_err result }
         ensures limits { session_limits self.new ≡ session_limits self.old }
     {
-        twkb_geom::laws::one_reading();
+        twkb_tree::laws::one_reading();
         let used = match self.feed_flat(piece) {
             Ok((used, true)) => used,
             Ok((used, false)) => return Ok((used, None)),

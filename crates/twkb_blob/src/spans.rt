@@ -2,8 +2,8 @@
 ghost use Rattle.std.specs.Prelude.{◌≡◌};
 
 use std::marker::Model;
-use twkb_geom::Geometry;
 use twkb_grammar::Span;
+use twkb_tree::Geometry;
 
 /// The spans of a blob, in the order of its headers. A contract sees the list of them.
 #[derive(Debug, Drop)]

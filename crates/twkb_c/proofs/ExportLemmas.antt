@@ -1,6 +1,6 @@
 -- From the limits and the styles of the conversions to those that C names.
 use Rattle.std.proofs.Common.{◌≡◌, ℕ, List, arith, refl, subst}
-use Rattle.twkb_geom.specs.Limits.{Allowance}
+use Rattle.twkb_tree.specs.Limits.{Allowance}
 use Rattle.twkb_grammar.specs.declared.style.Style.{Style}
 use Rattle.twkb_grammar.specs.declared.style.Style.TheVariants.{Full, Plain}
 use Rattle.twkb_c.specs.Conversions.{PacksSlice, ShowsSlice, UnpacksSlice}

@@ -1,6 +1,6 @@
 -- What each of the conversions does between two slices.
 use Rattle.std.specs.Prelude.{ℕ, List}
-use Rattle.twkb_geom.specs.Limits.{Allowance}
+use Rattle.twkb_tree.specs.Limits.{Allowance}
 use Rattle.twkb_grammar.specs.declared.style.Style.{Style}
 use Rattle.twkb_c.specs.declared.conversion.Conversion.{Conversion}
 use Rattle.twkb_c.specs.declared.conversion.Conversion.TheVariants as conversion

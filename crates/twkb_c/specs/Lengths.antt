@@ -1,6 +1,6 @@
 -- How long the whole output of a conversion is.
 use Rattle.std.specs.Prelude.{◌≡◌, ℕ, List, length}
-use Rattle.twkb_geom.specs.Limits.{Allowance}
+use Rattle.twkb_tree.specs.Limits.{Allowance}
 use Rattle.twkb_grammar.specs.declared.style.Style.{Style}
 use Rattle.twkb_table.specs.Record.{Record}
 use Rattle.twkb_table.specs.CsvRecords.{AreRecordsOf}

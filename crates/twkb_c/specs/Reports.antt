@@ -1,6 +1,6 @@
 -- What a report tells, and what limits C names.
 use Rattle.std.specs.Prelude.{◌≡◌}
-use Rattle.twkb_geom.specs.Limits.{Allowance}
+use Rattle.twkb_tree.specs.Limits.{Allowance}
 use Rattle.twkb_convert.specs.declared.report.Cause.{Cause}
 use Rattle.twkb_c.specs.declared.report.BufferLimits.{BufferLimits}
 use Rattle.twkb_c.specs.declared.report.BufferReport.{BufferReport}

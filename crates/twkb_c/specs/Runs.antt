@@ -1,7 +1,7 @@
 -- What a conversion between a reader and a writer answers.
 use Rattle.std.specs.Prelude.{ℕ, List, Option, Result, Ok, Err}
 use Rattle.twkb_io.specs.declared.tap.Tap.{Tap}
-use Rattle.twkb_geom.specs.Limits.{Allowance}
+use Rattle.twkb_tree.specs.Limits.{Allowance}
 use Rattle.twkb_convert.specs.Packed.{Packed, StoppedPacking}
 use Rattle.twkb_convert.specs.Unpacked.{StoppedUnpacking, Unpacked}
 use Rattle.twkb_convert.specs.Shown.{Shown, StoppedShowing}

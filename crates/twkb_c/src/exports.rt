@@ -1,6 +1,6 @@
 //! What C calls. `include/polytwkb.h` declares these.
 ghost use Rattle.std.specs.Prelude.{◌≡◌, ◌<◌};
-ghost use Rattle.twkb_geom.specs.Limits.{IsAllowance, standard_limits};
+ghost use Rattle.twkb_tree.specs.Limits.{IsAllowance, standard_limits};
 ghost use Rattle.twkb_grammar.specs.declared.style.Style.{Style};
 ghost use Rattle.twkb_c.specs.Numbers.{IsConversionNumber, IsStyleNumber};
 ghost use Rattle.twkb_c.specs.Reports.{allowance_of, arguments_report};

@@ -1,6 +1,6 @@
 //! What a call answers, and the limits that it is given, as C sees both.
 ghost use Rattle.std.specs.Prelude.{◌≡◌, ◌≢◌, ◌↔◌, IsSome, IfSome, IsNone};
-ghost use Rattle.twkb_geom.specs.Limits.{IsAllowance};
+ghost use Rattle.twkb_tree.specs.Limits.{IsAllowance};
 ghost use Rattle.twkb_c.specs.Numbers.{IsStyleNumber};
 ghost use Rattle.twkb_c.specs.Reports.{Tells, allowance_of, arguments_report};
 

@@ -9,8 +9,8 @@ use clap::error::ErrorKind;
 use clap::{ArgMatches, Error};
 use std::alloc::Global;
 use twkb_convert::Style;
-use twkb_geom::Limits;
 use twkb_request::{Conversion, Refusal, Request, nested_limits, style_named};
+use twkb_tree::Limits;
 
 // The matches of the words.
 fn matches_of<'a>(

@@ -2,8 +2,8 @@
 use Rattle.std.specs.Prelude.{map}
 use Rattle.std.proofs.Common.{Bool, true, ◌≡◌, ◌∙◌, ℕ, List, [], ◌∷◌, ◌++◌, Option, Some, Ok, ap, refl, subst, append_assoc}
 use Rattle.std.specs.declared.io.traits.Read.{Ghosts}
-use Rattle.twkb_geom.specs.Tree.{Tree}
-use Rattle.twkb_geom.specs.Rows.{Row}
+use Rattle.twkb_tree.specs.Tree.{Tree}
+use Rattle.twkb_tree.specs.Rows.{Row}
 use Rattle.twkb_grammar.specs.Spans.{spans_of_blob}
 use Rattle.twkb_table.specs.Record.{record_of}
 use Rattle.twkb_table.specs.Text.{csvtext}

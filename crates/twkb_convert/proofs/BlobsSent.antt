@@ -11,7 +11,7 @@ use Rattle.twkb_io.specs.Outputs.{Cut, Sent, Took, is_spent, output_failures, se
 use Rattle.twkb_io.specs.OutputLaws.{refused_join, took_join, took_nothing}
 use Rattle.twkb_io.specs.declared.output.Output.{Output}
 use Rattle.twkb_io.specs.declared.output.OutFault.{OutFault}
-use Rattle.twkb_geom.specs.Limits.{Allowance}
+use Rattle.twkb_tree.specs.Limits.{Allowance}
 use Rattle.twkb_convert.specs.BlobReading.{Misses, RefusesBlob, Used, given, limits_of, rest_of, told_of}
 use Rattle.twkb_blob.specs.declared.reader.Reader.{Reader}
 use Rattle.twkb_blob.specs.declared.fault.BlobFault.{BlobFault}

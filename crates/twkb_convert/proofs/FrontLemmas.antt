@@ -8,13 +8,13 @@ use Rattle.csv.specs.Machine.{Read, next_record}
 use Rattle.csv.specs.declared.parser.Config.{Config}
 use Rattle.csv.specs.declared.parser.State.{State}
 use Rattle.csv.specs.declared.parser.State.TheVariants.{StartRecord}
-use Rattle.twkb_geom.specs.Tree.{Tree}
-use Rattle.twkb_geom.specs.Limits.{Allowance, IsAllowance}
-use Rattle.twkb_geom.specs.Rows.{Row, rows, rows_of}
-use Rattle.twkb_geom.specs.RowLists.{AreGeometries}
-use Rattle.twkb_geom.proofs.LimitLaws.{valid_front}
-use Rattle.twkb_geom.proofs.RootEnd.{at_root, first_ended}
-use Rattle.twkb_geom.proofs.RootLaws.{below_root}
+use Rattle.twkb_tree.specs.Tree.{Tree}
+use Rattle.twkb_tree.specs.Limits.{Allowance, IsAllowance}
+use Rattle.twkb_tree.specs.Rows.{Row, rows, rows_of}
+use Rattle.twkb_tree.specs.RowLists.{AreGeometries}
+use Rattle.twkb_tree.proofs.LimitLaws.{valid_front}
+use Rattle.twkb_tree.proofs.RootEnd.{at_root, first_ended}
+use Rattle.twkb_tree.proofs.RootLaws.{below_root}
 use Rattle.twkb_grammar.specs.Blob.{Stream}
 use Rattle.twkb_grammar.specs.Fault.{FirstFault, Reason}
 use Rattle.twkb_grammar.specs.Written.{canonical_blob, canonical_stream}

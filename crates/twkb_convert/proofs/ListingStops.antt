@@ -11,8 +11,8 @@ use Rattle.twkb_io.specs.declared.tap.Tap.{Tap}
 use Rattle.twkb_io.specs.declared.output.Output.{Output}
 use Rattle.twkb_io.specs.declared.input.InFault.TheVariants as input
 use Rattle.twkb_io.specs.declared.output.OutFault.TheVariants as out
-use Rattle.twkb_geom.specs.Tree.{Tree}
-use Rattle.twkb_geom.specs.Limits.{Allowance}
+use Rattle.twkb_tree.specs.Tree.{Tree}
+use Rattle.twkb_tree.specs.Limits.{Allowance}
 use Rattle.twkb_grammar.specs.Blob.{Stream}
 use Rattle.twkb_grammar.specs.Fault.{StreamFault}
 use Rattle.twkb_engine.specs.Stops.{reason_of}

@@ -1,8 +1,8 @@
 -- Blobs with their spans, one after another.
 use Rattle.std.proofs.Common.{◌≡◌, ◌∙◌, ◌+◌, ◌<◌, ◌≤◌, ℕ, List, [], ◌∷◌, ◌++◌, length, ap, arith, refl, sym, subst, length-append, append_assoc}
 use Rattle.std.proofs.lemmas.List.{append-nil}
-use Rattle.twkb_geom.specs.Tree.{Tree, simple, collection}
-use Rattle.twkb_geom.specs.Limits.{Allowance}
+use Rattle.twkb_tree.specs.Tree.{Tree, simple, collection}
+use Rattle.twkb_tree.specs.Limits.{Allowance}
 use Rattle.twkb_grammar.specs.Blob.{Blob, Stream}
 use Rattle.twkb_grammar.specs.Spans.{spans_of_blob}
 use Rattle.twkb_grammar.proofs.Streams.{blob_long}

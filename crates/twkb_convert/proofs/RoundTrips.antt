@@ -5,9 +5,9 @@ use Rattle.csv.specs.Machine.{Read, next_record}
 use Rattle.csv.specs.declared.parser.Config.{Config}
 use Rattle.csv.specs.declared.parser.State.{State}
 use Rattle.csv.specs.declared.parser.State.TheVariants.{StartRecord}
-use Rattle.twkb_geom.specs.Tree.{Tree}
-use Rattle.twkb_geom.specs.Limits.{Allowance, IsAllowance}
-use Rattle.twkb_geom.specs.RowLists.{AreValid}
+use Rattle.twkb_tree.specs.Tree.{Tree}
+use Rattle.twkb_tree.specs.Limits.{Allowance, IsAllowance}
+use Rattle.twkb_tree.specs.RowLists.{AreValid}
 use Rattle.twkb_grammar.specs.Blob.{Stream}
 use Rattle.twkb_grammar.specs.Written.{canonical_stream}
 use Rattle.twkb_grammar.specs.declared.style.Style.{Style}

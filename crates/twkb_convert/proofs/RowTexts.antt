@@ -3,8 +3,8 @@ use Rattle.std.proofs.Common.{◌≡◌, ◌∙◌, ◌<◌, List, [], ◌∷◌
 use Rattle.std.specs.Prelude.{map}
 use Rattle.std.proofs.lemmas.List.{append-nil}
 use Rattle.std.proofs.lemmas.Grind.{flat_map-append}
-use Rattle.twkb_geom.specs.Tree.{Tree, simple, collection}
-use Rattle.twkb_geom.specs.Rows.{member_rows, own_row, rows, rows_below, rows_of}
+use Rattle.twkb_tree.specs.Tree.{Tree, simple, collection}
+use Rattle.twkb_tree.specs.Rows.{member_rows, own_row, rows, rows_below, rows_of}
 use Rattle.twkb_table.specs.Record.{Record, header, record_of}
 use Rattle.twkb_table.specs.Text.{csvtext, joined}
 use Rattle.twkb_table.proofs.PartsLemmas.{records-append}

@@ -1,7 +1,7 @@
 -- The work of geometries, one after another.
 use Rattle.std.proofs.Common.{◌≡◌, ◌∙◌, ℕ, ◌+◌, ◌*◌, ◌≤◌, ◌<◌, ◌^◌, List, [], ◌∷◌, ◌++◌, length, sym, ap, arith}
-use Rattle.twkb_geom.specs.Tree.{Tree, flat, nodes, saturated}
-use Rattle.twkb_geom.specs.Rows.{Row, rows, row_points}
+use Rattle.twkb_tree.specs.Tree.{Tree, flat, nodes, saturated}
+use Rattle.twkb_tree.specs.Rows.{Row, rows, row_points}
 use Rattle.twkb_flat.specs.declared.work.Work.{Work}
 use Rattle.twkb_grammar.specs.Spans.{geometries}
 use Rattle.twkb_writer.specs.declared.sizes.Entry.{Entry}

@@ -9,7 +9,7 @@ use Rattle.twkb_io.specs.declared.output.Output.{Output}
 use Rattle.twkb_io.specs.declared.output.OutFault.{OutFault}
 use Rattle.twkb_io.specs.declared.output.OutFault.TheVariants as out
 use Rattle.twkb_io.specs.declared.input.InFault.TheVariants as input
-use Rattle.twkb_geom.specs.Limits.{Allowance}
+use Rattle.twkb_tree.specs.Limits.{Allowance}
 use Rattle.twkb_convert.specs.BlobReading.{GaveOnly, GivesBlob, Misses, RefusesBlob, Used, given, limits_of, reader_failures, reader_tap, rest_of, told_of}
 use Rattle.twkb_blob.specs.declared.reader.Reader.{Reader}
 use Rattle.twkb_blob.specs.declared.fault.BlobFault.{BlobFault}

@@ -3,7 +3,7 @@ use Rattle.std.specs.Prelude.{ℕ, ◌≡◌, List, Option}
 use Rattle.twkb_io.specs.Outputs.{Cut, Took}
 use Rattle.twkb_io.specs.declared.output.Output.{Output}
 use Rattle.twkb_io.specs.declared.output.OutFault.{OutFault}
-use Rattle.twkb_geom.specs.Tree.{Tree}
+use Rattle.twkb_tree.specs.Tree.{Tree}
 use Rattle.twkb_flat.specs.declared.work.Work.{Work}
 use Rattle.twkb_grammar.specs.Written.{canonical_blob}
 use Rattle.twkb_grammar.specs.declared.style.Style.{Style}

@@ -1,6 +1,6 @@
 -- The work of packing geometries.
 use Rattle.std.specs.Prelude.{ℕ, ◌≡◌, ◌+◌, ◌*◌, ◌≤◌, List, [], ◌∷◌, length}
-use Rattle.twkb_geom.specs.Tree.{Tree, flat, nodes, saturated}
+use Rattle.twkb_tree.specs.Tree.{Tree, flat, nodes, saturated}
 use Rattle.twkb_flat.specs.declared.work.Work.{Work}
 use Rattle.twkb_grammar.specs.Spans.{geometries}
 

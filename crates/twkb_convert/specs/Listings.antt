@@ -1,6 +1,6 @@
 -- What is written of the blobs of a stream.
 use Rattle.std.specs.Prelude.{ℕ, List, [], ◌∷◌, ◌++◌, map, flat_map}
-use Rattle.twkb_geom.specs.Rows.{rows}
+use Rattle.twkb_tree.specs.Rows.{rows}
 use Rattle.twkb_table.specs.Record.{header, record_of}
 use Rattle.twkb_table.specs.Text.{csvtext}
 use Rattle.twkb_blob.specs.declared.spans.Located.{Located}

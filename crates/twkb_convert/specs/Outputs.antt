@@ -1,8 +1,8 @@
 -- What the conversions write.
 use Rattle.std.specs.Prelude.{◌≡◌, ◌≢◌, ℕ, ◌⊎◌, List, [], ◌∷◌, map}
-use Rattle.twkb_geom.specs.Tree.{Tree}
-use Rattle.twkb_geom.specs.Limits.{Allowance}
-use Rattle.twkb_geom.specs.Rows.{rows_of}
+use Rattle.twkb_tree.specs.Tree.{Tree}
+use Rattle.twkb_tree.specs.Limits.{Allowance}
+use Rattle.twkb_tree.specs.Rows.{rows_of}
 use Rattle.twkb_grammar.specs.Blob.{Stream}
 use Rattle.twkb_grammar.specs.Fault.{Reason, StreamFault}
 use Rattle.twkb_grammar.specs.Written.{canonical_stream}

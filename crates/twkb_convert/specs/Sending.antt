@@ -5,8 +5,8 @@ use Rattle.twkb_io.specs.Outputs.{Cut, Sent, Took, is_device, is_spent, output_f
 use Rattle.twkb_io.specs.declared.output.OutFault.{OutFault}
 use Rattle.twkb_io.specs.declared.output.OutFault.TheVariants as out
 use Rattle.twkb_io.specs.declared.output.Output.{Output}
-use Rattle.twkb_geom.specs.Tree.{Tree}
-use Rattle.twkb_geom.specs.Limits.{Allowance}
+use Rattle.twkb_tree.specs.Tree.{Tree}
+use Rattle.twkb_tree.specs.Limits.{Allowance}
 use Rattle.twkb_flat.specs.declared.work.Work.{Work}
 use Rattle.twkb_grammar.specs.Written.{canonical_blob, canonical_stream}
 use Rattle.twkb_grammar.specs.declared.style.Style.{Style}

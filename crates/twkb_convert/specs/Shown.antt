@@ -1,7 +1,7 @@
 -- What a stream was shown as, and where it stopped.
 use Rattle.std.specs.Prelude.{ℕ, List, Option}
 use Rattle.twkb_io.specs.declared.tap.Tap.{Tap}
-use Rattle.twkb_geom.specs.Limits.{Allowance}
+use Rattle.twkb_tree.specs.Limits.{Allowance}
 use Rattle.twkb_convert.specs.LocatedBlobs.{LocatedStream, geometries_of, lines_text}
 use Rattle.twkb_convert.specs.Listed.{Listed, StoppedListing}
 use Rattle.twkb_convert.specs.declared.report.Report.{Report}

@@ -1,7 +1,7 @@
 -- The line of a TWKB header (profile).
 use Rattle.std.specs.Prelude.{ℕ, ◌/◌, ◌%◌, List, [], ◌∷◌, ◌++◌, decimal, flat_map, true}
 use Rattle.std.specs.Fmt.{digit_glyph, signed_decimal}
-use Rattle.twkb_geom.specs.Kind.{word_of}
+use Rattle.twkb_tree.specs.Kind.{word_of}
 use Rattle.twkb_grammar.specs.declared.span.Span.{Span}
 
 -- a byte as two upper-case hexadecimal digits

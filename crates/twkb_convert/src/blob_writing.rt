@@ -1,7 +1,7 @@
 //! The blob of one flat form, measured and written.
 ghost use Rattle.std.specs.Prelude.{◌≡◌, OnOk, IfErr};
-ghost use Rattle.twkb_geom.specs.Tree.{Tree, IsTree};
-ghost use Rattle.twkb_geom.specs.Rows.{rows};
+ghost use Rattle.twkb_tree.specs.Tree.{Tree, IsTree};
+ghost use Rattle.twkb_tree.specs.Rows.{rows};
 ghost use Rattle.twkb_convert.specs.BlobWriting.{CutsBlob, WritesBlob};
 
 use std::alloc::Global;
@@ -41,7 +41,7 @@ pub(crate) fn write_blob<W: Write>(
     ensures ok { OnOk result ((g : Tree) → IsTree g → rows 0 g ≡ flat.now → WritesBlob style W.contents g output.old work.old output.new work.new) }
     ensures err { IfErr result (λ fault. (g : Tree) → IsTree g → rows 0 g ≡ flat.now → CutsBlob style W.contents g output.old fault output.new) }
 {
-    twkb_geom::laws::nodes_are_rows();
+    twkb_tree::laws::nodes_are_rows();
     twkb_writer::laws::one_size_each();
     let Ok(()) = measure_into(flat, style, &mut room.depths, &mut room.sizes, work) else {
         return Err(EncodeFault::Memory);

@@ -1,7 +1,7 @@
 //! Laws of both conversions, each the contract of a function that does nothing.
 ghost use Rattle.std.specs.Prelude.{◌≡◌, ◌++◌, ◌∷◌, [], ℕ, List, length, Some};
-ghost use Rattle.twkb_geom.specs.Tree.{Tree};
-ghost use Rattle.twkb_geom.specs.Limits.{Allowance, IsAllowance};
+ghost use Rattle.twkb_tree.specs.Tree.{Tree};
+ghost use Rattle.twkb_tree.specs.Limits.{Allowance, IsAllowance};
 ghost use Rattle.twkb_grammar.specs.Bits.{AreBytes};
 ghost use Rattle.twkb_grammar.specs.Blob.{Stream};
 ghost use Rattle.twkb_grammar.specs.Written.{canonical_stream};

@@ -1,7 +1,7 @@
 //! From a table to a stream.
 ghost use Rattle.std.specs.Prelude.{◌≡◌, ◌<◌, ◌^◌, ◌⊎◌, ℕ, List, Option, IfOk, IfErr, true};
-ghost use Rattle.twkb_geom.specs.Tree.{Tree};
-ghost use Rattle.twkb_geom.specs.Limits.{Allowance};
+ghost use Rattle.twkb_tree.specs.Tree.{Tree};
+ghost use Rattle.twkb_tree.specs.Limits.{Allowance};
 ghost use Rattle.twkb_grammar.specs.declared.style.Style.{Style};
 ghost use Rattle.twkb_grammar.specs.declared.style.Style.TheVariants.{Full};
 ghost use Rattle.twkb_convert.specs.Devices.{Changes, IsDeviceCause};
@@ -15,9 +15,9 @@ use crate::table_sending::send_table_and_flush;
 use std::alloc::Global;
 use std::io::{Read, Write};
 use twkb_flat::Work;
-use twkb_geom::Limits;
 use twkb_io::{OutFault, Output, Tap};
 use twkb_table::TableFault;
+use twkb_tree::Limits;
 use twkb_writer::Style;
 
 /// `pack_styled` with sizes, and with boxes where they may be.

@@ -2,8 +2,8 @@
 ghost use Rattle.std.specs.Prelude.{◌≡◌, ℕ, List, Option, false};
 ghost use Rattle.twkb_io.specs.Taps.{bytes_given, device_of};
 ghost use Rattle.twkb_io.specs.Outputs.{is_spent};
-ghost use Rattle.twkb_geom.specs.Tree.{Tree};
-ghost use Rattle.twkb_geom.specs.Limits.{Allowance};
+ghost use Rattle.twkb_tree.specs.Tree.{Tree};
+ghost use Rattle.twkb_tree.specs.Limits.{Allowance};
 ghost use Rattle.twkb_table.specs.Record.{Record};
 ghost use Rattle.twkb_table.specs.TableReading.{StandsAfter};
 ghost use Rattle.twkb_convert.specs.Sending.{SendsNext, SendsTable};
@@ -12,9 +12,9 @@ use crate::blob_writing::{Room, write_blob};
 use std::alloc::Global;
 use std::io::{Read, Write};
 use twkb_flat::{Flat, Work};
-use twkb_geom::Limits;
 use twkb_io::{OutFault, Output, Tap};
 use twkb_table::{TableFault, TableReader};
+use twkb_tree::Limits;
 use twkb_writer::{EncodeFault, Style};
 
 /// Why not the whole table was sent.

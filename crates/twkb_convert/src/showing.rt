@@ -8,8 +8,8 @@ use crate::report::{ConvertFault, Report};
 use crate::stream_listing::list_stream;
 use std::alloc::Global;
 use std::io::{Read, Write};
-use twkb_geom::Limits;
 use twkb_io::Tap;
+use twkb_tree::Limits;
 
 /// Writes a line for each TWKB header of a stream of blobs, in their order: level, offset from the
 /// stream's start, kind, precision, metadata byte in hexadecimal, length and points (TWKB, structure;

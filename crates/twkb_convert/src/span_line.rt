@@ -1,13 +1,13 @@
 //! The lines of TWKB headers.
 ghost use Rattle.std.specs.Prelude.{◌≡◌, ◌<◌, [], ◌∷◌, ◌++◌, OnOk, true};
 ghost use Rattle.std.specs.Fmt.{digit_glyph};
-ghost use Rattle.twkb_geom.specs.Kind.{word_of};
+ghost use Rattle.twkb_tree.specs.Kind.{word_of};
 ghost use Rattle.twkb_convert.specs.SpanLines.{hex_of, span_line, span_lines};
 
 use itoa::{Buffer, Integer};
 use std::alloc::AllocError;
 use twkb_blob::Span;
-use twkb_geom::Kind;
+use twkb_tree::Kind;
 
 /// Appends a line for each span, or a front of them where memory is refused.
 pub(crate) fn put_lines(spans: &[Span], text: &mut Vec<u8>) -> Result<(), AllocError>

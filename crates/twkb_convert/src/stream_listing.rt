@@ -12,8 +12,8 @@ use crate::report::{Cause, ConvertFault, Report};
 use std::alloc::Global;
 use std::io::{Read, Write};
 use twkb_blob::{BlobFault, Reader};
-use twkb_geom::Limits;
 use twkb_io::{InFault, Input, OutFault, Output, Tap};
+use twkb_tree::Limits;
 
 /// Writes what is to be written of a stream of blobs, each blob's text before a byte of the next one
 /// is asked for. The writer is flushed last, where it refused no write.

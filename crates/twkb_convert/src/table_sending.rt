@@ -9,9 +9,9 @@ use crate::draining::{DrainFault, drain};
 use crate::sending::{Stop, Tally, Why, send_table};
 use std::alloc::Global;
 use std::io::{Read, Write};
-use twkb_geom::Limits;
 use twkb_io::{Output, Tap};
 use twkb_table::TableFault;
+use twkb_tree::Limits;
 use twkb_writer::Style;
 
 /// Sends a table, and flushes where no put was refused.

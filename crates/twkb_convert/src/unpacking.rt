@@ -8,8 +8,8 @@ use crate::report::{ConvertFault, Report};
 use crate::stream_listing::list_stream;
 use std::alloc::Global;
 use std::io::{Read, Write};
-use twkb_geom::Limits;
 use twkb_io::Tap;
+use twkb_tree::Limits;
 
 /// Writes the table of a stream of blobs: the header's line, then for each blob its rows, before a
 /// byte of the next blob is asked for (the layouts: TWKB; encoded polyline; RFC 4180). The writer

@@ -1,7 +1,7 @@
 -- A builder behind points that stood whole in front.
 use Rattle.std.proofs.Common.{◌≡◌, ℕ, ◌+◌, ◌++◌, List, length, refl, sym, subst}
 use Rattle.twkb_points.specs.Point.{Point}
-use Rattle.twkb_geom.specs.Rows.{Row}
+use Rattle.twkb_tree.specs.Rows.{Row}
 use Rattle.twkb_grammar.specs.Noting.{Notes}
 use Rattle.twkb_outline.specs.Reading.{sums_past}
 use Rattle.twkb_outline.specs.Noting.{NotedOutline, notes_in}

@@ -1,7 +1,7 @@
 -- Members that begin, and the ends of geometries in collections.
 use Rattle.std.proofs.Common.{◌≡◌, ℕ, zero, suc, ◌+◌, ◌-◌, ◌<◌, List, [], ◌∷◌, ◌++◌, length, get_or, true, refl, ap, ◌∙◌, arith}
 use Rattle.std.specs.Prelude.{Ok}
-use Rattle.twkb_geom.specs.Rows.{first_id, other_ids}
+use Rattle.twkb_tree.specs.Rows.{first_id, other_ids}
 use Rattle.twkb_grammar.specs.Machine as machine
 use Rattle.twkb_grammar.specs.Machine.{ManyGeometries}
 use Rattle.twkb_grammar.specs.PlainReader.{is_exact as exact}

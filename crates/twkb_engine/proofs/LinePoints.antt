@@ -1,10 +1,10 @@
 -- The last row, a line's, with a point more.
 use Rattle.std.proofs.Common.{◌≡◌, ◌+◌, List, [], ◌∷◌, ◌++◌, length, length-append, ap, ◌∙◌, arith}
 use Rattle.twkb_points.specs.Point.{Point}
-use Rattle.twkb_geom.specs.Rows.{Row, row_points}
-use Rattle.twkb_geom.specs.RowGrowth.{EndsInLine, point_added, with_point}
-use Rattle.twkb_geom.proofs.PointAdded.{point_last}
-use Rattle.twkb_geom.proofs.RowPoints.{row_points-append}
+use Rattle.twkb_tree.specs.Rows.{Row, row_points}
+use Rattle.twkb_tree.specs.RowGrowth.{EndsInLine, point_added, with_point}
+use Rattle.twkb_tree.proofs.PointAdded.{point_last}
+use Rattle.twkb_tree.proofs.RowPoints.{row_points-append}
 
 -- it is a line's again
 pub ends_again : (p : Point) (rs : List Row) → EndsInLine rs → EndsInLine (point_added p rs)

@@ -4,10 +4,10 @@ use Rattle.std.specs.Prelude.{Option, ℤ}
 use Rattle.std.proofs.Math.Seq.{take-add}
 use Rattle.std.proofs.lemmas.List.{length-drop, take_rest}
 use Rattle.twkb_points.specs.Point.{Point}
-use Rattle.twkb_geom.specs.Tree.{Ids}
-use Rattle.twkb_geom.specs.Limits.{Allowance}
-use Rattle.twkb_geom.specs.Rows.{Row, first_id}
-use Rattle.twkb_geom.specs.RowGrowth.{point_added}
+use Rattle.twkb_tree.specs.Tree.{Ids}
+use Rattle.twkb_tree.specs.Limits.{Allowance}
+use Rattle.twkb_tree.specs.Rows.{Row, first_id}
+use Rattle.twkb_tree.specs.RowGrowth.{point_added}
 use Rattle.twkb_grammar.specs.Machine.{Head, Form, PointForm, LineForm, PolygonForm, MultiPointForm, MultiLineForm, MultiPolygonForm, Sums}
 use Rattle.twkb_grammar.specs.Noting.{Notes}
 use Rattle.twkb_outline.specs.Outline as outline

@@ -1,8 +1,8 @@
 -- Where a builder stands that has read nothing.
 use Rattle.std.proofs.Common.{◌≡◌, List, []}
 use Rattle.twkb_points.specs.Point.{Point, origin}
-use Rattle.twkb_geom.specs.Limits.{Allowance, IsAllowance}
-use Rattle.twkb_geom.specs.Rows.{Row}
+use Rattle.twkb_tree.specs.Limits.{Allowance, IsAllowance}
+use Rattle.twkb_tree.specs.Rows.{Row}
 use Rattle.twkb_outline.specs.Outline.{OnHeader}
 use Rattle.twkb_outline.specs.Reading.{Outlined}
 use Rattle.twkb_outline.proofs.Outlined.{outlined_start}

@@ -2,8 +2,8 @@
 use Rattle.std.proofs.Common.{◌≡◌, inl, inr, ℕ, ◌+◌, ◌<◌, ◌≤◌, List, [], ◌∷◌, ◌++◌, length, refl, sym, ap, ◌∙◌, subst, append_assoc, length-append, take, IfOk, OnErr, true, false, Bool, Result, Some, Ok, Err, arith}
 use Rattle.std.proofs.lemmas.List.{append-nil, length-take}
 use Rattle.twkb_num.specs.Varint.{IsVarint, IsOpenVarint}
-use Rattle.twkb_geom.specs.Limits.{Allowance}
-use Rattle.twkb_geom.specs.Rows.{Row}
+use Rattle.twkb_tree.specs.Limits.{Allowance}
+use Rattle.twkb_tree.specs.Rows.{Row}
 use Rattle.twkb_grammar.specs.Fault.{FirstFault, BadVarint}
 use Rattle.twkb_grammar.specs.Roles.{Item}
 use Rattle.twkb_grammar.specs.Reading.{Gives}

@@ -1,7 +1,7 @@
 -- A builder takes an item.
 use Rattle.std.proofs.Common.{◌≡◌, ℕ, List, [], ◌++◌, sym, ◌∙◌, subst, append_assoc, true, false, Bool, Result, Some, None, Ok, Err, OnOk}
-use Rattle.twkb_geom.specs.Limits.{Allowance}
-use Rattle.twkb_geom.specs.Rows.{Row}
+use Rattle.twkb_tree.specs.Limits.{Allowance}
+use Rattle.twkb_tree.specs.Rows.{Row}
 use Rattle.twkb_grammar.specs.Fault as fault
 use Rattle.twkb_grammar.specs.Fault.{FirstFault, IsPart, moved}
 use Rattle.twkb_grammar.specs.Roles.{Item}

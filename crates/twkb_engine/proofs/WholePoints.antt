@@ -7,8 +7,8 @@ use Rattle.std.proofs.lemmas.List.{length-take, length-drop, take_rest}
 use Rattle.twkb_num.specs.Varint.{IsVarint}
 use Rattle.twkb_num.specs.Zigzag.{unzigzag_of}
 use Rattle.twkb_points.specs.Point.{Point, origin}
-use Rattle.twkb_geom.specs.Limits.{Allowance}
-use Rattle.twkb_geom.specs.Rows.{Row}
+use Rattle.twkb_tree.specs.Limits.{Allowance}
+use Rattle.twkb_tree.specs.Rows.{Row}
 use Rattle.twkb_grammar.specs.Fault.{Reason, BadType, TooManyPoints, announces_point}
 use Rattle.twkb_grammar.specs.Roles.{Header, Metadata, Size, item}
 use Rattle.twkb_grammar.specs.PlainReader.{unless, is_exact, objection}

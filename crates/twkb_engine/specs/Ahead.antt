@@ -1,6 +1,6 @@
 -- A builder behind points that stood whole in front, or that has no memory for one of them.
 use Rattle.std.specs.Prelude.{◌≡◌, ℕ, List, ◌++◌}
-use Rattle.twkb_geom.specs.Rows.{Row}
+use Rattle.twkb_tree.specs.Rows.{Row}
 use Rattle.twkb_outline.specs.Noting.{notes_in}
 use Rattle.twkb_engine.specs.Parts.{PartIn}
 use Rattle.twkb_engine.specs.Building.{StandsBehind}

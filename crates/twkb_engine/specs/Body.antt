@@ -1,7 +1,7 @@
 -- The fields as an outline of a body.
 use Rattle.std.specs.Prelude.{ℕ, List, [], ◌∷◌, Bool, if◌then◌else◌, Option, Some, None}
-use Rattle.twkb_geom.specs.Tree.{Ids}
-use Rattle.twkb_geom.specs.Rows.{other_ids}
+use Rattle.twkb_tree.specs.Tree.{Ids}
+use Rattle.twkb_tree.specs.Rows.{other_ids}
 use Rattle.twkb_grammar.specs.Machine as machine
 use Rattle.twkb_grammar.specs.Machine.{Head, PointForm, LineForm, PolygonForm, MultiPointForm, MultiLineForm, MultiPolygonForm}
 use Rattle.twkb_outline.specs.Outline as outline

@@ -1,7 +1,7 @@
 -- What a number of a body led to.
 use Rattle.std.specs.Prelude.{◌≡◌, ℕ, List, ℤ, Option, true}
 use Rattle.twkb_points.specs.Point.{Point}
-use Rattle.twkb_geom.specs.Rows.{Row}
+use Rattle.twkb_tree.specs.Rows.{Row}
 use Rattle.twkb_outline.specs.Outline as outline
 use Rattle.twkb_outline.specs.Outline.{OnEnd, outline_advanced}
 use Rattle.twkb_outline.specs.Growing.{applied, step_change}

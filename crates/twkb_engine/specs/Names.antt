@@ -1,6 +1,6 @@
 -- The ids that are left.
 use Rattle.std.specs.Prelude.{drop, if◌then◌else◌, Some, None}
-use Rattle.twkb_geom.specs.Tree.{Ids}
+use Rattle.twkb_tree.specs.Tree.{Ids}
 use Rattle.twkb_engine.specs.declared.names.Names.{Names}
 
 -- from the member on that stands open

@@ -1,7 +1,7 @@
 -- A body as a step of an outline, and what a number changes of the rows.
 use Rattle.std.specs.Prelude.{Bool, true, false}
 use Rattle.twkb_points.specs.Point.{Point}
-use Rattle.twkb_geom.specs.Rows.{first_id}
+use Rattle.twkb_tree.specs.Rows.{first_id}
 use Rattle.twkb_grammar.specs.Machine.{Head}
 use Rattle.twkb_outline.specs.Outline.{Step, OnBody, OnEnd}
 use Rattle.twkb_outline.specs.Growing.{Change, spot_change}

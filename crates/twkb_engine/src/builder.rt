@@ -26,9 +26,9 @@ use std::alloc::{AllocError, Global};
 use std::mem;
 use twkb_flat::Flat;
 use twkb_front::{moved_x, moved_y, origin};
-use twkb_geom::Limits;
 use twkb_num::unzigzag;
 use twkb_points::Pt;
+use twkb_tree::Limits;
 
 /// A geometry that is read item by item: the sums of its items, the collections that are open, and what comes next.
 #[derive(Drop)]

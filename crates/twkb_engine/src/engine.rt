@@ -1,7 +1,7 @@
 //! A blob that is read byte by byte into a flat form.
 ghost use Rattle.std.specs.Prelude.{◌≡◌, IfOk, OnErr, ◌+◌, ◌<◌, ◌≤◌, ◌^◌, ◌++◌, ◌∷◌, [], List, ℕ, take, IfSome, length as length_of};
 ghost use Rattle.twkb_num.specs.Varint.{IsOpenVarint};
-ghost use Rattle.twkb_geom.specs.Rows.{Row};
+ghost use Rattle.twkb_tree.specs.Rows.{Row};
 ghost use Rattle.twkb_engine.specs.Standing.{StandsAt, LeadsOn, StopsIn, IsStep, IsTakenFrom, IsOneItem, ItemInFront, IsFed, IsEnd, count_of, offset_in, points_in, awaited_in, held_in, open_in, allowance_of};
 
 use crate::awaited::Awaited;
@@ -12,8 +12,8 @@ use crate::stop::Stop;
 use std::alloc::{AllocError, Global};
 use twkb_flat::Flat;
 use twkb_front::front_number;
-use twkb_geom::Limits;
 use twkb_num::{Leb128, Partial, Step};
+use twkb_tree::Limits;
 
 /// Points have two numbers, and so as many bytes: shorter pieces are not looked at for them.
 const SHORTEST: usize = 2;

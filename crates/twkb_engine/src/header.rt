@@ -1,7 +1,7 @@
 //! From a type byte to a body.
 ghost use Rattle.std.specs.Prelude.{◌≡◌, ◌<◌, ◌/◌, ◌%◌, length, None, IfOk, OnOk};
 ghost use Rattle.twkb_num.specs.Zigzag.{unzigzag_of};
-ghost use Rattle.twkb_geom.specs.Tree.{IsPrecision};
+ghost use Rattle.twkb_tree.specs.Tree.{IsPrecision};
 ghost use Rattle.twkb_grammar.specs.Bits.{bit};
 ghost use Rattle.twkb_grammar.specs.Machine.{asked, with_option, kind_at as kind_of_number};
 ghost use Rattle.twkb_outline.specs.Outline.{options, begins, OnMetadata, OnBody};

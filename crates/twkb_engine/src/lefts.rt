@@ -1,7 +1,7 @@
 //! How many values are left in the lists of a body.
 ghost use Rattle.std.specs.Prelude.{◌≡◌, ◌≤◌, [], length};
-ghost use Rattle.twkb_geom.specs.Tree.{Ids};
-ghost use Rattle.twkb_geom.specs.Rows.{other_ids};
+ghost use Rattle.twkb_tree.specs.Tree.{Ids};
+ghost use Rattle.twkb_tree.specs.Rows.{other_ids};
 ghost use Rattle.twkb_grammar.specs.Machine.{Form, Head};
 ghost use Rattle.twkb_outline.specs.Outline.{shut, listing, OnBody, OnEnd};
 ghost use Rattle.twkb_engine.specs.Body.{lefts_of, after_of, spot_of};

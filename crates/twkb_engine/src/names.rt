@@ -1,6 +1,6 @@
 //! The ids of the members of a body.
 ghost use Rattle.std.specs.Prelude.{◌≡◌, if◌then◌else◌, Some, None};
-ghost use Rattle.twkb_geom.specs.Rows.{first_id, other_ids};
+ghost use Rattle.twkb_tree.specs.Rows.{first_id, other_ids};
 
 /// The ids of the members, if they have any, and how many of them were given.
 #[derive(Debug, Drop)]

@@ -1,6 +1,6 @@
 //! Headers, and where geometries stand.
 ghost use Rattle.std.specs.Prelude.{◌+◌, ◌<◌, ◌^◌};
-ghost use Rattle.twkb_geom.specs.Tree.{IsPrecision};
+ghost use Rattle.twkb_tree.specs.Tree.{IsPrecision};
 
 use crate::phase::Kind;
 

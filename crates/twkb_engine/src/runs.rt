@@ -1,7 +1,7 @@
 //! Points that stand whole in front of the bytes, taken many at a time.
 ghost use Rattle.std.specs.Prelude.{◌≡◌, ℕ, ◌∷◌, ◌<◌, ◌≤◌, ◌+◌, ◌^◌, IfOk, OnErr, IfSome, None, true, take, length};
-ghost use Rattle.twkb_geom.specs.Rows.{row_points};
-ghost use Rattle.twkb_geom.specs.RowGrowth.{EndsInLine};
+ghost use Rattle.twkb_tree.specs.Rows.{row_points};
+ghost use Rattle.twkb_tree.specs.RowGrowth.{EndsInLine};
 ghost use Rattle.twkb_outline.specs.Outline.{next_ids};
 ghost use Rattle.twkb_engine.specs.Body.{form_of, lefts_of};
 ghost use Rattle.twkb_engine.specs.Names.{ids_of};

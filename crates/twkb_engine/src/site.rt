@@ -1,6 +1,6 @@
 //! The rows of a body in a flat form.
 ghost use Rattle.std.specs.Prelude.{◌≡◌, ◌+◌, ◌<◌, ◌^◌, ◌++◌, ◌∷◌, [], OnOk, OnErr};
-ghost use Rattle.twkb_geom.specs.Rows.{plain_row};
+ghost use Rattle.twkb_tree.specs.Rows.{plain_row};
 ghost use Rattle.twkb_flat.specs.Rows.{row_with};
 ghost use Rattle.twkb_outline.specs.Growing.{applied, point_change, list_row, own_of, row_kind};
 ghost use Rattle.twkb_engine.specs.Body.{form_of};
@@ -10,8 +10,8 @@ use crate::phase::Kind;
 use crate::place::Head;
 use std::alloc::AllocError;
 use twkb_flat::{Flat, Row};
-use twkb_geom::Kind as RowKind;
 use twkb_points::Pt;
+use twkb_tree::Kind as RowKind;
 
 /// The six simple types.
 #[derive(Clone, Copy, Debug, PartialEq, Eq)]

@@ -3,22 +3,22 @@ use Rattle.std.proofs.Common.{◌≡◌, ℕ, ◌+◌, ◌<◌, ◌≤◌, ◌==
 use Rattle.std.specs.Prelude.{reverse, ◌&&◌, is_none, nat_lt, nat_le}
 use Rattle.std.proofs.lemmas.Bool.Decides.{nat_tests}
 use Rattle.twkb_points.specs.Point.{Point, AreInRange}
-use Rattle.twkb_geom.specs.declared.open_rows.OpenRow.{OpenRow}
-use Rattle.twkb_geom.specs.declared.standing.Standing.{Standing}
-use Rattle.twkb_geom.specs.Limits.{Allowance, largest_limits}
-use Rattle.twkb_geom.specs.Rows.{Row, row_points}
-use Rattle.twkb_geom.specs.Admits.{has_place, id_in_range, id_allowed, has_same_ids, precision_in_range, precision_fits, is_whole, points_fit, fits}
-use Rattle.twkb_geom.specs.Accepted.{nest_kept}
-use Rattle.twkb_geom.specs.Open.{AreOpen, row_of, child_of, open_parent, count_at, open_refusal, is_next, open_continues}
-use Rattle.twkb_geom.specs.RowLists.{AreValidRowsOfOne}
-use Rattle.twkb_geom.specs.Refusal.{checks_under, first_failed, continues}
-use Rattle.twkb_geom.specs.Standing.{standing_at}
-use Rattle.twkb_geom.proofs.OpenRefusal.{stepless}
-use Rattle.twkb_geom.proofs.RefusalLaws.{passes, passed, joined, apart, none_is}
-use Rattle.twkb_geom.proofs.RowTests.{both_true, both, below_test, within_test, test_within}
-use Rattle.twkb_geom.proofs.RootLimits.{of_one}
-use Rattle.twkb_geom.proofs.RowPoints.{length-row_points}
-use Rattle.twkb_geom.proofs.RowsLocal.{continues_open}
+use Rattle.twkb_tree.specs.declared.open_rows.OpenRow.{OpenRow}
+use Rattle.twkb_tree.specs.declared.standing.Standing.{Standing}
+use Rattle.twkb_tree.specs.Limits.{Allowance, largest_limits}
+use Rattle.twkb_tree.specs.Rows.{Row, row_points}
+use Rattle.twkb_tree.specs.Admits.{has_place, id_in_range, id_allowed, has_same_ids, precision_in_range, precision_fits, is_whole, points_fit, fits}
+use Rattle.twkb_tree.specs.Accepted.{nest_kept}
+use Rattle.twkb_tree.specs.Open.{AreOpen, row_of, child_of, open_parent, count_at, open_refusal, is_next, open_continues}
+use Rattle.twkb_tree.specs.RowLists.{AreValidRowsOfOne}
+use Rattle.twkb_tree.specs.Refusal.{checks_under, first_failed, continues}
+use Rattle.twkb_tree.specs.Standing.{standing_at}
+use Rattle.twkb_tree.proofs.OpenRefusal.{stepless}
+use Rattle.twkb_tree.proofs.RefusalLaws.{passes, passed, joined, apart, none_is}
+use Rattle.twkb_tree.proofs.RowTests.{both_true, both, below_test, within_test, test_within}
+use Rattle.twkb_tree.proofs.RootLimits.{of_one}
+use Rattle.twkb_tree.proofs.RowPoints.{length-row_points}
+use Rattle.twkb_tree.proofs.RowsLocal.{continues_open}
 use Rattle.twkb_flat.specs.declared.entries.Entry.{Entry}
 use Rattle.twkb_flat.specs.Admitting.{is_admitted_at}
 use Rattle.twkb_flat.specs.Entries.{IsFlat, listed, span_of}

@@ -2,9 +2,9 @@
 use Rattle.std.proofs.Common.{◌≡◌, ℕ, ◌+◌, ◌-◌, List, [], ◌∷◌, ◌++◌, map, length, take, drop, set, refl, sym, ap, ◌∙◌, subst, arith}
 use Rattle.std.proofs.lemmas.List.{length-map, length-set, length-take}
 use Rattle.twkb_points.specs.Point.{Point}
-use Rattle.twkb_geom.specs.declared.open_rows.OpenRow.{OpenRow}
-use Rattle.twkb_geom.specs.Limits.{largest_limits}
-use Rattle.twkb_geom.specs.Accepted.{Continues}
+use Rattle.twkb_tree.specs.declared.open_rows.OpenRow.{OpenRow}
+use Rattle.twkb_tree.specs.Limits.{largest_limits}
+use Rattle.twkb_tree.specs.Accepted.{Continues}
 use Rattle.twkb_flat.specs.declared.node.Row.{Row}
 use Rattle.twkb_flat.specs.declared.entries.Entry.{Entry}
 use Rattle.twkb_flat.specs.Rows.{row_with}

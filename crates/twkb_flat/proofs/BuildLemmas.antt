@@ -3,19 +3,19 @@ use Rattle.std.proofs.Common.{◌≡◌, ℕ, suc, ◌+◌, List, [], ◌∷◌,
 use Rattle.std.specs.Prelude.{ℤ, slice_get}
 use Rattle.std.specs.List.{AllByRecursion}
 use Rattle.twkb_points.specs.Point.{Point}
-use Rattle.twkb_geom.specs.declared.kind.Kind.TheVariants as kind
-use Rattle.twkb_geom.specs.Limits.{Allowance, IsValid}
-use Rattle.twkb_geom.specs.Tree.{Ids, point, line, polygon, multi_point, multi_line, multi_polygon, Tree, Trees, simple, collection, end, ◌▷◌, trees, members, count, IsTree, IsPrecision, HasIds, precision_of}
-use Rattle.twkb_geom.specs.declared.kind.Kind.{Kind}
-use Rattle.twkb_geom.specs.declared.geometry.Shape.{Shape}
-use Rattle.twkb_geom.specs.Shape.{HasFitIds}
-use Rattle.twkb_geom.proofs.Shapes.{fit-tree_of}
-use Rattle.twkb_geom.specs.Rows.{Row, plain_row, rows, own_row, rows_under, rows_with, rows_of_each, ring_rows}
-use Rattle.twkb_geom.specs.RowLists.{AreValidRowsOfOne}
-use Rattle.twkb_geom.proofs.RowForest.{point_in}
-use Rattle.twkb_geom.proofs.RowMembers.{own_row_first, member_rows_each}
-use Rattle.twkb_geom.proofs.RowFitting.{own_row-depth}
-use Rattle.twkb_geom.proofs.RowsOfTrees.{geometries_are}
+use Rattle.twkb_tree.specs.declared.kind.Kind.TheVariants as kind
+use Rattle.twkb_tree.specs.Limits.{Allowance, IsValid}
+use Rattle.twkb_tree.specs.Tree.{Ids, point, line, polygon, multi_point, multi_line, multi_polygon, Tree, Trees, simple, collection, end, ◌▷◌, trees, members, count, IsTree, IsPrecision, HasIds, precision_of}
+use Rattle.twkb_tree.specs.declared.kind.Kind.{Kind}
+use Rattle.twkb_tree.specs.declared.geometry.Shape.{Shape}
+use Rattle.twkb_tree.specs.Shape.{HasFitIds}
+use Rattle.twkb_tree.proofs.Shapes.{fit-tree_of}
+use Rattle.twkb_tree.specs.Rows.{Row, plain_row, rows, own_row, rows_under, rows_with, rows_of_each, ring_rows}
+use Rattle.twkb_tree.specs.RowLists.{AreValidRowsOfOne}
+use Rattle.twkb_tree.proofs.RowForest.{point_in}
+use Rattle.twkb_tree.proofs.RowMembers.{own_row_first, member_rows_each}
+use Rattle.twkb_tree.proofs.RowFitting.{own_row-depth}
+use Rattle.twkb_tree.proofs.RowsOfTrees.{geometries_are}
 use Rattle.twkb_flat.specs.declared.node.Row.{Row as FlatRow}
 use Rattle.twkb_flat.specs.Rows.{row_with}
 use Rattle.twkb_flat.specs.Parts.{part_rows}

@@ -3,18 +3,18 @@ use Rattle.std.proofs.Common.{◌≡◌, ℕ, suc, ◌+◌, ◌<◌, ◌≤◌, 
 use Rattle.std.specs.Prelude.{ℤ, Result, OnOk}
 use Rattle.std.proofs.lemmas.List.{drop_all}
 use Rattle.twkb_points.specs.Point.{Point}
-use Rattle.twkb_geom.specs.declared.kind.Kind.{Kind}
-use Rattle.twkb_geom.specs.Limits.{IsValid, largest_limits}
-use Rattle.twkb_geom.specs.Tree.{Ids, Tree, trees}
-use Rattle.twkb_geom.specs.Shape.{tree_of}
-use Rattle.twkb_geom.specs.declared.geometry.Shape.{Shape}
-use Rattle.twkb_geom.specs.Rows.{Row, plain_row, rows, first_id, ids_from, rows_of_each, rows_with, rows_under, own_row, member_rows}
-use Rattle.twkb_geom.specs.Accepted.{Continues}
-use Rattle.twkb_geom.specs.RowLists.{AreValidRowsOfOne, AreShallow}
-use Rattle.twkb_geom.proofs.RootLimits.{valid_list, continues_row, one_valid_front}
-use Rattle.twkb_geom.proofs.RowDepths.{valid_depths}
-use Rattle.twkb_geom.proofs.RowFitting.{own_row-depth}
-use Rattle.twkb_geom.proofs.RowMembers.{each_next, ids_from_start, member_rows_each, own_row_first, under_shape}
+use Rattle.twkb_tree.specs.declared.kind.Kind.{Kind}
+use Rattle.twkb_tree.specs.Limits.{IsValid, largest_limits}
+use Rattle.twkb_tree.specs.Tree.{Ids, Tree, trees}
+use Rattle.twkb_tree.specs.Shape.{tree_of}
+use Rattle.twkb_tree.specs.declared.geometry.Shape.{Shape}
+use Rattle.twkb_tree.specs.Rows.{Row, plain_row, rows, first_id, ids_from, rows_of_each, rows_with, rows_under, own_row, member_rows}
+use Rattle.twkb_tree.specs.Accepted.{Continues}
+use Rattle.twkb_tree.specs.RowLists.{AreValidRowsOfOne, AreShallow}
+use Rattle.twkb_tree.proofs.RootLimits.{valid_list, continues_row, one_valid_front}
+use Rattle.twkb_tree.proofs.RowDepths.{valid_depths}
+use Rattle.twkb_tree.proofs.RowFitting.{own_row-depth}
+use Rattle.twkb_tree.proofs.RowMembers.{each_next, ids_from_start, member_rows_each, own_row_first, under_shape}
 use Rattle.twkb_flat.specs.Parts.{part_rows}
 
 -- these are rows of one geometry within the largest limits

@@ -4,15 +4,15 @@ use Rattle.std.specs.Prelude.{ℤ}
 use Rattle.std.proofs.lemmas.Bool.{cases_lt}
 use Rattle.std.proofs.lemmas.List.{append_assoc}
 use Rattle.twkb_points.specs.Point.{Point}
-use Rattle.twkb_geom.specs.declared.kind.Kind.{Kind}
-use Rattle.twkb_geom.specs.Limits.{largest_limits, IsValid}
-use Rattle.twkb_geom.specs.Tree.{Tree, flat, saturated}
-use Rattle.twkb_geom.specs.Rows.{Row as TableRow, rows, row_points}
-use Rattle.twkb_geom.specs.Accepted.{Continues}
-use Rattle.twkb_geom.specs.RowLists.{AreValidRowsOfOne}
-use Rattle.twkb_geom.specs.RowLemmas.{length-rows_with}
-use Rattle.twkb_geom.proofs.RootLimits.{one_valid_front, continues_row}
-use Rattle.twkb_geom.proofs.RowPoints.{row_points-with}
+use Rattle.twkb_tree.specs.declared.kind.Kind.{Kind}
+use Rattle.twkb_tree.specs.Limits.{largest_limits, IsValid}
+use Rattle.twkb_tree.specs.Tree.{Tree, flat, saturated}
+use Rattle.twkb_tree.specs.Rows.{Row as TableRow, rows, row_points}
+use Rattle.twkb_tree.specs.Accepted.{Continues}
+use Rattle.twkb_tree.specs.RowLists.{AreValidRowsOfOne}
+use Rattle.twkb_tree.specs.RowLemmas.{length-rows_with}
+use Rattle.twkb_tree.proofs.RootLimits.{one_valid_front, continues_row}
+use Rattle.twkb_tree.proofs.RowPoints.{row_points-with}
 use Rattle.twkb_flat.specs.declared.node.Row.{Row}
 use Rattle.twkb_flat.specs.declared.node.Node.{Node}
 use Rattle.twkb_flat.specs.Links.{IsNext}

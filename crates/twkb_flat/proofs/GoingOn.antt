@@ -2,21 +2,21 @@
 use Rattle.std.proofs.Common.{◌≡◌, ℕ, zero, suc, ◌+◌, ◌<◌, ◌≤◌, ◌^◌, List, [], ◌∷◌, ◌++◌, length, take, refl, sym, ap, ◌∙◌, subst, arith}
 use Rattle.std.specs.Prelude.{reverse}
 use Rattle.std.proofs.lemmas.List.{length-take-le, length-reverse, reverse-append}
-use Rattle.twkb_geom.specs.declared.open_rows.OpenRow.{OpenRow}
-use Rattle.twkb_geom.specs.Limits.{largest_limits}
-use Rattle.twkb_geom.specs.Rows.{Row, row_points}
-use Rattle.twkb_geom.specs.Admits.{steps_to, parent, first_child, fits}
-use Rattle.twkb_geom.specs.Accepted.{Continues, geometry_rows, point_count}
-use Rattle.twkb_geom.specs.RowLists.{AreValidRowsOfOne, AreShallow, IsShallow}
-use Rattle.twkb_geom.specs.Open.{AreOpen, opened}
-use Rattle.twkb_geom.proofs.AllJoined.{all_apart}
-use Rattle.twkb_geom.proofs.OpenDecides.{steps_open}
-use Rattle.twkb_geom.proofs.OpenLaws.{open_more}
-use Rattle.twkb_geom.proofs.RootLimits.{continued, valid_list, of_one, one_geometry_rows}
-use Rattle.twkb_geom.proofs.RowDepths.{valid_depths}
-use Rattle.twkb_geom.proofs.RowPoints.{length-row_points}
-use Rattle.twkb_geom.proofs.RowTests.{both_true, within_test}
-use Rattle.twkb_geom.proofs.RowsLocal.{point_count-reverse}
+use Rattle.twkb_tree.specs.declared.open_rows.OpenRow.{OpenRow}
+use Rattle.twkb_tree.specs.Limits.{largest_limits}
+use Rattle.twkb_tree.specs.Rows.{Row, row_points}
+use Rattle.twkb_tree.specs.Admits.{steps_to, parent, first_child, fits}
+use Rattle.twkb_tree.specs.Accepted.{Continues, geometry_rows, point_count}
+use Rattle.twkb_tree.specs.RowLists.{AreValidRowsOfOne, AreShallow, IsShallow}
+use Rattle.twkb_tree.specs.Open.{AreOpen, opened}
+use Rattle.twkb_tree.proofs.AllJoined.{all_apart}
+use Rattle.twkb_tree.proofs.OpenDecides.{steps_open}
+use Rattle.twkb_tree.proofs.OpenLaws.{open_more}
+use Rattle.twkb_tree.proofs.RootLimits.{continued, valid_list, of_one, one_geometry_rows}
+use Rattle.twkb_tree.proofs.RowDepths.{valid_depths}
+use Rattle.twkb_tree.proofs.RowPoints.{length-row_points}
+use Rattle.twkb_tree.proofs.RowTests.{both_true, within_test}
+use Rattle.twkb_tree.proofs.RowsLocal.{point_count-reverse}
 
 -- the row after these rows, of which the first `count` of these are open
 pub record GoesOn (rows : List Row) (os : List OpenRow) (count : ℕ) (r : Row) : Type 0 where

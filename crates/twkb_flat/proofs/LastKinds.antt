@@ -4,8 +4,8 @@ use Rattle.std.specs.Prelude.{◌<◌, IsTrue, ◌↔◌, Bool, nat_lt, true, fa
 use Rattle.std.proofs.lemmas.Bool.Decides.{nat_tests}
 use Rattle.std.proofs.lemmas.List.{length-append}
 use Rattle.twkb_points.specs.Point.{Point}
-use Rattle.twkb_geom.specs.Rows.{Row as TableRow, row_points}
-use Rattle.twkb_geom.specs.RowGrowth.{EndsInLine}
+use Rattle.twkb_tree.specs.Rows.{Row as TableRow, row_points}
+use Rattle.twkb_tree.specs.RowGrowth.{EndsInLine}
 use Rattle.twkb_flat.specs.declared.entries.Entry.{Entry}
 use Rattle.twkb_flat.specs.Rows.{row_with}
 use Rattle.twkb_flat.specs.Entries.{listed, span_of}

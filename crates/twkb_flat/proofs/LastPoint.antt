@@ -3,14 +3,14 @@ use Rattle.std.proofs.Common.{◌≡◌, ℕ, zero, suc, ◌+◌, ◌<◌, ◌�
 use Rattle.std.specs.Prelude.{reverse}
 use Rattle.std.proofs.lemmas.List.{length-append, length-drop, length-map, take_all, take-append-le, drop-append-le}
 use Rattle.twkb_points.specs.Point.{Point, IsInRange}
-use Rattle.twkb_geom.specs.declared.open_rows.OpenRow.{OpenRow}
-use Rattle.twkb_geom.specs.Limits.{largest_limits}
-use Rattle.twkb_geom.specs.Rows.{Row as TableRow, row_points}
-use Rattle.twkb_geom.specs.RowGrowth.{point_added, EndsInLine}
-use Rattle.twkb_geom.specs.RowLists.{AreValidRowsOfOne}
-use Rattle.twkb_geom.specs.Open.{AreOpen}
-use Rattle.twkb_geom.proofs.PointAdded.{open_point}
-use Rattle.twkb_geom.proofs.PointMore.{line_more}
+use Rattle.twkb_tree.specs.declared.open_rows.OpenRow.{OpenRow}
+use Rattle.twkb_tree.specs.Limits.{largest_limits}
+use Rattle.twkb_tree.specs.Rows.{Row as TableRow, row_points}
+use Rattle.twkb_tree.specs.RowGrowth.{point_added, EndsInLine}
+use Rattle.twkb_tree.specs.RowLists.{AreValidRowsOfOne}
+use Rattle.twkb_tree.specs.Open.{AreOpen}
+use Rattle.twkb_tree.proofs.PointAdded.{open_point}
+use Rattle.twkb_tree.proofs.PointMore.{line_more}
 use Rattle.twkb_flat.specs.declared.entries.Span.{Span}
 use Rattle.twkb_flat.specs.declared.entries.Entry.{Entry}
 use Rattle.twkb_flat.specs.Links.{Linked}

@@ -2,7 +2,7 @@
 use Rattle.std.proofs.Common.{◌≡◌, ℕ, ◌+◌, ◌<◌, ◌≤◌, ◌⊎◌, inl, inr, List, map, length, get_or, sym, ap, ◌∙◌, subst, arith}
 use Rattle.std.proofs.lemmas.List.{length-map, get_or-map}
 use Rattle.twkb_points.specs.Point.{Point}
-use Rattle.twkb_geom.specs.Rows.{Row as TableRow}
+use Rattle.twkb_tree.specs.Rows.{Row as TableRow}
 use Rattle.twkb_flat.specs.declared.entries.Span.{Span}
 use Rattle.twkb_flat.specs.declared.entries.Entry.{Entry}
 use Rattle.twkb_flat.specs.Links.{IsNext, IsOpen, Linked}

@@ -3,12 +3,12 @@ use Rattle.std.proofs.Common.{◌≡◌, ℕ, ◌+◌, ◌-◌, ◌<◌, ◌≤�
 use Rattle.std.specs.Prelude.{reverse}
 use Rattle.std.proofs.lemmas.List.{length-map, length-append, length_push, map_push}
 use Rattle.twkb_points.specs.Point.{Point}
-use Rattle.twkb_geom.specs.declared.open_rows.OpenRow.{OpenRow}
-use Rattle.twkb_geom.specs.Limits.{largest_limits}
-use Rattle.twkb_geom.specs.Rows.{Row as TableRow, row_points}
-use Rattle.twkb_geom.specs.Accepted.{Continues}
-use Rattle.twkb_geom.specs.RowLists.{AreValidRowsOfOne}
-use Rattle.twkb_geom.specs.Open.{AreOpen, opened}
+use Rattle.twkb_tree.specs.declared.open_rows.OpenRow.{OpenRow}
+use Rattle.twkb_tree.specs.Limits.{largest_limits}
+use Rattle.twkb_tree.specs.Rows.{Row as TableRow, row_points}
+use Rattle.twkb_tree.specs.Accepted.{Continues}
+use Rattle.twkb_tree.specs.RowLists.{AreValidRowsOfOne}
+use Rattle.twkb_tree.specs.Open.{AreOpen, opened}
 use Rattle.twkb_flat.specs.declared.node.Row.{Row}
 use Rattle.twkb_flat.specs.declared.entries.Span.{Span}
 use Rattle.twkb_flat.specs.declared.entries.Entry.{Entry}

@@ -6,15 +6,15 @@ use Rattle.std.proofs.lemmas.Option.{slice_get_read}
 use Rattle.std.proofs.lemmas.Bool.{eqb-true}
 use Rattle.std.proofs.lemmas.Grind.{flat_map-append}
 use Rattle.twkb_points.specs.Point.{Point}
-use Rattle.twkb_geom.specs.Rows.{Row as TableRow, row_points}
+use Rattle.twkb_tree.specs.Rows.{Row as TableRow, row_points}
 use Rattle.twkb_flat.specs.declared.node.Row.{Row}
 use Rattle.twkb_flat.specs.declared.entries.Span.{Span}
 use Rattle.twkb_flat.specs.declared.entries.Entry.{Entry}
 use Rattle.twkb_flat.specs.Rows.{row_with}
 use Rattle.twkb_flat.specs.Entries.{listed, Laid, span_of}
 use Rattle.twkb_flat.specs.Taking.{IsAt}
-use Rattle.twkb_geom.specs.Limits.{largest_limits}
-use Rattle.twkb_geom.specs.RowLists.{AreValidRowsOfOne}
+use Rattle.twkb_tree.specs.Limits.{largest_limits}
+use Rattle.twkb_tree.specs.RowLists.{AreValidRowsOfOne}
 use Rattle.twkb_flat.proofs.FillLemmas.{no_deeper}
 use Rattle.twkb_flat.proofs.RowLemmas.{Here, row_at, flat_points, length-listed}
 

@@ -2,7 +2,7 @@
 use Rattle.std.proofs.Common.{◌≡◌, ℕ, zero, suc, ◌+◌, ◌<◌, ◌≤◌, List, [], ◌∷◌, ◌++◌, map, length, take, drop, get_or, refl, sym, ap, ◌∙◌, subst, arith}
 use Rattle.std.proofs.lemmas.List.{length-append, length-take, length-drop, take_all, take-append-drop, take-append-le, drop-append-le}
 use Rattle.twkb_points.specs.Point.{Point}
-use Rattle.twkb_geom.specs.Rows.{Row as TableRow, row_points}
+use Rattle.twkb_tree.specs.Rows.{Row as TableRow, row_points}
 use Rattle.twkb_flat.specs.declared.entries.Span.{Span}
 use Rattle.twkb_flat.specs.Rows.{row_with, depths}
 use Rattle.twkb_flat.specs.Entries.{listed, Laid, span_depth}

@@ -3,15 +3,15 @@ use Rattle.std.proofs.Common.{◌≡◌, ℕ, zero, suc, ◌+◌, ◌<◌, List,
 use Rattle.std.specs.Prelude.{ℤ, ⊤}
 use Rattle.std.specs.List.{AllByRecursion}
 use Rattle.std.proofs.lemmas.List.{length-append}
-use Rattle.twkb_geom.specs.Tree.{Ids, HasIds}
+use Rattle.twkb_tree.specs.Tree.{Ids, HasIds}
 use Rattle.twkb_points.specs.Point.{Point}
-use Rattle.twkb_geom.specs.declared.kind.Kind.{Kind}
-use Rattle.twkb_geom.specs.Rows.{Row, first_id, other_ids, rows_of_each, plain_row, own_row, rows_with, rows_under}
-use Rattle.twkb_geom.proofs.RowMembers.{own_row_first}
-use Rattle.twkb_geom.proofs.RowFitting.{own_row-depth, own_row-id}
+use Rattle.twkb_tree.specs.declared.kind.Kind.{Kind}
+use Rattle.twkb_tree.specs.Rows.{Row, first_id, other_ids, rows_of_each, plain_row, own_row, rows_with, rows_under}
+use Rattle.twkb_tree.proofs.RowMembers.{own_row_first}
+use Rattle.twkb_tree.proofs.RowFitting.{own_row-depth, own_row-id}
 use Rattle.twkb_flat.specs.Parts.{part_rows}
-use Rattle.twkb_geom.specs.RowLists.{IsAbove}
-use Rattle.twkb_geom.proofs.RowsApart.{above_less}
+use Rattle.twkb_tree.specs.RowLists.{IsAbove}
+use Rattle.twkb_tree.proofs.RowsApart.{above_less}
 use Rattle.twkb_flat.specs.Taking.{IsAt, ItemAt, EachAt, ids_in, id_list}
 
 -- one row further

@@ -1,11 +1,11 @@
 -- The test of a row where it stands.
 use Rattle.std.specs.Prelude.{Bool, ◌+◌, ◌&&◌, nat_lt, nat_le, length}
-use Rattle.twkb_geom.specs.Limits.{Allowance}
-use Rattle.twkb_geom.specs.Rows.{Row as TableRow}
-use Rattle.twkb_geom.specs.Admits.{fits}
-use Rattle.twkb_geom.specs.Accepted.{nest_kept}
-use Rattle.twkb_geom.specs.Open.{row_of, child_of}
-use Rattle.twkb_geom.specs.declared.standing.Standing.{Standing}
+use Rattle.twkb_tree.specs.Limits.{Allowance}
+use Rattle.twkb_tree.specs.Rows.{Row as TableRow}
+use Rattle.twkb_tree.specs.Admits.{fits}
+use Rattle.twkb_tree.specs.Accepted.{nest_kept}
+use Rattle.twkb_tree.specs.Open.{row_of, child_of}
+use Rattle.twkb_tree.specs.declared.standing.Standing.{Standing}
 
 -- the limits leave room for the row there, and it is what it is to be under its parent
 abbrev pub is_admitted_at : Allowance → Standing → TableRow → Bool

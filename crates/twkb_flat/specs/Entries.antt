@@ -1,11 +1,11 @@
 -- The nodes as they are kept, and the rows that they stand for.
 use Rattle.std.specs.Prelude.{ℕ, ◌≡◌, ◌+◌, ◌<◌, ◌≤◌, ◌^◌, ⊤, List, [], ◌∷◌, map, length, slice_set, take, drop, reverse}
 use Rattle.twkb_points.specs.Point.{Point}
-use Rattle.twkb_geom.specs.declared.open_rows.OpenRow.{OpenRow}
-use Rattle.twkb_geom.specs.Limits.{largest_limits}
-use Rattle.twkb_geom.specs.Rows.{Row as TableRow}
-use Rattle.twkb_geom.specs.RowLists.{AreValidRowsOfOne}
-use Rattle.twkb_geom.specs.Open.{AreOpen}
+use Rattle.twkb_tree.specs.declared.open_rows.OpenRow.{OpenRow}
+use Rattle.twkb_tree.specs.Limits.{largest_limits}
+use Rattle.twkb_tree.specs.Rows.{Row as TableRow}
+use Rattle.twkb_tree.specs.RowLists.{AreValidRowsOfOne}
+use Rattle.twkb_tree.specs.Open.{AreOpen}
 use Rattle.twkb_flat.specs.declared.entries.Span.{Span}
 use Rattle.twkb_flat.specs.declared.entries.Entry.{Entry}
 use Rattle.twkb_flat.specs.Rows.{row_with}

@@ -1,8 +1,8 @@
 -- The rows of a part of a geometry that is no geometry of its own: of a point, line, ring or polygon.
 use Rattle.std.specs.Prelude.{ℕ, suc, ℤ, List, ◌∷◌, Option}
 use Rattle.twkb_points.specs.Point.{Point}
-use Rattle.twkb_geom.specs.declared.kind.Kind.{Kind}
-use Rattle.twkb_geom.specs.Rows.{Row, plain_row}
+use Rattle.twkb_tree.specs.declared.kind.Kind.{Kind}
+use Rattle.twkb_tree.specs.Rows.{Row, plain_row}
 
 -- at a depth and with an id: the row of this kind with the part's own points, and the rows below it
 abbrev pub part_rows : {A : Type 0} → (A → List Point) → (ℕ → A → List Row) → Kind → ℕ → Option ℤ → A → List Row

@@ -1,11 +1,11 @@
 -- Where the rows of a part, of parts or of a geometry stand among the rows.
 use Rattle.std.specs.Prelude.{◌≡◌, ℕ, suc, ℤ, List, [], ◌∷◌, ◌++◌, length, drop, Option, None, Some, ⊤}
 use Rattle.std.specs.List.{AllByRecursion}
-use Rattle.twkb_geom.specs.Tree.{Ids, Tree, IsTree, HasIds, precision_of}
-use Rattle.twkb_geom.specs.Shape.{tree_of}
-use Rattle.twkb_geom.specs.declared.geometry.Shape.{Shape}
-use Rattle.twkb_geom.specs.Rows.{Row, rows_with, rows_of_each}
-use Rattle.twkb_geom.specs.RowLists.{IsAbove}
+use Rattle.twkb_tree.specs.Tree.{Ids, Tree, IsTree, HasIds, precision_of}
+use Rattle.twkb_tree.specs.Shape.{tree_of}
+use Rattle.twkb_tree.specs.declared.geometry.Shape.{Shape}
+use Rattle.twkb_tree.specs.Rows.{Row, rows_with, rows_of_each}
+use Rattle.twkb_tree.specs.RowLists.{IsAbove}
 
 -- there is a row, and the first stands at this depth
 abbrev pub IsAt : ℕ → List Row → Type 0

@@ -1,16 +1,16 @@
 //! The test of a row by the open rows, and the open rows after it.
 ghost use Rattle.std.specs.Prelude.{◌≡◌, ◌<◌, ◌≤◌, ◌+◌, ◌&&◌, true, List, length, take, nat_lt, nat_le};
 ghost use Rattle.twkb_points.specs.Point.{Point, AreInRange};
-ghost use Rattle.twkb_geom.specs.Limits.{largest_limits};
-ghost use Rattle.twkb_geom.specs.Admits.{id_in_range, id_allowed, has_same_ids, precision_in_range, precision_fits, fits};
-ghost use Rattle.twkb_geom.specs.Rows.{Row as TableRow};
-ghost use Rattle.twkb_geom.specs.Open.{open_continues, opened, is_next, row_of, child_of};
+ghost use Rattle.twkb_tree.specs.Limits.{largest_limits};
+ghost use Rattle.twkb_tree.specs.Admits.{id_in_range, id_allowed, has_same_ids, precision_in_range, precision_fits, fits};
+ghost use Rattle.twkb_tree.specs.Rows.{Row as TableRow};
+ghost use Rattle.twkb_tree.specs.Open.{open_continues, opened, is_next, row_of, child_of};
 ghost use Rattle.twkb_flat.specs.Admitting.{is_admitted_at};
 ghost use Rattle.twkb_flat.specs.Rows.{row_with};
 
 use crate::node::Row;
-use twkb_geom::{Kind, Limits, OpenRow, Standing, row_rules};
 use twkb_points::Pt;
+use twkb_tree::{Kind, Limits, OpenRow, Standing, row_rules};
 
 /// The least precision.
 const LEAST_PRECISION: i8 = -8;

@@ -1,17 +1,17 @@
 //! The geometry of a flat form, built from its rows.
 ghost use Rattle.std.specs.Prelude.{◌≡◌, [], ℕ, ℤ, List, Option, drop, IfOk, OnOk, ◌++◌};
-ghost use Rattle.twkb_geom.specs.declared.kind.Kind.{Kind};
-ghost use Rattle.twkb_geom.specs.Limits.{largest_limits, IsValid};
-ghost use Rattle.twkb_geom.specs.Shape.{tree_of};
-ghost use Rattle.twkb_geom.specs.Tree.{Ids, Tree, IsTree, precision_of};
-ghost use Rattle.twkb_geom.specs.Rows.{Row as TableRow, rows, rows_with};
+ghost use Rattle.twkb_tree.specs.declared.kind.Kind.{Kind};
+ghost use Rattle.twkb_tree.specs.Limits.{largest_limits, IsValid};
+ghost use Rattle.twkb_tree.specs.Shape.{tree_of};
+ghost use Rattle.twkb_tree.specs.Tree.{Ids, Tree, IsTree, precision_of};
+ghost use Rattle.twkb_tree.specs.Rows.{Row as TableRow, rows, rows_with};
 ghost use Rattle.twkb_flat.specs.Parts.{part_rows};
 ghost use Rattle.twkb_flat.specs.Taking.{TreeAt, EachAt, IsAny, AreOf, ids_in, id_list};
 
 use crate::flat::Flat;
 use crate::parts::Part;
 use std::alloc::{AllocError, Global};
-use twkb_geom::{Geometry, IdList, Ids, Items, Kind, Members, Pts, Shape};
+use twkb_tree::{Geometry, IdList, Ids, Items, Kind, Members, Pts, Shape};
 
 impl Flat {
     /// The geometry of these rows, of which there is at least one. Takes memory for each list in

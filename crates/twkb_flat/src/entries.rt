@@ -4,7 +4,7 @@ ghost use Rattle.twkb_flat.specs.Entries.{span_of, next_of, closed, last_longer,
 ghost use Rattle.twkb_flat.specs.Lasts.{IsLineKind, LastIsLine};
 
 use crate::node::{NodeId, Row};
-use twkb_geom::Kind;
+use twkb_tree::Kind;
 
 /// A row and where its own points are.
 #[derive(Clone, Copy, Debug)]

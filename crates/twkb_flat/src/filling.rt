@@ -1,9 +1,9 @@
 //! A geometry's rows appended to the flat form.
 ghost use Rattle.std.specs.Prelude.{◌≡◌, ◌++◌, OnOk, IfOk};
-ghost use Rattle.twkb_geom.specs.Limits.{largest_limits, IsValid};
-ghost use Rattle.twkb_geom.specs.Tree.{trees};
-ghost use Rattle.twkb_geom.specs.Rows.{rows, rows_with, rows_under, own_row, member_rows, rows_of_each};
-ghost use Rattle.twkb_geom.specs.RowLists.{AreValidRowsOfOne};
+ghost use Rattle.twkb_tree.specs.Limits.{largest_limits, IsValid};
+ghost use Rattle.twkb_tree.specs.Tree.{trees};
+ghost use Rattle.twkb_tree.specs.Rows.{rows, rows_with, rows_under, own_row, member_rows, rows_of_each};
+ghost use Rattle.twkb_tree.specs.RowLists.{AreValidRowsOfOne};
 ghost use Rattle.twkb_flat.specs.Parts.{part_rows};
 ghost use Rattle.twkb_flat.specs.Rows.{row_with};
 
@@ -11,8 +11,8 @@ use crate::flat::Flat;
 use crate::node::Row;
 use crate::parts::Part;
 use std::alloc::{AllocError, Global};
-use twkb_geom::{Geometry, Ids, Kind, Members, Shape, id_at, own_parts};
 use twkb_points::Pt;
+use twkb_tree::{Geometry, Ids, Kind, Members, Shape, id_at, own_parts};
 
 impl Flat {
     /// The rows of a geometry that is within `Limits::largest()`. Takes memory, and answers
@@ -83,7 +83,7 @@ fn push_under(geometry: &Geometry, depth: u32, flat: &mut Flat) -> Result<(), Al
 
 /// Appends the rows of the members of a collection, with these ids and at this depth.
 #[cycle(filling)]
-#[tactic(auto, using(twkb_geom::specs::Size::member_smaller))]
+#[tactic(auto, using(twkb_tree::specs::Size::member_smaller))]
 fn push_members(members: &Members, depth: u32, ids: &Ids, flat: &mut Flat) -> Result<(), AllocError>
     requires { AreValidRowsOfOne largest_limits (flat.old ++ member_rows depth ids.now (trees members.now)) }
     ensures { OnOk result (flat.new ≡ flat.old ++ member_rows depth ids.now (trees members.now)) }

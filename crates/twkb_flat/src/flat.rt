@@ -1,12 +1,12 @@
 //! The flat form of one geometry.
 ghost use Rattle.std.specs.Prelude.{◌≡◌, ◌↔◌, ◌+◌, ◌<◌, ◌≤◌, ◌^◌, ◌++◌, ◌∷◌, [], List, length, slice_get, Some, OnOk, OnErr, IfErr, IsTrue};
 ghost use Rattle.twkb_points.specs.Point.{Point};
-ghost use Rattle.twkb_geom.specs.Tree.{saturated};
-ghost use Rattle.twkb_geom.specs.Limits.{largest_limits};
-ghost use Rattle.twkb_geom.specs.Rows.{row_points};
-ghost use Rattle.twkb_geom.specs.RowGrowth.{EndsInLine, point_added};
-ghost use Rattle.twkb_geom.specs.Accepted.{Continues};
-ghost use Rattle.twkb_geom.specs.RowLists.{AreValidRowsOfOne};
+ghost use Rattle.twkb_tree.specs.Tree.{saturated};
+ghost use Rattle.twkb_tree.specs.Limits.{largest_limits};
+ghost use Rattle.twkb_tree.specs.Rows.{row_points};
+ghost use Rattle.twkb_tree.specs.RowGrowth.{EndsInLine, point_added};
+ghost use Rattle.twkb_tree.specs.Accepted.{Continues};
+ghost use Rattle.twkb_tree.specs.RowLists.{AreValidRowsOfOne};
 ghost use Rattle.twkb_flat.specs.Rows.{IsNode, row_with};
 
 use crate::admitting::{admits_under, open_row};
@@ -17,8 +17,8 @@ use crate::work::Work;
 use std::alloc::{AllocError, Global};
 use std::marker::Model;
 use std::mem::swap;
-use twkb_geom::{Kind, OpenRow};
 use twkb_points::Pt;
+use twkb_tree::{Kind, OpenRow};
 
 /// How many depths a row of a geometry within `Limits::largest()` may have: a root, a member in 32
 /// collections, its parts and their rings.
@@ -45,7 +45,7 @@ pub struct Flat {
 
 impl Model for Flat {
     ghost use Rattle.std.specs.Prelude.{List, map};
-    ghost use Rattle.twkb_geom.specs.Rows.{Row as TableRow};
+    ghost use Rattle.twkb_tree.specs.Rows.{Row as TableRow};
 
     ghost Value = { List TableRow };
 

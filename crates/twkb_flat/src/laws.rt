@@ -1,10 +1,10 @@
 //! Laws of the flat form. Each function does nothing; its contract is the law.
 ghost use Rattle.std.specs.Prelude.{◌≡◌, ℕ, ◌+◌, ◌≤◌, ◌^◌, ◌++◌, ◌∷◌, List, length};
-ghost use Rattle.twkb_geom.specs.Limits.{largest_limits, IsValid};
-ghost use Rattle.twkb_geom.specs.Tree.{Tree, saturated};
-ghost use Rattle.twkb_geom.specs.Rows.{Row as TableRow, rows, row_points};
-ghost use Rattle.twkb_geom.specs.Accepted.{Continues};
-ghost use Rattle.twkb_geom.specs.RowLists.{AreValidRowsOfOne};
+ghost use Rattle.twkb_tree.specs.Limits.{largest_limits, IsValid};
+ghost use Rattle.twkb_tree.specs.Tree.{Tree, saturated};
+ghost use Rattle.twkb_tree.specs.Rows.{Row as TableRow, rows, row_points};
+ghost use Rattle.twkb_tree.specs.Accepted.{Continues};
+ghost use Rattle.twkb_tree.specs.RowLists.{AreValidRowsOfOne};
 ghost use Rattle.twkb_flat.specs.declared.node.Node.{Node};
 ghost use Rattle.twkb_flat.specs.Rows.{IsNode};
 

@@ -1,5 +1,5 @@
 //! Rows and nodes of the flat form, and their places.
-use twkb_geom::Kind;
+use twkb_tree::Kind;
 
 /// A row without its points (profile).
 #[derive(Clone, Copy, Debug, PartialEq, Eq)]

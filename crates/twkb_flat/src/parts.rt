@@ -1,10 +1,10 @@
 //! Parts of geometries that are no geometries of their own: points, lines, rings and polygons.
 ghost use Rattle.std.specs.Prelude.{◌≡◌, ◌++◌, ◌∷◌, [], ℕ, ℤ, List, Option, drop, OnOk, IfOk};
 ghost use Rattle.twkb_points.specs.Point.{Point};
-ghost use Rattle.twkb_geom.specs.Limits.{largest_limits};
-ghost use Rattle.twkb_geom.specs.Rows.{Row as TableRow, ring_rows};
-ghost use Rattle.twkb_geom.specs.RowLists.{AreValidRowsOfOne};
-ghost use Rattle.twkb_geom.specs.declared.kind.Kind.{Kind};
+ghost use Rattle.twkb_tree.specs.Limits.{largest_limits};
+ghost use Rattle.twkb_tree.specs.Rows.{Row as TableRow, ring_rows};
+ghost use Rattle.twkb_tree.specs.RowLists.{AreValidRowsOfOne};
+ghost use Rattle.twkb_tree.specs.declared.kind.Kind.{Kind};
 ghost use Rattle.twkb_flat.specs.Parts.{part_rows};
 ghost use Rattle.twkb_flat.specs.Taking.{ItemAt, IsAny};
 
@@ -13,8 +13,8 @@ use crate::filling::push_each;
 use crate::flat::Flat;
 use std::alloc::{AllocError, Global};
 use std::slice::from_ref;
-use twkb_geom::{Item, Kind, Lines, Pts};
 use twkb_points::Pt;
+use twkb_tree::{Item, Kind, Lines, Pts};
 
 /// What a multi or a polygon has as members or rings.
 pub trait Part: Item {

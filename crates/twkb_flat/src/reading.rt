@@ -1,6 +1,6 @@
 //! Rows of the flat form by their places, for calls of this crate that count no reads.
 ghost use Rattle.std.specs.Prelude.{◌≡◌, ◌↔◌, ◌-◌, ◌<◌, ◌≤◌, ◌^◌, ◌∷◌, List, length, take, drop, IsTrue};
-ghost use Rattle.twkb_geom.specs.Rows.{Row as TableRow};
+ghost use Rattle.twkb_tree.specs.Rows.{Row as TableRow};
 ghost use Rattle.twkb_flat.specs.Rows.{row_with};
 ghost use Rattle.twkb_flat.specs.Taking.{IsAt};
 

@@ -1,6 +1,6 @@
 //! Counted work.
 ghost use Rattle.std.specs.Prelude.{◌≡◌, ◌+◌, ◌≤◌};
-ghost use Rattle.twkb_geom.specs.Tree.{saturated};
+ghost use Rattle.twkb_tree.specs.Tree.{saturated};
 
 /// What was measured and read, each number at most `u64::MAX`.
 #[derive(Clone, Copy, Debug, PartialEq, Eq)]

@@ -7,8 +7,8 @@ use Rattle.std.specs.Prelude.{ℤ, pos, ⊤, ◌+ℤ◌, ◌-ℤ◌}
 use Rattle.std.specs.List.{AllByRecursion}
 use Rattle.twkb_num.specs.Zigzag.{unzigzag_of}
 use Rattle.twkb_points.specs.Point.{Point, IsCoordinate, IsInRange}
-use Rattle.twkb_geom.specs.Tree.{Simple, Tree, simple, collection, Trees, end, ◌▷◌, count, Ids, IdsFit, IsTree, AreTrees, nodes, flat, flat_all, points_in, nest, nest_all}
-use Rattle.twkb_geom.specs.Limits.{Allowance}
+use Rattle.twkb_tree.specs.Tree.{Simple, Tree, simple, collection, Trees, end, ◌▷◌, count, Ids, IdsFit, IsTree, AreTrees, nodes, flat, flat_all, points_in, nest, nest_all}
+use Rattle.twkb_tree.specs.Limits.{Allowance}
 use Rattle.twkb_grammar.specs.Bits.{bit}
 use Rattle.twkb_grammar.specs.Roles.{Item, Role, Header, Metadata, Extended, Size, Box, Count, Counted, Geometries, Id, X, Y, End, AreFields, where_set, item}
 use Rattle.twkb_grammar.specs.Items.{Place, OfCount, OfId, OfPoint, id_places, fields, outline, declared, end_item, header_byte, Flags, Agrees, flags, flags_all, BodyAt, Framed, Follow, Items, ItemsOfAll, kind_of, id_fields}

@@ -4,7 +4,7 @@ use Rattle.std.proofs.lemmas.Bool.{false≢true}
 use Rattle.std.specs.Prelude.{ℤ, flat_map, ◌-ℤ◌}
 use Rattle.twkb_num.specs.Zigzag.{zigzag_of, unzigzag_of}
 use Rattle.twkb_points.specs.Point.{Point, point_at}
-use Rattle.twkb_geom.specs.Tree.{Ids, Simple, point, line, polygon, multi_point, multi_line, multi_polygon, simple, IdsFit, HasIds}
+use Rattle.twkb_tree.specs.Tree.{Ids, Simple, point, line, polygon, multi_point, multi_line, multi_polygon, simple, IdsFit, HasIds}
 use Rattle.twkb_grammar.specs.Bits.{bit}
 use Rattle.twkb_grammar.specs.Roles.{Item, Role, X, Y, Count, Id, Counted, Vertices, Rings, AreFields, join}
 use Rattle.twkb_grammar.specs.Items.{Place, OfCount, OfId, OfPoint, id_places, run_of, rings_of, outline, flags, members, Agrees}

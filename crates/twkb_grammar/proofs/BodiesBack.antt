@@ -6,7 +6,7 @@ use Rattle.std.specs.Prelude.{ℤ, flat_map, ◌-ℤ◌, ◌+ℤ◌}
 use Rattle.twkb_num.proofs.ZigzagLemmas.{zigzag_of-unzigzag_of}
 use Rattle.twkb_num.specs.Zigzag.{zigzag_of, unzigzag_of}
 use Rattle.twkb_points.specs.Point.{Point, point_at}
-use Rattle.twkb_geom.specs.Tree.{Tree, Ids}
+use Rattle.twkb_tree.specs.Tree.{Tree, Ids}
 use Rattle.twkb_grammar.specs.Roles.{Item, Role, X, Y, Count, Id, Field, AreFields}
 use Rattle.twkb_grammar.specs.Items.{Place, OfCount, OfId, OfPoint}
 use Rattle.twkb_grammar.specs.Fault.{moved}

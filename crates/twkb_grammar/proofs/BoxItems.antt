@@ -7,8 +7,8 @@ use Rattle.twkb_num.specs.Zigzag.{zigzag_of}
 use Rattle.twkb_num.specs.Varint.{varint_of}
 use Rattle.twkb_points.specs.Point.{Point, IsCoordinate, IsInRange, AreInRange}
 use Rattle.twkb_points.specs.Extent.{Extent, extent_of, joined, joined_options, extent, box_numbers, tight}
-use Rattle.twkb_geom.specs.Tree.{Tree, flat}
-use Rattle.twkb_geom.specs.Uniform.{uniform}
+use Rattle.twkb_tree.specs.Tree.{Tree, flat}
+use Rattle.twkb_tree.specs.Uniform.{uniform}
 use Rattle.twkb_grammar.specs.Roles.{Item, Box, Field, HaveRoles, where_set, join}
 use Rattle.twkb_grammar.specs.Blob.{AreExact}
 use Rattle.twkb_grammar.specs.Written.{box_of, boxed, has_any, is_point}

@@ -3,7 +3,7 @@ use Rattle.std.proofs.Common.{Bool, true, false, ◌≡◌, ℕ, zero, suc, ◌+
 use Rattle.std.specs.Prelude.{ℤ, ⊤}
 use Rattle.std.specs.List.{AllByRecursion}
 use Rattle.twkb_num.specs.Varint.{IsVarint}
-use Rattle.twkb_geom.specs.Tree.{Tree, Trees, Ids, simple, collection}
+use Rattle.twkb_tree.specs.Tree.{Tree, Trees, Ids, simple, collection}
 use Rattle.twkb_grammar.specs.Bits.{bit}
 use Rattle.twkb_grammar.specs.Roles.{Item, Role, Header, Metadata, Extended, Size, Box, Count, Id, X, Y, End, IsItem}
 use Rattle.twkb_grammar.specs.Machine.{Nested, Around, top, within, Body, Want, WantY, Done, closed, opened, listed, Form, depth_of, shape_of, Kind, SimpleKind, CollectionKind, PointForm, LineForm, PolygonForm, MultiPointForm, MultiLineForm, MultiPolygonForm, kind_number, Head, Frame, Phase, AtHeader, AtMetadata, AtOption, AtCount, AtId, AtBody, AtEnd, Finished, Many, ManyPoints, ManyLines, ManyPolygons, ManyGeometries, first_count, settled, begun, wanting, with_option, empty_of, snoc, members_begin, counted, ended, asked, Sums, added, Stack, stack_after, role_at, Runs}

@@ -3,8 +3,8 @@ use Rattle.std.proofs.Common.{◌≡◌, ℕ, Bool, true, false, List, [], ◌�
 use Rattle.std.specs.Prelude.{nat_lt, ◌&&◌, ◌≢◌}
 use Rattle.std.proofs.lemmas.Bool.{ltb-true}
 use Rattle.std.proofs.Common.{append-nil, subst, sym, ◌∙◌}
-use Rattle.twkb_geom.specs.Tree.{Tree}
-use Rattle.twkb_geom.specs.Limits.{Allowance, IsAllowance}
+use Rattle.twkb_tree.specs.Tree.{Tree}
+use Rattle.twkb_tree.specs.Limits.{Allowance, IsAllowance}
 use Rattle.twkb_grammar.specs.Bits.{AreBytes}
 use Rattle.twkb_grammar.specs.Blob.{Blob, BlobInFront}
 use Rattle.twkb_grammar.specs.Fault.{Reason, FirstFault}

@@ -4,7 +4,7 @@ use Rattle.std.specs.Prelude.{⊤, ◌≢◌, ◌⊎◌, ◌+ℤ◌}
 use Rattle.twkb_num.specs.Zigzag.{unzigzag_of}
 use Rattle.twkb_num.specs.Varint.{HasMarks, seven_bit_sum, IsVarint}
 use Rattle.twkb_points.specs.Point.{IsCoordinate}
-use Rattle.twkb_geom.specs.Limits.{Allowance}
+use Rattle.twkb_tree.specs.Limits.{Allowance}
 use Rattle.twkb_grammar.specs.Roles.{Item, Role, Header, Metadata, Extended, Size, Box, Count, Id, X, Y, End, Spells}
 use Rattle.twkb_grammar.specs.Blob.{IsExact}
 use Rattle.twkb_grammar.specs.Fault.{Reason, Truncated, BadType, ExtraDimensions, BadVarint, TooDeep, TooManyNodes, TooManyPoints, CoordinateRange, SizeMismatch, Refused, When, FirstByte, FirstNumber, GoOn, IsCut, IsTooLong, IsDeep, NumberFirst, announces_point, announced_points, announced_nodes, nodes_of, points_of, position}

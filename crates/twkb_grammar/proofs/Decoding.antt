@@ -1,8 +1,8 @@
 -- The plain reader makes exactly the blobs' geometries, and refuses at the first fault.
 use Rattle.std.proofs.Common.{◌≡◌, ℕ, zero, suc, ◌+◌, ◌*◌, ◌<◌, List, [], ◌∷◌, ◌++◌, length, refl, sym, ap, ◌∙◌, subst, append_assoc, append-nil, length-append, arith, Option, Some, None, inl, inr}
 use Rattle.std.specs.Prelude.{◌≢◌}
-use Rattle.twkb_geom.specs.Tree.{Tree}
-use Rattle.twkb_geom.specs.Limits.{Allowance, IsAllowance}
+use Rattle.twkb_tree.specs.Tree.{Tree}
+use Rattle.twkb_tree.specs.Limits.{Allowance, IsAllowance}
 use Rattle.twkb_grammar.specs.Roles.{Item, Role, IsItem, join}
 use Rattle.twkb_grammar.specs.Blob.{IsExact, BlobInFront}
 use Rattle.twkb_grammar.specs.Fault.{Reason, FirstFault, Refused, moved}

@@ -1,8 +1,8 @@
 -- No more collections stand open than may be round a member.
 use Rattle.std.proofs.Common.{Bool, true, false, ◌≡◌, ℕ, zero, suc, ◌+◌, ◌<◌, ◌≤◌, List, [], ◌∷◌, ◌++◌, length, refl, subst, Some, None, arith, inl, inr}
 use Rattle.std.proofs.lemmas.Bool.{cases_lt}
-use Rattle.twkb_geom.specs.Tree.{Tree, Ids}
-use Rattle.twkb_geom.specs.Limits.{Allowance}
+use Rattle.twkb_tree.specs.Tree.{Tree, Ids}
+use Rattle.twkb_tree.specs.Limits.{Allowance}
 use Rattle.twkb_grammar.specs.Bits.{bit}
 use Rattle.twkb_grammar.specs.Roles.{Role, Count, Geometries, Item}
 use Rattle.twkb_grammar.specs.Fault.{moved}

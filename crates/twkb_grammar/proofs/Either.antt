@@ -1,8 +1,8 @@
 -- The plain reader makes the geometry whose blob stands in front, and else refuses the first fault.
 use Rattle.std.proofs.Common.{◌≡◌, ◌↔◌, ℕ, List, [], sym, ◌∙◌, subst}
 use Rattle.std.specs.Prelude.{◌≢◌}
-use Rattle.twkb_geom.specs.Tree.{Tree}
-use Rattle.twkb_geom.specs.Limits.{Allowance, IsAllowance}
+use Rattle.twkb_tree.specs.Tree.{Tree}
+use Rattle.twkb_tree.specs.Limits.{Allowance, IsAllowance}
 use Rattle.twkb_grammar.specs.Bits.{AreBytes}
 use Rattle.twkb_grammar.specs.Blob.{BlobInFront}
 use Rattle.twkb_grammar.specs.Fault.{Reason, FirstFault}

@@ -1,8 +1,8 @@
 -- What one byte more adds to the notes of a reader.
 use Rattle.std.proofs.Common.{◌≡◌, ℕ, zero, suc, ◌+◌, ◌-◌, List, [], ◌∷◌, ◌++◌, length, refl, sym, ap, ◌∙◌, subst, append_assoc, append-nil, length-append, arith, Option, Some, None, inl, inr}
 use Rattle.std.specs.Prelude.{◌⊎◌}
-use Rattle.twkb_geom.specs.Tree.{Tree, flat}
-use Rattle.twkb_geom.specs.Limits.{Allowance}
+use Rattle.twkb_tree.specs.Tree.{Tree, flat}
+use Rattle.twkb_tree.specs.Limits.{Allowance}
 use Rattle.twkb_grammar.specs.Roles.{Role, Header, Metadata, Count, Id, X, Y, End, IsNumber, Item, IsItem, Spells, join}
 use Rattle.twkb_grammar.specs.Blob.{Blob}
 use Rattle.twkb_grammar.specs.Fault.{points_by}

@@ -3,7 +3,7 @@ use Rattle.std.proofs.Common.{◌≡◌, ℕ, ◌+◌, ◌<◌, ◌≤◌, ◌^�
 use Rattle.std.specs.Prelude.{if◌then◌else◌}
 use Rattle.twkb_num.specs.Varint.{varint_of}
 use Rattle.twkb_num.proofs.VarintLemmas.{length-varint_of}
-use Rattle.twkb_geom.specs.Tree.{Tree, flat, precision_of}
+use Rattle.twkb_tree.specs.Tree.{Tree, flat, precision_of}
 use Rattle.twkb_points.specs.Point.{AreInRange}
 use Rattle.twkb_grammar.specs.Bits.{bit}
 use Rattle.twkb_grammar.specs.Roles.{Item, Header, Metadata, Extended, Size, Box, HaveRoles, where_set, join, item}

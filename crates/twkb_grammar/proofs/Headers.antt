@@ -3,7 +3,7 @@ use Rattle.std.proofs.Common.{Bool, true, false, ◌≡◌, ℕ, ◌+◌, ◌-�
 use Rattle.std.specs.Prelude.{ℤ, ⊤}
 use Rattle.twkb_num.specs.Zigzag.{zigzag_of, unzigzag_of}
 use Rattle.twkb_points.specs.Point.{Point}
-use Rattle.twkb_geom.specs.Tree.{Tree, IsPrecision}
+use Rattle.twkb_tree.specs.Tree.{Tree, IsPrecision}
 use Rattle.twkb_grammar.proofs.Small.{zigzag_small}
 use Rattle.twkb_grammar.specs.Bits.{bit}
 use Rattle.twkb_grammar.specs.Roles.{Item, Role, Header, Metadata, Extended, Size, Box, End, join, HaveRoles, where_set, item}

@@ -3,10 +3,10 @@ use Rattle.std.proofs.Common.{Bool, true, false, ◌≡◌, ℕ, suc, ◌+◌, �
 use Rattle.std.specs.Prelude.{ℤ, ⊤}
 use Rattle.twkb_num.specs.Zigzag.{zigzag_of, unzigzag_of}
 use Rattle.twkb_num.proofs.ZigzagLemmas.{unzigzag_of-zigzag_of}
-use Rattle.twkb_geom.specs.declared.kind.Kind.{Kind}
-use Rattle.twkb_geom.specs.declared.kind.Kind.TheVariants as kind
-use Rattle.twkb_geom.specs.Tree.{Simple, point, line, polygon, multi_point, multi_line, multi_polygon, Tree, simple, collection, Trees, end, ◌▷◌, count, Ids, flat, IsPrecision, IsTree, AreTrees}
-use Rattle.twkb_geom.specs.Limits.{Allowance}
+use Rattle.twkb_tree.specs.declared.kind.Kind.{Kind}
+use Rattle.twkb_tree.specs.declared.kind.Kind.TheVariants as kind
+use Rattle.twkb_tree.specs.Tree.{Simple, point, line, polygon, multi_point, multi_line, multi_polygon, Tree, simple, collection, Trees, end, ◌▷◌, count, Ids, flat, IsPrecision, IsTree, AreTrees}
+use Rattle.twkb_tree.specs.Limits.{Allowance}
 use Rattle.twkb_grammar.specs.Bits.{bit}
 use Rattle.twkb_grammar.specs.Roles.{Item, Role, Header, Metadata, Extended, Size, Box, Count, Counted, Geometries, Id, X, Y, End, Field, AreFields, HaveRoles, where_set, item, join}
 use Rattle.twkb_grammar.specs.Items.{Place, OfCount, OfId, OfPoint, filled, fields, id_fields, id_places, outline, declared, end_item, header_byte, Flags, flags, flags_all, Framed, Follow, BodyAt, Items, ItemsOfAll, kind_of}
@@ -235,7 +235,7 @@ shape_low (multi_polygon ids areas) = omega arith
 
 simple_body : (start : ℕ) (s : Simple) (b : Bool) (body : List Item) (e : Sums) (w : Notes) → BodyAt b (AreFields (fields s)) body → noted start e w body ≡ w
 simple_body start s true body e w h = ap (λ l. noted start e w l) h
-simple_body start s false body e w h = quiet_fields start (fields s) body e w h (quiet_filled (outline s) (Rattle.twkb_points.specs.Differences.differences (Rattle.twkb_geom.specs.Tree.points_in s)))
+simple_body start s false body e w h = quiet_fields start (fields s) body e w h (quiet_filled (outline s) (Rattle.twkb_points.specs.Differences.differences (Rattle.twkb_tree.specs.Tree.points_in s)))
 
 -- what it takes to note the members
 abbrev NotesMembers : Trees → Type 0

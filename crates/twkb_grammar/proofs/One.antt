@@ -1,8 +1,8 @@
 -- Bytes are a blob of at most one geometry, and no blob is a proper front of another.
 use Rattle.std.proofs.Common.{◌≡◌, ℕ, List, [], ◌∷◌, ◌++◌, refl, ap, sym, ◌∙◌, subst, append_assoc, Some, None}
 use Rattle.twkb_num.proofs.VarintLemmas.{one_varint}
-use Rattle.twkb_geom.specs.Tree.{Tree}
-use Rattle.twkb_geom.specs.Limits.{Allowance}
+use Rattle.twkb_tree.specs.Tree.{Tree}
+use Rattle.twkb_tree.specs.Limits.{Allowance}
 use Rattle.twkb_grammar.specs.Roles.{Item, Role, Header, Metadata, Extended, Size, Box, Count, Id, X, Y, End, IsItem, Spells, join}
 use Rattle.twkb_grammar.specs.Blob.{Blob}
 use Rattle.twkb_grammar.specs.Machine.{Finished, Sums, nothing, started, added, Stack, stack_after, role_at, Runs}

@@ -5,7 +5,7 @@ use Rattle.std.specs.List.{AllByRecursion}
 use Rattle.std.proofs.lemmas.Int.{ints}
 use Rattle.twkb_num.specs.Zigzag.{zigzag_of}
 use Rattle.twkb_points.specs.Point.{Point, origin, IsInRange, AreInRange}
-use Rattle.twkb_geom.specs.Tree.{Ids, Simple, point, line, polygon, multi_point, multi_line, multi_polygon, AreIds, HasIds, IdsFit, flatten, points_in, nodes_in, area_nodes}
+use Rattle.twkb_tree.specs.Tree.{Ids, Simple, point, line, polygon, multi_point, multi_line, multi_polygon, AreIds, HasIds, IdsFit, flatten, points_in, nodes_in, area_nodes}
 use Rattle.twkb_grammar.specs.Items.{Place, OfCount, OfId, OfPoint, id_places, run_of, rings_of, outline, fields}
 use Rattle.twkb_grammar.proofs.Places.{steps, fields_are}
 use Rattle.twkb_grammar.proofs.Ranges.{all_front}

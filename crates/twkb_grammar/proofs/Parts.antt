@@ -1,6 +1,6 @@
 -- Fronts of items, and what the machine says of them.
 use Rattle.std.proofs.Common.{◌≡◌, List, [], ◌∷◌, ◌++◌, refl, ap, sym, ◌∙◌, Some, None}
-use Rattle.twkb_geom.specs.Tree.{Tree, IsTree}
+use Rattle.twkb_tree.specs.Tree.{Tree, IsTree}
 use Rattle.twkb_grammar.specs.Roles.{Item, Role}
 use Rattle.twkb_grammar.specs.Items.{Items}
 use Rattle.twkb_grammar.specs.Machine.{Finished, Sums, nothing, started, added, Stack, stack_after, role_at, Runs}

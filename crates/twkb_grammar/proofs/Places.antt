@@ -7,7 +7,7 @@ use Rattle.twkb_num.specs.Zigzag.{zigzag_of, unzigzag_of}
 use Rattle.twkb_num.proofs.ZigzagLemmas.{unzigzag_of-zigzag_of}
 use Rattle.twkb_points.specs.Point.{Point, origin}
 use Rattle.twkb_points.specs.Differences.{differences_from}
-use Rattle.twkb_geom.specs.Tree.{Simple, point, line, polygon, multi_point, multi_line, multi_polygon, points_in, flatten}
+use Rattle.twkb_tree.specs.Tree.{Simple, point, line, polygon, multi_point, multi_line, multi_polygon, points_in, flatten}
 use Rattle.twkb_grammar.specs.Roles.{Field, Count, Id, X, Y}
 use Rattle.twkb_grammar.specs.Items.{Place, OfCount, OfId, OfPoint, filled, fields, outline, run_of, rings_of, id_places}
 

@@ -5,8 +5,8 @@ use Rattle.std.specs.Prelude.{ℤ, ⊤, ◌+ℤ◌, flat_map}
 use Rattle.std.specs.List.{AllByRecursion}
 use Rattle.twkb_num.specs.Zigzag.{unzigzag_of}
 use Rattle.twkb_points.specs.Point.{Point, IsCoordinate, IsInRange}
-use Rattle.twkb_geom.specs.Tree.{Simple, point, line, polygon, multi_point, multi_line, multi_polygon, Tree, simple, collection, Trees, end, ◌▷◌, count, Ids, flat, flat_all, points_in, nest, nest_all}
-use Rattle.twkb_geom.specs.Limits.{Allowance, IsValid}
+use Rattle.twkb_tree.specs.Tree.{Simple, point, line, polygon, multi_point, multi_line, multi_polygon, Tree, simple, collection, Trees, end, ◌▷◌, count, Ids, flat, flat_all, points_in, nest, nest_all}
+use Rattle.twkb_tree.specs.Limits.{Allowance, IsValid}
 use Rattle.twkb_grammar.specs.Bits.{bit}
 use Rattle.twkb_grammar.specs.Roles.{Item, Role, Header, Metadata, Extended, Size, Box, Count, Vertices, Rings, Points, Parts, Geometries, Id, X, Y, End, AreFields, HaveRoles, where_set, item}
 use Rattle.twkb_grammar.specs.Items.{Place, OfCount, OfId, OfPoint, id_places, fields, outline, run_of, rings_of, declared, end_item, header_byte, Flags, flags, flags_all, BodyAt, Framed, Follow, Items, ItemsOfAll, kind_of, id_fields}

@@ -2,8 +2,8 @@
 use Rattle.std.proofs.Common.{◌≡◌, ℕ, zero, suc, ◌+◌, ◌-◌, Bool, true, false, List, [], ◌∷◌, ◌++◌, length, refl, sym, ap, ◌∙◌, subst, append-nil, arith, Option, Some, None, inl, inr}
 use Rattle.std.specs.Prelude.{◌≢◌, Ok}
 use Rattle.std.proofs.lemmas.Grind.{common_steps}
-use Rattle.twkb_geom.specs.Tree.{Tree, collection}
-use Rattle.twkb_geom.specs.Limits.{Allowance, IsAllowance}
+use Rattle.twkb_tree.specs.Tree.{Tree, collection}
+use Rattle.twkb_tree.specs.Limits.{Allowance, IsAllowance}
 use Rattle.twkb_grammar.specs.Roles.{Role, Header, Metadata, Extended, Size, Box, Count, Id, X, Y, End, IsNumber, Item, IsItem, Spells, join}
 use Rattle.twkb_grammar.specs.Blob.{IsExact, Blob}
 use Rattle.twkb_grammar.specs.Fault.{Reason, Truncated, BadVarint, SizeMismatch, FirstFault, Refused, IsCut, IsTooLong}

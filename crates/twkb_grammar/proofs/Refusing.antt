@@ -3,8 +3,8 @@ use Rattle.std.proofs.Common.{true, ◌≡◌, ℕ, ◌+◌, ◌≤◌, List, []
 use Rattle.std.specs.Prelude.{⊤, sum_by, ◌+ℤ◌}
 use Rattle.twkb_num.specs.Zigzag.{unzigzag_of}
 use Rattle.twkb_points.specs.Point.{IsCoordinate}
-use Rattle.twkb_geom.specs.Tree.{Tree}
-use Rattle.twkb_geom.specs.Limits.{Allowance, IsValid}
+use Rattle.twkb_tree.specs.Tree.{Tree}
+use Rattle.twkb_tree.specs.Limits.{Allowance, IsValid}
 use Rattle.twkb_grammar.specs.Roles.{Item, Role, Header, Metadata, Extended, Size, Box, Count, Id, X, Y, End, join}
 use Rattle.twkb_grammar.specs.Items.{Items}
 use Rattle.twkb_grammar.specs.Blob.{AreExact, IsExact}

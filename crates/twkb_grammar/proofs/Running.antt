@@ -3,8 +3,8 @@ use Rattle.std.proofs.Common.{◌≡◌, ℕ, ◌+◌, ◌≤◌, Bool, true, fa
 use Rattle.std.specs.Prelude.{sum_by, if◌then◌else◌}
 use Rattle.std.proofs.lemmas.List.Sums.{sum_by-append, sum_by-cons}
 use Rattle.twkb_points.specs.Point.{Point}
-use Rattle.twkb_geom.specs.Tree.{Tree}
-use Rattle.twkb_geom.specs.Limits.{Allowance, IsAllowance, IsValid}
+use Rattle.twkb_tree.specs.Tree.{Tree}
+use Rattle.twkb_tree.specs.Limits.{Allowance, IsAllowance, IsValid}
 use Rattle.twkb_grammar.specs.Roles.{Role, Header, Metadata, Extended, Size, Box, Count, Id, X, Y, End, Item, IsItem, join}
 use Rattle.twkb_grammar.specs.Blob.{IsExact, Blob}
 use Rattle.twkb_grammar.specs.Fault.{Reason, Part, FirstFault, Refused, nodes_by, points_by, announces_point, announced_nodes, announced_points, position}
@@ -144,7 +144,7 @@ part_ran limits before p = (
     s : Rattle.twkb_grammar.proofs.Parts.Split nothing started before p.more ([], Finished p.tree)
     s = runs_split before p.more nothing started ([], Finished p.tree) (tree_runs p.tree [] nothing (before ++ p.more) p.valid.tree p.items)
 
-    t : (total nodes_by (before ++ p.more) + 1 ≡ Rattle.twkb_geom.specs.Tree.nodes p.tree) × (total points_by (before ++ p.more) ≡ length (Rattle.twkb_geom.specs.Tree.flat p.tree))
+    t : (total nodes_by (before ++ p.more) + 1 ≡ Rattle.twkb_tree.specs.Tree.nodes p.tree) × (total points_by (before ++ p.more) ≡ length (Rattle.twkb_tree.specs.Tree.flat p.tree))
     t = tree_total p.tree 0 (before ++ p.more) p.valid.tree p.items
 
     kept : Kept limits.nest nothing (before ++ p.more)

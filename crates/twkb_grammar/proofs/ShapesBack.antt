@@ -5,7 +5,7 @@ use Rattle.std.specs.List.{AllByRecursion}
 use Rattle.twkb_num.specs.Zigzag.{unzigzag_of}
 use Rattle.twkb_num.specs.Varint.{IsVarint}
 use Rattle.twkb_points.specs.Point.{Point}
-use Rattle.twkb_geom.specs.Tree.{Tree, Ids, IsId, HasIds, Simple, point, line, polygon, multi_point, multi_line, multi_polygon, simple, IdsFit}
+use Rattle.twkb_tree.specs.Tree.{Tree, Ids, IsId, HasIds, Simple, point, line, polygon, multi_point, multi_line, multi_polygon, simple, IdsFit}
 use Rattle.twkb_grammar.proofs.Small.{id_small}
 use Rattle.twkb_grammar.specs.Bits.{bit}
 use Rattle.twkb_grammar.specs.Roles.{Item, Count, Id, AreFields, IsItem, Spells, Counted}

@@ -4,7 +4,7 @@ use Rattle.std.specs.Prelude.{◌≤ℤ◌, ◌-ℤ◌}
 use Rattle.std.proofs.lemmas.Int.{ints}
 use Rattle.twkb_num.specs.Zigzag.{zigzag_of, unzigzag_of}
 use Rattle.twkb_points.specs.Point.{IsCoordinate}
-use Rattle.twkb_geom.specs.Tree.{IsPrecision, IsId}
+use Rattle.twkb_tree.specs.Tree.{IsPrecision, IsId}
 
 -- between -k - 1 and k
 abbrev Between : ℕ → ℤ → Type 0

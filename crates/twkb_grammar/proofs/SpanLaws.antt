@@ -3,8 +3,8 @@ use Rattle.std.specs.Prelude.{map}
 use Rattle.std.proofs.Common.{Bool, true, false, ◌≡◌, ℕ, suc, ◌+◌, List, [], ◌∷◌, ◌++◌, length, refl, sym, ap, ◌∙◌, subst, length-append, Some, None, arith}
 use Rattle.std.proofs.lemmas.List.{map-append}
 use Rattle.std.proofs.lemmas.Bool.{false≢true}
-use Rattle.twkb_geom.specs.Tree.{Tree, simple, collection, Trees, end, ◌▷◌, count, flat, precision_of}
-use Rattle.twkb_geom.specs.Limits.{Allowance}
+use Rattle.twkb_tree.specs.Tree.{Tree, simple, collection, Trees, end, ◌▷◌, count, flat, precision_of}
+use Rattle.twkb_tree.specs.Limits.{Allowance}
 use Rattle.twkb_grammar.specs.Bits.{bit}
 use Rattle.twkb_grammar.specs.Roles.{Item, join}
 use Rattle.twkb_grammar.specs.Items.{Follow, BodyAt, Agrees, flags_all, Items, ItemsOfAll}
@@ -16,7 +16,7 @@ use Rattle.twkb_grammar.proofs.Trees.{tree_runs}
 use Rattle.twkb_grammar.proofs.TwoFronts.{Compared, longer, shorter, same, two_fronts, none_beyond}
 use Rattle.twkb_grammar.proofs.NotedSpans.{blob_noted}
 
-below_many : (First : List Item → Type 0) (level offset : ℕ) (ids : Rattle.twkb_geom.specs.Tree.Ids) (gs : Trees) (meta : ℕ) → Agrees (flags_all ids gs) meta
+below_many : (First : List Item → Type 0) (level offset : ℕ) (ids : Rattle.twkb_tree.specs.Tree.Ids) (gs : Trees) (meta : ℕ) → Agrees (flags_all ids gs) meta
     → ((o : ℕ) (js : List Item) (h : ItemsOfAll level gs js) → length (spans_of_all level o gs js h) ≡ geometries_of_all gs)
     → (b : Bool) → bit meta 4 ≡ b → (body : List Item) (h : BodyAt b (Follow First (ItemsOfAll level gs)) body)
     → length (behind First (ItemsOfAll level gs) offset (λ o js h. spans_of_all level o gs js h) b body h) ≡ geometries_of_all gs

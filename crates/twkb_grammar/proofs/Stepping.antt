@@ -7,7 +7,7 @@ use Rattle.std.proofs.lemmas.Int.{ints}
 use Rattle.twkb_num.specs.Zigzag.{unzigzag_of}
 use Rattle.twkb_num.specs.Varint.{IsVarint}
 use Rattle.twkb_points.specs.Point.{IsCoordinate}
-use Rattle.twkb_geom.specs.Limits.{Allowance}
+use Rattle.twkb_tree.specs.Limits.{Allowance}
 use Rattle.twkb_grammar.specs.Roles.{Counted, Vertices, Rings, Points, Parts, Geometries, Item, Role, Header, Metadata, Extended, Count, X, Y, End}
 use Rattle.twkb_grammar.specs.Blob.{IsExact}
 use Rattle.twkb_grammar.specs.Fault.{Reason, Truncated, BadType, ExtraDimensions, BadVarint, TooDeep, TooManyNodes, TooManyPoints, CoordinateRange, SizeMismatch, Refused, When, FirstByte, FirstNumber, IsCut, IsTooLong, IsDeep, NumberFirst, announces_point, announced_points, announced_nodes, nodes_of, points_of, position}

@@ -1,7 +1,7 @@
 -- One byte more ends an item, and the geometries that end with it.
 use Rattle.std.proofs.Common.{◌≡◌, ℕ, List, [], ◌∷◌, ◌++◌, length, refl, sym, ap, ◌∙◌, subst, append_assoc, append-nil, length-append, arith, Some}
-use Rattle.twkb_geom.specs.Tree.{Tree}
-use Rattle.twkb_geom.specs.Limits.{Allowance}
+use Rattle.twkb_tree.specs.Tree.{Tree}
+use Rattle.twkb_tree.specs.Limits.{Allowance}
 use Rattle.twkb_grammar.specs.Roles.{Item, IsItem, join}
 use Rattle.twkb_grammar.specs.Machine.{Sums, nothing, sums_after, Stack, started, role_at, stack_after, Runs}
 use Rattle.twkb_grammar.specs.Reading.{Stands}

@@ -3,7 +3,7 @@ use Rattle.std.proofs.Common.{Bool, true, false, ◌≡◌, ℕ, zero, suc, ◌-
 use Rattle.std.proofs.lemmas.List.{append-nil}
 use Rattle.std.specs.Prelude.{ℤ}
 use Rattle.twkb_num.specs.Zigzag.{unzigzag_of}
-use Rattle.twkb_geom.specs.Tree.{Tree, simple, collection, Trees, end, ◌▷◌, count, Ids, HasIds, IsPrecision, IsTree, AreTrees}
+use Rattle.twkb_tree.specs.Tree.{Tree, simple, collection, Trees, end, ◌▷◌, count, Ids, HasIds, IsPrecision, IsTree, AreTrees}
 use Rattle.twkb_grammar.proofs.Small.{precision_fits}
 use Rattle.twkb_grammar.specs.Bits.{bit}
 use Rattle.twkb_grammar.specs.Roles.{Item, Header, Metadata, Extended, Size, Box, Count, Geometries, End, AreFields, Spells, join, HaveRoles, where_set, item}

@@ -3,7 +3,7 @@ use Rattle.std.proofs.Common.{true, false, Bool, ◌≡◌, ℕ, zero, suc, ◌+
 use Rattle.std.specs.Prelude.{if◌then◌else◌}
 use Rattle.twkb_num.specs.Varint.{HasMarks, IsVarint}
 use Rattle.twkb_points.specs.Point.{Point}
-use Rattle.twkb_geom.specs.Tree.{Ids, Tree, Trees}
+use Rattle.twkb_tree.specs.Tree.{Ids, Tree, Trees}
 use Rattle.twkb_grammar.specs.Bits.{bit}
 use Rattle.twkb_grammar.specs.Roles.{Role, Header, Metadata, Extended, Size, Box, Count, Id, X, Y, Spells, where_set}
 use Rattle.twkb_grammar.specs.Machine.{Body, Want, WantY, Done, opened, closed, body_after, listed, Form, depth_of, Kind, SimpleKind, CollectionKind, PointForm, LineForm, PolygonForm, MultiPointForm, MultiLineForm, MultiPolygonForm, kind_number, Head, Frame, Phase, AtHeader, AtMetadata, AtOption, AtCount, AtId, AtBody, AtEnd, Finished, Many, ManyPoints, ManyLines, ManyPolygons, ManyGeometries, first_count, settled, begun, wanting, members_begin, counted, ended, asked, top, Stack, phase_role, advanced}
@@ -82,7 +82,7 @@ pending-ended [] g = omega arith
 pending-ended (f ∷ fs) g = go f.left
   where
     go : (left : ℕ) → pending (elim left [
-      | zero ↦ (fs, AtEnd f.head (Rattle.twkb_geom.specs.Tree.collection f.head.precision f.ids (Rattle.twkb_grammar.specs.Machine.snoc f.done g)))
+      | zero ↦ (fs, AtEnd f.head (Rattle.twkb_tree.specs.Tree.collection f.head.precision f.ids (Rattle.twkb_grammar.specs.Machine.snoc f.done g)))
       | suc n ↦ (record { head = f.head; ids = f.ids; done = Rattle.twkb_grammar.specs.Machine.snoc f.done g; left = n } ∷ fs, AtHeader)
     ]) ≤ suc (length fs)
     go zero = omega arith

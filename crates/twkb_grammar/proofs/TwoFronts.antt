@@ -1,7 +1,7 @@
 -- Two lists of items that the machine runs through over the same bytes: one goes on beyond the other, or they are one.
 use Rattle.std.proofs.Common.{◌≡◌, ℕ, List, [], ◌∷◌, ◌++◌, refl, sym, ap, ◌∙◌, subst, append_assoc, append-nil, Some, None}
-use Rattle.twkb_geom.specs.Tree.{Tree}
-use Rattle.twkb_geom.specs.Limits.{Allowance}
+use Rattle.twkb_tree.specs.Tree.{Tree}
+use Rattle.twkb_tree.specs.Limits.{Allowance}
 use Rattle.twkb_grammar.specs.Roles.{Item, join}
 use Rattle.twkb_grammar.specs.Items.{Items}
 use Rattle.twkb_grammar.specs.Blob.{AreExact, Blob}

@@ -3,8 +3,8 @@ use Rattle.std.proofs.Common.{◌≡◌, ℕ, suc, ◌+◌, ◌*◌, ◌<◌, �
 use Rattle.std.specs.Prelude.{ℤ, map}
 use Rattle.twkb_num.specs.Zigzag.{zigzag_of}
 use Rattle.twkb_points.specs.Point.{AreInRange, origin}
-use Rattle.twkb_geom.specs.Tree.{Ids, Simple, point, line, polygon, multi_point, multi_line, multi_polygon, Tree, simple, collection, Trees, end, ◌▷◌, count, flat, flat_all, nodes, nodes_all, nodes_in, points_in, HasIds, IsTree, AreTrees}
-use Rattle.twkb_geom.specs.Limits.{Allowance, IsAllowance, IsValid}
+use Rattle.twkb_tree.specs.Tree.{Ids, Simple, point, line, polygon, multi_point, multi_line, multi_polygon, Tree, simple, collection, Trees, end, ◌▷◌, count, flat, flat_all, nodes, nodes_all, nodes_in, points_in, HasIds, IsTree, AreTrees}
+use Rattle.twkb_tree.specs.Limits.{Allowance, IsAllowance, IsValid}
 use Rattle.twkb_grammar.specs.Roles.{Item, Count, Id, Geometries, Field, AreFields, join}
 use Rattle.twkb_grammar.specs.Items.{Follow, Items, ItemsOfAll, fields, id_fields, id_places, filled, OfId}
 use Rattle.twkb_grammar.specs.Blob.{Blob}

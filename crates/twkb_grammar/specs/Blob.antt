@@ -1,8 +1,8 @@
 -- Blobs, and streams of them.
 use Rattle.std.specs.Prelude.{◌≡◌, ℕ, List, [], ◌∷◌, ◌++◌, Some, ⊤}
 use Rattle.std.specs.List.{AllByRecursion}
-use Rattle.twkb_geom.specs.Tree.{Tree}
-use Rattle.twkb_geom.specs.Limits.{Allowance, IsValid}
+use Rattle.twkb_tree.specs.Tree.{Tree}
+use Rattle.twkb_tree.specs.Limits.{Allowance, IsValid}
 use Rattle.twkb_grammar.specs.Roles.{Role, End, Item, join}
 use Rattle.twkb_grammar.specs.Items.{Items}
 

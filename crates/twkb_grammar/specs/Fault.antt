@@ -4,8 +4,8 @@ use Rattle.std.specs.List.{AllByRecursion}
 use Rattle.twkb_num.specs.Zigzag.{unzigzag_of}
 use Rattle.twkb_num.specs.Varint.{IsVarint}
 use Rattle.twkb_points.specs.Point.{Point, IsCoordinate, origin, point_at}
-use Rattle.twkb_geom.specs.Tree.{Tree, IsTree}
-use Rattle.twkb_geom.specs.Limits.{Allowance, IsValid}
+use Rattle.twkb_tree.specs.Tree.{Tree, IsTree}
+use Rattle.twkb_tree.specs.Limits.{Allowance, IsValid}
 use Rattle.twkb_grammar.specs.Bits.{bit}
 use Rattle.twkb_grammar.specs.Roles.{Counted, Vertices, Rings, Points, Parts, Geometries, Role, Header, Metadata, Extended, Size, Box, Count, Id, X, Y, End, Item, join}
 use Rattle.twkb_grammar.specs.Items.{Items}

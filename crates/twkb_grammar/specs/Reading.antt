@@ -4,8 +4,8 @@ use Rattle.std.specs.Prelude.{⊤, ◌+ℤ◌, ◌≡◌, ℕ, zero, suc, ◌-�
 use Rattle.twkb_num.specs.Zigzag.{unzigzag_of}
 use Rattle.twkb_num.specs.Varint.{IsVarint}
 use Rattle.twkb_points.specs.Point.{Point, IsCoordinate}
-use Rattle.twkb_geom.specs.Tree.{Tree, collection}
-use Rattle.twkb_geom.specs.Limits.{Allowance}
+use Rattle.twkb_tree.specs.Tree.{Tree, collection}
+use Rattle.twkb_tree.specs.Limits.{Allowance}
 use Rattle.twkb_grammar.specs.Roles.{Role, Header, Metadata, Extended, Size, Box, Count, Id, X, Y, End, IsNumber, Item, join}
 use Rattle.twkb_grammar.specs.Blob.{AreExact, Stream}
 use Rattle.twkb_grammar.specs.Fault.{Reason, SizeMismatch, FirstFault, GoOn, IsDeep, announced_nodes, announced_points}

@@ -1,8 +1,8 @@
 -- Geometries and limits for the samples.
 use Rattle.std.specs.Prelude.{◌^◌, [], ◌∷◌, pos, negsuc, Some, None}
 use Rattle.twkb_points.specs.Point.{origin, point_at}
-use Rattle.twkb_geom.specs.Limits.{Allowance}
-use Rattle.twkb_geom.specs.Tree.{point, line, polygon, multi_point, multi_line, multi_polygon, Tree, simple, collection, end, ◌▷◌}
+use Rattle.twkb_tree.specs.Limits.{Allowance}
+use Rattle.twkb_tree.specs.Tree.{point, line, polygon, multi_point, multi_line, multi_polygon, Tree, simple, collection, end, ◌▷◌}
 
 -- The standard limits.
 abbrev pub standard : Allowance

@@ -1,9 +1,9 @@
 -- What is told of each geometry of a blob: where it stands, what its header says, and what it holds (profile).
 use Rattle.std.specs.Prelude.{◌≡◌, ℕ, ℤ, suc, ◌+◌, Bool, true, false, List, [], ◌∷◌, ◌++◌, length}
-use Rattle.twkb_geom.specs.declared.kind.Kind.{Kind}
-use Rattle.twkb_geom.specs.declared.kind.Kind.TheVariants as kind
-use Rattle.twkb_geom.specs.Tree.{Simple, point, line, polygon, multi_point, multi_line, multi_polygon, Tree, simple, collection, Trees, end, ◌▷◌, count, flat, precision_of}
-use Rattle.twkb_geom.specs.Limits.{Allowance}
+use Rattle.twkb_tree.specs.declared.kind.Kind.{Kind}
+use Rattle.twkb_tree.specs.declared.kind.Kind.TheVariants as kind
+use Rattle.twkb_tree.specs.Tree.{Simple, point, line, polygon, multi_point, multi_line, multi_polygon, Tree, simple, collection, Trees, end, ◌▷◌, count, flat, precision_of}
+use Rattle.twkb_tree.specs.Limits.{Allowance}
 use Rattle.twkb_grammar.specs.Bits.{bit}
 use Rattle.twkb_grammar.specs.Roles.{Header, Metadata, Count, Geometries, Item, AreFields, join, item}
 use Rattle.twkb_grammar.specs.Items.{header_byte, id_fields, Flags, Framed, Follow, BodyAt, Items, ItemsOfAll}

@@ -3,8 +3,8 @@ use Rattle.std.specs.Prelude.{ℕ, ◌+◌, Bool, true, false, not, ◌&&◌, if
 use Rattle.twkb_num.specs.Zigzag.{zigzag_of}
 use Rattle.twkb_num.specs.Varint.{varint_of}
 use Rattle.twkb_points.specs.Extent.{tight}
-use Rattle.twkb_geom.specs.Tree.{point, line, polygon, multi_point, multi_line, multi_polygon, Tree, simple, collection, Trees, end, ◌▷◌, count, flat, precision_of}
-use Rattle.twkb_geom.specs.Uniform.{uniform}
+use Rattle.twkb_tree.specs.Tree.{point, line, polygon, multi_point, multi_line, multi_polygon, Tree, simple, collection, Trees, end, ◌▷◌, count, flat, precision_of}
+use Rattle.twkb_tree.specs.Uniform.{uniform}
 use Rattle.twkb_grammar.specs.Roles.{Count, Geometries, Field}
 use Rattle.twkb_grammar.specs.Items.{fields, id_fields, kind_of, header_byte, Flags, MustBeEmpty, MayBeEmpty, HasBody, HasMembers, flags, flags_all}
 use Rattle.twkb_grammar.specs.declared.style.Style.{Style}

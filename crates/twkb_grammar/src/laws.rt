@@ -1,8 +1,8 @@
 //! Laws of blobs, each the contract of a function that does nothing.
 ghost use Rattle.std.specs.Prelude.{◌≡◌, ◌≢◌, ◌↔◌, ◌⊎◌, ◌<◌, ◌≤◌, ◌+◌, ◌*◌, ℕ, List, [], ◌∷◌, ◌++◌, length, map, Option, Some};
 ghost use Rattle.std.specs.List.{AllByRecursion};
-ghost use Rattle.twkb_geom.specs.Tree.{Tree, IsTree, nodes, flat};
-ghost use Rattle.twkb_geom.specs.Limits.{Allowance, IsAllowance, IsValid};
+ghost use Rattle.twkb_tree.specs.Tree.{Tree, IsTree, nodes, flat};
+ghost use Rattle.twkb_tree.specs.Limits.{Allowance, IsAllowance, IsValid};
 ghost use Rattle.twkb_grammar.specs.declared.style.Style.{Style};
 ghost use Rattle.twkb_grammar.specs.Bits.{AreBytes};
 ghost use Rattle.twkb_grammar.specs.Roles.{Item, Role, End, IsNumber, join};

@@ -1,5 +1,5 @@
 //! Where a geometry of a stream stands, and what its header says.
-use twkb_geom::Kind;
+use twkb_tree::Kind;
 
 /// One geometry of a blob, as its header and its bytes tell it (TWKB, type, precision and metadata; what is told: profile).
 #[derive(Clone, Copy, Debug, PartialEq, Eq)]

@@ -4,9 +4,9 @@ use Rattle.std.specs.Prelude.{ℤ, map, if◌then◌else◌, Ok}
 use Rattle.std.proofs.lemmas.List.{length-map}
 use Rattle.twkb_num.specs.Zigzag.{unzigzag_of}
 use Rattle.twkb_points.specs.Point.{Point}
-use Rattle.twkb_geom.specs.Tree.{Ids, Tree, Trees, end, ◌▷◌, collection}
-use Rattle.twkb_geom.specs.declared.kind.Kind.TheVariants as kinds
-use Rattle.twkb_geom.specs.Rows.{Row, whole_row, first_id, other_ids, rows_with, member_rows}
+use Rattle.twkb_tree.specs.Tree.{Ids, Tree, Trees, end, ◌▷◌, collection}
+use Rattle.twkb_tree.specs.declared.kind.Kind.TheVariants as kinds
+use Rattle.twkb_tree.specs.Rows.{Row, whole_row, first_id, other_ids, rows_with, member_rows}
 use Rattle.twkb_grammar.specs.Bits.{bit}
 use Rattle.twkb_grammar.specs.Roles.{Role, Header, Metadata, Extended, Size, Box, Count, Id, X, Y, End}
 use Rattle.twkb_grammar.specs.PlainReader.{is_exact}

@@ -5,9 +5,9 @@ use Rattle.std.proofs.lemmas.Bool.{ltb-true}
 use Rattle.std.proofs.lemmas.Int.{ints}
 use Rattle.twkb_num.specs.Zigzag.{unzigzag_of}
 use Rattle.twkb_points.specs.Point.{Point, point_at, IsCoordinate}
-use Rattle.twkb_geom.specs.Tree.{Ids}
-use Rattle.twkb_geom.specs.Limits.{Allowance}
-use Rattle.twkb_geom.specs.Rows.{Row}
+use Rattle.twkb_tree.specs.Tree.{Ids}
+use Rattle.twkb_tree.specs.Limits.{Allowance}
+use Rattle.twkb_tree.specs.Rows.{Row}
 use Rattle.twkb_grammar.specs.Roles.{Item, IsItem, X, Y, join}
 use Rattle.twkb_grammar.specs.Blob.{IsExact}
 use Rattle.twkb_grammar.specs.Fault.{position, moved}

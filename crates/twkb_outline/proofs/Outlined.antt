@@ -2,13 +2,13 @@
 use Rattle.std.proofs.Common.{◌≡◌, ℕ, zero, suc, ◌+◌, ◌≤◌, List, [], ◌∷◌, ◌++◌, length, refl, sym, ◌∙◌, ap, subst, arith, Option, Some, None}
 use Rattle.std.specs.Prelude.{◌≢◌, map, Result, Ok, Err}
 use Rattle.std.proofs.lemmas.List.{length-map}
-use Rattle.twkb_geom.specs.Tree.{Tree}
-use Rattle.twkb_geom.specs.Limits.{Allowance, IsAllowance, IsValid, largest_limits}
-use Rattle.twkb_geom.specs.Rows.{Row, rows}
-use Rattle.twkb_geom.specs.Accepted.{Continues}
-use Rattle.twkb_geom.specs.RowLists.{AreValidRowsOfOne}
-use Rattle.twkb_geom.proofs.RootLimits.{continues_row}
-use Rattle.twkb_geom.proofs.LargestLimits.{continues_largest}
+use Rattle.twkb_tree.specs.Tree.{Tree}
+use Rattle.twkb_tree.specs.Limits.{Allowance, IsAllowance, IsValid, largest_limits}
+use Rattle.twkb_tree.specs.Rows.{Row, rows}
+use Rattle.twkb_tree.specs.Accepted.{Continues}
+use Rattle.twkb_tree.specs.RowLists.{AreValidRowsOfOne}
+use Rattle.twkb_tree.proofs.RootLimits.{continues_row}
+use Rattle.twkb_tree.proofs.LargestLimits.{continues_largest}
 use Rattle.twkb_grammar.specs.Roles.{Role, Count, End, IsNumber, Item}
 use Rattle.twkb_grammar.specs.Blob.{Blob}
 use Rattle.twkb_grammar.specs.Fault.{Reason, Truncated, BadVarint, FirstFault, IsPart, IsCut, IsTooLong, moved}

@@ -3,8 +3,8 @@ use Rattle.std.proofs.Common.{◌≡◌, ℕ, zero, suc, ◌-◌, Bool, true, fa
 use Rattle.std.specs.Prelude.{map, if◌then◌else◌, Ok}
 use Rattle.twkb_num.specs.Zigzag.{unzigzag_of}
 use Rattle.twkb_points.specs.Point.{Point}
-use Rattle.twkb_geom.specs.Tree.{Ids, Tree, Trees, end, ◌▷◌, collection}
-use Rattle.twkb_geom.specs.Rows.{other_ids}
+use Rattle.twkb_tree.specs.Tree.{Ids, Tree, Trees, end, ◌▷◌, collection}
+use Rattle.twkb_tree.specs.Rows.{other_ids}
 use Rattle.twkb_grammar.specs.Bits.{bit}
 use Rattle.twkb_grammar.specs.Roles.{Role}
 use Rattle.twkb_grammar.specs.PlainReader.{is_exact}

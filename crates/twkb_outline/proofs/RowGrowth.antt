@@ -2,12 +2,12 @@
 use Rattle.std.proofs.Common.{◌≡◌, ℕ, zero, suc, ◌≤◌, List, [], ◌∷◌, ◌++◌, refl, sym, ◌∙◌, ap, arith, append_assoc, append-nil, Option, Some, None}
 use Rattle.std.specs.Prelude.{ℤ}
 use Rattle.twkb_points.specs.Point.{Point}
-use Rattle.twkb_geom.specs.Tree.{Ids, simple}
-use Rattle.twkb_geom.specs.declared.kind.Kind as row
-use Rattle.twkb_geom.specs.declared.kind.Kind.TheVariants as kinds
-use Rattle.twkb_geom.specs.Rows.{Row, plain_row, whole_row, first_id, other_ids, rows_of_each, ring_rows, polygon_rows, rows_with}
-use Rattle.twkb_geom.specs.RowGrowth.{with_point, point_added}
-use Rattle.twkb_geom.proofs.PointAdded.{point_last}
+use Rattle.twkb_tree.specs.Tree.{Ids, simple}
+use Rattle.twkb_tree.specs.declared.kind.Kind as row
+use Rattle.twkb_tree.specs.declared.kind.Kind.TheVariants as kinds
+use Rattle.twkb_tree.specs.Rows.{Row, plain_row, whole_row, first_id, other_ids, rows_of_each, ring_rows, polygon_rows, rows_with}
+use Rattle.twkb_tree.specs.RowGrowth.{with_point, point_added}
+use Rattle.twkb_tree.proofs.PointAdded.{point_last}
 use Rattle.twkb_grammar.specs.Machine.{Nested, Around, top, within, Body, Want, WantY, Done, closed, opened, body_after, Form, depth_of, shape_of, PointForm, LineForm, PolygonForm, MultiPointForm, MultiLineForm, MultiPolygonForm, Head, settled}
 use Rattle.twkb_outline.specs.Outline.{ids_behind, ids_left, body_step}
 use Rattle.twkb_outline.specs.Growing.{cut_behind, cut_before, cut, value_rows, phase_rows, applied, list_row, point_change, step_change}

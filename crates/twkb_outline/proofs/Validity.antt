@@ -2,17 +2,17 @@
 use Rattle.std.proofs.Common.{◌≡◌, ℕ, zero, suc, ◌+◌, Bool, true, false, List, [], ◌∷◌, ◌++◌, length, refl, sym, ◌∙◌, ap, subst, length-append, arith, Option, None, inl, inr}
 use Rattle.std.specs.Prelude.{ℤ, reverse, if◌then◌else◌, ◌⊎◌, ◌&&◌}
 use Rattle.twkb_points.specs.Point.{Point}
-use Rattle.twkb_geom.specs.Tree.{Ids, Tree}
-use Rattle.twkb_geom.specs.Limits.{Allowance, IsValid}
-use Rattle.twkb_geom.specs.declared.kind.Kind as row
-use Rattle.twkb_geom.specs.declared.kind.Kind.TheVariants as kinds
-use Rattle.twkb_geom.specs.Rows.{Row, rows, plain_row, whole_row, first_id, rows_of_each, ring_rows, polygon_rows}
-use Rattle.twkb_geom.specs.Admits.{points_fit, fits, is_whole, has_place, id_in_range, id_allowed, has_same_ids, precision_in_range, precision_fits, steps_to, parent, first_child}
-use Rattle.twkb_geom.specs.Accepted.{Accepts, IsOneRoot}
-use Rattle.twkb_geom.specs.RowLists.{AreValidRowsOfOne}
-use Rattle.twkb_geom.specs.RowGrowth.{with_point, point_added, EndsInLine}
-use Rattle.twkb_geom.proofs.PointAdded.{point_last}
-use Rattle.twkb_geom.proofs.RootLimits.{continued, continues_row, one_valid_front}
+use Rattle.twkb_tree.specs.Tree.{Ids, Tree}
+use Rattle.twkb_tree.specs.Limits.{Allowance, IsValid}
+use Rattle.twkb_tree.specs.declared.kind.Kind as row
+use Rattle.twkb_tree.specs.declared.kind.Kind.TheVariants as kinds
+use Rattle.twkb_tree.specs.Rows.{Row, rows, plain_row, whole_row, first_id, rows_of_each, ring_rows, polygon_rows}
+use Rattle.twkb_tree.specs.Admits.{points_fit, fits, is_whole, has_place, id_in_range, id_allowed, has_same_ids, precision_in_range, precision_fits, steps_to, parent, first_child}
+use Rattle.twkb_tree.specs.Accepted.{Accepts, IsOneRoot}
+use Rattle.twkb_tree.specs.RowLists.{AreValidRowsOfOne}
+use Rattle.twkb_tree.specs.RowGrowth.{with_point, point_added, EndsInLine}
+use Rattle.twkb_tree.proofs.PointAdded.{point_last}
+use Rattle.twkb_tree.proofs.RootLimits.{continued, continues_row, one_valid_front}
 use Rattle.twkb_grammar.specs.Bits.{bit}
 use Rattle.twkb_grammar.specs.Roles.{Role, Item}
 use Rattle.twkb_grammar.specs.Fault.{Part, moved}

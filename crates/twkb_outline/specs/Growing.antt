@@ -1,11 +1,11 @@
 -- The rows of what a stack holds, and how an item changes them.
 use Rattle.std.specs.Prelude.{ℕ, zero, suc, List, [], ◌∷◌, ◌++◌, length, ℤ, Option, Some, None, if◌then◌else◌, ⊤}
 use Rattle.twkb_points.specs.Point.{Point}
-use Rattle.twkb_geom.specs.declared.kind.Kind as row
-use Rattle.twkb_geom.specs.declared.kind.Kind.TheVariants as kinds
-use Rattle.twkb_geom.specs.Tree.{Ids, simple}
-use Rattle.twkb_geom.specs.Rows.{Row, plain_row, whole_row, first_id, rows_with, member_rows}
-use Rattle.twkb_geom.specs.RowGrowth.{point_added, EndsInLine}
+use Rattle.twkb_tree.specs.declared.kind.Kind as row
+use Rattle.twkb_tree.specs.declared.kind.Kind.TheVariants as kinds
+use Rattle.twkb_tree.specs.Tree.{Ids, simple}
+use Rattle.twkb_tree.specs.Rows.{Row, plain_row, whole_row, first_id, rows_with, member_rows}
+use Rattle.twkb_tree.specs.RowGrowth.{point_added, EndsInLine}
 use Rattle.twkb_grammar.specs.Bits.{bit}
 use Rattle.twkb_grammar.specs.Roles.{Role}
 use Rattle.twkb_grammar.specs.Machine.{Nested, Around, top, within, Body, Want, WantY, Done, Form, PointForm, LineForm, PolygonForm, MultiPointForm, MultiLineForm, MultiPolygonForm, Kind, SimpleKind, CollectionKind, depth_of, shape_of, Head, Frame, Many, ManyPoints, ManyLines, ManyPolygons, ManyGeometries, Phase, AtBody, AtEnd, Finished, Stack, asked}

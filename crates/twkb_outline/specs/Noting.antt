@@ -1,7 +1,7 @@
 -- What a reader notes of spans that keeps an outline.
 use Rattle.std.specs.Prelude.{⊤, ◌≡◌, ℕ, List}
-use Rattle.twkb_geom.specs.Limits.{Allowance}
-use Rattle.twkb_geom.specs.Rows.{Row}
+use Rattle.twkb_tree.specs.Limits.{Allowance}
+use Rattle.twkb_tree.specs.Rows.{Row}
 use Rattle.twkb_grammar.specs.Machine.{Sums, nothing}
 use Rattle.twkb_grammar.specs.Noting.{Notes, no_notes, noted, note_header, note_metadata, IsQuiet}
 use Rattle.twkb_outline.specs.Outline.{Step, OnHeader, OnMetadata, OnOption, Outline}

@@ -1,8 +1,8 @@
 -- The outline of a stack: what stands open, without the values that were read.
 use Rattle.std.specs.Prelude.{ℕ, zero, suc, ◌-◌, ◌/◌, ◌%◌, if◌then◌else◌, List, [], ◌∷◌, ◌++◌, length, map, ℤ, Option, Some, None, Bool, true, false, Result, Ok, Err}
 use Rattle.twkb_num.specs.Zigzag.{unzigzag_of}
-use Rattle.twkb_geom.specs.Tree.{Ids, Trees, end, ◌▷◌}
-use Rattle.twkb_geom.specs.Rows.{other_ids}
+use Rattle.twkb_tree.specs.Tree.{Ids, Trees, end, ◌▷◌}
+use Rattle.twkb_tree.specs.Rows.{other_ids}
 use Rattle.twkb_grammar.specs.Bits.{bit}
 use Rattle.twkb_grammar.specs.Roles.{Role, Header, Metadata, Count, Id, X, Y, End}
 use Rattle.twkb_grammar.specs.Fault.{Reason, SizeMismatch}

@@ -3,9 +3,9 @@ use Rattle.std.specs.Prelude.{◌+ℤ◌, true, ◌≡◌, ℕ, suc, ◌+◌, �
 use Rattle.twkb_num.specs.Varint.{IsVarint}
 use Rattle.twkb_num.specs.Zigzag.{unzigzag_of}
 use Rattle.twkb_points.specs.Point.{Point, point_at}
-use Rattle.twkb_geom.specs.Tree.{Ids}
-use Rattle.twkb_geom.specs.Limits.{Allowance}
-use Rattle.twkb_geom.specs.Rows.{Row, first_id}
+use Rattle.twkb_tree.specs.Tree.{Ids}
+use Rattle.twkb_tree.specs.Limits.{Allowance}
+use Rattle.twkb_tree.specs.Rows.{Row, first_id}
 use Rattle.twkb_grammar.specs.Roles.{Item}
 use Rattle.twkb_grammar.specs.Fault.{Reason, FirstFault, moved}
 use Rattle.twkb_grammar.specs.Machine.{Form, Head, depth_of, Sums, Stack}

@@ -1,11 +1,11 @@
 //! Laws of outlines, each the contract of a function that does nothing.
 ghost use Rattle.std.specs.Prelude.{◌≡◌, ◌≢◌, ◌≤◌, ℕ, List, [], ◌∷◌, ◌++◌, length, Option, Some, None, Ok};
 ghost use Rattle.twkb_points.specs.Point.{Point};
-ghost use Rattle.twkb_geom.specs.Rows.{Row, rows};
-ghost use Rattle.twkb_geom.specs.Tree.{Tree, Ids};
-ghost use Rattle.twkb_geom.specs.Limits.{Allowance, IsAllowance, largest_limits};
-ghost use Rattle.twkb_geom.specs.Accepted.{Continues};
-ghost use Rattle.twkb_geom.specs.RowLists.{AreValidRowsOfOne};
+ghost use Rattle.twkb_tree.specs.Rows.{Row, rows};
+ghost use Rattle.twkb_tree.specs.Tree.{Tree, Ids};
+ghost use Rattle.twkb_tree.specs.Limits.{Allowance, IsAllowance, largest_limits};
+ghost use Rattle.twkb_tree.specs.Accepted.{Continues};
+ghost use Rattle.twkb_tree.specs.RowLists.{AreValidRowsOfOne};
 ghost use Rattle.twkb_grammar.specs.Roles.{Role, End, IsNumber, Item};
 ghost use Rattle.twkb_grammar.specs.Blob.{Blob};
 ghost use Rattle.twkb_grammar.specs.Fault.{Reason, Truncated, BadVarint, FirstFault, IsPart, IsCut, IsTooLong};

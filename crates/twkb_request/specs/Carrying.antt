@@ -1,7 +1,7 @@
 -- What carrying out a request does, and what is answered where there is none (profile).
 use Rattle.std.specs.Prelude.{ℕ, ◌≡◌, List, [], Option, Result, Ok, Err}
 use Rattle.twkb_io.specs.declared.tap.Tap.{Tap}
-use Rattle.twkb_geom.specs.Limits.{Allowance}
+use Rattle.twkb_tree.specs.Limits.{Allowance}
 use Rattle.twkb_grammar.specs.declared.style.Style.{Style}
 use Rattle.twkb_convert.specs.declared.report.Report.{Report}
 use Rattle.twkb_convert.specs.declared.report.ConvertFault.{ConvertFault}

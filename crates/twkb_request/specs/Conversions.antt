@@ -1,7 +1,7 @@
 -- What the conversions promise, in one record each.
 use Rattle.std.specs.Prelude.{ℕ, List, Option, Result, IfOk, IfErr}
 use Rattle.twkb_io.specs.declared.tap.Tap.{Tap}
-use Rattle.twkb_geom.specs.Limits.{Allowance}
+use Rattle.twkb_tree.specs.Limits.{Allowance}
 use Rattle.twkb_grammar.specs.declared.style.Style.{Style}
 use Rattle.twkb_convert.specs.Flushing.{IsFlushed, IsFlushedButForDevices}
 use Rattle.twkb_convert.specs.Packed.{Packed, StoppedPacking}

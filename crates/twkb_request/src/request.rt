@@ -1,9 +1,9 @@
 //! What is converted, within which limits and in which style.
 ghost use Rattle.std.specs.Prelude.{◌≡◌, ◌≤◌, ◌↔◌, IfSome, IsSome, codes};
-ghost use Rattle.twkb_geom.specs.Limits.{standard_limits};
+ghost use Rattle.twkb_tree.specs.Limits.{standard_limits};
 
 use twkb_convert::Style;
-use twkb_geom::Limits;
+use twkb_tree::Limits;
 
 /// What a request converts.
 #[derive(Clone, Copy, PartialEq, Eq, Debug)]

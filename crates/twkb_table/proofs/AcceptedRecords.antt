@@ -4,16 +4,16 @@ use Rattle.std.specs.Prelude.{ℤ, ◌&&◌, decimal, is_some, IfSome}
 use Rattle.std.proofs.lemmas.Bool.{cases_Bool, true≢false}
 use Rattle.twkb_points.specs.Point.{Point}
 use Rattle.twkb_polyline.specs.Polyline.{polyline, DecodesTo}
-use Rattle.twkb_geom.specs.declared.kind.Kind.{Kind}
-use Rattle.twkb_geom.specs.Tree.{IsPrecision}
-use Rattle.twkb_geom.specs.Rows.{Row}
-use Rattle.twkb_geom.specs.Limits.{Allowance}
-use Rattle.twkb_geom.specs.Admits.{parent, first_child, steps_to, has_place, id_allowed, has_same_ids, is_whole, points_fit, precision_in_range, precision_fits, fits}
-use Rattle.twkb_geom.specs.Accepted.{nest_kept, geometry_rows, point_count, since_root, Accepts, AreAccepted}
-use Rattle.twkb_geom.proofs.RowFacts.{fits_by}
-use Rattle.twkb_geom.proofs.RowRanges.{id_in_range-true, is_precision-true}
+use Rattle.twkb_tree.specs.declared.kind.Kind.{Kind}
+use Rattle.twkb_tree.specs.Tree.{IsPrecision}
+use Rattle.twkb_tree.specs.Rows.{Row}
+use Rattle.twkb_tree.specs.Limits.{Allowance}
+use Rattle.twkb_tree.specs.Admits.{parent, first_child, steps_to, has_place, id_allowed, has_same_ids, is_whole, points_fit, precision_in_range, precision_fits, fits}
+use Rattle.twkb_tree.specs.Accepted.{nest_kept, geometry_rows, point_count, since_root, Accepts, AreAccepted}
+use Rattle.twkb_tree.proofs.RowFacts.{fits_by}
+use Rattle.twkb_tree.proofs.RowRanges.{id_in_range-true, is_precision-true}
 use Rattle.twkb_table.specs.Fields.{optional, IsDepthField, IsOptionalId, IsOptionalPrecision}
-use Rattle.twkb_geom.specs.Kind.{word_of}
+use Rattle.twkb_tree.specs.Kind.{word_of}
 use Rattle.twkb_table.specs.Record.{Record, record_of}
 use Rattle.twkb_table.specs.Judged.{Accepted, When, Unless, place_of, points_left, JudgedByPoints, JudgedByPrecision, JudgedByPlace, Judged}
 use Rattle.twkb_table.specs.declared.reason.RowReason.TheVariants.{FieldCount, BadDepth, BadKind, BadPlace, TooDeep, TooManyNodes, BadId, IdNotAllowed, MixedIds, BadPrecision, PrecisionMissing, PrecisionNotAllowed, PolylineNotAllowed, Polyline, PointCount}

@@ -2,17 +2,17 @@
 use Rattle.std.proofs.Common.{◌≡◌, ℕ, ◌<◌, ◌≤◌, true, false, List, [], length, Option, Some, None, sym, ◌∙◌, ap, subst, arith}
 use Rattle.std.specs.Prelude.{ℤ, is_some, nat_le}
 use Rattle.std.proofs.lemmas.Bool.Decides.{nat_tests}
-use Rattle.twkb_geom.specs.declared.kind.Kind.{Kind}
-use Rattle.twkb_geom.specs.declared.open_rows.OpenRow.{OpenRow}
-use Rattle.twkb_geom.specs.Limits.{Allowance}
-use Rattle.twkb_geom.specs.Rows.{Row}
-use Rattle.twkb_geom.specs.Admits.{parent, first_child, steps_to}
-use Rattle.twkb_geom.specs.Accepted.{geometry_rows, point_count}
-use Rattle.twkb_geom.specs.Open.{ids_by, open_parent, row_of, child_of, count_at}
-use Rattle.twkb_geom.proofs.OpenDecides.{kind_by, head_kind, head_id, steps_open}
+use Rattle.twkb_tree.specs.declared.kind.Kind.{Kind}
+use Rattle.twkb_tree.specs.declared.open_rows.OpenRow.{OpenRow}
+use Rattle.twkb_tree.specs.Limits.{Allowance}
+use Rattle.twkb_tree.specs.Rows.{Row}
+use Rattle.twkb_tree.specs.Admits.{parent, first_child, steps_to}
+use Rattle.twkb_tree.specs.Accepted.{geometry_rows, point_count}
+use Rattle.twkb_tree.specs.Open.{ids_by, open_parent, row_of, child_of, count_at}
+use Rattle.twkb_tree.proofs.OpenDecides.{kind_by, head_kind, head_id, steps_open}
 use Rattle.twkb_table.specs.Judged.{Verdict, place_of, JudgedByPlace}
-use Rattle.twkb_geom.specs.Standing.{standing_at}
-use Rattle.twkb_geom.proofs.OpenRefusal.{kind_under, ids_under, nodes_under, points_under}
+use Rattle.twkb_tree.specs.Standing.{standing_at}
+use Rattle.twkb_tree.proofs.OpenRefusal.{kind_under, ids_under, nodes_under, points_under}
 use Rattle.twkb_table.specs.Standing.{place_seen, StandsAfter}
 
 -- ---- the chain looks at the kind of the parent and at whether the first child has an id

@@ -1,9 +1,9 @@
 -- What a fault leaves complete.
 use Rattle.std.proofs.Common.{◌≡◌, ℕ, ◌≤◌, List, [], ◌∷◌, length, refl, sym, ◌∙◌, ap, arith, inl, inr}
 use Rattle.std.specs.Prelude.{map}
-use Rattle.twkb_geom.specs.Tree.{Tree, simple, collection}
-use Rattle.twkb_geom.specs.Limits.{Allowance, IsAllowance}
-use Rattle.twkb_geom.specs.Rows.{rows_of}
+use Rattle.twkb_tree.specs.Tree.{Tree, simple, collection}
+use Rattle.twkb_tree.specs.Limits.{Allowance, IsAllowance}
+use Rattle.twkb_tree.specs.Rows.{rows_of}
 use Rattle.twkb_table.specs.Record.{Record, record_of}
 use Rattle.twkb_table.specs.Named.{Named}
 use Rattle.twkb_table.specs.RowFault.{RowFault, AreComplete, all_but_last}

@@ -7,14 +7,14 @@ use Rattle.twkb_points.specs.Point.{Point}
 use Rattle.twkb_polyline.specs.Polyline.{DecodesTo}
 use Rattle.twkb_polyline.specs.Fault.{IsTextFault}
 use Rattle.twkb_polyline.specs.declared.fault.PolyReason.{PolyReason}
-use Rattle.twkb_geom.specs.declared.kind.Kind.{Kind}
-use Rattle.twkb_geom.specs.Tree.{Tree}
-use Rattle.twkb_geom.specs.Rows.{Row}
-use Rattle.twkb_geom.specs.Limits.{Allowance, IsAllowance}
-use Rattle.twkb_geom.specs.Admits.{has_place, id_allowed, has_same_ids, is_whole, points_fit, has_points}
-use Rattle.twkb_geom.specs.Accepted.{nest_kept}
+use Rattle.twkb_tree.specs.declared.kind.Kind.{Kind}
+use Rattle.twkb_tree.specs.Tree.{Tree}
+use Rattle.twkb_tree.specs.Rows.{Row}
+use Rattle.twkb_tree.specs.Limits.{Allowance, IsAllowance}
+use Rattle.twkb_tree.specs.Admits.{has_place, id_allowed, has_same_ids, is_whole, points_fit, has_points}
+use Rattle.twkb_tree.specs.Accepted.{nest_kept}
 use Rattle.twkb_table.specs.Fields.{IsDepthField, IsOptionalId, IsOptionalPrecision}
-use Rattle.twkb_geom.specs.Kind.{word_of}
+use Rattle.twkb_tree.specs.Kind.{word_of}
 use Rattle.twkb_table.specs.Record.{Record}
 use Rattle.twkb_table.specs.Named.{Named}
 use Rattle.twkb_table.specs.Judged.{Verdict, Accepted, Refused, When, Unless, UnlessFaulty, Place, place_of, points_left, JudgedByPoints, JudgedByPrecision, JudgedById, JudgedByPlace, Judged}

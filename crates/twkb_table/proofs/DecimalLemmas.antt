@@ -9,7 +9,7 @@ use Rattle.std.specs.Str.{IsUtf8}
 use Rattle.std.specs.Str.Parse.{ParsesSigned}
 use Rattle.std.proofs.lemmas.Fmt.{decimal_digit, decimal_step, IsAscii-signed, parse-signed_decimal, signed_decimal_injective}
 use Rattle.std.proofs.lemmas.Str.{IsUtf8-from_ascii}
-use Rattle.twkb_geom.specs.Tree.{IsId, IsPrecision}
+use Rattle.twkb_tree.specs.Tree.{IsId, IsPrecision}
 use Rattle.twkb_table.specs.Fields.{IsDepthField, IsIdField, IsPrecisionField}
 
 -- an i64 without its sign, and less one where it is negative

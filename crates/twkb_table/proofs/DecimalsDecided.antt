@@ -8,12 +8,12 @@ use Rattle.std.proofs.lemmas.Bool.{true≢false}
 use Rattle.std.proofs.lemmas.Bool.Decides.{nat_tests}
 use Rattle.std.proofs.lemmas.Fmt.{decimal_is_IsNumeral, first_decimal, decimal_digit}
 use Rattle.std.proofs.lemmas.Slice.Eq.{bytes_eq-Decides}
-use Rattle.twkb_geom.specs.declared.kind.Kind.{Kind}
-use Rattle.twkb_geom.specs.Tree.{IsId, IsPrecision}
-use Rattle.twkb_geom.specs.Admits.{is_id, is_precision}
-use Rattle.twkb_geom.proofs.RowRanges.{is_id-true, id_is, is_precision-true, precision_is}
+use Rattle.twkb_tree.specs.declared.kind.Kind.{Kind}
+use Rattle.twkb_tree.specs.Tree.{IsId, IsPrecision}
+use Rattle.twkb_tree.specs.Admits.{is_id, is_precision}
+use Rattle.twkb_tree.proofs.RowRanges.{is_id-true, id_is, is_precision-true, precision_is}
 use Rattle.twkb_table.specs.Fields.{IsDepthField, IsIdField, IsPrecisionField, IsOptionalId, IsOptionalPrecision}
-use Rattle.twkb_geom.specs.Kind.{word_of}
+use Rattle.twkb_tree.specs.Kind.{word_of}
 use Rattle.twkb_table.proofs.DecimalLemmas.{mag-id, depth-id, precision-id, depth_number, precision_number}
 use Rattle.twkb_table.proofs.FieldLemmas.{kind_from, kind_from-word_of}
 

@@ -1,9 +1,9 @@
 -- A fault excludes geometries, and records have one fault at most.
 use Rattle.std.proofs.Common.{◌≡◌, ℕ, ◌<◌, List, [], ◌∷◌, ◌++◌, length, refl, sym, ◌∙◌, ap, subst, arith, append_assoc, length-append, inl, inr}
 use Rattle.std.specs.Prelude.{map, reverse}
-use Rattle.twkb_geom.specs.Tree.{Tree}
-use Rattle.twkb_geom.specs.Limits.{Allowance, IsAllowance}
-use Rattle.twkb_geom.specs.Rows.{rows_of}
+use Rattle.twkb_tree.specs.Tree.{Tree}
+use Rattle.twkb_tree.specs.Limits.{Allowance, IsAllowance}
+use Rattle.twkb_tree.specs.Rows.{rows_of}
 use Rattle.twkb_table.specs.Record.{Record, record_of, header}
 use Rattle.twkb_table.specs.Named.{Named, NamesNone}
 use Rattle.twkb_table.specs.Judged.{Refused, Judged}

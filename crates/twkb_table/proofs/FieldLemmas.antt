@@ -6,12 +6,12 @@ use Rattle.std.specs.Fmt.{signed_decimal}
 use Rattle.std.proofs.lemmas.Fmt.{decimal_injective, decimal_nonempty}
 use Rattle.twkb_points.specs.Point.{Point}
 use Rattle.twkb_polyline.specs.Polyline.{polyline}
-use Rattle.twkb_geom.specs.declared.kind.Kind.{Kind}
-use Rattle.twkb_geom.specs.declared.kind.Kind.TheVariants as kind
-use Rattle.twkb_geom.specs.Tree.{IsId, IsPrecision}
-use Rattle.twkb_geom.specs.Rows.{Row}
+use Rattle.twkb_tree.specs.declared.kind.Kind.{Kind}
+use Rattle.twkb_tree.specs.declared.kind.Kind.TheVariants as kind
+use Rattle.twkb_tree.specs.Tree.{IsId, IsPrecision}
+use Rattle.twkb_tree.specs.Rows.{Row}
 use Rattle.twkb_table.specs.Fields.{optional}
-use Rattle.twkb_geom.specs.Kind.{word_of}
+use Rattle.twkb_tree.specs.Kind.{word_of}
 use Rattle.twkb_table.specs.Record.{record_of}
 use Rattle.twkb_polyline.proofs.OneFault.{one_polyline}
 use Rattle.twkb_table.proofs.DecimalLemmas.{mag-id, one_id, precision-id}

@@ -1,16 +1,16 @@
 -- One record more: records that name geometries go on to name geometries exactly where the record is judged a row.
 use Rattle.std.proofs.Common.{◌≡◌, List, [], ◌∷◌, ◌++◌, refl, sym, ◌∙◌, ap, subst}
 use Rattle.std.specs.Prelude.{map, reverse}
-use Rattle.twkb_geom.specs.Tree.{Tree}
-use Rattle.twkb_geom.specs.Limits.{Allowance, IsAllowance}
-use Rattle.twkb_geom.specs.Rows.{Row, rows_of}
-use Rattle.twkb_geom.specs.Accepted.{Accepts}
+use Rattle.twkb_tree.specs.Tree.{Tree}
+use Rattle.twkb_tree.specs.Limits.{Allowance, IsAllowance}
+use Rattle.twkb_tree.specs.Rows.{Row, rows_of}
+use Rattle.twkb_tree.specs.Accepted.{Accepts}
 use Rattle.twkb_table.specs.Record.{Record, record_of, header}
 use Rattle.twkb_table.specs.Named.{Named, NamesNone}
 use Rattle.twkb_table.specs.Judged.{Verdict, Accepted, Refused, Judged}
 use Rattle.twkb_table.specs.declared.reason.RowReason.{RowReason}
 use Rattle.twkb_table.proofs.AcceptedRecords.{judged_row, has_room}
-use Rattle.twkb_geom.proofs.LimitLaws.{row_accepted, accepts_row, accepted_rows}
+use Rattle.twkb_tree.proofs.LimitLaws.{row_accepted, accepts_row, accepted_rows}
 use Rattle.twkb_table.proofs.FieldLemmas.{IsPlain, ArePlain, one_list, head_same, tail_same}
 use Rattle.twkb_table.proofs.RowsJudged.{judged_only}
 use Rattle.twkb_table.proofs.Tables.{plain_rows, split}

@@ -1,11 +1,11 @@
 -- A record is judged a row exactly where it is that row's record and the row may come next.
 use Rattle.std.proofs.Common.{◌≡◌, ◌≤◌, List, [], ◌∷◌, ◌++◌, subst, sym}
 use Rattle.std.specs.Prelude.{◌↔◌, reverse}
-use Rattle.twkb_geom.specs.Limits.{Allowance, IsAllowance}
-use Rattle.twkb_geom.specs.Rows.{Row}
-use Rattle.twkb_geom.specs.RowLists.{AreValidRows, AreShallow}
-use Rattle.twkb_geom.specs.Accepted.{Accepts}
-use Rattle.twkb_geom.proofs.LimitLaws.{accepted_rows, row_accepted}
+use Rattle.twkb_tree.specs.Limits.{Allowance, IsAllowance}
+use Rattle.twkb_tree.specs.Rows.{Row}
+use Rattle.twkb_tree.specs.RowLists.{AreValidRows, AreShallow}
+use Rattle.twkb_tree.specs.Accepted.{Accepts}
+use Rattle.twkb_tree.proofs.LimitLaws.{accepted_rows, row_accepted}
 use Rattle.twkb_table.specs.Record.{Record, record_of}
 use Rattle.twkb_table.specs.Judged.{Judged, Accepted}
 use Rattle.twkb_table.proofs.AcceptedRecords.{judged_row, has_room}

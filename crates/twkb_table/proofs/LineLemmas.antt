@@ -4,11 +4,11 @@ use Rattle.std.specs.Prelude.{ℤ, map, Result, OnOk}
 use Rattle.std.proofs.lemmas.List.{drop_all, map-append, take_all, take_more, take-append-drop}
 use Rattle.std.proofs.lemmas.Option.{get_or_from_slice_get, slice_get_within}
 use Rattle.std.proofs.lemmas.Grind.{flat_map-append}
-use Rattle.twkb_geom.specs.Tree.{Ids, Tree, saturated}
+use Rattle.twkb_tree.specs.Tree.{Ids, Tree, saturated}
 use Rattle.twkb_flat.specs.declared.work.Work.{Work}
-use Rattle.twkb_geom.specs.Rows.{Row, row_points, plain_row, polygon_rows, ring_rows, first_id, ids_from, rows_of_each, rows_with, rows_under, own_row}
-use Rattle.twkb_geom.proofs.RowMembers.{each_next, ids_from_start, own_row_first}
-use Rattle.twkb_geom.specs.declared.kind.Kind.{Kind}
+use Rattle.twkb_tree.specs.Rows.{Row, row_points, plain_row, polygon_rows, ring_rows, first_id, ids_from, rows_of_each, rows_with, rows_under, own_row}
+use Rattle.twkb_tree.proofs.RowMembers.{each_next, ids_from_start, own_row_first}
+use Rattle.twkb_tree.specs.declared.kind.Kind.{Kind}
 use Rattle.twkb_points.specs.Point.{Point}
 use Rattle.twkb_table.specs.Record.{Record, record_of}
 use Rattle.twkb_table.specs.Text.{csvtext, joined}

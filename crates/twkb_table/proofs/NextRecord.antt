@@ -1,13 +1,13 @@
 -- What the geometries are after one record more.
 use Rattle.std.proofs.Common.{◌≡◌, ◌+◌, ◌<◌, List, [], ◌∷◌, ◌++◌, length, refl, sym, ◌∙◌, ap, append_assoc, inr}
 use Rattle.std.specs.Prelude.{map, reverse}
-use Rattle.twkb_geom.specs.Tree.{Tree}
-use Rattle.twkb_geom.specs.Limits.{Allowance, IsAllowance, IsValid}
-use Rattle.twkb_geom.specs.Rows.{Row, rows, rows_of}
-use Rattle.twkb_geom.specs.Accepted.{Accepts}
-use Rattle.twkb_geom.proofs.AllJoined.{all_join, all_apart}
-use Rattle.twkb_geom.proofs.LimitLaws.{accepted_rows}
-use Rattle.twkb_geom.proofs.RowsGrow.{grown_geometry, new_geometry, rows_of-last}
+use Rattle.twkb_tree.specs.Tree.{Tree}
+use Rattle.twkb_tree.specs.Limits.{Allowance, IsAllowance, IsValid}
+use Rattle.twkb_tree.specs.Rows.{Row, rows, rows_of}
+use Rattle.twkb_tree.specs.Accepted.{Accepts}
+use Rattle.twkb_tree.proofs.AllJoined.{all_join, all_apart}
+use Rattle.twkb_tree.proofs.LimitLaws.{accepted_rows}
+use Rattle.twkb_tree.proofs.RowsGrow.{grown_geometry, new_geometry, rows_of-last}
 use Rattle.twkb_table.specs.Record.{Record, record_of, header, table}
 use Rattle.twkb_table.specs.Named.{Named}
 use Rattle.twkb_table.specs.Judged.{Accepted, Refused, Judged}

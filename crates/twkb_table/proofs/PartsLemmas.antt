@@ -4,13 +4,13 @@ use Rattle.std.specs.Prelude.{map}
 use Rattle.std.proofs.lemmas.Fmt.{decimal_injective}
 use Rattle.std.proofs.lemmas.List.{map-append}
 use Rattle.std.proofs.lemmas.Grind.{flat_map-append}
-use Rattle.twkb_geom.specs.Tree.{Tree}
-use Rattle.twkb_geom.specs.Limits.{Allowance, IsAllowance, IsValid}
-use Rattle.twkb_geom.specs.Rows.{Row, rows, rows_of}
-use Rattle.twkb_geom.specs.RowLists.{AreShallow, AreValid, IsAtRoot, IsShallow}
-use Rattle.twkb_geom.proofs.AllJoined.{all_apart, all_join}
-use Rattle.twkb_geom.proofs.LimitLaws.{valid_front}
-use Rattle.twkb_geom.proofs.RootEnd.{first_all_ended}
+use Rattle.twkb_tree.specs.Tree.{Tree}
+use Rattle.twkb_tree.specs.Limits.{Allowance, IsAllowance, IsValid}
+use Rattle.twkb_tree.specs.Rows.{Row, rows, rows_of}
+use Rattle.twkb_tree.specs.RowLists.{AreShallow, AreValid, IsAtRoot, IsShallow}
+use Rattle.twkb_tree.proofs.AllJoined.{all_apart, all_join}
+use Rattle.twkb_tree.proofs.LimitLaws.{valid_front}
+use Rattle.twkb_tree.proofs.RootEnd.{first_all_ended}
 use Rattle.twkb_table.specs.Record.{Record, header, record_of}
 use Rattle.twkb_table.specs.Named.{Named}
 use Rattle.twkb_table.specs.Parts.{BeginAtRoot}

@@ -5,15 +5,15 @@ use Rattle.std.specs.Str.{bytes_eq}
 use Rattle.std.proofs.lemmas.Bool.{true≢false}
 use Rattle.std.proofs.lemmas.List.{reverse-append}
 use Rattle.std.proofs.lemmas.Slice.Eq.{bytes_eq-Decides}
-use Rattle.twkb_geom.specs.Tree.{Tree}
-use Rattle.twkb_geom.specs.Limits.{Allowance, IsAllowance}
-use Rattle.twkb_geom.specs.Rows.{Row, rows_of}
+use Rattle.twkb_tree.specs.Tree.{Tree}
+use Rattle.twkb_tree.specs.Limits.{Allowance, IsAllowance}
+use Rattle.twkb_tree.specs.Rows.{Row, rows_of}
 use Rattle.twkb_table.specs.Record.{Record, header}
 use Rattle.twkb_table.specs.Named.{Named}
 use Rattle.twkb_table.specs.Judged.{Verdict, Accepted, Refused, Judged}
 use Rattle.twkb_table.specs.Reading.{Stopped, read_rows, read_table, reading_after, is_record, Judges, IsReading}
 use Rattle.twkb_table.specs.declared.reason.RowReason.TheVariants.{BadHeader}
-use Rattle.twkb_geom.proofs.LimitLaws.{accepted_rows}
+use Rattle.twkb_tree.proofs.LimitLaws.{accepted_rows}
 use Rattle.twkb_table.proofs.Growing.{grows, refused_none}
 use Rattle.twkb_table.proofs.Verdicts.{both, both_true}
 

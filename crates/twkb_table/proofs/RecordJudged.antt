@@ -2,18 +2,18 @@
 use Rattle.std.proofs.Common.{◌≡◌, ℕ, zero, suc, ◌<◌, ◌≤◌, Bool, false, List, [], ◌∷◌, length, Option, Some, None, Result, Ok, Err, refl, sym, ◌∙◌, ap, subst, arith, inl, inr, Bor}
 use Rattle.std.specs.Prelude.{◌&&◌, IsSome, IfOk, IfErr, option_map}
 use Rattle.csv.specs.Records.{field_at}
-use Rattle.twkb_geom.specs.declared.kind.Kind.{Kind}
-use Rattle.twkb_geom.specs.declared.open_rows.OpenRow.{OpenRow}
-use Rattle.twkb_geom.specs.Limits.{Allowance}
-use Rattle.twkb_geom.specs.Rows.{Row}
-use Rattle.twkb_geom.specs.Admits.{steps_to, has_place, parent}
+use Rattle.twkb_tree.specs.declared.kind.Kind.{Kind}
+use Rattle.twkb_tree.specs.declared.open_rows.OpenRow.{OpenRow}
+use Rattle.twkb_tree.specs.Limits.{Allowance}
+use Rattle.twkb_tree.specs.Rows.{Row}
+use Rattle.twkb_tree.specs.Admits.{steps_to, has_place, parent}
 use Rattle.twkb_table.specs.Fields.{IsDepthField}
-use Rattle.twkb_geom.specs.Kind.{word_of}
+use Rattle.twkb_tree.specs.Kind.{word_of}
 use Rattle.twkb_table.specs.Record.{Record}
 use Rattle.twkb_table.specs.Judged.{Verdict, Refused, JudgedByPlace, Judged}
-use Rattle.twkb_geom.specs.Standing.{standing_at}
+use Rattle.twkb_tree.specs.Standing.{standing_at}
 use Rattle.twkb_table.specs.Standing.{place_seen, StandsAfter, IfRefused}
-use Rattle.twkb_geom.specs.declared.standing.Standing.{Standing}
+use Rattle.twkb_tree.specs.declared.standing.Standing.{Standing}
 use Rattle.twkb_table.specs.declared.judging.JudgeFault.{JudgeFault}
 use Rattle.twkb_table.specs.declared.judging.JudgeFault.TheVariants.{Memory}
 use Rattle.twkb_table.specs.declared.judging.JudgeFault.TheVariants as Fault

@@ -4,20 +4,20 @@ use Rattle.std.specs.Prelude.{reverse, is_some, ◌↔◌}
 use Rattle.std.proofs.lemmas.Bool.{false≢true}
 use Rattle.std.proofs.lemmas.List.{reverse-append, length-reverse}
 use Rattle.twkb_points.specs.Point.{Point}
-use Rattle.twkb_geom.specs.declared.open_rows.OpenRow.{OpenRow}
-use Rattle.twkb_geom.specs.Limits.{Allowance}
-use Rattle.twkb_geom.specs.Rows.{Row, row_points}
-use Rattle.twkb_geom.specs.Admits.{parent, first_child, steps_to, fits, id_allowed, admits_after}
-use Rattle.twkb_geom.specs.Accepted.{Accepts, Continues, since_root, point_count}
-use Rattle.twkb_geom.specs.RowLists.{AreRowsOfOne, AreValidRowsOfOne}
-use Rattle.twkb_geom.specs.Open.{AreOpen, opened}
-use Rattle.twkb_geom.proofs.LimitLaws.{accepted_rows}
-use Rattle.twkb_geom.proofs.OpenLaws.{open_more, open_none, steps_within}
-use Rattle.twkb_geom.proofs.RefusalLaws.{continues_is, continues_true, none_is}
-use Rattle.twkb_geom.proofs.RowFacts.{facts}
-use Rattle.twkb_geom.proofs.RootLimits.{continued, valid_list}
-use Rattle.twkb_geom.proofs.RowsGrow.{root_alone}
-use Rattle.twkb_geom.proofs.RowsLocal.{open_last, since_last, point_count-reverse}
+use Rattle.twkb_tree.specs.declared.open_rows.OpenRow.{OpenRow}
+use Rattle.twkb_tree.specs.Limits.{Allowance}
+use Rattle.twkb_tree.specs.Rows.{Row, row_points}
+use Rattle.twkb_tree.specs.Admits.{parent, first_child, steps_to, fits, id_allowed, admits_after}
+use Rattle.twkb_tree.specs.Accepted.{Accepts, Continues, since_root, point_count}
+use Rattle.twkb_tree.specs.RowLists.{AreRowsOfOne, AreValidRowsOfOne}
+use Rattle.twkb_tree.specs.Open.{AreOpen, opened}
+use Rattle.twkb_tree.proofs.LimitLaws.{accepted_rows}
+use Rattle.twkb_tree.proofs.OpenLaws.{open_more, open_none, steps_within}
+use Rattle.twkb_tree.proofs.RefusalLaws.{continues_is, continues_true, none_is}
+use Rattle.twkb_tree.proofs.RowFacts.{facts}
+use Rattle.twkb_tree.proofs.RootLimits.{continued, valid_list}
+use Rattle.twkb_tree.proofs.RowsGrow.{root_alone}
+use Rattle.twkb_tree.proofs.RowsLocal.{open_last, since_last, point_count-reverse}
 use Rattle.twkb_flat.specs.Rows.{row_with}
 use Rattle.twkb_flat.specs.declared.node.Row.{Row as Bare}
 use Rattle.twkb_table.specs.Record.{Record}

@@ -4,15 +4,15 @@ use Rattle.std.specs.Prelude.{ℤ, ◌&&◌, decimal, is_some, IfSome}
 use Rattle.std.proofs.lemmas.Bool.{true≢false, false≢true}
 use Rattle.twkb_points.specs.Point.{Point}
 use Rattle.twkb_polyline.specs.Polyline.{polyline, DecodesTo}
-use Rattle.twkb_geom.specs.Tree.{IsPrecision}
-use Rattle.twkb_geom.specs.Rows.{Row}
-use Rattle.twkb_geom.specs.Limits.{Allowance}
-use Rattle.twkb_geom.specs.Admits.{parent, first_child, steps_to, has_place, id_allowed, has_same_ids, is_whole, has_points, points_fit, precision_in_range, precision_fits, fits}
-use Rattle.twkb_geom.specs.Accepted.{nest_kept, geometry_rows, Accepts}
-use Rattle.twkb_geom.proofs.RowFacts.{Facts, facts, no_points_of}
-use Rattle.twkb_geom.proofs.RowRanges.{optional_id_is, precision_is}
+use Rattle.twkb_tree.specs.Tree.{IsPrecision}
+use Rattle.twkb_tree.specs.Rows.{Row}
+use Rattle.twkb_tree.specs.Limits.{Allowance}
+use Rattle.twkb_tree.specs.Admits.{parent, first_child, steps_to, has_place, id_allowed, has_same_ids, is_whole, has_points, points_fit, precision_in_range, precision_fits, fits}
+use Rattle.twkb_tree.specs.Accepted.{nest_kept, geometry_rows, Accepts}
+use Rattle.twkb_tree.proofs.RowFacts.{Facts, facts, no_points_of}
+use Rattle.twkb_tree.proofs.RowRanges.{optional_id_is, precision_is}
 use Rattle.twkb_table.specs.Fields.{optional, IsDepthField, IsOptionalId, IsOptionalPrecision}
-use Rattle.twkb_geom.specs.Kind.{word_of}
+use Rattle.twkb_tree.specs.Kind.{word_of}
 use Rattle.twkb_table.specs.Record.{record_of}
 use Rattle.twkb_table.specs.Judged.{Verdict, Accepted, When, Unless, UnlessFaulty, place_of, points_left, JudgedByPoints, JudgedByPrecision, JudgedByPlace, Judged}
 use Rattle.twkb_table.specs.declared.reason.RowReason.TheVariants.{BadDepth, BadKind, BadPlace, TooDeep, TooManyNodes, BadId, IdNotAllowed, MixedIds, BadPrecision, PrecisionMissing, PrecisionNotAllowed, PolylineNotAllowed, PointCount}

@@ -1,9 +1,9 @@
 -- What a row may be where it stands.
 use Rattle.std.proofs.Common.{◌≡◌, ℕ, true, false, List, Option, inr}
 use Rattle.std.specs.Prelude.{ℤ, is_some}
-use Rattle.twkb_geom.specs.declared.kind.Kind.{Kind}
-use Rattle.twkb_geom.specs.Limits.{Allowance}
-use Rattle.twkb_geom.specs.Admits.{is_whole}
+use Rattle.twkb_tree.specs.declared.kind.Kind.{Kind}
+use Rattle.twkb_tree.specs.Limits.{Allowance}
+use Rattle.twkb_tree.specs.Admits.{is_whole}
 use Rattle.twkb_table.specs.Fields.{IsOptionalPrecision}
 use Rattle.twkb_table.specs.Judged.{Verdict, Place, JudgedByPoints, JudgedByPrecision}
 

@@ -1,10 +1,10 @@
 -- What the calls of a reader of tables show, put together.
 use Rattle.std.proofs.Common.{◌≡◌, ℕ, ◌+◌, ◌<◌, ◌^◌, ◌⊎◌, Bool, true, false, List, [], ◌∷◌, ◌++◌, length, Option, Some, None, Result, Ok, Err, refl, sym, ◌∙◌, ap, subst, arith, inl, inr}
 use Rattle.std.specs.Prelude.{IfOk, IfSome}
-use Rattle.twkb_geom.specs.Tree.{Tree, IsTree}
-use Rattle.twkb_geom.specs.Limits.{Allowance}
-use Rattle.twkb_geom.specs.Rows.{Row, rows}
-use Rattle.twkb_geom.proofs.RootLaws.{one_geometry}
+use Rattle.twkb_tree.specs.Tree.{Tree, IsTree}
+use Rattle.twkb_tree.specs.Limits.{Allowance}
+use Rattle.twkb_tree.specs.Rows.{Row, rows}
+use Rattle.twkb_tree.proofs.RootLaws.{one_geometry}
 use Rattle.twkb_table.specs.Record.{Record, header}
 use Rattle.twkb_table.specs.Named.{Named}
 use Rattle.twkb_table.specs.RowFault.{AreComplete, all_but_last}

@@ -3,19 +3,19 @@ use Rattle.std.proofs.Common.{◌≡◌, ℕ, ◌+◌, ◌≤◌, arith, List, [
 use Rattle.std.specs.Prelude.{map, reverse, IfSome}
 use Rattle.std.specs.List.{AllByRecursion}
 use mathlib.Core.List.{reverse_aux}
-use Rattle.twkb_geom.specs.Tree.{Tree, IsId, IsPrecision}
-use Rattle.twkb_geom.specs.Limits.{Allowance, IsAllowance}
-use Rattle.twkb_geom.specs.Rows.{Row, rows_of}
-use Rattle.twkb_geom.specs.RowLists.{AreValid, AreGeometries, AreShallow}
-use Rattle.twkb_geom.specs.Admits.{parent, first_child, steps_to, fits}
-use Rattle.twkb_geom.specs.Accepted.{Accepts, AreAccepted}
-use Rattle.twkb_geom.proofs.RowFacts.{facts}
-use Rattle.twkb_geom.proofs.RowRanges.{optional_id_is}
-use Rattle.twkb_geom.proofs.RowDepths.{valid_depths}
-use Rattle.twkb_geom.proofs.RowLaws.{one_reading}
+use Rattle.twkb_tree.specs.Tree.{Tree, IsId, IsPrecision}
+use Rattle.twkb_tree.specs.Limits.{Allowance, IsAllowance}
+use Rattle.twkb_tree.specs.Rows.{Row, rows_of}
+use Rattle.twkb_tree.specs.RowLists.{AreValid, AreGeometries, AreShallow}
+use Rattle.twkb_tree.specs.Admits.{parent, first_child, steps_to, fits}
+use Rattle.twkb_tree.specs.Accepted.{Accepts, AreAccepted}
+use Rattle.twkb_tree.proofs.RowFacts.{facts}
+use Rattle.twkb_tree.proofs.RowRanges.{optional_id_is}
+use Rattle.twkb_tree.proofs.RowDepths.{valid_depths}
+use Rattle.twkb_tree.proofs.RowLaws.{one_reading}
 use Rattle.twkb_table.specs.Record.{Record, record_of, header}
 use Rattle.twkb_table.specs.Named.{Named}
-use Rattle.twkb_geom.proofs.LimitLaws.{accepted_rows, valid_front}
+use Rattle.twkb_tree.proofs.LimitLaws.{accepted_rows, valid_front}
 use Rattle.twkb_table.proofs.FieldLemmas.{ArePlain, one_list, head_same, tail_same}
 use Rattle.twkb_table.proofs.RowsJudged.{optional_precision_is}
 use Rattle.twkb_table.proofs.Verdicts.{both_true}

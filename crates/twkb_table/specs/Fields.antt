@@ -1,7 +1,7 @@
 -- What the fields of a record spell.
 use Rattle.std.specs.Prelude.{◌≡◌, ℕ, ℤ, ◌≤◌, List, [], Option, Some, None, IfSome, decimal}
 use Rattle.std.specs.Fmt.{signed_decimal}
-use Rattle.twkb_geom.specs.Tree.{IsPrecision, IsId}
+use Rattle.twkb_tree.specs.Tree.{IsPrecision, IsId}
 
 -- the answer is a value that the field spells, and none where no value is spelled
 abbrev pub Reads : {A : Type 0} → (A → Type 0) → Option A → Type 0

@@ -4,13 +4,13 @@ use Rattle.twkb_points.specs.Point.{Point}
 use Rattle.twkb_polyline.specs.Polyline.{DecodesTo}
 use Rattle.twkb_polyline.specs.Fault.{IsTextFault}
 use Rattle.twkb_polyline.specs.declared.fault.PolyReason.{PolyReason}
-use Rattle.twkb_geom.specs.declared.kind.Kind.{Kind}
-use Rattle.twkb_geom.specs.Rows.{Row}
-use Rattle.twkb_geom.specs.Limits.{Allowance}
-use Rattle.twkb_geom.specs.Admits.{parent, first_child, steps_to, has_place, id_allowed, has_same_ids, is_whole, points_fit, has_points}
-use Rattle.twkb_geom.specs.Accepted.{nest_kept, geometry_rows, point_count}
+use Rattle.twkb_tree.specs.declared.kind.Kind.{Kind}
+use Rattle.twkb_tree.specs.Rows.{Row}
+use Rattle.twkb_tree.specs.Limits.{Allowance}
+use Rattle.twkb_tree.specs.Admits.{parent, first_child, steps_to, has_place, id_allowed, has_same_ids, is_whole, points_fit, has_points}
+use Rattle.twkb_tree.specs.Accepted.{nest_kept, geometry_rows, point_count}
 use Rattle.twkb_table.specs.Fields.{IsDepthField, IsOptionalId, IsOptionalPrecision}
-use Rattle.twkb_geom.specs.Kind.{word_of}
+use Rattle.twkb_tree.specs.Kind.{word_of}
 use Rattle.twkb_table.specs.Record.{Record}
 use Rattle.twkb_table.specs.declared.reason.RowReason.{RowReason}
 use Rattle.twkb_table.specs.declared.reason.RowReason.TheVariants.{FieldCount, BadDepth, BadKind, BadPlace, TooDeep, TooManyNodes, BadId, IdNotAllowed, MixedIds, BadPrecision, PrecisionMissing, PrecisionNotAllowed, PolylineNotAllowed, Polyline, PointCount}

@@ -1,8 +1,8 @@
 -- What geometries records name.
 use Rattle.std.specs.Prelude.{◌≡◌, List}
-use Rattle.twkb_geom.specs.Tree.{Tree}
-use Rattle.twkb_geom.specs.Limits.{Allowance}
-use Rattle.twkb_geom.specs.RowLists.{AreValid}
+use Rattle.twkb_tree.specs.Tree.{Tree}
+use Rattle.twkb_tree.specs.Limits.{Allowance}
+use Rattle.twkb_tree.specs.RowLists.{AreValid}
 use Rattle.twkb_table.specs.Record.{Record, table}
 
 -- The records are the table of these geometries, each of them valid.

@@ -1,6 +1,6 @@
 -- The text of rows.
 use Rattle.std.specs.Prelude.{ℕ, ◌≡◌, ◌++◌, List, map}
-use Rattle.twkb_geom.specs.Rows.{Row}
+use Rattle.twkb_tree.specs.Rows.{Row}
 use Rattle.twkb_table.specs.Record.{record_of}
 use Rattle.twkb_table.specs.Text.{csvtext}
 

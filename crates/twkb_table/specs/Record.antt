@@ -1,10 +1,10 @@
 -- The records of geometries.
 use Rattle.std.specs.Prelude.{ℕ, List, [], ◌∷◌, map, codes, decimal}
 use Rattle.twkb_polyline.specs.Polyline.{polyline}
-use Rattle.twkb_geom.specs.Tree.{Tree}
-use Rattle.twkb_geom.specs.Rows.{Row, rows_of}
+use Rattle.twkb_tree.specs.Tree.{Tree}
+use Rattle.twkb_tree.specs.Rows.{Row, rows_of}
 use Rattle.twkb_table.specs.Fields.{optional}
-use Rattle.twkb_geom.specs.Kind.{word_of}
+use Rattle.twkb_tree.specs.Kind.{word_of}
 
 -- the fields of a record, each of them bytes
 abbrev pub Record : Type 0

@@ -1,8 +1,8 @@
 -- Where and why records are refused, and what is complete before that place (profile).
 use Rattle.std.specs.Prelude.{◌≡◌, ◌≢◌, ℕ, ◌+◌, ◌⊎◌, List, [], ◌∷◌, ◌++◌, length, reverse, ⊤}
-use Rattle.twkb_geom.specs.Tree.{Tree}
-use Rattle.twkb_geom.specs.Rows.{rows_of}
-use Rattle.twkb_geom.specs.Limits.{Allowance}
+use Rattle.twkb_tree.specs.Tree.{Tree}
+use Rattle.twkb_tree.specs.Rows.{rows_of}
+use Rattle.twkb_tree.specs.Limits.{Allowance}
 use Rattle.twkb_table.specs.Record.{Record, header}
 use Rattle.twkb_table.specs.Named.{Named, NamesNone}
 use Rattle.twkb_table.specs.Judged.{Judged, Refused}

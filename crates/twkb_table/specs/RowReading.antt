@@ -1,11 +1,11 @@
 -- How a reader of rows stands in the geometry that it reads.
 use Rattle.std.specs.Prelude.{◌≡◌, ◌<◌, List, [], ◌∷◌, ◌++◌, length, reverse, Option, Some, None}
 use Rattle.twkb_points.specs.Point.{Point}
-use Rattle.twkb_geom.specs.Limits.{Allowance}
-use Rattle.twkb_geom.specs.Rows.{Row as TableRow}
-use Rattle.twkb_geom.specs.RowLists.{AreValidRowsOfOne}
-use Rattle.twkb_geom.specs.declared.open_rows.OpenRow.{OpenRow}
-use Rattle.twkb_geom.specs.Open.{AreOpen}
+use Rattle.twkb_tree.specs.Limits.{Allowance}
+use Rattle.twkb_tree.specs.Rows.{Row as TableRow}
+use Rattle.twkb_tree.specs.RowLists.{AreValidRowsOfOne}
+use Rattle.twkb_tree.specs.declared.open_rows.OpenRow.{OpenRow}
+use Rattle.twkb_tree.specs.Open.{AreOpen}
 use Rattle.twkb_flat.specs.Rows.{row_with}
 use Rattle.twkb_table.specs.Record.{Record}
 use Rattle.twkb_table.specs.Waiting.{root_row}

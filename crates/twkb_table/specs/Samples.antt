@@ -1,7 +1,7 @@
 -- Worked tables: the records of geometries, and their text.
 use Rattle.std.specs.Prelude.{◌≡◌, pos, negsuc, [], ◌∷◌, Some, codes}
 use Rattle.twkb_points.specs.Point.{point_at}
-use Rattle.twkb_geom.specs.Tree.{Tree, simple, collection, end, ◌▷◌, point, line, polygon}
+use Rattle.twkb_tree.specs.Tree.{Tree, simple, collection, end, ◌▷◌, point, line, polygon}
 use Rattle.twkb_table.specs.Record.{header, table}
 use Rattle.twkb_table.specs.Text.{csvtext}
 

@@ -1,14 +1,14 @@
 -- Where a row stands, as a reader sees it by the open rows.
 use Rattle.std.specs.Prelude.{◌≡◌, ℕ, true, List, length, ⊤}
-use Rattle.twkb_geom.specs.declared.open_rows.OpenRow.{OpenRow}
-use Rattle.twkb_geom.specs.Rows.{Row}
-use Rattle.twkb_geom.specs.Accepted.{since_root, point_count}
-use Rattle.twkb_geom.specs.Open.{AreOpen, row_of, child_of}
+use Rattle.twkb_tree.specs.declared.open_rows.OpenRow.{OpenRow}
+use Rattle.twkb_tree.specs.Rows.{Row}
+use Rattle.twkb_tree.specs.Accepted.{since_root, point_count}
+use Rattle.twkb_tree.specs.Open.{AreOpen, row_of, child_of}
 use Rattle.twkb_table.specs.Judged.{Place}
 use Rattle.twkb_table.specs.declared.judging.JudgeFault.{JudgeFault}
 use Rattle.twkb_table.specs.declared.judging.JudgeFault.TheVariants.{Memory, Refused}
 use Rattle.twkb_table.specs.declared.reason.RowReason.{RowReason}
-use Rattle.twkb_geom.specs.declared.standing.Standing.{Standing}
+use Rattle.twkb_tree.specs.declared.standing.Standing.{Standing}
 
 -- the place of a row that stands so: some parent of its kind, some first child with an id or without
 abbrev pub place_seen : Standing → Place

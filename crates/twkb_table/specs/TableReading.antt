@@ -1,8 +1,8 @@
 -- Where a reader of tables stands, and what its calls answer.
 use Rattle.std.specs.Prelude.{◌≡◌, ℕ, ◌+◌, ◌^◌, ◌<◌, ◌⊎◌, List, [], ◌∷◌, ◌++◌, length, Option, IfSome, Result, Ok, Err, Bool, true, false, ⊤}
-use Rattle.twkb_geom.specs.Tree.{Tree}
-use Rattle.twkb_geom.specs.Rows.{Row, rows}
-use Rattle.twkb_geom.specs.Limits.{Allowance, IsValid}
+use Rattle.twkb_tree.specs.Tree.{Tree}
+use Rattle.twkb_tree.specs.Rows.{Row, rows}
+use Rattle.twkb_tree.specs.Limits.{Allowance, IsValid}
 use Rattle.twkb_table.specs.Record.{Record, header}
 use Rattle.twkb_table.specs.Named.{Named}
 use Rattle.twkb_table.specs.RowFault.{AreComplete, all_but_last}

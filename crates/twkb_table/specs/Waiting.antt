@@ -1,8 +1,8 @@
 -- A root that waits until the geometry before it was given.
 use Rattle.std.specs.Prelude.{List, [], Option, Some, None, Bool, true}
 use Rattle.twkb_points.specs.Point.{Point}
-use Rattle.twkb_geom.specs.Limits.{Allowance}
-use Rattle.twkb_geom.specs.Refusal.{continues}
+use Rattle.twkb_tree.specs.Limits.{Allowance}
+use Rattle.twkb_tree.specs.Refusal.{continues}
 use Rattle.twkb_flat.specs.Rows.{row_with}
 use Rattle.twkb_flat.specs.declared.node.Row.{Row}
 use Rattle.twkb_table.specs.declared.row_reader.Root.{Root}

@@ -1,6 +1,6 @@
 //! The rows of a flat form as text.
 ghost use Rattle.std.specs.Prelude.{◌≡◌, ◌≤◌, ◌+◌, ◌++◌, length, map, OnOk, OnErr};
-ghost use Rattle.twkb_geom.specs.Rows.{row_points};
+ghost use Rattle.twkb_tree.specs.Rows.{row_points};
 ghost use Rattle.twkb_table.specs.Record.{record_of};
 ghost use Rattle.twkb_table.specs.Text.{csvtext};
 ghost use Rattle.twkb_table.specs.Printing.{row_lines, Grows};

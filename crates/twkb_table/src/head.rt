@@ -2,10 +2,10 @@
 use crate::judging::JudgeFault;
 use crate::reason::RowReason;
 use twkb_flat::{PointSource, Row};
-use twkb_geom::row_rules::{count_fits, has_points, is_whole};
-use twkb_geom::{Kind, Limits, Standing};
 use twkb_points::PointTail;
 use twkb_polyline::{PolyFault, decode_into};
+use twkb_tree::row_rules::{count_fits, has_points, is_whole};
+use twkb_tree::{Kind, Limits, Standing};
 
 /// A row that was read but for its points: where it stands, what its fields say, and the text of
 /// its points.

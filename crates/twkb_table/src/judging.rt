@@ -1,7 +1,7 @@
 //! What a record after the first is: a row, or the first reason that holds of it.
 ghost use Rattle.std.specs.Prelude.{List, IfOk, IfErr};
 ghost use Rattle.csv.specs.Records.{fields_of};
-ghost use Rattle.twkb_geom.specs.Rows.{Row as TableRow};
+ghost use Rattle.twkb_tree.specs.Rows.{Row as TableRow};
 ghost use Rattle.twkb_table.specs.Judged.{Verdict, Judged, Accepted, Refused, JudgedByPlace};
 ghost use Rattle.twkb_table.specs.Standing.{place_seen, StandsAfter, IfRefused};
 ghost use Rattle.twkb_table.specs.Head.{JudgedAs};
@@ -16,8 +16,8 @@ use crate::places::{check_place, read_id, read_precision};
 use crate::reason::RowReason;
 use csv::ByteRecord;
 use twkb_flat::{PointSource, Row};
-use twkb_geom::{Kind, Limits, OpenRow, Standing};
 use twkb_points::Pt;
+use twkb_tree::{Kind, Limits, OpenRow, Standing};
 
 /// Why a record gave no row.
 #[derive(Clone, Copy, Debug, PartialEq, Eq)]

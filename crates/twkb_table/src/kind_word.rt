@@ -1,9 +1,9 @@
 //! The words of the kinds.
 ghost use Rattle.std.specs.Prelude.{◌≡◌};
 ghost use Rattle.twkb_table.specs.Fields.{Reads};
-ghost use Rattle.twkb_geom.specs.Kind.{word_of};
+ghost use Rattle.twkb_tree.specs.Kind.{word_of};
 
-use twkb_geom::Kind;
+use twkb_tree::Kind;
 
 /// The kind whose word the field is (profile). Takes no memory.
 #[inline(always)]

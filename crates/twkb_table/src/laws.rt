@@ -2,11 +2,11 @@
 ghost use Rattle.std.specs.Prelude.{◌≡◌, ◌≢◌, ◌↔◌, ◌≤◌, ◌⊎◌, ◌++◌, ◌∷◌, [], ℕ, List, reverse};
 ghost use Rattle.csv.specs.Reading.{AreRecords, default_config, strip_bom};
 ghost use Rattle.csv.specs.declared.parser.State.TheVariants.{StartRecord};
-ghost use Rattle.twkb_geom.specs.Tree.{Tree};
-ghost use Rattle.twkb_geom.specs.Limits.{Allowance, IsAllowance};
-ghost use Rattle.twkb_geom.specs.Rows.{Row, rows_of};
-ghost use Rattle.twkb_geom.specs.RowLists.{AreValidRows};
-ghost use Rattle.twkb_geom.specs.Accepted.{Accepts};
+ghost use Rattle.twkb_tree.specs.Tree.{Tree};
+ghost use Rattle.twkb_tree.specs.Limits.{Allowance, IsAllowance};
+ghost use Rattle.twkb_tree.specs.Rows.{Row, rows_of};
+ghost use Rattle.twkb_tree.specs.RowLists.{AreValidRows};
+ghost use Rattle.twkb_tree.specs.Accepted.{Accepts};
 ghost use Rattle.twkb_table.specs.Record.{Record, header, record_of};
 ghost use Rattle.twkb_table.specs.Named.{Named, NamesNone};
 ghost use Rattle.twkb_table.specs.Parts.{BeginAtRoot};

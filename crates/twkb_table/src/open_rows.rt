@@ -1,12 +1,12 @@
 //! The open rows of a table that is being read.
 ghost use Rattle.std.specs.Prelude.{◌≡◌, ◌≤◌, List, length, OnOk, OnErr};
 ghost use Rattle.twkb_points.specs.Point.{Point};
-ghost use Rattle.twkb_geom.specs.Open.{opened};
+ghost use Rattle.twkb_tree.specs.Open.{opened};
 ghost use Rattle.twkb_flat.specs.Rows.{row_with};
 
 use std::alloc::AllocError;
 use twkb_flat::Row;
-use twkb_geom::OpenRow;
+use twkb_tree::OpenRow;
 
 /// Opens a row that was read: the open rows at its depth and below go, its parent has had a child,
 /// and the row stands last. Takes memory where more rows are open than ever before; an `Err`

@@ -1,14 +1,14 @@
 //! What a row may be where it stands.
 ghost use Rattle.std.specs.Prelude.{ℕ, ℤ, List, Option, OnOk, IfOk, IfErr};
-ghost use Rattle.twkb_geom.specs.declared.kind.Kind.{Kind};
-ghost use Rattle.twkb_geom.specs.Limits.{Allowance};
+ghost use Rattle.twkb_tree.specs.declared.kind.Kind.{Kind};
+ghost use Rattle.twkb_tree.specs.Limits.{Allowance};
 ghost use Rattle.twkb_table.specs.Judged.{Verdict, Refused, JudgedByPlace, JudgedById, JudgedByPrecision, JudgedByPoints};
 ghost use Rattle.twkb_table.specs.Standing.{place_seen};
 
 use crate::decimal::{parse_optional_id, parse_optional_precision};
 use crate::reason::RowReason;
-use twkb_geom::row_rules::{has_place, has_same_ids, id_allowed, is_whole, nest_kept};
-use twkb_geom::{Kind, Limits, Standing};
+use twkb_tree::row_rules::{has_place, has_same_ids, id_allowed, is_whole, nest_kept};
+use twkb_tree::{Kind, Limits, Standing};
 
 /// Why a row of this kind may not stand there.
 #[inline(always)]

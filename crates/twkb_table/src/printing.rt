@@ -1,9 +1,9 @@
 //! The rows of a geometry as text.
 ghost use Rattle.std.specs.Prelude.{◌≡◌, ◌≤◌, ◌<◌, ◌+◌, ◌^◌, ◌∷◌, [], ◌++◌, map, OnOk, OnErr, IfOk};
-ghost use Rattle.twkb_geom.specs.Limits.{largest_limits};
-ghost use Rattle.twkb_geom.specs.Tree.{nest, nest_all, trees};
-ghost use Rattle.twkb_geom.specs.Rows.{own_row, rows, rows_with, member_rows, rows_of_each, plain_row, ring_rows, polygon_rows};
-ghost use Rattle.twkb_geom.specs.declared.kind.Kind.{Kind};
+ghost use Rattle.twkb_tree.specs.Limits.{largest_limits};
+ghost use Rattle.twkb_tree.specs.Tree.{nest, nest_all, trees};
+ghost use Rattle.twkb_tree.specs.Rows.{own_row, rows, rows_with, member_rows, rows_of_each, plain_row, ring_rows, polygon_rows};
+ghost use Rattle.twkb_tree.specs.declared.kind.Kind.{Kind};
 ghost use Rattle.twkb_table.specs.Record.{record_of};
 ghost use Rattle.twkb_table.specs.Text.{csvtext};
 ghost use Rattle.twkb_flat.specs.Rows.{row_with};
@@ -13,8 +13,8 @@ use crate::row_line::put_row;
 use std::alloc::{AllocError, Global};
 use std::slice::from_ref;
 use twkb_flat::Row;
-use twkb_geom::{Geometry, Ids, Kind, Lines, Members, Pts, Shape, id_at, own_parts};
 use twkb_points::Pt;
+use twkb_tree::{Geometry, Ids, Kind, Lines, Members, Pts, Shape, id_at, own_parts};
 
 /// The lines of the geometry's rows, each ended by LF and none of them the header (profile). Takes
 /// memory for the text alone.
@@ -105,7 +105,7 @@ fn put_part(
 
 /// Appends the lines of the members of a collection.
 #[cycle(lines)]
-#[tactic(auto, using(twkb_geom::specs::Size::member_smaller))]
+#[tactic(auto, using(twkb_tree::specs::Size::member_smaller))]
 fn put_members(
     depth: u32,
     members: &Members,

@@ -1,7 +1,7 @@
 //! One row of a table as a line.
 ghost use Rattle.std.specs.Prelude.{◌≡◌, [], ◌∷◌, ◌++◌, OnOk, OnErr, decimal};
 ghost use Rattle.std.specs.Fmt.{signed_decimal};
-ghost use Rattle.twkb_geom.specs.Kind.{word_of};
+ghost use Rattle.twkb_tree.specs.Kind.{word_of};
 ghost use Rattle.twkb_flat.specs.Rows.{row_with};
 ghost use Rattle.twkb_table.specs.Fields.{optional};
 ghost use Rattle.twkb_table.specs.Printing.{row_lines, Grows};
@@ -9,9 +9,9 @@ ghost use Rattle.twkb_table.specs.Printing.{row_lines, Grows};
 use crate::decimal::{one_digit, push_decimal};
 use std::alloc::AllocError;
 use twkb_flat::Row;
-use twkb_geom::Kind;
 use twkb_points::Pt;
 use twkb_polyline::encode_into;
+use twkb_tree::Kind;
 
 /// Appends the line of a row with its points, or a front of it where memory is refused.
 pub(crate) fn put_row(row: &Row, points: &[Pt], text: &mut Vec<u8>) -> Result<(), AllocError>

@@ -1,7 +1,7 @@
 //! Rows of a table, read into the flat form one geometry after another.
 ghost use Rattle.std.specs.Prelude.{◌≡◌, ◌<◌, ◌↔◌, [], length, true, false, OnOk, IfOk, IfErr, IsTrue};
 ghost use Rattle.csv.specs.Records.{fields_of};
-ghost use Rattle.twkb_geom.specs.Limits.{IsAllowance};
+ghost use Rattle.twkb_tree.specs.Limits.{IsAllowance};
 ghost use Rattle.twkb_table.specs.Judged.{Verdict, Judged, Refused};
 ghost use Rattle.twkb_table.specs.Standing.{IfRefused};
 ghost use Rattle.twkb_table.specs.Head.{JudgedAs};
@@ -14,8 +14,8 @@ use crate::reason::RowReason;
 use csv::ByteRecord;
 use std::alloc::{AllocError, Global};
 use twkb_flat::{Flat, PointSource, Row};
-use twkb_geom::{Kind, Limits, OpenRow};
 use twkb_points::Pt;
+use twkb_tree::{Kind, Limits, OpenRow};
 
 /// A root that waits: each root stands at depth 0, and has no id.
 #[derive(Clone, Copy)]

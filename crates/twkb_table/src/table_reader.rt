@@ -1,8 +1,8 @@
 //! The geometries of a table, one after another.
 ghost use Rattle.std.specs.Prelude.{◌≡◌, ◌+◌, ◌∷◌, ◌++◌, ◌⊎◌, ◌↔◌, ◌<◌, ◌^◌, ◌≢◌, [], ℕ, length, List, Option, None, Some, Ok, Err, true, false, is_err, OnOk, IfOk, IfErr, IfSome, IsTrue};
 ghost use Rattle.twkb_io.specs.Taps.{device_of};
-ghost use Rattle.twkb_geom.specs.Tree.{Tree};
-ghost use Rattle.twkb_geom.specs.Limits.{Allowance};
+ghost use Rattle.twkb_tree.specs.Tree.{Tree};
+ghost use Rattle.twkb_tree.specs.Limits.{Allowance};
 ghost use Rattle.twkb_table.specs.Record.{Record, header};
 
 use crate::header::is_header;
@@ -16,8 +16,8 @@ use std::alloc::Global;
 use std::io::Read;
 use std::mem::replace;
 use twkb_flat::Flat;
-use twkb_geom::{Geometry, Limits};
 use twkb_io::Tap;
+use twkb_tree::{Geometry, Limits};
 
 /// The geometries that a table names, read from a tap one after another (profile; RFC 4180).
 #[derive(Drop)]

@@ -3,12 +3,12 @@ use Rattle.std.proofs.Common.{◌≡◌, ℕ, suc, ◌<◌, ◌≤◌, true, fal
 use Rattle.std.specs.Prelude.{⊤, ℤ, nat_le, nat_eq}
 use Rattle.std.proofs.lemmas.Bool.Decides.{nat_tests}
 use Rattle.twkb_points.specs.Point.{Point}
-use Rattle.twkb_geom.specs.Tree.{Simple, point, line, polygon, multi_point, multi_line, multi_polygon, Tree, simple, collection, Trees, end, ◌▷◌, Ids, members}
-use Rattle.twkb_geom.specs.declared.kind.Kind.{Kind}
-use Rattle.twkb_geom.specs.Rows.{Row, plain_row, polygon_rows, own_row, rows_with, rows_below, member_rows, ring_rows, rows_of_each, first_id, other_ids}
-use Rattle.twkb_geom.proofs.AllJoined.{all_join}
-use Rattle.twkb_geom.proofs.RootLaws.{AreDeep, IsDeeper}
-use Rattle.twkb_geom.proofs.RowFitting.{own_row-depth}
+use Rattle.twkb_tree.specs.Tree.{Simple, point, line, polygon, multi_point, multi_line, multi_polygon, Tree, simple, collection, Trees, end, ◌▷◌, Ids, members}
+use Rattle.twkb_tree.specs.declared.kind.Kind.{Kind}
+use Rattle.twkb_tree.specs.Rows.{Row, plain_row, polygon_rows, own_row, rows_with, rows_below, member_rows, ring_rows, rows_of_each, first_id, other_ids}
+use Rattle.twkb_tree.proofs.AllJoined.{all_join}
+use Rattle.twkb_tree.proofs.RootLaws.{AreDeep, IsDeeper}
+use Rattle.twkb_tree.proofs.RowFitting.{own_row-depth}
 use Rattle.twkb_grammar.specs.Items.{OfId}
 use Rattle.twkb_writer.specs.Bytes.{members_below, ids_bytes, id_bytes, signed}
 use Rattle.twkb_writer.proofs.WayLemmas.{walked}

@@ -6,10 +6,10 @@ use Rattle.twkb_num.specs.Zigzag.{zigzag_of}
 use Rattle.twkb_num.specs.Varint.{varint_of}
 use Rattle.twkb_points.specs.Point.{Point}
 use Rattle.twkb_points.specs.Extent.{Extent, extent, extent_of, joined_options, box_numbers, tight}
-use Rattle.twkb_geom.specs.Tree.{Simple, point, line, polygon, multi_point, multi_line, multi_polygon, Tree, simple, collection, end, ◌▷◌, IsTree, IsPrecision, precision_of, flat}
-use Rattle.twkb_geom.specs.Rows.{own_row, own_points, kind_in}
-use Rattle.twkb_geom.specs.Uniform.{uniform}
-use Rattle.twkb_geom.proofs.RowTests.{both_true}
+use Rattle.twkb_tree.specs.Tree.{Simple, point, line, polygon, multi_point, multi_line, multi_polygon, Tree, simple, collection, end, ◌▷◌, IsTree, IsPrecision, precision_of, flat}
+use Rattle.twkb_tree.specs.Rows.{own_row, own_points, kind_in}
+use Rattle.twkb_tree.specs.Uniform.{uniform}
+use Rattle.twkb_tree.proofs.RowTests.{both_true}
 use Rattle.twkb_grammar.specs.Items.{header_byte, kind_of, flags}
 use Rattle.twkb_grammar.specs.Written.{is_point, has_any, boxed, box_of, flag_bits, flags_of_tree, kind_of_tree, metadata_byte, framed, written, canonical_blob}
 use Rattle.twkb_grammar.specs.declared.style.Style.{Style}

@@ -2,9 +2,9 @@
 use Rattle.std.proofs.Common.{◌≡◌, ℕ, suc, ◌<◌, ◌≤◌, List, [], ◌∷◌, ◌++◌, length, true, false, refl, ◌∙◌, ap, arith}
 use Rattle.std.specs.Prelude.{nat_lt, nat_eq, if◌then◌else◌}
 use Rattle.std.proofs.lemmas.Bool.Decides.{nat_tests}
-use Rattle.twkb_geom.specs.Rows.{Row}
-use Rattle.twkb_geom.proofs.RootLaws.{AreDeep}
-use Rattle.twkb_geom.specs.RowLists.{IsAbove}
+use Rattle.twkb_tree.specs.Rows.{Row}
+use Rattle.twkb_tree.proofs.RootLaws.{AreDeep}
+use Rattle.twkb_tree.specs.RowLists.{IsAbove}
 use Rattle.twkb_grammar.specs.declared.style.Style.{Style}
 use Rattle.twkb_writer.specs.declared.levels.Level.{Level}
 use Rattle.twkb_writer.specs.Levels.{blank}

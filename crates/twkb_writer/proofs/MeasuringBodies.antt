@@ -5,9 +5,9 @@ use Rattle.std.proofs.lemmas.Bool.Decides.{nat_tests}
 use Rattle.twkb_num.specs.Zigzag.{zigzag_of}
 use Rattle.twkb_num.specs.Varint.{varint_of}
 use Rattle.twkb_points.specs.Point.{Point, origin}
-use Rattle.twkb_geom.specs.declared.kind.Kind.TheVariants as kind
-use Rattle.twkb_geom.specs.Tree.{Ids, Simple, point, line, polygon, multi_point, multi_line, multi_polygon, points_in, IdsFit}
-use Rattle.twkb_geom.specs.Rows.{kind_in, own_points}
+use Rattle.twkb_tree.specs.declared.kind.Kind.TheVariants as kind
+use Rattle.twkb_tree.specs.Tree.{Ids, Simple, point, line, polygon, multi_point, multi_line, multi_polygon, points_in, IdsFit}
+use Rattle.twkb_tree.specs.Rows.{kind_in, own_points}
 use Rattle.twkb_grammar.specs.Items.{Place, OfCount, OfId, OfPoint, fields, outline, run_of, rings_of, id_places, flags, members, parts}
 use Rattle.twkb_grammar.specs.Written.{varints, is_empty}
 use Rattle.twkb_grammar.proofs.Places.{steps, places, fields_are, points_are}

@@ -1,12 +1,12 @@
 -- The caps of a flat form's rows.
 use Rattle.std.proofs.Common.{ℕ, zero, suc, ◌≤◌, ◌^◌, List, [], ◌∷◌, length, drop, None, ◌∙◌, ap, subst, arith, append-nil, length-append}
-use Rattle.twkb_geom.specs.Tree.{Tree}
-use Rattle.twkb_geom.specs.Limits.{largest_limits, IsValid}
-use Rattle.twkb_geom.specs.Rows.{Row, rows, row_points}
-use Rattle.twkb_geom.specs.RowLists.{AreValidRowsOfOne, AreValidRows, AreShallow}
-use Rattle.twkb_geom.specs.RowLemmas.{length-rows_with}
-use Rattle.twkb_geom.proofs.RowDepths.{valid_depths}
-use Rattle.twkb_geom.proofs.RowPoints.{row_points-with}
+use Rattle.twkb_tree.specs.Tree.{Tree}
+use Rattle.twkb_tree.specs.Limits.{largest_limits, IsValid}
+use Rattle.twkb_tree.specs.Rows.{Row, rows, row_points}
+use Rattle.twkb_tree.specs.RowLists.{AreValidRowsOfOne, AreValidRows, AreShallow}
+use Rattle.twkb_tree.specs.RowLemmas.{length-rows_with}
+use Rattle.twkb_tree.proofs.RowDepths.{valid_depths}
+use Rattle.twkb_tree.proofs.RowPoints.{row_points-with}
 use Rattle.twkb_flat.specs.declared.node.Node.{Node}
 use Rattle.twkb_flat.specs.Rows.{IsNode}
 

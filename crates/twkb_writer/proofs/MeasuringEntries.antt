@@ -5,9 +5,9 @@ use Rattle.twkb_num.specs.Zigzag.{zigzag_of}
 use Rattle.twkb_num.specs.Varint.{varint_of}
 use Rattle.twkb_points.specs.Point.{Point}
 use Rattle.twkb_points.specs.Extent.{Extent, extent}
-use Rattle.twkb_geom.specs.declared.kind.Kind.{Kind}
-use Rattle.twkb_geom.specs.Tree.{Tree, simple, collection, flat, precision_of}
-use Rattle.twkb_geom.specs.Uniform.{uniform}
+use Rattle.twkb_tree.specs.declared.kind.Kind.{Kind}
+use Rattle.twkb_tree.specs.Tree.{Tree, simple, collection, flat, precision_of}
+use Rattle.twkb_tree.specs.Uniform.{uniform}
 use Rattle.twkb_grammar.specs.Written.{canonical_blob, written, sized, box_of, has_any, is_empty, flags_of_tree, metadata_byte, kind_of_tree}
 use Rattle.twkb_grammar.specs.Written.{is_point as is_point_tree}
 use Rattle.twkb_grammar.specs.Items.{header_byte}

@@ -4,9 +4,9 @@ use Rattle.std.specs.Prelude.{reverse}
 use lib.ListN.{replicate, set}
 use Rattle.std.proofs.lemmas.List.{get_or-replicate, length-replicate}
 use Rattle.twkb_points.specs.Point.{Point}
-use Rattle.twkb_geom.specs.Limits.{largest_limits}
-use Rattle.twkb_geom.specs.Rows.{Row}
-use Rattle.twkb_geom.specs.RowLists.{AreValidRowsOfOne}
+use Rattle.twkb_tree.specs.Limits.{largest_limits}
+use Rattle.twkb_tree.specs.Rows.{Row}
+use Rattle.twkb_tree.specs.RowLists.{AreValidRowsOfOne}
 use Rattle.twkb_flat.specs.declared.node.Node.{Node}
 use Rattle.twkb_flat.specs.Rows.{IsNode}
 use Rattle.twkb_grammar.specs.declared.style.Style.{Style}

@@ -2,11 +2,11 @@
 use Rattle.std.proofs.Common.{◌≡◌, ℕ, suc, ◌<◌, List, [], ◌∷◌, ◌++◌, length, Option, None, refl, sym, ◌∙◌, ap, subst, arith, append_assoc}
 use Rattle.std.specs.Prelude.{ℤ, flat_map}
 use Rattle.twkb_points.specs.Point.{Point}
-use Rattle.twkb_geom.specs.declared.kind.Kind.{Kind}
-use Rattle.twkb_geom.specs.declared.kind.Kind.TheVariants as kind
-use Rattle.twkb_geom.specs.Tree.{Ids, Simple, point, line, polygon, multi_point, multi_line, multi_polygon, flatten, points_in}
-use Rattle.twkb_geom.specs.Rows.{Row, rows_of_each, rows_below, ring_rows, polygon_rows, plain_row, first_id, other_ids, own_points}
-use Rattle.twkb_geom.specs.RowLists.{IsAbove}
+use Rattle.twkb_tree.specs.declared.kind.Kind.{Kind}
+use Rattle.twkb_tree.specs.declared.kind.Kind.TheVariants as kind
+use Rattle.twkb_tree.specs.Tree.{Ids, Simple, point, line, polygon, multi_point, multi_line, multi_polygon, flatten, points_in}
+use Rattle.twkb_tree.specs.Rows.{Row, rows_of_each, rows_below, ring_rows, polygon_rows, plain_row, first_id, other_ids, own_points}
+use Rattle.twkb_tree.specs.RowLists.{IsAbove}
 use Rattle.twkb_grammar.specs.declared.style.Style.{Style}
 use Rattle.twkb_writer.specs.declared.levels.Level.{Level}
 use Rattle.twkb_writer.specs.Levels.{blank, with_part}

@@ -3,9 +3,9 @@ use Rattle.std.proofs.Common.{◌≡◌, ℕ, ◌+◌, ◌*◌, ◌-◌, ◌<◌
 use Rattle.std.specs.Prelude.{reverse}
 use Rattle.std.proofs.lemmas.List.{drop_all, reverse-reverse}
 use Rattle.twkb_points.specs.Point.{Point}
-use Rattle.twkb_geom.specs.Limits.{largest_limits}
-use Rattle.twkb_geom.specs.Rows.{Row, rows, row_points}
-use Rattle.twkb_geom.specs.RowLists.{AreValidRowsOfOne, IsAbove}
+use Rattle.twkb_tree.specs.Limits.{largest_limits}
+use Rattle.twkb_tree.specs.Rows.{Row, rows, row_points}
+use Rattle.twkb_tree.specs.RowLists.{AreValidRowsOfOne, IsAbove}
 use Rattle.twkb_flat.specs.declared.node.Node.{Node}
 use Rattle.twkb_flat.specs.Rows.{IsNode, row_with}
 use Rattle.twkb_grammar.specs.declared.style.Style.{Style}

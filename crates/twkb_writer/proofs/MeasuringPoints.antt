@@ -4,7 +4,7 @@ use Rattle.std.specs.Prelude.{slice_get}
 use Rattle.std.proofs.lemmas.List.{get_or-append-add, get_or_append_left, at_drop_more}
 use Rattle.std.proofs.lemmas.Option.{get_or_from_slice_get}
 use Rattle.twkb_points.specs.Point.{Point}
-use Rattle.twkb_geom.specs.Rows.{Row, row_points}
+use Rattle.twkb_tree.specs.Rows.{Row, row_points}
 use Rattle.twkb_flat.specs.declared.node.Node.{Node}
 use Rattle.twkb_flat.specs.Rows.{IsNode}
 use Rattle.twkb_writer.specs.declared.tails.Tail.{Tail}

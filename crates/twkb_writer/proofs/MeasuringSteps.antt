@@ -4,8 +4,8 @@ use Rattle.std.specs.Prelude.{reverse, Option, None, Some, slice_index, ℤ}
 use Rattle.std.proofs.lemmas.List.{get_or-set_same, get_or-set_other, length-set, reverse-append}
 use Rattle.std.proofs.lemmas.Bool.{cases_lt, cases_eq}
 use Rattle.twkb_points.specs.Point.{Point}
-use Rattle.twkb_geom.specs.Rows.{Row}
-use Rattle.twkb_geom.specs.RowLists.{IsAbove}
+use Rattle.twkb_tree.specs.Rows.{Row}
+use Rattle.twkb_tree.specs.RowLists.{IsAbove}
 use Rattle.twkb_flat.specs.Rows.{depths}
 use Rattle.twkb_grammar.specs.declared.style.Style.{Style}
 use Rattle.twkb_writer.specs.declared.levels.Level.{Level}

@@ -1,9 +1,9 @@
 -- The members, ids and bytes of rows at a depth, part by part.
 use Rattle.std.proofs.Common.{◌≡◌, ℕ, ◌+◌, false, List, [], ◌∷◌, length, Option, None, Some, refl, ◌∙◌, ap, arith}
 use Rattle.std.specs.Prelude.{ℤ, is_some, ◌||◌}
-use Rattle.twkb_geom.specs.declared.kind.Kind.{Kind}
-use Rattle.twkb_geom.specs.Tree.{Ids, HasIds}
-use Rattle.twkb_geom.specs.Rows.{first_id, other_ids}
+use Rattle.twkb_tree.specs.declared.kind.Kind.{Kind}
+use Rattle.twkb_tree.specs.Tree.{Ids, HasIds}
+use Rattle.twkb_tree.specs.Rows.{first_id, other_ids}
 use Rattle.twkb_writer.specs.declared.levels.Level.{Level}
 use Rattle.twkb_writer.specs.declared.precisions.Precisions.TheVariants.{Absent}
 use Rattle.twkb_writer.specs.Levels.{blank, id_len, lead_len, with_part}

@@ -7,10 +7,10 @@ use Rattle.twkb_num.specs.Varint.{varint_of}
 use Rattle.twkb_points.specs.Point.{Point}
 use Rattle.twkb_points.specs.Extent.{joined_options, extent}
 use Rattle.twkb_points.proofs.ExtentLemmas.{joined_options-none, extent-append}
-use Rattle.twkb_geom.specs.declared.kind.Kind.TheVariants as kind
-use Rattle.twkb_geom.specs.Tree.{Ids, HasIds, IdsFit, Simple, point, line, polygon, multi_point, multi_line, multi_polygon, Tree, simple, collection, Trees, end, ◌▷◌, count, members, flat, flat_all, points_in, precision_of, IsTree, AreTrees}
-use Rattle.twkb_geom.specs.Rows.{Row, kind_in, own_points, own_row, rows, rows_below, rows_with, member_rows, first_id, other_ids}
-use Rattle.twkb_geom.specs.RowLists.{IsAbove}
+use Rattle.twkb_tree.specs.declared.kind.Kind.TheVariants as kind
+use Rattle.twkb_tree.specs.Tree.{Ids, HasIds, IdsFit, Simple, point, line, polygon, multi_point, multi_line, multi_polygon, Tree, simple, collection, Trees, end, ◌▷◌, count, members, flat, flat_all, points_in, precision_of, IsTree, AreTrees}
+use Rattle.twkb_tree.specs.Rows.{Row, kind_in, own_points, own_row, rows, rows_below, rows_with, member_rows, first_id, other_ids}
+use Rattle.twkb_tree.specs.RowLists.{IsAbove}
 use Rattle.twkb_grammar.specs.Roles.{Count, Geometries}
 use Rattle.twkb_grammar.specs.Items.{id_fields, flags_all, filled, OfId}
 use Rattle.twkb_grammar.specs.Written.{canonical_blob, canonical_members, varints, is_empty, is_point}

@@ -1,8 +1,8 @@
 -- What a pass from the last row to the first reads.
 use Rattle.std.proofs.Common.{◌≡◌, ℕ, ◌+◌, ◌<◌, ◌≤◌, ◌^◌, List, length, drop, sym, ap, subst, arith}
 use Rattle.std.proofs.lemmas.List.{drop_all}
-use Rattle.twkb_geom.specs.Tree.{saturated}
-use Rattle.twkb_geom.specs.Rows.{Row, row_points}
+use Rattle.twkb_tree.specs.Tree.{saturated}
+use Rattle.twkb_tree.specs.Rows.{Row, row_points}
 use Rattle.twkb_flat.specs.declared.work.Work.{Work}
 use Rattle.twkb_writer.specs.Reads.{ReadsExactly}
 use Rattle.twkb_writer.proofs.ReadLemmas.{exactly_none, exactly_join, exactly_node}

@@ -2,7 +2,7 @@
 use Rattle.std.proofs.Common.{◌≡◌, ◌∙◌, inl, inr, ℕ, zero, suc, ◌+◌, ◌-◌, ◌<◌, ◌≤◌, List, [], ◌∷◌, length, drop, get_or, refl, sym, ap, arith, subst}
 use Rattle.std.proofs.lemmas.List.{drop_all, drop-drop, length-map}
 use Rattle.std.proofs.lemmas.Bool.{cases_lt}
-use Rattle.twkb_geom.specs.Rows.{Row}
+use Rattle.twkb_tree.specs.Rows.{Row}
 use Rattle.twkb_flat.specs.declared.node.Node.{Node}
 use Rattle.twkb_flat.specs.Rows.{IsNode, row_with, depths, depth_of}
 use Rattle.twkb_writer.specs.Bytes.{members_below}

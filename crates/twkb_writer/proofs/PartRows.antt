@@ -3,10 +3,10 @@ use Rattle.std.proofs.Common.{◌≡◌, ℕ, suc, List, [], ◌∷◌, ◌++◌
 use Rattle.std.specs.Prelude.{ℤ, ◌-ℤ◌, flat_map}
 use Rattle.twkb_num.specs.Varint.{varint_of}
 use Rattle.twkb_points.specs.Point.{Point}
-use Rattle.twkb_geom.specs.declared.kind.Kind.{Kind}
-use Rattle.twkb_geom.specs.declared.kind.Kind.TheVariants as kind
-use Rattle.twkb_geom.specs.Tree.{Ids}
-use Rattle.twkb_geom.specs.Rows.{Row, plain_row, polygon_rows, ring_rows, rows_of_each, other_ids}
+use Rattle.twkb_tree.specs.declared.kind.Kind.{Kind}
+use Rattle.twkb_tree.specs.declared.kind.Kind.TheVariants as kind
+use Rattle.twkb_tree.specs.Tree.{Ids}
+use Rattle.twkb_tree.specs.Rows.{Row, plain_row, polygon_rows, ring_rows, rows_of_each, other_ids}
 use Rattle.twkb_grammar.specs.Items.{OfPoint, run_of, rings_of}
 use Rattle.twkb_grammar.specs.declared.style.Style.{Style}
 use Rattle.twkb_grammar.proofs.Places.{reached, reached-append}

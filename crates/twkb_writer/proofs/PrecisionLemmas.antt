@@ -2,8 +2,8 @@
 use Rattle.std.proofs.Common.{◌≡◌, ℤ, pos, negsuc, Bool, true, false, refl, sym, ◌∙◌, ap}
 use Rattle.std.specs.Prelude.{◌&&◌, if◌then◌else◌}
 use Rattle.std.proofs.lemmas.Bool.{eqb-true, eq-eqb}
-use Rattle.twkb_geom.specs.Tree.{Tree, simple, collection, Trees, end, ◌▷◌, precision_of}
-use Rattle.twkb_geom.specs.Uniform.{int_eq, has_precision, have_precision, uniform}
+use Rattle.twkb_tree.specs.Tree.{Tree, simple, collection, Trees, end, ◌▷◌, precision_of}
+use Rattle.twkb_tree.specs.Uniform.{int_eq, has_precision, have_precision, uniform}
 use Rattle.twkb_writer.specs.declared.precisions.Precisions.{Precisions}
 use Rattle.twkb_writer.specs.declared.precisions.Precisions.TheVariants.{Absent, One, Several}
 use Rattle.twkb_writer.specs.Precisions.{all_are, agreed}

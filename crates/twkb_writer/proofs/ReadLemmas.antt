@@ -1,7 +1,7 @@
 -- Counts of reads add up.
 use Rattle.std.proofs.Common.{◌≡◌, ◌∙◌, ℕ, ◌+◌, ◌<◌, ◌≤◌, ◌^◌, Bool, true, false, refl, arith, ap}
 use Rattle.std.specs.Prelude.{if◌then◌else◌}
-use Rattle.twkb_geom.specs.Tree.{saturated}
+use Rattle.twkb_tree.specs.Tree.{saturated}
 use Rattle.twkb_flat.specs.declared.work.Work.{Work}
 use Rattle.twkb_writer.specs.Reads.{Reads, ReadsExactly}
 

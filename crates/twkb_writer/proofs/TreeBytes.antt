@@ -3,11 +3,11 @@ use Rattle.std.proofs.Common.{◌≡◌, ℕ, suc, List, [], ◌∷◌, ◌++◌
 use Rattle.std.specs.Prelude.{ℤ, flat_map, if◌then◌else◌, is_some}
 use Rattle.twkb_num.specs.Varint.{varint_of}
 use Rattle.twkb_points.specs.Point.{Point, origin}
-use Rattle.twkb_geom.specs.declared.kind.Kind.TheVariants as kind
-use Rattle.twkb_geom.specs.Tree.{Simple, point, line, polygon, multi_point, multi_line, multi_polygon, Tree, simple, collection, Trees, end, ◌▷◌, Ids, HasIds, IdsFit, IsTree, AreTrees, members, count}
-use Rattle.twkb_geom.specs.Rows.{Row, plain_row, own_row, own_points, kind_in, rows, rows_with, rows_below, member_rows, ring_rows, polygon_rows, rows_of_each, first_id, other_ids}
-use Rattle.twkb_geom.proofs.RowFitting.{own_row-depth, own_row-id}
-use Rattle.twkb_geom.proofs.RootLaws.{AreDeep}
+use Rattle.twkb_tree.specs.declared.kind.Kind.TheVariants as kind
+use Rattle.twkb_tree.specs.Tree.{Simple, point, line, polygon, multi_point, multi_line, multi_polygon, Tree, simple, collection, Trees, end, ◌▷◌, Ids, HasIds, IdsFit, IsTree, AreTrees, members, count}
+use Rattle.twkb_tree.specs.Rows.{Row, plain_row, own_row, own_points, kind_in, rows, rows_with, rows_below, member_rows, ring_rows, polygon_rows, rows_of_each, first_id, other_ids}
+use Rattle.twkb_tree.proofs.RowFitting.{own_row-depth, own_row-id}
+use Rattle.twkb_tree.proofs.RootLaws.{AreDeep}
 use Rattle.twkb_grammar.specs.Roles.{Counted, Points, Parts, Count, Geometries}
 use Rattle.twkb_grammar.specs.Items.{Place, OfCount, OfPoint, id_places, id_fields, fields, outline, run_of, rings_of, members as flags_of, flags_all}
 use Rattle.twkb_grammar.specs.Written.{varints, is_empty, canonical_blob, canonical_members}

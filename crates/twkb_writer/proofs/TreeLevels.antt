@@ -3,15 +3,15 @@ use Rattle.std.proofs.Common.{◌≡◌, ℕ, zero, suc, ◌+◌, ◌-◌, ◌<�
 use Rattle.std.specs.Prelude.{ℤ, flat_map}
 use Rattle.std.proofs.lemmas.List.{at_drop_more, drop_all}
 use Rattle.twkb_points.specs.Point.{Point}
-use Rattle.twkb_geom.specs.declared.kind.Kind.{Kind}
-use Rattle.twkb_geom.specs.declared.kind.Kind.TheVariants as kinds
-use Rattle.twkb_geom.specs.Tree.{Ids, point, line, polygon, multi_point, multi_line, multi_polygon, Tree, simple, collection, IsTree, AreTrees, trees, nodes, nodes_all, flat, flat_all, precision_of, points_in, area_nodes, flatten}
-use Rattle.twkb_geom.specs.Rows.{Row, first_id, other_ids, ids_from, own_row, whole_row, rows_below, member_rows, rows_of_each, plain_row, ring_rows, polygon_rows}
-use Rattle.twkb_geom.specs.Shape.{tree_of}
-use Rattle.twkb_geom.specs.declared.geometry.Shape.{Shape}
-use Rattle.twkb_geom.specs.RowLemmas.{length-rows_with}
-use Rattle.twkb_geom.proofs.RowMembers.{other_from, ids_from_start}
-use Rattle.twkb_geom.proofs.RowsOfTrees.{members-trees}
+use Rattle.twkb_tree.specs.declared.kind.Kind.{Kind}
+use Rattle.twkb_tree.specs.declared.kind.Kind.TheVariants as kinds
+use Rattle.twkb_tree.specs.Tree.{Ids, point, line, polygon, multi_point, multi_line, multi_polygon, Tree, simple, collection, IsTree, AreTrees, trees, nodes, nodes_all, flat, flat_all, precision_of, points_in, area_nodes, flatten}
+use Rattle.twkb_tree.specs.Rows.{Row, first_id, other_ids, ids_from, own_row, whole_row, rows_below, member_rows, rows_of_each, plain_row, ring_rows, polygon_rows}
+use Rattle.twkb_tree.specs.Shape.{tree_of}
+use Rattle.twkb_tree.specs.declared.geometry.Shape.{Shape}
+use Rattle.twkb_tree.specs.RowLemmas.{length-rows_with}
+use Rattle.twkb_tree.proofs.RowMembers.{other_from, ids_from_start}
+use Rattle.twkb_tree.proofs.RowsOfTrees.{members-trees}
 use Rattle.twkb_grammar.specs.Written.{canonical_blob}
 use Rattle.twkb_grammar.specs.declared.style.Style.TheVariants.{Full}
 use Rattle.twkb_writer.specs.declared.levels.Level.{Level}

@@ -1,7 +1,7 @@
 -- No row is a member of two others, so a walk over the members of each row reads each row once at most.
 use Rattle.std.proofs.Common.{◌≡◌, inl, inr, ℕ, zero, suc, ◌+◌, ◌-◌, ◌*◌, ◌<◌, ◌≤◌, List, [], ◌∷◌, length, refl, ap, arith}
 use Rattle.std.proofs.lemmas.Bool.{cases_lt}
-use Rattle.twkb_geom.specs.Rows.{Row}
+use Rattle.twkb_tree.specs.Rows.{Row}
 use Rattle.twkb_writer.specs.Bytes.{members_below}
 use Rattle.twkb_writer.proofs.BelowLemmas.{members-one, members-over, members-past}
 

@@ -2,10 +2,10 @@
 use Rattle.std.proofs.Common.{◌≡◌, ℕ, suc, ◌+◌, ◌≤◌, List, [], ◌∷◌, ◌++◌, length, Option, None, refl, subst, ap, sym, ◌∙◌, arith, length-append}
 use Rattle.std.specs.Prelude.{ℤ}
 use Rattle.twkb_points.specs.Point.{Point, origin}
-use Rattle.twkb_geom.specs.declared.kind.Kind.{Kind}
-use Rattle.twkb_geom.specs.Tree.{Ids, Simple, point, line, polygon, multi_point, multi_line, multi_polygon, Tree, simple, collection, Trees, end, ◌▷◌, IsTree}
-use Rattle.twkb_geom.specs.Rows.{Row, plain_row, polygon_rows, ring_rows, rows_of_each, rows_below, member_rows, rows_with, rows, first_id, other_ids}
-use Rattle.twkb_geom.proofs.RootLaws.{one_geometry}
+use Rattle.twkb_tree.specs.declared.kind.Kind.{Kind}
+use Rattle.twkb_tree.specs.Tree.{Ids, Simple, point, line, polygon, multi_point, multi_line, multi_polygon, Tree, simple, collection, Trees, end, ◌▷◌, IsTree}
+use Rattle.twkb_tree.specs.Rows.{Row, plain_row, polygon_rows, ring_rows, rows_of_each, rows_below, member_rows, rows_with, rows, first_id, other_ids}
+use Rattle.twkb_tree.proofs.RootLaws.{one_geometry}
 use Rattle.twkb_io.specs.Sinks.{TookFront}
 use Rattle.twkb_grammar.specs.Written.{canonical_blob}
 use Rattle.twkb_grammar.specs.declared.style.Style.{Style}

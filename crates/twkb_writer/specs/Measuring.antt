@@ -1,9 +1,9 @@
 -- What rows come to from a place on, as a pass from the last row to the first finds it.
 use Rattle.std.specs.Prelude.{◌≡◌, ℕ, suc, ◌+◌, ◌≤◌, ℤ, nat_lt, nat_eq, if◌then◌else◌, List, [], ◌∷◌, ◌++◌, length, slice_index_or, slice_set, Option, None, Some}
 use Rattle.twkb_points.specs.Point.{Point}
-use Rattle.twkb_geom.specs.declared.kind.Kind.{Kind}
-use Rattle.twkb_geom.specs.Rows.{Row}
-use Rattle.twkb_geom.specs.Tree.{saturated}
+use Rattle.twkb_tree.specs.declared.kind.Kind.{Kind}
+use Rattle.twkb_tree.specs.Rows.{Row}
+use Rattle.twkb_tree.specs.Tree.{saturated}
 use Rattle.twkb_flat.specs.declared.node.Node.{Node}
 use Rattle.twkb_flat.specs.declared.work.Work.{Work}
 use Rattle.twkb_grammar.specs.declared.style.Style.{Style}

@@ -2,7 +2,7 @@
 use Rattle.std.specs.Prelude.{ℕ, ◌+◌, Bool, if◌then◌else◌, List, [], ◌++◌, take, drop, ℤ}
 use Rattle.twkb_num.specs.Varint.{varint_of}
 use Rattle.twkb_points.specs.Point.{Point, origin}
-use Rattle.twkb_geom.specs.Rows.{Row, row_points}
+use Rattle.twkb_tree.specs.Rows.{Row, row_points}
 use Rattle.twkb_flat.specs.declared.node.Node.{Node}
 use Rattle.twkb_grammar.specs.declared.style.Style.{Style}
 use Rattle.twkb_writer.specs.declared.job.Job.{Job}

@@ -1,6 +1,6 @@
 -- What is known of the precisions of some geometries.
 use Rattle.std.specs.Prelude.{ℤ, Bool, true, false, if◌then◌else◌}
-use Rattle.twkb_geom.specs.Uniform.{int_eq}
+use Rattle.twkb_tree.specs.Uniform.{int_eq}
 use Rattle.twkb_writer.specs.declared.precisions.Precisions.{Precisions}
 use Rattle.twkb_writer.specs.declared.precisions.Precisions.TheVariants.{Absent, One, Several}
 

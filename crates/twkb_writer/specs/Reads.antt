@@ -1,6 +1,6 @@
 -- What reading a flat form adds to the counted work.
 use Rattle.std.specs.Prelude.{ℕ, ◌≡◌, ◌+◌, ◌≤◌}
-use Rattle.twkb_geom.specs.Tree.{saturated}
+use Rattle.twkb_tree.specs.Tree.{saturated}
 use Rattle.twkb_flat.specs.declared.work.Work.{Work}
 
 -- at most so many nodes and points were read, no count was lowered, and nothing else was counted

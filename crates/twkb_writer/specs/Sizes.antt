@@ -1,8 +1,8 @@
 -- What is measured of a geometry before its canonical blob is written.
 use Rattle.std.specs.Prelude.{◌≡◌, ℕ, if◌then◌else◌, is_some, List, [], ◌∷◌, ◌++◌, length, Option, None}
 use Rattle.twkb_points.specs.Extent.{Extent, extent}
-use Rattle.twkb_geom.specs.Tree.{Simple, point, line, polygon, multi_point, multi_line, multi_polygon, Tree, simple, collection, Trees, end, ◌▷◌, Ids, IsTree, count, flat}
-use Rattle.twkb_geom.specs.Rows.{Row, rows}
+use Rattle.twkb_tree.specs.Tree.{Simple, point, line, polygon, multi_point, multi_line, multi_polygon, Tree, simple, collection, Trees, end, ◌▷◌, Ids, IsTree, count, flat}
+use Rattle.twkb_tree.specs.Rows.{Row, rows}
 use Rattle.twkb_grammar.specs.Roles.{Count, Geometries}
 use Rattle.twkb_grammar.specs.Items.{fields, id_fields}
 use Rattle.twkb_grammar.specs.Written.{boxed, varints, is_empty, flags_of_tree, canonical_members}

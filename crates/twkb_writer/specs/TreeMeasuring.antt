@@ -1,8 +1,8 @@
 -- What a geometry comes to, measured on its tree.
 use Rattle.std.specs.Prelude.{ℕ, ◌+◌, ◌*◌, ◌≤◌, ◌^◌, ℤ, List, [], length, Option, Some}
 use Rattle.twkb_points.specs.Point.{Point}
-use Rattle.twkb_geom.specs.Tree.{Tree, simple, collection, points_in, precision_of}
-use Rattle.twkb_geom.specs.Rows.{own_row, rows_under}
+use Rattle.twkb_tree.specs.Tree.{Tree, simple, collection, points_in, precision_of}
+use Rattle.twkb_tree.specs.Rows.{own_row, rows_under}
 use Rattle.twkb_grammar.specs.declared.style.Style.TheVariants.{Full}
 use Rattle.twkb_writer.specs.declared.levels.Level.{Level}
 use Rattle.twkb_writer.specs.Measuring.{level, row_level}

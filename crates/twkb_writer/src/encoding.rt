@@ -1,6 +1,6 @@
 //! Geometries as canonical blobs.
 ghost use Rattle.std.specs.Prelude.{OnOk, IfErr};
-ghost use Rattle.twkb_geom.specs.Limits.{largest_limits, IsValid};
+ghost use Rattle.twkb_tree.specs.Limits.{largest_limits, IsValid};
 ghost use Rattle.twkb_grammar.specs.Written.{canonical_blob};
 ghost use Rattle.twkb_grammar.specs.declared.style.Style.TheVariants.{Full};
 ghost use Rattle.twkb_writer.specs.Encoding.{Stopped};
@@ -10,9 +10,9 @@ use crate::writing::write_flat;
 use std::alloc::Global;
 use thiserror::Error;
 use twkb_flat::{Flat, Work};
-use twkb_geom::Geometry;
 use twkb_grammar::Style;
 use twkb_io::Sink;
+use twkb_tree::Geometry;
 
 /// Why a geometry was not written.
 #[derive(Clone, Copy, Debug, Drop, PartialEq, Eq, Error)]

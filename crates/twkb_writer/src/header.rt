@@ -7,10 +7,10 @@ ghost use Rattle.twkb_writer.specs.Putting.{Moved, Failed};
 use crate::gatherer::Gatherer;
 use crate::sizes::Entry;
 use twkb_flat::Node;
-use twkb_geom::Kind;
 use twkb_grammar::Style;
 use twkb_io::Sink;
 use twkb_num::zigzag;
+use twkb_tree::Kind;
 
 /// The bits of the precision begin here in a type byte (TWKB, type and precision).
 const PRECISION: u8 = 16;

@@ -1,7 +1,7 @@
 //! Laws of sizes, each the contract of a function that does nothing.
 ghost use Rattle.std.specs.Prelude.{◌≡◌, List, length};
-ghost use Rattle.twkb_geom.specs.Tree.{Tree, IsTree};
-ghost use Rattle.twkb_geom.specs.Rows.{Row, rows};
+ghost use Rattle.twkb_tree.specs.Tree.{Tree, IsTree};
+ghost use Rattle.twkb_tree.specs.Rows.{Row, rows};
 ghost use Rattle.twkb_grammar.specs.Spans.{geometries};
 ghost use Rattle.twkb_grammar.specs.declared.style.Style.{Style};
 ghost use Rattle.twkb_writer.specs.declared.sizes.Entry.{Entry};

@@ -7,9 +7,9 @@ use crate::lengths::{number_len, signed_len};
 use crate::precisions::Precisions;
 use crate::sizes::Entry;
 use crate::tails::Tail;
-use twkb_geom::Kind;
 use twkb_grammar::Style;
 use twkb_points::{Bounds, merged};
+use twkb_tree::Kind;
 
 /// What the rows at one depth come to, from a place on up to the next row above them, with all rows below them.
 #[derive(Clone, Copy, Debug, PartialEq, Eq)]

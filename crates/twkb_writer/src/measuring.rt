@@ -1,7 +1,7 @@
 //! The sizes of a flat form, in one pass over its rows from the last to the first.
 ghost use Rattle.std.specs.Prelude.{◌≡◌, ◌+◌, ◌++◌, ◌*◌, ◌<◌, ◌≤◌, ◌^◌, ℕ, List, length, drop, slice_index_or, IfOk, OnOk};
 ghost use Rattle.twkb_points.specs.Point.{Point};
-ghost use Rattle.twkb_geom.specs.Rows.{row_points};
+ghost use Rattle.twkb_tree.specs.Rows.{row_points};
 ghost use Rattle.twkb_flat.specs.Rows.{IsNode};
 ghost use Rattle.twkb_writer.specs.Levels.{blank, IsSmall};
 ghost use Rattle.twkb_writer.specs.Measuring.{row_level, row_entry, option_list, tail_after, cost_of, points_at, TakenRow, Counted};

@@ -1,6 +1,6 @@
 //! The points of a row, as a way from point to point.
 ghost use Rattle.std.specs.Prelude.{◌≡◌, ◌+◌, ◌≤◌, ◌<◌, ◌^◌, length, OnOk, IfErr};
-ghost use Rattle.twkb_geom.specs.Rows.{row_points};
+ghost use Rattle.twkb_tree.specs.Rows.{row_points};
 ghost use Rattle.twkb_writer.specs.Bytes.{way_bytes, way_end};
 ghost use Rattle.twkb_writer.specs.Nodes.{own_points_of};
 ghost use Rattle.twkb_writer.specs.Putting.{Moved, Failed};

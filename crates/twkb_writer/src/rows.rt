@@ -1,6 +1,6 @@
 //! The rows of a flat form, one after another.
 ghost use Rattle.std.specs.Prelude.{◌≡◌, ◌+◌, ◌*◌, ◌≤◌, length, OnOk, IfOk, IfErr, if◌then◌else◌};
-ghost use Rattle.twkb_geom.specs.Rows.{row_points};
+ghost use Rattle.twkb_tree.specs.Rows.{row_points};
 ghost use Rattle.twkb_flat.specs.Rows.{IsNode};
 ghost use Rattle.twkb_writer.specs.Bytes.{way_start, entry_count, entries_in};
 ghost use Rattle.twkb_writer.specs.Nodes.{members_of, listed_of, counts_of, own_of, part_of, lead_of, bytes_of};
@@ -14,9 +14,9 @@ use crate::members::{Members, count_members, put_ids};
 use crate::points::put_points;
 use crate::sizes::Entry;
 use twkb_flat::{Flat, NodeId, Work};
-use twkb_geom::Kind;
 use twkb_io::Sink;
 use twkb_points::Cursor;
+use twkb_tree::Kind;
 
 // Puts a count of members, and their ids where these are written.
 fn put_members<S: Sink>(

@@ -1,9 +1,9 @@
 //! The length of a geometry's canonical blob, measured on the geometry itself.
 ghost use Rattle.std.specs.Prelude.{◌≡◌, ◌+◌, ◌++◌, ◌∷◌, [], ◌*◌, ◌≤◌, ◌^◌, List, length, flat_map};
 ghost use Rattle.twkb_points.specs.Point.{Point};
-ghost use Rattle.twkb_geom.specs.Limits.{largest_limits, IsValid};
-ghost use Rattle.twkb_geom.specs.Rows.{rows_of_each, plain_row, polygon_rows, rows_under, member_rows};
-ghost use Rattle.twkb_geom.specs.Tree.{IsTree, flatten, trees, area_nodes, nodes, nodes_all, flat, flat_all};
+ghost use Rattle.twkb_tree.specs.Limits.{largest_limits, IsValid};
+ghost use Rattle.twkb_tree.specs.Rows.{rows_of_each, plain_row, polygon_rows, rows_under, member_rows};
+ghost use Rattle.twkb_tree.specs.Tree.{IsTree, flatten, trees, area_nodes, nodes, nodes_all, flat, flat_all};
 ghost use Rattle.twkb_grammar.specs.Written.{canonical_blob};
 ghost use Rattle.twkb_grammar.specs.declared.style.Style.TheVariants.{Full};
 ghost use Rattle.twkb_writer.specs.Measuring.{level, load};
@@ -13,9 +13,9 @@ ghost use Rattle.twkb_writer.specs.TreeMeasuring.{way_of, level_under, tree_leve
 use crate::levels::Level;
 use crate::tails::Tail;
 use std::slice::from_ref;
-use twkb_geom::{Geometry, Ids, Item, Kind, Lines, Members, Pts, Shape, id_at, own_parts};
 use twkb_grammar::Style;
 use twkb_points::Pt;
+use twkb_tree::{Geometry, Ids, Item, Kind, Lines, Members, Pts, Shape, id_at, own_parts};
 
 /// A part of a geometry that is no geometry of its own: a point, line, ring or polygon.
 trait Part: Item {
@@ -147,7 +147,7 @@ fn own_tail(geometry: &Geometry) -> Tail
 
 /// What the members of a collection come to, with these ids.
 #[cycle(measuring)]
-#[tactic(auto, using(twkb_geom::specs::Size::member_smaller))]
+#[tactic(auto, using(twkb_tree::specs::Size::member_smaller))]
 fn members_level(members: &Members, ids: &Ids) -> Level
     requires { IsWithinCaps (nodes_all (trees members.now)) (length (flat_all (trees members.now))) }
     ensures value { result ≡ level Full 0 (member_rows 0 ids.now (trees members.now)) }

@@ -1,7 +1,7 @@
 //! Flat forms as canonical blobs.
 ghost use Rattle.std.specs.Prelude.{◌≡◌, ◌*◌, [], length, OnOk, IfErr, IsOk};
-ghost use Rattle.twkb_geom.specs.Tree.{Tree, IsTree};
-ghost use Rattle.twkb_geom.specs.Rows.{rows, row_points};
+ghost use Rattle.twkb_tree.specs.Tree.{Tree, IsTree};
+ghost use Rattle.twkb_tree.specs.Rows.{rows, row_points};
 ghost use Rattle.twkb_io.specs.Sinks.{TookFront};
 ghost use Rattle.twkb_grammar.specs.Written.{canonical_blob};
 ghost use Rattle.twkb_writer.specs.Sizes.{AreSizes};

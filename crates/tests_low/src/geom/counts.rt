@@ -3,7 +3,7 @@ use super::fixtures::{
     around, dot, empty_line, no_point, point_and_line, two_points, two_polygons, two_rings,
 };
 use std::alloc::Global;
-use twkb_geom::Geometry;
+use twkb_tree::Geometry;
 
 // Whether it is there, with so many rows and points.
 fn counts(geometry: Option<Geometry>, nodes: u64, points: u64) -> bool {

@@ -1,7 +1,7 @@
 //! Geometries of worked tables. None is there where memory is refused, or a part does not fit.
 use std::alloc::Global;
-use twkb_geom::{Areas, Geometry, IdList, Lines, Members, Pts, Shape};
 use twkb_points::Pt;
+use twkb_tree::{Areas, Geometry, IdList, Lines, Members, Pts, Shape};
 
 pub fn points(alloc: Global, places: &[(i64, i64)]) -> Option<Pts> {
     let mut points = Vec::new(alloc);

@@ -1,5 +1,5 @@
 //! The laws, which do nothing when they run.
-use twkb_geom::laws;
+use twkb_tree::laws;
 
 #[test]
 fn laws_are_called() {

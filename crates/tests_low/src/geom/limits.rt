@@ -1,6 +1,6 @@
 //! Limits, and geometries at them.
 use super::fixtures::{dot, nested, nested_with_point, two_point_line, two_points};
-use twkb_geom::{Geometry, Limits};
+use twkb_tree::{Geometry, Limits};
 
 // Whether there are such limits.
 fn are_limits(nest: u32, nodes: u32, points: u32) -> bool {

@@ -2,7 +2,7 @@
 use super::fixtures::{dot, ids, lines, no_members, no_point, point_and_line, points, two_points};
 use crate::points::fixtures::are_at;
 use std::alloc::Global;
-use twkb_geom::{Areas, Geometry, IdList, Kind, Members, Pts, Shape};
+use twkb_tree::{Areas, Geometry, IdList, Kind, Members, Pts, Shape};
 
 #[test]
 fn words_of_kinds(rt: HostRuntime) {

@@ -1,9 +1,9 @@
 //! A recursion over geometries by public calls alone, as the crates above have them.
 ghost use Rattle.std.specs.Prelude.{◌≡◌};
-ghost use Rattle.twkb_geom.specs.Tree.{saturated, trees, nest, nest_all};
+ghost use Rattle.twkb_tree.specs.Tree.{saturated, trees, nest, nest_all};
 
 use super::fixtures::{nested, nested_with_point, point_and_line};
-use twkb_geom::{Geometry, Members, Shape};
+use twkb_tree::{Geometry, Members, Shape};
 
 #[cycle(levels)]
 fn levels(geometry: &Geometry) -> u64
@@ -16,7 +16,7 @@ fn levels(geometry: &Geometry) -> u64
 }
 
 #[cycle(levels)]
-#[tactic(auto, using(twkb_geom::specs::Size::member_smaller))]
+#[tactic(auto, using(twkb_tree::specs::Size::member_smaller))]
 fn levels_of(members: &Members) -> u64
     ensures { result ≡ saturated (nest_all (trees members.now)) }
 {

@@ -2,7 +2,7 @@
 use super::fixtures::{ids, points};
 use crate::printed::has_text;
 use std::alloc::Global;
-use twkb_geom::{GeomFault, Geometry, Shape};
+use twkb_tree::{GeomFault, Geometry, Shape};
 
 // Whether it is a multipoint of so many points, and of so many ids.
 fn holds(shape: &Shape, places: usize, numbers: usize) -> bool {

@@ -1,10 +1,10 @@
 //! What a row may be where it stands: the parents and children of tables, their ids and points; and a geometry's own row.
 use super::fixtures::{dot, ids, no_point, two_point_line, two_points};
 use crate::points::fixtures::are_at;
-use twkb_geom::row_rules::{
+use twkb_tree::row_rules::{
     count_fits, has_place, has_points, has_same_ids, id_allowed, is_whole, may_have, nest_kept,
 };
-use twkb_geom::{Geometry, IdList, Kind, Limits, OpenRow, Standing, id_at, own_parts};
+use twkb_tree::{Geometry, IdList, Kind, Limits, OpenRow, Standing, id_at, own_parts};
 
 #[test]
 fn an_open_row_begins_without_children(rt: HostRuntime) {

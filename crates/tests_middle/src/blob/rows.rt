@@ -6,8 +6,7 @@ use super::answers::{
 use std::alloc::Global;
 use std::io::Read;
 use twkb_blob::{BlobFault, BlobReason, Reader, Session};
-use twkb_flat::Flat;
-use twkb_geom::Limits;
+use twkb_geom::{Flat, Limits};
 use twkb_io::{Fuse, FuseEnd, InFault, Input, Tap};
 
 /// Whether the form has so many rows and points.

@@ -4,8 +4,7 @@ use crate::forms::{
     point_row, points, row, two_rings, whole,
 };
 use std::alloc::Global;
-use twkb_flat::{Flat, Row};
-use twkb_geom::Kind;
+use twkb_geom::{Flat, Kind, Row};
 
 /// Whether the form admits a row with these points.
 fn admits(alloc: Global, flat: Option<Flat>, row: Row, places: &[(i64, i64)]) -> Option<bool> {

@@ -2,8 +2,7 @@
 use crate::forms::{self, form, point, whole};
 use crate::geometries::{self, dot, line};
 use std::alloc::Global;
-use twkb_flat::{Flat, NodeId, PointId, Work};
-use twkb_geom::{Geometry, Kind, Limits};
+use twkb_geom::{Flat, Geometry, Kind, Limits, NodeId, PointId, Work};
 
 /// Whether two forms have the same nodes.
 fn same_nodes(found: &Flat, expected: &Flat) -> bool {

@@ -3,8 +3,7 @@
 use crate::forms::{point_and_line, point_row, points, two_polygons};
 use crate::geometries;
 use std::alloc::{AllocError, Global};
-use twkb_flat::Flat;
-use twkb_geom::{Geometry, Limits};
+use twkb_geom::{Flat, Geometry, Limits};
 
 /// Whether it is a form of five nodes and a point.
 fn is_whole(flat: &Flat) -> bool {

@@ -4,8 +4,7 @@ use crate::forms::{
     two_rings, whole,
 };
 use std::alloc::Global;
-use twkb_flat::{Flat, Node, NodeId, PointId, Row, Work};
-use twkb_geom::Kind;
+use twkb_geom::{Flat, Kind, Node, NodeId, PointId, Row, Work};
 
 /// Whether the node at a place has this row, this next node, and these points of its own.
 fn has_node(flat: &Flat, id: u32, row: Row, next: u32, first: u32, points: u32) -> bool {

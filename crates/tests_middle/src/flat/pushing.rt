@@ -1,7 +1,7 @@
 //! Rows whose points come from a source.
 use crate::forms::point_row;
 use std::alloc::Global;
-use twkb_flat::{Flat, PointSource};
+use twkb_geom::{Flat, PointSource};
 use twkb_points::{PointTail, Pt};
 
 /// Gives one point, or takes it away again and refuses.

@@ -1,8 +1,7 @@
 //! Whether flat forms and geometries have the blobs that are wanted.
 use crate::forms::form;
 use std::alloc::Global;
-use twkb_flat::{Flat, Row, Work};
-use twkb_geom::{Geometry, Kind, Limits};
+use twkb_geom::{Flat, Geometry, Kind, Limits, Row, Work};
 use twkb_io::Bytes;
 use twkb_writer::{Style, encode_styled, measure_flat, write_flat};
 

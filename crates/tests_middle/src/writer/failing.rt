@@ -3,8 +3,7 @@ ghost use Rattle.std.specs.Prelude.{◌<◌};
 
 use crate::forms::{point_and_line, whole};
 use std::alloc::Global;
-use twkb_flat::{Flat, Work};
-use twkb_geom::Kind;
+use twkb_geom::{Flat, Kind, Work};
 use twkb_io::{Fuse, FuseEnd, Output, Tap};
 use twkb_points::Pt;
 use twkb_writer::{Style, measure_flat, write_flat};

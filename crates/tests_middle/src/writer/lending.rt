@@ -4,8 +4,7 @@ use crate::forms::{
     nested_collections, one_point, point_and_line, two_points, two_polygons, two_rings,
 };
 use std::alloc::Global;
-use twkb_flat::{Flat, Work};
-use twkb_geom::Kind;
+use twkb_geom::{Flat, Kind, Work};
 use twkb_io::{Bytes, Count, Fuse, FuseEnd, Output, Tap};
 use twkb_writer::{Depths, Piece, Sizes, Style, measure_into, write_through};
 

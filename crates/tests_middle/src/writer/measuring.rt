@@ -1,8 +1,7 @@
 //! What measuring and writing a flat form counts.
 use crate::geometries::{around, line, point_and_line};
 use std::alloc::Global;
-use twkb_flat::{Flat, Work};
-use twkb_geom::{Geometry, Limits};
+use twkb_geom::{Flat, Geometry, Limits, Work};
 use twkb_io::Count;
 use twkb_writer::{Style, laws, measure_flat, write_flat};
 

@@ -2,8 +2,7 @@
 //! one or want of memory, and a sink took nothing.
 use crate::geometries::{around, line, point_and_line};
 use std::alloc::Global;
-use twkb_flat::{Flat, Work};
-use twkb_geom::{Geometry, Limits};
+use twkb_geom::{Flat, Geometry, Limits, Work};
 use twkb_io::Count;
 use twkb_writer::{EncodeFault, Style, encode, measure_flat};
 

@@ -5,8 +5,7 @@ use crate::forms::{
     two_rings, whole,
 };
 use std::alloc::Global;
-use twkb_flat::{Flat, Row, Work};
-use twkb_geom::Kind;
+use twkb_geom::{Flat, Kind, Row, Work};
 use twkb_io::Count;
 use twkb_writer::{Style, measure_flat, write_flat};
 

@@ -3,8 +3,7 @@ use super::fixtures::{Outcome, has_rows, holds, read_all};
 use super::geometries::point_and_line;
 use std::alloc::Global;
 use std::io::Read;
-use twkb_flat::{Flat, Row};
-use twkb_geom::{Geometry, Kind, Limits};
+use twkb_geom::{Flat, Geometry, Kind, Limits, Row};
 use twkb_io::{Fuse, FuseEnd, Tap};
 use twkb_table::{RowReason, TableFault, TableReader};
 

@@ -2,10 +2,10 @@
 use super::fixtures::holds;
 use csv::{ByteRecord, ReaderBuilder};
 use std::alloc::Global;
-use twkb_flat::Row;
-use twkb_geom::{Kind, Limits, OpenRow};
+use twkb_geom::{Kind, Limits, Row};
 use twkb_points::Pt;
 use twkb_table::judge;
+use twkb_tree::OpenRow;
 
 /// Whether the record of this text was read.
 fn is_read(alloc: Global, text: &[u8], record: &mut ByteRecord) -> bool {

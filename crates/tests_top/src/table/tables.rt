@@ -6,8 +6,7 @@ use super::geometries::{
 };
 use std::alloc::Global;
 use std::io::Read;
-use twkb_flat::{Flat, Work};
-use twkb_geom::{Areas, Geometry, Limits, Lines, Shape};
+use twkb_geom::{Areas, Flat, Geometry, Limits, Lines, Shape, Work};
 use twkb_io::Tap;
 use twkb_table::{TableReader, put_flat_rows, put_rows, rows_text};
 

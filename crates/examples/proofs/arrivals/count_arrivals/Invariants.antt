@@ -1,5 +1,5 @@
 use Rattle.std.proofs.Common.{◌≡◌, ◌≤◌, ◌-◌, ◌^◌}
-use Rattle.twkb_geom.specs.Limits.{standard_limits}
+use Rattle.twkb_tree.specs.Limits.{standard_limits}
 use Rattle.twkb_blob.specs.Sessions.{session_limits}
 use Rattle.examples.proofs.ArrivalsLemmas.{TookBytes}
 use Rattle.examples.proofs.arrivals.count_arrivals.Given as goal

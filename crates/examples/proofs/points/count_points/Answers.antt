@@ -1,6 +1,6 @@
 use Rattle.std.proofs.Common.{rules}
 use Rattle.twkb_io.specs.Taps.{device_of}
-use Rattle.twkb_geom.specs.Limits.{standard_limits}
+use Rattle.twkb_tree.specs.Limits.{standard_limits}
 use Rattle.examples.proofs.PointsLemmas.{gave_more}
 use Rattle.examples.proofs.points.count_points.Goals as goal
 

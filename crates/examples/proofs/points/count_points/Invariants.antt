@@ -1,7 +1,7 @@
 use Rattle.std.proofs.Common.{◌-◌, ◌^◌}
 use Rattle.twkb_io.specs.Taps.{device_of}
 use Rattle.twkb_io.specs.Inputs.{given}
-use Rattle.twkb_geom.specs.Limits.{standard_limits}
+use Rattle.twkb_tree.specs.Limits.{standard_limits}
 use Rattle.twkb_blob.specs.Readers.{reader_input}
 use Rattle.examples.proofs.PointsLemmas.{GavePoints}
 use Rattle.examples.proofs.points.count_points.Given as goal

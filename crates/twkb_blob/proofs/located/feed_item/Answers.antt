@@ -1,6 +1,6 @@
 use Rattle.std.proofs.Common.{◌+◌, ◌<◌, ◌^◌, ◌∙◌, length, take, sym, subst, length-append, arith}
 use Rattle.std.proofs.lemmas.List.{length-take-le}
-use Rattle.twkb_geom.specs.Limits.{IsAllowance}
+use Rattle.twkb_tree.specs.Limits.{IsAllowance}
 use Rattle.twkb_grammar.specs.Noting.{Notes}
 use Rattle.twkb_engine.specs.Standing.{allowance_of}
 use Rattle.twkb_blob.proofs.Standing.{counted}

@@ -1,6 +1,6 @@
 use Rattle.std.proofs.Common.{◌≡◌, ◌<◌, ◌+◌, ◌∙◌, length, sym, ap, subst, arith}
-use Rattle.twkb_geom.specs.Rows.{row_points}
-use Rattle.twkb_geom.specs.RowGrowth.{EndsInLine}
+use Rattle.twkb_tree.specs.Rows.{row_points}
+use Rattle.twkb_tree.specs.RowGrowth.{EndsInLine}
 use Rattle.twkb_engine.proofs.Feeding.{on_err}
 use Rattle.twkb_engine.proofs.PointRuns.{list_none, list_more, list_stops, used_within}
 use Rattle.twkb_engine.proofs.LinePoints.{ends_again, one_point_more}

@@ -1,6 +1,6 @@
 use Rattle.std.proofs.Common.{length, ◌+◌, ◌≤◌, ◌^◌, take}
-use Rattle.twkb_geom.specs.Rows.{row_points}
-use Rattle.twkb_geom.specs.RowGrowth.{EndsInLine}
+use Rattle.twkb_tree.specs.Rows.{row_points}
+use Rattle.twkb_tree.specs.RowGrowth.{EndsInLine}
 use Rattle.twkb_engine.specs.Running.{ListRuns}
 use Rattle.twkb_engine.proofs.runs.take_list.Given as goal
 

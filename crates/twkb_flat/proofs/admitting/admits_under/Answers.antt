@@ -1,5 +1,5 @@
 use Rattle.std.proofs.Common.{refl, sym, ap, ◌∙◌, take}
-use Rattle.twkb_geom.specs.Limits.{Allowance, largest_limits}
+use Rattle.twkb_tree.specs.Limits.{Allowance, largest_limits}
 use Rattle.twkb_flat.specs.Admitting.{is_admitted_at}
 use Rattle.twkb_flat.specs.Rows.{row_with}
 use Rattle.twkb_flat.proofs.AdmitLemmas.{misplaced, continues_there}

@@ -1,6 +1,6 @@
 use Rattle.std.proofs.Common.{sym, ap, ◌∙◌}
-use Rattle.twkb_geom.specs.Admits.{points_fit}
-use Rattle.twkb_geom.specs.Open.{row_of, child_of}
+use Rattle.twkb_tree.specs.Admits.{points_fit}
+use Rattle.twkb_tree.specs.Open.{row_of, child_of}
 use Rattle.twkb_flat.specs.Rows.{row_with}
 use Rattle.twkb_flat.proofs.AdmitLemmas.{fits_by_count}
 use Rattle.twkb_flat.proofs.admitting.fits.Goals as goal

@@ -1,9 +1,9 @@
 use Rattle.std.proofs.Common.{◌∙◌, ◌+◌, ◌++◌, suc, None, refl, ap, sym, arith}
 use Rattle.std.specs.Prelude.{slice_get}
 use Rattle.std.proofs.lemmas.List.{length-drop}
-use Rattle.twkb_geom.specs.declared.kind.Kind.{Kind}
-use Rattle.twkb_geom.specs.Tree.{IsTree, simple, collection, polygon, multi_point, multi_line, multi_polygon, trees, precision_of}
-use Rattle.twkb_geom.specs.Rows.{Row, rows_with, rows_under, own_row}
+use Rattle.twkb_tree.specs.declared.kind.Kind.{Kind}
+use Rattle.twkb_tree.specs.Tree.{IsTree, simple, collection, polygon, multi_point, multi_line, multi_polygon, trees, precision_of}
+use Rattle.twkb_tree.specs.Rows.{Row, rows_with, rows_under, own_row}
 use Rattle.twkb_flat.proofs.TakeLemmas.{left_next, left_none, tree_heads, read_id, shorter, item_within}
 use Rattle.twkb_flat.proofs.BuildLemmas.{ids_below, points_below, lines_below, areas_below, members_below, point_taken, line_taken, is_polygon, is_multi_point, is_multi_line, is_multi_polygon, is_members, is_no_ring, read_kind, own_here, rings_at, points_at, lines_at, areas_at, members_at}
 use Rattle.twkb_flat.proofs.building.+building.Goals as goal

@@ -1,7 +1,7 @@
 -- The members so far were taken, and the others stand at the place; the measures of the recursion.
 use Rattle.std.proofs.Common.{◌+◌, ◌*◌, ◌≤◌, List, length, drop}
-use Rattle.twkb_geom.specs.Tree.{Ids, Tree, IsTree}
-use Rattle.twkb_geom.specs.Rows.{Row, rows_with}
+use Rattle.twkb_tree.specs.Tree.{Ids, Tree, IsTree}
+use Rattle.twkb_tree.specs.Rows.{Row, rows_with}
 use Rattle.twkb_flat.specs.Taking.{EachAt}
 use Rattle.twkb_flat.proofs.TakeLemmas.{Left}
 use Rattle.twkb_flat.proofs.building.+building.Given as goal

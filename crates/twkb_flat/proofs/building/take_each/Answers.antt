@@ -1,5 +1,5 @@
 use Rattle.std.proofs.Common.{◌∙◌, refl, ap}
-use Rattle.twkb_geom.specs.Rows.{Row}
+use Rattle.twkb_tree.specs.Rows.{Row}
 use Rattle.twkb_flat.specs.Parts.{part_rows}
 use Rattle.twkb_flat.specs.Taking.{IsAny}
 use Rattle.twkb_flat.proofs.TakeLemmas.{left_all, left_next, left_none, part_heads, read_id, shorter}

@@ -1,8 +1,8 @@
 -- The parts so far were taken, and the others stand at the place.
 use Rattle.std.proofs.Common.{List, length, drop}
-use Rattle.twkb_geom.specs.declared.kind.Kind.{Kind}
-use Rattle.twkb_geom.specs.Tree.{Ids}
-use Rattle.twkb_geom.specs.Rows.{Row}
+use Rattle.twkb_tree.specs.declared.kind.Kind.{Kind}
+use Rattle.twkb_tree.specs.Tree.{Ids}
+use Rattle.twkb_tree.specs.Rows.{Row}
 use Rattle.twkb_flat.specs.Parts.{part_rows}
 use Rattle.twkb_flat.specs.Taking.{EachAt, IsAny}
 use Rattle.twkb_flat.proofs.TakeLemmas.{Left}

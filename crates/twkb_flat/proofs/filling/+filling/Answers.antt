@@ -1,9 +1,9 @@
 use Rattle.std.proofs.Common.{◌∙◌, ◌∷◌, [], ◌++◌, ap, arith, rules}
-use Rattle.twkb_geom.specs.Tree.{trees}
-use Rattle.twkb_geom.specs.Rows.{rows_with, rows_of_each, member_rows, plain_row, ring_rows, polygon_rows}
-use Rattle.twkb_geom.specs.declared.kind.Kind.{Kind}
-use Rattle.twkb_geom.specs.Size.{member_smaller}
-use Rattle.twkb_geom.proofs.RowMembers.{member_rows_each, under_shape}
+use Rattle.twkb_tree.specs.Tree.{trees}
+use Rattle.twkb_tree.specs.Rows.{rows_with, rows_of_each, member_rows, plain_row, ring_rows, polygon_rows}
+use Rattle.twkb_tree.specs.declared.kind.Kind.{Kind}
+use Rattle.twkb_tree.specs.Size.{member_smaller}
+use Rattle.twkb_tree.proofs.RowMembers.{member_rows_each, under_shape}
 use Rattle.twkb_flat.proofs.FillLemmas.{has_rows_none, has_rows_more, has_rows_all, next_goes_on, members_valid, own_may_push, own_no_deeper, under_goes_on, all_pushed, under_valid, under_pushed, none_under}
 use Rattle.twkb_flat.proofs.filling.+filling.Goals as goal
 

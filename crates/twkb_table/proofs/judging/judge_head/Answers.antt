@@ -1,6 +1,6 @@
 use Rattle.std.proofs.Common.{List, subst}
 use Rattle.std.specs.Prelude.{IfOk}
-use Rattle.twkb_geom.specs.Rows.{Row}
+use Rattle.twkb_tree.specs.Rows.{Row}
 use Rattle.twkb_table.specs.Judged.{Verdict, Judged}
 use Rattle.twkb_table.specs.Standing.{StandsAfter}
 use Rattle.twkb_table.specs.Head.{JudgedAs}

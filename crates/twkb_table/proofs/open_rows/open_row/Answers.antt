@@ -1,6 +1,6 @@
 use Rattle.std.proofs.Common.{◌≡◌, ◌∷◌, [], ◌++◌, List, take, sym, ap, arith, ◌∙◌}
 use Rattle.std.proofs.lemmas.Bool.{false≢true}
-use Rattle.twkb_geom.specs.declared.open_rows.OpenRow.{OpenRow}
+use Rattle.twkb_tree.specs.declared.open_rows.OpenRow.{OpenRow}
 use Rattle.twkb_flat.specs.Rows.{row_with}
 use Rattle.twkb_table.proofs.OpenedLemmas.{opened_some, opened_none, noted, entered, nothing}
 use Rattle.twkb_table.proofs.open_rows.open_row.Goals as goal

@@ -1,10 +1,10 @@
 use Rattle.std.proofs.Common.{◌∙◌, ◌∷◌, [], ◌++◌, ◌+◌, ap, arith, rules}
-use Rattle.twkb_geom.specs.Tree.{nest_all, trees}
-use Rattle.twkb_geom.specs.Rows.{plain_row, ring_rows, polygon_rows, rows_of_each, member_rows}
-use Rattle.twkb_geom.specs.declared.kind.Kind.{Kind}
-use Rattle.twkb_geom.specs.Size.{member_smaller}
+use Rattle.twkb_tree.specs.Tree.{nest_all, trees}
+use Rattle.twkb_tree.specs.Rows.{plain_row, ring_rows, polygon_rows, rows_of_each, member_rows}
+use Rattle.twkb_tree.specs.declared.kind.Kind.{Kind}
+use Rattle.twkb_tree.specs.Size.{member_smaller}
 use Rattle.twkb_table.specs.Printing.{row_lines}
-use Rattle.twkb_geom.proofs.RowMembers.{member_rows_each, nest_member, under_shape}
+use Rattle.twkb_tree.proofs.RowMembers.{member_rows_each, nest_member, under_shape}
 use Rattle.twkb_table.proofs.LineLemmas.{has_lines_none, has_lines_more, has_lines_all, rows_told}
 use Rattle.twkb_table.proofs.printing.+lines.Goals as goal
 

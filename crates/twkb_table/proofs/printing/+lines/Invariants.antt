@@ -1,5 +1,5 @@
 -- The lines of the members so far were put behind the text.
-use Rattle.twkb_geom.specs.Rows.{rows_with}
+use Rattle.twkb_tree.specs.Rows.{rows_with}
 use Rattle.twkb_table.proofs.LineLemmas.{HasLines}
 use Rattle.twkb_table.proofs.printing.+lines.Given as goal
 

@@ -1,7 +1,7 @@
 -- The lines of the members so far were put behind the text.
 use Rattle.std.proofs.Common.{[], ◌∷◌}
-use Rattle.twkb_geom.specs.Rows.{plain_row}
-use Rattle.twkb_geom.specs.declared.kind.Kind.{Kind}
+use Rattle.twkb_tree.specs.Rows.{plain_row}
+use Rattle.twkb_tree.specs.declared.kind.Kind.{Kind}
 use Rattle.twkb_table.proofs.LineLemmas.{HasLines}
 use Rattle.twkb_table.proofs.printing.put_points.Given as goal
 

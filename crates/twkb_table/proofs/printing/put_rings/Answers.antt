@@ -1,6 +1,6 @@
 use Rattle.std.proofs.Common.{◌∙◌, None, [], ◌∷◌, ◌++◌, ap, refl}
-use Rattle.twkb_geom.specs.Rows.{plain_row}
-use Rattle.twkb_geom.specs.declared.kind.Kind.{Kind}
+use Rattle.twkb_tree.specs.Rows.{plain_row}
+use Rattle.twkb_tree.specs.declared.kind.Kind.{Kind}
 use Rattle.twkb_table.specs.Printing.{row_lines}
 use Rattle.twkb_table.proofs.LineLemmas.{has_lines_none, has_lines_more, has_lines_all, grows_on}
 use Rattle.twkb_table.proofs.printing.put_rings.Goals as goal

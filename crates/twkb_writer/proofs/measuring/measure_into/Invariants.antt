@@ -1,6 +1,6 @@
 -- What the pass knows of the rows behind its place.
 use Rattle.std.proofs.Common.{◌-◌, length, drop}
-use Rattle.twkb_geom.specs.Rows.{row_points}
+use Rattle.twkb_tree.specs.Rows.{row_points}
 use Rattle.twkb_writer.specs.Reads.{ReadsExactly}
 use Rattle.twkb_writer.proofs.MeasuringSteps.{Pass}
 use Rattle.twkb_writer.proofs.measuring.measure_into.Given as goal

@@ -1,6 +1,6 @@
 use Rattle.std.proofs.Common.{◌∙◌, ◌+◌, sym, ap, arith}
 use Rattle.std.proofs.lemmas.Result.{err_from_is_err_and}
-use Rattle.twkb_geom.specs.Rows.{row_points}
+use Rattle.twkb_tree.specs.Rows.{row_points}
 use Rattle.twkb_writer.specs.Bytes.{way_bytes, way_end}
 use Rattle.twkb_writer.proofs.PutLemmas.{begun, step, stopped, finished}
 use Rattle.twkb_writer.proofs.PointLemmas.{way_more, end_more, whole_part, nothing_left}

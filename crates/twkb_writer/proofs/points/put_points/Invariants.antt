@@ -1,5 +1,5 @@
 use Rattle.std.proofs.Common.{◌≡◌, ◌+◌, ◌-◌, take, drop}
-use Rattle.twkb_geom.specs.Rows.{row_points}
+use Rattle.twkb_tree.specs.Rows.{row_points}
 use Rattle.twkb_writer.specs.Bytes.{way_bytes, way_end}
 use Rattle.twkb_writer.specs.Putting.{Progress}
 use Rattle.twkb_writer.specs.Reads.{Reads}

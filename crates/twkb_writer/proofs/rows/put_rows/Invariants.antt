@@ -1,6 +1,6 @@
 use Rattle.std.proofs.Common.{◌≡◌, ℕ, ◌+◌, ◌≤◌, length, drop}
 use Rattle.twkb_points.specs.Point.{origin}
-use Rattle.twkb_geom.specs.Rows.{row_points}
+use Rattle.twkb_tree.specs.Rows.{row_points}
 use Rattle.twkb_writer.specs.Bytes.{rows_bytes, entries_in}
 use Rattle.twkb_writer.specs.Putting.{Progress}
 use Rattle.twkb_writer.specs.Reads.{Reads}

@@ -2,9 +2,9 @@ use Rattle.std.proofs.Common.{◌≤◌, ◌-◌, ◌^◌, ◌∙◌, List, [], 
 use Rattle.std.specs.Prelude.{flat_map}
 use Rattle.std.proofs.lemmas.Int.{to_z-of_z}
 use Rattle.twkb_points.specs.Point.{Point}
-use Rattle.twkb_geom.specs.Tree.{Tree, AreTrees, trees, flat, flat_all, nodes_all, precision_of}
-use Rattle.twkb_geom.specs.Rows.{Row, own_row, member_rows}
-use Rattle.twkb_geom.specs.Size.{member_smaller}
+use Rattle.twkb_tree.specs.Tree.{Tree, AreTrees, trees, flat, flat_all, nodes_all, precision_of}
+use Rattle.twkb_tree.specs.Rows.{Row, own_row, member_rows}
+use Rattle.twkb_tree.specs.Size.{member_smaller}
 use Rattle.twkb_grammar.specs.declared.style.Style.TheVariants.{Full}
 use Rattle.twkb_writer.specs.Measuring.{level}
 use Rattle.twkb_writer.proofs.MeasuringParts.{flat_map_ones}

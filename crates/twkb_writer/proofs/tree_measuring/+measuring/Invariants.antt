@@ -1,7 +1,7 @@
 -- What the members from the place on come to.
 use Rattle.std.proofs.Common.{◌≡◌, ◌≤◌, length, drop}
-use Rattle.twkb_geom.specs.Rows.{ids_from}
-use Rattle.twkb_geom.specs.Tree.{trees, nodes_all, flat_all}
+use Rattle.twkb_tree.specs.Rows.{ids_from}
+use Rattle.twkb_tree.specs.Tree.{trees, nodes_all, flat_all}
 use Rattle.twkb_grammar.specs.declared.style.Style.TheVariants.{Full}
 use Rattle.twkb_writer.specs.Levels.{blank}
 use Rattle.twkb_writer.specs.Measuring.{load}

@@ -1,8 +1,8 @@
 use Rattle.std.proofs.Common.{◌-◌, ◌∙◌, ◌≤◌, ◌^◌, List, length, ap, arith}
 use Rattle.twkb_points.specs.Point.{Point}
-use Rattle.twkb_geom.specs.Tree.{flatten}
-use Rattle.twkb_geom.specs.Rows.{ring_rows}
-use Rattle.twkb_geom.specs.declared.kind.Kind.TheVariants as kind
+use Rattle.twkb_tree.specs.Tree.{flatten}
+use Rattle.twkb_tree.specs.Rows.{ring_rows}
+use Rattle.twkb_tree.specs.declared.kind.Kind.TheVariants as kind
 use Rattle.twkb_grammar.specs.declared.style.Style.TheVariants.{Full}
 use Rattle.twkb_writer.specs.Measuring.{level}
 use Rattle.twkb_writer.proofs.MeasuringParts.{with_polygon, rings_level}

@@ -1,7 +1,7 @@
 -- What the polygons from the place on come to.
 use Rattle.std.proofs.Common.{◌≡◌, ◌*◌, ◌≤◌, drop}
-use Rattle.twkb_geom.specs.Rows.{ids_from}
-use Rattle.twkb_geom.specs.Tree.{area_nodes}
+use Rattle.twkb_tree.specs.Rows.{ids_from}
+use Rattle.twkb_tree.specs.Tree.{area_nodes}
 use Rattle.twkb_writer.specs.Levels.{blank}
 use Rattle.twkb_writer.specs.Measuring.{load}
 use Rattle.twkb_writer.proofs.MeasuringParts.{with_each, with_polygon}

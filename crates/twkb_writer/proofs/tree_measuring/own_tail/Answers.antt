@@ -1,6 +1,6 @@
 use Rattle.std.proofs.Common.{◌∙◌, [], ap, append-nil}
 use Rattle.std.specs.Prelude.{flat_map}
-use Rattle.twkb_geom.specs.Tree.{flatten}
+use Rattle.twkb_tree.specs.Tree.{flatten}
 use Rattle.twkb_writer.specs.Tails.{tail_of}
 use Rattle.twkb_writer.specs.TreeMeasuring.{way_of}
 use Rattle.twkb_writer.proofs.TreeLevels.{by_shape}

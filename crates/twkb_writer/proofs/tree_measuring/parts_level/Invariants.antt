@@ -1,6 +1,6 @@
 -- What the parts from the place on come to.
 use Rattle.std.proofs.Common.{◌≡◌, ◌*◌, ◌≤◌, length, drop}
-use Rattle.twkb_geom.specs.Rows.{ids_from}
+use Rattle.twkb_tree.specs.Rows.{ids_from}
 use Rattle.twkb_writer.specs.Levels.{blank}
 use Rattle.twkb_writer.specs.Measuring.{load}
 use Rattle.twkb_writer.proofs.MeasuringParts.{with_each, with_row_of}

@@ -1,5 +1,5 @@
 use Rattle.std.proofs.Common.{◌≡◌, ◌^◌, ◌<◌, max, drop}
-use Rattle.twkb_geom.specs.Tree.{nest_all, saturated, trees}
+use Rattle.twkb_tree.specs.Tree.{nest_all, saturated, trees}
 use Rattle.tests_low.proofs.geom.recursion.+levels.Given as goal
 
 abbrev pub invariant-levels_of-loop-member : goal.invariant-levels_of-loop-member

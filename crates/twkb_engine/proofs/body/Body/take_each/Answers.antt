@@ -1,5 +1,5 @@
 use Rattle.std.proofs.Common.{take, sym, subst, List, arith}
-use Rattle.twkb_geom.specs.Rows.{Row}
+use Rattle.twkb_tree.specs.Rows.{Row}
 use Rattle.twkb_engine.specs.declared.body.Body.{Body}
 use Rattle.twkb_engine.specs.declared.phase.Phase.TheVariants as phase
 use Rattle.twkb_engine.specs.Running.{RunsTo}

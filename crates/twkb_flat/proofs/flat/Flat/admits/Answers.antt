@@ -1,6 +1,6 @@
 use Rattle.std.proofs.Common.{sym, ◌∙◌}
-use Rattle.twkb_geom.specs.Limits.{largest_limits}
-use Rattle.twkb_geom.proofs.RefusalLaws.{continues_is, continues_true}
+use Rattle.twkb_tree.specs.Limits.{largest_limits}
+use Rattle.twkb_tree.proofs.RefusalLaws.{continues_is, continues_true}
 use Rattle.twkb_flat.specs.Rows.{row_with}
 use Rattle.twkb_flat.proofs.AdmitLemmas.{kept_continues}
 use Rattle.twkb_flat.proofs.flat.Flat.admits.Goals as goal

@@ -1,6 +1,6 @@
 use Rattle.std.proofs.Common.{sym, ap, subst, ◌∙◌, ◌≡◌, length, map, List, true, false}
 use Rattle.std.specs.Prelude.{◌↔◌, IsTrue}
-use Rattle.twkb_geom.specs.Rows.{row_points}
+use Rattle.twkb_tree.specs.Rows.{row_points}
 use Rattle.twkb_flat.specs.declared.entries.Entry.{Entry}
 use Rattle.twkb_flat.specs.Lasts.{LastIsLine}
 use Rattle.twkb_flat.proofs.LastKinds.{both, neither}

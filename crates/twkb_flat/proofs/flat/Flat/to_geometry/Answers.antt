@@ -1,6 +1,6 @@
 use Rattle.std.proofs.Common.{◌∙◌, [], None, ap, sym, subst}
-use Rattle.twkb_geom.specs.Limits.{IsValid, largest_limits}
-use Rattle.twkb_geom.specs.Rows.{rows}
+use Rattle.twkb_tree.specs.Limits.{IsValid, largest_limits}
+use Rattle.twkb_tree.specs.Rows.{rows}
 use Rattle.twkb_flat.proofs.BuildLemmas.{all_at}
 use Rattle.twkb_flat.proofs.flat.Flat.to_geometry.Goals as goal
 

@@ -1,5 +1,5 @@
 use Rattle.std.proofs.Common.{None}
-use Rattle.twkb_geom.specs.declared.kind.Kind.{Kind}
+use Rattle.twkb_tree.specs.declared.kind.Kind.{Kind}
 use Rattle.twkb_flat.proofs.BuildLemmas.{part_rings_at}
 use Rattle.twkb_flat.proofs.parts.LinesPart.take.Goals as goal
 

@@ -1,5 +1,5 @@
 use Rattle.std.proofs.Common.{◌∙◌, [], ◌∷◌, get_or, ap}
-use Rattle.twkb_geom.specs.Rows.{plain_row}
+use Rattle.twkb_tree.specs.Rows.{plain_row}
 use Rattle.twkb_flat.proofs.TakeLemmas.{drop_more}
 use Rattle.twkb_flat.proofs.parts.PtPart.take.Goals as goal
 

@@ -1,6 +1,6 @@
 use Rattle.std.proofs.Common.{List, [], ◌∷◌, ◌++◌, None, refl, ap, sym, ◌∙◌}
-use Rattle.twkb_geom.specs.declared.open_rows.OpenRow.{OpenRow}
-use Rattle.twkb_geom.proofs.LargestLimits.{continues_largest}
+use Rattle.twkb_tree.specs.declared.open_rows.OpenRow.{OpenRow}
+use Rattle.twkb_tree.proofs.LargestLimits.{continues_largest}
 use Rattle.twkb_table.specs.RowReading.{with_points}
 use Rattle.twkb_table.proofs.RowReaderLemmas.{waiting_begins, keeps_first}
 use Rattle.twkb_table.proofs.row_reader.RowReader.begin.Goals as goal

@@ -1,7 +1,7 @@
 use Rattle.std.proofs.Common.{sym, subst}
 use Rattle.std.specs.Prelude.{reverse}
 use Rattle.csv.specs.Records.{fields_of}
-use Rattle.twkb_geom.specs.Open.{AreOpen}
+use Rattle.twkb_tree.specs.Open.{AreOpen}
 use Rattle.twkb_table.specs.Judged.{Refused}
 use Rattle.twkb_table.proofs.RecordJudged.{if_ok, if_err}
 use Rattle.twkb_table.proofs.RowReaderLemmas.{judged_by_open}

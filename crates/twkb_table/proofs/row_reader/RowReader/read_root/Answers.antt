@@ -1,6 +1,6 @@
 use Rattle.std.proofs.Common.{[], ◌∷◌, ap, sym}
 use Rattle.csv.specs.Records.{fields_of}
-use Rattle.twkb_geom.specs.Rows.{Row}
+use Rattle.twkb_tree.specs.Rows.{Row}
 use Rattle.twkb_flat.specs.Rows.{row_with}
 use Rattle.twkb_table.proofs.RowReaderLemmas.{begins_first, may_wait_as, root_is, stands_nowhere}
 use Rattle.twkb_table.proofs.row_reader.RowReader.read_root.Goals as goal

@@ -1,7 +1,0 @@
-use Rattle.std.specs.Prelude.{None}
-use Rattle.twkb_geom.specs.RowLemmas.{length-rows_with}
-use Rattle.twkb_geom.proofs.RowPoints.{row_points-with}
-use Rattle.twkb_geom.proofs.laws.nodes_are_rows.Goals as goal
-
-pub returns : goal.returns
-returns c = record { nodes = length-rows_with None 0; points = row_points-with None 0 }

@@ -1,6 +1,0 @@
-use Rattle.twkb_geom.proofs.RowLaws.{one_reading}
-use Rattle.twkb_geom.proofs.RootLaws.{one_geometry}
-use Rattle.twkb_geom.proofs.laws.one_reading.Goals as goal
-
-pub returns : goal.returns
-returns c = record { list = one_reading; one = one_geometry }

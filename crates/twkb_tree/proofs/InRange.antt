@@ -1,0 +1,49 @@
+-- The points of a tree in range are in range.
+use Rattle.std.proofs.Common.{◌≤◌, List, [], ◌∷◌, ◌++◌, length}
+use Rattle.std.specs.Prelude.{None, Some, flat_map}
+use Rattle.twkb_points.specs.Point.{Point, AreInRange}
+use Rattle.twkb_tree.specs.Tree.{Simple, point, line, polygon, multi_point, multi_line, multi_polygon, Tree, simple, collection, Trees, end, ◌▷◌, flatten, points_in, flat, flat_all, nest, nodes, IsTree}
+use Rattle.twkb_tree.specs.Limits.{Allowance, IsValid}
+use Rattle.twkb_tree.specs.InRange.{LinesAreInRange, AreasAreInRange, IsSimpleInRange, IsTreeInRange, AreTreesInRange}
+
+-- two lists, one after the other
+AreInRange-append : (ps qs : List Point) → AreInRange ps → AreInRange qs → AreInRange (ps ++ qs)
+AreInRange-append [] qs h k = k
+AreInRange-append (p ∷ ps) qs h k = (h.0, AreInRange-append ps qs h.1 k)
+
+-- lines, joined
+AreInRange-flatten : (lines : List (List Point)) → LinesAreInRange lines → AreInRange (flatten lines)
+AreInRange-flatten [] h = tt
+AreInRange-flatten (ps ∷ lines) h = AreInRange-append ps (flatten lines) h.0 (AreInRange-flatten lines h.1)
+
+-- polygons, joined
+AreInRange-areas : (areas : List (List (List Point))) → AreasAreInRange areas → AreInRange (flat_map flatten areas)
+AreInRange-areas [] h = tt
+AreInRange-areas (rings ∷ areas) h = AreInRange-append (flatten rings) (flat_map flatten areas) (AreInRange-flatten rings h.0) (AreInRange-areas areas h.1)
+
+-- a simple shape
+AreInRange-points_in : (s : Simple) → IsSimpleInRange s → AreInRange (points_in s)
+AreInRange-points_in (point None) h = tt
+AreInRange-points_in (point (Some p)) h = (h, tt)
+AreInRange-points_in (line ps) h = h
+AreInRange-points_in (polygon rings) h = AreInRange-flatten rings h
+AreInRange-points_in (multi_point ids ps) h = h
+AreInRange-points_in (multi_line ids lines) h = AreInRange-flatten lines h
+AreInRange-points_in (multi_polygon ids areas) h = AreInRange-areas areas h
+
+-- a geometry, and members
+mutual
+  pub AreInRange-flat : (g : Tree) → IsTreeInRange g → AreInRange (flat g)
+  AreInRange-flat (simple p s) h = AreInRange-points_in s h
+  AreInRange-flat (collection p ids gs) h = AreInRange-flat_all gs h
+
+  AreInRange-flat_all : (gs : Trees) → AreTreesInRange gs → AreInRange (flat_all gs)
+  AreInRange-flat_all end h = tt
+  AreInRange-flat_all (g ▷ gs) h = AreInRange-append (flat g) (flat_all gs) (AreInRange-flat g h.0) (AreInRange-flat_all gs h.1)
+
+-- a geometry of points in range that keeps each limit is valid
+pub valid_within : (l : Allowance) (g : Tree) → IsTree g → IsTreeInRange g → nest g ≤ l.nest → nodes g ≤ l.nodes → length (flat g) ≤ l.points → IsValid l g
+valid_within l g is_tree in_range few_levels few_nodes few_points =
+    record { tree = is_tree; in_range = AreInRange-flat g in_range; nest_kept = few_levels; nodes_kept = few_nodes; points_kept = few_points }
+
+pub ruleset validity = (valid_within)

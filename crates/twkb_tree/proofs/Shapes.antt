@@ -1,0 +1,73 @@
+-- What a shape says of its tree, and the tree of its shape.
+use Rattle.std.proofs.Common.{◌≡◌, ℤ, None, Some, List, [], ◌∷◌, refl, ap, subst, sym, ◌∙◌}
+use Rattle.std.specs.Prelude.{Bool, IsTrue, ◌↔◌}
+use Rattle.twkb_tree.specs.Tree.{Tree, trees, members, precision_of, IsPrecision, IsTree, HasIds}
+use Rattle.twkb_tree.specs.InRange.{IsTreeInRange}
+use Rattle.twkb_tree.specs.Shape.{tree_of, HasFitIds, HasTrees, IsShapeInRange}
+use Rattle.twkb_tree.specs.declared.geometry.Shape.{Shape}
+use Rattle.twkb_tree.specs.declared.geometry.Shape.TheVariants.{Point, Line, Polygon, MultiPoint, MultiLine, MultiPolygon, Collection}
+use Rattle.twkb_tree.proofs.Forest.{count-trees}
+
+-- a fit shape of a precision in range is a geometry
+pub IsTree-tree_of : (p : ℤ) (s : Shape) → IsPrecision p → HasFitIds s → HasTrees s → IsTree (tree_of p s)
+IsTree-tree_of p (Point o) small fit are = (small, tt)
+IsTree-tree_of p (Line ps) small fit are = (small, tt)
+IsTree-tree_of p (Polygon rings) small fit are = (small, tt)
+IsTree-tree_of p (MultiPoint ps ids) small fit are = (small, fit)
+IsTree-tree_of p (MultiLine lines ids) small fit are = (small, fit)
+IsTree-tree_of p (MultiPolygon areas ids) small fit are = (small, fit)
+IsTree-tree_of p (Collection gs ids) small fit are = (small, subst (λ n. HasIds ids n) (sym (count-trees gs)) fit, are)
+
+-- and a geometry's precision and shape are such
+pub fit-tree_of : (p : ℤ) (s : Shape) → IsTree (tree_of p s) → IsPrecision p × HasFitIds s
+fit-tree_of p (Point o) t = (t.0, tt)
+fit-tree_of p (Line ps) t = (t.0, tt)
+fit-tree_of p (Polygon rings) t = (t.0, tt)
+fit-tree_of p (MultiPoint ps ids) t = t
+fit-tree_of p (MultiLine lines ids) t = t
+fit-tree_of p (MultiPolygon areas ids) t = t
+fit-tree_of p (Collection gs ids) t = (t.0, subst (λ n. HasIds ids n) (count-trees gs) t.1)
+
+-- the points of the shape are those of its tree
+pub IsTreeInRange-tree_of : (p : ℤ) (s : Shape) → IsShapeInRange s → IsTreeInRange (tree_of p s)
+IsTreeInRange-tree_of p (Point None) h = tt
+IsTreeInRange-tree_of p (Point (Some q)) h = h
+IsTreeInRange-tree_of p (Line ps) h = h
+IsTreeInRange-tree_of p (Polygon rings) h = h
+IsTreeInRange-tree_of p (MultiPoint ps ids) h = h
+IsTreeInRange-tree_of p (MultiLine lines ids) h = h
+IsTreeInRange-tree_of p (MultiPolygon areas ids) h = h
+IsTreeInRange-tree_of p (Collection gs ids) h = h
+
+pub ruleset shapes = (IsTree-tree_of, IsTreeInRange-tree_of)
+
+-- the members of a list, as a list again
+members-trees : (gs : List Tree) → members (trees gs) ≡ gs
+members-trees [] = refl
+members-trees (g ∷ gs) = ap (λ (l : List Tree). g ∷ l) (members-trees gs)
+
+-- a list is known by its members
+trees_inj : (gs hs : List Tree) → trees gs ≡ trees hs → gs ≡ hs
+trees_inj gs hs e = sym (members-trees gs) ∙ ap members e ∙ members-trees hs
+
+-- a shape is known by its tree
+tree_of-shape : (p q : ℤ) (s t : Shape) → tree_of p s ≡ tree_of q t → s ≡ t
+tree_of-shape p q (Point a) (Point b) e = cc
+tree_of-shape p q (Line a) (Line b) e = cc
+tree_of-shape p q (Polygon a) (Polygon b) e = cc
+tree_of-shape p q (MultiPoint a is) (MultiPoint b js) e = cc
+tree_of-shape p q (MultiLine a is) (MultiLine b js) e = cc
+tree_of-shape p q (MultiPolygon a is) (MultiPolygon b js) e = cc
+tree_of-shape p q (Collection gs is) (Collection hs js) e =
+    let same_trees : trees gs ≡ trees hs = cc in
+    let same_members = trees_inj gs hs same_trees in
+    let same_ids : is ≡ js = cc in
+    λ i. Collection (same_members i) (same_ids i)
+tree_of-shape p q _ _ e = cc
+
+-- two trees of one precision are one where their shapes are
+pub same_trees : (g h : Tree) (s t : Shape) (r : Bool) → precision_of g ≡ precision_of h → tree_of (precision_of g) s ≡ g → tree_of (precision_of h) t ≡ h → (IsTrue r ↔ (s ≡ t)) → IsTrue r ↔ (g ≡ h)
+same_trees g h s t r same_precision g_is h_is same_shape = (
+  λ so. sym g_is ∙ (λ i. tree_of (same_precision i) (same_shape.0 so i)) ∙ h_is,
+  λ (e : g ≡ h). same_shape.1 (tree_of-shape (precision_of g) (precision_of h) s t (g_is ∙ e ∙ sym h_is)),
+)

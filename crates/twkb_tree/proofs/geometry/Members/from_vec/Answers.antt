@@ -1,0 +1,13 @@
+use Rattle.std.proofs.Common.{subst}
+use Rattle.std.proofs.lemmas.List.{take_more}
+use Rattle.twkb_tree.specs.Tree.{IsTree}
+use Rattle.twkb_tree.specs.InRange.{IsTreeInRange}
+use Rattle.twkb_tree.proofs.Forest.{AreTrees-push, AreTreesInRange-push}
+use Rattle.twkb_tree.proofs.geometry.Members.from_vec.Goals as goal
+
+pub loop-member-preserved : goal.loop-member-preserved
+loop-member-preserved c =
+    rw (take_more _ _ c.member-item.result c.loop-member-test.true) (
+      AreTrees-push _ _ c.loop-member.invariant.0 (subst IsTree c.member-item.is c.precision.ensures.sound),
+      AreTreesInRange-push _ _ c.loop-member.invariant.1 (subst IsTreeInRange c.member-item.is c.precision.ensures.in_range),
+    )

@@ -1,0 +1,5 @@
+use Rattle.twkb_tree.proofs.RowDepths.{valid_depths}
+use Rattle.twkb_tree.proofs.laws.depths.Goals as goal
+
+pub returns : goal.returns
+returns c = valid_depths

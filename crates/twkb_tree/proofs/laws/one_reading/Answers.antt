@@ -1,0 +1,6 @@
+use Rattle.twkb_tree.proofs.RowLaws.{one_reading}
+use Rattle.twkb_tree.proofs.RootLaws.{one_geometry}
+use Rattle.twkb_tree.proofs.laws.one_reading.Goals as goal
+
+pub returns : goal.returns
+returns c = record { list = one_reading; one = one_geometry }

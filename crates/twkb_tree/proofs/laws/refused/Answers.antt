@@ -1,0 +1,10 @@
+use Rattle.std.specs.Prelude.{reverse}
+use Rattle.twkb_tree.proofs.RootLimits.{refused_begins_none}
+use Rattle.twkb_tree.proofs.RefusalLaws.{accepts_unrefused, accepted_unrefused}
+use Rattle.twkb_tree.proofs.laws.refused.Goals as goal
+
+pub returns : goal.returns
+returns c = record {
+  reasons = λ l rs r. (accepts_unrefused l (reverse rs) r, accepted_unrefused l (reverse rs) r);
+  dead = refused_begins_none;
+}

@@ -1,0 +1,150 @@
+-- Whether a row may come after the rows so far: the rules of the table but for its limits (profile).
+use Rattle.std.specs.Prelude.{◌≡◌, ℕ, zero, suc, ◌^◌, ℤ, pos, negsuc, List, [], ◌∷◌, Option, Some, None, Bool, true, false, not, ◌&&◌, ◌||◌, ◌==◌, nat_le, nat_lt, if◌then◌else◌, reverse, is_some, is_none, ⊤}
+use Rattle.twkb_points.specs.Point.{Point}
+use Rattle.twkb_tree.specs.declared.kind.Kind.{Kind}
+use Rattle.twkb_tree.specs.declared.kind.Kind.TheVariants as kind
+use Rattle.twkb_tree.specs.Rows.{Row}
+
+-- ---- the rows so far stand with the last one first: "before"
+
+-- the last row at a depth
+abbrev pub last_at : ℕ → List Row → Option Row
+last_at d [] = None
+last_at d (r ∷ before) = if r.depth == d then Some r else last_at d before
+
+-- the first of the two that is there
+abbrev pub or_else : Option Row → Option Row → Option Row
+or_else None other = other
+or_else (Some r) other = Some r
+
+-- the first row below the last row at a depth, one deeper
+abbrev pub first_below : ℕ → List Row → Option Row
+first_below d [] = None
+first_below d (r ∷ before) =
+    if r.depth == d then None else or_else (first_below d before) (if r.depth == suc d then Some r else None)
+
+-- the row that a row at this depth comes under; a root comes under none
+abbrev pub parent : ℕ → List Row → Option Row
+parent zero before = None
+parent (suc d) before = last_at d before
+
+-- the first row that came under the same parent
+abbrev pub first_child : ℕ → List Row → Option Row
+first_child zero before = None
+first_child (suc d) before = first_below d before
+
+-- a row at this depth is a root, or no deeper than one below the last row
+abbrev pub steps_to : ℕ → List Row → Bool
+steps_to zero before = true
+steps_to (suc d) [] = false
+steps_to (suc d) (r ∷ before) = nat_le d r.depth
+
+-- ---- kinds
+
+-- a row of the first kind may have a child of the second (the table of parents and children)
+abbrev pub may_have : Kind → Kind → Bool
+may_have kind.Polygon kind.Ring = true
+may_have kind.MultiPoint kind.Point = true
+may_have kind.MultiLinestring kind.Linestring = true
+may_have kind.MultiPolygon kind.Polygon = true
+may_have kind.Collection kind.Ring = false
+may_have kind.Collection _ = true
+may_have _ _ = false
+
+-- the kind is the ring's
+abbrev pub is_ring : Kind → Bool
+is_ring kind.Ring = true
+is_ring _ = false
+
+-- the kind is the point's
+abbrev pub is_point : Kind → Bool
+is_point kind.Point = true
+is_point _ = false
+
+-- rows of the kind have points of their own
+abbrev pub has_points : Kind → Bool
+has_points kind.Point = true
+has_points kind.Linestring = true
+has_points kind.Ring = true
+has_points _ = false
+
+-- the kind is the collection's
+abbrev pub is_collection : Kind → Bool
+is_collection kind.Collection = true
+is_collection _ = false
+
+-- ---- what a row is to be under its parent
+
+-- under this parent a row is a geometry of its own: a root, or a member of a collection
+abbrev pub is_whole : Option Row → Bool
+is_whole None = true
+is_whole (Some p) = is_collection p.kind
+
+-- a root is no ring, and another row is what its parent may have
+abbrev pub has_place : Option Row → Kind → Bool
+has_place None k = not (is_ring k)
+has_place (Some p) k = may_have p.kind k
+
+-- from -2 ^ 63 to 2 ^ 63 - 1
+abbrev pub is_id : ℤ → Bool
+is_id (pos n) = nat_lt n (2 ^ 63)
+is_id (negsuc n) = nat_lt n (2 ^ 63)
+
+-- an id is in range
+abbrev pub id_in_range : Option ℤ → Bool
+id_in_range None = true
+id_in_range (Some n) = is_id n
+
+-- no id on a root or a ring
+abbrev pub id_allowed : Option Row → Kind → Option ℤ → Bool
+id_allowed None k id = is_none id
+id_allowed (Some p) k id = not (is_ring k) || is_none id
+
+-- an id on each child or on none: as the first child has it
+abbrev pub has_same_ids : Option Row → Option ℤ → Bool
+has_same_ids None id = true
+has_same_ids (Some f) id = if is_some f.id then is_some id else is_none id
+
+-- from -8 to 7
+abbrev pub is_precision : ℤ → Bool
+is_precision (pos n) = nat_lt n 8
+is_precision (negsuc n) = nat_lt n 8
+
+-- a precision is in range
+abbrev pub precision_in_range : Option ℤ → Bool
+precision_in_range None = true
+precision_in_range (Some n) = is_precision n
+
+-- a precision on a geometry of its own, and on no other row
+abbrev pub precision_fits : Option Row → Option ℤ → Bool
+precision_fits p precision = if is_whole p then is_some precision else is_none precision
+
+-- the points that a row may have, by its kind; a point that is no geometry of its own has one
+abbrev pub points_fit : Kind → Bool → List Point → Bool
+points_fit k whole [] = whole || not (is_point k)
+points_fit kind.Point whole (p ∷ []) = true
+points_fit kind.Point whole (p ∷ q ∷ ps) = false
+points_fit kind.Linestring whole (p ∷ ps) = true
+points_fit kind.Ring whole (p ∷ ps) = true
+points_fit k whole (p ∷ ps) = false
+
+-- the row is what it is to be under this parent, after this first child
+abbrev pub fits : Option Row → Option Row → Row → Bool
+fits p f r =
+    has_place p r.kind && id_in_range r.id && id_allowed p r.kind r.id && has_same_ids f r.id
+    && precision_in_range r.precision && precision_fits p r.precision && points_fit r.kind (is_whole p) r.points
+
+-- ---- the row may come next
+
+-- after the rows so far with the last one first
+abbrev pub admits_after : List Row → Row → Bool
+admits_after before r = steps_to r.depth before && fits (parent r.depth before) (first_child r.depth before) r
+
+-- after the rows so far in their order
+abbrev pub admits : List Row → Row → Bool
+admits rs r = admits_after (reverse rs) r
+
+-- each row, the last one first, may come after those before it
+abbrev pub IsAdmitted : List Row → Type 0
+IsAdmitted [] = ⊤
+IsAdmitted (r ∷ before) = (admits_after before r ≡ true) × IsAdmitted before

@@ -1,0 +1,96 @@
+-- What a row is refused for: the first test that it fails, in the order of the table's reasons (profile).
+use Rattle.std.specs.Prelude.{ℕ, ◌+◌, ◌^◌, Bool, true, false, ◌&&◌, ◌||◌, not, is_some, is_none, nat_lt, nat_le, ℤ, pos, negsuc, List, [], ◌∷◌, length, Option, Some, None, reverse, ◌==◌, if◌then◌else◌}
+use Rattle.twkb_points.specs.Point.{Point}
+use Rattle.twkb_tree.specs.Limits.{Allowance}
+use Rattle.twkb_tree.specs.Rows.{Row}
+use Rattle.twkb_tree.specs.Admits.{parent, first_child, steps_to, has_place, id_in_range, id_allowed, has_same_ids, precision_in_range, is_whole, has_points, points_fit}
+use Rattle.twkb_tree.specs.Accepted.{nest_kept, geometry_rows, point_count}
+
+-- why a row may not come next
+pub data Refusal : Type 0 where
+  BadPlace : Refusal
+  TooDeep : Refusal
+  TooManyNodes : Refusal
+  BadId : Refusal
+  IdNotAllowed : Refusal
+  MixedIds : Refusal
+  BadPrecision : Refusal
+  PrecisionMissing : Refusal
+  PrecisionNotAllowed : Refusal
+  PointsNotAllowed : Refusal
+  CoordinateRange : Refusal
+  TooManyPoints : Refusal
+  PointCount : Refusal
+
+-- from -2 ^ 62 to 2 ^ 62 - 1
+abbrev pub is_coordinate : ℤ → Bool
+is_coordinate (pos n) = nat_lt n (2 ^ 62)
+is_coordinate (negsuc n) = nat_lt n (2 ^ 62)
+
+-- each coordinate of the points is in range
+abbrev pub are_in_range : List Point → Bool
+are_in_range [] = true
+are_in_range (p ∷ ps) = (is_coordinate p.x && is_coordinate p.y) && are_in_range ps
+
+-- there is no point
+abbrev pub has_none : List Point → Bool
+has_none [] = true
+has_none (p ∷ ps) = false
+
+-- a test, and what a row is refused for that fails it
+pub record Check : Type 0 where
+  pub holds : Bool
+  pub otherwise : Refusal
+
+-- the test and the reason together
+abbrev pub check : Bool → Refusal → Check
+check holds otherwise = record { holds = holds; otherwise = otherwise }
+
+-- the tests of a row in their order: whether it is not too deep to stand here, its parent and the first child, how many rows and points its geometry has
+abbrev pub checks_under : Allowance → Bool → Option Row → Option Row → ℕ → ℕ → Row → List Check
+checks_under l steps p f nodes points r =
+    check (steps && has_place p r.kind) BadPlace
+    ∷ check (nest_kept l p r.depth) TooDeep
+    ∷ check (nat_lt nodes l.nodes) TooManyNodes
+    ∷ check (id_in_range r.id) BadId
+    ∷ check (id_allowed p r.kind r.id) IdNotAllowed
+    ∷ check (has_same_ids f r.id) MixedIds
+    ∷ check (precision_in_range r.precision) BadPrecision
+    ∷ check (not (is_whole p) || is_some r.precision) PrecisionMissing
+    ∷ check (is_whole p || is_none r.precision) PrecisionNotAllowed
+    ∷ check (has_points r.kind || has_none r.points) PointsNotAllowed
+    ∷ check (are_in_range r.points) CoordinateRange
+    ∷ check (nat_le (points + length r.points) l.points) TooManyPoints
+    ∷ check (points_fit r.kind (is_whole p) r.points) PointCount
+    ∷ []
+
+-- the tests of a row at this depth after the rows so far with the last one first
+abbrev pub checks_at : Allowance → ℕ → List Row → Row → List Check
+checks_at l d before r =
+    checks_under l (steps_to d before) (parent d before) (first_child d before) (length (geometry_rows d before)) (point_count (geometry_rows d before)) r
+
+-- what the first test says that does not hold
+abbrev pub first_failed : List Check → Option Refusal
+first_failed [] = None
+first_failed (c ∷ cs) = if c.holds then first_failed cs else Some c.otherwise
+
+-- what the row is refused for after the rows so far with the last one first, if it is refused
+abbrev pub refusal_after : Allowance → List Row → Row → Option Refusal
+refusal_after l before r = first_failed (checks_at l r.depth before r)
+
+-- the same after the rows so far in their order
+abbrev pub refusal : Allowance → List Row → Row → Option Refusal
+refusal l rs r = refusal_after l (reverse rs) r
+
+-- the row may come next
+abbrev pub accepts : Allowance → List Row → Row → Bool
+accepts l rs r = is_none (refusal l rs r)
+
+-- the row is a root where it is the first, and only there
+abbrev pub is_one_root : List Row → Row → Bool
+is_one_root [] r = r.depth == 0
+is_one_root (s ∷ rs) r = nat_lt 0 r.depth
+
+-- the row may come next, and is of the same geometry
+abbrev pub continues : Allowance → List Row → Row → Bool
+continues l rs r = accepts l rs r && is_one_root rs r

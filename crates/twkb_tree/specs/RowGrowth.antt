@@ -1,0 +1,22 @@
+-- A row that gets a point more.
+use Rattle.std.specs.Prelude.{◌≡◌, ◌⊎◌, List, [], ◌∷◌, ◌++◌}
+use Rattle.twkb_points.specs.Point.{Point}
+use Rattle.twkb_tree.specs.declared.kind.Kind.TheVariants as kind
+use Rattle.twkb_tree.specs.Rows.{Row}
+
+-- the row with a point more
+abbrev pub with_point : Row → Point → Row
+with_point r p = record { depth = r.depth; kind = r.kind; id = r.id; precision = r.precision; points = r.points ++ p ∷ [] }
+
+-- the rows with a point more in the last one
+abbrev pub point_added : Point → List Row → List Row
+point_added p [] = []
+point_added p (r ∷ []) = with_point r p ∷ []
+point_added p (r ∷ s ∷ rs) = r ∷ point_added p (s ∷ rs)
+
+-- the last row is a linestring's or a ring's
+pub record EndsInLine (rs : List Row) : Type 0 where
+  pub front : List Row
+  pub last : Row
+  pub line : (last.kind ≡ kind.Linestring) ⊎ (last.kind ≡ kind.Ring)
+  pub whole : rs ≡ front ++ last ∷ []

@@ -1,0 +1,18 @@
+-- The members are smaller than the geometry.
+use Rattle.std.specs.Prelude.{ℤ, ◌*◌, ◌≤◌}
+use Rattle.std.proofs.Common.{arith}
+use Rattle.twkb_tree.specs.declared.geometry.Shape.{Shape}
+use Rattle.twkb_tree.specs.declared.geometry.Shape.TheVariants.{Point, Line, Polygon, MultiPoint, MultiLine, MultiPolygon, Collection}
+use Rattle.twkb_tree.specs.declared.geometry.Geometry.TheDeep.{deep-Shape}
+use Rattle.twkb_tree.specs.Tree.{nodes}
+use Rattle.twkb_tree.specs.Shape.{tree_of}
+
+-- what a shape holds is no larger than its tree
+pub deep_le-nodes : (p : ℤ) (s : Shape) → deep-Shape s ≤ 2 * nodes (tree_of p s)
+deep_le-nodes p (Point o) = omega arith
+deep_le-nodes p (Line ps) = omega arith
+deep_le-nodes p (Polygon rings) = omega arith
+deep_le-nodes p (MultiPoint ps ids) = omega arith
+deep_le-nodes p (MultiLine lines ids) = omega arith
+deep_le-nodes p (MultiPolygon areas ids) = omega arith
+deep_le-nodes p (Collection gs ids) = omega arith

@@ -1,0 +1,96 @@
+//! Whether two geometries are one.
+ghost use Rattle.std.specs.Prelude.{◌≡◌, ◌↔◌, IsTrue};
+ghost use Rattle.twkb_tree.specs.Equal.{tree_eq, tree_eq_partial, tree_eq_equiv};
+
+use crate::geometry::{Geometry, Members, Shape};
+use crate::lists::{Ids, Item};
+use twkb_points::Pt;
+
+fn same_points(a: &Option<Pt>, b: &Option<Pt>) -> bool
+    ensures { IsTrue result ↔ (a.now ≡ b.now) }
+{
+    match (a, b) {
+        (None, None) => true,
+        (Some(a), Some(b)) => a.same(b),
+        _ => false,
+    }
+}
+
+fn same_ids(a: &Ids, b: &Ids) -> bool
+    ensures { IsTrue result ↔ (a.now ≡ b.now) }
+{
+    match (a, b) {
+        (None, None) => true,
+        (Some(a), Some(b)) => a.same(b),
+        _ => false,
+    }
+}
+
+impl Members {
+    #[cycle(same)]
+    #[tactic(auto, using(crate::specs::Size::member_smaller, crate::proofs::Pairs::pairs))]
+    fn same(&self, other: &Members) -> bool
+        ensures { IsTrue result ↔ (self.now ≡ other.now) }
+    {
+        let members = self.as_slice();
+        let others = other.as_slice();
+        if members.len() != others.len() {
+            return false;
+        }
+        for index in 0..members.len() {
+            if !members[index].same(&others[index]) {
+                return false;
+            }
+        }
+        true
+    }
+}
+
+impl Shape {
+    #[cycle(same)]
+    fn same(&self, other: &Shape) -> bool
+        ensures { IsTrue result ↔ (self.now ≡ other.now) }
+    {
+        match (self, other) {
+            (Shape::Point(a), Shape::Point(b)) => same_points(a, b),
+            (Shape::Line(a), Shape::Line(b)) => a.same(b),
+            (Shape::Polygon(a), Shape::Polygon(b)) => a.same(b),
+            (Shape::MultiPoint(a, ids), Shape::MultiPoint(b, others)) => a.same(b)
+                && same_ids(ids, others),
+            (Shape::MultiLine(a, ids), Shape::MultiLine(b, others)) => a.same(b)
+                && same_ids(ids, others),
+            (Shape::MultiPolygon(a, ids), Shape::MultiPolygon(b, others)) => a.same(b)
+                && same_ids(ids, others),
+            (Shape::Collection(a, ids), Shape::Collection(b, others)) => a.same(b)
+                && same_ids(ids, others),
+            _ => false,
+        }
+    }
+}
+
+impl Geometry {
+    #[cycle(same)]
+    fn same(&self, other: &Geometry) -> bool
+        ensures { IsTrue result ↔ (self.now ≡ other.now) }
+    {
+        self.precision() == other.precision() && self.shape().same(other.shape())
+    }
+}
+
+impl PartialEq for Geometry {
+    ghost eq = { tree_eq };
+
+    ghost laws = { tree_eq_partial };
+
+    /// Whether the two are one tree. Takes no memory.
+    fn eq(&self, other: &Geometry) -> bool
+        ensures test { result ≡ tree_eq self.now other.now }
+        ensures same { IsTrue result ↔ (self.now ≡ other.now) }
+    {
+        self.same(other)
+    }
+}
+
+impl Eq for Geometry {
+    ghost laws = { tree_eq_equiv };
+}

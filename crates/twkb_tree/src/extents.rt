@@ -1,0 +1,40 @@
+//! The box round a geometry.
+ghost use Rattle.std.specs.Prelude.{◌≡◌};
+ghost use Rattle.twkb_points.specs.Extent.{extent};
+ghost use Rattle.twkb_tree.specs.Tree.{trees, flat, flat_all};
+
+use crate::geometry::{Geometry, Members, Shape};
+use crate::placed::Placed;
+use twkb_points::{Bounds, merged};
+
+impl Members {
+    #[cycle(bounds)]
+    #[tactic(auto, using(twkb_points::proofs::ExtentLemmas::extents, crate::specs::Size::member_smaller))]
+    fn bounds(&self) -> Option<Bounds>
+        ensures { result ≡ extent (flat_all (trees self.now)) }
+    {
+        let mut bounds = None;
+        for member in self.as_slice() {
+            bounds = merged(bounds, member.bounds());
+        }
+        bounds
+    }
+}
+
+impl Geometry {
+    /// The least box round all its points, members' points included, and `None` where it has none (TWKB, bounding
+    /// box; profile: what it spans in a collection). Takes no memory.
+    #[cycle(bounds)]
+    pub fn bounds(&self) -> Option<Bounds>
+        ensures { result ≡ extent (flat self.now) }
+    {
+        match self.shape() {
+            Shape::Point(None) => None,
+            Shape::Point(Some(point)) => Some(Bounds::of(*point)),
+            Shape::Line(points) | Shape::MultiPoint(points, _) => points.bounds(),
+            Shape::Polygon(lines) | Shape::MultiLine(lines, _) => lines.bounds(),
+            Shape::MultiPolygon(areas, _) => areas.bounds(),
+            Shape::Collection(members, _) => members.bounds(),
+        }
+    }
+}

@@ -1,0 +1,140 @@
+//! Laws of the rows of geometries. Each function does nothing; its contract is the law.
+ghost use Rattle.std.specs.Prelude.{◌≡◌, ◌↔◌, ◌<◌, ◌≤◌, ◌+◌, ◌++◌, ◌∷◌, [], List, length, reverse, true, Option, None};
+ghost use Rattle.twkb_tree.specs.declared.open_rows.OpenRow.{OpenRow};
+ghost use Rattle.twkb_tree.specs.Limits.{Allowance, IsValid};
+ghost use Rattle.twkb_tree.specs.Tree.{Tree, IsTree, nodes, flat};
+ghost use Rattle.twkb_tree.specs.Rows.{Row, rows, rows_of, row_points};
+ghost use Rattle.twkb_tree.specs.Admits.{admits, steps_to};
+ghost use Rattle.twkb_tree.specs.Accepted.{Accepts, AreAccepted, Continues, IsOneRoot, since_root, geometry_rows, point_count};
+ghost use Rattle.twkb_tree.specs.Refusal.{refusal, refusal_after, accepts, continues};
+ghost use Rattle.twkb_tree.specs.RowLists.{AreGeometries, AreValid, AreRows, AreRowsOfOne, AreValidRows, AreValidRowsOfOne, BeginValidRows, IsAtRoot, AreShallow};
+ghost use Rattle.twkb_tree.specs.Open.{AreOpen, opened, open_refusal, open_continues};
+ghost use Rattle.twkb_tree.specs.RowSamples.{MemberRows, PolygonRows, TwoRings, PointsWithIds, MembersWithIds, TwoPrecisions, EmptyLine, PolygonsWithIds, TwoRoots, IdsOnSome, NoLevel, NineLevels, TwoNodes, OnePoint, Precisions, FirstRows, PrecisionRange, CoordinateRanges, IdRange, SecondRoot};
+
+// ---- rows and geometries
+
+/// A geometry has as many rows as nodes, and its points are those of its rows, in order.
+pub fn nodes_are_rows()
+    ensures nodes { (g : Tree) → length (rows 0 g) ≡ nodes g }
+    ensures points { (g : Tree) → row_points (rows 0 g) ≡ flat g }
+{}
+
+/// Rows determine the geometries, and the rows of one determine it.
+pub fn one_reading()
+    ensures list { (gs hs : List Tree) → AreGeometries gs → AreGeometries hs → rows_of gs ≡ rows_of hs → gs ≡ hs }
+    ensures one { (g h : Tree) → IsTree g → IsTree h → rows 0 g ≡ rows 0 h → g ≡ h }
+{}
+
+/// The rows of a geometry go on below its root or end: where the next row is a root, or where
+/// there is none, the geometry is whole.
+pub fn ends()
+    ensures below { (g h : Tree) (r : Row) (more : List Row) → IsTree g → IsTree h → rows 0 g ++ r ∷ more ≡ rows 0 h → 0 < r.depth }
+    ensures whole { (g : Tree) (more : List Row) (hs : List Tree) → IsTree g → AreGeometries hs → IsAtRoot more → rows 0 g ++ more ≡ rows_of hs → (rest : List Tree) × (hs ≡ g ∷ rest) × (rows_of rest ≡ more) }
+{}
+
+/// Each front of rows of geometries is rows of geometries; the same of valid ones, and of one
+/// valid geometry.
+pub fn fronts()
+    ensures geometries { (front more : List Row) → AreRows (front ++ more) → AreRows front }
+    ensures valid { (l : Allowance) (front more : List Row) → AreValidRows l (front ++ more) → AreValidRows l front }
+    ensures one { (l : Allowance) (front more : List Row) → AreValidRowsOfOne l (front ++ more) → AreValidRowsOfOne l front }
+{}
+
+/// No row of a valid geometry is deeper than two below the deepest member that the limits allow.
+pub fn depths()
+    ensures { (l : Allowance) (rs : List Row) → AreValidRows l rs → AreShallow (l.nest + 2) rs }
+{}
+
+// ---- when a row may come next
+
+/// After rows of geometries a row is admitted exactly where rows of geometries come of it; the
+/// same of one geometry, whose root alone is a root.
+pub fn admitted()
+    ensures list { (rs : List Row) (r : Row) → AreRows rs → (admits rs r ≡ true) ↔ AreRows (rs ++ r ∷ []) }
+    ensures one { (rs : List Row) (r : Row) → AreRowsOfOne rs → ((admits rs r ≡ true) × IsOneRoot rs r) ↔ AreRowsOfOne (rs ++ r ∷ []) }
+{}
+
+/// Rows are accepted one by one exactly where they are rows of valid geometries, and a row is
+/// accepted after such rows exactly where rows of valid geometries begin with these and it.
+pub fn accepted()
+    ensures one_by_one { (l : Allowance) (rs : List Row) → AreAccepted l (reverse rs) ↔ AreValidRows l rs }
+    ensures next { (l : Allowance) (rs : List Row) (r : Row) → AreValidRows l rs → Accepts l (reverse rs) r ↔ AreValidRows l (rs ++ r ∷ []) }
+    ensures begins { (l : Allowance) (rs : List Row) (r : Row) → AreValidRows l rs → Accepts l (reverse rs) r ↔ BeginValidRows l (rs ++ r ∷ []) }
+    ensures test { (l : Allowance) (rs : List Row) (r : Row) → (accepts l rs r ≡ true) ↔ Accepts l (reverse rs) r }
+{}
+
+/// The same of one valid geometry.
+pub fn continued()
+    ensures next { (l : Allowance) (rs : List Row) (r : Row) → AreValidRowsOfOne l rs → Continues l rs r ↔ AreValidRowsOfOne l (rs ++ r ∷ []) }
+    ensures test { (l : Allowance) (rs : List Row) (r : Row) → (continues l rs r ≡ true) ↔ Continues l rs r }
+    ensures counted { (rs : List Row) (r : Row) → AreRowsOfOne rs → IsOneRoot rs r → geometry_rows r.depth (reverse rs) ≡ reverse rs }
+{}
+
+/// An accepted root begins a new geometry, and another accepted row is one more row of the last
+/// geometry; the others stay as they are.
+pub fn grows()
+    ensures root { (l : Allowance) (gs : List Tree) (r : Row) → Accepts l (reverse (rows_of gs)) r → r.depth ≡ 0 → (h : Tree) × IsValid l h × (rows 0 h ≡ r ∷ []) }
+    ensures below { (l : Allowance) (gs : List Tree) (g : Tree) (r : Row) → AreValid l (gs ++ g ∷ []) → Accepts l (reverse (rows_of (gs ++ g ∷ []))) r → 0 < r.depth → (h : Tree) × IsValid l h × (rows 0 h ≡ rows 0 g ++ r ∷ []) }
+{}
+
+/// A row is judged by the rows of the last geometry alone, and a root by no row.
+pub fn last_geometry()
+    ensures local { (l : Allowance) (earlier : List Row) (s : Row) (rs : List Row) (r : Row) → AreRowsOfOne (s ∷ rs) → refusal l (earlier ++ s ∷ rs) r ≡ refusal l (s ∷ rs) r }
+    ensures root { (l : Allowance) (rs : List Row) (r : Row) → r.depth ≡ 0 → refusal l rs r ≡ refusal l [] r }
+{}
+
+/// A row has a reason to be refused exactly where it is not accepted, and no rows of valid
+/// geometries begin with rows and a row that is refused after them.
+pub fn refused()
+    ensures reasons { (l : Allowance) (rs : List Row) (r : Row) → (refusal l rs r ≡ None) ↔ Accepts l (reverse rs) r }
+    ensures dead { (l : Allowance) (rs : List Row) (r : Row) (more : List Row) → (¬ Accepts l (reverse rs) r) → ¬ AreValidRows l (rs ++ r ∷ more) }
+{}
+
+/// The open rows follow the rows, and with two counts they tell what a row is refused for.
+pub fn open_rows()
+    ensures none { AreOpen [] [] }
+    ensures more { (before : List Row) (os : List OpenRow) (r : Row) → steps_to r.depth before ≡ true → AreOpen before os → AreOpen (r ∷ before) (opened r.depth os r) }
+    ensures nodes { (before : List Row) (r : Row) → length (since_root (r ∷ before)) ≡ length (geometry_rows r.depth before) + 1 }
+    ensures points { (before : List Row) (r : Row) → point_count (since_root (r ∷ before)) ≡ point_count (geometry_rows r.depth before) + length r.points }
+    ensures kept { (l : Allowance) (before : List Row) → AreAccepted l before → (length (since_root before) ≤ l.nodes) × (point_count (since_root before) ≤ l.points) }
+    ensures decide { (l : Allowance) (before : List Row) (os : List OpenRow) (r : Row) → AreOpen before os → open_refusal l os (length (since_root before)) (point_count (since_root before)) r ≡ refusal_after l before r }
+    ensures decide_one { (l : Allowance) (rs : List Row) (os : List OpenRow) (r : Row) → AreRowsOfOne rs → AreOpen (reverse rs) os → open_continues l os (length rs) (point_count rs) r ≡ continues l rs r }
+{}
+
+// ---- worked tables
+
+/// The rows of a collection and of a multipolygon with ids.
+pub fn table_rows()
+    ensures members { MemberRows }
+    ensures polygons { PolygonRows }
+{}
+
+/// Tables whose rows are accepted.
+pub fn accepted_tables()
+    ensures two_rings { TwoRings }
+    ensures points_with_ids { PointsWithIds }
+    ensures members_with_ids { MembersWithIds }
+    ensures two_precisions { TwoPrecisions }
+    ensures empty_line { EmptyLine }
+    ensures polygons_with_ids { PolygonsWithIds }
+    ensures two_roots { TwoRoots }
+{}
+
+/// Tables with a row that is refused, and what for.
+pub fn refused_tables()
+    ensures ids_on_some { IdsOnSome }
+    ensures no_level { NoLevel }
+    ensures nine_levels { NineLevels }
+    ensures two_nodes { TwoNodes }
+    ensures one_point { OnePoint }
+    ensures precisions { Precisions }
+    ensures first_rows { FirstRows }
+{}
+
+/// The ends of the ranges of precisions, coordinates and ids, and a second root.
+pub fn ranges_of_rows()
+    ensures precisions { PrecisionRange }
+    ensures coordinates { CoordinateRanges }
+    ensures ids { IdRange }
+    ensures second_root { SecondRoot }
+{}

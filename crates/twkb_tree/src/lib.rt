@@ -1,0 +1,29 @@
+//! Geometries as trees, and their counts, boxes and limits.
+#![tactic(auto)]
+
+mod copies;
+mod counts;
+mod equality;
+mod extents;
+mod fault;
+mod geometry;
+mod kind;
+pub mod laws;
+mod limits;
+mod lists;
+mod open_rows;
+mod parts;
+mod placed;
+mod precisions;
+pub mod row_rules;
+mod standing;
+mod validity;
+
+pub use fault::GeomFault;
+pub use geometry::{Geometry, Members, Shape};
+pub use kind::Kind;
+pub use limits::Limits;
+pub use lists::{Areas, IdList, Ids, Item, Items, Lines, Pts};
+pub use open_rows::OpenRow;
+pub use parts::{id_at, own_parts};
+pub use standing::Standing;

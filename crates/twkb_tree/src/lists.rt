@@ -1,0 +1,158 @@
+//! Lists of points, lines, polygons and ids. A contract sees each as the list of its items.
+ghost use Rattle.std.specs.Prelude.{◌≡◌, ◌↔◌, IsTrue, IfOk};
+ghost use Rattle.std.specs.List.{AllByRecursion};
+ghost use Rattle.twkb_points.specs.Point.{IsInRange};
+ghost use Rattle.twkb_tree.specs.Tree.{IsId};
+
+use std::alloc::{AllocError, Global};
+use std::marker::Model;
+use twkb_points::Pt;
+
+/// Marks what a list may hold. It is not passed on, so no other crate adds to it.
+pub trait Sealed {}
+
+impl Sealed for Pt {}
+
+impl Sealed for i64 {}
+
+impl<T: Item> Sealed for Items<T> {}
+
+/// What such a list may hold: a point, an id, or another list, and nothing else.
+pub trait Item: Drop + Sealed {
+    // What each item is known to be.
+    ghost Fits: { Self → Type 0 };
+
+    /// Tells a proof that the item fits. It does nothing when it runs.
+    fn look(&self)
+        ensures { Fits self.now };
+
+    /// Whether the two are one.
+    fn same(&self, other: &Self) -> bool
+        ensures { IsTrue result ↔ (self.now ≡ other.now) };
+
+    /// An item equal to this one. A list takes memory for its items.
+    fn copy(&self, alloc: Global) -> Result<Self, AllocError>
+        ensures { IfOk result (λ copy. copy ≡ self.now) };
+}
+
+impl Item for Pt {
+    ghost Fits = { IsInRange };
+
+    fn look(&self) {
+        self.x();
+    }
+
+    fn same(&self, other: &Pt) -> bool {
+        self == other
+    }
+
+    fn copy(&self, _alloc: Global) -> Result<Pt, AllocError> {
+        Ok(*self)
+    }
+}
+
+impl Item for i64 {
+    ghost Fits = { IsId };
+
+    fn look(&self) {
+        let _value = *self;
+    }
+
+    fn same(&self, other: &i64) -> bool {
+        self == other
+    }
+
+    fn copy(&self, _alloc: Global) -> Result<i64, AllocError> {
+        Ok(*self)
+    }
+}
+
+/// Items in their order, of which there may be none.
+#[derive(Debug, Drop)]
+pub struct Items<T: Item> {
+    items: Vec<T>,
+}
+
+impl<T: Item> Model for Items<T> {
+    ghost use Rattle.std.specs.Prelude.{List};
+    ghost use Rattle.std.specs.List.{AllByRecursion};
+
+    ghost Value = { List T };
+
+    ghost view = { λ a. a.items.items };
+
+    ghost invariant = { λ a. AllByRecursion T.Fits a.items.items };
+}
+
+impl<T: Item> Items<T> {
+    /// The list of these items. Takes no memory.
+    pub fn from_vec(items: Vec<T>) -> Items<T>
+        ensures { result ≡ items.items }
+    {
+        for item in &items {
+            item.look();
+        }
+        Items { items }
+    }
+
+    /// The items. Takes no memory.
+    pub fn into_vec(self) -> Vec<T>
+        ensures { result.items ≡ self }
+    {
+        self.items
+    }
+
+    /// The items, each of which fits. Takes no memory.
+    pub fn as_slice(&self) -> &[T]
+        ensures items { result.now ≡ self.now }
+        ensures fit { AllByRecursion T.Fits self.now }
+    {
+        self.items.as_slice()
+    }
+}
+
+impl<T: Item> Item for Items<T> {
+    ghost Fits = { AllByRecursion T.Fits };
+
+    fn look(&self) {
+        self.as_slice();
+    }
+
+    #[tactic(auto, using(crate::proofs::Pairs::pairs))]
+    fn same(&self, other: &Items<T>) -> bool {
+        let items = self.as_slice();
+        let others = other.as_slice();
+        if items.len() != others.len() {
+            return false;
+        }
+        for index in 0..items.len() {
+            if !items[index].same(&others[index]) {
+                return false;
+            }
+        }
+        true
+    }
+
+    fn copy(&self, alloc: Global) -> Result<Items<T>, AllocError> {
+        let mut items = Vec::with_capacity(alloc, self.items.len())?;
+        for item in &self.items {
+            items.push(item.copy(alloc)?)?;
+        }
+        Ok(Items { items })
+    }
+}
+
+/// The points of a line or ring, or of a multipoint.
+pub type Pts = Items<Pt>;
+
+/// Lines, or the rings of a polygon.
+pub type Lines = Items<Pts>;
+
+/// Polygons, each as its rings.
+pub type Areas = Items<Lines>;
+
+/// The ids of members, in the members' order.
+pub type IdList = Items<i64>;
+
+/// The ids of members, where they have any.
+pub type Ids = Option<IdList>;

@@ -1,0 +1,84 @@
+//! How many points a list of points, lines or polygons has, and the box round them.
+ghost use Rattle.std.specs.Prelude.{◌≡◌, List, length, flat_map};
+ghost use Rattle.twkb_points.specs.Point.{Point};
+ghost use Rattle.twkb_points.specs.Extent.{extent};
+ghost use Rattle.twkb_tree.specs.Tree.{flatten, saturated};
+
+use crate::lists::{Areas, Lines, Pts};
+use twkb_points::{Bounds, merged};
+
+/// What has points, in an order.
+pub trait Placed {
+    // Its points, in order.
+    ghost points_of: { Self → List Point };
+
+    /// How many points it has, at most `u64::MAX`.
+    fn points(&self) -> u64
+        ensures { result ≡ saturated (length (points_of self.now)) };
+
+    /// The least box round its points, and `None` where it has none.
+    fn bounds(&self) -> Option<Bounds>
+        ensures { result ≡ extent (points_of self.now) };
+}
+
+impl Placed for Pts {
+    ghost points_of = { λ ps. ps };
+
+    fn points(&self) -> u64 {
+        self.as_slice().len() as u64
+    }
+
+    #[tactic(auto, using(twkb_points::proofs::ExtentLemmas::extents))]
+    fn bounds(&self) -> Option<Bounds> {
+        let mut bounds = None;
+        for point in self.as_slice() {
+            bounds = merged(bounds, Some(Bounds::of(*point)));
+        }
+        bounds
+    }
+}
+
+impl Placed for Lines {
+    ghost points_of = { flatten };
+
+    fn points(&self) -> u64 {
+        total_points(self.as_slice())
+    }
+
+    fn bounds(&self) -> Option<Bounds> {
+        joined_bounds(self.as_slice())
+    }
+}
+
+impl Placed for Areas {
+    ghost points_of = { flat_map flatten };
+
+    fn points(&self) -> u64 {
+        total_points(self.as_slice())
+    }
+
+    fn bounds(&self) -> Option<Bounds> {
+        joined_bounds(self.as_slice())
+    }
+}
+
+fn total_points<T: Placed>(items: &[T]) -> u64
+    ensures { result ≡ saturated (length (flat_map T.points_of items.now)) }
+{
+    let mut total = 0u64;
+    for item in items {
+        total = total.saturating_add(item.points());
+    }
+    total
+}
+
+#[tactic(auto, using(twkb_points::proofs::ExtentLemmas::extents))]
+fn joined_bounds<T: Placed>(items: &[T]) -> Option<Bounds>
+    ensures { result ≡ extent (flat_map T.points_of items.now) }
+{
+    let mut bounds = None;
+    for item in items {
+        bounds = merged(bounds, item.bounds());
+    }
+    bounds
+}

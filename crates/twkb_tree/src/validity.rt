@@ -1,0 +1,49 @@
+//! Whether a geometry is within limits.
+ghost use Rattle.std.specs.Prelude.{◌≡◌, ◌↔◌, IsTrue};
+ghost use Rattle.twkb_tree.specs.Tree.{saturated, trees, nest, nest_all};
+ghost use Rattle.twkb_tree.specs.Limits.{IsValid};
+
+use crate::geometry::{Geometry, Members, Shape};
+use crate::limits::Limits;
+
+impl Members {
+    #[cycle(nest)]
+    #[tactic(auto, using(crate::specs::Size::member_smaller))]
+    fn nest(&self) -> u64
+        ensures { result ≡ saturated (nest_all (trees self.now)) }
+    {
+        let mut deepest = 0u64;
+        for member in self.as_slice() {
+            deepest = deepest.max(member.nest().saturating_add(1));
+        }
+        deepest
+    }
+}
+
+impl Geometry {
+    /// How many collections there are round a member, at most.
+    #[cycle(nest)]
+    fn nest(&self) -> u64
+        ensures { result ≡ saturated (nest self.now) }
+    {
+        match self.shape() {
+            Shape::Collection(members, _) => members.nest(),
+            _ => 0,
+        }
+    }
+
+    /// Whether it keeps the limits: the nesting of its collections, its rows and its points. Takes no memory.
+    #[tactic(auto, using(crate::proofs::InRange::validity))]
+    pub fn within(&self, limits: &Limits) -> bool
+        ensures { IsTrue result ↔ IsValid limits.now self.now }
+    {
+        self.precision();
+        if self.nest() > u64::from(limits.nest()) {
+            return false;
+        }
+        if self.count_nodes() > u64::from(limits.nodes()) {
+            return false;
+        }
+        self.points() <= u64::from(limits.points())
+    }
+}
