@@ -121,7 +121,7 @@ impl Members {
     }
 }
 
-/// Whether ids are there only with members, one for each of `count`.
+// Whether ids are there only with members, one for each of `count`.
 fn ids_fit(count: usize, ids: &Ids) -> bool
     ensures { IsTrue result ↔ HasIds ids.now count }
 {
@@ -137,7 +137,7 @@ fn ids_fit(count: usize, ids: &Ids) -> bool
 impl Shape {
     ghost use Rattle.twkb_tree.specs.Shape.{HasFitIds, HasTrees, IsShapeInRange};
 
-    /// Whether the ids of its members fit. Tells a proof of its members and points on the way.
+    // Whether the ids of its members fit. Tells a proof of its members and points on the way.
     fn has_fit_ids(&self) -> bool
         ensures fit { IsTrue result ↔ HasFitIds self.now }
         ensures trees { HasTrees self.now }

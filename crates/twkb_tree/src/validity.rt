@@ -21,7 +21,7 @@ impl Members {
 }
 
 impl Geometry {
-    /// How many collections there are round a member, at most.
+    // How many collections there are round a member, at most.
     #[cycle(nest)]
     fn nest(&self) -> u64
         ensures { result ≡ saturated (nest self.now) }
