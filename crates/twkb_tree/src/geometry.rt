@@ -99,7 +99,8 @@ impl Members {
         ensures { result ≡ items.items }
     {
         for member in &items {
-            member.precision();
+            // learnt: that the member is a tree, with its points in range
+            let _learnt = member.precision();
         }
         Members { items }
     }
@@ -146,15 +147,18 @@ impl Shape {
         match self {
             Shape::Point(None) => true,
             Shape::Point(Some(point)) => {
-                point.x();
+                // learnt: that the point is in range
+                let _learnt = point.x();
                 true
             }
             Shape::Line(points) => {
-                points.as_slice();
+                // learnt: that its points are in range
+                let _learnt = points.as_slice();
                 true
             }
             Shape::Polygon(rings) => {
-                rings.as_slice();
+                // learnt: that its points are in range
+                let _learnt = rings.as_slice();
                 true
             }
             Shape::MultiPoint(points, ids) => ids_fit(points.as_slice().len(), ids),
