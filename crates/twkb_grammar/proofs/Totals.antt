@@ -106,9 +106,9 @@ module _ (f : Role → ℕ → ℕ) (c : Counted → ℕ → ℕ) (counts : (k :
         total-append f fr.size ((fr.box ++ fr.body) ++ last ∷ []),
         total-append f (fr.box ++ fr.body) (last ∷ []),
         total-append f fr.box fr.body,
-        option_total (bit fr.meta 3) Extended fr.extended extended fr.extended_is,
-        option_total (bit fr.meta 1) Size fr.size size fr.size_is,
-        box_total (bit fr.meta 0) fr.box fr.box_is,
+        option_total (bit fr.meta 3) Extended fr.extended extended fr.optional.extended_is,
+        option_total (bit fr.meta 1) Size fr.size size fr.optional.size_is,
+        box_total (bit fr.meta 0) fr.box fr.optional.box_is,
         ends (declared fr.size) (length (Rattle.twkb_grammar.specs.Roles.join (fr.box ++ fr.body))) 0,
       )
 
