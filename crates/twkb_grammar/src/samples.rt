@@ -1,5 +1,5 @@
 //! Samples of the definitions, each shown by computation: the vectors stand in docs/FORMATS.md.
-ghost use Rattle.std.specs.Prelude.{◌≡◌, ℕ, [], ◌∷◌, take};
+ghost use Rattle.std.specs.Prelude.{◌≡◌, [], ◌∷◌, take};
 ghost use Rattle.std.specs.List.{AllByRecursion};
 ghost use Rattle.twkb_grammar.specs.Blob.{Blob, Stream};
 ghost use Rattle.twkb_grammar.specs.Written.{canonical_blob};
