@@ -44,7 +44,7 @@ pub fn decode_into<L: PointTail>(text: &[u8], max: u32, points: &mut L) -> Resul
     result
 }
 
-/// Appends the points of the text, or those before its first fault.
+// Appends the points of the text, or those before its first fault.
 fn read_points<L: PointTail>(text: &[u8], max: u32, points: &mut L) -> Result<(), PolyFault>
     ensures decodes { OnOk result (AppendsDecoded text.now max (L.held points.old) (L.held points.new)) }
     ensures refuses { IfErr result (IsRefused text.now max) }
@@ -64,7 +64,7 @@ fn read_points<L: PointTail>(text: &[u8], max: u32, points: &mut L) -> Result<()
     Ok(())
 }
 
-/// The point whose latitude begins at `start`, and where the text goes on.
+// The point whose latitude begins at `start`, and where the text goes on.
 #[inline(always)]
 fn next_point(text: &[u8], start: usize, cursor: &mut Cursor) -> Result<(Pt, usize), PolyFault>
     requires { start < length text.now }
@@ -79,7 +79,7 @@ fn next_point(text: &[u8], start: usize, cursor: &mut Cursor) -> Result<(Pt, usi
     }
 }
 
-/// The same step by step, so that a fault is found in its place.
+// The same step by step, so that a fault is found in its place.
 #[cold]
 fn point_at(text: &[u8], start: usize, cursor: &mut Cursor) -> Result<(Pt, usize), PolyFault>
     requires { start < length text.now }
@@ -102,7 +102,7 @@ fn point_at(text: &[u8], start: usize, cursor: &mut Cursor) -> Result<(Pt, usize
     }
 }
 
-/// The number that begins at `start`, and where the text goes on.
+// The number that begins at `start`, and where the text goes on.
 fn number_at(text: &[u8], start: usize) -> Result<(i64, usize), PolyFault>
     requires { start < length text.now }
     ensures read { IfOk result (λ r. IsNumberAt text.now start r.0 r.1) }
