@@ -132,24 +132,24 @@ When r P reason Others = (P × (r ≡ reason)) ⊎ ((P → ⊥) × Others)
 abbrev pub NumberFirst : Reason → List ℕ → Type 0 → Type 0
 NumberFirst r rest Others = When r (IsCut rest) Truncated (When r (IsTooLong rest) BadVarint Others)
 
--- The reasons of a byte: none is left, or this holds of it.
+-- The reasons of a byte: none is left, or this holds of it (profile).
 abbrev pub ByteRefused : Reason → List ℕ → (ℕ → Type 0) → Reason → Type 0
 ByteRefused r rest P reason = When r (rest ≡ []) Truncated (When r (FirstByte P rest) reason ⊥)
 
--- The reasons of a type byte. No bytes at the header of a root are the end of a stream, and no fault.
+-- The reasons of a type byte. No bytes at the header of a root are the end of a stream, and no fault (profile).
 abbrev pub HeaderRefused : List Item → List ℕ → Reason → Type 0
 HeaderRefused before rest r =
     When r ((before ≢ []) × (rest ≡ [])) Truncated
     (When r (FirstByte (λ b. (b % 16 ≡ 0) ⊎ (7 < b % 16)) rest) BadType ⊥)
 
--- The reasons of a count: those of any number, and then the limits on depth, nodes and points, in this order.
+-- The reasons of a count: those of any number, and then the limits on depth, nodes and points, in this order (profile).
 abbrev pub CountRefused : Allowance → List Item → List ℕ → Counted → Reason → Type 0
 CountRefused limits before rest c r = NumberFirst r rest
     (When r (FirstNumber (λ n. IsDeep c limits.nest × (0 < n)) rest) TooDeep
     (When r (FirstNumber (λ n. limits.nodes < announced_nodes before + nodes_of c n) rest) TooManyNodes
     (When r (FirstNumber (λ n. limits.points < announced_points before + points_of c n) rest) TooManyPoints ⊥)))
 
--- The reasons of a difference behind this coordinate: those of any number, and then the range of their sum.
+-- The reasons of a difference behind this coordinate: those of any number, and then the range of their sum (profile).
 abbrev pub DifferenceRefused : ℤ → List ℕ → Reason → Type 0
 DifferenceRefused from rest r = NumberFirst r rest (When r (FirstNumber (λ n. IsCoordinate (from +ℤ unzigzag_of n) → ⊥) rest) CoordinateRange ⊥)
 
