@@ -1,14 +1,13 @@
 //! The spans of a blob that is read, as far as they are known.
-ghost use Rattle.std.specs.Prelude.{◌≡◌, ◌<◌, ◌^◌, ◌%◌, OnOk, length as length_of};
-ghost use Rattle.twkb_grammar.specs.Machine as machine;
-ghost use Rattle.twkb_grammar.specs.Noting.{shown, no_notes, note_header as header_noted, note_metadata as metadata_noted, note_end, note_ends_to, changed_at};
+ghost use Rattle.std.specs.Prelude.{◌≡◌, ◌<◌, ◌^◌, OnOk, length as length_of};
+ghost use Rattle.twkb_grammar.specs.Noting.{no_notes, note_header as header_noted, note_metadata as metadata_noted, note_end, note_ends_to, changed_at};
 ghost use Rattle.twkb_blob.specs.Located.{note_awaited, measured};
 
 use std::alloc::{AllocError, Global};
 use std::marker::Model;
-use twkb_engine::{Awaited, precision_at};
+use twkb_engine::Awaited;
 use twkb_grammar::Span;
-use twkb_tree::Kind;
+use twkb_header::TypeByte;
 
 /// The spans so far, and which of them are of geometries that are begun and not ended, the innermost last.
 #[derive(Drop)]
@@ -24,21 +23,6 @@ impl Model for SpanNotes {
     ghost Value = { Notes };
 
     ghost view = { λ n. record { spans = n.spans.items; begun = reverse n.begun.items } };
-}
-
-/// The kind of a type byte whose lower half is 1 to 7.
-fn kind_at(byte: u8) -> Kind
-    ensures { result ≡ shown (machine.kind_at (byte % 16)) }
-{
-    match byte % 16 {
-        1 => Kind::Point,
-        2 => Kind::Linestring,
-        3 => Kind::Polygon,
-        4 => Kind::MultiPoint,
-        5 => Kind::MultiLinestring,
-        6 => Kind::MultiPolygon,
-        _ => Kind::Collection,
-    }
 }
 
 /// Sets the metadata byte of the span at this place, if there is one.
@@ -85,11 +69,12 @@ impl SpanNotes {
     {
         let level = self.begun.len().min(u32::MAX as usize) as u32;
         let place = self.spans.len();
+        let header = TypeByte::from_byte(byte);
         self.spans.push(Span {
             level,
             offset,
-            kind: kind_at(byte),
-            precision: precision_at(u64::from(byte / 16)),
+            kind: header.kind(),
+            precision: header.precision(),
             metadata: 0,
             length: 0,
             points,

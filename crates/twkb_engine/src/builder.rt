@@ -26,6 +26,7 @@ use std::alloc::{AllocError, Global};
 use std::mem;
 use twkb_flat::Flat;
 use twkb_front::{moved_x, moved_y, origin};
+use twkb_header::TypeByte;
 use twkb_num::unzigzag;
 use twkb_points::Pt;
 use twkb_tree::Limits;
@@ -51,11 +52,10 @@ pub struct Builder {
 fn bad_type(number: u64) -> Option<BlobReason>
     ensures { objection_of result ≡ unless (nat_eq (number % 16) 0 || nat_lt 7 (number % 16)) fault.BadType None }
 {
-    let kind = number % 16;
-    if kind == 0 || kind > 7 {
-        Some(BlobReason::BadType)
-    } else {
+    if TypeByte::from_number(number).names_type() {
         None
+    } else {
+        Some(BlobReason::BadType)
     }
 }
 

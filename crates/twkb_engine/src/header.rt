@@ -1,9 +1,9 @@
 //! From a type byte to a body.
 ghost use Rattle.std.specs.Prelude.{◌≡◌, ◌<◌, ◌/◌, ◌%◌, length, None, IfOk, OnOk};
 ghost use Rattle.twkb_num.specs.Zigzag.{unzigzag_of};
-ghost use Rattle.twkb_tree.specs.Tree.{IsPrecision};
-ghost use Rattle.twkb_grammar.specs.Bits.{bit};
-ghost use Rattle.twkb_grammar.specs.Machine.{asked, with_option, kind_at as kind_of_number};
+ghost use Rattle.twkb_grammar.specs.Machine as machine;
+ghost use Rattle.twkb_grammar.specs.Machine.{asked, with_option, kind_at};
+ghost use Rattle.twkb_grammar.specs.Noting.{shown};
 ghost use Rattle.twkb_outline.specs.Outline.{options, begins, OnMetadata, OnBody};
 ghost use Rattle.twkb_outline.specs.Growing.{header_change, applied, id_in};
 ghost use Rattle.twkb_engine.specs.Body.{form_of, spot_of};
@@ -17,68 +17,37 @@ use crate::place::{Head, Typed};
 use crate::site::{Form, push_row, whole_row};
 use std::alloc::{AllocError, Global};
 use twkb_flat::Flat;
-
-/// Bit of a metadata byte: a box follows.
-pub const BOX: u32 = 0;
-
-/// Bit of a metadata byte: a size follows.
-pub const SIZE: u32 = 1;
-
-/// Bit of a metadata byte: ids follow the count of members.
-pub const IDS: u32 = 2;
-
-/// Bit of a metadata byte: the extended dimensions byte follows.
-pub const EXTENDED: u32 = 3;
-
-/// Bit of a metadata byte: there is no body.
-pub const EMPTY: u32 = 4;
+use twkb_header::{Metadata, TypeByte};
+use twkb_tree::Kind as RowKind;
 
 /// Numbers of a box behind the first.
 const BOX_REST: u8 = 3;
 
-/// Whether a bit of a byte is set; bit 0 is the lowest.
-pub fn has_bit(number: u64, position: u32) -> bool
-    requires { position < 8 }
-    ensures { result ≡ bit number position }
+/// The type whose rows are of this kind; no type has rings.
+fn typed_as(kind: RowKind) -> Kind
+    ensures { (k : machine.Kind) → shown k ≡ kind → kind_of result ≡ k }
 {
-    number >> position & 1 == 1
-}
-
-/// The precision of a type byte's upper half, -8 to 7 (TWKB, type and precision).
-pub fn precision_at(half: u64) -> i8
-    requires { half < 16 }
-    ensures value { result ≡ unzigzag_of half }
-    ensures fits { IsPrecision result }
-{
-    let size = (half >> 1) as i8;
-    if half & 1 == 1 { !size } else { size }
-}
-
-/// The type of a type byte's lower half, which is 1 to 7.
-fn kind_at(number: u64) -> Kind
-    ensures { kind_of result ≡ kind_of_number number }
-{
-    match number {
-        1 => Kind::Simple(Form::Point),
-        2 => Kind::Simple(Form::Line),
-        3 => Kind::Simple(Form::Polygon),
-        4 => Kind::Simple(Form::MultiPoint),
-        5 => Kind::Simple(Form::MultiLine),
-        6 => Kind::Simple(Form::MultiPolygon),
-        _ => Kind::Collection,
+    match kind {
+        RowKind::Point => Kind::Simple(Form::Point),
+        RowKind::Linestring => Kind::Simple(Form::Line),
+        RowKind::Polygon => Kind::Simple(Form::Polygon),
+        RowKind::MultiPoint => Kind::Simple(Form::MultiPoint),
+        RowKind::MultiLinestring => Kind::Simple(Form::MultiLine),
+        RowKind::MultiPolygon => Kind::Simple(Form::MultiPolygon),
+        RowKind::Ring | RowKind::Collection => Kind::Collection,
     }
 }
 
 /// What follows a type byte.
 pub fn after_type(number: u64) -> Phase
     requires { number < 256 }
-    ensures step { step_of result ≡ OnMetadata (kind_of_number (number % 16)) (unzigzag_of (number / 16)) }
+    ensures step { step_of result ≡ OnMetadata (kind_at (number % 16)) (unzigzag_of (number / 16)) }
 {
-    let typed = Typed {
-        kind: kind_at(number % 16),
-        precision: precision_at(number / 16),
-    };
-    Phase::Metadata(typed)
+    let byte = TypeByte::from_number(number);
+    Phase::Metadata(Typed {
+        kind: typed_as(byte.kind()),
+        precision: byte.precision(),
+    })
 }
 
 /// The id of the geometry that is read in these collections.
@@ -93,17 +62,16 @@ fn id_within(groups: &Groups) -> Option<i64>
 }
 
 /// The header behind a metadata byte, before its optional parts.
-pub fn head_within(groups: &Groups, typed: Typed, bytes: u64, number: u64) -> Head
-    requires few { IsShallow groups.now.items }
-    requires byte { number < 256 }
-    ensures head { head_of result ≡ record { precision = typed.precision; meta = number; size = None; from = bytes } }
-    ensures metadata { result.metadata ≡ number }
+pub fn head_within(groups: &Groups, typed: Typed, bytes: u64, metadata: Metadata) -> Head
+    requires { IsShallow groups.now.items }
+    ensures head { head_of result ≡ record { precision = typed.precision; meta = metadata; size = None; from = bytes } }
+    ensures metadata { result.metadata ≡ metadata }
     ensures depth { result.depth ≡ length (groups_of groups.now.items) }
     ensures id { result.id ≡ id_in (groups_of groups.now.items) }
 {
     Head {
         precision: typed.precision,
-        metadata: number as u8,
+        metadata: metadata.byte(),
         size: None,
         from: bytes,
         depth: groups.len() as u32,
@@ -112,37 +80,37 @@ pub fn head_within(groups: &Groups, typed: Typed, bytes: u64, number: u64) -> He
 }
 
 /// The part behind the size, or behind where it would stand.
-fn behind_size(metadata: u8) -> Option<Optional>
+fn behind_size(metadata: Metadata) -> Option<Optional>
     ensures { roles_from metadata result ≡ box_roles metadata }
 {
-    if has_bit(u64::from(metadata), BOX) {
+    if metadata.has_box() {
         return Some(Optional::Box { left: BOX_REST });
     }
     None
 }
 
 /// The part behind the extended byte, or behind where it would stand.
-fn behind_extended(metadata: u8) -> Option<Optional>
+fn behind_extended(metadata: Metadata) -> Option<Optional>
     ensures { roles_from metadata result ≡ size_roles metadata }
 {
-    if has_bit(u64::from(metadata), SIZE) {
+    if metadata.has_size() {
         return Some(Optional::Size);
     }
     behind_size(metadata)
 }
 
 /// The part behind the metadata byte.
-fn first_part(metadata: u8) -> Option<Optional>
+fn first_part(metadata: Metadata) -> Option<Optional>
     ensures { roles_from metadata result ≡ asked metadata }
 {
-    if has_bit(u64::from(metadata), EXTENDED) {
+    if metadata.has_extended() {
         return Some(Optional::Extended);
     }
     behind_extended(metadata)
 }
 
 /// The part behind this one.
-fn next_part(metadata: u8, part: Optional) -> Option<Optional>
+fn next_part(metadata: Metadata, part: Optional) -> Option<Optional>
     ensures { roles_from metadata result ≡ roles_behind metadata part }
 {
     match part {
@@ -219,7 +187,7 @@ fn go_to(
     if let Some(part) = part {
         return Ok(Phase::Optional { kind, head, part });
     }
-    if has_bit(u64::from(head.metadata), EMPTY) {
+    if Metadata::from_byte(head.metadata).is_empty() {
         push_row(flat, whole_row(head, kind), &[])?;
         return Ok(Phase::End(head));
     }
@@ -241,8 +209,9 @@ pub fn after_metadata(
     ensures placed { IfOk result (IsPlacedIn groups.now.items) }
     ensures rows { OnOk result (flat.new ≡ applied (header_change (length (groups_of groups.now.items)) (id_in (groups_of groups.now.items)) (kind_of typed.kind) typed.precision number (asked number)) flat.old) }
 {
-    let head = head_within(groups, typed, bytes, number);
-    go_to(flat, alloc, typed.kind, head, first_part(head.metadata))
+    let metadata = Metadata::from_number(number);
+    let head = head_within(groups, typed, bytes, metadata);
+    go_to(flat, alloc, typed.kind, head, first_part(metadata))
 }
 
 /// What follows an optional part. Takes memory for a row.
@@ -259,7 +228,7 @@ pub fn after_option(
     ensures placed { IfOk result (IsPlaced head.depth head.id) }
     ensures rows { OnOk result (flat.new ≡ applied (header_change head.depth head.id (kind_of kind) head.precision head.metadata (roles_behind head.metadata part)) flat.old) }
 {
-    let next = next_part(head.metadata, part);
+    let next = next_part(Metadata::from_byte(head.metadata), part);
     go_to(
         flat,
         alloc,

@@ -12,7 +12,6 @@ ghost use Rattle.twkb_engine.specs.declared.phase.Many.{Many};
 
 use crate::blob_reason::BlobReason;
 use crate::body::Body;
-use crate::header::{IDS, has_bit};
 use crate::lefts::{After, Lefts, open_area, open_areas, open_line};
 use crate::names::Names;
 use crate::phase::{DEEPEST, Group, Groups, Kind, Many, Phase};
@@ -21,6 +20,7 @@ use crate::site::{Form, push_row, whole_row};
 use crate::stop::Stop;
 use std::alloc::{AllocError, Global};
 use twkb_flat::Flat;
+use twkb_header::Metadata;
 use twkb_num::unzigzag;
 
 /// The type of a geometry with members.
@@ -116,7 +116,7 @@ pub fn after_count(
     if count == 0 {
         return begin_members(flat, groups, many, head, Names::new(false, ids), 0);
     }
-    if has_bit(u64::from(head.metadata), IDS) {
+    if Metadata::from_byte(head.metadata).has_ids() {
         return Ok(Phase::Id {
             many,
             head,

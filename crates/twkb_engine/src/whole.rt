@@ -4,13 +4,14 @@ ghost use Rattle.twkb_engine.specs.Front.{HeaderInFront, WholePoint, point_head}
 ghost use Rattle.twkb_engine.specs.declared.phase.Phase.TheVariants.{Header};
 
 use crate::builder::Builder;
-use crate::header::{SIZE, head_with, head_within, precision_at};
+use crate::header::{head_with, head_within};
 use crate::phase::{Kind, Optional, Phase};
 use crate::place::{Head, Typed};
 use crate::site::{Form, put_point};
 use crate::stop::Stop;
 use twkb_flat::Flat;
 use twkb_front::{GOES_ON, front_point, origin};
+use twkb_header::{Metadata, TypeByte};
 use twkb_points::Pt;
 
 /// Bytes of a header without optional parts: a type byte and a metadata byte.
@@ -18,12 +19,6 @@ const BARE: usize = 2;
 
 /// Bytes of a header with a size of one byte, and no other optional part.
 const SIZED: usize = 3;
-
-/// The metadata byte of the first.
-const PLAIN: u8 = 0;
-
-/// The metadata byte of the second.
-const ONLY_SIZE: u8 = 1 << SIZE;
 
 /// A point that stands whole in front with its header: where it leads, how many bytes both have, and the size that is declared.
 #[derive(Clone, Copy, Debug)]
@@ -40,15 +35,15 @@ pub struct Whole {
 fn front_header(bytes: &[u8]) -> Option<(Option<u64>, usize)>
     ensures { IfSome result (λ front. HeaderInFront bytes.now front.0 front.1) }
 {
-    let first = *bytes.first()?;
-    if first % 16 != 1 {
+    let first = TypeByte::from_byte(*bytes.first()?);
+    if !first.is_point() {
         return None;
     }
-    let metadata = *bytes.get(1)?;
-    if metadata == PLAIN {
+    let metadata = Metadata::from_byte(*bytes.get(1)?);
+    if metadata == Metadata::plain() {
         return Some((None, BARE));
     }
-    if metadata != ONLY_SIZE {
+    if metadata != Metadata::sized() {
         return None;
     }
     let size = *bytes.get(2)?;
@@ -103,13 +98,13 @@ impl Builder {
     {
         let typed = Typed {
             kind: Kind::Simple(Form::Point),
-            precision: precision_at(u64::from(first) / 16),
+            precision: TypeByte::from_byte(first).precision(),
         };
         let bare = self.bytes + BARE as u64;
         let Some(size) = size else {
-            return head_within(&self.groups, typed, bare, u64::from(PLAIN));
+            return head_within(&self.groups, typed, bare, Metadata::plain());
         };
-        let head = head_within(&self.groups, typed, bare, u64::from(ONLY_SIZE));
+        let head = head_within(&self.groups, typed, bare, Metadata::sized());
         head_with(head, Optional::Size, self.bytes + SIZED as u64, size)
     }
 
