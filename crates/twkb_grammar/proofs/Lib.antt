@@ -31,6 +31,8 @@ pub mod TwoFronts
 pub mod OneFault
 pub mod PartBytes
 pub mod ExactEnds
+pub mod RoleBytes
+pub mod Objections
 pub mod Streams
 pub mod Depths
 pub mod Frames
