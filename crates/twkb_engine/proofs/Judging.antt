@@ -10,7 +10,7 @@ use Rattle.twkb_grammar.specs.Machine.{Sums}
 use Rattle.twkb_grammar.proofs.ExactEnds.{NoEnd}
 use Rattle.twkb_grammar.proofs.PartBytes.{blob_is_part}
 use Rattle.twkb_grammar.proofs.OneFault.{no_fault}
-use Rattle.twkb_outline.specs.Outline.{Outline, Step, OnHeader, OnMetadata, OnOption, OnCount, OnId, OnBody, OnEnd, OnFinished, Wanted, WantedY, Full, step_role}
+use Rattle.twkb_outline.specs.Outline.{Outline, Step, OnHeader, OnId, OnBody, OnFinished, Wanted, WantedY, Full, step_role}
 use Rattle.twkb_outline.specs.Reading.{Outlined, OutlineLanded}
 use Rattle.twkb_outline.proofs.Outlined.{outlined_part}
 use Rattle.twkb_outline.proofs.ExactOutlines.{outlined_exact}
@@ -20,16 +20,13 @@ use Rattle.twkb_engine.specs.Stops.{IsPastEnds, Passes}
 -- no geometry's end comes next
 next_no_end : (level bytes : ℕ) (s : Step) (role : Role) → IsPastEnds s → step_role level bytes s ≡ Some role → NoEnd role
 next_no_end level bytes OnHeader role past says = λ d c e. cc
-next_no_end level bytes (OnMetadata k p) role past says = absurd past
-next_no_end level bytes (OnOption k h r rs) role past says = absurd past
-next_no_end level bytes (OnCount m h) role past says = absurd past
 next_no_end level bytes (OnId m h members ids left) role past says = λ d c e. cc
 next_no_end level bytes (OnBody h f ids (Wanted zero lefts)) role past says = λ d c e. cc
 next_no_end level bytes (OnBody h f ids (Wanted (suc inner) lefts)) role past says = λ d c e. cc
 next_no_end level bytes (OnBody h f ids (WantedY lefts)) role past says = λ d c e. cc
 next_no_end level bytes (OnBody h f ids Full) role past says = absurd cc
-next_no_end level bytes (OnEnd h) role past says = absurd past
 next_no_end level bytes OnFinished role past says = absurd cc
+next_no_end level bytes _ role past says = absurd past
 
 pub outlined_judged : (limits : Allowance) (bytes : List ℕ) (e : Sums) (o : Outline) (rs : List Row) → Outlined limits bytes e o rs → IsPastEnds o.1 → IsJudged limits bytes
 outlined_judged limits bytes e o rs r past = record {

@@ -13,8 +13,7 @@ use Rattle.twkb_outline.specs.Growing.{applied, change_of}
 use Rattle.twkb_outline.specs.Reading.{Outlined, OutlineLanded, outline_after, change_after}
 use Rattle.twkb_outline.proofs.Outlined.{outlined_item, outlined_refused, outlined_ends, outlined_whole}
 use Rattle.twkb_engine.specs.State.{IsPlacedIn}
-use Rattle.twkb_engine.specs.Parts.{IsJudged}
-use Rattle.twkb_engine.specs.Stops.{reason_of, Passes}
+use Rattle.twkb_engine.specs.Stops.{reason_of}
 use Rattle.twkb_engine.specs.Building.{sums_of, outline_in, refusal, objection_at, StandsBehind, IsAt, IsTaken}
 use Rattle.twkb_engine.specs.declared.builder.Builder.{Builder}
 use Rattle.twkb_engine.specs.declared.blob_reason.BlobReason.{BlobReason}
@@ -37,14 +36,6 @@ landed limits bytes e rs more way (Ok true) b same l at grown placed =
 landed limits bytes e rs more way (Err Memory) b same l at grown placed = landed_judged limits bytes e rs way l at
 landed limits bytes e rs more way (Err (Refused x)) b same l at grown placed = λ rest.
     subst (λ n. FirstFault limits (bytes ++ rest) n (reason_of x)) (sym at.1) ((subst (λ w. OutlineLanded limits bytes e rs w) at.0 l) rest)
-
--- there was no memory for the row of a geometry that ends
-pub at_memory : (way : Result Outline fault.Reason) (e : Sums) (r : Result Bool Stop) (b : Builder) → r ≡ Err Memory → Passes way → IsAt way e r b
-at_memory way e r b is passes = subst (λ k. IsAt way e k b) (sym is) passes
-
--- there was no memory for an item that may stand there
-pub no_memory : (limits : Allowance) (bytes : List ℕ) (r : Result Bool Stop) (rs : List Row) (b : Builder) → r ≡ Err Memory → IsJudged limits bytes → IsTaken limits bytes r rs b
-no_memory limits bytes r rs b is part = subst (λ k. IsTaken limits bytes k rs b) (sym is) part
 
 -- where there was no objection to an item
 pub item_taken : (front : List ℕ) (rs more : List Row) (b mid new : Builder) (i : Item) (n : ℕ) (r : Result Bool Stop) → StandsBehind front rs b

@@ -10,12 +10,11 @@ use Rattle.twkb_grammar.specs.Fault.{Reason}
 use Rattle.twkb_grammar.specs.PlainReader.{is_exact}
 use Rattle.twkb_grammar.specs.Machine as machine
 use Rattle.twkb_grammar.specs.Machine.{PointForm, Sums}
-use Rattle.twkb_outline.specs.Outline.{Group, Outline, OnHeader, OnBody, OnEnd, Wanted, outline_past_end}
+use Rattle.twkb_outline.specs.Outline.{Group, Outline, OnHeader, OnEnd, outline_past_end}
 use Rattle.twkb_outline.specs.Growing.{applied, point_change, id_in}
-use Rattle.twkb_outline.specs.Reading.{Outlined, Pair, sums_past}
+use Rattle.twkb_outline.specs.Reading.{Outlined}
 use Rattle.twkb_outline.proofs.Outlined.{outlined_ends}
-use Rattle.twkb_outline.proofs.PointHeaders.{sums_behind, bare_header_read, sized_header_read}
-use Rattle.twkb_outline.proofs.PointPairs.{outlined_point}
+use Rattle.twkb_outline.proofs.PointHeaders.{HeaderRead, sums_behind, bare_header_read, sized_header_read, header_point_read}
 use Rattle.twkb_engine.specs.State.{groups_of, head_of, step_of, IsPlacedIn}
 use Rattle.twkb_front.specs.Front.{PointInFront}
 use Rattle.twkb_engine.specs.Front.{HeaderInFront, WholePoint, header_bytes, point_head}
@@ -41,27 +40,11 @@ behind_header bytes size header steps from to start h cut =
       pair = p.pair;
     }
 
--- where such a point's type byte comes next
-module _ (limits : Allowance) (front : List ℕ) (e : Sums) (gs : List Group) (rs : List Row) (first : ℕ) (r : Outlined limits front e (gs, OnHeader) rs) (low : first < 256) (kind : first % 16 ≡ 1) (room : e.points < limits.points) where
-  -- its header was read
-  header_read : (size : Option ℕ) → IfSome size (λ n. n < 128)
-      → Outlined limits (front ++ header_bytes first size) (sums_behind e (length (header_bytes first size)) origin) (gs, OnBody (point_head e.bytes first size) PointForm None (Wanted 0 [])) rs
-  header_read None short = bare_header_read limits front e gs rs first r low kind room
-  header_read (Some n) short = sized_header_read limits front e gs rs first r low kind room n short
-
-  -- such a point leads to the end of its geometry
-  point_read : (size : Option ℕ) (steps : List ℕ) (to : Point) → IfSome size (λ n. n < 128) → Pair origin steps to
-      → (let bytes = header_bytes first size ++ steps in Outlined limits (front ++ bytes) (sums_behind e (length bytes) to) (gs, OnEnd (point_head e.bytes first size)) (applied (point_change to (length gs) (id_in gs) (unzigzag_of (first / 16)) PointForm None) rs))
-  point_read size steps to short pair =
-      let header = header_bytes first size in
-      let head = point_head e.bytes first size in
-      let begun = sums_behind e (length header) origin in
-      let Rows : List Row = applied (point_change to (length gs) (id_in gs) (unzigzag_of (first / 16)) PointForm None) rs in
-      let a = outlined_point limits (front ++ header) begun gs head PointForm None [] rs steps to (header_read size short) pair in
-      let sum : (e.bytes + length header) + length steps ≡ e.bytes + length (header ++ steps) = omega (arith, length-append header steps) in
-      let sums : sums_past begun steps to ≡ sums_behind e (length (header ++ steps)) to = λ t. record { bytes = sum t; position = to; nodes = e.nodes; points = e.points + 1 } in
-      subst (λ l. Outlined limits l (sums_behind e (length (header ++ steps)) to) (gs, OnEnd head) Rows) (append_assoc front header steps)
-      (subst (λ s. Outlined limits ((front ++ header) ++ steps) s (gs, OnEnd head) Rows) sums a)
+-- the header of such a point was read
+header_read : (limits : Allowance) (front : List ℕ) (e : Sums) (gs : List Group) (rs : List Row) (first : ℕ) → Outlined limits front e (gs, OnHeader) rs → first < 256 → first % 16 ≡ 1 → e.points < limits.points
+    → (size : Option ℕ) → IfSome size (λ n. n < 128) → HeaderRead limits front e gs rs (header_bytes first size) (point_head e.bytes first size)
+header_read limits front e gs rs first r low kind room None short = bare_header_read limits front e gs rs first r low kind room
+header_read limits front e gs rs first r low kind room (Some n) short = sized_header_read limits front e gs rs first r low kind room n short
 
 -- the row of such a point, where its header stands
 pub point_row : (rs more : List Row) (gs : List Group) (h : place.Head) (known : machine.Head) (to : Point) → h.depth ≡ length gs → h.id ≡ id_in gs → head_of h ≡ known
@@ -85,7 +68,7 @@ point_taken front rs more b new bytes first used size to h r s header room p sta
     let cut : length (take used bytes) ≡ used = let within = p.within in omega (arith, length-take used bytes, within) in
     let known = point_head b.bytes first size in
     let Rows : List Row = applied (point_change to (length gs) (id_in gs) (unzigzag_of (first / 16)) PointForm None) rs in
-    let there = subst (λ l. Outlined b.limits (front ++ l) (sums_behind e (length l) to) (gs, OnEnd known) Rows) (sym whole) (point_read b.limits front e gs rs first here low kind room size p.steps to p.short p.pair) in
+    let there = subst (λ l. Outlined b.limits (front ++ l) (sums_behind e (length l) to) (gs, OnEnd known) Rows) (sym whole) (header_point_read b.limits front e gs rs (header_bytes first size) p.steps known to (header_read b.limits front e gs rs first here low kind room size p.short) p.pair) in
     let ended = subst (λ n. Outlined b.limits (front ++ take used bytes) (sums_behind e n to) (gs, OnEnd known) Rows) cut there in
     let ends = outlined_ends b.limits (front ++ take used bytes) (sums_behind e used to) (gs, OnEnd known) Rows ended in
     let way : machine.Head → Result Outline Reason = λ k. outline_past_end (is_exact k.size ((b.bytes + used) - k.from)) (b.bytes + used) gs in

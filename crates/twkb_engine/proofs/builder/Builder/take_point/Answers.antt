@@ -3,7 +3,6 @@ use Rattle.std.proofs.lemmas.Result.{err_from_is_err_and}
 use Rattle.twkb_engine.specs.State.{groups_of}
 use Rattle.twkb_engine.specs.Building.{IsTaken}
 use Rattle.twkb_engine.specs.declared.stop.Stop.TheVariants.{Memory}
-use Rattle.twkb_engine.proofs.Taking.{no_memory}
 use Rattle.twkb_engine.proofs.WholePoints.{point_row, point_taken}
 use Rattle.twkb_engine.proofs.builder.Builder.take_point.Goals as goal
 
@@ -19,8 +18,8 @@ pub returns-in_err-put_point-clause-taken : goal.returns-in_err-put_point-clause
 returns-in_err-put_point-clause-taken c = λ front bytes s header p starts.
     let b = c.args.self.now in
     let stop = err_from_is_err_and c.from_residual-in_err-put_point.result c.from_residual-in_err-put_point.ensures.1 in
-    no_memory b.limits (front ++ take c.args.point.used bytes) c.from_residual-in_err-put_point.result _ _ (stop.1 ∙ ap Err stop.2)
-    (point_taken front c.args.flat.now c.args.flat.now b c.finish.new.self bytes c.args.first c.args.point.used c.args.point.size c.args.point.to c.point_head-head.result (Err Memory) s header c.requires.allowed p starts c.ranges.first.fits c.point_head-head.ensures.head tt
+    subst (λ k. IsTaken b.limits (front ++ take c.args.point.used bytes) k c.put_point.new.flat c.finish.new.self) (sym (stop.1 ∙ ap Err stop.2))
+    (point_taken front c.args.flat.now c.put_point.new.flat b c.finish.new.self bytes c.args.first c.args.point.used c.args.point.size c.args.point.to c.point_head-head.result (Err Memory) s header c.requires.allowed p starts c.ranges.first.fits c.point_head-head.ensures.head tt
     c.finish.ensures.limits c.in_ok-ended.ensures.passes tt)
 
 pub returns-clause-taken : goal.returns-clause-taken

@@ -3,9 +3,6 @@ use Rattle.std.proofs.lemmas.List.{nil_from_length}
 use Rattle.twkb_engine.proofs.Stepping.{runs_ahead, stops_ahead, stays_put}
 use Rattle.twkb_engine.proofs.engine.Engine.take_points.Goals as goal
 
-pub returns-then-rest-lt-SHORTEST-clause-ahead : goal.returns-then-rest-lt-SHORTEST-clause-ahead
-returns-then-rest-lt-SHORTEST-clause-ahead c = stays_put c.args.flat.now c.args.self.now
-
 pub returns-then-len-gt0-clause-ahead : goal.returns-then-len-gt0-clause-ahead
 returns-then-len-gt0-clause-ahead c = stays_put c.args.flat.now c.args.self.now
 
