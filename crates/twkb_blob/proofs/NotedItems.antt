@@ -42,7 +42,7 @@ other_awaited (phase.Optional kind head part) s = refl
 other_awaited (phase.Count many head) s = refl
 other_awaited (phase.Id many head members ids left) s = refl
 other_awaited (phase.Body head body) s = refl
-other_awaited (phase.End head) s = refl
+other_awaited (phase.End head kind) s = refl
 
 module _ (bytes : List ℕ) (used : ℕ) (d : Engine) where
   -- the engine behind all bytes of the item but the last, which it holds

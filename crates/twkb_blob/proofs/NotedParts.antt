@@ -5,11 +5,12 @@ use Rattle.twkb_num.specs.Varint.{IsOpenVarint}
 use Rattle.twkb_tree.specs.Rows.{Row}
 use Rattle.twkb_tree.specs.Limits.{Allowance}
 use Rattle.twkb_grammar.specs.Roles.{join}
-use Rattle.twkb_grammar.specs.Fault.{IsPart}
 use Rattle.twkb_grammar.specs.Machine.{nothing, started, Stack, Runs}
 use Rattle.twkb_grammar.specs.Reading.{Stands}
 use Rattle.twkb_grammar.proofs.Parts.{runs_same}
-use Rattle.twkb_grammar.proofs.PartBytes.{reached_part, blob_is_part}
+use Rattle.twkb_grammar.proofs.BodiesBack.{some_role}
+use Rattle.twkb_grammar.proofs.ExactEnds.{no_size_wrong}
+use Rattle.twkb_grammar.proofs.PartBytes.{reached_part}
 use Rattle.twkb_grammar.proofs.Standing.{none_longer}
 use Rattle.twkb_grammar.proofs.TakenItems.{Taken, taken}
 use Rattle.twkb_grammar.proofs.TwoFronts.{Compared, longer, shorter, same, two_fronts, join-beyond}
@@ -17,10 +18,11 @@ use Rattle.twkb_outline.specs.Outline.{Outline, outline_of}
 use Rattle.twkb_engine.specs.State.{IsSpelled}
 use Rattle.twkb_engine.specs.Open.{awaited_at}
 use Rattle.twkb_engine.specs.Building.{sums_of}
-use Rattle.twkb_engine.specs.Parts.{PartIn}
+use Rattle.twkb_engine.specs.Parts.{IsJudged, PartIn}
 use Rattle.twkb_engine.specs.Standing.{StandsAt, IsOneItem, IsTakenFrom, allowance_of, held_in, awaited_in}
 use Rattle.twkb_engine.specs.declared.awaited.Awaited.TheVariants as awaited
 use Rattle.twkb_engine.specs.declared.engine.Engine.{Engine}
+use Rattle.twkb_engine.proofs.Judging.{blob_judged}
 use Rattle.twkb_blob.proofs.Noted.{NoteLaws, stands_of}
 use Rattle.twkb_blob.proofs.NotedItems.{last_of, with_last, none_before, other_awaited}
 
@@ -85,19 +87,24 @@ module _ (laws : NoteLaws) (bs : List ℕ) (byte : ℕ) (ps rs : List Row) (d af
       go (shorter n) = took (taken (allowance_of d) bs [] (sums_of d.builder) s.outlined.stack (held_in d) before t.outlined.reached.items t.outlined.stack byte (held_in after) t.outlined.reached.ran.runs (right ∙ sym at) n)
       go (same alike) = stayed header alike
 
-  -- so that all bytes are a part
-  pub header_part : awaited_in d ≡ awaited.Header → IsPart (allowance_of after) (bs ++ byte ∷ [])
-  header_part header =
-      let all : t.front ≡ bs ++ byte ∷ [] = sym (append-nil t.front) ∙ (ap (λ l. t.front ++ l) (sym (nil_from_length (held_in after) (none_held header))) ∙ sym t.whole) in
-      subst (IsPart (allowance_of after)) all (reached_part (allowance_of after) t.front (sums_of after.builder) t.outlined.stack t.outlined.reached)
+  -- so that all bytes were judged, and no end comes next
+  pub header_judged : awaited_in d ≡ awaited.Header → IsJudged (allowance_of after) (bs ++ byte ∷ [])
+  header_judged header = subst (IsJudged (allowance_of after)) all (record {
+    part = reached_part (allowance_of after) t.front (sums_of after.builder) t.outlined.stack t.outlined.reached;
+    exact = λ more. no_size_wrong (allowance_of after) t.front more (sums_of after.builder) t.outlined.stack t.outlined.reached
+        (λ role says declared came is. behind.spelled declared came (some_role role behind.role (sym says ∙ behind.wants) ∙ is));
+  })
+    where
+      all : t.front ≡ bs ++ byte ∷ []
+      all = sym (append-nil t.front) ∙ (ap (λ l. t.front ++ l) (sym (nil_from_length (held_in after) (none_held header))) ∙ sym t.whole)
 
 -- memory is missing for the span of an item that was taken
 pub span_lacking : NoteLaws → (limits : Allowance) (bs bytes : List ℕ) (taken : ℕ × Bool) (ps rs : List Row) (d after : Engine) → StandsAt bs ps d → IsOpenVarint (held_in d) → IsOpenVarint (held_in after) → allowance_of after ≡ limits
     → IsOneItem d bytes taken.0 → 0 < taken.0 → taken.0 ≤ length bytes → awaited_in d ≡ awaited.Header → IsTakenFrom limits bs bytes (Ok taken) rs after → PartIn limits bs bytes
 span_lacking laws limits bs bytes (used, true) ps rs d after s begun few own one some within header (g, blob, made, more) =
-    record { used = used; some = some; within = within; part = blob_is_part limits (bs ++ take used bytes) g blob }
+    record { used = used; some = some; within = within; part = blob_judged limits (bs ++ take used bytes) g blob }
 span_lacking laws limits bs bytes (used, false) ps rs d after s begun few own one some within header t =
-    record { used = used; some = some; within = within; part = subst (λ l. IsPart l (bs ++ take used bytes)) own (subst (λ l. IsPart (allowance_of after) (bs ++ l)) (sym taken_is) part) }
+    record { used = used; some = some; within = within; part = subst (λ l. IsJudged l (bs ++ take used bytes)) own (subst (λ l. IsJudged (allowance_of after) (bs ++ l)) (sym taken_is) part) }
   where
     alone : IsOneItem d bytes used → used ≡ 1
     alone (inl is) = is
@@ -106,5 +113,5 @@ span_lacking laws limits bs bytes (used, false) ps rs d after s begun few own on
     taken_is : take used bytes ≡ last_of bytes used ∷ []
     taken_is = with_last bytes used some within ∙ ap (λ l. l ++ last_of bytes used ∷ []) (none_before bytes used (alone one))
 
-    part : IsPart (allowance_of after) (bs ++ last_of bytes used ∷ [])
-    part = header_part laws bs (last_of bytes used) ps rs d after s (subst (λ l. StandsAt (bs ++ l) rs after) taken_is t) begun few header
+    part : IsJudged (allowance_of after) (bs ++ last_of bytes used ∷ [])
+    part = header_judged laws bs (last_of bytes used) ps rs d after s (subst (λ l. StandsAt (bs ++ l) rs after) taken_is t) begun few header

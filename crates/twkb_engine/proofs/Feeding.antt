@@ -5,10 +5,10 @@ use Rattle.std.proofs.lemmas.List.{append-nil, length-drop, take_rest}
 use Rattle.twkb_tree.specs.Limits.{Allowance}
 use Rattle.twkb_tree.specs.Rows.{Row}
 use Rattle.twkb_grammar.specs.Blob.{Blob}
-use Rattle.twkb_grammar.specs.Fault.{FirstFault, IsPart}
+use Rattle.twkb_grammar.specs.Fault.{FirstFault}
 use Rattle.twkb_engine.specs.State.{IsSpelled}
 use Rattle.twkb_engine.specs.Stops.{reason_of}
-use Rattle.twkb_engine.specs.Parts.{PartIn}
+use Rattle.twkb_engine.specs.Parts.{IsJudged, PartIn}
 use Rattle.twkb_engine.specs.Standing.{StandsAt, IsStep, IsTakenFrom, IsFed, offset_in}
 use Rattle.twkb_engine.specs.declared.engine.Engine.{Engine}
 use Rattle.twkb_engine.specs.declared.phase.Phase.{Phase}
@@ -71,7 +71,7 @@ part_further limits bs piece used within p = record {
   used = used + p.used;
   some = (let some = p.some in omega (arith, some));
   within = one_within piece used p.used within p.within;
-  part = subst (IsPart limits) (one_front bs piece used p.used) p.part;
+  part = subst (IsJudged limits) (one_front bs piece used p.used) p.part;
 }
 
 -- an item that is refused in what is left is refused in the piece

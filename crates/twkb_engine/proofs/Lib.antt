@@ -6,6 +6,7 @@ pub mod Starts
 pub mod Roles
 pub mod Opening
 pub mod Feeding
+pub mod Judging
 pub mod Taking
 pub mod Stepping
 pub mod Ahead

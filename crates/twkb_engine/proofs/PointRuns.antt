@@ -15,11 +15,11 @@ use Rattle.twkb_outline.specs.Outline.{Group, Outline, Step, OnBody, Wanted, shu
 use Rattle.twkb_outline.specs.Growing.{applied, NewPoint, point_change, id_in}
 use Rattle.twkb_outline.specs.Reading.{Pair, sums_past, point_after}
 use Rattle.twkb_outline.specs.Noting.{NotedOutline}
-use Rattle.twkb_outline.proofs.Outlined.{outlined_part}
 use Rattle.twkb_outline.proofs.NotedPairs.{noted_point}
 use Rattle.twkb_front.specs.Front.{PointInFront}
 use Rattle.twkb_engine.specs.Body.{form_of, spot_of, after_of}
 use Rattle.twkb_engine.specs.Names.{ids_of}
+use Rattle.twkb_engine.specs.Stops.{IsPastEnds}
 use Rattle.twkb_engine.specs.Steps.{body_at}
 use Rattle.twkb_engine.specs.Running.{RunsTo, HasLists, ListPlace, ListRuns, ListStops, PhaseRuns, PhaseStops, StopsWith}
 use Rattle.twkb_engine.specs.State.{head_of, step_of, IsHeadAt}
@@ -28,6 +28,7 @@ use Rattle.twkb_engine.specs.declared.phase.Phase.{Phase}
 use Rattle.twkb_engine.specs.declared.lefts.After.{After}
 use Rattle.twkb_engine.specs.declared.lefts.Spot.{Spot}
 use Rattle.twkb_engine.specs.declared.body.Body.{Body}
+use Rattle.twkb_engine.proofs.Judging.{outlined_judged}
 use Rattle.twkb_engine.proofs.Feeding.{part_further}
 
 -- the sums behind two pieces
@@ -113,7 +114,7 @@ list_stops rs mid all left used count from at to bytes some within cut run = λ 
       used = used + count;
       some = (let one = cut.some in omega (arith, one));
       within = used_within bytes used count cut.within within;
-      part = outlined_part p.limits (front ++ take (used + count) bytes) (sums_past e (take (used + count) bytes) to) (p.groups, OnBody p.head p.form p.ids (Wanted 0 ((left - 1) ∷ p.lefts))) (point_added to mid) there.outlined.outlined;
+      part = outlined_judged p.limits (front ++ take (used + count) bytes) (sums_past e (take (used + count) bytes) to) (p.groups, OnBody p.head p.form p.ids (Wanted 0 ((left - 1) ∷ p.lefts))) (point_added to mid) there.outlined.outlined tt;
     }
 
 -- ---- what comes next
@@ -173,8 +174,9 @@ list_stops_in_body h b rs left lefts from bytes stops begins lists same = λ lim
     stops place front e (record { outlined = subst (λ k. NotedOutline limits front e (gs, OnBody (head_of h) (form_of b.form) (ids_of b.names) k) rs told) begins i.outlined; position = i.position })
 
 -- there is no memory for a point
-pub point_stops : (h : place.Head) (b : Body) (rs : List Row) (from to : Point) (bytes lefts : List ℕ) (used : ℕ) → spot_of b.spot ≡ Wanted 0 lefts → PointInFront from bytes to used → StopsWith h b rs from bytes
-point_stops h b rs from to bytes lefts used spot cut = λ limits front e gs told i.
+pub point_stops : (h : place.Head) (b : Body) (rs : List Row) (from to : Point) (bytes lefts : List ℕ) (used : ℕ) → spot_of b.spot ≡ Wanted 0 lefts → PointInFront from bytes to used
+    → ((k : Head) (f : Form) (ids : Ids) → IsPastEnds (shut k f ids 0 lefts)) → StopsWith h b rs from bytes
+point_stops h b rs from to bytes lefts used spot cut goes = λ limits front e gs told i.
     let f = form_of b.form in
     let ids = ids_of b.names in
     let here = subst (λ s. NotedOutline limits front e (gs, OnBody (head_of h) f ids s) rs told) spot i.outlined in
@@ -183,5 +185,5 @@ point_stops h b rs from to bytes lefts used spot cut = λ limits front e gs told
       used = used;
       some = cut.some;
       within = cut.within;
-      part = outlined_part limits (front ++ take used bytes) (sums_past e (take used bytes) to) (gs, shut (head_of h) f ids 0 lefts) (applied (point_after to gs (head_of h) f ids) rs) next.outlined;
+      part = outlined_judged limits (front ++ take used bytes) (sums_past e (take used bytes) to) (gs, shut (head_of h) f ids 0 lefts) (applied (point_after to gs (head_of h) f ids) rs) next.outlined (goes (head_of h) f ids);
     }

@@ -50,9 +50,9 @@ has_role level bytes phase.Header on = (Header, refl)
 has_role level bytes (phase.Metadata typed) on = (Metadata (kind_number (kind_of typed.kind)), refl)
 has_role level bytes (phase.Optional kind head part) on = (role_of_part part, refl)
 has_role level bytes (phase.Count many head) on = (Count (first_count (many_of many) level), refl)
-has_role level bytes (phase.Id many head members ids left) on = (Id, refl)
+has_role level bytes (phase.Id many head others ids left) on = (Id, refl)
 has_role level bytes (phase.Body head body) on = (spot_has body.spot, spot_says body.spot)
-has_role level bytes (phase.End head) on = absurd cc
+has_role level bytes (phase.End head kind) on = absurd cc
 
 -- what stands in a role of a place
 module _ (level bytes : ℕ) where
@@ -64,9 +64,9 @@ module _ (level bytes : ℕ) where
   is_number (phase.Optional kind head part.Size) on s = tt
   is_number (phase.Optional kind head (part.Box left)) on s = tt
   is_number (phase.Count many head) on s = tt
-  is_number (phase.Id many head members ids left) on s = tt
+  is_number (phase.Id many head others ids left) on s = tt
   is_number (phase.Body head body) on s = spot_number body.spot
-  is_number (phase.End head) on s = absurd cc
+  is_number (phase.End head kind) on s = absurd cc
 
   -- no geometry's end comes next
   pub no_end : (p : Phase) (on : goes_on p ≡ true) (d : Option ℕ) (came : ℕ) → (has_role level bytes p on).0 ≡ End d came → ⊥
@@ -76,9 +76,9 @@ module _ (level bytes : ℕ) where
   no_end (phase.Optional kind head part.Size) on d came e = cc
   no_end (phase.Optional kind head (part.Box left)) on d came e = cc
   no_end (phase.Count many head) on d came e = cc
-  no_end (phase.Id many head members ids left) on d came e = cc
+  no_end (phase.Id many head others ids left) on d came e = cc
   no_end (phase.Body head body) on d came e = spot_no_end body.spot d came e
-  no_end (phase.End head) on d came e = absurd cc
+  no_end (phase.End head kind) on d came e = absurd cc
 
   -- a byte at a byte's place
   pub byte_written : (n : ℕ) (p : Phase) (on : goes_on p ≡ true) → n < 256 → IsByte p → Gives (has_role level bytes p on).0 n (n ∷ [])
@@ -95,9 +95,9 @@ module _ (level bytes : ℕ) where
   number_written n bs (phase.Optional kind head part.Size) on v s = v
   number_written n bs (phase.Optional kind head (part.Box left)) on v s = v
   number_written n bs (phase.Count many head) on v s = v
-  number_written n bs (phase.Id many head members ids left) on v s = v
+  number_written n bs (phase.Id many head others ids left) on v s = v
   number_written n bs (phase.Body head body) on v s = spot_written n bs body.spot v
-  number_written n bs (phase.End head) on v s = absurd cc
+  number_written n bs (phase.End head kind) on v s = absurd cc
 
 -- before a byte no number is held
 pub byte_alone : (p : Phase) {P : Type 0} → IsByte p → IsSpelled p ⊎ P → P

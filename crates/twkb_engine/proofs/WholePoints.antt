@@ -17,7 +17,7 @@ use Rattle.twkb_grammar.specs.Machine.{PointForm, SimpleKind, Sums, added, kind_
 use Rattle.twkb_outline.specs.Outline.{Group, Outline, OnHeader, OnMetadata, OnOption, OnBody, OnEnd, Wanted, outline_past_end}
 use Rattle.twkb_outline.specs.Growing.{applied, point_change, id_in}
 use Rattle.twkb_outline.specs.Reading.{Outlined, Pair, sums_past, outline_after, change_after}
-use Rattle.twkb_outline.proofs.Outlined.{outlined_item, outlined_part, outlined_ends}
+use Rattle.twkb_outline.proofs.Outlined.{outlined_item, outlined_ends}
 use Rattle.twkb_outline.proofs.PointPairs.{outlined_point}
 use Rattle.twkb_engine.specs.State.{groups_of, head_of, step_of, IsPlacedIn}
 use Rattle.twkb_front.specs.Front.{PointInFront}
@@ -127,17 +127,20 @@ module _ (limits : Allowance) (front : List ℕ) (e : Sums) (gs : List Group) (r
       subst (λ l. Outlined limits l (sums_behind e (length (header ++ steps)) to) (gs, OnEnd head) Rows) (append_assoc front header steps)
       (subst (λ s. Outlined limits ((front ++ header) ++ steps) s (gs, OnEnd head) Rows) sums a)
 
-always : {A E P : Type 0} (r : Result A E) → P → OnOk r P
-always (Ok x) p = p
-always (Err x) p = tt
+-- the row of such a point, where its header stands
+pub point_row : (rs more : List Row) (gs : List Group) (h : place.Head) (known : machine.Head) (to : Point) → h.depth ≡ length gs → h.id ≡ id_in gs → head_of h ≡ known
+    → more ≡ applied (point_change to h.depth h.id h.precision PointForm None) rs → more ≡ applied (point_change to (length gs) (id_in gs) known.precision PointForm None) rs
+point_row rs more gs h known to depth id head put =
+    put ∙ (ap (λ d. applied (point_change to d h.id h.precision PointForm None) rs) depth
+    ∙ (ap (λ i. applied (point_change to (length gs) i h.precision PointForm None) rs) id ∙ ap (λ (k : machine.Head). applied (point_change to (length gs) (id_in gs) k.precision PointForm None) rs) head))
 
 -- and past the ends behind it
 pub point_taken : (front : List ℕ) (rs more : List Row) (b new : Builder) (bytes : List ℕ) (first used : ℕ) (size : Option ℕ) (to : Point) (h : place.Head) (r : Result Bool Stop) → StandsBehind front rs b → b.phase ≡ phase.Header
-    → b.points < b.limits.points → WholePoint bytes to used size → first ≡ get_or bytes 0 0 → first < 256 → h.depth ≡ length (groups_of b.groups.items) → h.id ≡ id_in (groups_of b.groups.items) → head_of h ≡ point_head b.bytes first size
-    → more ≡ applied (point_change to h.depth h.id h.precision PointForm None) rs → new.limits ≡ b.limits
+    → b.points < b.limits.points → WholePoint bytes to used size → first ≡ get_or bytes 0 0 → first < 256 → head_of h ≡ point_head b.bytes first size
+    → OnOk r (more ≡ applied (point_change to (length (groups_of b.groups.items)) (id_in (groups_of b.groups.items)) (unzigzag_of (first / 16)) PointForm None) rs) → new.limits ≡ b.limits
     → IsAt (outline_past_end (is_exact h.size ((b.bytes + used) - h.from)) (b.bytes + used) (groups_of b.groups.items)) (sums_behind (sums_of b) used to) r new
     → OnOk r (IsPlacedIn new.groups.items new.phase) → IsTaken b.limits (front ++ take used bytes) r more new
-point_taken front rs more b new bytes first used size to h r s header room p starts low depth id head put limits at placed =
+point_taken front rs more b new bytes first used size to h r s header room p starts low head grown limits at placed =
     let e = sums_of b in
     let gs = groups_of b.groups.items in
     let here = subst (λ q. Outlined b.limits front e (gs, step_of q) rs) header s.outlined in
@@ -149,8 +152,5 @@ point_taken front rs more b new bytes first used size to h r s header room p sta
     let there = subst (λ l. Outlined b.limits (front ++ l) (sums_behind e (length l) to) (gs, OnEnd known) Rows) (sym whole) (point_read b.limits front e gs rs first here low kind room size p.steps to p.short p.pair) in
     let ended = subst (λ n. Outlined b.limits (front ++ take used bytes) (sums_behind e n to) (gs, OnEnd known) Rows) cut there in
     let ends = outlined_ends b.limits (front ++ take used bytes) (sums_behind e used to) (gs, OnEnd known) Rows ended in
-    let rows : more ≡ Rows = put ∙ (ap (λ d. applied (point_change to d h.id h.precision PointForm None) rs) depth
-    ∙ (ap (λ i. applied (point_change to (length gs) i h.precision PointForm None) rs) id ∙ ap (λ (k : machine.Head). applied (point_change to (length gs) (id_in gs) k.precision PointForm None) rs) head)) in
     let way : machine.Head → Result Outline Reason = λ k. outline_past_end (is_exact k.size ((b.bytes + used) - k.from)) (b.bytes + used) gs in
-    landed b.limits (front ++ take used bytes) (sums_behind e used to) Rows more (way known) r new limits (outlined_part b.limits (front ++ take used bytes) (sums_behind e used to) (gs, OnEnd known) Rows ended) ends
-    (subst (λ (k : machine.Head). IsAt (way k) (sums_behind e used to) r new) head at) (always r rows) placed
+    landed b.limits (front ++ take used bytes) (sums_behind e used to) Rows more (way known) r new limits ends (subst (λ (k : machine.Head). IsAt (way k) (sums_behind e used to) r new) head at) grown placed

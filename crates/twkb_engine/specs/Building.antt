@@ -1,5 +1,5 @@
 -- A builder as an outline with sums, and why it refuses an item.
-use Rattle.std.specs.Prelude.{◌≡◌, ℕ, ⊤, Result, Ok, Err, Bool, true, false, List, [], ◌++◌, Option, Some, None}
+use Rattle.std.specs.Prelude.{◌≡◌, ℕ, Result, Ok, Err, Bool, true, false, List, [], ◌++◌, Option, Some, None}
 use Rattle.twkb_tree.specs.Limits.{Allowance}
 use Rattle.twkb_grammar.specs.Fault as fault
 use Rattle.twkb_grammar.specs.PlainReader.{objection}
@@ -8,14 +8,15 @@ use Rattle.twkb_grammar.specs.Machine.{Sums}
 use Rattle.twkb_outline.specs.Outline.{Outline, OnFinished, outline_role}
 use Rattle.twkb_outline.specs.Reading.{Outlined}
 use Rattle.twkb_engine.specs.State.{groups_of, step_of, IsPlacedIn}
-use Rattle.twkb_engine.specs.Stops.{reason_of}
+use Rattle.twkb_engine.specs.Parts.{IsJudged}
+use Rattle.twkb_engine.specs.Stops.{reason_of, Passes}
 use Rattle.twkb_engine.specs.declared.stop.Stop.{Stop}
 use Rattle.twkb_engine.specs.declared.stop.Stop.TheVariants.{Memory, Refused}
 use Rattle.twkb_engine.specs.declared.builder.Builder.{Builder}
 use Rattle.twkb_tree.specs.Tree.{Tree}
 use Rattle.twkb_tree.specs.Rows.{Row, rows}
 use Rattle.twkb_grammar.specs.Blob.{Blob}
-use Rattle.twkb_grammar.specs.Fault.{FirstFault, IsPart}
+use Rattle.twkb_grammar.specs.Fault.{FirstFault}
 
 -- what its items so far sum to
 abbrev pub sums_of : Builder → Sums
@@ -43,12 +44,12 @@ refusal limits e o n = objection_at limits e n (outline_role e o)
 abbrev pub IsAt : Result Outline fault.Reason → Sums → Result Bool Stop → Builder → Type 0
 IsAt way e (Ok false) b = (way ≡ Ok (outline_in b)) × (sums_of b ≡ e)
 IsAt way e (Ok true) b = (way ≡ Ok ([], OnFinished)) × StandsBehind [] [] b
-IsAt way e (Err Memory) b = ⊤
+IsAt way e (Err Memory) b = Passes way
 IsAt way e (Err (Refused r)) b = (way ≡ Err (reason_of r)) × (b.bytes ≡ e.bytes)
 
--- the last item leads on, or ends a blob with these rows, or may stand there but there is no memory for it, or is refused, whatever follows
+-- the last item leads on, or ends a blob with these rows, or was judged and may stand there but there is no memory for it, or is refused, whatever follows
 abbrev pub IsTaken : Allowance → List ℕ → Result Bool Stop → List Row → Builder → Type 0
 IsTaken limits bytes (Ok false) rs b = StandsBehind bytes rs b
 IsTaken limits bytes (Ok true) rs b = (g : Tree) × Blob limits bytes g × (rs ≡ rows 0 g) × StandsBehind [] [] b
-IsTaken limits bytes (Err Memory) rs b = IsPart limits bytes
+IsTaken limits bytes (Err Memory) rs b = IsJudged limits bytes
 IsTaken limits bytes (Err (Refused r)) rs b = (more : List ℕ) → FirstFault limits (bytes ++ more) b.bytes (reason_of r)

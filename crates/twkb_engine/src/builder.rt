@@ -1,17 +1,17 @@
 //! A geometry that is read item by item into a flat form.
-ghost use Rattle.std.specs.Prelude.{◌≡◌, ◌≤◌, ◌++◌, ℕ, List, ◌+◌, ◌-◌, ◌^◌, ◌%◌, ◌||◌, [], nat_eq, nat_lt, IfSome, IsSome, None, Some, true, length, length as length_of, false, ◌<◌, ◌⊎◌, OnOk, OnErr, IfOk, take};
+ghost use Rattle.std.specs.Prelude.{◌≡◌, ◌≤◌, ◌++◌, ℕ, List, ◌+◌, ◌-◌, ◌^◌, ◌%◌, ◌||◌, [], nat_eq, nat_lt, IfSome, IsSome, None, Some, true, length, length as length_of, false, ◌<◌, ◌⊎◌, OnOk, OnErr, IfOk, Result, Ok, take};
 ghost use Rattle.twkb_grammar.specs.PlainReader.{unless, objection as objection_in, is_exact as exact};
 ghost use Rattle.twkb_grammar.specs.Fault as fault;
 ghost use Rattle.twkb_grammar.specs.Fault.{moved as moved_by};
 ghost use Rattle.twkb_grammar.specs.Roles.{Role, Metadata, Count, Item};
 ghost use Rattle.twkb_grammar.specs.Reading.{Gives};
 ghost use Rattle.twkb_grammar.specs.Machine.{kind_number, first_count, added};
-ghost use Rattle.twkb_outline.specs.Outline.{spot_role, outline_role, outline_advanced, outline_ends, outline_past_end};
+ghost use Rattle.twkb_outline.specs.Outline.{Outline, spot_role, outline_role, outline_advanced, outline_ends, outline_past_end};
 ghost use Rattle.twkb_outline.specs.Growing.{applied, change_of};
 ghost use Rattle.twkb_outline.specs.Reading.{StepFits};
 ghost use Rattle.twkb_engine.specs.Body.{spot_of};
 ghost use Rattle.twkb_engine.specs.State.{kind_of, many_of, groups_of, step_of, goes_on, stands_apart, IsPlacedIn, IsShallow, IsSpelled};
-ghost use Rattle.twkb_engine.specs.Stops.{objection_of};
+ghost use Rattle.twkb_engine.specs.Stops.{objection_of, IsPast, Passes};
 
 use crate::blob_reason::BlobReason;
 use crate::items::{announced, announces_point};
@@ -19,7 +19,8 @@ use crate::lefts::Spot;
 use crate::members::past_end;
 use crate::phase::{Groups, Kind, Many, Optional, Phase};
 use crate::place::Head;
-use crate::steps::{Led, next, take_in_body};
+use crate::site::{push_row, whole_row};
+use crate::steps::next;
 use crate::stop::Stop;
 use smallvec::SmallVec;
 use std::alloc::{AllocError, Global};
@@ -164,7 +165,7 @@ impl Builder {
             }
             Phase::Count { many, .. } => self.objection_to_count(*many, number),
             Phase::Body(_, body) => self.objection_to_number(body.spot, number),
-            Phase::Id { .. } | Phase::End(_) => None,
+            Phase::Id { .. } | Phase::End(_, _) => None,
         }
     }
 
@@ -183,23 +184,35 @@ impl Builder {
         self.phase = Phase::Header;
     }
 
-    /// A geometry ends; answers whether it is the outermost one.
+    /// Goes on behind the ends of geometries, and answers the same: whether the outermost one has ended.
+    fn settle(&mut self, whole: bool) -> bool
+        ensures limits { self.new.limits ≡ self.old.limits }
+        ensures bytes { self.new.bytes ≤ self.old.bytes }
+        ensures landed { (way : Result Outline fault.Reason) → IsPast way self.old.groups.items (Ok whole) → IsAt way (sums_of self.old) (Ok result) self.new }
+        ensures placed { IsPlacedIn self.new.groups.items self.new.phase }
+    {
+        if whole {
+            self.restart();
+            return true;
+        }
+        self.phase = Phase::Header;
+        false
+    }
+
+    /// A geometry ends; answers whether the outermost one does.
     pub fn finish(&mut self, head: Head) -> Result<bool, Stop>
         ensures limits { self.new.limits ≡ self.old.limits }
         ensures bytes { self.new.bytes ≤ self.old.bytes }
         ensures landed { IsAt (outline_past_end (exact head.size (self.old.bytes - head.from)) self.old.bytes (groups_of self.old.groups.items)) (sums_of self.old) result self.new }
+        ensures passes { OnOk result (Passes (outline_past_end (exact head.size (self.old.bytes - head.from)) self.old.bytes (groups_of self.old.groups.items))) }
         ensures placed { OnOk result (IsPlacedIn self.new.groups.items self.new.phase) }
     {
-        if past_end(&mut self.groups, self.bytes, head)? {
-            self.restart();
-            return Ok(true);
-        }
-        self.phase = Phase::Header;
-        Ok(false)
+        let whole = past_end(&mut self.groups, self.bytes, head)?;
+        Ok(self.settle(whole))
     }
 
-    /// Goes to what the item of this number leads to that was added last and is in no body, and past the ends behind it; answers
-    /// whether a geometry is whole. A row, an id and a group take memory.
+    /// Goes to what the item of this number leads to that was added last and is in no body, and past the ends behind it, whose sizes are
+    /// judged before a row is kept; answers whether a geometry is whole. A row, an id and a group take memory.
     fn advance(&mut self, flat: &mut Flat, number: u64) -> Result<bool, Stop>
         requires byte { number < 256 ⊎ IsSpelled self.old.phase }
         requires apart { stands_apart self.old.phase ≡ true }
@@ -215,12 +228,13 @@ impl Builder {
             self.alloc,
             &mut self.groups,
             phase,
-            self.position,
             self.bytes,
             number,
         )?;
-        if let Phase::End(head) = reached {
-            return self.finish(head);
+        if let Phase::End(head, kind) = reached {
+            let ended = self.finish(head)?;
+            push_row(flat, whole_row(head, kind), &[])?;
+            return Ok(ended);
         }
         self.phase = reached;
         Ok(false)
@@ -234,13 +248,23 @@ impl Builder {
         ensures bytes { self.new.bytes ≤ self.old.bytes }
         ensures landed { StepFits (step_of self.old.phase) → IsAt (outline_ends self.old.bytes (outline_advanced self.old.bytes number (outline_in self.old))) (sums_of self.old) result self.new }
         ensures rows { IsPlacedIn self.old.groups.items self.old.phase → OnOk result (flat.new ≡ applied (change_of self.old.position number (outline_in self.old)) flat.old) }
-        ensures placed { IsPlacedIn self.old.groups.items self.old.phase → OnOk result (IsPlacedIn self.new.groups.items self.new.phase) }
+        ensures placed { StepFits (step_of self.old.phase) → IsPlacedIn self.old.groups.items self.old.phase → OnOk result (IsPlacedIn self.new.groups.items self.new.phase) }
     {
-        match take_in_body(&mut self.phase, flat, self.position, number)? {
-            Led::On => Ok(false),
-            Led::Ended(head) => self.finish(head),
-            Led::Elsewhere => self.advance(flat, number),
-        }
+        let Phase::Body(head, body) = &mut self.phase else {
+            return self.advance(flat, number);
+        };
+        let ended = body.take(
+            flat,
+            &mut self.groups,
+            *head,
+            number,
+            self.position,
+            self.bytes,
+        )?;
+        let Some(whole) = ended else {
+            return Ok(false);
+        };
+        Ok(self.settle(whole))
     }
 
     /// The place behind the next item, where that is in range.

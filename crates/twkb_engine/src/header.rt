@@ -1,22 +1,21 @@
 //! From a type byte to a body.
-ghost use Rattle.std.specs.Prelude.{◌≡◌, ◌<◌, ◌/◌, ◌%◌, length, None, IfOk, OnOk};
+ghost use Rattle.std.specs.Prelude.{◌≡◌, ◌<◌, ◌/◌, ◌%◌, length, None};
 ghost use Rattle.twkb_num.specs.Zigzag.{unzigzag_of};
 ghost use Rattle.twkb_tree.specs.Tree.{IsPrecision};
 ghost use Rattle.twkb_grammar.specs.Bits.{bit};
 ghost use Rattle.twkb_grammar.specs.Machine.{asked, with_option, kind_at as kind_of_number};
 ghost use Rattle.twkb_outline.specs.Outline.{options, begins, OnMetadata, OnBody};
-ghost use Rattle.twkb_outline.specs.Growing.{header_change, applied, id_in};
+ghost use Rattle.twkb_outline.specs.Growing.{header_change, id_in};
 ghost use Rattle.twkb_engine.specs.Body.{form_of, spot_of};
-ghost use Rattle.twkb_engine.specs.State.{kind_of, head_of, step_of, groups_of, role_of_part, roles_behind, roles_from, size_roles, box_roles, IsPlaced, IsPlacedIn, IsShallow};
+ghost use Rattle.twkb_engine.specs.State.{kind_of, head_of, step_of, groups_of, role_of_part, roles_behind, roles_from, size_roles, box_roles, own_change, IsPlaced, IsPlacedIn, IsShallow};
 
 use crate::body::Body;
 use crate::lefts::{Lefts, Spot};
 use crate::names::Names;
 use crate::phase::{Groups, Kind, Many, Optional, Phase};
 use crate::place::{Head, Typed};
-use crate::site::{Form, push_row, whole_row};
-use std::alloc::{AllocError, Global};
-use twkb_flat::Flat;
+use crate::site::Form;
+use std::alloc::Global;
 
 /// Bit of a metadata byte: a box follows.
 pub const BOX: u32 = 0;
@@ -204,67 +203,52 @@ fn begin_body(alloc: Global, kind: Kind, head: Head) -> Phase
     Phase::Count { many, head }
 }
 
-/// Goes to a part of a header, or else behind it: a geometry without a body has a row at once, for which it takes memory.
-fn go_to(
-    flat: &mut Flat,
-    alloc: Global,
-    kind: Kind,
-    head: Head,
-    part: Option<Optional>,
-) -> Result<Phase, AllocError>
-    ensures step { IfOk result (λ phase. step_of phase ≡ options (kind_of kind) (head_of head) (roles_from head.metadata part)) }
-    ensures placed { IfOk result (IsPlaced head.depth head.id) }
-    ensures rows { OnOk result (flat.new ≡ applied (header_change head.depth head.id (kind_of kind) head.precision head.metadata (roles_from head.metadata part)) flat.old) }
+/// Goes to a part of a header, or else behind it. Takes no memory.
+fn go_to(alloc: Global, kind: Kind, head: Head, part: Option<Optional>) -> Phase
+    ensures step { step_of result ≡ options (kind_of kind) (head_of head) (roles_from head.metadata part) }
+    ensures placed { IsPlaced head.depth head.id result }
+    ensures row { own_change result ≡ header_change head.depth head.id (kind_of kind) head.precision head.metadata (roles_from head.metadata part) }
 {
     if let Some(part) = part {
-        return Ok(Phase::Optional { kind, head, part });
+        return Phase::Optional { kind, head, part };
     }
     if has_bit(u64::from(head.metadata), EMPTY) {
-        push_row(flat, whole_row(head, kind), &[])?;
-        return Ok(Phase::End(head));
+        return Phase::End(head, kind);
     }
-    Ok(begin_body(alloc, kind, head))
+    begin_body(alloc, kind, head)
 }
 
-/// What follows a metadata byte. Takes memory for a row.
+/// What follows a metadata byte. Takes no memory.
 pub fn after_metadata(
-    flat: &mut Flat,
     alloc: Global,
     groups: &Groups,
     typed: Typed,
     bytes: u64,
     number: u64,
-) -> Result<Phase, AllocError>
+) -> Phase
     requires few { IsShallow groups.now.items }
     requires byte { number < 256 }
-    ensures step { IfOk result (λ phase. step_of phase ≡ options (kind_of typed.kind) (record { precision = typed.precision; meta = number; size = None; from = bytes }) (asked number)) }
-    ensures placed { IfOk result (IsPlacedIn groups.now.items) }
-    ensures rows { OnOk result (flat.new ≡ applied (header_change (length (groups_of groups.now.items)) (id_in (groups_of groups.now.items)) (kind_of typed.kind) typed.precision number (asked number)) flat.old) }
+    ensures step { step_of result ≡ options (kind_of typed.kind) (record { precision = typed.precision; meta = number; size = None; from = bytes }) (asked number) }
+    ensures placed { IsPlacedIn groups.now.items result }
+    ensures row { own_change result ≡ header_change (length (groups_of groups.now.items)) (id_in (groups_of groups.now.items)) (kind_of typed.kind) typed.precision number (asked number) }
 {
     let head = head_within(groups, typed, bytes, number);
-    go_to(flat, alloc, typed.kind, head, first_part(head.metadata))
+    go_to(alloc, typed.kind, head, first_part(head.metadata))
 }
 
-/// What follows an optional part. Takes memory for a row.
+/// What follows an optional part. Takes no memory.
 pub fn after_option(
-    flat: &mut Flat,
     alloc: Global,
     kind: Kind,
     head: Head,
     part: Optional,
     bytes: u64,
     number: u64,
-) -> Result<Phase, AllocError>
-    ensures step { IfOk result (λ phase. step_of phase ≡ options (kind_of kind) (with_option (head_of head) (role_of_part part) number bytes) (roles_behind head.metadata part)) }
-    ensures placed { IfOk result (IsPlaced head.depth head.id) }
-    ensures rows { OnOk result (flat.new ≡ applied (header_change head.depth head.id (kind_of kind) head.precision head.metadata (roles_behind head.metadata part)) flat.old) }
+) -> Phase
+    ensures step { step_of result ≡ options (kind_of kind) (with_option (head_of head) (role_of_part part) number bytes) (roles_behind head.metadata part) }
+    ensures placed { IsPlaced head.depth head.id result }
+    ensures row { own_change result ≡ header_change head.depth head.id (kind_of kind) head.precision head.metadata (roles_behind head.metadata part) }
 {
     let next = next_part(head.metadata, part);
-    go_to(
-        flat,
-        alloc,
-        kind,
-        head_with(head, part, bytes, number),
-        next,
-    )
+    go_to(alloc, kind, head_with(head, part, bytes, number), next)
 }

@@ -44,7 +44,7 @@ fn member(spot: Spot) -> After
 }
 
 /// The next value of a list within others begins.
-fn part(spot: Spot) -> After
+pub fn part(spot: Spot) -> After
     ensures { (h : Head) (f : Form) (ids : Ids) → after_of h f ids result ≡ OnBody h f ids (spot_of spot) }
 {
     After {
@@ -148,14 +148,4 @@ pub fn open_area(lefts: Lefts, count: u64) -> After
         Lefts::One(areas) => part(Spot::LineCount(Lefts::Two(count - 1, areas))),
         _ => done(),
     }
-}
-
-/// A list of so many polygons begins.
-pub fn open_areas(count: u64) -> After
-    ensures { (h : Head) (f : Form) (ids : Ids) → after_of h f ids result ≡ listing h f ids 2 count [] }
-{
-    if count == 0 {
-        return done();
-    }
-    part(Spot::AreaCount(Lefts::One(count - 1)))
 }

@@ -90,18 +90,18 @@ pub enum Phase {
         many: Many,
         head: Head,
     },
-    /// An id, behind some, with so many more behind it.
+    /// An id, behind some, with so many more behind it. The members are a first one and these others.
     Id {
         many: Many,
         head: Head,
-        members: u64,
+        others: u64,
         ids: Vec<i64>,
         left: u64,
     },
     /// A number of a body.
     Body(Head, Body),
-    /// The end of a geometry.
-    End(Head),
+    /// The end of a geometry of this type that has no body, or no members: its own row is still to come.
+    End(Head, Kind),
 }
 
 /// Whether the item that comes next is a byte, and no number.

@@ -123,10 +123,11 @@ impl Builder {
     {
         let _most = self.limits.points();
         let head = self.point_head(first, point.size);
-        put_point(flat, head, Form::Point, None, point.to)?;
         self.bytes += point.used as u64;
         self.position = point.to;
         self.points += 1;
-        self.finish(head)
+        let ended = self.finish(head)?;
+        put_point(flat, head, Form::Point, None, point.to)?;
+        Ok(ended)
     }
 }

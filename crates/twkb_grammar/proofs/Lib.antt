@@ -30,6 +30,7 @@ pub mod Decoding
 pub mod TwoFronts
 pub mod OneFault
 pub mod PartBytes
+pub mod ExactEnds
 pub mod Streams
 pub mod Depths
 pub mod Frames

@@ -3,6 +3,7 @@ pub mod RowGrowth
 pub mod Growths
 pub mod Validity
 pub mod Outlined
+pub mod ExactOutlines
 pub mod PointPairs
 pub mod Notings
 pub mod NotedPairs
