@@ -204,7 +204,7 @@ pub(crate) fn read_spans<R: Read>(
 {
     twkb_tree::laws::nodes_are_rows();
     engine.restart();
-    spans.clear();
+    spans.notes.restart();
     match read_noted(input, engine, flat, &mut spans.notes) {
         Ok(true) => Ok(true),
         Ok(false) => {
