@@ -10,6 +10,8 @@ use Rattle.twkb_tree.specs.Tree.{Tree}
 use Rattle.twkb_tree.specs.Rows.{Row}
 use Rattle.twkb_tree.specs.Limits.{Allowance}
 use Rattle.twkb_grammar.specs.Blob.{Blob}
+use Rattle.twkb_grammar.specs.Noting.{Notes}
+use Rattle.twkb_grammar.specs.declared.span.Span.{Span}
 use Rattle.twkb_grammar.proofs.Streams.{blob_long}
 use Rattle.twkb_io.specs.declared.input.Input.{Input}
 use Rattle.twkb_io.specs.Inputs.{rest_of}
@@ -21,6 +23,7 @@ use Rattle.twkb_engine.specs.declared.stop.Stop.TheVariants.{Memory, Refused}
 use Rattle.twkb_engine.proofs.Judging.{blob_judged}
 use Rattle.twkb_blob.specs.Faults.{fault_of}
 use Rattle.twkb_blob.specs.Readers.{Left, IsNextFlat, PartAhead}
+use Rattle.twkb_blob.specs.Located.{IsSpanned, IsNotedRead}
 use Rattle.twkb_blob.specs.declared.fault.BlobFault.{BlobFault}
 use Rattle.twkb_blob.specs.declared.fault.BlobFault.TheVariants as fault
 use Rattle.twkb_blob.specs.declared.reading.Piece.{Piece}
@@ -81,3 +84,11 @@ module _ {R : Type 0} {read : Ghosts R} where
 
   pub made_ahead : (limits : Allowance) (a c : Input R read) (rs : List Row) → IsNextFlat limits a c (Ok true) rs → PartAhead limits [] a
   made_ahead limits a c rs (g, made, is) = blob_known limits (rest_of a) (rest_of c) made.bytes g made.left.consumed made.blob
+
+  pub spanned_ahead : (limits : Allowance) (a c : Input R read) (rs : List Row) (spans : List Span) → IsSpanned limits a c (Ok true) rs spans → PartAhead limits [] a
+  spanned_ahead limits a c rs spans (g, has, is) = blob_known limits (rest_of a) (rest_of c) has.made.bytes g has.made.left.consumed has.made.blob
+
+  -- memory that was missing, of an engine whose items are noted
+  pub noted_ahead : (limits : Allowance) (start : ℕ) (bs : List ℕ) (a b : Input R read) (stop : Stop) (rs : List Row) (d : Engine) (w : Notes) → stop ≡ Memory → IsNotedRead limits start bs a b (Err (halt.Engine stop)) rs d w → PartAhead limits bs a
+  noted_ahead limits start bs a b Memory rs d w is h = h
+  noted_ahead limits start bs a b (Refused r) rs d w is h = absurd cc

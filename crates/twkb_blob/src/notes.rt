@@ -1,5 +1,5 @@
 //! The spans of a blob that is read, as far as they are known.
-ghost use Rattle.std.specs.Prelude.{◌≡◌, ◌<◌, ◌^◌, OnOk, length as length_of};
+ghost use Rattle.std.specs.Prelude.{◌≡◌, ◌<◌, ◌^◌, OnOk, OnErr, length as length_of};
 ghost use Rattle.twkb_grammar.specs.Noting.{no_notes, note_header as header_noted, note_metadata as metadata_noted, note_end, note_ends_to, changed_at};
 ghost use Rattle.twkb_blob.specs.Located.{note_awaited, measured};
 
@@ -10,7 +10,7 @@ use twkb_grammar::Span;
 use twkb_header::TypeByte;
 
 /// The spans so far, and which of them are of geometries that are begun and not ended, the innermost last.
-#[derive(Drop)]
+#[derive(Debug, Drop)]
 pub(crate) struct SpanNotes {
     spans: Vec<Span>,
     begun: Vec<usize>,
@@ -56,6 +56,29 @@ impl SpanNotes {
         }
     }
 
+    /// These spans, of geometries that have ended. Takes no memory.
+    pub fn from_spans(spans: Vec<Span>) -> SpanNotes
+        ensures { result.spans ≡ spans.items }
+    {
+        let begun = Vec::new(*spans.allocator());
+        SpanNotes { spans, begun }
+    }
+
+    /// Forgets the spans, and keeps their room for others. Takes no memory.
+    pub fn restart(&mut self)
+        ensures { self.new ≡ no_notes }
+    {
+        self.spans.clear();
+        self.begun.clear();
+    }
+
+    /// The spans. Takes no memory.
+    pub fn spans(&self) -> &[Span]
+        ensures { result.now ≡ self.now.spans }
+    {
+        self.spans.as_slice()
+    }
+
     /// The spans. Takes no memory.
     pub fn into_spans(self) -> Vec<Span>
         ensures { result.items ≡ self.spans }
@@ -63,7 +86,7 @@ impl SpanNotes {
         self.spans
     }
 
-    /// A geometry begins. It takes memory for its span.
+    /// A geometry begins. It takes memory for its span, past the room that there is.
     fn note_header(&mut self, offset: u64, points: u64, byte: u8) -> Result<(), AllocError>
         ensures { OnOk result (length_of self.old.begun < 2 ^ 32 → self.new ≡ header_noted offset points byte self.old) }
     {
@@ -93,7 +116,7 @@ impl SpanNotes {
         }
     }
 
-    /// A byte that is awaited so, at this offset and behind so many points. A type byte takes memory.
+    /// A byte that is awaited so, at this offset and behind so many points. Only a type byte takes memory.
     pub fn note(
         &mut self,
         awaited: Awaited,
@@ -101,7 +124,8 @@ impl SpanNotes {
         points: u64,
         byte: u8,
     ) -> Result<(), AllocError>
-        ensures { OnOk result (length_of self.old.begun < 2 ^ 32 → self.new ≡ note_awaited awaited offset points byte self.old) }
+        ensures noted { OnOk result (length_of self.old.begun < 2 ^ 32 → self.new ≡ note_awaited awaited offset points byte self.old) }
+        ensures memory { OnErr result (awaited ≡ Awaited.Header) }
     {
         match awaited {
             Awaited::Header => self.note_header(offset, points, byte)?,

@@ -11,7 +11,7 @@ use crate::halt::{Halt, Obstacle};
 use crate::listing::{Listing, first_text};
 use std::alloc::Global;
 use std::io::{Read, Write};
-use twkb_blob::Reader;
+use twkb_blob::{Reader, Spans};
 use twkb_flat::Flat;
 use twkb_io::{Output, Sink};
 
@@ -100,10 +100,13 @@ fn send_blobs<R: Read, W: Write>(
 {
     twkb_grammar::laws::some_byte();
     let mut form = Flat::new(alloc);
+    let mut spans = Spans::new(alloc);
     let mut text = Vec::new(alloc);
     let mut done = 0;
     loop {
-        match send_blob(what, alloc, reader, &mut form, &mut text, output) {
+        match send_blob(
+            what, alloc, reader, &mut form, &mut spans, &mut text, output,
+        ) {
             Ok(true) => done += 1,
             Ok(false) => return Ok(done),
             Err(obstacle) => return Err(Halt { done, obstacle }),
@@ -117,6 +120,7 @@ fn send_blob<R: Read, W: Write>(
     alloc: Global,
     reader: &mut Reader<'_, R>,
     form: &mut Flat,
+    spans: &mut Spans,
     text: &mut Vec<u8>,
     output: &mut Output<'_, W>,
 ) -> Result<bool, Obstacle>
@@ -133,7 +137,7 @@ fn send_blob<R: Read, W: Write>(
     ensures err { IfErr result (λ obstacle. StopsBlob what W.contents reader.old output.old obstacle reader.new output.new) }
     ensures stops { IfErr result (λ obstacle. StopsRead reader.old obstacle reader.new) }
 {
-    if !next_text(what, alloc, reader, form, text)? {
+    if !next_text(what, alloc, reader, form, spans, text)? {
         return Ok(false);
     }
     if let Err(fault) = output.put(text.as_slice()) {

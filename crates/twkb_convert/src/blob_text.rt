@@ -9,17 +9,18 @@ use crate::listing::Listing;
 use crate::span_line::put_lines;
 use std::alloc::Global;
 use std::io::Read;
-use twkb_blob::Reader;
+use twkb_blob::{Reader, Spans};
 use twkb_flat::{Flat, Work};
 use twkb_table::put_flat_rows;
 
-/// Reads the next blob, if there is one, and makes the text what is written of it. The form is room
-/// for its rows.
+/// Reads the next blob, if there is one, and makes the text what is written of it. Form and list are
+/// room for its rows and spans.
 pub(crate) fn next_text<R: Read>(
     what: Listing,
     alloc: Global,
     reader: &mut Reader<'_, R>,
     form: &mut Flat,
+    spans: &mut Spans,
     text: &mut Vec<u8>,
 ) -> Result<bool, Obstacle>
     requires reader { is_spent reader.old ≡ false }
@@ -36,7 +37,7 @@ pub(crate) fn next_text<R: Read>(
 {
     match what {
         Listing::Table => next_rows(alloc, reader, form, text),
-        Listing::Headers => next_lines(alloc, reader, text),
+        Listing::Headers => next_lines(alloc, reader, form, spans, text),
     }
 }
 
@@ -75,6 +76,8 @@ fn next_rows<R: Read>(
 fn next_lines<R: Read>(
     alloc: Global,
     reader: &mut Reader<'_, R>,
+    form: &mut Flat,
+    spans: &mut Spans,
     text: &mut Vec<u8>,
 ) -> Result<bool, Obstacle>
     requires reader { is_spent reader.old ≡ false }
@@ -89,11 +92,11 @@ fn next_lines<R: Read>(
     ensures err { IfErr result (λ obstacle. StopsText reader.old obstacle reader.new) }
     ensures stops { IfErr result (λ obstacle. StopsRead reader.old obstacle reader.new) }
 {
-    let spans = match reader.next_spans(alloc) {
-        Ok(Some(spans)) => spans,
-        Ok(None) => return Ok(false),
+    match reader.next_spans(alloc, form, spans) {
+        Ok(true) => {}
+        Ok(false) => return Ok(false),
         Err(fault) => return Err(Obstacle::Stream(fault)),
-    };
+    }
     text.clear();
     if put_lines(spans.as_slice(), text).is_err() {
         return Err(Obstacle::Memory);
