@@ -9,7 +9,7 @@ use twkb_io::Sink;
 use twkb_num::zigzag;
 use twkb_points::{Cursor, Pt};
 
-/// A sink, and the piece in which bytes are gathered on their way to it.
+// A sink, and the piece in which bytes are gathered on their way to it.
 #[derive(Drop)]
 pub(crate) struct Gatherer<'a, S> {
     pub(crate) sink: &'a mut S,
@@ -29,7 +29,7 @@ fn step_to(cursor: &mut Cursor, to: Pt) -> (u64, u64)
 impl<'a, S: Sink> Gatherer<'a, S> {
     ghost use Rattle.twkb_writer.specs.Putting.{Moved, Failed};
 
-    /// Puts what the piece holds, and empties it.
+    // Puts what the piece holds, and empties it.
     pub(crate) fn flush(&mut self) -> Result<(), S::Fault>
         ensures ok { OnOk result (Moved S.took self.old [] self.new) }
         ensures empty { OnOk result (self.new.piece.now ≡ []) }
@@ -54,7 +54,7 @@ impl<'a, S: Sink> Gatherer<'a, S> {
         Ok(())
     }
 
-    /// Puts two bytes.
+    // Puts two bytes.
     pub(crate) fn put_two(&mut self, bytes: [u8; 2]) -> Result<(), S::Fault>
         ensures ok { OnOk result (Moved S.took self.old bytes self.new) }
         ensures err { IfErr result (λ fault. Failed S.refused self.old bytes fault self.new) }
@@ -66,7 +66,7 @@ impl<'a, S: Sink> Gatherer<'a, S> {
         Ok(())
     }
 
-    /// Puts a number, by its shortest varint.
+    // Puts a number, by its shortest varint.
     pub(crate) fn put_number(&mut self, number: u64) -> Result<(), S::Fault>
         ensures ok { OnOk result (Moved S.took self.old (varint_of number) self.new) }
         ensures err { IfErr result (λ fault. Failed S.refused self.old (varint_of number) fault self.new) }
@@ -84,7 +84,7 @@ impl<'a, S: Sink> Gatherer<'a, S> {
         self.put_number(zigzag(number))
     }
 
-    /// Puts an id, where there is one.
+    // Puts an id, where there is one.
     pub(crate) fn put_id(&mut self, id: Option<i64>) -> Result<(), S::Fault>
         ensures ok { OnOk result (Moved S.took self.old (id_bytes id) self.new) }
         ensures err { IfErr result (λ fault. Failed S.refused self.old (id_bytes id) fault self.new) }
@@ -95,7 +95,7 @@ impl<'a, S: Sink> Gatherer<'a, S> {
         }
     }
 
-    /// Puts whole numbers.
+    // Puts whole numbers.
     pub(crate) fn put_all(&mut self, numbers: &[i64]) -> Result<(), S::Fault>
         ensures ok { OnOk result (Moved S.took self.old (flat_map signed numbers.now) self.new) }
         ensures err { IfErr result (λ fault. Failed S.refused self.old (flat_map signed numbers.now) fault self.new) }
@@ -106,7 +106,7 @@ impl<'a, S: Sink> Gatherer<'a, S> {
         Ok(())
     }
 
-    /// Puts the difference to a point, where the cursor moves.
+    // Puts the difference to a point, where the cursor moves.
     pub(crate) fn put_step(&mut self, cursor: &mut Cursor, to: Pt) -> Result<(), S::Fault>
         ensures ok { OnOk result (Moved S.took self.old (step_bytes (to.x -ℤ cursor.old.x, to.y -ℤ cursor.old.y)) self.new) }
         ensures moved { OnOk result (cursor.new ≡ to) }

@@ -9,6 +9,7 @@ ghost use Rattle.twkb_writer.specs.Reads.{ReadsExactly};
 ghost use Rattle.twkb_writer.specs.Sizes.{AreSizes};
 ghost use Rattle.twkb_writer.specs.Tails.{tail_of};
 
+use crate::alone::measure_alone;
 use crate::depths::Depths;
 use crate::levels::Level;
 use crate::sizes::{Entry, Sizes};
@@ -17,17 +18,18 @@ use std::alloc::{AllocError, Global};
 use twkb_flat::{Flat, Node, NodeId, PointId, Work};
 use twkb_grammar::Style;
 
-/// Tells a proof that counts of reads fit 64 bits. It changes nothing.
-fn look_at_reads(work: &Work)
+// Tells a proof that counts of reads fit 64 bits. It changes nothing.
+pub(crate) fn look_at_reads(work: &Work)
     ensures nodes { work.now.node_reads < 2 ^ 64 }
     ensures points { work.now.point_reads < 2 ^ 64 }
 {
-    let _nodes = work.node_reads;
-    let _points = work.point_reads;
+    // learnt: both fit
+    let _learnt = work.node_reads;
+    let _learnt = work.point_reads;
 }
 
-/// The points of a row before those up to the end of its geometry, each read once.
-fn take_points(flat: &Flat, id: NodeId, node: &Node, tail: Tail, work: &mut Work) -> Tail
+// The points of a row before those up to the end of its geometry, each read once.
+pub(crate) fn take_points(flat: &Flat, id: NodeId, node: &Node, tail: Tail, work: &mut Work) -> Tail
     requires node { IsNode flat.now id.0 node.now }
     requires few { length (row_points flat.now) ≤ 2 ^ 24 }
     requires room { tail.bytes ≤ 2 ^ 30 }
@@ -44,7 +46,7 @@ fn take_points(flat: &Flat, id: NodeId, node: &Node, tail: Tail, work: &mut Work
     tail
 }
 
-/// The rows at a row's depth with this row before them, and its entry where it is a geometry of its own.
+// The rows at a row's depth with this row before them, and its entry where it is a geometry of its own.
 #[inline(always)]
 fn measure_row(
     style: Style,
@@ -80,8 +82,8 @@ fn measure_row(
     }
 }
 
-/// Takes a row in: sets what the rows at its depth come to, with this row before them, and leaves none below. Gives its
-/// entry, where it is a geometry of its own.
+// Takes a row in: sets what the rows at its depth come to, with this row before them, and leaves none below. Gives its
+// entry, where it is a geometry of its own.
 fn take_row(style: Style, node: &Node, points: &Tail, levels: &mut Depths) -> Option<Entry>
     requires deep { node.now.row.depth < 35 }
     requires small { (k : ℕ) → k < 36 → IsSmall (slice_index_or levels.old k blank) }
@@ -96,8 +98,8 @@ fn take_row(style: Style, node: &Node, points: &Tail, levels: &mut Depths) -> Op
     entry
 }
 
-/// Keeps an entry, where there is one; the first makes room for `most`, the only growth.
-fn keep(entries: &mut Vec<Entry>, entry: Option<Entry>, most: usize) -> Result<(), AllocError>
+// Keeps an entry, where there is one; the first makes room for `most`, the only growth.
+pub(crate) fn keep(entries: &mut Vec<Entry>, entry: Option<Entry>, most: usize) -> Result<(), AllocError>
     ensures { OnOk result (entries.new.items ≡ entries.old.items ++ option_list entry) }
 {
     let Some(entry) = entry else {
@@ -109,7 +111,7 @@ fn keep(entries: &mut Vec<Entry>, entry: Option<Entry>, most: usize) -> Result<(
     entries.extend_from_slice(&[entry])
 }
 
-/// The points up to the end of their geometry before a row whose points these are, with those after it.
+// The points up to the end of their geometry before a row whose points these are, with those after it.
 fn before_row(node: &Node, points: Tail) -> Tail
     ensures { result ≡ tail_after node.now.row.precision points }
 {
@@ -117,42 +119,6 @@ fn before_row(node: &Node, points: Tail) -> Tail
         Some(_) => Tail::none(),
         None => points,
     }
-}
-
-/// The entry of a flat form of one row, which needs no levels.
-fn measure_one(flat: &Flat, style: Style, work: &mut Work) -> Option<Entry>
-    requires { length flat.now ≡ 1 }
-    ensures sizes { AreSizes style flat.now (option_list result) }
-    ensures reads { ReadsExactly work.old 1 (length (row_points flat.now)) work.new }
-{
-    // a proof learns by counting them that the rows are valid
-    let _total = flat.node_count();
-    look_at_reads(work);
-    let id = NodeId(0);
-    let node = flat.node(id, work);
-    let points = take_points(flat, id, &node, Tail::none(), work);
-    let (_, entry) = measure_row(style, &node, &Level::blank(), &points, Level::blank());
-    entry
-}
-
-/// Makes sizes those of a flat form of one row.
-fn measure_alone(
-    flat: &Flat,
-    style: Style,
-    sizes: &mut Sizes,
-    work: &mut Work,
-) -> Result<(), AllocError>
-    requires { length flat.now ≡ 1 }
-    ensures sizes { OnOk result (AreSizes style flat.now sizes.new) }
-    ensures work { OnOk result (Counted work.old (length (row_points flat.now)) (length flat.now) (length sizes.new) work.new) }
-{
-    let entry = measure_one(flat, style, work);
-    sizes.entries.clear();
-    keep(&mut sizes.entries, entry, 1)?;
-    work.points = work.points.saturating_add(flat.point_count() as u64);
-    work.nodes = work.nodes.saturating_add(1);
-    work.entries = work.entries.saturating_add(sizes.entries.len() as u64);
-    Ok(())
 }
 
 /// Makes sizes those of a flat form in a style, in place of what they were: one entry for each TWKB geometry in preorder,

@@ -107,9 +107,9 @@ fn put_part<S: Sink>(
 
 // Where the way stands, and the entry of the next geometry.
 #[derive(Clone, Copy, Debug)]
-pub struct Place {
-    pub(crate) cursor: Cursor,
-    pub(crate) entry: usize,
+struct Place {
+    cursor: Cursor,
+    entry: usize,
 }
 
 // Puts what stands before the points of a row, and gives the place where these begin.
@@ -146,7 +146,7 @@ fn put_lead<S: Sink>(
     }
 }
 
-/// Puts all rows with their entries, in one pass.
+// Puts all rows with their entries, in one pass.
 pub(crate) fn put_rows<S: Sink>(
     job: &Job<'_>,
     gatherer: &mut Gatherer<'_, S>,
