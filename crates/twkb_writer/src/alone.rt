@@ -1,8 +1,11 @@
 //! The sizes of a flat form of one row, which needs no levels.
-ghost use Rattle.std.specs.Prelude.{◌≡◌, ◌↔◌, ◌∷◌, [], ℤ, length, IsTrue, OnOk};
+ghost use Rattle.std.specs.Prelude.{◌≡◌, ◌≤◌, ◌^◌, ◌↔◌, ◌∷◌, [], ℤ, length, Some, IsTrue, OnOk};
 ghost use Rattle.twkb_points.specs.Point.{Point};
+ghost use Rattle.twkb_tree.specs.Limits.{largest_limits};
 ghost use Rattle.twkb_tree.specs.Rows.{row_points};
+ghost use Rattle.twkb_tree.specs.RowLists.{AreValidRowsOfOne};
 ghost use Rattle.twkb_tree.specs.declared.kind.Kind.TheVariants.{Point as PointKind};
+ghost use Rattle.twkb_flat.specs.Rows.{IsNode};
 ghost use Rattle.twkb_grammar.specs.declared.style.Style.{Style as InStyle};
 ghost use Rattle.twkb_writer.specs.Levels.{blank, entry_for};
 ghost use Rattle.twkb_writer.specs.Measuring.{Counted};
@@ -41,28 +44,22 @@ fn is_one_point(node: &Node) -> bool
     matches!(node.row.kind, Kind::Point) && node.points == 1
 }
 
-// The entry of a flat form of one row.
-fn measure_one(flat: &Flat, style: Style, work: &mut Work) -> Entry
-    requires { length flat.now ≡ 1 }
+// The entry of the only row, in general.
+fn row_entry(flat: &Flat, style: Style, node: &Node, precision: i8, work: &mut Work) -> Entry
+    requires few { length (row_points flat.now) ≤ 2 ^ 24 }
+    requires one { length flat.now ≡ 1 }
+    requires node { IsNode flat.now 0 node.now }
+    requires whole { node.now.row.precision ≡ Some precision }
+    requires valid { AreValidRowsOfOne largest_limits flat.now }
     ensures sizes { AreSizes style flat.now (result ∷ []) }
-    ensures reads { ReadsExactly work.old 1 (length (row_points flat.now)) work.new }
+    ensures reads { ReadsExactly work.old 0 node.now.points work.new }
 {
-    // learnt: the rows are valid
-    let _learnt = flat.node_count();
-    look_at_reads(work);
-    let id = NodeId(0);
-    let node = flat.node(id, work);
-    let Some(precision) = node.row.precision else {
-        unreachable!()
-    };
-    if is_one_point(&node) {
-        return point_entry(flat.point(node.first, work));
-    }
-    let points = take_points(flat, id, &node, Tail::none(), work);
+    let points = take_points(flat, NodeId(0), node, Tail::none(), work);
     Level::blank().entry_for(style, node.row.kind, precision, node.points, &points)
 }
 
 // Keeps one entry in place of all: where the last one stood, if it stood alone.
+#[inline(always)]
 fn keep_alone(entries: &mut Vec<Entry>, entry: Entry) -> Result<(), AllocError>
     ensures { OnOk result (entries.new.items ≡ entry ∷ []) }
 {
@@ -72,6 +69,33 @@ fn keep_alone(entries: &mut Vec<Entry>, entry: Entry) -> Result<(), AllocError>
     }
     entries.clear();
     keep(entries, Some(entry), 1)
+}
+
+// Makes entries those of a flat form of one row.
+#[inline(always)]
+fn measure_one(
+    flat: &Flat,
+    style: Style,
+    entries: &mut Vec<Entry>,
+    work: &mut Work,
+) -> Result<(), AllocError>
+    requires { length flat.now ≡ 1 }
+    ensures sizes { OnOk result (AreSizes style flat.now entries.new.items) }
+    ensures reads { ReadsExactly work.old 1 (length (row_points flat.now)) work.new }
+{
+    // learnt: the rows are valid
+    let _learnt = flat.node_count();
+    look_at_reads(work);
+    let node = flat.node(NodeId(0), work);
+    let Some(precision) = node.row.precision else {
+        unreachable!()
+    };
+    if is_one_point(&node) {
+        let point = flat.point(node.first, work);
+        return keep_alone(entries, point_entry(point));
+    }
+    let entry = row_entry(flat, style, &node, precision, work);
+    keep_alone(entries, entry)
 }
 
 // Makes sizes those of a flat form of one row.
@@ -85,8 +109,7 @@ pub(crate) fn measure_alone(
     ensures sizes { OnOk result (AreSizes style flat.now sizes.new) }
     ensures work { OnOk result (Counted work.old (length (row_points flat.now)) (length flat.now) (length sizes.new) work.new) }
 {
-    let entry = measure_one(flat, style, work);
-    keep_alone(&mut sizes.entries, entry)?;
+    measure_one(flat, style, &mut sizes.entries, work)?;
     work.points = work.points.saturating_add(flat.point_count() as u64);
     work.nodes = work.nodes.saturating_add(1);
     work.entries = work.entries.saturating_add(sizes.entries.len() as u64);

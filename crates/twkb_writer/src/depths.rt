@@ -53,19 +53,32 @@ impl Depths {
     }
 
     // What the rows at a depth come to.
-    pub(crate) fn at(&self, depth: usize) -> Level
+    #[inline(always)]
+    pub(crate) fn at(&self, depth: usize) -> &Level
         requires { depth < 36 }
-        ensures { result ≡ slice_index_or self.now depth blank }
+        ensures { result.now ≡ slice_index_or self.now depth blank }
     {
-        self.levels[depth]
+        &self.levels[depth]
+    }
+
+    // Leaves no rows at a depth, where there are any.
+    #[inline(always)]
+    fn blank_at(&mut self, depth: usize)
+        requires { depth < 36 }
+        ensures { self.new ≡ slice_set self.old depth blank }
+    {
+        if self.used > depth {
+            self.levels[depth] = Level::blank();
+        }
     }
 
     // Sets what the rows at a depth come to, and leaves none below.
+    #[inline(always)]
     pub(crate) fn put(&mut self, depth: usize, own: Level)
         requires { depth < 35 }
         ensures { self.new ≡ slice_set (slice_set self.old (depth + 1) blank) depth own }
     {
-        self.levels[depth + 1] = Level::blank();
+        self.blank_at(depth + 1);
         self.levels[depth] = own;
         if self.used <= depth {
             self.used = depth + 1;

@@ -30,6 +30,7 @@ impl<'a, S: Sink> Gatherer<'a, S> {
     ghost use Rattle.twkb_writer.specs.Putting.{Moved, Failed};
 
     // Puts what the piece holds, and empties it.
+    #[inline(always)]
     pub(crate) fn flush(&mut self) -> Result<(), S::Fault>
         ensures ok { OnOk result (Moved S.took self.old [] self.new) }
         ensures empty { OnOk result (self.new.piece.now ≡ []) }
@@ -41,6 +42,7 @@ impl<'a, S: Sink> Gatherer<'a, S> {
     }
 
     // Puts what the piece holds where it has no room for a step, two numbers.
+    #[inline(always)]
     fn make_room(&mut self) -> Result<(), S::Fault>
         ensures ok { OnOk result (Moved S.took self.old [] self.new) }
         ensures room { OnOk result (length self.new.piece.now + 20 ≤ 4096) }
@@ -49,12 +51,21 @@ impl<'a, S: Sink> Gatherer<'a, S> {
         if self.piece.has_room() {
             return Ok(());
         }
-        self.sink.put(self.piece.as_slice())?;
-        self.piece.clear();
-        Ok(())
+        self.empty()
+    }
+
+    // Puts what the piece holds, and empties it, as happens once a piece.
+    #[inline(never)]
+    fn empty(&mut self) -> Result<(), S::Fault>
+        ensures ok { OnOk result (Moved S.took self.old [] self.new) }
+        ensures room { OnOk result (length self.new.piece.now + 20 ≤ 4096) }
+        ensures err { IfErr result (λ fault. Failed S.refused self.old [] fault self.new) }
+    {
+        self.flush()
     }
 
     // Puts two bytes.
+    #[inline(always)]
     pub(crate) fn put_two(&mut self, bytes: [u8; 2]) -> Result<(), S::Fault>
         ensures ok { OnOk result (Moved S.took self.old bytes self.new) }
         ensures err { IfErr result (λ fault. Failed S.refused self.old bytes fault self.new) }
@@ -67,6 +78,7 @@ impl<'a, S: Sink> Gatherer<'a, S> {
     }
 
     // Puts a number, by its shortest varint.
+    #[inline(always)]
     pub(crate) fn put_number(&mut self, number: u64) -> Result<(), S::Fault>
         ensures ok { OnOk result (Moved S.took self.old (varint_of number) self.new) }
         ensures err { IfErr result (λ fault. Failed S.refused self.old (varint_of number) fault self.new) }
@@ -77,6 +89,7 @@ impl<'a, S: Sink> Gatherer<'a, S> {
     }
 
     // Puts a whole number, by its zigzag form.
+    #[inline(always)]
     fn put_signed(&mut self, number: i64) -> Result<(), S::Fault>
         ensures ok { OnOk result (Moved S.took self.old (signed number) self.new) }
         ensures err { IfErr result (λ fault. Failed S.refused self.old (signed number) fault self.new) }
@@ -85,6 +98,7 @@ impl<'a, S: Sink> Gatherer<'a, S> {
     }
 
     // Puts an id, where there is one.
+    #[inline(always)]
     pub(crate) fn put_id(&mut self, id: Option<i64>) -> Result<(), S::Fault>
         ensures ok { OnOk result (Moved S.took self.old (id_bytes id) self.new) }
         ensures err { IfErr result (λ fault. Failed S.refused self.old (id_bytes id) fault self.new) }
@@ -96,6 +110,7 @@ impl<'a, S: Sink> Gatherer<'a, S> {
     }
 
     // Puts whole numbers.
+    #[inline(never)]
     pub(crate) fn put_all(&mut self, numbers: &[i64]) -> Result<(), S::Fault>
         ensures ok { OnOk result (Moved S.took self.old (flat_map signed numbers.now) self.new) }
         ensures err { IfErr result (λ fault. Failed S.refused self.old (flat_map signed numbers.now) fault self.new) }
@@ -107,6 +122,7 @@ impl<'a, S: Sink> Gatherer<'a, S> {
     }
 
     // Puts the difference to a point, where the cursor moves.
+    #[inline(always)]
     pub(crate) fn put_step(&mut self, cursor: &mut Cursor, to: Pt) -> Result<(), S::Fault>
         ensures ok { OnOk result (Moved S.took self.old (step_bytes (to.x -ℤ cursor.old.x, to.y -ℤ cursor.old.y)) self.new) }
         ensures moved { OnOk result (cursor.new ≡ to) }

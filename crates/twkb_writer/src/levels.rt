@@ -160,6 +160,7 @@ impl Level {
     }
 
     // These rows with a part of a geometry before them, with so many points of its own and rows below it.
+    #[inline(always)]
     pub(crate) fn with_part(self, kind: Kind, own: u32, id: Option<i64>, below: &Level) -> Level
         requires members { self.members ≤ 2 ^ 20 }
         requires ids { self.ids ≤ 2 ^ 40 }
@@ -181,6 +182,7 @@ impl Level {
 
     // These rows with a geometry before them, whose box and body have so many bytes, with these rows below it and these
     // points up to its end.
+    #[inline(always)]
     pub(crate) fn with_geometry(
         self,
         style: Style,

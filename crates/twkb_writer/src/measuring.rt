@@ -29,6 +29,7 @@ pub(crate) fn look_at_reads(work: &Work)
 }
 
 // The points of a row before those up to the end of its geometry, each read once.
+#[inline(always)]
 pub(crate) fn take_points(flat: &Flat, id: NodeId, node: &Node, tail: Tail, work: &mut Work) -> Tail
     requires node { IsNode flat.now id.0 node.now }
     requires few { length (row_points flat.now) ≤ 2 ^ 24 }
@@ -84,6 +85,7 @@ fn measure_row(
 
 // Takes a row in: sets what the rows at its depth come to, with this row before them, and leaves none below. Gives its
 // entry, where it is a geometry of its own.
+#[inline(always)]
 fn take_row(style: Style, node: &Node, points: &Tail, levels: &mut Depths) -> Option<Entry>
     requires deep { node.now.row.depth < 35 }
     requires small { (k : ℕ) → k < 36 → IsSmall (slice_index_or levels.old k blank) }
@@ -93,7 +95,7 @@ fn take_row(style: Style, node: &Node, points: &Tail, levels: &mut Depths) -> Op
     let depth = node.row.depth as usize;
     let below = levels.at(depth + 1);
     let others = levels.at(depth);
-    let (level, entry) = measure_row(style, node, &below, points, others);
+    let (level, entry) = measure_row(style, node, below, points, *others);
     levels.put(depth, level);
     entry
 }
@@ -121,10 +123,8 @@ fn before_row(node: &Node, points: Tail) -> Tail
     }
 }
 
-/// Makes sizes those of a flat form in a style, in place of what they were: one entry for each TWKB geometry in preorder,
-/// and none where there is no node. Reads each node and each point once, in one pass at any nesting; counts them and the
-/// entries. Takes memory for the entries, where their room does not suffice.
-pub fn measure_into(
+// Makes sizes those of a flat form, row by row from the last to the first.
+fn measure_rows(
     flat: &Flat,
     style: Style,
     depths: &mut Depths,
@@ -135,9 +135,6 @@ pub fn measure_into(
     ensures work { OnOk result (Counted work.old (length (row_points flat.now)) (length flat.now) (length sizes.new) work.new) }
 {
     let total = flat.node_count();
-    if total == 1 {
-        return measure_alone(flat, style, sizes, work);
-    }
     depths.clear();
     sizes.entries.clear();
     look_at_reads(work);
@@ -155,6 +152,25 @@ pub fn measure_into(
     work.nodes = work.nodes.saturating_add(total as u64);
     work.entries = work.entries.saturating_add(sizes.entries.len() as u64);
     Ok(())
+}
+
+/// Makes sizes those of a flat form in a style, in place of what they were: one entry for each TWKB geometry in preorder,
+/// and none where there is no node. Reads each node and each point once, in one pass at any nesting; counts them and the
+/// entries. Takes memory for the entries, where their room does not suffice.
+pub fn measure_into(
+    flat: &Flat,
+    style: Style,
+    depths: &mut Depths,
+    sizes: &mut Sizes,
+    work: &mut Work,
+) -> Result<(), AllocError>
+    ensures sizes { OnOk result (AreSizes style flat.now sizes.new) }
+    ensures work { OnOk result (Counted work.old (length (row_points flat.now)) (length flat.now) (length sizes.new) work.new) }
+{
+    if flat.node_count() == 1 {
+        return measure_alone(flat, style, sizes, work);
+    }
+    measure_rows(flat, style, depths, sizes, work)
 }
 
 /// The sizes of a flat form in a style, one entry for each TWKB geometry in preorder, and none where there is no node.

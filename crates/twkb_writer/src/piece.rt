@@ -75,6 +75,7 @@ impl Piece {
     }
 
     // Appends a byte.
+    #[inline(always)]
     pub(crate) fn push(&mut self, byte: u8)
         requires { length self.old < 4096 }
         ensures { self.new ≡ self.old ++ byte ∷ [] }
@@ -85,6 +86,7 @@ impl Piece {
     }
 
     // Appends a number that has two bytes at most, both written at once.
+    #[inline(always)]
     fn push_short(&mut self, number: u64)
         requires small { number < 2 ^ 14 }
         requires room { length self.old + 2 ≤ 4096 }
@@ -97,6 +99,7 @@ impl Piece {
     }
 
     // Appends a number that has three bytes or four.
+    #[inline(never)]
     fn push_middle(&mut self, number: u64)
         requires more { 2 ^ 14 ≤ number }
         requires small { number < 2 ^ 28 }
@@ -110,6 +113,7 @@ impl Piece {
     }
 
     // Appends any number, byte by byte.
+    #[inline(never)]
     fn push_long(&mut self, number: u64)
         requires { length self.old + 10 ≤ 4096 }
         ensures { self.new ≡ self.old ++ varint_of number }
@@ -123,6 +127,7 @@ impl Piece {
     }
 
     // Appends a number, by its shortest varint.
+    #[inline(always)]
     pub(crate) fn push_number(&mut self, number: u64)
         requires { length self.old + 10 ≤ 4096 }
         ensures value { self.new ≡ self.old ++ varint_of number }

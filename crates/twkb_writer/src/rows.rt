@@ -19,6 +19,7 @@ use twkb_points::Cursor;
 use twkb_tree::Kind;
 
 // Puts a count of members, and their ids where these are written.
+#[inline(never)]
 fn put_members<S: Sink>(
     flat: &Flat,
     at: &Placed,
@@ -39,6 +40,7 @@ fn put_members<S: Sink>(
 }
 
 // Puts what stands before a node's points, behind its header.
+#[inline(always)]
 fn put_counts<S: Sink>(
     flat: &Flat,
     at: &Placed,
@@ -63,6 +65,7 @@ fn put_counts<S: Sink>(
 }
 
 // Puts what stands between the header of a geometry and the points of its row.
+#[inline(always)]
 fn put_own<S: Sink>(
     flat: &Flat,
     at: &Placed,
@@ -86,6 +89,7 @@ fn put_own<S: Sink>(
 }
 
 // Puts what stands before the points of a part of a geometry.
+#[inline(always)]
 fn put_part<S: Sink>(
     flat: &Flat,
     at: &Placed,
@@ -113,6 +117,7 @@ struct Place {
 }
 
 // Puts what stands before the points of a row, and gives the place where these begin.
+#[inline(always)]
 fn put_lead<S: Sink>(
     job: &Job<'_>,
     at: &Placed,

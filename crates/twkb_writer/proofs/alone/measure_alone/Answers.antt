@@ -3,7 +3,7 @@ use Rattle.twkb_writer.proofs.alone.measure_alone.Goals as goal
 
 pub returns-clause-work : goal.returns-clause-work
 returns-clause-work c =
-    let reads = c.measure_one-entry.ensures.reads in
+    let reads = c.measure_one.ensures.reads in
     record {
       more_points = search rules;
       more_nodes = search rules;
