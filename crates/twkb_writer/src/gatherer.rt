@@ -110,7 +110,6 @@ impl<'a, S: Sink> Gatherer<'a, S> {
     }
 
     // Puts whole numbers.
-    #[inline(never)]
     pub(crate) fn put_all(&mut self, numbers: &[i64]) -> Result<(), S::Fault>
         ensures ok { OnOk result (Moved S.took self.old (flat_map signed numbers.now) self.new) }
         ensures err { IfErr result (λ fault. Failed S.refused self.old (flat_map signed numbers.now) fault self.new) }

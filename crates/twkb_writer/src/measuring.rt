@@ -3,8 +3,10 @@ ghost use Rattle.std.specs.Prelude.{◌≡◌, ◌+◌, ◌++◌, ◌*◌, ◌<�
 ghost use Rattle.twkb_points.specs.Point.{Point};
 ghost use Rattle.twkb_tree.specs.Rows.{row_points};
 ghost use Rattle.twkb_flat.specs.Rows.{IsNode};
+ghost use Rattle.twkb_grammar.specs.declared.style.Style.{Style as InStyle};
+ghost use Rattle.twkb_writer.specs.declared.tails.Tail.{Tail as PointsAhead};
 ghost use Rattle.twkb_writer.specs.Levels.{blank, IsSmall};
-ghost use Rattle.twkb_writer.specs.Measuring.{row_level, row_entry, option_list, tail_after, cost_of, points_at, TakenRow, Counted};
+ghost use Rattle.twkb_writer.specs.Measuring.{option_list, tail_after, points_at, TakenRow, Counted};
 ghost use Rattle.twkb_writer.specs.Reads.{ReadsExactly};
 ghost use Rattle.twkb_writer.specs.Sizes.{AreSizes};
 ghost use Rattle.twkb_writer.specs.Tails.{tail_of};
@@ -47,40 +49,43 @@ pub(crate) fn take_points(flat: &Flat, id: NodeId, node: &Node, tail: Tail, work
     tail
 }
 
-// The rows at a row's depth with this row before them, and its entry where it is a geometry of its own.
-#[inline(always)]
-fn measure_row(
+// Takes in a row that is a geometry of its own, and gives its entry.
+#[inline(never)]
+fn take_geometry(
     style: Style,
     node: &Node,
-    below: &Level,
-    tail: &Tail,
-    others: Level,
-) -> (Level, Option<Entry>)
-    requires below { IsSmall below.now }
-    requires others { IsSmall others }
-    requires points { tail.now.bytes ≤ 2 ^ 40 }
-    ensures level { result.0 ≡ row_level style node.now.row.kind node.now.points node.now.row.id node.now.row.precision below.now tail.now others }
-    ensures most { result.0.ids + result.0.bytes ≤ (below.now.ids + below.now.bytes) + (others.ids + others.bytes) + cost_of node.now.row.precision tail.now.bytes }
-    ensures entry { result.1 ≡ row_entry style node.now.row.kind node.now.points node.now.row.precision below.now tail.now }
+    precision: i8,
+    points: &Tail,
+    levels: &mut Depths,
+) -> Entry
+    requires deep { node.now.row.depth < 35 }
+    requires small { (k : ℕ) → k < 36 → IsSmall (slice_index_or levels.old k blank) }
+    requires points { points.now.bytes ≤ 2 ^ 40 }
+    requires whole { node.now.row.precision ≡ Some precision }
+    ensures { TakenRow style node.now points.now levels.old levels.new (Some result) }
 {
-    match node.row.precision {
-        Some(precision) => {
-            let entry = below.entry_for(style, node.row.kind, precision, node.points, tail);
-            let level = others.with_geometry(
-                style,
-                entry.size,
-                precision,
-                node.row.id,
-                below,
-                tail,
-            );
-            (level, Some(entry))
-        }
-        None => (
-            others.with_part(node.row.kind, node.points, node.row.id, below),
-            None,
-        ),
-    }
+    let depth = node.row.depth as usize;
+    let below = levels.at(depth + 1);
+    let entry = below.entry_for(style, node.row.kind, precision, node.points, points);
+    let others = *levels.at(depth);
+    let own = others.with_geometry(style, entry.size, precision, node.row.id, below, points);
+    levels.put(depth, own);
+    entry
+}
+
+// Takes in a row that is a part of a geometry.
+#[inline(always)]
+fn take_part(node: &Node, levels: &mut Depths)
+    requires deep { node.now.row.depth < 35 }
+    requires small { (k : ℕ) → k < 36 → IsSmall (slice_index_or levels.old k blank) }
+    requires part { node.now.row.precision ≡ None }
+    ensures { (style : InStyle) (points : PointsAhead) → TakenRow style node.now points levels.old levels.new None }
+{
+    let depth = node.row.depth as usize;
+    let others = *levels.at(depth);
+    let below = levels.at(depth + 1);
+    let own = others.with_part(node.row.kind, node.points, node.row.id, below);
+    levels.put(depth, own);
 }
 
 // Takes a row in: sets what the rows at its depth come to, with this row before them, and leaves none below. Gives its
@@ -92,12 +97,13 @@ fn take_row(style: Style, node: &Node, points: &Tail, levels: &mut Depths) -> Op
     requires points { points.now.bytes ≤ 2 ^ 40 }
     ensures { TakenRow style node.now points.now levels.old levels.new result }
 {
-    let depth = node.row.depth as usize;
-    let below = levels.at(depth + 1);
-    let others = levels.at(depth);
-    let (level, entry) = measure_row(style, node, below, points, *others);
-    levels.put(depth, level);
-    entry
+    match node.row.precision {
+        Some(precision) => Some(take_geometry(style, node, precision, points, levels)),
+        None => {
+            take_part(node, levels);
+            None
+        }
+    }
 }
 
 // Keeps an entry, where there is one; the first makes room for `most`, the only growth.
