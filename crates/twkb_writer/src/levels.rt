@@ -142,7 +142,14 @@ impl Level {
     }
 
     // What is measured of a geometry with so many points of its own, these rows below it, and these points up to its end.
-    pub(crate) fn entry_for(&self, style: Style, kind: Kind, precision: i8, own: u32, tail: &Tail) -> Entry
+    pub(crate) fn entry_for(
+        &self,
+        style: Style,
+        kind: Kind,
+        precision: i8,
+        own: u32,
+        tail: &Tail,
+    ) -> Entry
         requires ids { self.now.ids ≤ 2 ^ 40 }
         requires bytes { self.now.bytes ≤ 2 ^ 40 }
         requires points { tail.now.bytes ≤ 2 ^ 40 }
@@ -182,7 +189,6 @@ impl Level {
 
     // These rows with a geometry before them, whose box and body have so many bytes, with these rows below it and these
     // points up to its end.
-    #[inline(always)]
     pub(crate) fn with_geometry(
         self,
         style: Style,

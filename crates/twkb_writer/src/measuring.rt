@@ -50,7 +50,6 @@ pub(crate) fn take_points(flat: &Flat, id: NodeId, node: &Node, tail: Tail, work
 }
 
 // Takes in a row that is a geometry of its own, and gives its entry.
-#[inline(never)]
 fn take_geometry(
     style: Style,
     node: &Node,
@@ -107,7 +106,11 @@ fn take_row(style: Style, node: &Node, points: &Tail, levels: &mut Depths) -> Op
 }
 
 // Keeps an entry, where there is one; the first makes room for `most`, the only growth.
-pub(crate) fn keep(entries: &mut Vec<Entry>, entry: Option<Entry>, most: usize) -> Result<(), AllocError>
+pub(crate) fn keep(
+    entries: &mut Vec<Entry>,
+    entry: Option<Entry>,
+    most: usize,
+) -> Result<(), AllocError>
     ensures { OnOk result (entries.new.items ≡ entries.old.items ++ option_list entry) }
 {
     let Some(entry) = entry else {

@@ -19,7 +19,6 @@ use twkb_points::Cursor;
 use twkb_tree::Kind;
 
 // Puts a count of members, and their ids where these are written.
-#[inline(never)]
 fn put_members<S: Sink>(
     flat: &Flat,
     at: &Placed,
