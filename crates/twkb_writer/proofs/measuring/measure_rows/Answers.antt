@@ -3,7 +3,7 @@ use Rattle.twkb_writer.proofs.MeasuringCaps.{capped, capped_drop, node_depth}
 use Rattle.twkb_writer.proofs.MeasuringPass.{pass_start, pass_small, tail_short, pass_step, points_back, pass_end}
 use Rattle.twkb_writer.proofs.MeasuringWork.{reads_behind, reads_back}
 use Rattle.twkb_writer.proofs.RowStep.{points_within}
-use Rattle.twkb_writer.proofs.measuring.measure_into.Goals as goal
+use Rattle.twkb_writer.proofs.measuring.measure_rows.Goals as goal
 
 pub loop-back-init : goal.loop-back-init
 loop-back-init c =
