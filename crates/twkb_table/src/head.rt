@@ -7,23 +7,23 @@ use twkb_polyline::{PolyFault, decode_into};
 use twkb_tree::row_rules::{count_fits, has_points, is_whole};
 use twkb_tree::{Kind, Limits, Standing};
 
-/// A row that was read but for its points: where it stands, what its fields say, and the text of
-/// its points.
+// A row that was read but for its points: where it stands, what its fields say, and the text of
+// its points.
 #[derive(Clone, Copy)]
 pub(crate) struct Head<'a> {
-    pub limits: Limits,
-    pub standing: Standing,
-    pub kind: Kind,
-    pub id: Option<i64>,
-    pub precision: Option<i8>,
-    pub text: &'a [u8],
+    pub(crate) limits: Limits,
+    pub(crate) standing: Standing,
+    pub(crate) kind: Kind,
+    pub(crate) id: Option<i64>,
+    pub(crate) precision: Option<i8>,
+    pub(crate) text: &'a [u8],
 }
 
 impl Head<'_> {
     ghost use Rattle.std.specs.Prelude.{◌≡◌};
     ghost use Rattle.twkb_table.specs.Head.{head_row};
 
-    /// The row itself.
+    // The row itself.
     #[inline(always)]
     pub(crate) fn row(&self) -> Row
         ensures { result ≡ head_row self.now }
