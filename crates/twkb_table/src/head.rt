@@ -2,8 +2,8 @@
 use crate::judging::JudgeFault;
 use crate::reason::RowReason;
 use twkb_flat::{PointSource, Row};
-use twkb_points::PointTail;
-use twkb_polyline::{PolyFault, decode_into};
+use twkb_points::{PointTail, Pt};
+use twkb_polyline::{PolyFault, decode_into, decode_one};
 use twkb_tree::row_rules::{count_fits, has_points, is_whole};
 use twkb_tree::{Kind, Limits, Standing};
 
@@ -20,8 +20,10 @@ pub(crate) struct Head<'a> {
 }
 
 impl Head<'_> {
-    ghost use Rattle.std.specs.Prelude.{◌≡◌};
-    ghost use Rattle.twkb_table.specs.Head.{head_row};
+    ghost use Rattle.std.specs.Prelude.{◌≡◌, ◌∷◌, [], IfSome};
+    ghost use Rattle.twkb_flat.specs.Rows.{row_with};
+    ghost use Rattle.twkb_table.specs.Judged.{Accepted};
+    ghost use Rattle.twkb_table.specs.Head.{head_row, JudgedAs};
 
     // The row itself.
     #[inline(always)]
@@ -34,6 +36,21 @@ impl Head<'_> {
             id: self.id,
             precision: self.precision,
         }
+    }
+
+    // The point of a row of kind point that has one, where the limit leaves room for it. `None` says nothing.
+    #[inline(always)]
+    #[tactic(auto, using(crate::proofs::HeadLemmas::one_judged))]
+    fn one_point(&self) -> Option<Pt>
+        ensures { IfSome result (λ point. JudgedAs self.now (Accepted (row_with (head_row self.now) (point ∷ [])))) }
+    {
+        if self.kind != Kind::Point {
+            return None;
+        }
+        if self.limits.points() <= self.standing.points {
+            return None;
+        }
+        decode_one(self.text)
     }
 }
 
@@ -51,6 +68,12 @@ impl PointSource for Head<'_> {
 
     #[inline(always)]
     fn append_to<L: PointTail>(&self, points: &mut L) -> Result<(), JudgeFault> {
+        if let Some(point) = self.one_point() {
+            return match points.put(point) {
+                Ok(()) => Ok(()),
+                Err(_) => Err(JudgeFault::Memory),
+            };
+        }
         if !self.text.is_empty() && !has_points(self.kind) {
             return Err(JudgeFault::Refused(RowReason::PolylineNotAllowed));
         }
