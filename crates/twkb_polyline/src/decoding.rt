@@ -1,5 +1,5 @@
 //! Text to points.
-ghost use Rattle.std.specs.Prelude.{◌≡◌, ℕ, ◌+◌, ◌<◌, List, ◌++◌, length, drop, ◌⊎◌, IfOk, IfErr, OnOk, OnErr, MatchResult};
+ghost use Rattle.std.specs.Prelude.{◌≡◌, ℕ, ◌+◌, ◌<◌, List, ◌++◌, length, drop, ◌⊎◌, ◌∷◌, [], IfOk, IfErr, IfSome, IfNone, OnOk, OnErr, MatchResult};
 ghost use Rattle.twkb_points.specs.Point.{Point, IsInRange};
 ghost use Rattle.twkb_polyline.specs.Polyline.{AppendsDecoded, DecodesTo};
 ghost use Rattle.twkb_polyline.specs.Fault.{IsNumberFault, IsPointFault, IsTextFault, IsRefused};
@@ -42,6 +42,25 @@ pub fn decode_into<L: PointTail>(text: &[u8], max: u32, points: &mut L) -> Resul
         points.cut(held);
     }
     result
+}
+
+/// The point whose polyline the text is, and `None` where it is not the polyline of just one. Takes no memory.
+#[inline(always)]
+pub fn decode_one(text: &[u8]) -> Option<Pt>
+    ensures point { IfSome result (λ point. DecodesTo text.now 1 (point ∷ [])) }
+    ensures no_other { IfNone result ((point : Point) → ¬ DecodesTo text.now 1 (point ∷ [])) }
+{
+    if text.is_empty() {
+        return None;
+    }
+    let mut cursor = Cursor::origin();
+    let Ok((point, end)) = next_point(text, 0, &mut cursor) else {
+        return None;
+    };
+    if end < text.len() {
+        return None;
+    }
+    Some(point)
 }
 
 // Appends the points of the text, or those before its first fault.
