@@ -2,14 +2,13 @@
 ghost use Rattle.std.specs.Prelude.{◌≡◌, false, true, IfOk, IfErr};
 ghost use Rattle.twkb_blob.specs.Readers.{has_ended, is_spent};
 ghost use Rattle.twkb_convert.specs.BlobReading.{is_input_spent};
-ghost use Rattle.twkb_convert.specs.BlobSending.{EndsBlobs, Follows, GivesText, StopsRead, StopsText};
+ghost use Rattle.twkb_convert.specs.BlobSending.{EndsBlobs, Follows, GivesText, StopsText, is_read_stop};
 
-use crate::halt::Obstacle;
 use crate::listing::Listing;
 use crate::span_line::put_lines;
 use std::alloc::Global;
 use std::io::Read;
-use twkb_blob::{Reader, Spans};
+use twkb_blob::{BlobFault, Reader, Spans};
 use twkb_flat::{Flat, Work};
 use twkb_table::put_flat_rows;
 
@@ -22,7 +21,7 @@ pub(crate) fn next_text<R: Read>(
     form: &mut Flat,
     spans: &mut Spans,
     text: &mut Vec<u8>,
-) -> Result<bool, Obstacle>
+) -> Result<bool, BlobFault>
     requires reader { is_spent reader.old ≡ false }
     requires going_on { has_ended reader.old ≡ false }
     requires input { is_input_spent reader.old ≡ false }
@@ -32,8 +31,8 @@ pub(crate) fn next_text<R: Read>(
     ensures input { IfOk result (λ found. found ≡ true → is_input_spent reader.new ≡ false) }
     ensures end { IfOk result (λ found. found ≡ false → EndsBlobs R.remaining reader.old reader.new) }
     ensures follows { IfOk result (λ found. Follows reader.old reader.new false) }
-    ensures err { IfErr result (λ obstacle. StopsText reader.old obstacle reader.new) }
-    ensures stops { IfErr result (λ obstacle. StopsRead reader.old obstacle reader.new) }
+    ensures err { IfErr result (λ fault. StopsText reader.old fault reader.new) }
+    ensures stops { IfErr result (λ fault. Follows reader.old reader.new (is_read_stop fault)) }
 {
     match what {
         Listing::Table => next_rows(alloc, reader, form, text),
@@ -47,7 +46,7 @@ fn next_rows<R: Read>(
     reader: &mut Reader<'_, R>,
     form: &mut Flat,
     text: &mut Vec<u8>,
-) -> Result<bool, Obstacle>
+) -> Result<bool, BlobFault>
     requires reader { is_spent reader.old ≡ false }
     requires going_on { has_ended reader.old ≡ false }
     requires input { is_input_spent reader.old ≡ false }
@@ -57,17 +56,17 @@ fn next_rows<R: Read>(
     ensures input { IfOk result (λ found. found ≡ true → is_input_spent reader.new ≡ false) }
     ensures end { IfOk result (λ found. found ≡ false → EndsBlobs R.remaining reader.old reader.new) }
     ensures follows { IfOk result (λ found. Follows reader.old reader.new false) }
-    ensures err { IfErr result (λ obstacle. StopsText reader.old obstacle reader.new) }
-    ensures stops { IfErr result (λ obstacle. StopsRead reader.old obstacle reader.new) }
+    ensures err { IfErr result (λ fault. StopsText reader.old fault reader.new) }
+    ensures stops { IfErr result (λ fault. Follows reader.old reader.new (is_read_stop fault)) }
 {
     match reader.next_flat(alloc, form) {
         Ok(true) => {}
         Ok(false) => return Ok(false),
-        Err(fault) => return Err(Obstacle::Stream(fault)),
+        Err(fault) => return Err(fault),
     }
     text.clear();
     if put_flat_rows(form, &mut Work::new(), text).is_err() {
-        return Err(Obstacle::Memory);
+        return Err(BlobFault::Memory);
     }
     Ok(true)
 }
@@ -79,7 +78,7 @@ fn next_lines<R: Read>(
     form: &mut Flat,
     spans: &mut Spans,
     text: &mut Vec<u8>,
-) -> Result<bool, Obstacle>
+) -> Result<bool, BlobFault>
     requires reader { is_spent reader.old ≡ false }
     requires going_on { has_ended reader.old ≡ false }
     requires input { is_input_spent reader.old ≡ false }
@@ -89,17 +88,17 @@ fn next_lines<R: Read>(
     ensures input { IfOk result (λ found. found ≡ true → is_input_spent reader.new ≡ false) }
     ensures end { IfOk result (λ found. found ≡ false → EndsBlobs R.remaining reader.old reader.new) }
     ensures follows { IfOk result (λ found. Follows reader.old reader.new false) }
-    ensures err { IfErr result (λ obstacle. StopsText reader.old obstacle reader.new) }
-    ensures stops { IfErr result (λ obstacle. StopsRead reader.old obstacle reader.new) }
+    ensures err { IfErr result (λ fault. StopsText reader.old fault reader.new) }
+    ensures stops { IfErr result (λ fault. Follows reader.old reader.new (is_read_stop fault)) }
 {
     match reader.next_spans(alloc, form, spans) {
         Ok(true) => {}
         Ok(false) => return Ok(false),
-        Err(fault) => return Err(Obstacle::Stream(fault)),
+        Err(fault) => return Err(fault),
     }
     text.clear();
     if put_lines(spans.as_slice(), text).is_err() {
-        return Err(Obstacle::Memory);
+        return Err(BlobFault::Memory);
     }
     Ok(true)
 }

@@ -29,4 +29,4 @@ loop-done-preserved g c =
 pub returns-in-Err-clause-err : goal.returns-in-Err-clause-err
 returns-in-Err-clause-err g c =
     let kept = c.loop-done.invariant in
-    cut_blobs c.args.what g.W.Write.contents _ _ _ _ _ _ c.loop-done.done c.in-Err.obstacle kept.sent kept.follows.limits kept.output c.in-Err.ensures.err
+    cut_blobs c.args.what g.W.Write.contents _ _ _ _ _ _ c.loop-done.done c.in-Err.why kept.sent kept.follows.limits kept.output c.in-Err.ensures.err
