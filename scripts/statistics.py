@@ -3,14 +3,15 @@
 
     scripts/statistics.py            the table of docs/DECISIONS.md
     scripts/statistics.py --docs     puts it there, between its marks
-    scripts/statistics.py --list     each clause, definition, file and function that is too long, with its place
+    scripts/statistics.py --list     each clause, definition, function, test and file that is too long, with its place
 
 - A clause is what stands behind `requires` or `ensures` in a source file, with that word, its label and its braces; where it has several
   lines, these are joined by one space.
 - A definition is an item of specs/ with its parts, without the comment above it. In a `mutual` block each item counts for itself.
 - A public item is a function, method, type, trait or constant that is written `pub` in a source file, and not `pub(crate)`.
 - `use` lines are those of one file, `use`, `ghost use` and `pub use`; one that is broken over several lines is one.
-- A function is counted from its `fn` line to its closing brace, its clauses too.
+- A function is counted from its `fn` line to its closing brace, its clauses too. Its arguments are all in its parentheses, `self` too.
+- The body of a test is what stands between the braces of a function below `#[test]`.
 
 What a check leaves in out/ is not looked at.
 """
@@ -21,7 +22,7 @@ import sys
 REPO = os.path.abspath(os.path.join(os.path.dirname(__file__), ".."))
 DOCUMENT = os.path.join(REPO, "docs", "DECISIONS.md")
 BEGIN, END = "<!-- statistics: begin -->", "<!-- statistics: end -->"
-CLAUSE_MOST, DEFINITION_MOST, FILE_MOST, FUNCTION_MOST, WORST = 240, 12, 400, 40, 10
+CLAUSE_MOST, DEFINITION_MOST, FILE_MOST, FUNCTION_MOST, ARGUMENTS_MOST, TEST_MOST, WORST = 240, 12, 400, 40, 6, 40, 10
 
 CLAUSE = re.compile(r"\s*(requires|ensures)\b")
 FUNCTION = re.compile(r"\s*(pub(\([a-z]+\))? )?(const )?(unsafe )?fn ")
@@ -101,7 +102,46 @@ def functions_of(path):
     for place, line in enumerate(lines):
         body = body_of(lines, place) if FUNCTION.match(line) else None
         if body is not None:
-            yield Found(path, place + 1, line.split("fn ")[1].split("(")[0].split("<")[0], closing(lines, body) - place + 1)
+            yield Found(path, place + 1, called(line), closing(lines, body) - place + 1)
+
+
+def called(line):
+    """The name of the function whose `fn` line this is."""
+    return line.split("fn ")[1].split("(")[0].split("<")[0]
+
+
+def arguments_of(path):
+    """The functions of a source file, also those without bodies, each with its number of arguments."""
+    lines = lines_of(path)
+    for place, line in enumerate(lines):
+        if FUNCTION.match(line):
+            text = " ".join(part.split("//")[0] for part in lines[place : place + 40]).replace("->", "")
+            yield Found(path, place + 1, called(line), len(in_parentheses(text)))
+
+
+def in_parentheses(text):
+    """What stands between the commas of the first parentheses that are in no other brackets."""
+    parts, depth, inside = [""], 0, False
+    for sign in text:
+        depth -= sign in ")>]}"
+        if inside and depth == 0:
+            break
+        if depth == 1 and inside and sign == ",":
+            parts.append("")
+        elif inside:
+            parts[-1] += sign
+        inside = inside or (depth == 0 and sign == "(")
+        depth += sign in "(<[{"
+    return [part for part in parts if part.strip()]
+
+
+def tests_of(path):
+    """The tests of a source file, each with the number of lines between its braces."""
+    lines = lines_of(path)
+    for place, line in enumerate(lines):
+        if FUNCTION.match(line) and place and lines[place - 1].strip() == "#[test]":
+            body = body_of(lines, place)
+            yield Found(path, place + 1, called(line), closing(lines, body) - body - 1)
 
 
 def name_of(line):
@@ -148,10 +188,24 @@ class Counts:
         self.clauses = collected(clauses_of, "src", ".rt")
         self.definitions = collected(definitions_of, "specs", ".antt")
         self.functions = collected(functions_of, "src", ".rt")
+        self.arguments = collected(arguments_of, "src", ".rt")
+        self.tests = collected(tests_of, "src", ".rt")
         self.files = [Found(path, 1, "", len(lines_of(path))) for path in sources + specs + proofs]
         self.uses = [Found(path, 1, "", sum(1 for line in lines_of(path) if USE.match(line))) for path in sources + specs + proofs]
         self.public = {crate: sum(1 for path in sources if path.startswith(f"crates/{crate}/") for line in lines_of(path) if PUBLIC.match(line))
                        for crate in crates()}
+
+
+    def limited(self):
+        """What may not be too long: its name in the table, what was found, how much is allowed, and of what."""
+        return [
+            ("Clauses", self.clauses, CLAUSE_MOST, "characters"),
+            ("Definitions of `specs/`", self.definitions, DEFINITION_MOST, "lines"),
+            ("Functions", self.functions, FUNCTION_MOST, "lines"),
+            ("Functions", self.arguments, ARGUMENTS_MOST, "arguments"),
+            ("Bodies of tests", self.tests, TEST_MOST, "lines"),
+            ("Files", self.files, FILE_MOST, "lines"),
+        ]
 
 
 def row(what, found, most, unit):
@@ -166,10 +220,7 @@ def table(counts):
     return "\n".join([
         "| What | How many | The longest |",
         "|---|---|---|",
-        row("Clauses", counts.clauses, CLAUSE_MOST, "characters"),
-        row("Definitions of `specs/`", counts.definitions, DEFINITION_MOST, "lines"),
-        row("Functions", counts.functions, FUNCTION_MOST, "lines"),
-        row("Files", counts.files, FILE_MOST, "lines"),
+        *(row(*limited) for limited in counts.limited()),
         "",
         "Public items: " + ", ".join(f"`{crate}` {number}" for crate, number in counts.public.items() if number) + ".",
         "",
@@ -187,9 +238,9 @@ def put_into_document(text):
 def main():
     counts = Counts()
     if "--list" in sys.argv[1:]:
-        for found, most in [(counts.clauses, CLAUSE_MOST), (counts.definitions, DEFINITION_MOST), (counts.functions, FUNCTION_MOST), (counts.files, FILE_MOST)]:
+        for _, found, most, unit in counts.limited():
             for one in too_long(found, most):
-                print(f"{one.length} {one.path}:{one.line} {one.name}".rstrip())
+                print(f"{one.length} {unit}: {one.path}:{one.line} {one.name}".rstrip())
     elif "--docs" in sys.argv[1:]:
         put_into_document(table(counts))
     else:

@@ -1,4 +1,5 @@
 //! Outside vectors of numbers, and each public call once.
+use std::process::Abort;
 use twkb_num::{Groups, Partial, Step};
 
 mod answers;
@@ -22,6 +23,16 @@ fn read<G: Groups>(units: &[u8]) -> (usize, Step) {
 // Whether this answer comes when so many units were taken.
 fn gives_answer<G: Groups>(units: &[u8], taken: usize, answer: Step) -> bool {
     read::<G>(units) == (taken, answer)
+}
+
+// Units, and the answer that comes when so many of them were taken.
+type Answered = (&'static [u8], usize, Step);
+
+fn all_are_answered<G: Groups>(rt: &impl Abort, rows: &[Answered]) {
+    for (units, taken, answer) in rows {
+        let is_answer = gives_answer::<G>(*units, *taken, *answer);
+        assert!(rt; is_answer, "{units:?}: {answer:?} at {taken}");
+    }
 }
 
 // The answer at the end of a shortest spelling.

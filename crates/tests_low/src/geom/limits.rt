@@ -9,12 +9,13 @@ fn are_limits(nest: u32, nodes: u32, points: u32) -> bool {
 
 #[test]
 fn caps(rt: HostRuntime) {
-    assert!(rt; !are_limits(33, 1, 0));
-    assert!(rt; !are_limits(0, 0, 0));
-    assert!(rt; !are_limits(0, (1 << 20) + 1, 0));
-    assert!(rt; !are_limits(0, 1, (1 << 24) + 1));
-    assert!(rt; are_limits(0, 1, 0));
-    assert!(rt; are_limits(32, 1 << 20, 1 << 24));
+    assert!(rt;
+        !are_limits(33, 1, 0)
+            && !are_limits(0, 0, 0)
+            && !are_limits(0, (1 << 20) + 1, 0)
+            && !are_limits(0, 1, (1 << 24) + 1)
+    );
+    assert!(rt; are_limits(0, 1, 0) && are_limits(32, 1 << 20, 1 << 24));
 }
 
 // Whether the limits have these numbers.

@@ -4,20 +4,21 @@ use crate::points::fixtures::are_at;
 use std::alloc::Global;
 use twkb_tree::{Areas, Geometry, IdList, Kind, Members, Pts, Shape};
 
+const WORDS: [(Kind, &str); 8] = [
+    (Kind::Point, "point"),
+    (Kind::Linestring, "linestring"),
+    (Kind::Polygon, "polygon"),
+    (Kind::Ring, "ring"),
+    (Kind::MultiPoint, "multipoint"),
+    (Kind::MultiLinestring, "multilinestring"),
+    (Kind::MultiPolygon, "multipolygon"),
+    (Kind::Collection, "collection"),
+];
+
 #[test]
 fn words_of_kinds(rt: HostRuntime) {
-    let rows = [
-        (Kind::Point, "point"),
-        (Kind::Linestring, "linestring"),
-        (Kind::Polygon, "polygon"),
-        (Kind::Ring, "ring"),
-        (Kind::MultiPoint, "multipoint"),
-        (Kind::MultiLinestring, "multilinestring"),
-        (Kind::MultiPolygon, "multipolygon"),
-        (Kind::Collection, "collection"),
-    ];
-    for (kind, word) in rows {
-        assert!(rt; kind.name() == word, "{word}");
+    for (kind, word) in &WORDS {
+        assert!(rt; kind.name() == *word, "{word}");
     }
 }
 

@@ -1,6 +1,6 @@
 //! What is no geometry, and the shape that is handed back.
 use super::fixtures::{ids, points};
-use crate::printed::has_text;
+use crate::printed::all_have_texts;
 use std::alloc::Global;
 use twkb_tree::{GeomFault, Geometry, Shape};
 
@@ -54,15 +54,12 @@ fn shapes_of_bad_ids_come_back(rt: HostRuntime) {
     assert!(rt; refusal(alloc, 0, &[], &[]) == Some(GeomFault::BadIds));
 }
 
+const FAULTS: [(GeomFault, &str); 2] = [
+    (GeomFault::BadPrecision, "precision not from -8 to 7"),
+    (GeomFault::BadIds, "not one id for each member"),
+];
+
 #[test]
 fn texts_of_the_faults(rt: HostRuntime) {
-    let alloc = rt.alloc();
-    assert!(rt;
-        has_text(
-            alloc,
-            &GeomFault::BadPrecision,
-            "precision not from -8 to 7"
-        )
-    );
-    assert!(rt; has_text(alloc, &GeomFault::BadIds, "not one id for each member"));
+    all_have_texts(&rt, rt.alloc(), &FAULTS);
 }

@@ -1,6 +1,7 @@
 //! What a row may be where it stands: the parents and children of tables, their ids and points; and a geometry's own row.
 use super::fixtures::{dot, ids, no_point, two_point_line, two_points};
 use crate::points::fixtures::are_at;
+use std::process::Abort;
 use twkb_tree::row_rules::{
     count_fits, has_place, has_points, has_same_ids, id_allowed, is_whole, may_have, nest_kept,
 };
@@ -28,66 +29,63 @@ fn after_child(has_id: bool) -> Option<OpenRow> {
     })
 }
 
-#[test]
-fn children_that_parents_may_have(rt: HostRuntime) {
-    let rows = [
-        (Kind::Polygon, Kind::Ring),
-        (Kind::MultiPoint, Kind::Point),
-        (Kind::MultiLinestring, Kind::Linestring),
-        (Kind::MultiPolygon, Kind::Polygon),
-        (Kind::Collection, Kind::Point),
-        (Kind::Collection, Kind::Linestring),
-        (Kind::Collection, Kind::Polygon),
-        (Kind::Collection, Kind::MultiPoint),
-        (Kind::Collection, Kind::MultiLinestring),
-        (Kind::Collection, Kind::MultiPolygon),
-        (Kind::Collection, Kind::Collection),
-    ];
-    for (parent, child) in rows {
+fn all_are_judged(rt: &impl Abort, pairs: &[(Kind, Kind)], answer: bool) {
+    for (parent, child) in pairs {
         assert!(rt;
-            may_have(parent, child),
-            "{} of {}",
-            child.name(),
-            parent.name()
+            may_have(*parent, *child) == answer,
+            "{child:?} of {parent:?}"
         );
     }
 }
 
+const CHILDREN: [(Kind, Kind); 11] = [
+    (Kind::Polygon, Kind::Ring),
+    (Kind::MultiPoint, Kind::Point),
+    (Kind::MultiLinestring, Kind::Linestring),
+    (Kind::MultiPolygon, Kind::Polygon),
+    (Kind::Collection, Kind::Point),
+    (Kind::Collection, Kind::Linestring),
+    (Kind::Collection, Kind::Polygon),
+    (Kind::Collection, Kind::MultiPoint),
+    (Kind::Collection, Kind::MultiLinestring),
+    (Kind::Collection, Kind::MultiPolygon),
+    (Kind::Collection, Kind::Collection),
+];
+
+#[test]
+fn children_that_parents_may_have(rt: HostRuntime) {
+    all_are_judged(&rt, &CHILDREN, true);
+}
+
+const STRANGERS: [(Kind, Kind); 8] = [
+    (Kind::Point, Kind::Point),
+    (Kind::Linestring, Kind::Point),
+    (Kind::Ring, Kind::Point),
+    (Kind::Polygon, Kind::Linestring),
+    (Kind::MultiPoint, Kind::Linestring),
+    (Kind::MultiLinestring, Kind::Point),
+    (Kind::MultiPolygon, Kind::Ring),
+    (Kind::Collection, Kind::Ring),
+];
+
 #[test]
 fn children_that_parents_may_not_have(rt: HostRuntime) {
-    let rows = [
-        (Kind::Point, Kind::Point),
-        (Kind::Linestring, Kind::Point),
-        (Kind::Ring, Kind::Point),
-        (Kind::Polygon, Kind::Linestring),
-        (Kind::MultiPoint, Kind::Linestring),
-        (Kind::MultiLinestring, Kind::Point),
-        (Kind::MultiPolygon, Kind::Ring),
-        (Kind::Collection, Kind::Ring),
-    ];
-    for (parent, child) in rows {
-        assert!(rt;
-            !may_have(parent, child),
-            "{} of {}",
-            child.name(),
-            parent.name()
-        );
-    }
+    all_are_judged(&rt, &STRANGERS, false);
 }
 
 #[test]
 fn a_ring_is_no_root(rt: HostRuntime) {
-    assert!(rt; has_place(None, Kind::Collection));
-    assert!(rt; !has_place(None, Kind::Ring));
-    assert!(rt; has_place(under(Kind::Polygon), Kind::Ring));
-    assert!(rt; !has_place(under(Kind::Polygon), Kind::Point));
+    assert!(rt; has_place(None, Kind::Collection) && !has_place(None, Kind::Ring));
+    assert!(rt;
+        has_place(under(Kind::Polygon), Kind::Ring) && !has_place(under(Kind::Polygon), Kind::Point)
+    );
 }
 
 #[test]
 fn roots_and_members_are_geometries_of_their_own(rt: HostRuntime) {
-    assert!(rt; is_whole(None));
-    assert!(rt; is_whole(under(Kind::Collection)));
-    assert!(rt; !is_whole(under(Kind::MultiPoint)));
+    assert!(rt;
+        is_whole(None) && is_whole(under(Kind::Collection)) && !is_whole(under(Kind::MultiPoint))
+    );
 }
 
 // Whether a row at this depth may stand under this parent within one collection round a member.
@@ -100,54 +98,47 @@ fn within_one(parent: Option<OpenRow>, depth: u32) -> bool {
 
 #[test]
 fn collections_round_a_member_are_counted(rt: HostRuntime) {
-    assert!(rt; within_one(None, 0));
-    assert!(rt; within_one(under(Kind::Collection), 1));
-    assert!(rt; !within_one(under(Kind::Collection), 2));
-    assert!(rt; within_one(under(Kind::MultiPoint), 2));
+    assert!(rt; within_one(None, 0) && within_one(under(Kind::Collection), 1));
+    assert!(rt; !within_one(under(Kind::Collection), 2) && within_one(under(Kind::MultiPoint), 2));
 }
 
 #[test]
 fn a_root_and_a_ring_have_no_id(rt: HostRuntime) {
-    assert!(rt; id_allowed(None, Kind::Point, false));
-    assert!(rt; !id_allowed(None, Kind::Point, true));
-    assert!(rt; id_allowed(under(Kind::MultiPoint), Kind::Point, true));
-    assert!(rt; id_allowed(under(Kind::Polygon), Kind::Ring, false));
-    assert!(rt; !id_allowed(under(Kind::Polygon), Kind::Ring, true));
+    assert!(rt; id_allowed(None, Kind::Point, false) && !id_allowed(None, Kind::Point, true));
+    assert!(rt;
+        id_allowed(under(Kind::MultiPoint), Kind::Point, true)
+            && id_allowed(under(Kind::Polygon), Kind::Ring, false)
+            && !id_allowed(under(Kind::Polygon), Kind::Ring, true)
+    );
 }
 
 #[test]
 fn the_first_child_tells_of_ids(rt: HostRuntime) {
-    assert!(rt; has_same_ids(None, false));
-    assert!(rt; has_same_ids(under(Kind::MultiPoint), true));
-    assert!(rt; has_same_ids(after_child(true), true));
-    assert!(rt; !has_same_ids(after_child(true), false));
-    assert!(rt; !has_same_ids(after_child(false), true));
+    assert!(rt; has_same_ids(None, false) && has_same_ids(under(Kind::MultiPoint), true));
+    assert!(rt;
+        has_same_ids(after_child(true), true)
+            && !has_same_ids(after_child(true), false)
+            && !has_same_ids(after_child(false), true)
+    );
 }
 
 #[test]
 fn a_later_child_changes_nothing(rt: HostRuntime) {
     let first = OpenRow::default().with_child(true);
-    assert!(rt; first.child_ids == Some(true));
-    assert!(rt; first.with_child(false).child_ids == Some(true));
+    assert!(rt; first.child_ids == Some(true) && first.with_child(false).child_ids == Some(true));
 }
 
 #[test]
 fn rows_with_points(rt: HostRuntime) {
-    assert!(rt; has_points(Kind::Point));
-    assert!(rt; has_points(Kind::Linestring));
-    assert!(rt; has_points(Kind::Ring));
-    assert!(rt; !has_points(Kind::Polygon));
-    assert!(rt; !has_points(Kind::Collection));
+    assert!(rt; has_points(Kind::Point) && has_points(Kind::Linestring) && has_points(Kind::Ring));
+    assert!(rt; !has_points(Kind::Polygon) && !has_points(Kind::Collection));
 }
 
 #[test]
 fn how_many_points_a_row_has(rt: HostRuntime) {
-    assert!(rt; count_fits(Kind::Point, false, 1));
-    assert!(rt; !count_fits(Kind::Point, false, 0));
-    assert!(rt; count_fits(Kind::Point, true, 0));
-    assert!(rt; !count_fits(Kind::Point, true, 2));
-    assert!(rt; count_fits(Kind::Ring, false, 0));
-    assert!(rt; !count_fits(Kind::Polygon, true, 1));
+    assert!(rt; count_fits(Kind::Point, false, 1) && !count_fits(Kind::Point, false, 0));
+    assert!(rt; count_fits(Kind::Point, true, 0) && !count_fits(Kind::Point, true, 2));
+    assert!(rt; count_fits(Kind::Ring, false, 0) && !count_fits(Kind::Polygon, true, 1));
 }
 
 // What the parent is of a row at this depth, behind a multipoint in a collection.
@@ -160,11 +151,12 @@ fn parent_kind(depth: u32) -> Option<Kind> {
 
 #[test]
 fn a_row_stands_under_the_last_row_above_its_depth(rt: HostRuntime) {
-    assert!(rt; parent_kind(0) == None);
-    assert!(rt; parent_kind(1) == Some(Kind::Collection));
-    assert!(rt; parent_kind(2) == Some(Kind::MultiPoint));
-    assert!(rt; Standing::at(1, &[], 0, 0).is_none());
-    assert!(rt; Standing::at(0, &[], 0, 0).is_some());
+    assert!(rt;
+        parent_kind(0) == None
+            && parent_kind(1) == Some(Kind::Collection)
+            && parent_kind(2) == Some(Kind::MultiPoint)
+    );
+    assert!(rt; Standing::at(1, &[], 0, 0).is_none() && Standing::at(0, &[], 0, 0).is_some());
 }
 
 // Whether the geometry is there, and its own row is of this kind, with points at these places.
@@ -179,10 +171,14 @@ fn has_own_row(geometry: Option<Geometry>, kind: Kind, places: &[(i64, i64)]) ->
 #[test]
 fn own_rows_of_geometries(rt: HostRuntime) {
     let alloc = rt.alloc();
-    assert!(rt; has_own_row(dot(0, 1, 1), Kind::Point, &[(1, 1)]));
-    assert!(rt; has_own_row(no_point(), Kind::Point, &[]));
-    assert!(rt; has_own_row(two_point_line(alloc), Kind::Linestring, &[(1, 1), (5, 5)]));
-    assert!(rt; has_own_row(two_points(alloc), Kind::MultiPoint, &[]));
+    assert!(rt;
+        has_own_row(dot(0, 1, 1), Kind::Point, &[(1, 1)])
+            && has_own_row(no_point(), Kind::Point, &[])
+    );
+    assert!(rt;
+        has_own_row(two_point_line(alloc), Kind::Linestring, &[(1, 1), (5, 5)])
+            && has_own_row(two_points(alloc), Kind::MultiPoint, &[])
+    );
 }
 
 // The id at a place of a list that is there.
@@ -193,8 +189,8 @@ fn id_in(ids: Option<IdList>, place: usize) -> Option<i64> {
 #[test]
 fn ids_by_their_places(rt: HostRuntime) {
     let alloc = rt.alloc();
-    assert!(rt; id_in(ids(alloc, &[7, -1]), 0) == Some(7));
-    assert!(rt; id_in(ids(alloc, &[7, -1]), 1) == Some(-1));
-    assert!(rt; id_in(ids(alloc, &[7, -1]), 2) == None);
-    assert!(rt; id_at(&None, 0) == None);
+    assert!(rt;
+        id_in(ids(alloc, &[7, -1]), 0) == Some(7) && id_in(ids(alloc, &[7, -1]), 1) == Some(-1)
+    );
+    assert!(rt; id_in(ids(alloc, &[7, -1]), 2) == None && id_at(&None, 0) == None);
 }

@@ -41,9 +41,9 @@ fn a_copy_between_devices_leaves_both_as_said(rt: HostRuntime) {
     let mut reader = Tap::new([1, 2, 3].as_slice());
     let mut writer = Tap::new(Vec::new(rt.alloc()));
     let is_copied = copy_device(&mut reader, &mut writer) == Ok(3);
-    assert!(rt; is_copied);
-    assert!(rt; reader.into_inner().is_empty());
-    assert!(rt; writer.into_inner().as_slice() == [1, 2, 3].as_slice());
+    let is_read = reader.into_inner().is_empty();
+    let written = writer.into_inner();
+    assert!(rt; is_copied && is_read && written.as_slice() == [1, 2, 3].as_slice());
 }
 
 // Whether a copy to a writer that takes so many bytes, and no more, stops there.
@@ -56,16 +56,14 @@ fn stops_at(alloc: Global, bytes: u64) -> bool {
 
 #[test]
 fn a_copy_between_devices_stops_where_one_fails(rt: HostRuntime) {
-    let alloc = rt.alloc();
-    assert!(rt; stops_at(alloc, 0));
-    assert!(rt; stops_at(alloc, 1));
-    assert!(rt; stops_at(alloc, 2));
+    for bytes in 0..3 {
+        assert!(rt; stops_at(rt.alloc(), bytes), "{bytes} bytes");
+    }
 }
 
 #[test]
 fn two_puts_are_one_of_the_join(rt: HostRuntime) {
     let mut bytes = Bytes::new(rt.alloc());
-    let put = put_twice(&mut bytes, &[1, 2], &[3]);
-    assert!(rt; put.is_ok());
-    assert!(rt; bytes.into_vec().as_slice() == [1, 2, 3].as_slice());
+    let is_put = put_twice(&mut bytes, &[1, 2], &[3]).is_ok();
+    assert!(rt; is_put && bytes.into_vec().as_slice() == [1, 2, 3].as_slice());
 }

@@ -8,47 +8,66 @@ fn reads<R: Read>(reader: &mut R, room: &mut [u8], count: usize) -> bool {
     reader.read(room).ok() == Some(count)
 }
 
+// Whether a reader of two bytes gives them, and then its end, however often it is asked.
+fn ends_for_good<R: Read>(ending: &mut Ending<R>) -> bool {
+    let mut room = [0; 4];
+    reads(ending, &mut room, 2)
+        && !ending.has_ended()
+        && reads(ending, &mut room, 0)
+        && ending.has_ended()
+        && reads(ending, &mut room, 0)
+        && reads(ending, &mut room, 0)
+}
+
+// Whether a terminal was asked twice, and its second text stands.
+fn was_asked_twice(asked: Asked<Terminal<'_>>) -> bool {
+    asked.calls() == 2 && asked.into_inner().second() == b"cd".as_slice()
+}
+
 #[test]
 fn behind_its_end_a_reader_is_asked_no_more(rt: HostRuntime) {
     let mut ending = Ending::new(Asked::new(Terminal::new(b"ab", b"cd")));
-    let mut room = [0; 4];
-    assert!(rt; reads(&mut ending, &mut room, 2));
-    assert!(rt; !ending.has_ended());
-    assert!(rt; reads(&mut ending, &mut room, 0));
-    assert!(rt; ending.has_ended());
-    assert!(rt; reads(&mut ending, &mut room, 0));
-    assert!(rt; reads(&mut ending, &mut room, 0));
-    let asked = ending.into_inner();
-    assert!(rt; asked.calls() == 2);
-    assert!(rt; asked.into_inner().second() == b"cd".as_slice());
+    assert!(rt; ends_for_good(&mut ending));
+    assert!(rt; was_asked_twice(ending.into_inner()));
+}
+
+// Whether a reader of two bytes gives them behind a read that has no room.
+fn goes_on_behind_no_room<R: Read>(ending: &mut Ending<R>) -> bool {
+    reads(ending, &mut [], 0) && !ending.has_ended() && reads(ending, &mut [0; 4], 2)
 }
 
 #[test]
 fn a_read_without_room_is_no_end(rt: HostRuntime) {
     let mut ending = Ending::new(b"ab".as_slice());
+    assert!(rt; goes_on_behind_no_room(&mut ending));
+}
+
+// Whether two reads fail, and are no end.
+fn fails_twice<R: Read>(ending: &mut Ending<R>) -> bool {
     let mut room = [0; 4];
-    assert!(rt; reads(&mut ending, &mut [], 0));
-    assert!(rt; !ending.has_ended());
-    assert!(rt; reads(&mut ending, &mut room, 2));
+    ending.read(&mut room).is_err() && ending.read(&mut room).is_err() && !ending.has_ended()
 }
 
 #[test]
 fn a_failed_read_is_no_end(rt: HostRuntime) {
     let cut = Fuse::new(b"ab".as_slice(), 0, 1, FuseEnd::Fail, false);
     let mut ending = Ending::new(cut);
-    assert!(rt; ending.read(&mut [0; 4]).is_err());
-    assert!(rt; ending.read(&mut [0; 4]).is_err());
-    assert!(rt; !ending.has_ended());
+    assert!(rt; fails_twice(&mut ending));
+}
+
+// Whether a reader of two bytes and, behind an end, of three is counted as it gives them.
+fn counts_what_it_gave<R: Read>(tap: &mut Tap<R>) -> bool {
+    let mut room = [0; 4];
+    tap.given() == 0
+        && reads(tap, &mut room, 2)
+        && reads(tap, &mut room, 0)
+        && tap.given() == 2
+        && reads(tap, &mut room, 3)
+        && tap.given() == 5
 }
 
 #[test]
 fn a_tap_counts_the_bytes_that_it_gave(rt: HostRuntime) {
     let mut tap = Tap::new(Terminal::new(b"ab", b"cde"));
-    let mut room = [0; 4];
-    assert!(rt; tap.given() == 0);
-    assert!(rt; reads(&mut tap, &mut room, 2));
-    assert!(rt; reads(&mut tap, &mut room, 0));
-    assert!(rt; tap.given() == 2);
-    assert!(rt; reads(&mut tap, &mut room, 3));
-    assert!(rt; tap.given() == 5);
+    assert!(rt; counts_what_it_gave(&mut tap));
 }

@@ -158,9 +158,8 @@ fn an_input_asks_once_for_what_it_holds_and_once_for_the_end(rt: HostRuntime) {
 fn a_new_input_asks_nothing(rt: HostRuntime) {
     let mut tap = Tap::new(Asked::new(TEXT.as_slice()));
     let input = Input::new(&mut tap);
-    assert!(rt; input.held().is_empty());
-    assert!(rt; input.offset() == 0);
-    assert!(rt; tap.into_inner().calls() == 0);
+    let is_new = input.held().is_empty() && input.offset() == 0;
+    assert!(rt; is_new && tap.into_inner().calls() == 0);
 }
 
 // Whether an input whose reader fails at once asks it no more, and has given nothing.
@@ -186,7 +185,6 @@ fn goes_on<R: Read>(tap: &mut Tap<R>) -> bool {
 #[test]
 fn a_spent_input_asks_no_more(rt: HostRuntime) {
     let mut tap = Tap::new(Asked::new(FailsOnce::new(TEXT.as_slice())));
-    assert!(rt; is_spent_at_once(&mut tap));
-    assert!(rt; goes_on(&mut tap));
-    assert!(rt; tap.into_inner().calls() == 2);
+    let is_spent = is_spent_at_once(&mut tap) && goes_on(&mut tap);
+    assert!(rt; is_spent && tap.into_inner().calls() == 2);
 }

@@ -127,15 +127,17 @@ fn stays_stopped<R: Read>(input: &mut Input<'_, R>, bytes: &mut Bytes) -> bool {
     copy(input, bytes) == Err(CopyFault::Source(InFault::Spent))
 }
 
+// Whether a copy behind a byte stops where the reader fails, for good.
+fn stops_for_good<R: Read>(input: &mut Input<'_, R>, bytes: &mut Bytes) -> bool {
+    bytes.put(&[0]).is_ok() && stops_at_failure(input, bytes) && stays_stopped(input, bytes)
+}
+
 #[test]
 fn a_copy_stops_where_the_reader_fails(rt: HostRuntime) {
     let text = [1, 2, 3, 4, 5, 6, 7, 8, 9];
     let mut tap = Tap::new(Fuse::new(text.as_slice(), 5, 2, FuseEnd::Fail, false));
     let mut input = Input::new(&mut tap);
     let mut bytes = Bytes::new(rt.alloc());
-    assert!(rt; bytes.put(&[0]).is_ok());
-    assert!(rt; stops_at_failure(&mut input, &mut bytes));
-    assert!(rt; stays_stopped(&mut input, &mut bytes));
-    let kept = bytes.into_vec();
-    assert!(rt; kept.as_slice() == [0, 1, 2, 3, 4, 5].as_slice());
+    let is_stopped = stops_for_good(&mut input, &mut bytes);
+    assert!(rt; is_stopped && bytes.into_vec().as_slice() == [0, 1, 2, 3, 4, 5].as_slice());
 }

@@ -91,45 +91,54 @@ fn puts_into_each_fuse_send_what_it_passes(rt: HostRuntime) {
     }
 }
 
+// Whether a writer that takes nothing is told once, and is asked no more.
+fn is_stuck<W: Write>(output: &mut Output<'_, W>) -> bool {
+    refuses(output, &[1], OutFault::Stuck)
+        && has_sent(output, 0, 1)
+        && is_spent(output, &[1])
+        && is_spent(output, &[])
+        && flush_fails(output, OutFault::Spent)
+        && has_sent(output, 0, 1)
+}
+
 #[test]
 fn a_writer_that_takes_nothing_is_stuck(rt: HostRuntime) {
     let mut tap = Tap::new(Fuse::new(Vec::new(rt.alloc()), 0, 1, FuseEnd::Zero, false));
-    let mut output = Output::new(&mut tap);
-    assert!(rt; refuses(&mut output, &[1], OutFault::Stuck));
-    assert!(rt; has_sent(&output, 0, 1));
-    assert!(rt; is_spent(&mut output, &[1]));
-    assert!(rt; is_spent(&mut output, &[]));
-    assert!(rt; flush_fails(&mut output, OutFault::Spent));
-    assert!(rt; has_sent(&output, 0, 1));
+    assert!(rt; is_stuck(&mut Output::new(&mut tap)));
 }
 
 #[test]
 fn an_empty_put_asks_nothing_of_the_writer(rt: HostRuntime) {
     let mut tap = Tap::new(Asked::new(Vec::new(rt.alloc())));
     let mut output = Output::new(&mut tap);
-    assert!(rt; takes(&mut output, &[]));
-    assert!(rt; output.sent() == 0);
-    assert!(rt; tap.into_inner().calls() == 0);
+    let is_sent = takes(&mut output, &[]) && output.sent() == 0;
+    assert!(rt; is_sent && tap.into_inner().calls() == 0);
+}
+
+// Whether the text is sent twice, and flushed.
+fn sends_twice<W: Write>(output: &mut Output<'_, W>) -> bool {
+    takes(output, &TEXT) && takes(output, &TEXT) && output.flush().is_ok() && output.sent() == 12
 }
 
 #[test]
 fn each_put_is_sent_at_once_and_a_flush_goes_through(rt: HostRuntime) {
     let mut tap = Tap::new(Asked::new(Vec::new(rt.alloc())));
     let mut output = Output::new(&mut tap);
-    assert!(rt; takes(&mut output, &TEXT));
-    assert!(rt; takes(&mut output, &TEXT));
-    assert!(rt; output.flush().is_ok());
-    assert!(rt; output.sent() == 12);
-    assert!(rt; tap.into_inner().calls() == 3);
+    let is_sent = sends_twice(&mut output);
+    assert!(rt; is_sent && tap.into_inner().calls() == 3);
+}
+
+// Whether the text is sent, and then a flush fails, for good.
+fn fails_at_its_flush<W: Write>(output: &mut Output<'_, W>) -> bool {
+    takes(output, &TEXT)
+        && flush_fails(output, OutFault::Write)
+        && flush_fails(output, OutFault::Spent)
+        && is_spent(output, &TEXT)
+        && has_sent(output, 6, 1)
 }
 
 #[test]
 fn a_flush_that_fails_is_a_failed_write(rt: HostRuntime) {
     let mut tap = Tap::new(Fuse::new(Vec::new(rt.alloc()), 99, 9, FuseEnd::Fail, true));
-    let mut output = Output::new(&mut tap);
-    assert!(rt; takes(&mut output, &TEXT));
-    assert!(rt; flush_fails(&mut output, OutFault::Write));
-    assert!(rt; flush_fails(&mut output, OutFault::Spent));
-    assert!(rt; is_spent(&mut output, &TEXT));
-    assert!(rt; has_sent(&output, 6, 1));
+    assert!(rt; fails_at_its_flush(&mut Output::new(&mut tap)));
 }

@@ -21,27 +21,37 @@ fn read_fails<R: Read>(reader: &mut R, room: &mut [u8]) -> bool {
     reader.read(room).is_err()
 }
 
+// Whether a reader gives two bytes and fails twice, and its tap counts both failures.
+fn counts_failed_reads<R: Read>(tap: &mut Tap<R>) -> bool {
+    let mut bytes = [0; 4];
+    reads(tap, &mut bytes, 2)
+        && bytes.as_slice() == [7, 8, 0, 0].as_slice()
+        && tap.failures() == 0
+        && read_fails(tap, &mut bytes)
+        && read_fails(tap, &mut bytes)
+        && tap.failures() == 2
+}
+
 #[test]
 fn a_tap_counts_the_reads_that_failed(rt: HostRuntime) {
     let mut tap = Tap::new(Fuse::new([7, 8, 9].as_slice(), 2, 2, FuseEnd::Fail, false));
+    let are_counted = counts_failed_reads(&mut tap);
+    assert!(rt; are_counted && tap.into_inner().into_inner() == [9].as_slice());
+}
+
+// Whether a reader of one byte gives it and its end, with room and without, and has no failure.
+fn reads_to_the_end<R: Read>(tap: &mut Tap<R>) -> bool {
     let mut bytes = [0; 4];
-    assert!(rt; reads(&mut tap, &mut bytes, 2));
-    assert!(rt; bytes.as_slice() == [7, 8, 0, 0].as_slice());
-    assert!(rt; tap.failures() == 0);
-    assert!(rt; read_fails(&mut tap, &mut bytes));
-    assert!(rt; read_fails(&mut tap, &mut bytes));
-    assert!(rt; tap.failures() == 2);
-    assert!(rt; tap.into_inner().into_inner() == [9].as_slice());
+    reads(tap, &mut bytes, 1)
+        && reads(tap, &mut bytes, 0)
+        && reads(tap, &mut [], 0)
+        && tap.failures() == 0
 }
 
 #[test]
 fn a_read_at_the_end_is_no_failure(rt: HostRuntime) {
     let mut tap = Tap::new(Fuse::new([7].as_slice(), 9, 4, FuseEnd::Fail, false));
-    let mut bytes = [0; 4];
-    assert!(rt; reads(&mut tap, &mut bytes, 1));
-    assert!(rt; reads(&mut tap, &mut bytes, 0));
-    assert!(rt; reads(&mut tap, &mut [], 0));
-    assert!(rt; tap.failures() == 0);
+    assert!(rt; reads_to_the_end(&mut tap));
 }
 
 // Whether writes of two bytes and of a third go through.
@@ -78,10 +88,8 @@ fn a_tap_counts_the_writes_and_flushes_that_failed(rt: HostRuntime) {
 #[test]
 fn an_empty_write_that_took_nothing_is_no_failure(rt: HostRuntime) {
     let mut tap = Tap::new(Fuse::new(Vec::new(rt.alloc()), 0, 1, FuseEnd::Zero, false));
-    assert!(rt; writes(&mut tap, &[], 0));
-    assert!(rt; tap.failures() == 0);
-    assert!(rt; writes(&mut tap, &[1], 0));
-    assert!(rt; tap.failures() == 1);
+    assert!(rt; writes(&mut tap, &[], 0) && tap.failures() == 0);
+    assert!(rt; writes(&mut tap, &[1], 0) && tap.failures() == 1);
 }
 
 // Whether two reads of a fuse answer these counts.
@@ -104,10 +112,8 @@ fn passes_write(alloc: Global, bytes: u64, step: usize, count: usize) -> bool
 
 #[test]
 fn a_fuse_passes_reads_a_step_at_a_time(rt: HostRuntime) {
-    assert!(rt; passes_reads(5, 1, 1, 1));
-    assert!(rt; passes_reads(5, 2, 2, 2));
-    assert!(rt; passes_reads(3, 2, 2, 1));
-    assert!(rt; passes_reads(1, 4, 1, 0));
+    assert!(rt; passes_reads(5, 1, 1, 1) && passes_reads(5, 2, 2, 2));
+    assert!(rt; passes_reads(3, 2, 2, 1) && passes_reads(1, 4, 1, 0));
     assert!(rt; passes_reads(0, 4, 0, 0));
 }
 
@@ -124,20 +130,15 @@ fn a_fuse_passes_writes_a_step_at_a_time(rt: HostRuntime) {
 #[test]
 fn a_tap_tells_what_is_unflushed(rt: HostRuntime) {
     let mut tap = Tap::new(Vec::new(rt.alloc()));
-    assert!(rt; writes(&mut tap, &[], 0));
-    assert!(rt; !tap.has_unflushed());
-    assert!(rt; writes(&mut tap, &[1, 2], 2));
-    assert!(rt; tap.has_unflushed());
-    assert!(rt; tap.flush().is_ok());
-    assert!(rt; !tap.has_unflushed());
+    assert!(rt; writes(&mut tap, &[], 0) && !tap.has_unflushed());
+    assert!(rt; writes(&mut tap, &[1, 2], 2) && tap.has_unflushed());
+    assert!(rt; tap.flush().is_ok() && !tap.has_unflushed());
 }
 
 #[test]
 fn a_failed_flush_leaves_all_unflushed(rt: HostRuntime) {
     let mut tap = Tap::new(Fuse::new(Vec::new(rt.alloc()), 9, 9, FuseEnd::Fail, true));
-    assert!(rt; writes(&mut tap, &[1, 2], 2));
-    assert!(rt; tap.flush().is_err());
-    assert!(rt; tap.has_unflushed());
+    assert!(rt; writes(&mut tap, &[1, 2], 2) && tap.flush().is_err() && tap.has_unflushed());
 }
 
 // Whether the tap has passed so many calls on, each of which reached its device.
@@ -145,16 +146,22 @@ fn has_passed<D: Drop>(tap: Tap<Asked<D>>, calls: u64) -> bool {
     tap.calls() == calls && tap.into_inner().calls() == calls
 }
 
-#[test]
-fn each_call_of_a_tap_reaches_its_device_once(rt: HostRuntime) {
+fn passes_two_reads() -> bool {
     let mut reader = Tap::new(Asked::new([7].as_slice()));
     let mut room = [0; 4];
-    assert!(rt; reads(&mut reader, &mut room, 1));
-    assert!(rt; reads(&mut reader, &mut room, 0));
-    assert!(rt; has_passed(reader, 2), "two reads");
-    let mut writer = Tap::new(Asked::new(Vec::new(rt.alloc())));
-    assert!(rt; writes(&mut writer, &[1, 2], 2));
-    assert!(rt; writer.flush().is_ok());
-    assert!(rt; writer.flush().is_ok());
-    assert!(rt; has_passed(writer, 3), "a write and two flushes");
+    reads(&mut reader, &mut room, 1) && reads(&mut reader, &mut room, 0) && has_passed(reader, 2)
+}
+
+fn passes_three_calls(alloc: Global) -> bool {
+    let mut writer = Tap::new(Asked::new(Vec::new(alloc)));
+    writes(&mut writer, &[1, 2], 2)
+        && writer.flush().is_ok()
+        && writer.flush().is_ok()
+        && has_passed(writer, 3)
+}
+
+#[test]
+fn each_call_of_a_tap_reaches_its_device_once(rt: HostRuntime) {
+    assert!(rt; passes_two_reads(), "two reads");
+    assert!(rt; passes_three_calls(rt.alloc()), "a write and two flushes");
 }

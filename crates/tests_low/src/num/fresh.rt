@@ -1,5 +1,6 @@
 //! What a reader holds while it reads, and after an answer other than `More`.
 use super::done;
+use std::process::Abort;
 use twkb_num::{Five, Groups, Leb128, Partial, Step};
 
 // Whether it holds so many units.
@@ -31,25 +32,32 @@ fn reads_300(partial: &mut Partial<Leb128>) -> bool {
         && gives(partial, 2, done(300))
 }
 
-// The units before an answer other than `More` leave nothing behind: the spelling of 300 is read after each.
-#[test]
-fn a_reader_of_bytes_is_as_new_after_each_answer(rt: HostRuntime) {
+fn all_leave_a_reader_as_new(rt: &impl Abort, rows: &[&[u8]]) {
     let mut partial = Partial::<Leb128>::new();
-    let rows: [&[u8]; 3] = [
-        b"\x82\x00",
-        b"\xff\xff\xff\xff\xff\xff\xff\xff\xff\xff",
-        b"\xff\xff\xff\xff\xff\xff\xff\xff\xff\x02",
-    ];
     for bytes in rows {
-        let is_new = counts(&mut partial, bytes) && reads_300(&mut partial);
+        let is_new = counts(&mut partial, *bytes) && reads_300(&mut partial);
         assert!(rt; is_new, "{bytes:?}");
     }
+}
+
+// The units before an answer other than `More` leave nothing behind: the spelling of 300 is read after each.
+const ANSWERED: [&[u8]; 3] = [
+    b"\x82\x00",
+    b"\xff\xff\xff\xff\xff\xff\xff\xff\xff\xff",
+    b"\xff\xff\xff\xff\xff\xff\xff\xff\xff\x02",
+];
+
+#[test]
+fn a_reader_of_bytes_is_as_new_after_each_answer(rt: HostRuntime) {
+    all_leave_a_reader_as_new(&rt, &ANSWERED);
 }
 
 #[test]
 fn a_reader_of_characters_is_as_new_after_a_bad_one(rt: HostRuntime) {
     let mut characters = Partial::<Five>::new();
-    assert!(rt; gives(&mut characters, b'_', Step::More));
-    assert!(rt; gives(&mut characters, b' ', Step::BadUnit));
-    assert!(rt; gives(&mut characters, b'@', done(1)));
+    assert!(rt;
+        gives(&mut characters, b'_', Step::More)
+            && gives(&mut characters, b' ', Step::BadUnit)
+            && gives(&mut characters, b'@', done(1))
+    );
 }

@@ -1,5 +1,6 @@
 //! Numbers and their shortest spellings, both ways.
 use super::{done, gives_answer};
+use std::process::Abort;
 use twkb_num::{Five, Leb128, NumBuf, varint_len};
 
 // Whether these bytes are the varint of a number, both ways, and their count its length.
@@ -15,137 +16,140 @@ fn is_polyline_number(number: u64, characters: &[u8]) -> bool {
     is_written && gives_answer::<Five>(characters, characters.len(), done(number))
 }
 
+// A number, and its spelling.
+type Spelled = (u64, &'static [u8]);
+
+fn all_are_varints(rt: &impl Abort, rows: &[Spelled]) {
+    for (number, bytes) in rows {
+        assert!(rt; is_varint(*number, *bytes), "bytes of {number}");
+    }
+}
+
+fn all_are_polyline_numbers(rt: &impl Abort, rows: &[Spelled]) {
+    for (number, characters) in rows {
+        assert!(rt;
+            is_polyline_number(*number, *characters),
+            "characters of {number}"
+        );
+    }
+}
+
 // 150 and 300: Protocol Buffers, "Base 128 Varints". 624485: Wikipedia, "LEB128". The rest by the rule.
+const PUBLISHED_VARINTS: [Spelled; 5] = [
+    (0, b"\x00"),
+    (1, b"\x01"),
+    (150, b"\x96\x01"),
+    (300, b"\xac\x02"),
+    (624485, b"\xe5\x8e\x26"),
+];
+
 #[test]
 fn published_varints(rt: HostRuntime) {
-    let rows: [(u64, &[u8]); 5] = [
-        (0, b"\x00"),
-        (1, b"\x01"),
-        (150, b"\x96\x01"),
-        (300, b"\xac\x02"),
-        (624485, b"\xe5\x8e\x26"),
-    ];
-    for (number, bytes) in rows {
-        assert!(rt; is_varint(number, bytes), "bytes of {number}");
-    }
+    all_are_varints(&rt, &PUBLISHED_VARINTS);
 }
 
 // The last number before each boundary of 7, 14, .. 63 bits, where a byte more is needed, and the greatest number.
+const GREATEST_VARINTS: [Spelled; 10] = [
+    (0x7f, b"\x7f"),
+    (0x3fff, b"\xff\x7f"),
+    (0x1fffff, b"\xff\xff\x7f"),
+    (0xfffffff, b"\xff\xff\xff\x7f"),
+    (0x7ffffffff, b"\xff\xff\xff\xff\x7f"),
+    (0x3ffffffffff, b"\xff\xff\xff\xff\xff\x7f"),
+    (0x1ffffffffffff, b"\xff\xff\xff\xff\xff\xff\x7f"),
+    (0xffffffffffffff, b"\xff\xff\xff\xff\xff\xff\xff\x7f"),
+    (0x7fffffffffffffff, b"\xff\xff\xff\xff\xff\xff\xff\xff\x7f"),
+    (
+        0xffffffffffffffff,
+        b"\xff\xff\xff\xff\xff\xff\xff\xff\xff\x01",
+    ),
+];
+
 #[test]
 fn the_greatest_number_of_each_varint_length(rt: HostRuntime) {
-    let rows: [(u64, &[u8]); 10] = [
-        (0x7f, b"\x7f"),
-        (0x3fff, b"\xff\x7f"),
-        (0x1fffff, b"\xff\xff\x7f"),
-        (0xfffffff, b"\xff\xff\xff\x7f"),
-        (0x7ffffffff, b"\xff\xff\xff\xff\x7f"),
-        (0x3ffffffffff, b"\xff\xff\xff\xff\xff\x7f"),
-        (0x1ffffffffffff, b"\xff\xff\xff\xff\xff\xff\x7f"),
-        (0xffffffffffffff, b"\xff\xff\xff\xff\xff\xff\xff\x7f"),
-        (0x7fffffffffffffff, b"\xff\xff\xff\xff\xff\xff\xff\xff\x7f"),
-        (
-            0xffffffffffffffff,
-            b"\xff\xff\xff\xff\xff\xff\xff\xff\xff\x01",
-        ),
-    ];
-    for (number, bytes) in rows {
-        assert!(rt; is_varint(number, bytes), "bytes of {number}");
-    }
+    all_are_varints(&rt, &GREATEST_VARINTS);
 }
 
 // The first number behind each boundary: a one alone.
+const LEAST_VARINTS: [Spelled; 9] = [
+    (0x80, b"\x80\x01"),
+    (0x4000, b"\x80\x80\x01"),
+    (0x200000, b"\x80\x80\x80\x01"),
+    (0x10000000, b"\x80\x80\x80\x80\x01"),
+    (0x800000000, b"\x80\x80\x80\x80\x80\x01"),
+    (0x40000000000, b"\x80\x80\x80\x80\x80\x80\x01"),
+    (0x2000000000000, b"\x80\x80\x80\x80\x80\x80\x80\x01"),
+    (0x100000000000000, b"\x80\x80\x80\x80\x80\x80\x80\x80\x01"),
+    (
+        0x8000000000000000,
+        b"\x80\x80\x80\x80\x80\x80\x80\x80\x80\x01",
+    ),
+];
+
 #[test]
 fn the_least_number_of_each_varint_length(rt: HostRuntime) {
-    let rows: [(u64, &[u8]); 9] = [
-        (0x80, b"\x80\x01"),
-        (0x4000, b"\x80\x80\x01"),
-        (0x200000, b"\x80\x80\x80\x01"),
-        (0x10000000, b"\x80\x80\x80\x80\x01"),
-        (0x800000000, b"\x80\x80\x80\x80\x80\x01"),
-        (0x40000000000, b"\x80\x80\x80\x80\x80\x80\x01"),
-        (0x2000000000000, b"\x80\x80\x80\x80\x80\x80\x80\x01"),
-        (0x100000000000000, b"\x80\x80\x80\x80\x80\x80\x80\x80\x01"),
-        (
-            0x8000000000000000,
-            b"\x80\x80\x80\x80\x80\x80\x80\x80\x80\x01",
-        ),
-    ];
-    for (number, bytes) in rows {
-        assert!(rt; is_varint(number, bytes), "bytes of {number}");
-    }
+    all_are_varints(&rt, &LEAST_VARINTS);
 }
 
 // 174, 35996641 (the zigzag form of -17998321) and the six numbers of the line _p~iF~ps|U_ulLnnqC_mqNvxq`@: Encoded
 // Polyline Algorithm Format. The rest by the rule.
+const PUBLISHED_NUMBERS: [Spelled; 10] = [
+    (0, b"?"),
+    (1, b"@"),
+    (174, b"mD"),
+    (7700000, b"_p~iF"),
+    (24039999, b"~ps|U"),
+    (440000, b"_ulL"),
+    (149999, b"nnqC"),
+    (510400, b"_mqN"),
+    (1100599, b"vxq`@"),
+    (35996641, b"`~oia@"),
+];
+
 #[test]
 fn published_polyline_numbers(rt: HostRuntime) {
-    let rows: [(u64, &[u8]); 10] = [
-        (0, b"?"),
-        (1, b"@"),
-        (174, b"mD"),
-        (7700000, b"_p~iF"),
-        (24039999, b"~ps|U"),
-        (440000, b"_ulL"),
-        (149999, b"nnqC"),
-        (510400, b"_mqN"),
-        (1100599, b"vxq`@"),
-        (35996641, b"`~oia@"),
-    ];
-    for (number, characters) in rows {
-        assert!(rt;
-            is_polyline_number(number, characters),
-            "characters of {number}"
-        );
-    }
+    all_are_polyline_numbers(&rt, &PUBLISHED_NUMBERS);
 }
 
 // The last number before each boundary of 5, 10, .. 60 bits, and the greatest number.
+const GREATEST_NUMBERS: [Spelled; 13] = [
+    (0x1f, b"^"),
+    (0x3ff, b"~^"),
+    (0x7fff, b"~~^"),
+    (0xfffff, b"~~~^"),
+    (0x1ffffff, b"~~~~^"),
+    (0x3fffffff, b"~~~~~^"),
+    (0x7ffffffff, b"~~~~~~^"),
+    (0xffffffffff, b"~~~~~~~^"),
+    (0x1fffffffffff, b"~~~~~~~~^"),
+    (0x3ffffffffffff, b"~~~~~~~~~^"),
+    (0x7fffffffffffff, b"~~~~~~~~~~^"),
+    (0xfffffffffffffff, b"~~~~~~~~~~~^"),
+    (0xffffffffffffffff, b"~~~~~~~~~~~~N"),
+];
+
 #[test]
 fn the_greatest_number_of_each_count_of_characters(rt: HostRuntime) {
-    let rows: [(u64, &[u8]); 13] = [
-        (0x1f, b"^"),
-        (0x3ff, b"~^"),
-        (0x7fff, b"~~^"),
-        (0xfffff, b"~~~^"),
-        (0x1ffffff, b"~~~~^"),
-        (0x3fffffff, b"~~~~~^"),
-        (0x7ffffffff, b"~~~~~~^"),
-        (0xffffffffff, b"~~~~~~~^"),
-        (0x1fffffffffff, b"~~~~~~~~^"),
-        (0x3ffffffffffff, b"~~~~~~~~~^"),
-        (0x7fffffffffffff, b"~~~~~~~~~~^"),
-        (0xfffffffffffffff, b"~~~~~~~~~~~^"),
-        (0xffffffffffffffff, b"~~~~~~~~~~~~N"),
-    ];
-    for (number, characters) in rows {
-        assert!(rt;
-            is_polyline_number(number, characters),
-            "characters of {number}"
-        );
-    }
+    all_are_polyline_numbers(&rt, &GREATEST_NUMBERS);
 }
 
 // The first number behind each boundary.
+const LEAST_NUMBERS: [Spelled; 12] = [
+    (0x20, b"_@"),
+    (0x400, b"__@"),
+    (0x8000, b"___@"),
+    (0x100000, b"____@"),
+    (0x2000000, b"_____@"),
+    (0x40000000, b"______@"),
+    (0x800000000, b"_______@"),
+    (0x10000000000, b"________@"),
+    (0x200000000000, b"_________@"),
+    (0x4000000000000, b"__________@"),
+    (0x80000000000000, b"___________@"),
+    (0x1000000000000000, b"____________@"),
+];
+
 #[test]
 fn the_least_number_of_each_count_of_characters(rt: HostRuntime) {
-    let rows: [(u64, &[u8]); 12] = [
-        (0x20, b"_@"),
-        (0x400, b"__@"),
-        (0x8000, b"___@"),
-        (0x100000, b"____@"),
-        (0x2000000, b"_____@"),
-        (0x40000000, b"______@"),
-        (0x800000000, b"_______@"),
-        (0x10000000000, b"________@"),
-        (0x200000000000, b"_________@"),
-        (0x4000000000000, b"__________@"),
-        (0x80000000000000, b"___________@"),
-        (0x1000000000000000, b"____________@"),
-    ];
-    for (number, characters) in rows {
-        assert!(rt;
-            is_polyline_number(number, characters),
-            "characters of {number}"
-        );
-    }
+    all_are_polyline_numbers(&rt, &LEAST_NUMBERS);
 }

@@ -13,21 +13,25 @@ fn is_unit<G: Groups>(group: u8, more: bool, unit: u8) -> bool
 // Bytes of LEB128 with the digits 0, 1, 44 and 127.
 #[test]
 fn bytes_of_varints(rt: HostRuntime) {
-    assert!(rt; is_unit::<Leb128>(0, false, 0x00));
-    assert!(rt; is_unit::<Leb128>(0, true, 0x80));
-    assert!(rt; is_unit::<Leb128>(1, false, 0x01));
-    assert!(rt; is_unit::<Leb128>(44, true, 0xac));
-    assert!(rt; is_unit::<Leb128>(127, false, 0x7f));
-    assert!(rt; is_unit::<Leb128>(127, true, 0xff));
+    assert!(rt;
+        is_unit::<Leb128>(0, false, 0x00)
+            && is_unit::<Leb128>(0, true, 0x80)
+            && is_unit::<Leb128>(1, false, 0x01)
+            && is_unit::<Leb128>(44, true, 0xac)
+            && is_unit::<Leb128>(127, false, 0x7f)
+            && is_unit::<Leb128>(127, true, 0xff)
+    );
 }
 
 // Characters of the polyline format at the ends of both halves.
 #[test]
 fn characters_of_polylines(rt: HostRuntime) {
-    assert!(rt; is_unit::<Five>(0, false, b'?'));
-    assert!(rt; is_unit::<Five>(31, false, b'^'));
-    assert!(rt; is_unit::<Five>(0, true, b'_'));
-    assert!(rt; is_unit::<Five>(31, true, b'~'));
+    assert!(rt;
+        is_unit::<Five>(0, false, b'?')
+            && is_unit::<Five>(31, false, b'^')
+            && is_unit::<Five>(0, true, b'_')
+            && is_unit::<Five>(31, true, b'~')
+    );
 }
 
 #[test]
@@ -44,6 +48,5 @@ fn has_sizes<G: Groups>(bits: u32, units: usize) -> bool {
 
 #[test]
 fn sizes_of_the_alphabets(rt: HostRuntime) {
-    assert!(rt; has_sizes::<Leb128>(7, 10));
-    assert!(rt; has_sizes::<Five>(5, 13));
+    assert!(rt; has_sizes::<Leb128>(7, 10) && has_sizes::<Five>(5, 13));
 }

@@ -1,5 +1,6 @@
 //! Cursors that move, and that refuse to.
 use super::fixtures::{ABOVE, is_at};
+use std::process::Abort;
 use twkb_points::{Cursor, Pt};
 
 // Whether the cursor lies so far from the point with these coordinates, and moves there.
@@ -43,19 +44,27 @@ fn tells(cursor: &Cursor, by: i64, x_stays: bool, y_stays: bool) -> bool {
     cursor.x_in_range(by) == x_stays && cursor.y_in_range(by) == y_stays
 }
 
+// A move, and whether x and y would stay in their range.
+type Move = (i64, bool, bool);
+
+fn all_are_told(rt: &impl Abort, cursor: &Cursor, moves: &[Move]) {
+    for (by, x_stays, y_stays) in moves {
+        assert!(rt; tells(cursor, *by, *x_stays, *y_stays), "{by}");
+    }
+}
+
+const MOVES: [Move; 6] = [
+    (0, true, true),
+    (1, false, true),
+    (-1, true, false),
+    (i64::MAX, false, true),
+    (-i64::MAX, true, false),
+    (i64::MIN, false, false),
+];
+
 #[test]
 fn a_cursor_tells_which_coordinate_would_leave(rt: HostRuntime) {
     let mut cursor = Cursor::origin();
     assert!(rt; moves_to(&mut cursor, ABOVE - 1, -ABOVE, (ABOVE - 1, -ABOVE)));
-    let rows = [
-        (0, true, true),
-        (1, false, true),
-        (-1, true, false),
-        (i64::MAX, false, true),
-        (-i64::MAX, true, false),
-        (i64::MIN, false, false),
-    ];
-    for (by, x_stays, y_stays) in rows {
-        assert!(rt; tells(&cursor, by, x_stays, y_stays), "{by}");
-    }
+    all_are_told(&rt, &cursor, &MOVES);
 }

@@ -44,8 +44,8 @@ fn is_point(alloc: Global, x: i64, longitude: &[u8], y: i64, latitude: &[u8]) ->
 
 // The same with each of the numbers as longitude.
 fn are_points(alloc: Global, y: i64, latitude: &[u8]) -> bool {
-    for (x, longitude) in NUMBERS {
-        if is_point(alloc, x, longitude, y, latitude) != Some(true) {
+    for (x, longitude) in &NUMBERS {
+        if is_point(alloc, *x, *longitude, y, latitude) != Some(true) {
             return false;
         }
     }
@@ -54,8 +54,8 @@ fn are_points(alloc: Global, y: i64, latitude: &[u8]) -> bool {
 
 #[test]
 fn points_of_numbers_of_each_length(rt: HostRuntime) {
-    for (y, latitude) in NUMBERS {
-        assert!(rt; are_points(rt.alloc(), y, latitude), "{y}");
+    for (y, latitude) in &NUMBERS {
+        assert!(rt; are_points(rt.alloc(), *y, *latitude), "{y}");
     }
 }
 
@@ -82,26 +82,27 @@ fn is_no_number(alloc: Global, number: &[u8], within: usize, reason: PolyReason)
         && is_refused_behind(alloc, b"__@", number, within, reason)
 }
 
-// By the rules of docs/FORMATS.md, by hand.
+// By the rules of docs/FORMATS.md, by hand: characters, at which of them they are refused, and why.
+const REFUSED: [(&[u8], usize, PolyReason); 12] = [
+    (b"_?A", 0, PolyReason::Padded),
+    (b"~?A", 0, PolyReason::Padded),
+    (b"__?A", 0, PolyReason::Padded),
+    (b"~~?A", 0, PolyReason::Padded),
+    (b"_", 0, PolyReason::Cut),
+    (b"__", 0, PolyReason::Cut),
+    (b"___", 0, PolyReason::Cut),
+    (b">A", 0, PolyReason::BadChar),
+    (b"_>A", 1, PolyReason::BadChar),
+    (b"_\x7fA", 1, PolyReason::BadChar),
+    (b"__>A", 2, PolyReason::BadChar),
+    (b"__\x7fA", 2, PolyReason::BadChar),
+];
+
 #[test]
 fn short_numbers_that_are_refused(rt: HostRuntime) {
-    let rows: [(&[u8], usize, PolyReason); 12] = [
-        (b"_?A", 0, PolyReason::Padded),
-        (b"~?A", 0, PolyReason::Padded),
-        (b"__?A", 0, PolyReason::Padded),
-        (b"~~?A", 0, PolyReason::Padded),
-        (b"_", 0, PolyReason::Cut),
-        (b"__", 0, PolyReason::Cut),
-        (b"___", 0, PolyReason::Cut),
-        (b">A", 0, PolyReason::BadChar),
-        (b"_>A", 1, PolyReason::BadChar),
-        (b"_\x7fA", 1, PolyReason::BadChar),
-        (b"__>A", 2, PolyReason::BadChar),
-        (b"__\x7fA", 2, PolyReason::BadChar),
-    ];
-    for (number, within, reason) in rows {
+    for (number, within, reason) in &REFUSED {
         assert!(rt;
-            is_no_number(rt.alloc(), number, within, reason),
+            is_no_number(rt.alloc(), *number, *within, *reason),
             "{number:?}"
         );
     }

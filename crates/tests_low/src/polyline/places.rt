@@ -50,20 +50,22 @@ fn is_refused_at_each(alloc: Global, number: &[u8], within: usize, reason: PolyR
     true
 }
 
+// Characters in place of a number, at which of them they are refused, and why.
+const FAULTS: [(&[u8], usize, PolyReason); 7] = [
+    (b" ", 0, PolyReason::BadChar),
+    (b"_ ", 1, PolyReason::BadChar),
+    (b"_", 0, PolyReason::Cut),
+    (b"~~~~~~~~~~~~~", 0, PolyReason::TooLong),
+    (b"____________O", 0, PolyReason::TooLong),
+    (b"_?", 0, PolyReason::Padded),
+    (b"____________G", 0, PolyReason::Range),
+];
+
 #[test]
 fn each_fault_at_each_number(rt: HostRuntime) {
-    let rows: [(&[u8], usize, PolyReason); 7] = [
-        (b" ", 0, PolyReason::BadChar),
-        (b"_ ", 1, PolyReason::BadChar),
-        (b"_", 0, PolyReason::Cut),
-        (b"~~~~~~~~~~~~~", 0, PolyReason::TooLong),
-        (b"____________O", 0, PolyReason::TooLong),
-        (b"_?", 0, PolyReason::Padded),
-        (b"____________G", 0, PolyReason::Range),
-    ];
-    for (number, within, reason) in rows {
+    for (number, within, reason) in &FAULTS {
         assert!(rt;
-            is_refused_at_each(rt.alloc(), number, within, reason),
+            is_refused_at_each(rt.alloc(), *number, *within, *reason),
             "{number:?}"
         );
     }
@@ -71,10 +73,12 @@ fn each_fault_at_each_number(rt: HostRuntime) {
 
 #[test]
 fn a_latitude_alone_after_each_point(rt: HostRuntime) {
-    let alloc = rt.alloc();
-    assert!(rt; is_refused(alloc, b"A", 3, 1, PolyReason::Half));
-    assert!(rt; is_refused(alloc, b"AAA", 3, 3, PolyReason::Half));
-    assert!(rt; is_refused(alloc, b"AAAAA", 3, 5, PolyReason::Half));
+    for place in [1, 3, 5] {
+        assert!(rt;
+            is_refused(rt.alloc(), &THREE[..place], 3, place, PolyReason::Half),
+            "{place} numbers"
+        );
+    }
 }
 
 // Whether what follows so many points, as many as are allowed, is refused where it begins.
@@ -87,11 +91,13 @@ fn is_too_much(alloc: Global, points: u32, next: &[u8]) -> bool {
     is_refused_between(alloc, &pieces, points, offset, PolyReason::TooMany)
 }
 
-// The same of a number, a point, and each fault.
+// A number, a point, and each fault.
+const SURPLUS: [&[u8]; 6] = [b"A", b"AA", b" ", b"_", b"_?", b"~~~~~~~~~~~~~"];
+
+// The same of each of these.
 fn all_is_too_much(alloc: Global, points: u32) -> bool {
-    let rows: [&[u8]; 6] = [b"A", b"AA", b" ", b"_", b"_?", b"~~~~~~~~~~~~~"];
-    for next in rows {
-        if !is_too_much(alloc, points, next) {
+    for next in &SURPLUS {
+        if !is_too_much(alloc, points, *next) {
             return false;
         }
     }

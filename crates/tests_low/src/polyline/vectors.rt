@@ -1,7 +1,8 @@
 //! Lists of points and their polylines, both ways.
 use super::fixtures::points_of;
-use crate::points::fixtures::are_at;
+use crate::points::fixtures::{EXAMPLE, are_at};
 use std::alloc::Global;
+use std::process::Abort;
 use twkb_polyline::{decode, encode};
 
 const LEAST: i64 = -(1 << 62);
@@ -34,64 +35,64 @@ fn is_polyline(alloc: Global, count: u32, pairs: &[(i64, i64)], text: &[u8]) -> 
         && is_read(alloc, pairs, text, u32::MAX)
 }
 
+// How many points, which, and their polyline.
+type Worked = (u32, &'static [(i64, i64)], &'static [u8]);
+
+fn all_are_polylines(rt: &impl Abort, alloc: Global, rows: &[Worked]) {
+    for (count, pairs, text) in rows {
+        let is_text = is_polyline(alloc, *count, *pairs, *text);
+        assert!(rt; is_text, "{text:?}");
+    }
+}
+
 // The published example and the published number of the Encoded Polyline Algorithm Format, at five decimals.
+const PUBLISHED: [Worked; 2] = [
+    (3, &EXAMPLE, b"_p~iF~ps|U_ulLnnqC_mqNvxq`@"),
+    (1, &[(-17998321, 0)], b"?`~oia@"),
+];
+
 #[test]
 fn published_lists_and_their_polylines(rt: HostRuntime) {
-    let alloc = rt.alloc();
-    let example = [
-        (-12020000, 3850000),
-        (-12095000, 4070000),
-        (-12645300, 4325200),
-    ];
-    let text = b"_p~iF~ps|U_ulLnnqC_mqNvxq`@";
-    assert!(rt; is_polyline(alloc, 3, &example, text), "the list");
-    assert!(rt;
-        is_polyline(alloc, 1, &[(-17998321, 0)], b"?`~oia@"),
-        "the number"
-    );
+    all_are_polylines(&rt, rt.alloc(), &PUBLISHED);
 }
 
 // By the steps of the format, by hand.
+const SHORT: [Worked; 6] = [
+    (0, &[], b""),
+    (1, &[(0, 0)], b"??"),
+    (1, &[(2, 1)], b"AC"),
+    (2, &[(1, 1), (5, 5)], b"AAGG"),
+    (2, &[(15, -16), (0, 0)], b"^]_@\\"),
+    (1, &[(16, 16)], b"_@_@"),
+];
+
 #[test]
 fn short_lists_and_their_polylines(rt: HostRuntime) {
-    let rows: [(u32, &[(i64, i64)], &[u8]); 6] = [
-        (0, &[], b""),
-        (1, &[(0, 0)], b"??"),
-        (1, &[(2, 1)], b"AC"),
-        (2, &[(1, 1), (5, 5)], b"AAGG"),
-        (2, &[(15, -16), (0, 0)], b"^]_@\\"),
-        (1, &[(16, 16)], b"_@_@"),
-    ];
-    for (count, pairs, text) in rows {
-        let is_text = is_polyline(rt.alloc(), count, pairs, text);
-        assert!(rt; is_text, "{text:?}");
-    }
+    all_are_polylines(&rt, rt.alloc(), &SHORT);
 }
 
 // By the steps of the format, by hand.
+const ENDS: [Worked; 5] = [
+    (
+        2,
+        &[(GREATEST, 0), (LEAST, 0)],
+        b"?}~~~~~~~~~~~F?|~~~~~~~~~~~N",
+    ),
+    (
+        2,
+        &[(0, GREATEST), (0, LEAST)],
+        b"}~~~~~~~~~~~F?|~~~~~~~~~~~N?",
+    ),
+    (1, &[(GREATEST, GREATEST)], b"}~~~~~~~~~~~F}~~~~~~~~~~~F"),
+    (1, &[(LEAST, LEAST)], b"~~~~~~~~~~~~F~~~~~~~~~~~~F"),
+    (
+        2,
+        &[(LEAST, LEAST), (GREATEST, GREATEST)],
+        b"~~~~~~~~~~~~F~~~~~~~~~~~~F}~~~~~~~~~~~N}~~~~~~~~~~~N",
+    ),
+];
+
 #[test]
 fn the_ends_of_the_range_and_their_polylines(rt: HostRuntime) {
-    let rows: [(u32, &[(i64, i64)], &[u8]); 5] = [
-        (
-            2,
-            &[(GREATEST, 0), (LEAST, 0)],
-            b"?}~~~~~~~~~~~F?|~~~~~~~~~~~N",
-        ),
-        (
-            2,
-            &[(0, GREATEST), (0, LEAST)],
-            b"}~~~~~~~~~~~F?|~~~~~~~~~~~N?",
-        ),
-        (1, &[(GREATEST, GREATEST)], b"}~~~~~~~~~~~F}~~~~~~~~~~~F"),
-        (1, &[(LEAST, LEAST)], b"~~~~~~~~~~~~F~~~~~~~~~~~~F"),
-        (
-            2,
-            &[(LEAST, LEAST), (GREATEST, GREATEST)],
-            b"~~~~~~~~~~~~F~~~~~~~~~~~~F}~~~~~~~~~~~N}~~~~~~~~~~~N",
-        ),
-    ];
-    for (count, pairs, text) in rows {
-        let is_text = is_polyline(rt.alloc(), count, pairs, text);
-        assert!(rt; is_text, "{text:?}");
-    }
+    all_are_polylines(&rt, rt.alloc(), &ENDS);
 }
