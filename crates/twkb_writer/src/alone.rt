@@ -1,6 +1,5 @@
 //! The sizes of a flat form of one row, which needs no levels.
 ghost use Rattle.std.specs.Prelude.{◌≡◌, ◌≤◌, ◌^◌, ◌↔◌, ◌∷◌, [], ℤ, length, Some, IsTrue, OnOk};
-ghost use Rattle.twkb_points.specs.Point.{Point};
 ghost use Rattle.twkb_tree.specs.Limits.{largest_limits};
 ghost use Rattle.twkb_tree.specs.Rows.{row_points};
 ghost use Rattle.twkb_tree.specs.RowLists.{AreValidRowsOfOne};

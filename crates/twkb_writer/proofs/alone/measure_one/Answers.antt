@@ -1,6 +1,5 @@
-use Rattle.std.proofs.Common.{◌≡◌, ◌∷◌, [], rules, w8, SFits, to_z-of_z, subst, sym}
+use Rattle.std.proofs.Common.{rules}
 use Rattle.std.proofs.lemmas.Result.{on_ok_weaker}
-use Rattle.twkb_writer.specs.Sizes.{AreSizes}
 use Rattle.twkb_writer.proofs.MeasuringCaps.{capped}
 use Rattle.twkb_writer.proofs.MeasuringOne.{root_whole, reads_point, sizes_of_point}
 use Rattle.twkb_writer.proofs.MeasuringPass.{points_of_one}

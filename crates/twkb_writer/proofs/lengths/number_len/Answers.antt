@@ -1,4 +1,4 @@
-use Rattle.std.proofs.Common.{◌∙◌, sym, arith}
+use Rattle.std.proofs.Common.{arith}
 use Rattle.twkb_writer.specs.Tails.{number_len}
 use Rattle.twkb_writer.proofs.PieceLemmas.{two_more}
 use Rattle.twkb_writer.proofs.lengths.number_len.Goals as goal
