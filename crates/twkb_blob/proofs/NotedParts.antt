@@ -1,11 +1,11 @@
 -- Where memory is missing for a span: behind a type byte that was taken, and so behind a part.
-use Rattle.std.proofs.Common.{◌≡◌, ◌⊎◌, inl, inr, ℕ, ◌+◌, ◌-◌, ◌<◌, ◌≤◌, List, [], ◌∷◌, ◌++◌, length, take, refl, sym, ap, ◌∙◌, subst, append_assoc, append-nil, length-append, Bool, true, false, Result, Ok, arith}
+use Rattle.std.proofs.Common.{◌≡◌, inl, inr, ℕ, ◌+◌, ◌-◌, ◌<◌, ◌≤◌, List, [], ◌∷◌, ◌++◌, length, take, sym, ap, ◌∙◌, subst, append_assoc, append-nil, length-append, Bool, true, false, Ok, arith}
 use Rattle.std.proofs.lemmas.List.{nil_from_length}
 use Rattle.twkb_num.specs.Varint.{IsOpenVarint}
 use Rattle.twkb_tree.specs.Rows.{Row}
 use Rattle.twkb_tree.specs.Limits.{Allowance}
 use Rattle.twkb_grammar.specs.Roles.{join}
-use Rattle.twkb_grammar.specs.Machine.{nothing, started, Stack, Runs}
+use Rattle.twkb_grammar.specs.Machine.{nothing, started, Runs}
 use Rattle.twkb_grammar.specs.Reading.{Stands}
 use Rattle.twkb_grammar.proofs.Parts.{runs_same}
 use Rattle.twkb_grammar.proofs.BodiesBack.{some_role}

@@ -1,5 +1,4 @@
 use Rattle.std.proofs.Common.{◌≡◌, ◌∙◌, sym, subst, arith}
-use Rattle.twkb_engine.specs.Standing.{allowance_of}
 use Rattle.twkb_blob.specs.Located.{IsNotedFed}
 use Rattle.twkb_blob.proofs.Bytes.{stands_still}
 use Rattle.twkb_blob.proofs.located.take_noted.Goals as goal
