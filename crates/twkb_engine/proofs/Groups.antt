@@ -1,5 +1,5 @@
 -- Members that begin, and the ends of geometries in collections.
-use Rattle.std.proofs.Common.{◌≡◌, ℕ, zero, suc, ◌+◌, ◌-◌, ◌<◌, List, [], ◌∷◌, ◌++◌, length, get_or, Bool, true, false, refl, sym, ap, subst, ◌∙◌, arith}
+use Rattle.std.proofs.Common.{◌≡◌, ℕ, zero, suc, ◌+◌, ◌-◌, ◌<◌, List, [], ◌∷◌, ◌++◌, length, get_or, Bool, true, false, refl, sym, subst, arith}
 use Rattle.std.specs.Prelude.{Result, Ok}
 use Rattle.twkb_tree.specs.Rows.{first_id, other_ids}
 use Rattle.twkb_grammar.specs.Fault.{Reason}
@@ -7,7 +7,7 @@ use Rattle.twkb_grammar.specs.Machine as machine
 use Rattle.twkb_grammar.specs.Machine.{ManyGeometries}
 use Rattle.twkb_grammar.specs.PlainReader.{is_exact as exact}
 use Rattle.twkb_outline.specs.Outline as outline
-use Rattle.twkb_outline.specs.Outline.{OnHeader, OnId, members_open, many_counted, outline_past_end}
+use Rattle.twkb_outline.specs.Outline.{OnHeader, members_open, outline_past_end}
 use Rattle.twkb_outline.specs.Growing.{id_in}
 use Rattle.twkb_engine.specs.Names.{ids_of}
 use Rattle.twkb_engine.specs.State.{head_of, group_of, groups_from, groups_of}

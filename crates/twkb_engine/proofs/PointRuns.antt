@@ -1,13 +1,11 @@
 -- Points that stand whole in front lead a list on, and a body; and the bytes up to one for which there is no memory are a part.
-use Rattle.std.proofs.Common.{◌≡◌, ℕ, zero, suc, ◌+◌, ◌-◌, ◌<◌, ◌≤◌, List, [], ◌∷◌, ◌++◌, length, take, drop, Bool, false, refl, sym, ap, ◌∙◌, subst, append_assoc, append-nil, length-append, arith}
+use Rattle.std.proofs.Common.{◌≡◌, ℕ, zero, suc, ◌+◌, ◌-◌, ◌<◌, ◌≤◌, List, [], ◌∷◌, ◌++◌, length, take, drop, Bool, false, refl, sym, ap, ◌∙◌, subst, arith}
 use Rattle.std.specs.Prelude.{Option, ℤ}
 use Rattle.twkb_points.specs.Point.{Point}
 use Rattle.twkb_tree.specs.Tree.{Ids}
-use Rattle.twkb_tree.specs.Limits.{Allowance}
 use Rattle.twkb_tree.specs.Rows.{Row, first_id}
 use Rattle.twkb_tree.specs.RowGrowth.{point_added}
-use Rattle.twkb_grammar.specs.Machine.{Head, Form, PointForm, LineForm, PolygonForm, MultiPointForm, MultiLineForm, MultiPolygonForm, Sums}
-use Rattle.twkb_grammar.specs.Noting.{Notes}
+use Rattle.twkb_grammar.specs.Machine.{Head, Form, PointForm, LineForm, PolygonForm, MultiPointForm, MultiLineForm, MultiPolygonForm}
 use Rattle.twkb_outline.specs.Outline as outline
 use Rattle.twkb_outline.specs.Outline.{Group, Outline, Step, OnBody, Wanted, shut, next_ids}
 use Rattle.twkb_outline.specs.Growing.{applied, NewPoint, point_change, id_in}

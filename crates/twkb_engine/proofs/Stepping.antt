@@ -8,13 +8,12 @@ use Rattle.twkb_tree.specs.Rows.{Row}
 use Rattle.twkb_grammar.specs.Fault.{FirstFault, BadVarint}
 use Rattle.twkb_grammar.specs.Roles.{Item}
 use Rattle.twkb_grammar.specs.Reading.{Gives}
-use Rattle.twkb_outline.specs.Outline.{outline_role}
 use Rattle.twkb_outline.proofs.Outlined.{outlined_long}
 use Rattle.twkb_front.specs.Front.{NumberInFront}
 use Rattle.twkb_front.proofs.OpenNumbers.{number_begun}
 use Rattle.twkb_engine.specs.State.{groups_of, IsSpelled, IsByte}
 use Rattle.twkb_engine.specs.Parts.{PartIn}
-use Rattle.twkb_engine.specs.Building.{sums_of, outline_in, StandsBehind, IsTaken}
+use Rattle.twkb_engine.specs.Building.{sums_of, outline_in, StandsBehind, IsTaken, Takes}
 use Rattle.twkb_engine.specs.Ahead.{RunsBehind, StopsBehind}
 use Rattle.twkb_engine.specs.Standing.{StandsAt, LeadsOn, StopsIn, IsStep, ItemInFront, IsOneItem, allowance_of, held_in, offset_in}
 use Rattle.twkb_engine.specs.declared.builder.Builder.{Builder}
@@ -60,10 +59,6 @@ stepped limits bytes (Ok false) rs d none t = behind_items bytes rs d none t
 stepped limits bytes (Ok true) rs d none t = (t.0, t.1, t.2, behind_items [] [] d none t.3)
 stepped limits bytes (Err Memory) rs d none t = t
 stepped limits bytes (Err (Refused x)) rs d none t = t
-
--- what a builder does with each item of this number and so many bytes that may come next
-abbrev pub Takes : Builder → (n len : ℕ) → List Row → Result Bool Stop → List Row → Builder → Type 0
-Takes b n len rs r more new = (front : List ℕ) (i : Item) → StandsBehind front rs b → outline_role (sums_of b) (outline_in b) ≡ Some i.role → Gives i.role i.number i.bytes → i.number ≡ n → length i.bytes ≡ len → IsTaken b.limits (front ++ i.bytes) r more new
 
 -- whole items that stood in front
 pub whole_stepped : (bs bytes : List ℕ) (rs more : List Row) (d : Engine) (c : Builder) (r : Result Bool Stop) → held_in d ≡ [] → ((front : List ℕ) → StandsBehind front rs d.builder → IsTaken (allowance_of d) (front ++ bytes) r more c) → StandsAt bs rs d

@@ -3,7 +3,7 @@ use Rattle.std.proofs.Common.{◌≡◌, ℕ, List, [], ◌++◌, sym, ◌∙◌
 use Rattle.twkb_tree.specs.Limits.{Allowance}
 use Rattle.twkb_tree.specs.Rows.{Row}
 use Rattle.twkb_grammar.specs.Fault as fault
-use Rattle.twkb_grammar.specs.Fault.{FirstFault, moved}
+use Rattle.twkb_grammar.specs.Fault.{FirstFault}
 use Rattle.twkb_grammar.specs.Roles.{Item}
 use Rattle.twkb_grammar.specs.PlainReader.{objection}
 use Rattle.twkb_grammar.specs.Machine.{Sums, added}

@@ -1,5 +1,5 @@
 -- A builder takes a point that stands whole in front with its header.
-use Rattle.std.proofs.Common.{◌≡◌, ℕ, ◌+◌, ◌-◌, ◌<◌, ◌/◌, ◌%◌, List, [], ◌∷◌, ◌++◌, length, length-append, take, drop, get_or, refl, sym, ap, ◌∙◌, subst, append_assoc, Bool, false, Result, Option, None, Some, IfSome, Ok, Err, OnOk, arith}
+use Rattle.std.proofs.Common.{◌≡◌, ℕ, ◌+◌, ◌-◌, ◌<◌, ◌/◌, ◌%◌, List, ◌++◌, length, take, drop, get_or, sym, ap, ◌∙◌, subst, Bool, Result, Option, None, Some, IfSome, OnOk, arith}
 use Rattle.std.proofs.Math.Seq.{take-add}
 use Rattle.std.proofs.lemmas.List.{length-take, length-drop, take_rest}
 use Rattle.twkb_num.specs.Zigzag.{unzigzag_of}

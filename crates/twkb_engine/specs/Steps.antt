@@ -2,9 +2,10 @@
 use Rattle.std.specs.Prelude.{◌≡◌, ℕ, List, Bool, true, false, Option, Some, None, Result, Ok, Err}
 use Rattle.twkb_points.specs.Point.{Point}
 use Rattle.twkb_tree.specs.Rows.{first_id}
-use Rattle.twkb_grammar.specs.Machine.{Head}
-use Rattle.twkb_outline.specs.Outline.{Step, OnBody, OnEnd, outline_ends}
+use Rattle.twkb_grammar.specs.Machine.{Head, depth_of}
+use Rattle.twkb_outline.specs.Outline.{Step, OnBody, OnEnd, spot_after, outline_ends}
 use Rattle.twkb_outline.specs.Growing.{Change, spot_change}
+use Rattle.twkb_outline.specs.Reading.{SpotFits}
 use Rattle.twkb_engine.specs.Body.{form_of, spot_of}
 use Rattle.twkb_engine.specs.Names.{ids_of}
 use Rattle.twkb_engine.specs.State.{head_of, groups_of}
@@ -28,3 +29,8 @@ abbrev pub IsBehind : (bytes : ℕ) → List Group → Step → place.Head → B
 IsBehind bytes gs s h b left (Ok None) = (left ≡ gs) × (s ≡ body_at (head_of h) b false)
 IsBehind bytes gs s h b left (Ok (Some whole)) = IsPast (outline_ends bytes (groups_of gs, s)) left (Ok whole)
 IsBehind bytes gs s h b left (Err stop) = IsPast (outline_ends bytes (groups_of gs, s)) left (Err stop)
+
+-- what a body does with its next number, if it is this one
+abbrev pub TakesNumber : place.Head → (bytes n : ℕ) → Body → List Group → Result (Option Bool) Stop → Body → List Group → Type 0
+TakesNumber h bytes n b gs r new left =
+    SpotFits (depth_of (form_of b.form)) (spot_of b.spot) → IsBehind bytes gs (spot_after (head_of h) (form_of b.form) (ids_of b.names) n (spot_of b.spot)) h new left r

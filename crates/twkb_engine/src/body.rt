@@ -7,7 +7,6 @@ ghost use Rattle.twkb_outline.specs.Outline.{spot_after};
 ghost use Rattle.twkb_outline.specs.Growing.{applied};
 ghost use Rattle.twkb_outline.specs.Reading.{SpotFits};
 ghost use Rattle.twkb_engine.specs.Body.{form_of, spot_of, after_of};
-ghost use Rattle.twkb_engine.specs.State.{head_of};
 
 use crate::lefts::{After, Spot, open_area, open_line, part, shut_point};
 use crate::members::past_end;
@@ -30,7 +29,7 @@ pub struct Body {
 
 impl Body {
     ghost use Rattle.twkb_engine.specs.Names.{ids_of};
-    ghost use Rattle.twkb_engine.specs.Steps.{body_at, change_by, IsBehind};
+    ghost use Rattle.twkb_engine.specs.Steps.{body_at, change_by, TakesNumber};
 
     /// Goes to what follows a value; answers whether the body is done.
     pub fn go_behind(&mut self, after: After) -> bool
@@ -88,7 +87,7 @@ impl Body {
     ) -> Result<Option<bool>, Stop>
         ensures few { length groups.new.items ≤ length groups.old.items }
         ensures rows { OnOk result (flat.new ≡ applied (change_by position head self.old) flat.old) }
-        ensures behind { SpotFits (depth_of (form_of self.old.form)) (spot_of self.old.spot) → IsBehind bytes groups.old.items (spot_after (head_of head) (form_of self.old.form) (ids_of self.old.names) number (spot_of self.old.spot)) head self.new groups.new.items result }
+        ensures behind { TakesNumber head bytes number self.old groups.old.items result self.new groups.new.items }
     {
         let after = self.after(number);
         if after.spot.is_none() {

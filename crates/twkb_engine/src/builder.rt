@@ -1,10 +1,9 @@
 //! A geometry that is read item by item into a flat form.
-ghost use Rattle.std.specs.Prelude.{◌≡◌, ◌≤◌, ◌++◌, ℕ, List, ◌+◌, ◌-◌, ◌^◌, ◌%◌, ◌||◌, [], nat_eq, nat_lt, IfSome, IsSome, None, Some, true, length, length as length_of, false, ◌<◌, ◌⊎◌, OnOk, OnErr, IfOk, Result, Ok, take};
+ghost use Rattle.std.specs.Prelude.{◌≡◌, ◌≤◌, ◌+◌, ◌-◌, ◌^◌, ◌%◌, ◌||◌, [], nat_eq, nat_lt, IfSome, IsSome, None, Some, true, length, length as length_of, false, ◌<◌, ◌⊎◌, OnOk, OnErr, IfOk, Result, Ok, take};
 ghost use Rattle.twkb_grammar.specs.PlainReader.{unless, objection as objection_in, is_exact as exact};
 ghost use Rattle.twkb_grammar.specs.Fault as fault;
 ghost use Rattle.twkb_grammar.specs.Fault.{moved as moved_by};
 ghost use Rattle.twkb_grammar.specs.Roles.{Role, Metadata, Count, Item};
-ghost use Rattle.twkb_grammar.specs.Reading.{Gives};
 ghost use Rattle.twkb_grammar.specs.Machine.{kind_number, first_count, added};
 ghost use Rattle.twkb_outline.specs.Outline.{Outline, spot_role, outline_role, outline_advanced, outline_ends, outline_past_end};
 ghost use Rattle.twkb_outline.specs.Growing.{applied, change_of};
@@ -61,7 +60,7 @@ fn bad_type(number: u64) -> Option<BlobReason>
 }
 
 impl Builder {
-    ghost use Rattle.twkb_engine.specs.Building.{sums_of, outline_in, refusal, objection_at, StandsBehind, IsAt, IsTaken};
+    ghost use Rattle.twkb_engine.specs.Building.{sums_of, outline_in, refusal, objection_at, StandsBehind, IsAt, Takes};
     ghost use Rattle.twkb_engine.specs.Ahead.{RunsBehind, StopsBehind};
 
     /// One that has read nothing. Takes no memory.
@@ -310,8 +309,7 @@ impl Builder {
         requires room { self.old.bytes + length < 2 ^ 64 }
         ensures limits { self.new.limits ≡ self.old.limits }
         ensures bytes { self.new.bytes ≤ self.old.bytes + length }
-        ensures taken { (front : List ℕ) (i : Item) → StandsBehind front flat.old self.old → outline_role (sums_of self.old) (outline_in self.old) ≡ Some i.role
-            → Gives i.role i.number i.bytes → i.number ≡ number → length_of i.bytes ≡ length → IsTaken self.old.limits (front ++ i.bytes) result flat.new self.new }
+        ensures taken { Takes self.old number length flat.old result flat.new self.new }
     {
         if let Some(reason) = self.objection(number) {
             return Err(Stop::Refused(reason));

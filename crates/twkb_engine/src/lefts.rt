@@ -1,5 +1,5 @@
 //! How many values are left in the lists of a body.
-ghost use Rattle.std.specs.Prelude.{◌≡◌, ◌≤◌, [], length};
+ghost use Rattle.std.specs.Prelude.{◌≡◌, ◌≤◌, length};
 ghost use Rattle.twkb_tree.specs.Tree.{Ids};
 ghost use Rattle.twkb_tree.specs.Rows.{other_ids};
 ghost use Rattle.twkb_grammar.specs.Machine.{Form, Head};

@@ -1,5 +1,5 @@
 //! A point that stands whole in front, with its header.
-ghost use Rattle.std.specs.Prelude.{◌≡◌, ◌+◌, ◌<◌, ◌≤◌, ◌^◌, ◌++◌, ℕ, List, IfSome, take, get_or, length};
+ghost use Rattle.std.specs.Prelude.{◌≡◌, ◌+◌, ◌<◌, ◌≤◌, ◌^◌, IfSome, length};
 ghost use Rattle.twkb_engine.specs.Front.{HeaderInFront, WholePoint, point_head};
 ghost use Rattle.twkb_engine.specs.declared.phase.Phase.TheVariants.{Header};
 
@@ -68,7 +68,7 @@ fn whole_point(bytes: &[u8]) -> Option<Whole>
 }
 
 impl Builder {
-    ghost use Rattle.twkb_engine.specs.Building.{StandsBehind, IsTaken};
+    ghost use Rattle.twkb_engine.specs.Building.{TakesPoint};
     ghost use Rattle.twkb_engine.specs.State.{groups_of, head_of};
     ghost use Rattle.twkb_outline.specs.Growing.{id_in};
 
@@ -114,7 +114,7 @@ impl Builder {
         requires room { self.old.bytes + point.used < 2 ^ 64 }
         ensures limits { self.new.limits ≡ self.old.limits }
         ensures bytes { self.new.bytes ≤ self.old.bytes + point.used }
-        ensures taken { (front bytes : List ℕ) → StandsBehind front flat.old self.old → self.old.phase ≡ Header → WholePoint bytes point.to point.used point.size → first ≡ get_or bytes 0 0 → IsTaken self.old.limits (front ++ take point.used bytes) result flat.new self.new }
+        ensures taken { TakesPoint self.old first point flat.old result flat.new self.new }
     {
         let _most = self.limits.points();
         let head = self.point_head(first, point.size);
