@@ -19,20 +19,20 @@ use std::alloc::AllocError;
 use twkb_flat::Flat;
 use twkb_points::Pt;
 
-/// A body that is being read: its form, the ids of its members, and what it wants next.
+// A body that is being read: its form, the ids of its members, and what it wants next.
 #[derive(Debug, Drop)]
-pub struct Body {
-    pub form: Form,
-    pub names: Names,
-    pub spot: Spot,
+pub(crate) struct Body {
+    pub(crate) form: Form,
+    pub(crate) names: Names,
+    pub(crate) spot: Spot,
 }
 
 impl Body {
     ghost use Rattle.twkb_engine.specs.Names.{ids_of};
     ghost use Rattle.twkb_engine.specs.Steps.{body_at, change_by, TakesNumber};
 
-    /// Goes to what follows a value; answers whether the body is done.
-    pub fn go_behind(&mut self, after: After) -> bool
+    // Goes to what follows a value; answers whether the body is done.
+    pub(crate) fn go_behind(&mut self, after: After) -> bool
         ensures step { (h : machine.Head) → after_of h (form_of self.old.form) (ids_of self.old.names) after ≡ body_at h self.new result }
         ensures on { IsSome after.spot → result ≡ false }
         ensures form { self.new.form ≡ self.old.form }
@@ -49,7 +49,7 @@ impl Body {
         }
     }
 
-    /// What stands behind the next number, if it is this one.
+    // What stands behind the next number, if it is this one.
     fn after(&self, number: u64) -> After
         ensures { SpotFits (depth_of (form_of self.now.form)) (spot_of self.now.spot) → (h : machine.Head) (ids : Ids) → after_of h (form_of self.now.form) ids result ≡ spot_after h (form_of self.now.form) ids number (spot_of self.now.spot) }
     {
@@ -61,7 +61,7 @@ impl Body {
         }
     }
 
-    /// Keeps the row or the point that the next number brings, which leads to this position. Takes memory.
+    // Keeps the row or the point that the next number brings, which leads to this position. Takes memory.
     fn keep(&self, flat: &mut Flat, head: Head, position: Pt) -> Result<(), AllocError>
         ensures { OnOk result (flat.new ≡ applied (change_by position head self.now) flat.old) }
     {
@@ -74,9 +74,9 @@ impl Body {
         }
     }
 
-    /// Takes a number of the body, which leads to this position and has so many bytes behind it, and the ends behind it, whose sizes are
-    /// judged before it is kept; answers, if the body is done, whether the outermost geometry ends. Takes memory.
-    pub fn take(
+    // Takes a number of the body, which leads to this position and has so many bytes behind it, and the ends behind it, whose sizes are
+    // judged before it is kept; answers, if the body is done, whether the outermost geometry ends. Takes memory.
+    pub(crate) fn take(
         &mut self,
         flat: &mut Flat,
         groups: &mut Groups,

@@ -31,24 +31,24 @@ use twkb_num::unzigzag;
 use twkb_points::Pt;
 use twkb_tree::Limits;
 
-/// A geometry that is read item by item: the sums of its items, the collections that are open, and what comes next.
+// A geometry that is read item by item: the sums of its items, the collections that are open, and what comes next.
 #[derive(Drop)]
-pub struct Builder {
+pub(crate) struct Builder {
     alloc: Global,
-    pub limits: Limits,
-    pub bytes: u64,
-    pub position: Pt,
+    pub(crate) limits: Limits,
+    pub(crate) bytes: u64,
+    pub(crate) position: Pt,
     nodes: u64,
-    pub points: u64,
-    pub groups: Groups,
-    pub phase: Phase,
+    pub(crate) points: u64,
+    pub(crate) groups: Groups,
+    pub(crate) phase: Phase,
     ghost nodes_kept: { nodes ≤ limits.nodes },
     ghost points_kept: { points ≤ limits.points },
     ghost waits: { goes_on phase ≡ true },
     ghost groups_few: { IsShallow groups.items },
 }
 
-/// Why this number is no type byte.
+// Why this number is no type byte.
 fn bad_type(number: u64) -> Option<BlobReason>
     ensures { objection_of result ≡ unless (nat_eq (number % 16) 0 || nat_lt 7 (number % 16)) fault.BadType None }
 {
@@ -63,8 +63,8 @@ impl Builder {
     ghost use Rattle.twkb_engine.specs.Building.{sums_of, outline_in, refusal, objection_at, StandsBehind, IsAt, Takes};
     ghost use Rattle.twkb_engine.specs.Ahead.{RunsBehind, StopsBehind};
 
-    /// One that has read nothing. Takes no memory.
-    pub fn new(alloc: Global, limits: Limits) -> Builder
+    // One that has read nothing. Takes no memory.
+    pub(crate) fn new(alloc: Global, limits: Limits) -> Builder
         ensures stands { StandsBehind [] [] result }
         ensures limits { result.limits ≡ limits }
         ensures bytes { result.bytes ≡ 0 }
@@ -83,7 +83,7 @@ impl Builder {
         }
     }
 
-    /// Why a count may not be this large.
+    // Why a count may not be this large.
     fn too_many(&self, nodes: u64, points: u64) -> Option<BlobReason>
         ensures { objection_of result ≡ unless (nat_lt self.now.limits.nodes (self.now.nodes + nodes)) fault.TooManyNodes (unless (nat_lt self.now.limits.points (self.now.points + points)) fault.TooManyPoints None) }
     {
@@ -96,7 +96,7 @@ impl Builder {
         }
     }
 
-    /// Why a geometry of this type may not have this metadata byte.
+    // Why a geometry of this type may not have this metadata byte.
     fn objection_to_metadata(&self, kind: Kind, number: u64) -> Option<BlobReason>
         ensures { objection_of result ≡ objection_in self.now.limits (sums_of self.now) (Metadata (kind_number (kind_of kind))) number }
     {
@@ -107,7 +107,7 @@ impl Builder {
         }
     }
 
-    /// Why there may not be so many members.
+    // Why there may not be so many members.
     fn objection_to_count(&self, many: Many, number: u64) -> Option<BlobReason>
         ensures { objection_of result ≡ objection_in self.now.limits (sums_of self.now) (Count (first_count (many_of many) (length (groups_of self.now.groups.items)))) number }
     {
@@ -124,7 +124,7 @@ impl Builder {
         }
     }
 
-    /// Why the next number of a body may not be this one.
+    // Why the next number of a body may not be this one.
     fn objection_to_number(&self, spot: Spot, number: u64) -> Option<BlobReason>
         ensures { objection_of result ≡ objection_at self.now.limits (sums_of self.now) number (spot_role (spot_of spot)) }
     {
@@ -148,7 +148,7 @@ impl Builder {
         }
     }
 
-    /// Why the next item may not have this number.
+    // Why the next item may not have this number.
     fn objection(&self, number: u64) -> Option<BlobReason>
         ensures { objection_of result ≡ refusal self.now.limits (sums_of self.now) (outline_in self.now) number }
     {
@@ -168,8 +168,8 @@ impl Builder {
         }
     }
 
-    /// Goes to the start.
-    pub fn restart(&mut self)
+    // Goes to the start.
+    pub(crate) fn restart(&mut self)
         ensures stands { StandsBehind [] [] self.new }
         ensures limits { self.new.limits ≡ self.old.limits }
         ensures bytes { self.new.bytes ≡ 0 }
@@ -183,7 +183,7 @@ impl Builder {
         self.phase = Phase::Header;
     }
 
-    /// Goes on behind the ends of geometries, and answers the same: whether the outermost one has ended.
+    // Goes on behind the ends of geometries, and answers the same: whether the outermost one has ended.
     fn settle(&mut self, whole: bool) -> bool
         ensures limits { self.new.limits ≡ self.old.limits }
         ensures bytes { self.new.bytes ≤ self.old.bytes }
@@ -198,8 +198,8 @@ impl Builder {
         false
     }
 
-    /// A geometry ends; answers whether the outermost one does.
-    pub fn finish(&mut self, head: Head) -> Result<bool, Stop>
+    // A geometry ends; answers whether the outermost one does.
+    pub(crate) fn finish(&mut self, head: Head) -> Result<bool, Stop>
         ensures limits { self.new.limits ≡ self.old.limits }
         ensures bytes { self.new.bytes ≤ self.old.bytes }
         ensures landed { IsAt (outline_past_end (exact head.size (self.old.bytes - head.from)) self.old.bytes (groups_of self.old.groups.items)) (sums_of self.old) result self.new }
@@ -210,8 +210,8 @@ impl Builder {
         Ok(self.settle(whole))
     }
 
-    /// Goes to what the item of this number leads to that was added last and is in no body, and past the ends behind it, whose sizes are
-    /// judged before a row is kept; answers whether a geometry is whole. A row, an id and a group take memory.
+    // Goes to what the item of this number leads to that was added last and is in no body, and past the ends behind it, whose sizes are
+    // judged before a row is kept; answers whether a geometry is whole. A row, an id and a group take memory.
     fn advance(&mut self, flat: &mut Flat, number: u64) -> Result<bool, Stop>
         requires byte { number < 256 ⊎ IsSpelled self.old.phase }
         requires apart { stands_apart self.old.phase ≡ true }
@@ -239,8 +239,8 @@ impl Builder {
         Ok(false)
     }
 
-    /// Goes to what the item of this number leads to that was added last, and past the ends behind it; answers whether a geometry is
-    /// whole. A row, a point, an id and a group take memory.
+    // Goes to what the item of this number leads to that was added last, and past the ends behind it; answers whether a geometry is
+    // whole. A row, a point, an id and a group take memory.
     fn go_on(&mut self, flat: &mut Flat, number: u64) -> Result<bool, Stop>
         requires byte { number < 256 ⊎ IsSpelled self.old.phase }
         ensures limits { self.new.limits ≡ self.old.limits }
@@ -266,7 +266,7 @@ impl Builder {
         Ok(self.settle(whole))
     }
 
-    /// The place behind the next item, where that is in range.
+    // The place behind the next item, where that is in range.
     fn moved(&self, number: u64) -> Option<Pt>
         ensures place { (r : Role) → outline_role (sums_of self.now) (outline_in self.now) ≡ Some r → IfSome result (λ p. p ≡ moved_by self.now.position r number) }
         ensures found { refusal self.now.limits (sums_of self.now) (outline_in self.now) number ≡ None → IsSome result }
@@ -282,7 +282,7 @@ impl Builder {
         }
     }
 
-    /// Adds the next item to the sums.
+    // Adds the next item to the sums.
     fn add(&mut self, number: u64, length: u64)
         requires room { self.old.bytes + length < 2 ^ 64 }
         requires allowed { refusal self.old.limits (sums_of self.old) (outline_in self.old) number ≡ None }
@@ -302,9 +302,9 @@ impl Builder {
         self.position = position;
     }
 
-    /// Takes an item with this number, which has so many bytes, and the ends behind it; answers whether a geometry is whole. A row, a
-    /// point, an id and a group take memory.
-    pub fn take(&mut self, flat: &mut Flat, number: u64, length: u64) -> Result<bool, Stop>
+    // Takes an item with this number, which has so many bytes, and the ends behind it; answers whether a geometry is whole. A row, a
+    // point, an id and a group take memory.
+    pub(crate) fn take(&mut self, flat: &mut Flat, number: u64, length: u64) -> Result<bool, Stop>
         requires byte { number < 256 ⊎ IsSpelled self.old.phase }
         requires room { self.old.bytes + length < 2 ^ 64 }
         ensures limits { self.new.limits ≡ self.old.limits }
@@ -318,9 +318,9 @@ impl Builder {
         self.go_on(flat, number)
     }
 
-    /// Takes points of a body as far as they stand whole in front and it is not done with them, and answers how many bytes they had. They
-    /// take memory.
-    pub fn take_points(&mut self, flat: &mut Flat, rest: &[u8]) -> Result<usize, AllocError>
+    // Takes points of a body as far as they stand whole in front and it is not done with them, and answers how many bytes they had. They
+    // take memory.
+    pub(crate) fn take_points(&mut self, flat: &mut Flat, rest: &[u8]) -> Result<usize, AllocError>
         requires room { self.old.bytes + length_of rest.now < 2 ^ 64 }
         ensures limits { self.new.limits ≡ self.old.limits }
         ensures within { IfOk result (λ used. used ≤ length_of rest.now) }

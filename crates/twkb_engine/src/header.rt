@@ -19,10 +19,10 @@ use std::alloc::Global;
 use twkb_header::{Metadata, TypeByte};
 use twkb_tree::Kind as RowKind;
 
-/// Numbers of a box behind the first.
+// Numbers of a box behind the first.
 const BOX_REST: u8 = 3;
 
-/// The type whose rows are of this kind; no type has rings.
+// The type whose rows are of this kind; no type has rings.
 fn typed_as(kind: RowKind) -> Kind
     ensures { (k : machine.Kind) → shown k ≡ kind → kind_of result ≡ k }
 {
@@ -37,8 +37,8 @@ fn typed_as(kind: RowKind) -> Kind
     }
 }
 
-/// What follows a type byte.
-pub fn after_type(number: u64) -> Phase
+// What follows a type byte.
+pub(crate) fn after_type(number: u64) -> Phase
     requires { number < 256 }
     ensures step { step_of result ≡ OnMetadata (kind_at (number % 16)) (unzigzag_of (number / 16)) }
 {
@@ -49,7 +49,7 @@ pub fn after_type(number: u64) -> Phase
     })
 }
 
-/// The id of the geometry that is read in these collections.
+// The id of the geometry that is read in these collections.
 fn id_within(groups: &Groups) -> Option<i64>
     ensures { result ≡ id_in (groups_of groups.now.items) }
 {
@@ -60,8 +60,8 @@ fn id_within(groups: &Groups) -> Option<i64>
     groups[depth - 1].names.next()
 }
 
-/// The header behind a metadata byte, before its optional parts.
-pub fn head_within(groups: &Groups, typed: Typed, bytes: u64, metadata: Metadata) -> Head
+// The header behind a metadata byte, before its optional parts.
+pub(crate) fn head_within(groups: &Groups, typed: Typed, bytes: u64, metadata: Metadata) -> Head
     requires { IsShallow groups.now.items }
     ensures head { head_of result ≡ record { precision = typed.precision; meta = metadata; size = None; from = bytes } }
     ensures metadata { result.metadata ≡ metadata }
@@ -78,7 +78,7 @@ pub fn head_within(groups: &Groups, typed: Typed, bytes: u64, metadata: Metadata
     }
 }
 
-/// The part behind the size, or behind where it would stand.
+// The part behind the size, or behind where it would stand.
 fn behind_size(metadata: Metadata) -> Option<Optional>
     ensures { roles_from metadata result ≡ box_roles metadata }
 {
@@ -88,7 +88,7 @@ fn behind_size(metadata: Metadata) -> Option<Optional>
     None
 }
 
-/// The part behind the extended byte, or behind where it would stand.
+// The part behind the extended byte, or behind where it would stand.
 fn behind_extended(metadata: Metadata) -> Option<Optional>
     ensures { roles_from metadata result ≡ size_roles metadata }
 {
@@ -98,7 +98,7 @@ fn behind_extended(metadata: Metadata) -> Option<Optional>
     behind_size(metadata)
 }
 
-/// The part behind the metadata byte.
+// The part behind the metadata byte.
 fn first_part(metadata: Metadata) -> Option<Optional>
     ensures { roles_from metadata result ≡ asked metadata }
 {
@@ -108,7 +108,7 @@ fn first_part(metadata: Metadata) -> Option<Optional>
     behind_extended(metadata)
 }
 
-/// The part behind this one.
+// The part behind this one.
 fn next_part(metadata: Metadata, part: Optional) -> Option<Optional>
     ensures { roles_from metadata result ≡ roles_behind metadata part }
 {
@@ -120,8 +120,8 @@ fn next_part(metadata: Metadata, part: Optional) -> Option<Optional>
     }
 }
 
-/// The header with an optional part of this number, behind so many bytes.
-pub fn head_with(mut head: Head, part: Optional, bytes: u64, number: u64) -> Head
+// The header with an optional part of this number, behind so many bytes.
+pub(crate) fn head_with(mut head: Head, part: Optional, bytes: u64, number: u64) -> Head
     ensures head { head_of result ≡ with_option (head_of head) (role_of_part part) number bytes }
     ensures precision { result.precision ≡ head.precision }
     ensures metadata { result.metadata ≡ head.metadata }
@@ -139,7 +139,7 @@ pub fn head_with(mut head: Head, part: Optional, bytes: u64, number: u64) -> Hea
     head
 }
 
-/// A body without members that have ids begins. Takes no memory.
+// A body without members that have ids begins. Takes no memory.
 fn simple_body(alloc: Global, head: Head, form: Form, spot: Spot) -> Phase
     ensures step { step_of result ≡ OnBody (head_of head) (form_of form) None (spot_of spot) }
     ensures placed { IsPlaced head.depth head.id result }
@@ -148,7 +148,7 @@ fn simple_body(alloc: Global, head: Head, form: Form, spot: Spot) -> Phase
     Phase::Body(head, Body { form, names, spot })
 }
 
-/// The body begins. Takes no memory.
+// The body begins. Takes no memory.
 fn begin_body(alloc: Global, kind: Kind, head: Head) -> Phase
     ensures step { step_of result ≡ begins (kind_of kind) (head_of head) }
     ensures placed { IsPlaced head.depth head.id result }
@@ -171,7 +171,7 @@ fn begin_body(alloc: Global, kind: Kind, head: Head) -> Phase
     Phase::Count { many, head }
 }
 
-/// Goes to a part of a header, or else behind it. Takes no memory.
+// Goes to a part of a header, or else behind it. Takes no memory.
 fn go_to(alloc: Global, kind: Kind, head: Head, part: Option<Optional>) -> Phase
     ensures step { step_of result ≡ options (kind_of kind) (head_of head) (roles_from head.metadata part) }
     ensures placed { IsPlaced head.depth head.id result }
@@ -186,8 +186,8 @@ fn go_to(alloc: Global, kind: Kind, head: Head, part: Option<Optional>) -> Phase
     begin_body(alloc, kind, head)
 }
 
-/// What follows a metadata byte. Takes no memory.
-pub fn after_metadata(
+// What follows a metadata byte. Takes no memory.
+pub(crate) fn after_metadata(
     alloc: Global,
     groups: &Groups,
     typed: Typed,
@@ -205,8 +205,8 @@ pub fn after_metadata(
     go_to(alloc, typed.kind, head, first_part(metadata))
 }
 
-/// What follows an optional part. Takes no memory.
-pub fn after_option(
+// What follows an optional part. Takes no memory.
+pub(crate) fn after_option(
     alloc: Global,
     kind: Kind,
     head: Head,

@@ -22,7 +22,7 @@ use twkb_flat::Flat;
 use twkb_header::Metadata;
 use twkb_num::unzigzag;
 
-/// The type of a geometry with members.
+// The type of a geometry with members.
 fn many_kind(many: Many) -> Kind
     ensures { kind_of result ≡ kind_with (many_of many) }
 {
@@ -34,7 +34,7 @@ fn many_kind(many: Many) -> Kind
     }
 }
 
-/// Members of a collection begin, each a geometry: a first one and so many others. A group takes memory.
+// Members of a collection begin, each a geometry: a first one and so many others. A group takes memory.
 fn begin_collection(
     groups: &mut Groups,
     head: Head,
@@ -52,8 +52,8 @@ fn begin_collection(
     Ok(())
 }
 
-/// A geometry with members, a first one and so many others, has its row, and they begin, behind their ids. Takes memory for the row
-/// and a group.
+// A geometry with members, a first one and so many others, has its row, and they begin, behind their ids. Takes memory for the row
+// and a group.
 fn begin_members(
     flat: &mut Flat,
     groups: &mut Groups,
@@ -81,9 +81,9 @@ fn begin_members(
     Ok(Phase::Body(head, Body { form, names, spot }))
 }
 
-/// The members were counted. A row and a group take memory, the count reserves nothing; no members end their geometry, whose row is
-/// then still to come.
-pub fn after_count(
+// The members were counted. A row and a group take memory, the count reserves nothing; no members end their geometry, whose row is
+// then still to come.
+pub(crate) fn after_count(
     flat: &mut Flat,
     alloc: Global,
     groups: &mut Groups,
@@ -115,8 +115,8 @@ pub fn after_count(
     begin_members(flat, groups, many, head, Names::new(false, ids), others)
 }
 
-/// An id of a member. It takes memory, as do a row and a group behind the last.
-pub fn after_id(
+// An id of a member. It takes memory, as do a row and a group behind the last.
+pub(crate) fn after_id(
     flat: &mut Flat,
     groups: &mut Groups,
     many: Many,
@@ -146,7 +146,7 @@ pub fn after_id(
     begin_members(flat, groups, many, head, Names::new(true, ids), others)
 }
 
-/// Whether a geometry that ends behind so many bytes has the size that it declared, if any.
+// Whether a geometry that ends behind so many bytes has the size that it declared, if any.
 fn is_exact(head: Head, bytes: u64) -> bool
     ensures { result ≡ exact head.size (bytes - head.from) }
 {
@@ -156,8 +156,8 @@ fn is_exact(head: Head, bytes: u64) -> bool
     }
 }
 
-/// A geometry ends, and with it each collection of which it is the last member; answers whether it is the outermost one.
-pub fn past_end(groups: &mut Groups, bytes: u64, head: Head) -> Result<bool, Stop>
+// A geometry ends, and with it each collection of which it is the last member; answers whether it is the outermost one.
+pub(crate) fn past_end(groups: &mut Groups, bytes: u64, head: Head) -> Result<bool, Stop>
     ensures landed { IsPast (outline_past_end (exact head.size (bytes - head.from)) bytes (groups_of groups.old.items)) groups.new.items result }
     ensures few { length groups.new.items ≤ length groups.old.items }
 {

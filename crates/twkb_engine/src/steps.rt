@@ -12,9 +12,9 @@ use crate::phase::{Groups, Phase};
 use std::alloc::{AllocError, Global};
 use twkb_flat::Flat;
 
-/// What follows the item of this number outside a body, with so many bytes behind it. It takes memory for a row, an id and a group;
-/// the row of a geometry that ends is still to come.
-pub fn next(
+// What follows the item of this number outside a body, with so many bytes behind it. It takes memory for a row, an id and a group;
+// the row of a geometry that ends is still to come.
+pub(crate) fn next(
     flat: &mut Flat,
     alloc: Global,
     groups: &mut Groups,

@@ -14,23 +14,23 @@ use twkb_front::{GOES_ON, front_point, origin};
 use twkb_header::{Metadata, TypeByte};
 use twkb_points::Pt;
 
-/// Bytes of a header without optional parts: a type byte and a metadata byte.
+// Bytes of a header without optional parts: a type byte and a metadata byte.
 const BARE: usize = 2;
 
-/// Bytes of a header with a size of one byte, and no other optional part.
+// Bytes of a header with a size of one byte, and no other optional part.
 const SIZED: usize = 3;
 
-/// A point that stands whole in front with its header: where it leads, how many bytes both have, and the size that is declared.
+// A point that stands whole in front with its header: where it leads, how many bytes both have, and the size that is declared.
 #[derive(Clone, Copy, Debug)]
-pub struct Whole {
-    pub to: Pt,
-    pub used: usize,
-    pub size: Option<u64>,
+pub(crate) struct Whole {
+    pub(crate) to: Pt,
+    pub(crate) used: usize,
+    pub(crate) size: Option<u64>,
     ghost long: { 3 ≤ used },
 }
 
-/// The size that a point's own header in front declares, if any, and how many bytes the header has; `None` where it is no point's,
-/// or asks for more.
+// The size that a point's own header in front declares, if any, and how many bytes the header has; `None` where it is no point's,
+// or asks for more.
 #[inline]
 fn front_header(bytes: &[u8]) -> Option<(Option<u64>, usize)>
     ensures { IfSome result (λ front. HeaderInFront bytes.now front.0 front.1) }
@@ -53,7 +53,7 @@ fn front_header(bytes: &[u8]) -> Option<(Option<u64>, usize)>
     Some((Some(u64::from(size)), SIZED))
 }
 
-/// The point that stands whole in front behind such a header.
+// The point that stands whole in front behind such a header.
 #[inline]
 fn whole_point(bytes: &[u8]) -> Option<Whole>
     ensures { IfSome result (λ front. WholePoint bytes.now front.to front.used front.size) }
@@ -72,9 +72,9 @@ impl Builder {
     ghost use Rattle.twkb_engine.specs.State.{groups_of, head_of};
     ghost use Rattle.twkb_outline.specs.Growing.{id_in};
 
-    /// The same, where a geometry comes next, and a point more may.
+    // The same, where a geometry comes next, and a point more may.
     #[inline]
-    pub fn point_in_front(&self, bytes: &[u8]) -> Option<Whole>
+    pub(crate) fn point_in_front(&self, bytes: &[u8]) -> Option<Whole>
         ensures point { IfSome result (λ front. WholePoint bytes.now front.to front.used front.size) }
         ensures header { IfSome result (λ front. self.now.phase ≡ Header) }
         ensures room { IfSome result (λ front. self.now.points < self.now.limits.points) }
@@ -88,7 +88,7 @@ impl Builder {
         whole_point(bytes)
     }
 
-    /// The header of such a point with this type byte, where it comes next.
+    // The header of such a point with this type byte, where it comes next.
     #[inline]
     fn point_head(&self, first: u8, size: Option<u64>) -> Head
         requires room { self.now.bytes + 3 < 2 ^ 64 }
@@ -108,8 +108,13 @@ impl Builder {
         head_with(head, Optional::Size, self.bytes + SIZED as u64, size)
     }
 
-    /// Takes such a point with this type byte, and the ends behind it; answers whether a geometry is whole. Its row takes memory.
-    pub fn take_point(&mut self, flat: &mut Flat, first: u8, point: Whole) -> Result<bool, Stop>
+    // Takes such a point with this type byte, and the ends behind it; answers whether a geometry is whole. Its row takes memory.
+    pub(crate) fn take_point(
+        &mut self,
+        flat: &mut Flat,
+        first: u8,
+        point: Whole,
+    ) -> Result<bool, Stop>
         requires allowed { self.old.points < self.old.limits.points }
         requires room { self.old.bytes + point.used < 2 ^ 64 }
         ensures limits { self.new.limits ≡ self.old.limits }
