@@ -1,6 +1,5 @@
 -- A flush behind what was sent.
-use Rattle.twkb_convert.proofs.Prelude.{◌≡◌, ◌∙◌, ℕ, List, [], ◌++◌, Option, Bool, true, false, ap, refl, sym, subst, append-nil, Ghosts, count_failure, Refused, Sent, Took, is_spent, output_failures, refused_join, took_join, Output, OutFault, Allowance, canonical_stream, Style, Reader, Located, StreamObstacle, TableObstacle, Unfinished}
-use Rattle.twkb_io.specs.OutputLaws.{sent_join}
+use Rattle.twkb_convert.proofs.Prelude.{◌≡◌, ◌∙◌, ℕ, List, [], ◌++◌, Option, Bool, true, false, ap, refl, sym, subst, append-nil, Ghosts, count_failure, Refused, Sent, Took, is_spent, output_failures, refused_join, took_join, Output, OutFault, Allowance, canonical_stream, Style, Reader, Located, StreamObstacle, TableObstacle, Unfinished, sent_join, Tally}
 use Rattle.twkb_io.specs.declared.output.OutFault.TheVariants as out
 use Rattle.twkb_convert.specs.BlobSending.{CutText}
 use Rattle.twkb_convert.specs.BlobSending as Blobs
@@ -8,7 +7,6 @@ use Rattle.twkb_convert.specs.Sending.{SentTable, Stopped}
 use Rattle.twkb_convert.specs.Sending as Tables
 use Rattle.twkb_convert.specs.declared.obstacle.StreamObstacle.TheVariants as stream
 use Rattle.twkb_convert.specs.declared.obstacle.TableObstacle.TheVariants as table
-use Rattle.twkb_convert.specs.declared.sending.Tally.{Tally}
 
 module _ {W : Type 0} (contents : W → Option (List ℕ)) where
   -- what was sent with nothing behind it

@@ -1,27 +1,9 @@
 -- The texts of a stream's blobs, sent behind what stands before the first.
-use Rattle.std.proofs.Common.{◌≡◌, ◌∙◌, ◌+◌, ℕ, List, [], ◌++◌, Option, Some, None, Result, Ok, Err, length, ap, arith, refl, sym, subst, inl, inr, length-append, append_assoc, false}
-use Rattle.std.specs.Prelude.{IfOk, IfErr, IfSome}
-use Rattle.std.proofs.lemmas.List.{append-nil}
-use Rattle.std.specs.declared.io.traits.Read.{Ghosts}
-use Rattle.twkb_io.specs.Copies.{BeginsWith}
-use Rattle.twkb_io.specs.Taps.{count_failure}
-use Rattle.twkb_io.specs.Outputs.{Cut, Refused, Took, is_spent, sent_of}
-use Rattle.twkb_io.specs.OutputLaws.{refused_join, sent_join, took_join}
-use Rattle.twkb_io.specs.declared.output.Output.{Output}
-use Rattle.twkb_io.specs.declared.output.OutFault.{OutFault}
+use Rattle.twkb_convert.proofs.Prelude.{◌≡◌, ◌∙◌, ◌+◌, ℕ, List, [], ◌++◌, Option, Some, None, Result, Ok, Err, length, ap, arith, refl, sym, subst, inl, inr, length-append, append_assoc, false, IfOk, IfErr, IfSome, append-nil, Ghosts, BeginsWith, count_failure, Cut, Refused, Took, is_spent, sent_of, refused_join, sent_join, took_join, Output, OutFault, Allowance, Reader, Located, HoldsWhole, LocatedStream, blobs_text, first_line, listing_text, Listing, StreamObstacle, Unfinished}
 use Rattle.twkb_io.specs.declared.output.OutFault.TheVariants as out
-use Rattle.twkb_tree.specs.Limits.{Allowance}
 use Rattle.twkb_convert.specs.BlobReading.{given, limits_of, rest_of, told_of}
-use Rattle.twkb_blob.specs.declared.reader.Reader.{Reader}
-use Rattle.twkb_blob.specs.declared.spans.Located.{Located}
-use Rattle.twkb_convert.specs.Fronts.{HoldsWhole}
-use Rattle.twkb_convert.specs.LocatedBlobs.{LocatedStream}
-use Rattle.twkb_convert.specs.Listings.{blobs_text, first_line, listing_text}
-use Rattle.twkb_convert.specs.declared.listing.Listing.{Listing}
 use Rattle.twkb_convert.specs.BlobSending.{CutText, ExplainsObstacle, SentText, is_write}
-use Rattle.twkb_convert.specs.declared.obstacle.StreamObstacle.{StreamObstacle}
 use Rattle.twkb_convert.specs.declared.obstacle.StreamObstacle.TheVariants as obstacle
-use Rattle.twkb_convert.specs.declared.obstacle.Unfinished.{Unfinished}
 
 any_begins : (known : Option (List ℕ)) → BeginsWith known []
 any_begins None = tt

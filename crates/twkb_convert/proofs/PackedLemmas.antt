@@ -1,24 +1,10 @@
 -- From an output to what a caller of a conversion sees.
-use Rattle.std.proofs.Common.{◌≡◌, ◌∙◌, ◌<◌, ◌^◌, ℕ, List, [], ◌++◌, Bool, true, false, Option, ap, arith, refl, subst, sym, inl, inr}
-use Rattle.std.specs.Io.KnownBytes.{Appends, IsAtEnd}
-use Rattle.twkb_io.specs.Taps.{bytes_given, count_failure, device_of, failures_of}
-use Rattle.twkb_io.specs.Outputs.{output_tap, sent_of}
-use Rattle.twkb_io.specs.declared.tap.Tap.{Tap}
-use Rattle.twkb_io.specs.declared.output.Output.{Output}
+use Rattle.twkb_convert.proofs.Prelude.{◌≡◌, ◌∙◌, ◌<◌, ◌^◌, ℕ, List, [], ◌++◌, Bool, true, false, Option, ap, arith, refl, subst, sym, inl, inr, Appends, IsAtEnd, bytes_given, count_failure, device_of, failures_of, output_tap, sent_of, Tap, Output, Tree, Allowance, canonical_stream, Style, Changes, IsDeviceCause, TableObstacle, Unfinished, Tally, Cause}
 use Rattle.twkb_io.specs.declared.output.OutFault.TheVariants as out
-use Rattle.twkb_tree.specs.Tree.{Tree}
-use Rattle.twkb_tree.specs.Limits.{Allowance}
-use Rattle.twkb_grammar.specs.Written.{canonical_stream}
-use Rattle.twkb_grammar.specs.declared.style.Style.{Style}
 use Rattle.twkb_table.specs.declared.table_fault.TableFault.TheVariants as fault
-use Rattle.twkb_convert.specs.Devices.{Changes, IsDeviceCause}
 use Rattle.twkb_convert.specs.Packed.{ExplainsAs, ExplainsPackingCause, PackedWith, StoppedPacking}
 use Rattle.twkb_convert.specs.Sending.{ExplainsWhy, SentTable, Stopped, is_write}
-use Rattle.twkb_convert.specs.declared.obstacle.TableObstacle.{TableObstacle}
 use Rattle.twkb_convert.specs.declared.obstacle.TableObstacle.TheVariants as obstacle
-use Rattle.twkb_convert.specs.declared.obstacle.Unfinished.{Unfinished}
-use Rattle.twkb_convert.specs.declared.sending.Tally.{Tally}
-use Rattle.twkb_convert.specs.declared.report.Cause.{Cause}
 use Rattle.twkb_convert.specs.declared.report.Cause.TheVariants as cause
 use Rattle.twkb_convert.proofs.SendingLemmas.{all_ready, whole_front}
 use Rattle.twkb_convert.proofs.WorkLemmas.{read_thrice, read_twice}

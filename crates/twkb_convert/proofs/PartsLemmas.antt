@@ -1,26 +1,9 @@
 -- Tables and streams in parts.
-use Rattle.std.specs.Prelude.{map}
-use Rattle.std.proofs.Common.{◌≡◌, ◌∙◌, ◌+◌, ℕ, List, [], ◌∷◌, ◌++◌, length, ap, arith, refl, sym, subst, inl, inr, append_assoc}
-use Rattle.std.proofs.lemmas.List.{append_cancel_left}
-use Rattle.std.proofs.lemmas.Grind.{flat_map-append}
-use Rattle.twkb_tree.specs.Tree.{Tree}
-use Rattle.twkb_tree.specs.Limits.{Allowance, IsAllowance}
-use Rattle.twkb_grammar.specs.Blob.{Stream}
-use Rattle.twkb_grammar.specs.Fault.{StreamFault}
-use Rattle.twkb_grammar.specs.Spans.{moved_span}
-use Rattle.twkb_grammar.specs.Written.{canonical_blob, canonical_stream}
-use Rattle.twkb_grammar.specs.declared.style.Style.{Style}
+use Rattle.twkb_convert.proofs.Prelude.{map, ◌≡◌, ◌∙◌, ◌+◌, ℕ, List, [], ◌∷◌, ◌++◌, length, ap, arith, refl, sym, subst, inl, inr, append_assoc, append_cancel_left, flat_map-append, Tree, Allowance, IsAllowance, Stream, StreamFault, moved_span, canonical_blob, canonical_stream, Style, Record, header, csvtext, Located, BeginLocated, LocatedStream, ShowTo, geometries_of, lines_text, UnpackTo, rows_text, table_text, AreMovedLines, PackApart, RowsName, all_moved, span_lines}
 use Rattle.twkb_grammar.proofs.SpanLaws.{blob_moved}
 use Rattle.twkb_grammar.proofs.Streams.{fault-append, stream-append}
-use Rattle.twkb_table.specs.Record.{Record, header}
 use Rattle.twkb_table.specs.Parts.{BeginAtRoot}
-use Rattle.twkb_table.specs.Text.{csvtext}
 use Rattle.twkb_table.proofs.PartsLemmas.{named_cut, named_joined}
-use Rattle.twkb_blob.specs.declared.spans.Located.{Located}
-use Rattle.twkb_convert.specs.LocatedBlobs.{BeginLocated, LocatedStream, ShowTo, geometries_of, lines_text}
-use Rattle.twkb_convert.specs.Outputs.{UnpackTo, rows_text, table_text}
-use Rattle.twkb_convert.specs.Parts.{AreMovedLines, PackApart, RowsName, all_moved}
-use Rattle.twkb_convert.specs.SpanLines.{span_lines}
 use Rattle.twkb_convert.proofs.LocatedLemmas.{located-append, located-stream}
 use Rattle.twkb_convert.proofs.RoundTrips.{packed_records, unpacked_stream}
 use Rattle.twkb_convert.proofs.RowTexts.{table_text-append, table_text-rows}

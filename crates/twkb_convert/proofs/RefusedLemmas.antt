@@ -1,15 +1,5 @@
 -- A record that is refused in a beginning of a text is refused in all of it, and what is complete before it is the output.
-use Rattle.std.proofs.Common.{◌≡◌, ◌∙◌, ℕ, List, [], ◌∷◌, ◌++◌, refl, ap, sym, subst, inl, inr, append_assoc}
-use Rattle.twkb_tree.specs.Tree.{Tree}
-use Rattle.twkb_tree.specs.Limits.{Allowance}
-use Rattle.twkb_grammar.specs.Written.{canonical_stream}
-use Rattle.twkb_grammar.specs.declared.style.Style.{Style}
-use Rattle.twkb_table.specs.Record.{Record}
-use Rattle.twkb_table.specs.Named.{NamesNone}
-use Rattle.twkb_table.specs.RowFault.{AreComplete}
-use Rattle.twkb_table.specs.declared.reason.RowReason.{RowReason}
-use Rattle.twkb_convert.specs.Outputs.{PackTo}
-use Rattle.twkb_convert.specs.RefusedRows.{IsRefusedText}
+use Rattle.twkb_convert.proofs.Prelude.{◌≡◌, ◌∙◌, ℕ, List, [], ◌∷◌, ◌++◌, refl, ap, sym, subst, inl, inr, append_assoc, Tree, Allowance, canonical_stream, Style, Record, NamesNone, AreComplete, RowReason, PackTo, IsRefusedText}
 use Rattle.twkb_convert.proofs.FrontLemmas.{first_records}
 use Rattle.twkb_convert.proofs.OutputLemmas.{complete_none}
 use Rattle.twkb_convert.proofs.RoundTrips.{one_records}

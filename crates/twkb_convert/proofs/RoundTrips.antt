@@ -1,26 +1,15 @@
 -- What is packed and unpacked comes back.
-use Rattle.std.proofs.Common.{◌≡◌, ◌∙◌, ℕ, List, [], ◌∷◌, None, ap, refl, sym, subst, inl, inr}
+use Rattle.twkb_convert.proofs.Prelude.{◌≡◌, ◌∙◌, ℕ, List, [], ◌∷◌, None, ap, refl, sym, subst, inl, inr, Tree, Allowance, IsAllowance, Stream, canonical_stream, Style, Record, table, Named, AreComplete, RowReason, AreRecordsOf, IsTable, PackTextTo, PackTo, UnpackTo, table_text}
 use Rattle.csv.specs.Reading.{AreRecords, Reached, default_config, strip_bom}
 use Rattle.csv.specs.Machine.{Read, next_record}
 use Rattle.csv.specs.declared.parser.Config.{Config}
 use Rattle.csv.specs.declared.parser.State.{State}
 use Rattle.csv.specs.declared.parser.State.TheVariants.{StartRecord}
-use Rattle.twkb_tree.specs.Tree.{Tree}
-use Rattle.twkb_tree.specs.Limits.{Allowance, IsAllowance}
 use Rattle.twkb_tree.specs.RowLists.{AreValid}
-use Rattle.twkb_grammar.specs.Blob.{Stream}
-use Rattle.twkb_grammar.specs.Written.{canonical_stream}
-use Rattle.twkb_grammar.specs.declared.style.Style.{Style}
 use Rattle.twkb_grammar.proofs.Streams.{no_stream, one_stream, written_stream}
-use Rattle.twkb_table.specs.Record.{Record, table}
-use Rattle.twkb_table.specs.Named.{Named}
-use Rattle.twkb_table.specs.RowFault.{AreComplete}
-use Rattle.twkb_table.specs.declared.reason.RowReason.{RowReason}
 use Rattle.twkb_table.proofs.FaultLaws.{fault_none}
 use Rattle.twkb_table.proofs.ReadBack.{text_read}
 use Rattle.twkb_table.proofs.Tables.{one_table}
-use Rattle.twkb_table.specs.CsvRecords.{AreRecordsOf}
-use Rattle.twkb_convert.specs.Outputs.{IsTable, PackTextTo, PackTo, UnpackTo, table_text}
 
 -- ---- a text has one list of records
 

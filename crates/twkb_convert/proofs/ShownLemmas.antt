@@ -1,23 +1,9 @@
 -- Bytes are shown by one text.
-use Rattle.std.specs.Prelude.{◌⊎◌}
-use Rattle.std.proofs.Common.{◌≡◌, ◌∙◌, ◌+◌, ℕ, List, [], ◌∷◌, ◌++◌, length, Some, ap, arith, refl, sym, subst, inl, inr, length-append, append_assoc}
-use Rattle.std.proofs.lemmas.List.{append-nil}
-use Rattle.std.proofs.lemmas.Grind.{flat_map-append}
-use Rattle.twkb_io.specs.Copies.{BeginsWith}
-use Rattle.twkb_tree.specs.Tree.{Tree}
-use Rattle.twkb_tree.specs.Limits.{Allowance, IsAllowance}
-use Rattle.twkb_grammar.specs.Bits.{AreBytes}
-use Rattle.twkb_grammar.specs.Blob.{Blob, Stream}
-use Rattle.twkb_grammar.specs.Fault.{Reason, StreamFault}
-use Rattle.twkb_grammar.specs.Spans.{spans_of_blob}
-use Rattle.twkb_grammar.specs.declared.span.Span.{Span}
+use Rattle.twkb_convert.proofs.Prelude.{◌⊎◌, ◌≡◌, ◌∙◌, ◌+◌, ℕ, List, [], ◌∷◌, ◌++◌, length, Some, ap, arith, refl, sym, subst, inl, inr, length-append, append_assoc, append-nil, flat_map-append, BeginsWith, Tree, Allowance, IsAllowance, AreBytes, Blob, Stream, Reason, StreamFault, spans_of_blob, Span, Located, span_lines, LocatedStream, ShowTo, TellsSpans, geometries_of, lines_text}
 use Rattle.twkb_grammar.proofs.One.{one_blob_lem, peel}
 use Rattle.twkb_grammar.proofs.OneFault.{no_fault}
 use Rattle.twkb_grammar.proofs.SpanLaws.{one_list}
 use Rattle.twkb_grammar.proofs.Streams.{blob_long, stream_or_fault}
-use Rattle.twkb_blob.specs.declared.spans.Located.{Located}
-use Rattle.twkb_convert.specs.SpanLines.{span_lines}
-use Rattle.twkb_convert.specs.LocatedBlobs.{LocatedStream, ShowTo, TellsSpans, geometries_of, lines_text}
 use Rattle.twkb_convert.proofs.LocatedLemmas.{located-stream}
 
 -- ---- one list of blobs

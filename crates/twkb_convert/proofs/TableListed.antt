@@ -1,24 +1,8 @@
 -- A stream that was written as a table, without the spans of its blobs.
-use Rattle.std.specs.Prelude.{IfSome, IfOk, IfErr, Result, Ok, Err}
-use Rattle.std.proofs.Common.{◌≡◌, ◌∙◌, ◌<◌, ◌^◌, ℕ, List, ◌++◌, Option, Some, None, length, ap, sym, subst, inl, inr}
-use Rattle.std.specs.Io.KnownBytes.{Appends}
-use Rattle.std.proofs.lemmas.List.{map-append, length-map}
-use Rattle.twkb_io.specs.declared.tap.Tap.{Tap}
-use Rattle.twkb_io.specs.Taps.{device_of}
-use Rattle.twkb_tree.specs.Tree.{Tree}
-use Rattle.twkb_tree.specs.Limits.{Allowance}
-use Rattle.twkb_grammar.specs.Blob.{Stream}
-use Rattle.twkb_blob.specs.declared.spans.Located.{Located}
-use Rattle.twkb_convert.specs.Outputs.{AtMostOneCut, table_text}
-use Rattle.twkb_convert.specs.LocatedBlobs.{LocatedStream, geometries_of}
-use Rattle.twkb_convert.specs.Listings.{listing_text}
-use Rattle.twkb_convert.specs.Fronts.{HoldsWhole}
+use Rattle.twkb_convert.proofs.Prelude.{IfSome, IfOk, IfErr, Result, Ok, Err, ◌≡◌, ◌∙◌, ◌<◌, ◌^◌, ℕ, List, ◌++◌, Option, Some, None, length, ap, sym, subst, inl, inr, Appends, map-append, length-map, Tap, device_of, Tree, Allowance, Stream, Located, AtMostOneCut, table_text, LocatedStream, geometries_of, listing_text, HoldsWhole, Report, ConvertFault, Cause}
 use Rattle.twkb_convert.specs.Listed.{ExplainsListingCause, Listed, StoppedListing}
 use Rattle.twkb_convert.specs.Unpacked.{StoppedUnpacking, Unpacked}
 use Rattle.twkb_convert.specs.declared.listing.Listing.TheVariants as listing
-use Rattle.twkb_convert.specs.declared.report.Report.{Report}
-use Rattle.twkb_convert.specs.declared.report.ConvertFault.{ConvertFault}
-use Rattle.twkb_convert.specs.declared.report.Cause.{Cause}
 use Rattle.twkb_convert.specs.declared.report.Cause.TheVariants as causes
 use Rattle.twkb_convert.proofs.LocatedLemmas.{located-stream}
 use Rattle.twkb_convert.proofs.ListingTexts.{table_of_blobs}
