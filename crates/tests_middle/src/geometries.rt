@@ -28,6 +28,15 @@ pub fn lines_of(alloc: Global, lines: &[&[(i64, i64)]]) -> Option<Lines> {
     Some(Lines::from_vec(items))
 }
 
+/// Polygons of these rings.
+fn areas_of(alloc: Global, areas: &[&[&[(i64, i64)]]]) -> Option<Areas> {
+    let mut items = Vec::new(alloc);
+    for rings in areas {
+        items.push(lines_of(alloc, *rings)?).ok()?;
+    }
+    Some(Areas::from_vec(items))
+}
+
 /// A point of this precision, or none.
 pub fn dot(precision: i8, place: Option<(i64, i64)>) -> Option<Geometry> {
     let Some((x, y)) = place else {
@@ -76,11 +85,9 @@ pub fn empty_line(alloc: Global) -> Option<Geometry> {
 
 /// `0,multipolygon,,0,` / `1,polygon,3,,` / `2,ring,,,AA` / `2,ring,,,` / `1,polygon,4,,`
 pub fn two_polygons(alloc: Global) -> Option<Geometry> {
-    let mut areas = Vec::new(alloc);
-    areas.push(lines_of(alloc, &[&[(1, 1)], &[]])?).ok()?;
-    areas.push(lines_of(alloc, &[])?).ok()?;
-    let shape = Shape::MultiPolygon(Areas::from_vec(areas), ids(alloc, &[3, 4])?);
-    geometry(0, shape)
+    let ids = ids(alloc, &[3, 4])?;
+    let areas = areas_of(alloc, &[&[&[(1, 1)], &[]], &[]])?;
+    geometry(0, Shape::MultiPolygon(areas, ids))
 }
 
 /// `0,collection,,0,` / `1,point,7,0,AA` / `1,linestring,-1,0,`

@@ -1,6 +1,7 @@
 //! What readers and sessions answer for whole streams: how many geometries, and which fault.
 use std::alloc::Global;
 use std::io::Read;
+use std::process::Abort;
 use twkb_blob::{BlobFault, Reader, Session};
 use twkb_geom::Limits;
 use twkb_io::{Input, Tap};
@@ -88,15 +89,20 @@ pub fn byte_by_byte(alloc: Global, limits: Limits, bytes: &[u8]) -> Outcome {
     outcome
 }
 
-/// Whether all ways to read the stream have this outcome: a reader, two pieces cut anywhere, and single bytes.
-pub fn all_give(alloc: Global, limits: Limits, bytes: &[u8], outcome: Outcome) -> bool {
-    if by_reader(alloc, limits, bytes) != outcome || byte_by_byte(alloc, limits, bytes) != outcome {
-        return false;
-    }
+/// Asserts that all ways to read the stream have this outcome: a reader, two pieces cut anywhere, and single bytes.
+pub fn assert_all_give(
+    rt: &impl Abort,
+    alloc: Global,
+    limits: Limits,
+    bytes: &[u8],
+    outcome: Outcome,
+) {
+    let came = by_reader(alloc, limits, bytes);
+    assert!(rt; came == outcome, "{bytes:?} by a reader: {came:?}");
+    let came = byte_by_byte(alloc, limits, bytes);
+    assert!(rt; came == outcome, "{bytes:?} byte by byte: {came:?}");
     for cut in 0..bytes.len() {
-        if by_session(alloc, limits, &bytes[..cut], &bytes[cut..]) != outcome {
-            return false;
-        }
+        let came = by_session(alloc, limits, &bytes[..cut], &bytes[cut..]);
+        assert!(rt; came == outcome, "{bytes:?} cut at {cut}: {came:?}");
     }
-    true
 }

@@ -1,8 +1,9 @@
 //! Want of memory. Run with each allocation refused in turn (`rt try --test --fail-alloc N`): an answer is then the right one
 //! or want of memory, for good.
-use super::answers::{goes_on, refuses_piece};
+use super::answers::{assert_goes_on, assert_piece_refused};
 use super::feeding::{Outcome, by_reader, by_session, byte_by_byte};
 use std::alloc::Global;
+use std::process::Abort;
 use twkb_blob::{BlobFault, Session};
 use twkb_geom::Limits;
 
@@ -44,19 +45,19 @@ fn each_growth_of_open_collections_may_be_refused(rt: HostRuntime) {
     assert!(rt; each_way(rt.alloc(), &DEEP), "six collections");
 }
 
-/// Whether a session that took a piece stands between two blobs, or is spent for want of memory.
-fn is_between_or_spent(session: &mut Session, piece: &[u8]) -> bool {
-    match session.feed(piece).err() {
-        None => goes_on(session, &[]),
-        Some(fault) => fault == BlobFault::Memory && refuses_piece(session, &[], BlobFault::Spent),
+/// Asserts that a session that took a piece stands between two blobs, or is spent for want of memory.
+fn assert_between_or_spent(rt: &impl Abort, session: &mut Session, piece: &[u8]) {
+    let came = session.feed(piece).err();
+    if came.is_none() {
+        assert_goes_on(rt, session, &[]);
+    } else {
+        assert!(rt; came == Some(BlobFault::Memory), "{came:?}");
+        assert_piece_refused(rt, session, &[], BlobFault::Spent);
     }
 }
 
 #[test]
 fn a_session_that_wants_memory_is_spent(rt: HostRuntime) {
     let mut session = Session::new(rt.alloc(), Limits::standard());
-    assert!(rt;
-        is_between_or_spent(&mut session, &NAMED),
-        "members with ids"
-    );
+    assert_between_or_spent(&rt, &mut session, &NAMED);
 }

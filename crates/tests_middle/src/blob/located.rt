@@ -1,8 +1,9 @@
 //! Geometries with their spans: level, offset, type, precision, metadata byte, length and points as the worked rows of the documents
 //! have them.
-use super::answers::{gives_located_end, gives_point, gives_spans, refuses_located};
+use super::answers::{assert_located_end, assert_located_fault, assert_point, assert_spans};
 use std::alloc::Global;
 use std::io::Read;
+use std::process::Abort;
 use twkb_blob::{BlobFault, BlobReason, Reader, Span};
 use twkb_geom::{Kind, Limits};
 use twkb_io::{Fuse, FuseEnd, InFault, Input, Tap};
@@ -28,12 +29,12 @@ fn span(
     }
 }
 
-/// Whether a reader gives a geometry with these spans, and then the end, for good.
-fn gives_spans_and_the_end<R: Read>(alloc: Global, tap: &mut Tap<R>, spans: &[Span]) -> bool {
+/// Asserts that a reader gives a geometry with these spans, and then the end, for good.
+fn assert_spans_and_end<R: Read>(rt: &impl Abort, alloc: Global, tap: &mut Tap<R>, spans: &[Span]) {
     let mut reader = Reader::new(Input::new(tap), Limits::standard());
-    gives_spans(alloc, &mut reader, spans)
-        && gives_located_end(alloc, &mut reader)
-        && gives_located_end(alloc, &mut reader)
+    assert_spans(rt, alloc, &mut reader, spans);
+    assert_located_end(rt, alloc, &mut reader);
+    assert_located_end(rt, alloc, &mut reader);
 }
 
 #[test]
@@ -45,10 +46,7 @@ fn a_collection_and_its_members_have_a_span_each(rt: HostRuntime) {
         span(1, 10, Kind::Point, 0, 0x02, 5, 1),
         span(1, 15, Kind::Linestring, 0, 0x12, 3, 0),
     ];
-    assert!(rt;
-        gives_spans_and_the_end(rt.alloc(), &mut tap, &spans),
-        "the collection"
-    );
+    assert_spans_and_end(&rt, rt.alloc(), &mut tap, &spans);
 }
 
 #[test]
@@ -60,81 +58,68 @@ fn a_line_with_a_box_is_as_long_as_its_bytes(rt: HostRuntime) {
     ];
     let mut tap = Tap::new(bytes.as_slice());
     let spans = [span(0, 0, Kind::Linestring, 5, 0x03, 38, 3)];
-    assert!(rt;
-        gives_spans_and_the_end(rt.alloc(), &mut tap, &spans),
-        "three points of five decimals"
-    );
+    assert_spans_and_end(&rt, rt.alloc(), &mut tap, &spans);
 }
 
 #[test]
 fn precision_and_free_bits_are_those_of_the_header(rt: HostRuntime) {
     let mut tap = Tap::new(b"\xF1\x02\x02\x04\x02".as_slice());
     let least = [span(0, 0, Kind::Point, -8, 0x02, 5, 1)];
-    assert!(rt;
-        gives_spans_and_the_end(rt.alloc(), &mut tap, &least),
-        "the least precision"
-    );
+    assert_spans_and_end(&rt, rt.alloc(), &mut tap, &least);
     let mut tap = Tap::new(b"\x01\xE0\x04\x02".as_slice());
     let free = [span(0, 0, Kind::Point, 0, 0xE0, 4, 1)];
-    assert!(rt;
-        gives_spans_and_the_end(rt.alloc(), &mut tap, &free),
-        "the three free bits"
-    );
+    assert_spans_and_end(&rt, rt.alloc(), &mut tap, &free);
 }
 
-/// Whether a reader gives a point of four bytes.
-fn gives_the_point<R: Read>(alloc: Global, reader: &mut Reader<'_, R>) -> bool {
-    gives_spans(alloc, reader, &[span(0, 0, Kind::Point, 0, 0x00, 4, 1)])
+/// Asserts that a reader gives a point of four bytes.
+fn assert_the_point<R: Read>(rt: &impl Abort, alloc: Global, reader: &mut Reader<'_, R>) {
+    assert_spans(rt, alloc, reader, &[span(0, 0, Kind::Point, 0, 0x00, 4, 1)]);
 }
 
-/// Whether a reader gives a point of three bytes, without coordinates, behind four others.
-fn gives_the_empty_point<R: Read>(alloc: Global, reader: &mut Reader<'_, R>) -> bool {
-    gives_spans(alloc, reader, &[span(0, 4, Kind::Point, 0, 0x12, 3, 0)])
+/// Asserts that a reader gives a point of three bytes, without coordinates, behind four others.
+fn assert_the_empty_point<R: Read>(rt: &impl Abort, alloc: Global, reader: &mut Reader<'_, R>) {
+    assert_spans(rt, alloc, reader, &[span(0, 4, Kind::Point, 0, 0x12, 3, 0)]);
 }
 
-/// Whether a reader gives a point, and behind it a point without coordinates.
-fn gives_both_points<R: Read>(alloc: Global, tap: &mut Tap<R>) -> bool {
+/// Asserts that a reader gives a point, and behind it a point without coordinates.
+fn assert_both_points<R: Read>(rt: &impl Abort, alloc: Global, tap: &mut Tap<R>) {
     let mut reader = Reader::new(Input::new(tap), Limits::standard());
-    gives_the_point(alloc, &mut reader) && gives_the_empty_point(alloc, &mut reader)
+    assert_the_point(rt, alloc, &mut reader);
+    assert_the_empty_point(rt, alloc, &mut reader);
 }
 
 #[test]
 fn offsets_count_from_the_streams_start(rt: HostRuntime) {
     let mut tap = Tap::new(b"\x01\x00\x04\x02\x01\x12\x00".as_slice());
-    assert!(rt; gives_both_points(rt.alloc(), &mut tap), "two points");
+    assert_both_points(&rt, rt.alloc(), &mut tap);
 }
 
-/// Whether a reader gives a point, and then refuses a cut point at offset 7, for good.
-fn gives_the_point_and_its_fault<R: Read>(alloc: Global, tap: &mut Tap<R>) -> bool {
+/// Asserts that a reader gives a point, and then refuses a cut point at offset 7, for good.
+fn assert_point_and_fault<R: Read>(rt: &impl Abort, alloc: Global, tap: &mut Tap<R>) {
     let mut reader = Reader::new(Input::new(tap), Limits::standard());
     let reason = BlobReason::Truncated;
-    gives_the_point(alloc, &mut reader)
-        && refuses_located(alloc, &mut reader, BlobFault::At { offset: 7, reason })
-        && refuses_located(alloc, &mut reader, BlobFault::Spent)
+    assert_the_point(rt, alloc, &mut reader);
+    assert_located_fault(rt, alloc, &mut reader, BlobFault::At { offset: 7, reason });
+    assert_located_fault(rt, alloc, &mut reader, BlobFault::Spent);
 }
 
 #[test]
 fn a_stream_gives_its_spans_and_then_its_fault_for_good(rt: HostRuntime) {
     let mut tap = Tap::new(b"\x01\x00\x04\x02\x01\x00\x04".as_slice());
-    assert!(rt;
-        gives_the_point_and_its_fault(rt.alloc(), &mut tap),
-        "the point, and the cut point"
-    );
+    assert_point_and_fault(&rt, rt.alloc(), &mut tap);
 }
 
-/// Whether a reader gives a blob by `next`, and then the spans of the one behind it.
-fn gives_both_ways<R: Read>(alloc: Global, tap: &mut Tap<R>) -> bool {
+/// Asserts that a reader gives a blob by `next`, and then the spans of the one behind it.
+fn assert_both_ways<R: Read>(rt: &impl Abort, alloc: Global, tap: &mut Tap<R>) {
     let mut reader = Reader::new(Input::new(tap), Limits::standard());
-    gives_point(alloc, &mut reader, 2, 1) && gives_the_empty_point(alloc, &mut reader)
+    assert_point(rt, alloc, &mut reader, 2, 1);
+    assert_the_empty_point(rt, alloc, &mut reader);
 }
 
 #[test]
 fn both_ways_to_read_may_be_mixed(rt: HostRuntime) {
     let mut tap = Tap::new(b"\x01\x00\x04\x02\x01\x12\x00".as_slice());
-    assert!(rt;
-        gives_both_ways(rt.alloc(), &mut tap),
-        "behind a blob that `next` gave"
-    );
+    assert_both_ways(&rt, rt.alloc(), &mut tap);
 }
 
 #[test]
@@ -147,17 +132,14 @@ fn members_two_levels_down_have_their_own_precision(rt: HostRuntime) {
         span(2, 6, Kind::Point, 5, 0x00, 4, 1),
         span(1, 10, Kind::Linestring, 0, 0x10, 2, 0),
     ];
-    assert!(rt;
-        gives_spans_and_the_end(rt.alloc(), &mut tap, &spans),
-        "a collection in a collection"
-    );
+    assert_spans_and_end(&rt, rt.alloc(), &mut tap, &spans);
 }
 
-/// Whether a reader answers a failed read, and is then spent.
-fn fails_for_good<R: Read>(alloc: Global, tap: &mut Tap<R>) -> bool {
+/// Asserts that a reader answers a failed read, and is then spent.
+fn assert_failure<R: Read>(rt: &impl Abort, alloc: Global, tap: &mut Tap<R>) {
     let mut reader = Reader::new(Input::new(tap), Limits::standard());
-    refuses_located(alloc, &mut reader, BlobFault::Device(InFault::Read))
-        && refuses_located(alloc, &mut reader, BlobFault::Spent)
+    assert_located_fault(rt, alloc, &mut reader, BlobFault::Device(InFault::Read));
+    assert_located_fault(rt, alloc, &mut reader, BlobFault::Spent);
 }
 
 #[test]
@@ -165,6 +147,6 @@ fn each_read_that_fails_is_a_device_fault(rt: HostRuntime) {
     for bytes in 0..4 {
         let point = b"\x01\x00\x04\x02".as_slice();
         let mut tap = Tap::new(Fuse::new(point, bytes, 1, FuseEnd::Fail, false));
-        assert!(rt; fails_for_good(rt.alloc(), &mut tap), "behind {bytes}");
+        assert_failure(&rt, rt.alloc(), &mut tap);
     }
 }

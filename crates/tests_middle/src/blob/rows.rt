@@ -1,96 +1,103 @@
 //! Rows of blobs in a flat form: by a reader and by a session, with the calls for trees between them, and what is left behind a fault,
 //! a failed read and want of memory. Run with each allocation refused in turn (`rt try --test --fail-alloc N`) too.
 use super::answers::{
-    feeds_short_line, gives_end, gives_point, refuses, refuses_end, refuses_piece,
+    assert_end, assert_end_refused, assert_fault, assert_feeds_short_line, assert_piece_refused,
+    assert_point,
 };
 use std::alloc::Global;
 use std::io::Read;
+use std::process::Abort;
 use twkb_blob::{BlobFault, BlobReason, Reader, Session, Spans};
 use twkb_geom::{Flat, Limits};
 use twkb_io::{Fuse, FuseEnd, InFault, Input, Tap};
 
-/// Whether the form has so many rows and points.
-fn has(flat: &Flat, rows: u32, points: u32) -> bool {
-    flat.node_count() == rows && flat.point_count() == points
+/// Asserts that the form has so many rows and points.
+fn assert_has(rt: &impl Abort, flat: &Flat, rows: u32, points: u32) {
+    let came = (flat.node_count(), flat.point_count());
+    assert!(rt; came == (rows, points), "{came:?}");
 }
 
-/// Whether `next_flat` gives so many rows and points.
-fn gives_rows<R: Read>(
+/// Asserts that `next_flat` gives so many rows and points.
+fn assert_rows<R: Read>(
+    rt: &impl Abort,
     alloc: Global,
     reader: &mut Reader<'_, R>,
     flat: &mut Flat,
     rows: u32,
     points: u32,
-) -> bool {
-    reader.next_flat(alloc, flat) == Ok(true) && has(flat, rows, points)
+) {
+    let came = reader.next_flat(alloc, flat);
+    assert!(rt; came == Ok(true), "{came:?}");
+    assert_has(rt, flat, rows, points);
 }
 
-/// Whether `next_flat` tells the end, and leaves no row.
-fn gives_no_rows<R: Read>(alloc: Global, reader: &mut Reader<'_, R>, flat: &mut Flat) -> bool {
-    reader.next_flat(alloc, flat) == Ok(false) && flat.is_empty()
+/// Asserts that `next_flat` tells the end, and leaves no row.
+fn assert_no_rows<R: Read>(
+    rt: &impl Abort,
+    alloc: Global,
+    reader: &mut Reader<'_, R>,
+    flat: &mut Flat,
+) {
+    let came = reader.next_flat(alloc, flat);
+    assert!(rt; came == Ok(false) && flat.is_empty(), "{came:?}");
 }
 
-/// Whether `next_flat` answers this fault, and leaves no row.
-fn refuses_rows<R: Read>(
+/// Asserts that `next_flat` answers this fault, and leaves no row.
+fn assert_rows_refused<R: Read>(
+    rt: &impl Abort,
     alloc: Global,
     reader: &mut Reader<'_, R>,
     flat: &mut Flat,
     fault: BlobFault,
-) -> bool {
-    reader.next_flat(alloc, flat) == Err(fault) && flat.is_empty()
+) {
+    let came = reader.next_flat(alloc, flat);
+    assert!(rt; came == Err(fault) && flat.is_empty(), "{came:?}");
 }
 
-/// Whether a reader gives a line's rows, a point, a line's rows again, and the end for good.
-fn mixes<R: Read>(alloc: Global, tap: &mut Tap<R>) -> bool {
+/// Asserts that a reader gives a line's rows, a point, a line's rows again, and the end for good.
+fn assert_mixed<R: Read>(rt: &impl Abort, alloc: Global, tap: &mut Tap<R>) {
     let mut reader = Reader::new(Input::new(tap), Limits::standard());
     let mut flat = Flat::new(alloc);
-    gives_rows(alloc, &mut reader, &mut flat, 1, 2)
-        && gives_point(alloc, &mut reader, 2, 1)
-        && gives_rows(alloc, &mut reader, &mut flat, 1, 2)
-        && gives_no_rows(alloc, &mut reader, &mut flat)
-        && gives_end(alloc, &mut reader)
-        && gives_no_rows(alloc, &mut reader, &mut flat)
+    assert_rows(rt, alloc, &mut reader, &mut flat, 1, 2);
+    assert_point(rt, alloc, &mut reader, 2, 1);
+    assert_rows(rt, alloc, &mut reader, &mut flat, 1, 2);
+    assert_no_rows(rt, alloc, &mut reader, &mut flat);
+    assert_end(rt, alloc, &mut reader);
+    assert_no_rows(rt, alloc, &mut reader, &mut flat);
 }
 
 #[test]
 fn rows_and_trees_may_be_asked_for_in_turn(rt: HostRuntime) {
     let bytes = b"\x02\x00\x02\x02\x02\x08\x08\x01\x00\x04\x02\x02\x00\x02\x02\x02\x08\x08";
     let mut tap = Tap::new(bytes.as_slice());
-    assert!(rt; mixes(rt.alloc(), &mut tap), "a line, a point, a line");
+    assert_mixed(&rt, rt.alloc(), &mut tap);
 }
 
-/// Whether a reader gives a point's row, and then refuses a cut point at offset 7, for good.
-fn gives_a_row_and_its_fault<R: Read>(alloc: Global, tap: &mut Tap<R>) -> bool {
+/// Asserts that a reader gives a point's row, and then refuses a cut point at offset 7, for good.
+fn assert_row_and_fault<R: Read>(rt: &impl Abort, alloc: Global, tap: &mut Tap<R>) {
     let mut reader = Reader::new(Input::new(tap), Limits::standard());
     let mut flat = Flat::new(alloc);
     let reason = BlobReason::Truncated;
-    gives_rows(alloc, &mut reader, &mut flat, 1, 1)
-        && refuses_rows(
-            alloc,
-            &mut reader,
-            &mut flat,
-            BlobFault::At { offset: 7, reason },
-        )
-        && refuses_rows(alloc, &mut reader, &mut flat, BlobFault::Spent)
-        && refuses(alloc, &mut reader, BlobFault::Spent)
+    let fault = BlobFault::At { offset: 7, reason };
+    assert_rows(rt, alloc, &mut reader, &mut flat, 1, 1);
+    assert_rows_refused(rt, alloc, &mut reader, &mut flat, fault);
+    assert_rows_refused(rt, alloc, &mut reader, &mut flat, BlobFault::Spent);
+    assert_fault(rt, alloc, &mut reader, BlobFault::Spent);
 }
 
 #[test]
 fn no_row_is_left_behind_a_fault(rt: HostRuntime) {
     let mut tap = Tap::new(b"\x01\x00\x04\x02\x01\x00\x04".as_slice());
-    assert!(rt;
-        gives_a_row_and_its_fault(rt.alloc(), &mut tap),
-        "the point, and the cut point"
-    );
+    assert_row_and_fault(&rt, rt.alloc(), &mut tap);
 }
 
-/// Whether a reader answers a failed read without rows, and is then spent.
-fn fails_without_rows<R: Read>(alloc: Global, tap: &mut Tap<R>) -> bool {
+/// Asserts that a reader answers a failed read without rows, and is then spent.
+fn assert_failure<R: Read>(rt: &impl Abort, alloc: Global, tap: &mut Tap<R>) {
     let mut reader = Reader::new(Input::new(tap), Limits::standard());
     let mut flat = Flat::new(alloc);
     let fault = BlobFault::Device(InFault::Read);
-    refuses_rows(alloc, &mut reader, &mut flat, fault)
-        && refuses_rows(alloc, &mut reader, &mut flat, BlobFault::Spent)
+    assert_rows_refused(rt, alloc, &mut reader, &mut flat, fault);
+    assert_rows_refused(rt, alloc, &mut reader, &mut flat, BlobFault::Spent);
 }
 
 #[test]
@@ -98,19 +105,22 @@ fn no_row_is_left_behind_a_read_that_fails(rt: HostRuntime) {
     for bytes in 0..7 {
         let line = b"\x02\x00\x02\x02\x02\x08\x08".as_slice();
         let mut tap = Tap::new(Fuse::new(line, bytes, 1, FuseEnd::Fail, false));
-        assert!(rt; fails_without_rows(rt.alloc(), &mut tap), "behind {bytes}");
+        assert_failure(&rt, rt.alloc(), &mut tap);
     }
 }
 
-/// Whether a session answers so for a piece, and then lends so many rows and points.
-fn feeds_rows(
+/// Asserts that a session answers so for a piece, and then lends so many rows and points.
+fn assert_feeds_rows(
+    rt: &impl Abort,
     session: &mut Session,
     piece: &[u8],
     answer: (usize, bool),
     rows: u32,
     points: u32,
-) -> bool {
-    session.feed_flat(piece) == Ok(answer) && has(session.flat(), rows, points)
+) {
+    let came = session.feed_flat(piece);
+    assert!(rt; came == Ok(answer), "{piece:?}: {came:?}");
+    assert_has(rt, session.flat(), rows, points);
 }
 
 #[test]
@@ -118,22 +128,17 @@ fn a_session_lends_the_rows_of_a_geometry(rt: HostRuntime) {
     let mut session = Session::new(rt.alloc(), Limits::standard());
     let is_fed = session.feed_flat(b"\x02\x00\x02\x02") == Ok((4, false));
     assert!(rt; is_fed, "half a line");
-    let is_fed = feeds_rows(&mut session, b"\x02\x08\x08\x01", (3, true), 1, 2);
-    assert!(rt; is_fed, "the other half");
-    let is_fed = feeds_rows(&mut session, b"\x01\x00\x04\x02\x07", (4, true), 1, 1);
-    assert!(rt; is_fed, "a point, whose row takes the line's place");
+    assert_feeds_rows(&rt, &mut session, b"\x02\x08\x08\x01", (3, true), 1, 2);
+    assert_feeds_rows(&rt, &mut session, b"\x01\x00\x04\x02\x07", (4, true), 1, 1);
 }
 
 #[test]
 fn a_session_gives_rows_and_trees_in_turn(rt: HostRuntime) {
     let mut session = Session::new(rt.alloc(), Limits::standard());
     let line = b"\x02\x00\x02\x02\x02\x08\x08";
-    assert!(rt; feeds_rows(&mut session, line, (7, true), 1, 2), "rows");
-    assert!(rt; feeds_short_line(&mut session, line, 7), "a tree");
-    assert!(rt;
-        feeds_rows(&mut session, line, (7, true), 1, 2),
-        "rows again"
-    );
+    assert_feeds_rows(&rt, &mut session, line, (7, true), 1, 2);
+    assert_feeds_short_line(&rt, &mut session, line, 7);
+    assert_feeds_rows(&rt, &mut session, line, (7, true), 1, 2);
     assert!(rt; session.finish().is_ok(), "the end");
     let is_spent = session.feed_flat(line) == Err(BlobFault::Spent);
     assert!(rt; is_spent, "a call behind the end");
@@ -145,40 +150,41 @@ const NAMED: [u8; 26] = [
     0x02, 0x05, 0x00, 0x02, 0x01, 0x02, 0x02, 0x01, 0x02, 0x02,
 ];
 
-/// Whether a reader gives the rows of the collection, or lacks memory, leaves no row and is spent.
-fn rows_or_memory<R: Read>(alloc: Global, tap: &mut Tap<R>) -> bool {
+/// Asserts that a reader gives the rows of the collection, or lacks memory, leaves no row and is spent.
+fn assert_rows_or_memory<R: Read>(rt: &impl Abort, alloc: Global, tap: &mut Tap<R>) {
     let mut reader = Reader::new(Input::new(tap), Limits::standard());
     let mut flat = Flat::new(alloc);
-    match reader.next_flat(alloc, &mut flat) {
-        Ok(is_made) => is_made && has(&flat, 7, 5),
-        Err(fault) => {
-            fault == BlobFault::Memory
-                && flat.is_empty()
-                && refuses_rows(alloc, &mut reader, &mut flat, BlobFault::Spent)
-        }
+    let came = reader.next_flat(alloc, &mut flat);
+    if came == Err(BlobFault::Memory) {
+        assert!(rt; flat.is_empty(), "rows behind want of memory");
+        assert_rows_refused(rt, alloc, &mut reader, &mut flat, BlobFault::Spent);
+    } else {
+        assert!(rt; came == Ok(true), "{came:?}");
+        assert_has(rt, &flat, 7, 5);
     }
 }
 
 #[test]
 fn each_growth_of_rows_may_be_refused(rt: HostRuntime) {
     let mut tap = Tap::new(NAMED.as_slice());
-    assert!(rt; rows_or_memory(rt.alloc(), &mut tap), "members with ids");
+    assert_rows_or_memory(&rt, rt.alloc(), &mut tap);
 }
 
-/// Whether a session lends the rows of the collection, or lacks memory and is spent.
-fn lends_or_memory(session: &mut Session) -> bool {
-    match session.feed_flat(&NAMED) {
-        Ok((used, is_made)) => used == NAMED.len() && is_made && has(session.flat(), 7, 5),
-        Err(fault) => {
-            fault == BlobFault::Memory && refuses_piece(session, &[], BlobFault::Spent)
-        }
+/// Asserts that a session lends the rows of the collection, or lacks memory and is spent.
+fn assert_lends_or_memory(rt: &impl Abort, session: &mut Session) {
+    let came = session.feed_flat(&NAMED);
+    if came == Err(BlobFault::Memory) {
+        assert_piece_refused(rt, session, &[], BlobFault::Spent);
+    } else {
+        assert!(rt; came == Ok((NAMED.len(), true)), "{came:?}");
+        assert_has(rt, session.flat(), 7, 5);
     }
 }
 
 #[test]
 fn each_growth_of_a_sessions_rows_may_be_refused(rt: HostRuntime) {
     let mut session = Session::new(rt.alloc(), Limits::standard());
-    assert!(rt; lends_or_memory(&mut session), "members with ids");
+    assert_lends_or_memory(&rt, &mut session);
 }
 
 /// Whether `next_spans` answers so, with so many rows and spans.
@@ -233,45 +239,38 @@ const CUT: BlobFault = BlobFault::At {
     reason: BlobReason::Truncated,
 };
 
-/// Whether a reader refuses the second line as cut, or lacked memory for the first.
-fn reads_into_grown_rows<R: Read>(alloc: Global, tap: &mut Tap<R>) -> bool {
+/// Asserts that a reader refuses the second line as cut, or lacked memory for the first.
+fn assert_reads_into_grown_rows<R: Read>(rt: &impl Abort, alloc: Global, tap: &mut Tap<R>) {
     let mut reader = Reader::new(Input::new(tap), Limits::standard());
     let mut flat = Flat::new(alloc);
-    match reader.next_flat(alloc, &mut flat) {
-        Ok(is_made) => {
-            is_made && has(&flat, 1, 3) && refuses_rows(alloc, &mut reader, &mut flat, CUT)
-        }
-        Err(fault) => fault == BlobFault::Memory,
+    let came = reader.next_flat(alloc, &mut flat);
+    if came != Err(BlobFault::Memory) {
+        assert!(rt; came == Ok(true), "{came:?}");
+        assert_has(rt, &flat, 1, 3);
+        assert_rows_refused(rt, alloc, &mut reader, &mut flat, CUT);
     }
 }
 
+// 2^24 points in 12 bytes.
 #[test]
 fn a_reader_reserves_nothing_for_an_announced_count(rt: HostRuntime) {
     let mut tap = Tap::new(ANNOUNCED.as_slice());
-    assert!(rt;
-        reads_into_grown_rows(rt.alloc(), &mut tap),
-        "2^24 points in 12 bytes"
-    );
+    assert_reads_into_grown_rows(&rt, rt.alloc(), &mut tap);
 }
 
-/// Whether a session takes the second line's bytes into grown rows, and then may not end.
-fn takes_the_second_line(session: &mut Session) -> bool {
-    feeds_rows(session, &ANNOUNCED[9..], (12, false), 1, 3) && refuses_end(session, CUT)
-}
-
-/// Whether a session refuses the second line as cut, or lacked memory for the first.
-fn feeds_into_grown_rows(session: &mut Session) -> bool {
-    match session.feed_flat(&ANNOUNCED[..9]) {
-        Ok((used, is_made)) => used == 9 && is_made && takes_the_second_line(session),
-        Err(fault) => fault == BlobFault::Memory,
+/// Asserts that a session takes the second line's bytes into grown rows, and then may not end, or lacked memory for the first.
+fn assert_feeds_into_grown_rows(rt: &impl Abort, session: &mut Session) {
+    let came = session.feed_flat(&ANNOUNCED[..9]);
+    if came != Err(BlobFault::Memory) {
+        assert!(rt; came == Ok((9, true)), "{came:?}");
+        assert_feeds_rows(rt, session, &ANNOUNCED[9..], (12, false), 1, 3);
+        assert_end_refused(rt, session, CUT);
     }
 }
 
+// 2^24 points in 12 bytes.
 #[test]
 fn a_session_reserves_nothing_for_an_announced_count(rt: HostRuntime) {
     let mut session = Session::new(rt.alloc(), Limits::standard());
-    assert!(rt;
-        feeds_into_grown_rows(&mut session),
-        "2^24 points in 12 bytes"
-    );
+    assert_feeds_into_grown_rows(&rt, &mut session);
 }

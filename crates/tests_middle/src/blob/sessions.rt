@@ -1,64 +1,61 @@
 //! Sessions: bytes in pieces, what is held, and the end.
-use super::answers::{feeds_short_line, goes_on, refuses_end, refuses_piece};
+use super::answers::{
+    assert_end_refused, assert_feeds_short_line, assert_goes_on, assert_piece_refused,
+};
+use std::process::Abort;
 use twkb_blob::{BlobFault, BlobReason, Session, laws};
 use twkb_geom::{Geometry, Limits, Shape};
 
-/// Whether half a line is used, and counted as a geometry that is begun.
-fn begins_a_line(session: &mut Session) -> bool {
-    goes_on(session, b"\x02\x00\x02\x02") && session.held() == 0 && session.frames() == 1
+/// Asserts that a session has so many geometries begun, and holds so many bytes of a number.
+fn assert_begun(rt: &impl Abort, session: &Session, frames: usize, held: usize) {
+    let came = (session.frames(), session.held());
+    assert!(rt; came == (frames, held), "{came:?}");
 }
 
-/// Whether the other half gives the line, and leaves the type byte behind it.
-fn ends_a_line(session: &mut Session) -> bool {
-    feeds_short_line(session, b"\x02\x08\x08\x01", 3) && session.frames() == 0
-}
-
-/// Whether the stream may not end behind a type byte, for good.
-fn is_cut_at_a_type_byte(session: &mut Session) -> bool {
+/// Asserts that the stream may not end behind a type byte, for good.
+fn assert_cut_at_a_type_byte(rt: &impl Abort, session: &mut Session) {
     let reason = BlobReason::Truncated;
-    goes_on(session, b"\x01")
-        && refuses_end(session, BlobFault::At { offset: 8, reason })
-        && refuses_end(session, BlobFault::Spent)
+    assert_goes_on(rt, session, b"\x01");
+    assert_end_refused(rt, session, BlobFault::At { offset: 8, reason });
+    assert_end_refused(rt, session, BlobFault::Spent);
 }
 
 #[test]
 fn a_feed_stops_behind_a_geometry(rt: HostRuntime) {
     let mut session = Session::new(rt.alloc(), Limits::standard());
-    assert!(rt; begins_a_line(&mut session), "half a line");
-    assert!(rt; ends_a_line(&mut session), "the other half");
-    assert!(rt; is_cut_at_a_type_byte(&mut session), "a cut blob");
+    assert_goes_on(&rt, &mut session, b"\x02\x00\x02\x02");
+    assert_begun(&rt, &session, 1, 0);
+    assert_feeds_short_line(&rt, &mut session, b"\x02\x08\x08\x01", 3);
+    assert_begun(&rt, &session, 0, 0);
+    assert_cut_at_a_type_byte(&rt, &mut session);
 }
 
 #[test]
 fn a_session_holds_the_first_bytes_of_a_number(rt: HostRuntime) {
     let mut session = Session::new(rt.alloc(), Limits::standard());
-    assert!(rt; goes_on(&mut session, b"\x02\x00\x82"), "half a count");
-    assert!(rt; session.held() == 1, "its first byte");
+    assert_goes_on(&rt, &mut session, b"\x02\x00\x82");
+    assert_begun(&rt, &session, 1, 1);
 }
 
-/// Whether a third coordinate is refused at its extended byte, for good.
-fn refuses_a_third_coordinate(session: &mut Session) -> bool {
+/// Asserts that a third coordinate is refused at its extended byte, for good.
+fn assert_third_coordinate_refused(rt: &impl Abort, session: &mut Session) {
     let reason = BlobReason::ExtraDimensions;
-    refuses_piece(session, b"\x01", BlobFault::At { offset: 2, reason })
-        && refuses_piece(session, b"\x01", BlobFault::Spent)
+    assert_piece_refused(rt, session, b"\x01", BlobFault::At { offset: 2, reason });
+    assert_piece_refused(rt, session, b"\x01", BlobFault::Spent);
 }
 
 #[test]
 fn single_bytes_are_used_and_refused_where_they_stand(rt: HostRuntime) {
     let mut session = Session::new(rt.alloc(), Limits::standard());
-    assert!(rt;
-        goes_on(&mut session, b"\x01") && goes_on(&mut session, b"\x08"),
-        "a type byte and a metadata byte"
-    );
-    assert!(rt;
-        refuses_a_third_coordinate(&mut session),
-        "a third coordinate"
-    );
+    assert_goes_on(&rt, &mut session, b"\x01");
+    assert_goes_on(&rt, &mut session, b"\x08");
+    assert_third_coordinate_refused(&rt, &mut session);
 }
 
-/// Whether the stream may end here, and then takes no bytes.
-fn ends_between_blobs(session: &mut Session, piece: &[u8]) -> bool {
-    session.finish().is_ok() && refuses_piece(session, piece, BlobFault::Spent)
+/// Asserts that the stream may end here, and then takes no bytes.
+fn assert_ends_between_blobs(rt: &impl Abort, session: &mut Session, piece: &[u8]) {
+    assert!(rt; session.finish().is_ok(), "the end");
+    assert_piece_refused(rt, session, piece, BlobFault::Spent);
 }
 
 /// The member of a collection of precision 0 that has one, without ids.
@@ -95,40 +92,31 @@ fn is_nested_twice(geometry: &Geometry) -> bool {
     }
 }
 
-/// Whether a session gives that geometry behind so many bytes of the piece.
-fn feeds_nested_twice(session: &mut Session, piece: &[u8], count: usize) -> bool {
-    match session.feed(piece) {
+/// Asserts that a session gives that geometry behind so many bytes of the piece.
+fn assert_nested_twice(rt: &impl Abort, session: &mut Session, piece: &[u8], count: usize) {
+    let is_given = match session.feed(piece) {
         Ok((used, Some(geometry))) => used == count && is_nested_twice(&geometry),
         _ => false,
-    }
-}
-
-/// Whether a session has so many geometries begun, and holds no byte of a number.
-fn has_begun(session: &Session, count: usize) -> bool {
-    session.frames() == count && session.held() == 0
+    };
+    assert!(rt; is_given, "the empty point, and with it both collections");
 }
 
 #[test]
 fn collections_are_counted_as_they_open(rt: HostRuntime) {
     let mut session = Session::new(rt.alloc(), Limits::standard());
-    let is_used = goes_on(&mut session, b"\x07\x00\x01\x07\x00\x01");
-    assert!(rt; is_used && has_begun(&session, 2), "two collections");
-    let is_used = feeds_nested_twice(&mut session, b"\x01\x10\x02", 2);
-    assert!(rt;
-        is_used && has_begun(&session, 0),
-        "the empty point, and with it both collections"
-    );
-    let is_used = goes_on(&mut session, &[]) && has_begun(&session, 0);
-    assert!(rt;
-        is_used && ends_between_blobs(&mut session, &[]),
-        "no bytes"
-    );
+    assert_goes_on(&rt, &mut session, b"\x07\x00\x01\x07\x00\x01");
+    assert_begun(&rt, &session, 2, 0);
+    assert_nested_twice(&rt, &mut session, b"\x01\x10\x02", 2);
+    assert_begun(&rt, &session, 0, 0);
+    assert_goes_on(&rt, &mut session, &[]);
+    assert_begun(&rt, &session, 0, 0);
+    assert_ends_between_blobs(&rt, &mut session, &[]);
 }
 
 #[test]
 fn a_new_session_ends_between_two_blobs(rt: HostRuntime) {
     let mut session = Session::new(rt.alloc(), Limits::standard());
-    assert!(rt; ends_between_blobs(&mut session, b"\x01"), "no bytes");
+    assert_ends_between_blobs(&rt, &mut session, b"\x01");
 }
 
 #[test]

@@ -2,6 +2,7 @@
 use crate::forms::{self, form, point, whole};
 use crate::geometries::{self, dot, line};
 use std::alloc::Global;
+use std::process::Abort;
 use twkb_geom::{Flat, Geometry, Kind, Limits, NodeId, PointId, Work};
 
 /// Whether two forms have the same nodes.
@@ -56,36 +57,37 @@ fn fills(alloc: Global, geometry: &Geometry, flat: &Flat) -> bool {
     }
 }
 
-/// Whether a form and a geometry become each other.
-fn converts(alloc: Global, flat: Option<Flat>, geometry: Option<Geometry>) -> bool {
+/// Asserts that a form and a geometry were made, and become each other.
+fn assert_converts(
+    rt: &impl Abort,
+    alloc: Global,
+    flat: &Option<Flat>,
+    geometry: &Option<Geometry>,
+) {
     match (flat, geometry) {
         (Some(flat), Some(geometry)) => {
-            builds(alloc, &flat, &geometry) && fills(alloc, &geometry, &flat)
+            assert!(rt; builds(alloc, flat, geometry), "a form to its geometry");
+            assert!(rt; fills(alloc, geometry, flat), "a geometry to its form");
         }
-        _ => false,
+        _ => panic!(rt; "no form, or no geometry"),
     }
 }
 
-/// Whether that is so of a point, or of one without coordinates.
-fn converts_point(alloc: Global, precision: i8, place: Option<(i64, i64)>) -> bool {
+/// Asserts that so do a point's, or those of one without coordinates.
+fn assert_converts_point(rt: &impl Abort, alloc: Global, precision: i8, place: Option<(i64, i64)>) {
     let row = point(0, None, Some(precision));
     let flat = match place {
         Some(place) => form(alloc, &[(row, &[place])]),
         None => form(alloc, &[(row, &[])]),
     };
-    converts(alloc, flat, dot(precision, place))
+    assert_converts(rt, alloc, &flat, &dot(precision, place));
 }
 
 #[test]
 fn points(rt: HostRuntime) {
-    let rows = [
-        ("precision 0", 0, Some((2, 1))),
-        ("precision -8", -8, Some((2, 1))),
-        ("without coordinates", 7, None),
-    ];
-    for (name, precision, place) in rows {
-        assert!(rt; converts_point(rt.alloc(), precision, place), "{name}");
-    }
+    assert_converts_point(&rt, rt.alloc(), 0, Some((2, 1)));
+    assert_converts_point(&rt, rt.alloc(), -8, Some((2, 1)));
+    assert_converts_point(&rt, rt.alloc(), 7, None);
 }
 
 #[test]
@@ -93,7 +95,7 @@ fn a_line(rt: HostRuntime) {
     let alloc = rt.alloc();
     let flat = form(alloc, &[(whole(0, Kind::Linestring), &[(1, 1), (5, 5)])]);
     let geometry = line(alloc, &[(1, 1), (5, 5)]);
-    assert!(rt; converts(alloc, flat, geometry), "two points");
+    assert_converts(&rt, alloc, &flat, &geometry);
 }
 
 #[test]
@@ -101,7 +103,7 @@ fn a_polygon(rt: HostRuntime) {
     let alloc = rt.alloc();
     let flat = forms::two_rings(alloc);
     let geometry = geometries::two_rings(alloc);
-    assert!(rt; converts(alloc, flat, geometry), "two rings");
+    assert_converts(&rt, alloc, &flat, &geometry);
 }
 
 #[test]
@@ -109,7 +111,7 @@ fn a_multipoint_with_ids(rt: HostRuntime) {
     let alloc = rt.alloc();
     let flat = forms::two_points(alloc);
     let geometry = geometries::two_points(alloc);
-    assert!(rt; converts(alloc, flat, geometry), "two points");
+    assert_converts(&rt, alloc, &flat, &geometry);
 }
 
 #[test]
@@ -117,7 +119,7 @@ fn a_multilinestring_of_an_empty_line(rt: HostRuntime) {
     let alloc = rt.alloc();
     let flat = forms::empty_line(alloc);
     let geometry = geometries::empty_line(alloc);
-    assert!(rt; converts(alloc, flat, geometry), "a member without points");
+    assert_converts(&rt, alloc, &flat, &geometry);
 }
 
 #[test]
@@ -125,7 +127,7 @@ fn a_multipolygon_with_a_member_without_rings(rt: HostRuntime) {
     let alloc = rt.alloc();
     let flat = forms::two_polygons(alloc);
     let geometry = geometries::two_polygons(alloc);
-    assert!(rt; converts(alloc, flat, geometry), "two polygons");
+    assert_converts(&rt, alloc, &flat, &geometry);
 }
 
 #[test]
@@ -133,7 +135,7 @@ fn a_collection_with_ids(rt: HostRuntime) {
     let alloc = rt.alloc();
     let flat = forms::point_and_line(alloc);
     let geometry = geometries::point_and_line(alloc);
-    assert!(rt; converts(alloc, flat, geometry), "a point and a line");
+    assert_converts(&rt, alloc, &flat, &geometry);
 }
 
 #[test]
@@ -141,5 +143,5 @@ fn a_collection_in_a_collection_of_three_precisions(rt: HostRuntime) {
     let alloc = rt.alloc();
     let flat = forms::inner_collection(alloc);
     let geometry = geometries::inner_collection(alloc);
-    assert!(rt; converts(alloc, flat, geometry), "two points");
+    assert_converts(&rt, alloc, &flat, &geometry);
 }

@@ -1,6 +1,7 @@
 //! Whether flat forms and geometries have the blobs that are wanted.
 use crate::forms::form;
 use std::alloc::Global;
+use std::process::Abort;
 use twkb_geom::{Flat, Geometry, Kind, Limits, Row, Work};
 use twkb_io::Bytes;
 use twkb_writer::{Style, encode_styled, measure_flat, write_flat};
@@ -54,7 +55,7 @@ pub fn is_written(written: Option<Vec<u8>>, bytes: &[u8]) -> bool {
 }
 
 /// Whether a geometry was made, and has this blob in a style.
-pub fn is_encoded(geometry: Option<Geometry>, style: Style, bytes: &[u8], alloc: Global) -> bool {
+fn is_encoded(geometry: Option<Geometry>, style: Style, bytes: &[u8], alloc: Global) -> bool {
     match geometry {
         Some(geometry) => is_written(encoded(&geometry, style, alloc), bytes),
         None => false,
@@ -72,12 +73,26 @@ fn is_blob(flat: Option<Flat>, style: Style, bytes: &[u8], alloc: Global) -> boo
     }
 }
 
-/// Whether it has this full blob.
-pub fn is_full(flat: Option<Flat>, bytes: &[u8], alloc: Global) -> bool {
-    is_blob(flat, Style::Full, bytes, alloc)
+/// Asserts that a geometry was made, and has this blob in a style.
+pub fn assert_encoded(
+    rt: &impl Abort,
+    geometry: Option<Geometry>,
+    style: Style,
+    bytes: &[u8],
+    alloc: Global,
+) {
+    assert!(rt;
+        is_encoded(geometry, style, bytes, alloc),
+        "{style:?}: {bytes:?}"
+    );
 }
 
-/// Whether it has this plain blob.
-pub fn is_plain(flat: Option<Flat>, bytes: &[u8], alloc: Global) -> bool {
-    is_blob(flat, Style::Plain, bytes, alloc)
+/// Asserts that a flat form was made, and it and its geometry have this full blob.
+pub fn assert_full(rt: &impl Abort, flat: Option<Flat>, bytes: &[u8], alloc: Global) {
+    assert!(rt; is_blob(flat, Style::Full, bytes, alloc), "{bytes:?}");
+}
+
+/// Asserts that they have this plain blob.
+pub fn assert_plain(rt: &impl Abort, flat: Option<Flat>, bytes: &[u8], alloc: Global) {
+    assert!(rt; is_blob(flat, Style::Plain, bytes, alloc), "{bytes:?}");
 }

@@ -4,6 +4,7 @@ use crate::forms::{
     nested_collections, one_point, point_and_line, two_points, two_polygons, two_rings,
 };
 use std::alloc::Global;
+use std::process::Abort;
 use twkb_geom::{Flat, Kind, Work};
 use twkb_io::{Bytes, Count, Fuse, FuseEnd, Output, Tap};
 use twkb_writer::{Depths, Piece, Sizes, Style, measure_into, write_through};
@@ -52,105 +53,108 @@ fn is_blob(flat: Option<Flat>, style: Style, bytes: &[u8], room: &mut Room, allo
     }
 }
 
-/// Whether it has this full blob.
-fn is_full(flat: Option<Flat>, bytes: &[u8], room: &mut Room, alloc: Global) -> bool {
-    is_blob(flat, Style::Full, bytes, room, alloc)
+/// Asserts that it has this full blob.
+fn assert_full(rt: &impl Abort, flat: Option<Flat>, bytes: &[u8], room: &mut Room, alloc: Global) {
+    assert!(rt; is_blob(flat, Style::Full, bytes, room, alloc), "{bytes:?}");
 }
 
-/// Whether it has this plain blob.
-fn is_plain(flat: Option<Flat>, bytes: &[u8], room: &mut Room, alloc: Global) -> bool {
-    is_blob(flat, Style::Plain, bytes, room, alloc)
+/// Asserts that it has this plain blob.
+fn assert_plain(rt: &impl Abort, flat: Option<Flat>, bytes: &[u8], room: &mut Room, alloc: Global) {
+    assert!(rt;
+        is_blob(flat, Style::Plain, bytes, room, alloc),
+        "{bytes:?}"
+    );
 }
 
-/// Whether nine collections in one another have their blob.
-fn nine_collections(room: &mut Room, alloc: Global) -> bool {
+/// Asserts that nine collections in one another have their blob.
+fn nine_collections(rt: &impl Abort, room: &mut Room, alloc: Global) {
     let bytes =
         b"\x07\x02\x20\x01\x07\x02\x1C\x01\x07\x02\x18\x01\x07\x02\x14\x01\x07\x02\x10\x01\x07\x02\x0C\x01\x07\x02\x08\x01\x07\x02\x04\x01\x07\x12\x00";
-    is_full(nested_collections(alloc, 9), bytes, room, alloc)
+    assert_full(rt, nested_collections(alloc, 9), bytes, room, alloc);
 }
 
-/// Whether a point has its blob in each style.
-fn a_point(room: &mut Room, alloc: Global) -> bool {
-    is_full(one_point(alloc), b"\x01\x02\x02\x04\x02", room, alloc)
-        && is_plain(one_point(alloc), b"\x01\x00\x04\x02", room, alloc)
+/// Asserts that a point has its blob in each style.
+fn a_point(rt: &impl Abort, room: &mut Room, alloc: Global) {
+    assert_full(rt, one_point(alloc), b"\x01\x02\x02\x04\x02", room, alloc);
+    assert_plain(rt, one_point(alloc), b"\x01\x00\x04\x02", room, alloc);
 }
 
-/// Whether an empty line has its blob in each style.
-fn an_empty_line(room: &mut Room, alloc: Global) -> bool {
+/// Asserts that an empty line has its blob in each style.
+fn an_empty_line(rt: &impl Abort, room: &mut Room, alloc: Global) {
     let full = one_row(Kind::Linestring, 0, &[], alloc);
+    assert_full(rt, full, b"\x02\x12\x00", room, alloc);
     let plain = one_row(Kind::Linestring, 0, &[], alloc);
-    is_full(full, b"\x02\x12\x00", room, alloc) && is_plain(plain, b"\x02\x10", room, alloc)
+    assert_plain(rt, plain, b"\x02\x10", room, alloc);
 }
 
-/// Whether a polygon of two rings has its blob in each style.
-fn rings(room: &mut Room, alloc: Global) -> bool {
+/// Asserts that a polygon of two rings has its blob in each style.
+fn rings(rt: &impl Abort, room: &mut Room, alloc: Global) {
     let full =
         b"\x03\x03\x13\x00\x08\x00\x08\x02\x03\x00\x00\x08\x00\x07\x08\x03\x02\x05\x02\x00\x01\x02";
+    assert_full(rt, two_rings(alloc), full, room, alloc);
     let plain = b"\x03\x00\x02\x03\x00\x00\x08\x00\x07\x08\x03\x02\x05\x02\x00\x01\x02";
-    is_full(two_rings(alloc), full, room, alloc) && is_plain(two_rings(alloc), plain, room, alloc)
+    assert_plain(rt, two_rings(alloc), plain, room, alloc);
 }
 
-/// Whether a multipoint with ids has its blob in each style.
-fn named_points(room: &mut Room, alloc: Global) -> bool {
+/// Asserts that a multipoint with ids has its blob in each style.
+fn named_points(rt: &impl Abort, room: &mut Room, alloc: Global) {
     let full = b"\x04\x07\x0B\x00\x02\x00\x02\x02\x02\x04\x00\x00\x02\x02";
+    assert_full(rt, two_points(alloc), full, room, alloc);
     let plain = b"\x04\x04\x02\x02\x04\x00\x00\x02\x02";
-    is_full(two_points(alloc), full, room, alloc) && is_plain(two_points(alloc), plain, room, alloc)
+    assert_plain(rt, two_points(alloc), plain, room, alloc);
 }
 
-/// Whether a collection with ids has its blob in each style.
-fn members(room: &mut Room, alloc: Global) -> bool {
+/// Asserts that a collection with ids has its blob in each style.
+fn members(rt: &impl Abort, room: &mut Room, alloc: Global) {
     let full = b"\x07\x07\x0F\x02\x00\x02\x00\x02\x0E\x01\x01\x02\x02\x02\x02\x02\x12\x00";
+    assert_full(rt, point_and_line(alloc), full, room, alloc);
     let plain = b"\x07\x04\x02\x0E\x01\x01\x00\x02\x02\x02\x10";
-    is_full(point_and_line(alloc), full, room, alloc)
-        && is_plain(point_and_line(alloc), plain, room, alloc)
+    assert_plain(rt, point_and_line(alloc), plain, room, alloc);
 }
 
-/// Whether a multipolygon with ids has its blob.
-fn polygons(room: &mut Room, alloc: Global) -> bool {
+/// Asserts that a multipolygon with ids has its blob.
+fn polygons(rt: &impl Abort, room: &mut Room, alloc: Global) {
     let bytes = b"\x06\x07\x0D\x02\x00\x02\x00\x02\x06\x08\x02\x01\x02\x02\x00\x00";
-    is_full(two_polygons(alloc), bytes, room, alloc)
+    assert_full(rt, two_polygons(alloc), bytes, room, alloc);
 }
 
-/// Whether a form without rows has no bytes in either style.
-fn no_rows(room: &mut Room, alloc: Global) -> bool {
-    is_full(Some(Flat::new(alloc)), b"", room, alloc)
-        && is_plain(Some(Flat::new(alloc)), b"", room, alloc)
+/// Asserts that a form without rows has no bytes in either style.
+fn no_rows(rt: &impl Abort, room: &mut Room, alloc: Global) {
+    assert_full(rt, Some(Flat::new(alloc)), b"", room, alloc);
+    assert_plain(rt, Some(Flat::new(alloc)), b"", room, alloc);
 }
 
+// Nine, two, one and no levels below the root.
 #[test]
 fn less_nested_geometries_come_behind_more_nested_ones(rt: HostRuntime) {
-    let alloc = rt.alloc();
-    let mut room = Room::new(alloc);
-    let are_blobs = nine_collections(&mut room, alloc)
-        && polygons(&mut room, alloc)
-        && members(&mut room, alloc)
-        && a_point(&mut room, alloc)
-        && no_rows(&mut room, alloc);
-    assert!(rt; are_blobs, "nine, two, one and no levels below the root");
+    let mut room = Room::new(rt.alloc());
+    nine_collections(&rt, &mut room, rt.alloc());
+    polygons(&rt, &mut room, rt.alloc());
+    members(&rt, &mut room, rt.alloc());
+    a_point(&rt, &mut room, rt.alloc());
+    no_rows(&rt, &mut room, rt.alloc());
 }
 
+// No, one, two and nine levels below the root.
 #[test]
 fn more_nested_geometries_come_behind_less_nested_ones(rt: HostRuntime) {
-    let alloc = rt.alloc();
-    let mut room = Room::new(alloc);
-    let are_blobs = no_rows(&mut room, alloc)
-        && an_empty_line(&mut room, alloc)
-        && rings(&mut room, alloc)
-        && polygons(&mut room, alloc)
-        && nine_collections(&mut room, alloc);
-    assert!(rt; are_blobs, "no, one, two and nine levels below the root");
+    let mut room = Room::new(rt.alloc());
+    no_rows(&rt, &mut room, rt.alloc());
+    an_empty_line(&rt, &mut room, rt.alloc());
+    rings(&rt, &mut room, rt.alloc());
+    polygons(&rt, &mut room, rt.alloc());
+    nine_collections(&rt, &mut room, rt.alloc());
 }
 
+// One level below the root.
 #[test]
 fn geometries_of_one_nesting_come_behind_each_other(rt: HostRuntime) {
-    let alloc = rt.alloc();
-    let mut room = Room::new(alloc);
-    let are_blobs = members(&mut room, alloc)
-        && rings(&mut room, alloc)
-        && named_points(&mut room, alloc)
-        && rings(&mut room, alloc)
-        && members(&mut room, alloc);
-    assert!(rt; are_blobs, "one level below the root");
+    let mut room = Room::new(rt.alloc());
+    members(&rt, &mut room, rt.alloc());
+    rings(&rt, &mut room, rt.alloc());
+    named_points(&rt, &mut room, rt.alloc());
+    rings(&rt, &mut room, rt.alloc());
+    members(&rt, &mut room, rt.alloc());
 }
 
 /// Whether a device that takes no more than these bytes refuses the full blob of a flat form.
@@ -179,22 +183,23 @@ fn is_refused(flat: &Flat, bytes: u64, room: &mut Room, alloc: Global) -> bool {
     }
 }
 
-/// Whether the blob of five levels is refused, and the blobs behind it are those of their geometries.
-fn goes_on(bytes: u64, alloc: Global) -> bool {
-    let Some(nested) = nested_collections(alloc, 5) else {
-        return false;
-    };
+/// Asserts that the blob of five levels is refused, and the blobs behind it are those of their geometries.
+fn assert_goes_on(rt: &impl Abort, bytes: u64, alloc: Global) {
     let mut room = Room::new(alloc);
-    is_refused(&nested, bytes, &mut room, alloc)
-        && members(&mut room, alloc)
-        && a_point(&mut room, alloc)
-        && nine_collections(&mut room, alloc)
+    let is_refused = match nested_collections(alloc, 5) {
+        Some(nested) => is_refused(&nested, bytes, &mut room, alloc),
+        None => false,
+    };
+    assert!(rt; is_refused, "behind {bytes} bytes");
+    members(rt, &mut room, alloc);
+    a_point(rt, &mut room, alloc);
+    nine_collections(rt, &mut room, alloc);
 }
 
 #[test]
 fn blobs_behind_a_refused_one_are_whole(rt: HostRuntime) {
     for bytes in [0, 1, 7, 18] {
-        assert!(rt; goes_on(bytes, rt.alloc()), "refused behind {bytes} bytes");
+        assert_goes_on(&rt, bytes, rt.alloc());
     }
 }
 
