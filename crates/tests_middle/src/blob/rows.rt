@@ -187,44 +187,36 @@ fn each_growth_of_a_sessions_rows_may_be_refused(rt: HostRuntime) {
     assert_lends_or_memory(&rt, &mut session);
 }
 
-/// Whether `next_spans` answers so, with so many rows and spans.
-fn gives_spans<R: Read>(
-    alloc: Global,
-    reader: &mut Reader<'_, R>,
-    flat: &mut Flat,
-    spans: &mut Spans,
-    answer: bool,
-    count: u32,
-) -> bool {
-    reader.next_spans(alloc, flat, spans) == Ok(answer)
-        && flat.node_count() == count
-        && spans.as_slice().len() == count as usize
+/// Asserts that a form and a list have so many rows and spans.
+fn assert_count(rt: &impl Abort, flat: &Flat, spans: &Spans, count: u32) {
+    assert!(rt; flat.node_count() == count, "rows");
+    assert!(rt; spans.as_slice().len() == count as usize, "spans");
 }
 
-/// Whether a reader gives four rows and spans, one in their place, and none at the end; or lacks memory for the four.
-fn four_and_one<R: Read>(alloc: Global, tap: &mut Tap<R>) -> bool {
+/// Asserts that a reader gives four rows and spans, one in their place, and none at the end; or that memory was refused for the four.
+fn assert_four_and_one<R: Read>(rt: &impl Abort, alloc: Global, tap: &mut Tap<R>) {
     let mut reader = Reader::new(Input::new(tap), Limits::standard());
     let mut flat = Flat::new(alloc);
     let mut spans = Spans::new(alloc);
-    match reader.next_spans(alloc, &mut flat, &mut spans) {
-        Ok(is_made) => {
-            is_made
-                && has(&flat, 4, 1)
-                && spans.as_slice().len() == 4
-                && gives_spans(alloc, &mut reader, &mut flat, &mut spans, true, 1)
-                && gives_spans(alloc, &mut reader, &mut flat, &mut spans, false, 0)
-        }
-        Err(fault) => {
-            fault == BlobFault::Memory && flat.is_empty() && spans.as_slice().len() == 0
-        }
+    let came = reader.next_spans(alloc, &mut flat, &mut spans);
+    if came == Err(BlobFault::Memory) {
+        return assert_count(rt, &flat, &spans, 0);
     }
+    assert!(rt; came == Ok(true), "{came:?}");
+    assert_count(rt, &flat, &spans, 4);
+    let second = reader.next_spans(alloc, &mut flat, &mut spans);
+    assert!(rt; second == Ok(true), "{second:?}");
+    assert_count(rt, &flat, &spans, 1);
+    let end = reader.next_spans(alloc, &mut flat, &mut spans);
+    assert!(rt; end == Ok(false), "{end:?}");
+    assert_count(rt, &flat, &spans, 0);
 }
 
 #[test]
 fn the_spans_of_a_blob_take_the_place_of_those_before(rt: HostRuntime) {
     let bytes = b"\x07\x00\x02\x07\x00\x01\xA1\x00\x02\x02\x02\x10\x01\x00\x04\x02";
     let mut tap = Tap::new(bytes.as_slice());
-    assert!(rt; four_and_one(rt.alloc(), &mut tap), "four headers, and one");
+    assert_four_and_one(&rt, rt.alloc(), &mut tap);
 }
 
 /// A line of three points, and behind it, in 12 bytes, one that announces 2^24 points and has three.
