@@ -16,10 +16,10 @@ name=${1-}
 case "$name" in
 reading) libraries="twkb_blob twkb_geom twkb_io" words="reader" loops="read_loop" ;;
 writing)
-    libraries="twkb_points twkb_io twkb_geom twkb_flat twkb_grammar twkb_writer twkb_blob"
+    libraries="twkb_points twkb_io twkb_geom twkb_blob"
     words="0 0" loops="read_loop write_loop"
     ;;
-tables) libraries="csv twkb_io twkb_geom twkb_flat twkb_table" words="records" loops="table_loop" ;;
+tables) libraries="csv twkb_io twkb_geom twkb_table" words="records" loops="table_loop" ;;
 *)
     echo "compare.sh reading, compare.sh writing, or compare.sh tables [MB [ROUNDS]]" >&2
     exit 2

@@ -20,7 +20,6 @@ use Rattle.twkb_engine.specs.declared.stop.Stop.TheVariants.{Memory, Refused}
 use Rattle.twkb_engine.specs.declared.blob_reason.BlobReason.TheVariants as reason
 use Rattle.twkb_blob.specs.Faults.{fault_of}
 use Rattle.twkb_blob.specs.Readers.{AreCutOff, Left, Makes, IsRead, IsNext, IsNextFlat, RefusedKnown, failed_by_read}
-use Rattle.twkb_blob.specs.declared.fault.BlobFault.{BlobFault}
 use Rattle.twkb_blob.specs.declared.fault.BlobFault.TheVariants as fault
 use Rattle.twkb_blob.specs.declared.reading.Piece.TheVariants as piece
 use Rattle.twkb_blob.specs.declared.reading.Halt.TheVariants as halt
@@ -120,13 +119,6 @@ module _ {R : Type 0} {read : Ghosts R} where
   stopped_next limits own bs a b c start offset (Refused r) rs d same begun at left h =
       refused_after limits (rest_of a) (rest_of b) bs (given a) start offset (reason_of r) begun left.consumed
       (subst (λ n. IfSome (rest_of b) (λ rest. FirstFault limits (bs ++ rest) n (reason_of r))) (sym at) (subst (λ l. IfSome (rest_of b) (λ rest. FirstFault l (bs ++ rest) (offset_in d) (reason_of r))) same h))
-
-  -- the same answers, told of other words
-  pub device_told : (limits : Allowance) (a c : Input R read) (told why : InFault) → told ≡ why → IsNext limits a c (Err (fault.Device why)) → IsNext limits a c (Err (fault.Device told))
-  device_told limits a c told why same h = subst (λ f. IsNext limits a c (Err (fault.Device f))) (sym same) h
-
-  pub engine_told : (limits : Allowance) (a c : Input R read) (e : BlobFault) (told offset : ℕ) (why stop : Stop) → e ≡ fault_of told why → told ≡ offset → why ≡ stop → IsNext limits a c (Err (fault_of offset stop)) → IsNext limits a c (Err e)
-  engine_told limits a c e told offset why stop is at same h = subst (λ f. IsNext limits a c (Err f)) (sym (is ∙ (ap (λ n. fault_of n why) at ∙ ap (λ s. fault_of offset s) same))) h
 
 -- an engine that stopped is no failed read
 pub no_device : (A : Type 0) (offset : ℕ) (stop : Stop) → failed_by_read {A = A} (Err (fault_of offset stop)) ≡ false

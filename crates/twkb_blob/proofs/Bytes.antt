@@ -1,14 +1,13 @@
 -- Items of an input, one after another, make a geometry with its spans, or a fault.
-use Rattle.std.proofs.Common.{◌≡◌, ℕ, ◌+◌, ◌<◌, ◌≤◌, List, ◌++◌, length, take, sym, ap, ◌∙◌, subst, Bool, Option, Some, None, Result, Ok, Err, true, false, arith}
+use Rattle.std.proofs.Common.{◌≡◌, ℕ, ◌+◌, ◌<◌, ◌≤◌, List, ◌++◌, length, take, sym, ap, ◌∙◌, subst, Ok, Err, true, false, arith}
 use Rattle.std.proofs.lemmas.List.{append-nil, length-take-le}
 use Rattle.std.specs.Prelude.{IfSome}
 use Rattle.std.specs.Io.{StartsWith}
 use Rattle.std.specs.Io.KnownBytes.{Consumes, Keeps}
 use Rattle.std.specs.declared.io.traits.Read.{Ghosts}
 use Rattle.twkb_tree.specs.Tree.{Tree}
-use Rattle.twkb_tree.specs.Rows.{Row, rows}
+use Rattle.twkb_tree.specs.Rows.{Row}
 use Rattle.twkb_tree.specs.Limits.{Allowance}
-use Rattle.twkb_grammar.specs.Blob.{Blob}
 use Rattle.twkb_grammar.specs.Spans.{spans_of_blob}
 use Rattle.twkb_grammar.specs.Noting.{Notes}
 use Rattle.twkb_grammar.specs.declared.span.Span.{Span}
@@ -19,13 +18,13 @@ use Rattle.twkb_engine.specs.Stops.{reason_of}
 use Rattle.twkb_engine.specs.declared.engine.Engine.{Engine}
 use Rattle.twkb_engine.specs.declared.stop.Stop.{Stop}
 use Rattle.twkb_engine.specs.declared.stop.Stop.TheVariants.{Memory, Refused}
-use Rattle.twkb_blob.specs.Readers.{Left, Makes, IsRead, IsNext}
-use Rattle.twkb_blob.specs.Located.{HasSpans, IsSpanned, IsSpannedFlat, IsLocated, IsNotedFed, IsNotedRead, notes_at}
-use Rattle.twkb_blob.specs.declared.fault.BlobFault.{BlobFault}
+use Rattle.twkb_blob.specs.Readers.{Left, Makes, IsRead}
+use Rattle.twkb_blob.specs.Located.{HasSpans, IsSpanned, IsNotedFed, IsNotedRead, notes_at}
 use Rattle.twkb_blob.specs.declared.reading.Piece.TheVariants as piece
 use Rattle.twkb_blob.specs.declared.reading.Halt.TheVariants as halt
 use Rattle.twkb_blob.proofs.Pieces.{left_after, refused_known}
 use Rattle.twkb_blob.proofs.Blobs.{left_join}
+use Rattle.twkb_blob.proofs.Parts.{part_known}
 
 -- no bytes lead an engine nowhere
 pub stands_still : (bs held : List ℕ) (used : ℕ) (rs more : List Row) (d e : Engine) → used ≡ 0 → LeadsOn rs d (take used held) more e → (s : StandsAt bs rs d)
@@ -35,19 +34,9 @@ stands_still bs held used rs more d e none run s =
     let same : bs ++ take used held ≡ bs = ap (λ n. bs ++ take n held) none ∙ append-nil bs in
     (record { front = on.0.front; whole = sym same ∙ on.0.whole; outlined = on.0.outlined; placed = on.0.placed; spelled = on.0.spelled }, on.1)
 
--- a blob goes on behind bytes that were taken
-pub item_went : (limits : Allowance) (bs held : List ℕ) (taken : ℕ × Bool) (rs : List Row) (d : Engine) → taken.1 ≡ false → IsTakenFrom limits bs held (Ok taken) rs d → StandsAt (bs ++ take taken.0 held) rs d
-item_went limits bs held (used, true) rs d off h = absurd cc
-item_went limits bs held (used, false) rs d off h = h
-
--- or ends behind them
-pub item_ended : (limits : Allowance) (bs held : List ℕ) (taken : ℕ × Bool) (rs : List Row) (d : Engine) → taken.1 ≡ true → IsTakenFrom limits bs held (Ok taken) rs d → (g : Tree) × Blob limits (bs ++ take taken.0 held) g × (rs ≡ rows 0 g)
-item_ended limits bs held (used, false) rs d on h = absurd cc
-item_ended limits bs held (used, true) rs d on h = (h.0, h.1, h.2)
-
--- an item that is refused in bytes
+-- an item that is refused in bytes, or for which there is no memory
 pub item_refused : (limits : Allowance) (start : ℕ) (bs held : List ℕ) (stop : Stop) (rs : List Row) (d : Engine) (w : Notes) → IsTakenFrom limits bs held (Err stop) rs d → IsNotedFed limits start bs held (Err stop) rs d w
-item_refused limits start bs held Memory rs d w h = tt
+item_refused limits start bs held Memory rs d w (used, some, within, part) = record { used = used; some = some; within = within; part = part }
 item_refused limits start bs held (Refused r) rs d w (used, some, within, fault) = record { used = used; some = some; within = within; fault = fault }
 
 module _ {R : Type 0} {read : Ghosts R} where
@@ -63,14 +52,6 @@ module _ {R : Type 0} {read : Ghosts R} where
   item_more limits start bs held a b c used rs d w keeps same is some within loses counted live h =
       (take used held, omega (arith, some, length-take-le used held within), held_left a b c held used keeps same is within loses counted, h.0, h.1, live)
 
-  -- points leave, and the blob goes on
-  pub points_more : (limits : Allowance) (start : ℕ) (bs held : List ℕ) (a b c : Input R read) (used : ℕ) (rs more : List Row) (d e : Engine) (w : Notes) → Keeps (rest_of a) (rest_of b) → given b ≡ given a → held ≡ held_of b → 0 < used → used ≤ length held
-      → Consumes (rest_of b) (rest_of c) (take used (held_of b)) → given c ≡ given b + used → is_spent c ≡ false → LeadsOn rs d (take used held) more e → (s : StandsAt bs rs d) → w ≡ notes_at start s
-      → IsNotedRead limits start bs a c (Ok piece.More) more e w
-  points_more limits start bs held a b c used rs more d e w keeps same is some within loses counted live run s told =
-      let on = run bs s in
-      item_more limits start bs held a b c used more e w keeps same is some within loses counted live (on.0, told ∙ sym (on.1 start))
-
   -- the blob ends
   pub item_made : (limits : Allowance) (start : ℕ) (bs held : List ℕ) (a b c : Input R read) (used : ℕ) (rs : List Row) (d : Engine) (w : Notes) → Keeps (rest_of a) (rest_of b) → given b ≡ given a → held ≡ held_of b → used ≤ length held
       → Consumes (rest_of b) (rest_of c) (take used (held_of b)) → given c ≡ given b + used → is_spent c ≡ false → IsNotedFed limits start bs held (Ok (used, true)) rs d w → IsNotedRead limits start bs a c (Ok piece.Made) rs d w
@@ -79,33 +60,25 @@ module _ {R : Type 0} {read : Ghosts R} where
 
   -- the engine stopped in the held bytes
   pub item_stopped : (limits : Allowance) (start : ℕ) (bs held : List ℕ) (a b : Input R read) (stop : Stop) (rs : List Row) (d : Engine) (w : Notes) → Keeps (rest_of a) (rest_of b) → IfSome (rest_of b) (λ rest. StartsWith rest held)
-      → IsNotedFed limits start bs held (Err stop) rs d w → IsRead limits bs a b (Err (halt.Engine stop)) rs d
-  item_stopped limits start bs held a b Memory rs d w keeps starts h = tt
+      → IsNotedFed limits start bs held (Err stop) rs d w → IsNotedRead limits start bs a b (Err (halt.Engine stop)) rs d w
+  item_stopped limits start bs held a b Memory rs d w keeps starts h = part_known limits (rest_of a) (rest_of b) bs held keeps starts h
   item_stopped limits start bs held a b (Refused r) rs d w keeps starts h = refused_known limits (rest_of a) (rest_of b) bs held (offset_in d) (reason_of r) keeps starts h
 
+  -- and that is an answer without the notes
+  pub stopped_read : (limits : Allowance) (start : ℕ) (bs : List ℕ) (a b : Input R read) (stop : Stop) (rs : List Row) (d : Engine) (w : Notes) → IsNotedRead limits start bs a b (Err (halt.Engine stop)) rs d w → IsRead limits bs a b (Err (halt.Engine stop)) rs d
+  stopped_read limits start bs a b Memory rs d w h = tt
+  stopped_read limits start bs a b (Refused r) rs d w h = h
+
   -- a blob left the input, with these spans
-  pub made_spans : (limits own : Allowance) (start : ℕ) (bs : List ℕ) (a b c : Input R read) (g : Tree) (spans told : List Span) → own ≡ limits → start ≡ given a → Left a b bs
-      → spans ≡ told → (made : Makes own bs b c g) → told ≡ spans_of_blob start made.blob → HasSpans limits a c g spans
-  made_spans limits own start bs a b c g spans told same begun left is made says =
+  made_spans : (limits own : Allowance) (start : ℕ) (bs : List ℕ) (a b c : Input R read) (g : Tree) (spans : List Span) → own ≡ limits → start ≡ given a → Left a b bs
+      → (made : Makes own bs b c g) → spans ≡ spans_of_blob start made.blob → HasSpans limits a c g spans
+  made_spans limits own start bs a b c g spans same begun left made says =
       subst (λ l. HasSpans l a c g spans) same (record {
         made = record { bytes = bs ++ made.bytes; left = left_join a b c bs made.bytes left made.left; blob = made.blob; unspent = made.unspent };
-        told = is ∙ (says ∙ ap (λ o. spans_of_blob o made.blob) begun);
+        told = says ∙ ap (λ o. spans_of_blob o made.blob) begun;
       })
 
   -- and that is an answer
-  pub spans_made : (limits own : Allowance) (start : ℕ) (bs : List ℕ) (a b c : Input R read) (rs : List Row) (d : Engine) (w : Notes) (spans : List Span) → own ≡ limits → start ≡ given a → Left a b bs
-      → spans ≡ w.spans → IsNotedRead own start bs b c (Ok piece.Made) rs d w → IsSpannedFlat limits a c (Ok (Some spans)) rs
-  spans_made limits own start bs a b c rs d w spans same begun left is (g, made, told, rows_are) = (g, made_spans limits own start bs a b c g spans w.spans same begun left is made told, rows_are)
-
-  -- an answer with the rows is one without them
-  pub spanned : (limits : Allowance) (a c : Input R read) (answer : Result (Option (List Span)) BlobFault) (rs : List Row) → IsSpannedFlat limits a c answer rs → IsSpanned limits a c answer
-  spanned limits a c (Ok (Some spans)) rs h = (h.0, h.1)
-  spanned limits a c (Ok None) rs h = h
-  spanned limits a c (Err why) rs h = h
-
-  -- an answer without a geometry has no spans
-  pub none_located : (limits : Allowance) (a c : Input R read) → IsNext limits a c (Ok None) → IsLocated limits a c (Ok None)
-  none_located limits a c h = record { next = h; spans = tt }
-
-  pub fault_located : (limits : Allowance) (a c : Input R read) (e : BlobFault) → IsNext limits a c (Err e) → IsLocated limits a c (Err e)
-  fault_located limits a c e h = record { next = h; spans = tt }
+  pub spans_made : (limits own : Allowance) (start : ℕ) (bs : List ℕ) (a b c : Input R read) (rs : List Row) (d : Engine) (w : Notes) → own ≡ limits → start ≡ given a → Left a b bs
+      → IsNotedRead own start bs b c (Ok piece.Made) rs d w → IsSpanned limits a c (Ok true) rs w.spans
+  spans_made limits own start bs a b c rs d w same begun left (g, made, told, rows_are) = (g, made_spans limits own start bs a b c g w.spans same begun left made told, rows_are)

@@ -6,5 +6,6 @@ pub mod Blobs
 pub mod Changing
 pub mod Noted
 pub mod NotedItems
+pub mod NotedParts
 pub mod Bytes
 pub mod Counts

@@ -48,7 +48,7 @@ calm_step (phase.Optional kind head (part.Box left)) = tt
 calm_step (phase.Count many head) = tt
 calm_step (phase.Id many head members ids left) = tt
 calm_step (phase.Body head body) = tt
-calm_step (phase.End head) = tt
+calm_step (phase.End head kind) = tt
 
 awaited_notes : (t : outline.Step) (offset points byte : ℕ) (w : Notes) → note_awaited (awaited_at t) offset points byte w ≡ note_step t offset points byte w
 awaited_notes OnHeader offset points byte w = refl

@@ -1,5 +1,5 @@
 -- What an item that is taken at once adds to the notes: what its last byte adds, behind those before it.
-use Rattle.std.proofs.Common.{◌≡◌, ◌⊎◌, inl, inr, ℕ, suc, ◌+◌, ◌-◌, ◌<◌, ◌≤◌, List, [], ◌∷◌, ◌++◌, length, take, get_or, refl, sym, ap, ◌∙◌, subst, append_assoc, arith}
+use Rattle.std.proofs.Common.{◌≡◌, ◌⊎◌, inl, inr, ℕ, suc, ◌+◌, ◌-◌, ◌<◌, ◌≤◌, List, [], ◌∷◌, ◌++◌, length, take, get_or, refl, sym, ap, ◌∙◌, subst, append_assoc, Bool, true, false, Ok, arith}
 use Rattle.std.proofs.Math.Seq.{take-suc}
 use Rattle.std.proofs.lemmas.List.{append-nil}
 use Rattle.twkb_num.specs.Varint.{IsOpenVarint}
@@ -10,39 +10,39 @@ use Rattle.twkb_grammar.specs.Spans.{spans_of_blob}
 use Rattle.twkb_grammar.specs.Noting.{Notes, note_ends_to}
 use Rattle.twkb_engine.specs.State.{IsSpelled, step_of}
 use Rattle.twkb_engine.specs.Open.{awaited_at}
-use Rattle.twkb_engine.specs.Standing.{StandsAt, IsOneItem, allowance_of, held_in, offset_in, points_in, awaited_in, open_in}
+use Rattle.twkb_engine.specs.Standing.{StandsAt, IsOneItem, IsTakenFrom, allowance_of, held_in, offset_in, points_in, awaited_in, open_in}
 use Rattle.twkb_engine.specs.declared.engine.Engine.{Engine}
 use Rattle.twkb_engine.specs.declared.phase.Phase.{Phase}
 use Rattle.twkb_engine.specs.declared.phase.Phase.TheVariants as phase
 use Rattle.twkb_engine.specs.declared.awaited.Awaited.{Awaited}
 use Rattle.twkb_engine.specs.declared.awaited.Awaited.TheVariants as awaited
-use Rattle.twkb_blob.specs.Located.{note_awaited, notes_at}
+use Rattle.twkb_blob.specs.Located.{IsNotedFed, note_awaited, notes_at}
 use Rattle.twkb_blob.proofs.Noted.{NoteLaws, fed_on, fed_blob}
 
 -- the last of so many bytes
-abbrev last_of : List ℕ → (used : ℕ) → ℕ
+abbrev pub last_of : List ℕ → (used : ℕ) → ℕ
 last_of bytes used = get_or bytes (used - 1) 0
 
 -- bytes are those but the last, and the last
-with_last : (bytes : List ℕ) (used : ℕ) → 0 < used → used ≤ length bytes → take used bytes ≡ take (used - 1) bytes ++ last_of bytes used ∷ []
+pub with_last : (bytes : List ℕ) (used : ℕ) → 0 < used → used ≤ length bytes → take used bytes ≡ take (used - 1) bytes ++ last_of bytes used ∷ []
 with_last bytes used some within =
     let is : used ≡ suc (used - 1) = omega (arith, some) in
     let less : used - 1 < length bytes = omega (arith, some, within) in
     ap (λ n. take n bytes) is ∙ take-suc bytes (used - 1) 0 less
 
 -- one byte has none before it
-none_before : (bytes : List ℕ) (used : ℕ) → used ≡ 1 → take (used - 1) bytes ≡ []
+pub none_before : (bytes : List ℕ) (used : ℕ) → used ≡ 1 → take (used - 1) bytes ≡ []
 none_before bytes used one = ap (λ n. take (n - 1) bytes) one
 
 -- what is awaited where a number comes next
-other_awaited : (p : Phase) → IsSpelled p → awaited_at (step_of p) ≡ awaited.Other
+pub other_awaited : (p : Phase) → IsSpelled p → awaited_at (step_of p) ≡ awaited.Other
 other_awaited phase.Header s = absurd s
 other_awaited (phase.Metadata typed) s = absurd s
 other_awaited (phase.Optional kind head part) s = refl
 other_awaited (phase.Count many head) s = refl
 other_awaited (phase.Id many head members ids left) s = refl
 other_awaited (phase.Body head body) s = refl
-other_awaited (phase.End head) s = refl
+other_awaited (phase.End head kind) s = refl
 
 module _ (bytes : List ℕ) (used : ℕ) (d : Engine) where
   -- the engine behind all bytes of the item but the last, which it holds
@@ -87,17 +87,28 @@ module _ (laws : NoteLaws) (start : ℕ) (bs bytes : List ℕ) (used : ℕ) (ps 
     by_last = first ∙ (ap (λ x. note_awaited x (start + o) p (get_or bytes 0 0) w) awaits ∙ (as_last bytes used d (start + o) p w one ∙ sym (ap (λ x. note_awaited x (start + o) p (last_of bytes used) w) awaits)))
 
     -- a blob goes on
-    pub item_on : (rs : List Row) (after : Engine) (left q r : ℕ) (u : Notes) → IsOpenVarint (held_in after) → allowance_of after ≡ allowance_of d → left ≡ open_in after → q ≡ offset_in after → r ≡ points_in after
+    item_on : (rs : List Row) (after : Engine) (left q r : ℕ) (u : Notes) → IsOpenVarint (held_in after) → allowance_of after ≡ allowance_of d → left ≡ open_in after → q ≡ offset_in after → r ≡ points_in after
         → u ≡ note_ends_to left (start + q) r v → (t : StandsAt (bs ++ take used bytes) rs after) → u ≡ notes_at start t
     item_on rs after left q r u few same open_now now many_now last t =
         fed_on laws start (last_of bytes used) before ps (before_last bytes used d) (stands_before bytes used d bs ps one s) (begun_before bytes used d one held) a o p w v awaits at many old by_last
         rs after left q r u few same open_now now many_now last (record { front = t.front; whole = joined ∙ t.whole; outlined = t.outlined; placed = t.placed; spelled = t.spelled })
 
     -- a blob ends with the item
-    pub item_blob : (rs : List Row) (end many_now : ℕ) (u : Notes) (g : Tree) → Blob (allowance_of d) (bs ++ take used bytes) g → rs ≡ rows 0 g → ((g : Tree) → row_points (rows 0 g) ≡ flat g) → many_now ≡ length (row_points rs)
+    item_blob : (rs : List Row) (end many_now : ℕ) (u : Notes) (g : Tree) → Blob (allowance_of d) (bs ++ take used bytes) g → rs ≡ rows 0 g → ((g : Tree) → row_points (rows 0 g) ≡ flat g) → many_now ≡ length (row_points rs)
         → u ≡ note_ends_to 0 end many_now v → end ≡ start + length (bs ++ take used bytes) → (x : Blob (allowance_of d) (bs ++ take used bytes) g) × (u.spans ≡ spans_of_blob start x)
     item_blob rs end many_now u g b made flat_law counts last ends =
         let whole : Blob (allowance_of d) (before ++ last_of bytes used ∷ []) g = subst (λ l. Blob (allowance_of d) l g) (sym joined) b in
         let told = fed_blob laws start (last_of bytes used) before ps (before_last bytes used d) (stands_before bytes used d bs ps one s) (begun_before bytes used d one held) a o p w v awaits at many old by_last
         rs end many_now u g whole made flat_law counts last (ends ∙ ap (λ l. start + length l) (sym joined)) in
         subst (λ l. (x : Blob (allowance_of d) l g) × (u.spans ≡ spans_of_blob start x)) joined (whole, told)
+
+    -- the item was taken
+    pub item_fed : (whole : Bool) (rs : List Row) (after : Engine) (end : ℕ) (u : Notes) → IsTakenFrom (allowance_of d) bs bytes (Ok (used, whole)) rs after → IsOpenVarint (held_in after) → allowance_of after ≡ allowance_of d
+        → ((g : Tree) → row_points (rows 0 g) ≡ flat g) → end ≡ start + length (bs ++ take used bytes)
+        → (whole ≡ true → u ≡ note_ends_to 0 end (length (row_points rs)) v) → (whole ≡ false → u ≡ note_ends_to (open_in after) (start + offset_in after) (points_in after) v)
+        → IsNotedFed (allowance_of d) start bs bytes (Ok (used, whole)) rs after u
+    item_fed false rs after end u taken few same flat_law ends all some_left =
+        (taken, item_on rs after (open_in after) (offset_in after) (points_in after) u few same refl refl refl (some_left refl) taken)
+    item_fed true rs after end u (g, blob, made, more) few same flat_law ends all some_left =
+        let told = item_blob rs end (length (row_points rs)) u g blob made flat_law refl (all refl) ends in
+        (g, told.0, told.1, made)

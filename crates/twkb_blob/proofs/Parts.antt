@@ -10,18 +10,20 @@ use Rattle.twkb_tree.specs.Tree.{Tree}
 use Rattle.twkb_tree.specs.Rows.{Row}
 use Rattle.twkb_tree.specs.Limits.{Allowance}
 use Rattle.twkb_grammar.specs.Blob.{Blob}
-use Rattle.twkb_grammar.specs.Fault.{IsPart}
+use Rattle.twkb_grammar.specs.Noting.{Notes}
+use Rattle.twkb_grammar.specs.declared.span.Span.{Span}
 use Rattle.twkb_grammar.proofs.Streams.{blob_long}
-use Rattle.twkb_grammar.proofs.PartBytes.{blob_is_part}
 use Rattle.twkb_io.specs.declared.input.Input.{Input}
 use Rattle.twkb_io.specs.Inputs.{rest_of}
-use Rattle.twkb_engine.specs.Parts.{PartIn}
+use Rattle.twkb_engine.specs.Parts.{IsJudged, PartIn}
 use Rattle.twkb_engine.specs.Standing.{IsFed}
 use Rattle.twkb_engine.specs.declared.engine.Engine.{Engine}
 use Rattle.twkb_engine.specs.declared.stop.Stop.{Stop}
 use Rattle.twkb_engine.specs.declared.stop.Stop.TheVariants.{Memory, Refused}
+use Rattle.twkb_engine.proofs.Judging.{blob_judged}
 use Rattle.twkb_blob.specs.Faults.{fault_of}
 use Rattle.twkb_blob.specs.Readers.{Left, IsNextFlat, PartAhead}
+use Rattle.twkb_blob.specs.Located.{IsSpanned, IsNotedRead}
 use Rattle.twkb_blob.specs.declared.fault.BlobFault.{BlobFault}
 use Rattle.twkb_blob.specs.declared.fault.BlobFault.TheVariants as fault
 use Rattle.twkb_blob.specs.declared.reading.Piece.{Piece}
@@ -48,7 +50,7 @@ part_known limits (Some xs) (Some ys) bs held keeps starts h =
       used = h.used;
       some = h.some;
       within = (let few = h.within in let cut : length held ≡ length (take (length held) ys) = ap length (sym starts) in omega (arith, few, cut, length-take (length held) ys));
-      part = subst (λ l. IsPart limits (bs ++ l)) (front_of h.used (length held) held ys (sym starts) h.within) h.part;
+      part = subst (λ l. IsJudged limits (bs ++ l)) (front_of h.used (length held) held ys (sym starts) h.within) h.part;
     })
 
 -- what left, and then a part in what is left
@@ -60,7 +62,7 @@ part_after limits (Some xs) (Some ys) bs loses h =
       used = length bs + h.used;
       some = (let some = h.some in omega (arith, some));
       within = (let few = h.within in omega (arith, few, length-append bs ys));
-      part = subst (IsPart limits) (sym (take-append-add bs ys h.used)) h.part;
+      part = subst (IsJudged limits) (sym (take-append-add bs ys h.used)) h.part;
     })
 
 -- a blob that left
@@ -72,7 +74,7 @@ blob_known limits (Some xs) (Some ys) bs g loses h =
       used = length bs;
       some = omega (arith, blob_long limits bs g h);
       within = omega (arith, length-append bs ys);
-      part = subst (IsPart limits) (sym (take-append_seam bs ys)) (blob_is_part limits bs g h);
+      part = subst (IsJudged limits) (sym (take-append_seam bs ys)) (blob_judged limits bs g h);
     })
 
 module _ {R : Type 0} {read : Ghosts R} where
@@ -82,3 +84,11 @@ module _ {R : Type 0} {read : Ghosts R} where
 
   pub made_ahead : (limits : Allowance) (a c : Input R read) (rs : List Row) → IsNextFlat limits a c (Ok true) rs → PartAhead limits [] a
   made_ahead limits a c rs (g, made, is) = blob_known limits (rest_of a) (rest_of c) made.bytes g made.left.consumed made.blob
+
+  pub spanned_ahead : (limits : Allowance) (a c : Input R read) (rs : List Row) (spans : List Span) → IsSpanned limits a c (Ok true) rs spans → PartAhead limits [] a
+  spanned_ahead limits a c rs spans (g, has, is) = blob_known limits (rest_of a) (rest_of c) has.made.bytes g has.made.left.consumed has.made.blob
+
+  -- memory that was missing, of an engine whose items are noted
+  pub noted_ahead : (limits : Allowance) (start : ℕ) (bs : List ℕ) (a b : Input R read) (stop : Stop) (rs : List Row) (d : Engine) (w : Notes) → stop ≡ Memory → IsNotedRead limits start bs a b (Err (halt.Engine stop)) rs d w → PartAhead limits bs a
+  noted_ahead limits start bs a b Memory rs d w is h = h
+  noted_ahead limits start bs a b (Refused r) rs d w is h = absurd cc

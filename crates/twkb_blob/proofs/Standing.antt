@@ -6,16 +6,17 @@ use Rattle.twkb_tree.specs.Tree.{Tree}
 use Rattle.twkb_tree.specs.Rows.{Row, rows}
 use Rattle.twkb_tree.specs.Limits.{Allowance, IsValid, largest_limits}
 use Rattle.twkb_grammar.specs.Blob.{Blob, Stream}
-use Rattle.twkb_grammar.specs.Fault.{FirstFault, IsPart, StreamFault, Truncated}
+use Rattle.twkb_grammar.specs.Fault.{FirstFault, StreamFault, Truncated}
 use Rattle.twkb_grammar.specs.Machine.{Sums}
 use Rattle.twkb_grammar.proofs.Streams.{behind_stream}
-use Rattle.twkb_grammar.proofs.PartBytes.{blob_is_part}
+use Rattle.twkb_engine.proofs.Judging.{blob_judged}
 use Rattle.twkb_outline.specs.Outline.{Outline}
 use Rattle.twkb_outline.specs.Reading.{Outlined}
 use Rattle.twkb_engine.specs.Building.{sums_of, outline_in}
 use Rattle.twkb_engine.specs.Stops.{reason_of}
 use Rattle.twkb_engine.specs.declared.stop.Stop.{Stop}
 use Rattle.twkb_engine.specs.declared.stop.Stop.TheVariants.{Memory, Refused}
+use Rattle.twkb_engine.specs.Parts.{IsJudged}
 use Rattle.twkb_engine.specs.Standing.{StandsAt, IsFed, IsEnd, MadeIn, RefusedIn, allowance_of, count_of, held_in, offset_in}
 use Rattle.twkb_engine.specs.declared.engine.Engine.{Engine}
 use Rattle.twkb_engine.specs.declared.blob_reason.BlobReason.{BlobReason}
@@ -178,7 +179,7 @@ stops bytes gs piece cut old new offset count Memory rs s is short limits at h =
         used = h.used;
         some = h.some;
         within = (let few = h.within in omega (arith, few, short));
-        part = subst (λ l. IsPart (session_limits old) (s.rest ++ l)) (front_of h.used count cut piece is h.within) h.part;
+        part = subst (λ l. IsJudged (session_limits old) (s.rest ++ l)) (front_of h.used count cut piece is h.within) h.part;
       };
     })
 stops bytes gs piece cut old new offset count (Refused r) rs s is short limits at h =
@@ -203,7 +204,7 @@ no_tree bytes gs piece old new used s limits (g, fed, is) =
       rest = s.rest;
       whole = s.whole;
       blobs = blobs;
-      part = record { used = used; some = fed.0; within = fed.1; part = subst (IsPart (session_limits new)) one (blob_is_part (session_limits new) front g blob) };
+      part = record { used = used; some = fed.0; within = fed.1; part = subst (IsJudged (session_limits new)) one (blob_judged (session_limits new) front g blob) };
     }
 
 -- the stream ends between two blobs

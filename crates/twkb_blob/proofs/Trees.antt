@@ -1,16 +1,13 @@
 -- The rows of a geometry, and the tree that is made of them.
-use Rattle.std.proofs.Common.{◌≡◌, ℕ, ◌<◌, ◌++◌, List, [], ◌∷◌, length, sym, ◌∙◌, ap, subst, arith, Option, Some, None, Result, Ok, Err, true}
-use Rattle.std.specs.Prelude.{IfOk, IfSome}
+use Rattle.std.proofs.Common.{◌≡◌, ℕ, ◌<◌, ◌++◌, List, [], ◌∷◌, length, sym, ◌∙◌, ap, subst, arith, Some, Ok, true}
 use Rattle.std.specs.declared.io.traits.Read.{Ghosts}
 use Rattle.twkb_tree.specs.Tree.{Tree, simple, collection, IsTree}
 use Rattle.twkb_tree.specs.Rows.{Row, rows}
 use Rattle.twkb_tree.specs.Limits.{Allowance, IsValid, largest_limits}
 use Rattle.twkb_grammar.specs.Blob.{Stream}
-use Rattle.twkb_grammar.specs.declared.span.Span.{Span}
 use Rattle.twkb_io.specs.declared.input.Input.{Input}
 use Rattle.twkb_blob.specs.Readers.{Makes, IsNextFlat, IsNext}
-use Rattle.twkb_blob.specs.Located.{HasSpans, IsSpannedFlat, IsLocated}
-use Rattle.twkb_blob.specs.declared.fault.BlobFault.{BlobFault}
+use Rattle.twkb_blob.specs.Located.{HasSpans, IsSpanned, IsLocated}
 use Rattle.twkb_blob.specs.declared.spans.Located.{Located}
 
 -- the law that rows tell one tree
@@ -44,13 +41,7 @@ module _ {R : Type 0} {read : Ghosts R} where
   made_tree law limits a c rs h (g, makes, is) made valid = subst (λ t. Makes limits [] a c t) (tree_made law rs g h makes.blob.valid.tree is made valid) makes
 
   -- the same, with the spans
-  pub made_spanned : TreeLaw → (limits : Allowance) (a c : Input R read) (rs : List Row) (l : Located) → IsSpannedFlat limits a c (Ok (Some l.spans)) rs → rows 0 l.geometry ≡ rs → IsValid largest_limits l.geometry → IsLocated limits a c (Ok (Some l))
+  pub made_spanned : TreeLaw → (limits : Allowance) (a c : Input R read) (rs : List Row) (l : Located) → IsSpanned limits a c (Ok true) rs l.spans → rows 0 l.geometry ≡ rs → IsValid largest_limits l.geometry → IsLocated limits a c (Ok (Some l))
   made_spanned law limits a c rs l (g, has, is) made valid =
       let here : HasSpans limits a c l.geometry l.spans = subst (λ t. HasSpans limits a c t l.spans) (tree_made law rs g l.geometry has.made.blob.valid.tree is made valid) has in
       record { next = here.made; spans = here }
-
-  -- a geometry with spans has a row
-  pub spans_row : (limits : Allowance) (a c : Input R read) (answer : Result (Option (List Span)) BlobFault) (rs : List Row) → IsSpannedFlat limits a c answer rs → IfOk answer (λ found. IfSome found (λ spans. 0 < length rs))
-  spans_row limits a c (Ok (Some spans)) rs h = some_row rs h.0 h.2
-  spans_row limits a c (Ok None) rs h = tt
-  spans_row limits a c (Err why) rs h = tt

@@ -1,5 +1,5 @@
 -- What a reader of geometries with their spans answers.
-use Rattle.std.specs.Prelude.{◌≡◌, ℕ, ◌-◌, ◌<◌, Bool, true, false, length, take, List, [], ◌++◌, Option, Some, None, IfOk, IfSome, Result, Ok, Err, ⊤}
+use Rattle.std.specs.Prelude.{◌≡◌, ℕ, ◌-◌, ◌<◌, Bool, true, false, length, take, List, [], ◌++◌, Option, Some, None, IfOk, IfSome, Result, Ok, Err}
 use Rattle.std.specs.declared.io.traits.Read.{Ghosts}
 use Rattle.twkb_tree.specs.Tree.{Tree}
 use Rattle.twkb_tree.specs.Rows.{Row, rows}
@@ -11,18 +11,20 @@ use Rattle.twkb_grammar.specs.Noting.{Notes, no_notes, noted, note_header, note_
 use Rattle.twkb_grammar.specs.declared.span.Span.{Span}
 use Rattle.twkb_io.specs.declared.input.Input.{Input}
 use Rattle.twkb_io.specs.Inputs.{given, is_spent as input_spent}
-use Rattle.twkb_engine.specs.Standing.{StandsAt, RefusedIn, offset_in}
+use Rattle.twkb_engine.specs.Parts.{PartIn}
+use Rattle.twkb_engine.specs.Standing.{StandsAt, RefusedIn, allowance_of, offset_in}
 use Rattle.twkb_engine.specs.Stops.{reason_of}
 use Rattle.twkb_engine.specs.declared.stop.Stop.TheVariants.{Memory, Refused}
 use Rattle.twkb_engine.specs.declared.engine.Engine.{Engine}
 use Rattle.twkb_engine.specs.declared.stop.Stop.{Stop}
 use Rattle.twkb_engine.specs.declared.awaited.Awaited.{Awaited}
 use Rattle.twkb_engine.specs.declared.awaited.Awaited.TheVariants as awaited
-use Rattle.twkb_blob.specs.Readers.{Left, Makes, IsRead, IsNext}
+use Rattle.twkb_blob.specs.Readers.{Left, Makes, IsRead, IsNext, PartAhead}
 use Rattle.twkb_blob.specs.declared.fault.BlobFault.{BlobFault}
 use Rattle.twkb_blob.specs.declared.reading.Piece.{Piece}
 use Rattle.twkb_blob.specs.declared.reading.Piece.TheVariants as piece
 use Rattle.twkb_blob.specs.declared.reading.Halt.{Halt}
+use Rattle.twkb_blob.specs.declared.reading.Halt.TheVariants as halt
 use Rattle.twkb_blob.specs.declared.spans.Located.{Located}
 
 -- the blob of this geometry left the input, and these are its spans at the place where it stood
@@ -41,17 +43,11 @@ pub record IsLocated {R : Type 0} {read : Ghosts R} (limits : Allowance) (old ne
   pub next : IsNext limits old new (without_spans answer)
   pub spans : IfOk answer (λ found. IfSome found (λ l. HasSpans limits old new l.geometry l.spans))
 
--- the spans of a blob that left the input; or an answer without a geometry
-abbrev pub IsSpanned : {R : Type 0} {read : Ghosts R} → Allowance → Input R read → Input R read → Result (Option (List Span)) BlobFault → Type 0
-IsSpanned limits old new (Ok (Some spans)) = (g : Tree) × HasSpans limits old new g spans
-IsSpanned limits old new (Ok None) = IsNext limits old new (Ok None)
-IsSpanned limits old new (Err why) = IsNext limits old new (Err why)
-
--- the same, with the rows of the geometry
-abbrev pub IsSpannedFlat : {R : Type 0} {read : Ghosts R} → Allowance → Input R read → Input R read → Result (Option (List Span)) BlobFault → List Row → Type 0
-IsSpannedFlat limits old new (Ok (Some spans)) rs = (g : Tree) × HasSpans limits old new g spans × (rs ≡ rows 0 g)
-IsSpannedFlat limits old new (Ok None) rs = IsNext limits old new (Ok None)
-IsSpannedFlat limits old new (Err why) rs = IsNext limits old new (Err why)
+-- the rows and the spans of a geometry whose blob left the input; or an answer without a geometry
+abbrev pub IsSpanned : {R : Type 0} {read : Ghosts R} → Allowance → Input R read → Input R read → Result Bool BlobFault → List Row → List Span → Type 0
+IsSpanned limits old new (Ok true) rs spans = (g : Tree) × HasSpans limits old new g spans × (rs ≡ rows 0 g)
+IsSpanned limits old new (Ok false) rs spans = IsNext limits old new (Ok None)
+IsSpanned limits old new (Err why) rs spans = IsNext limits old new (Err why)
 
 -- a span whose geometry ends at this offset, with so many points so far
 abbrev pub measured : (offset points : ℕ) → Span → Span
@@ -68,11 +64,11 @@ abbrev pub notes_at : {bytes : List ℕ} {rs : List Row} {d : Engine} → (start
 notes_at start s = noted start nothing no_notes s.outlined.reached.items
 
 -- the engine stands for the bytes with those of these that were taken, and the notes are those of their items; or they are a blob, and
--- the notes are its spans; or an item was refused
+-- the notes are its spans; or there was no memory behind a part that ends in them; or an item was refused
 abbrev pub IsNotedFed : Allowance → (start : ℕ) → List ℕ → (held : List ℕ) → Result (ℕ × Bool) Stop → List Row → Engine → Notes → Type 0
 IsNotedFed limits start bs held (Ok (used, false)) rs d w = (s : StandsAt (bs ++ take used held) rs d) × (w ≡ notes_at start s)
 IsNotedFed limits start bs held (Ok (used, true)) rs d w = (g : Tree) × (b : Blob limits (bs ++ take used held) g) × (w.spans ≡ spans_of_blob start b) × (rs ≡ rows 0 g)
-IsNotedFed limits start bs held (Err Memory) rs d w = ⊤
+IsNotedFed limits start bs held (Err Memory) rs d w = PartIn limits bs held
 IsNotedFed limits start bs held (Err (Refused r)) rs d w = RefusedIn limits bs held (offset_in d) (reason_of r)
 
 -- the same, with bytes that left an input; or it gave none
@@ -83,4 +79,16 @@ IsNotedRead limits start bs old new (Ok piece.More) rs d w =
     (bytes : List ℕ) × (0 < length bytes) × Left old new bytes × (s : StandsAt (bs ++ bytes) rs d)
     × (w ≡ notes_at start s) × (input_spent new ≡ false)
 IsNotedRead limits start bs old new (Ok piece.Made) rs d w = (g : Tree) × (made : Makes limits bs old new g) × (w.spans ≡ spans_of_blob start made.blob) × (rs ≡ rows 0 g)
+IsNotedRead limits start bs old new (Err (halt.Engine Memory)) rs d w = PartAhead limits bs old
 IsNotedRead limits start bs old new answer rs d w = IsRead limits bs old new answer rs d
+
+-- wherever the engine stands with the notes of its items, that is the answer to the held bytes
+abbrev pub TakesNoted : (start : ℕ) → List ℕ → Result (ℕ × Bool) Stop → (rs more : List Row) (d e : Engine) (w v : Notes) → Type 0
+TakesNoted start held answer rs more d e w v = (bs : List ℕ) (s : StandsAt bs rs d) → w ≡ notes_at start s → IsNotedFed (allowance_of d) start bs held answer more e v
+
+-- the same, of an input
+abbrev pub ReadsNoted :
+    {R : Type 0} {read : Ghosts R} → (start : ℕ) → Input R read → Input R read → Result Piece Halt
+    → (rs more : List Row) (d e : Engine) (w v : Notes) → Type 0
+ReadsNoted start old new answer rs more d e w v =
+    (bs : List ℕ) (s : StandsAt bs rs d) → w ≡ notes_at start s → IsNotedRead (allowance_of d) start bs old new answer more e v

@@ -9,7 +9,7 @@ ghost use Rattle.twkb_blob.specs.Located.{IsLocated};
 use crate::fault::BlobFault;
 use crate::located::read_spans;
 use crate::reading::read_into;
-use crate::spans::Located;
+use crate::spans::{Located, Spans};
 use std::alloc::Global;
 use std::io::Read;
 use twkb_engine::Engine;
@@ -27,7 +27,8 @@ pub(crate) struct Kept {
 impl Kept {
     /// Takes no memory.
     pub fn new(alloc: Global, limits: Limits) -> Kept
-        ensures { allowance_of result.engine ≡ limits }
+        ensures limits { allowance_of result.engine ≡ limits }
+        ensures empty { result.flat ≡ [] }
     {
         Kept {
             engine: Engine::new(alloc, limits),
@@ -66,17 +67,20 @@ pub(crate) fn read_located<R: Read>(
     alloc: Global,
     kept: &mut Kept,
 ) -> Result<Option<Located>, BlobFault>
+    requires empty { kept.old.flat ≡ [] }
     ensures same_tap { (input_tap input.new).ghost_name ≡ (input_tap input.old).ghost_name }
     ensures limits { allowance_of kept.new.engine ≡ allowance_of kept.old.engine }
     ensures next { IsLocated (allowance_of kept.old.engine) input.old input.new result }
+    ensures memory { result ≡ Err BlobFault.Memory → PartAhead (allowance_of kept.old.engine) [] input.old }
     ensures failures { input_failures input.new ≡ count_failure (failed_by_read result) (input_failures input.old) }
 {
     twkb_tree::laws::one_reading();
-    let spans = match read_spans(input, alloc, &mut kept.engine, &mut kept.flat) {
-        Ok(Some(spans)) => spans,
-        Ok(None) => return Ok(None),
+    let mut spans = Spans::new(alloc);
+    match read_spans(input, &mut kept.engine, &mut kept.flat, &mut spans) {
+        Ok(true) => {}
+        Ok(false) => return Ok(None),
         Err(fault) => return Err(fault),
-    };
+    }
     match kept.flat.to_geometry(alloc) {
         Ok(geometry) => Ok(Some(Located { geometry, spans })),
         Err(_) => Err(BlobFault::Memory),

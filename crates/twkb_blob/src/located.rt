@@ -1,21 +1,43 @@
 //! The spans of a blob that is read: its points as many at once as there are, all else item by item.
-ghost use Rattle.std.specs.Prelude.{◌≡◌, ◌≤◌, ◌<◌, ◌+◌, ◌^◌, ℕ, List, [], length, IfOk, IfSome};
+ghost use Rattle.std.specs.Prelude.{◌≡◌, ◌≤◌, ◌<◌, ◌+◌, ◌^◌, ◌⊎◌, [], true, false, Ok, Err, length, IfOk};
 ghost use Rattle.twkb_io.specs.Taps.{count_failure};
 ghost use Rattle.twkb_io.specs.Inputs.{input_failures, input_tap};
-ghost use Rattle.twkb_grammar.specs.Noting.{no_notes};
-ghost use Rattle.twkb_engine.specs.Standing.{StandsAt, allowance_of, count_of, offset_in};
-ghost use Rattle.twkb_blob.specs.Readers.{halted_by_read, failed_by_read};
-ghost use Rattle.twkb_blob.specs.Located.{IsSpannedFlat, IsNotedFed, IsNotedRead, notes_at};
+ghost use Rattle.twkb_tree.specs.Rows.{row_points};
+ghost use Rattle.twkb_grammar.specs.Noting.{no_notes, note_ends_to};
+ghost use Rattle.twkb_engine.specs.Standing.{StandsAt, allowance_of, count_of, offset_in, open_in, points_in};
+ghost use Rattle.twkb_blob.specs.Readers.{PartAhead, halted_by_read, failed_by_read};
+ghost use Rattle.twkb_blob.specs.Located.{IsSpanned, TakesNoted, ReadsNoted};
 
 use crate::fault::{BlobFault, fault_at};
 use crate::notes::SpanNotes;
 use crate::reading::{Halt, Piece};
 use crate::spans::Spans;
-use std::alloc::Global;
 use std::io::Read;
 use twkb_engine::{BlobReason, Engine, Stop};
 use twkb_flat::Flat;
 use twkb_io::Input;
+
+/// Notes which geometries end behind an item: all of them, where the root does, at this offset; else those that the engine has ended.
+fn note_ends(
+    engine: &Engine,
+    flat: &Flat,
+    notes: &mut SpanNotes,
+    start: u64,
+    end: u64,
+    is_whole: bool,
+)
+    requires few { offset_in engine.now ≤ 2 ^ 63 }
+    requires begin { start ≤ 2 ^ 62 }
+    ensures whole { is_whole ≡ true → notes.new ≡ note_ends_to 0 end (length (row_points flat.now)) notes.old }
+    ensures going_on { is_whole ≡ false → notes.new ≡ note_ends_to (open_in engine.now) (start + offset_in engine.now) (points_in engine.now) notes.old }
+{
+    if is_whole {
+        notes.end_to(0, end, u64::from(flat.point_count()));
+    } else {
+        let left = engine.open_geometries();
+        notes.end_to(left, start + engine.offset(), engine.points());
+    }
+}
 
 /// Gives the item that comes next of these bytes to an engine, or a byte of it where it does not stand whole in front, and notes what
 /// it tells; answers how many bytes were taken, and whether a geometry ends behind them. The blob begins at `start`.
@@ -32,16 +54,15 @@ fn feed_item(
     requires begin { start ≤ 2 ^ 62 }
     ensures limits { allowance_of engine.new ≡ allowance_of engine.old }
     ensures count { count_of engine.new ≤ count_of engine.old + length held.now }
-    ensures some { IfOk result (λ taken. 0 < taken.0) }
-    ensures within { IfOk result (λ taken. taken.0 ≤ length held.now) }
-    ensures fed { (bs : List ℕ) (s : StandsAt bs flat.old engine.old) → notes.old ≡ notes_at start s
-        → IsNotedFed (allowance_of engine.old) start bs held.now result flat.new engine.new notes.new }
+    ensures within { IfOk result (λ taken. (0 < taken.0) × (taken.0 ≤ length held.now)) }
+    ensures fed { TakesNoted start held.now result flat.old flat.new engine.old engine.new notes.old notes.new }
 {
     twkb_tree::laws::nodes_are_rows();
     twkb_outline::laws::reading();
     twkb_outline::laws::role();
     twkb_outline::laws::noting();
-    engine.limits().nest();
+    // learnt: how few geometries may be begun
+    let _learnt = engine.limits().nest();
     let awaited = engine.awaited();
     let offset = start + engine.offset();
     let points = engine.points();
@@ -50,23 +71,45 @@ fn feed_item(
         Ok(taken) => taken,
         Err(stop) => return Err(stop),
     };
-    match notes.note(awaited, offset, points, held[0]) {
-        Ok(()) => {}
-        Err(_) => return Err(Stop::Memory),
+    // learnt: what it holds begins a number
+    let _learnt = engine.held();
+    if let Err(_) = notes.note(awaited, offset, points, held[0]) {
+        return Err(Stop::Memory);
     }
-    if is_whole {
-        let end = before + used as u64;
-        notes.end_to(0, end, u64::from(flat.point_count()));
-        return Ok((used, true));
-    }
-    engine.held();
-    let left = engine.open_geometries();
-    notes.end_to(left, start + engine.offset(), engine.points());
-    Ok((used, false))
+    let end = before + used as u64;
+    note_ends(engine, flat, notes, start, end, is_whole);
+    Ok((used, is_whole))
 }
 
-/// Gives points that stand whole in front of the held bytes of an input to an engine, as many as there are: they note nothing. Else
-/// gives it the next item, and notes what it tells.
+/// Gives points that stand whole in front of the held bytes to an engine, as many as there are: they note nothing. Else gives it the next
+/// item, and notes what it tells.
+fn take_noted(
+    engine: &mut Engine,
+    flat: &mut Flat,
+    notes: &mut SpanNotes,
+    start: u64,
+    held: &[u8],
+) -> Result<(usize, bool), Stop>
+    requires some { 0 < length held.now }
+    requires few { count_of engine.old ≤ 2 ^ 62 }
+    requires room { length held.now ≤ 2 ^ 62 }
+    requires begin { start ≤ 2 ^ 62 }
+    ensures limits { allowance_of engine.new ≡ allowance_of engine.old }
+    ensures count { count_of engine.new ≤ count_of engine.old + length held.now }
+    ensures within { IfOk result (λ taken. (0 < taken.0) × (taken.0 ≤ length held.now)) }
+    ensures fed { TakesNoted start held.now result flat.old flat.new engine.old engine.new notes.old notes.new }
+{
+    let points = match engine.take_points(flat, held) {
+        Ok(points) => points,
+        Err(_) => return Err(Stop::Memory),
+    };
+    if points > 0 {
+        return Ok((points, false));
+    }
+    feed_item(engine, flat, notes, start, held)
+}
+
+/// Gives the next of the held bytes of an input to an engine, and notes what they tell.
 fn read_item<R: Read>(
     input: &mut Input<'_, R>,
     engine: &mut Engine,
@@ -79,8 +122,7 @@ fn read_item<R: Read>(
     ensures same_tap { (input_tap input.new).ghost_name ≡ (input_tap input.old).ghost_name }
     ensures limits { allowance_of engine.new ≡ allowance_of engine.old }
     ensures offset { offset_in engine.new ≤ 2 ^ 63 }
-    ensures read { (bs : List ℕ) (s : StandsAt bs flat.old engine.old) → notes.old ≡ notes_at start s
-        → IsNotedRead (allowance_of engine.old) start bs input.old input.new result flat.new engine.new notes.new }
+    ensures read { ReadsNoted start input.old input.new result flat.old flat.new engine.old engine.new notes.old notes.new }
     ensures failures { input_failures input.new ≡ count_failure (halted_by_read result) (input_failures input.old) }
 {
     if let Err(fault) = input.fill() {
@@ -92,15 +134,7 @@ fn read_item<R: Read>(
     if count == 0 {
         return Ok(Piece::End);
     }
-    let points = match engine.take_points(flat, held) {
-        Ok(points) => points,
-        Err(_) => return Err(Halt::Engine(Stop::Memory)),
-    };
-    if points > 0 {
-        input.advance(points);
-        return Ok(Piece::More);
-    }
-    let (used, is_whole) = match feed_item(engine, flat, notes, start, held) {
+    let (used, is_whole) = match take_noted(engine, flat, notes, start, held) {
         Ok(taken) => taken,
         Err(stop) => return Err(Halt::Engine(stop)),
     };
@@ -117,25 +151,26 @@ fn read_noted<R: Read>(
     input: &mut Input<'_, R>,
     engine: &mut Engine,
     flat: &mut Flat,
-    mut notes: SpanNotes,
-) -> Result<Option<Spans>, BlobFault>
+    notes: &mut SpanNotes,
+) -> Result<bool, BlobFault>
     requires stands { StandsAt [] flat.old engine.old }
-    requires no_notes { notes ≡ no_notes }
+    requires no_notes { notes.old ≡ no_notes }
     ensures same_tap { (input_tap input.new).ghost_name ≡ (input_tap input.old).ghost_name }
     ensures limits { allowance_of engine.new ≡ allowance_of engine.old }
-    ensures next { IsSpannedFlat (allowance_of engine.old) input.old input.new result flat.new }
+    ensures next { IsSpanned (allowance_of engine.old) input.old input.new result flat.new notes.new.spans }
+    ensures memory { result ≡ Err BlobFault.Memory → PartAhead (allowance_of engine.old) [] input.old }
     ensures failures { input_failures input.new ≡ count_failure (failed_by_read result) (input_failures input.old) }
 {
     twkb_outline::laws::reading();
     let start = input.offset();
     loop {
         let _given = input.offset();
-        match read_item(input, engine, flat, &mut notes, start) {
+        match read_item(input, engine, flat, notes, start) {
             Ok(Piece::More) => {}
-            Ok(Piece::Made) => return Ok(Some(Spans::from_vec(notes.into_spans()))),
+            Ok(Piece::Made) => return Ok(true),
             Ok(Piece::End) => {
                 if engine.is_between() {
-                    return Ok(None);
+                    return Ok(false);
                 }
                 let offset = start + engine.offset();
                 let reason = BlobReason::Truncated;
@@ -150,22 +185,37 @@ fn read_noted<R: Read>(
     }
 }
 
-/// Reads a blob from an input into a form, in place of what that holds, with an engine that forgets what it has read, and gives the spans
-/// of its headers.
+/// Reads a blob from an input into a form without rows and a list of spans, in place of what that holds, with an engine that forgets what
+/// it has read. Form and list are empty where none is read.
 pub(crate) fn read_spans<R: Read>(
     input: &mut Input<'_, R>,
-    alloc: Global,
     engine: &mut Engine,
     flat: &mut Flat,
-) -> Result<Option<Spans>, BlobFault>
+    spans: &mut Spans,
+) -> Result<bool, BlobFault>
+    requires empty { flat.old ≡ [] }
     ensures same_tap { (input_tap input.new).ghost_name ≡ (input_tap input.old).ghost_name }
     ensures limits { allowance_of engine.new ≡ allowance_of engine.old }
-    ensures next { IsSpannedFlat (allowance_of engine.old) input.old input.new result flat.new }
-    ensures some { IfOk result (λ found. IfSome found (λ spans. 0 < length flat.new)) }
+    ensures next { IsSpanned (allowance_of engine.old) input.old input.new result flat.new spans.new }
+    ensures memory { result ≡ Err BlobFault.Memory → PartAhead (allowance_of engine.old) [] input.old }
+    ensures cleared { (result ≡ Ok true) ⊎ ((flat.new ≡ []) × (spans.new ≡ [])) }
+    ensures some { result ≡ Ok true → 0 < length flat.new }
     ensures failures { input_failures input.new ≡ count_failure (failed_by_read result) (input_failures input.old) }
 {
     twkb_tree::laws::nodes_are_rows();
     engine.restart();
-    flat.clear();
-    read_noted(input, engine, flat, SpanNotes::new(alloc))
+    spans.notes.restart();
+    match read_noted(input, engine, flat, &mut spans.notes) {
+        Ok(true) => Ok(true),
+        Ok(false) => {
+            flat.clear();
+            spans.clear();
+            Ok(false)
+        }
+        Err(fault) => {
+            flat.clear();
+            spans.clear();
+            Err(fault)
+        }
+    }
 }

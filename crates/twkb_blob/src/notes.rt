@@ -1,17 +1,16 @@
 //! The spans of a blob that is read, as far as they are known.
-ghost use Rattle.std.specs.Prelude.{◌≡◌, ◌<◌, ◌^◌, ◌%◌, OnOk, length as length_of};
-ghost use Rattle.twkb_grammar.specs.Machine as machine;
-ghost use Rattle.twkb_grammar.specs.Noting.{shown, no_notes, note_header as header_noted, note_metadata as metadata_noted, note_end, note_ends_to, changed_at};
+ghost use Rattle.std.specs.Prelude.{◌≡◌, ◌<◌, ◌^◌, OnOk, OnErr, length as length_of};
+ghost use Rattle.twkb_grammar.specs.Noting.{no_notes, note_header as header_noted, note_metadata as metadata_noted, note_end, note_ends_to, changed_at};
 ghost use Rattle.twkb_blob.specs.Located.{note_awaited, measured};
 
 use std::alloc::{AllocError, Global};
 use std::marker::Model;
-use twkb_engine::{Awaited, precision_at};
+use twkb_engine::Awaited;
 use twkb_grammar::Span;
-use twkb_tree::Kind;
+use twkb_header::TypeByte;
 
 /// The spans so far, and which of them are of geometries that are begun and not ended, the innermost last.
-#[derive(Drop)]
+#[derive(Debug, Drop)]
 pub(crate) struct SpanNotes {
     spans: Vec<Span>,
     begun: Vec<usize>,
@@ -24,21 +23,6 @@ impl Model for SpanNotes {
     ghost Value = { Notes };
 
     ghost view = { λ n. record { spans = n.spans.items; begun = reverse n.begun.items } };
-}
-
-/// The kind of a type byte whose lower half is 1 to 7.
-fn kind_at(byte: u8) -> Kind
-    ensures { result ≡ shown (machine.kind_at (byte % 16)) }
-{
-    match byte % 16 {
-        1 => Kind::Point,
-        2 => Kind::Linestring,
-        3 => Kind::Polygon,
-        4 => Kind::MultiPoint,
-        5 => Kind::MultiLinestring,
-        6 => Kind::MultiPolygon,
-        _ => Kind::Collection,
-    }
 }
 
 /// Sets the metadata byte of the span at this place, if there is one.
@@ -72,6 +56,29 @@ impl SpanNotes {
         }
     }
 
+    /// These spans, of geometries that have ended. Takes no memory.
+    pub fn from_spans(spans: Vec<Span>) -> SpanNotes
+        ensures { result.spans ≡ spans.items }
+    {
+        let begun = Vec::new(*spans.allocator());
+        SpanNotes { spans, begun }
+    }
+
+    /// Forgets the spans, and keeps their room for others. Takes no memory.
+    pub fn restart(&mut self)
+        ensures { self.new ≡ no_notes }
+    {
+        self.spans.clear();
+        self.begun.clear();
+    }
+
+    /// The spans. Takes no memory.
+    pub fn spans(&self) -> &[Span]
+        ensures { result.now ≡ self.now.spans }
+    {
+        self.spans.as_slice()
+    }
+
     /// The spans. Takes no memory.
     pub fn into_spans(self) -> Vec<Span>
         ensures { result.items ≡ self.spans }
@@ -79,17 +86,18 @@ impl SpanNotes {
         self.spans
     }
 
-    /// A geometry begins. It takes memory for its span.
+    /// A geometry begins. It takes memory for its span, past the room that there is.
     fn note_header(&mut self, offset: u64, points: u64, byte: u8) -> Result<(), AllocError>
         ensures { OnOk result (length_of self.old.begun < 2 ^ 32 → self.new ≡ header_noted offset points byte self.old) }
     {
         let level = self.begun.len().min(u32::MAX as usize) as u32;
         let place = self.spans.len();
+        let header = TypeByte::from_byte(byte);
         self.spans.push(Span {
             level,
             offset,
-            kind: kind_at(byte),
-            precision: precision_at(u64::from(byte / 16)),
+            kind: header.kind(),
+            precision: header.precision(),
             metadata: 0,
             length: 0,
             points,
@@ -108,7 +116,7 @@ impl SpanNotes {
         }
     }
 
-    /// A byte that is awaited so, at this offset and behind so many points. A type byte takes memory.
+    /// A byte that is awaited so, at this offset and behind so many points. Only a type byte takes memory.
     pub fn note(
         &mut self,
         awaited: Awaited,
@@ -116,7 +124,8 @@ impl SpanNotes {
         points: u64,
         byte: u8,
     ) -> Result<(), AllocError>
-        ensures { OnOk result (length_of self.old.begun < 2 ^ 32 → self.new ≡ note_awaited awaited offset points byte self.old) }
+        ensures noted { OnOk result (length_of self.old.begun < 2 ^ 32 → self.new ≡ note_awaited awaited offset points byte self.old) }
+        ensures memory { OnErr result (awaited ≡ Awaited.Header) }
     {
         match awaited {
             Awaited::Header => self.note_header(offset, points, byte)?,

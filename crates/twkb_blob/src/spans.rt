@@ -1,14 +1,16 @@
 //! Geometries with the place and the header of each.
-ghost use Rattle.std.specs.Prelude.{◌≡◌};
+ghost use Rattle.std.specs.Prelude.{◌≡◌, []};
 
+use crate::notes::SpanNotes;
+use std::alloc::Global;
 use std::marker::Model;
 use twkb_grammar::Span;
 use twkb_tree::Geometry;
 
-/// The spans of a blob, in the order of its headers. A contract sees the list of them.
+/// The spans of a blob, in the order of its headers, and room for those of a further one. A contract sees the list of them.
 #[derive(Debug, Drop)]
 pub struct Spans {
-    items: Vec<Span>,
+    pub(crate) notes: SpanNotes,
 }
 
 impl Model for Spans {
@@ -17,29 +19,47 @@ impl Model for Spans {
 
     ghost Value = { List Span };
 
-    ghost view = { λ a. a.items.items };
+    ghost view = { λ a. a.notes.spans };
 }
 
 impl Spans {
+    /// No spans. Takes no memory.
+    pub fn new(alloc: Global) -> Spans
+        ensures { result ≡ [] }
+    {
+        Spans {
+            notes: SpanNotes::new(alloc),
+        }
+    }
+
+    /// Forgets all spans, and keeps their room for others. Takes no memory.
+    pub fn clear(&mut self)
+        ensures { self.new ≡ [] }
+    {
+        self.notes.restart();
+    }
+
     /// The list of these spans. Takes no memory.
     pub fn from_vec(items: Vec<Span>) -> Spans
         ensures { result ≡ items.items }
     {
-        Spans { items }
+        Spans {
+            notes: SpanNotes::from_spans(items),
+        }
     }
 
     /// The spans. Takes no memory.
     pub fn into_vec(self) -> Vec<Span>
         ensures { result.items ≡ self }
     {
-        self.items
+        self.notes.into_spans()
     }
 
     /// The spans. Takes no memory.
     pub fn as_slice(&self) -> &[Span]
         ensures { result.now ≡ self.now }
     {
-        self.items.as_slice()
+        self.notes.spans()
     }
 }
 

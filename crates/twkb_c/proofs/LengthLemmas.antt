@@ -24,13 +24,14 @@ use Rattle.twkb_c.specs.declared.conversion.Conversion.TheVariants as conversion
 
 packed_length : (style : Style) (l : Allowance) (table written : List ℕ) (done n : ℕ) → PackedSlice style l table written done → n ≡ length written → PacksTo style l table n
 packed_length style l table written done n p e = λ records all.
-    (written, inl (p.geometries, subst (λ rs. Named l rs p.geometries) (one_records table p.records records p.all all) p.named, p.written_is), e)
+    (written, inl (p.whole.geometries, subst (λ rs. Named l rs p.whole.geometries) (one_records table p.whole.records records p.whole.all all) p.whole.named, p.written_is), e)
 
 refused_table_length : (style : Style) (l : Allowance) (table written : List ℕ) (done n : ℕ) (why : Cause) → PackedFront style l table written done why → IsRefusal why → n ≡ length written
     → PacksTo style l table n
 refused_table_length style l table written done n (cause.Row number reason) f refused e = λ records all.
-    let whole : written ≡ canonical_stream style f.whole = f.written_is ∙ (ap (λ front. canonical_stream style f.whole ++ front) f.explains.1 ∙ append-nil (canonical_stream style f.whole)) in
-    (written, subst (PackTo style l records) (sym whole) (refused_output style l table records number reason f.whole all f.explains.2), e)
+    let p = f.part in
+    let whole : written ≡ canonical_stream style p.whole = p.bytes ∙ (ap (λ front. canonical_stream style p.whole ++ front) f.explains.1 ∙ append-nil (canonical_stream style p.whole)) in
+    (written, subst (PackTo style l records) (sym whole) (refused_output style l table records number reason p.whole (all, f.explains.2)), e)
 refused_table_length style l table written done n (cause.Blob offset reason) f refused e = absurd f.explains
 refused_table_length style l table written done n cause.ReadDevice f refused e = absurd refused
 refused_table_length style l table written done n cause.WriteDevice f refused e = absurd refused
@@ -49,8 +50,9 @@ unpacked_length l stream written done n p e = (written, inl (p.found, p.stream_i
 
 refused_stream_length : (l : Allowance) (stream written : List ℕ) (done n : ℕ) (why : Cause) → UnpackedFront l stream written done why → IsRefusal why → n ≡ length written → UnpacksTo l stream n
 refused_stream_length l stream written done n (cause.Blob offset reason) f refused e =
-    let text : written ≡ table_text f.whole = all_written table_text f.whole f.later written f.left f.cut f.explains.0 f.explains.1 in
-    (written, inr (offset, reason_of reason, f.whole, f.explains.2, text), e)
+    let p = f.part in
+    let text : written ≡ table_text p.whole = all_written table_text p.whole p.later written p.left p.cut f.explains.0 f.explains.1 in
+    (written, inr (offset, reason_of reason, p.whole, f.explains.2, text), e)
 refused_stream_length l stream written done n (cause.Row number reason) f refused e = absurd f.explains
 refused_stream_length l stream written done n cause.ReadDevice f refused e = absurd refused
 refused_stream_length l stream written done n cause.WriteDevice f refused e = absurd refused
@@ -63,10 +65,11 @@ shown_length l stream written done n p e = (written, inl (p.found, p.stream_is, 
 
 refused_lines_length : (l : Allowance) (stream written : List ℕ) (done n : ℕ) (why : Cause) → ShownFront l stream written done why → IsRefusal why → n ≡ length written → ShowsTo l stream n
 refused_lines_length l stream written done n (cause.Blob offset reason) f refused e =
-    let text : written ≡ lines_text f.whole = all_written lines_text f.whole f.later written f.left f.cut f.explains.0 f.explains.1 in
-    let none : f.whole ++ f.later ≡ f.whole = ap (λ later. f.whole ++ later) f.explains.0 ∙ append-nil f.whole in
-    let begin : LocatedStream l 0 f.bytes f.whole = subst (λ blobs. LocatedStream l 0 f.bytes blobs) none f.blobs in
-    (written, inr (offset, reason_of reason, f.whole, f.explains.2, (f.bytes, f.more, f.begins, begin), text), e)
+    let p = f.part in
+    let text : written ≡ lines_text p.whole = all_written lines_text p.whole p.later written p.left p.cut f.explains.0 f.explains.1 in
+    let none : p.whole ++ p.later ≡ p.whole = ap (λ later. p.whole ++ later) f.explains.0 ∙ append-nil p.whole in
+    let begin : LocatedStream l 0 p.bytes p.whole = subst (λ blobs. LocatedStream l 0 p.bytes blobs) none p.blobs in
+    (written, inr (offset, reason_of reason, p.whole, f.explains.2, (p.bytes, p.begins.0, p.begins.1, begin), text), e)
 refused_lines_length l stream written done n (cause.Row number reason) f refused e = absurd f.explains
 refused_lines_length l stream written done n cause.ReadDevice f refused e = absurd refused
 refused_lines_length l stream written done n cause.WriteDevice f refused e = absurd refused

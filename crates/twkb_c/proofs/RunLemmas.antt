@@ -33,15 +33,17 @@ module _ {R W : Type 0} (l : Allowance) (input : List ℕ) (remaining : R → Op
   packed : (style : Style) (report : Report) → Packed style l remaining contents reader writer report read written
       → Wrote (PackedSlice style l input) (PackedFront style l input) contents writer written (Ok report)
   packed style report p = record {
-    bytes = canonical_stream style p.geometries;
+    bytes = canonical_stream style p.table.geometries;
     appends = p.appends;
     agrees = (
       record {
-        records = p.records;
-        geometries = p.geometries;
-        all = subst (λ (o : Option (List ℕ)). IfSome o (λ text. AreRecordsOf text p.records)) told p.all;
-        few = p.few;
-        named = p.named;
+        whole = record {
+          records = p.table.records;
+          geometries = p.table.geometries;
+          all = subst (λ (o : Option (List ℕ)). IfSome o (λ text. AreRecordsOf text p.table.records)) told p.table.all;
+          few = p.table.few;
+          named = p.table.named;
+        };
         written_is = refl;
         done_is = p.count;
       },
@@ -52,21 +54,23 @@ module _ {R W : Type 0} (l : Allowance) (input : List ℕ) (remaining : R → Op
   packed_front : (style : Style) (fault : ConvertFault) → StoppedPacking style l remaining contents reader writer fault read written
       → Wrote (PackedSlice style l input) (PackedFront style l input) contents writer written (Err fault)
   packed_front style fault p = record {
-    bytes = canonical_stream style p.whole ++ p.front;
+    bytes = p.bytes;
     appends = p.appends;
     agrees = (
       record {
-        whole = p.whole;
-        later = p.later;
-        front = p.front;
-        rest = p.rest;
-        ready = subst (λ (o : Option (List ℕ)). MayBeWritten l o (p.whole ++ p.later)) told p.ready;
-        cut = p.cut;
+        part = record {
+          whole = p.part.whole;
+          later = p.part.later;
+          front = p.part.front;
+          rest = p.part.rest;
+          ready = subst (λ (o : Option (List ℕ)). MayBeWritten l o (p.part.whole ++ p.part.later)) told p.part.ready;
+          cut = p.part.cut;
+          bytes = p.part.bytes;
+        };
         one = p.one;
-        written_is = refl;
         done_is = p.done;
         given = bytes_given read;
-        explains = subst (λ (o : Option (List ℕ)). ExplainsPackingCause style l o (bytes_given read) fault.cause p.whole p.later p.front) told p.explains;
+        explains = subst (λ (o : Option (List ℕ)). ExplainsPackingCause style l o (bytes_given read) fault.cause p.part.whole p.part.later p.part.front) told p.explains;
       },
       p.sent,
     );
@@ -92,29 +96,29 @@ module _ {R W : Type 0} (l : Allowance) (input : List ℕ) (remaining : R → Op
   listed_front : {A : Type 0} (AreBlobs : List ℕ → List A → Type 0) (trees_of : List A → List Tree) (text_of : List A → List ℕ) (fault : ConvertFault)
       → StoppedListing AreBlobs trees_of text_of l remaining contents reader writer fault read written
       → Wrote (ListedSlice AreBlobs text_of input) (ListedFront AreBlobs trees_of text_of l input) contents writer written (Err fault)
-  listed_front AreBlobs trees_of text_of fault p =
-      let begins : BeginsWith (Some input) p.bytes = subst (λ (o : Option (List ℕ)). BeginsWith o p.bytes) told p.begins in record {
-        bytes = p.text;
-        appends = p.appends;
-        agrees = (
-          record {
-            whole = p.whole;
-            later = p.later;
-            bytes = p.bytes;
-            more = begins.0;
-            blobs = p.blobs;
-            begins = begins.1;
-            left = p.left;
-            cut = p.cut;
-            one = p.one;
-            holds = p.holds;
-            done_is = p.done;
-            told = remaining (device_of read);
-            explains = subst (λ (o : Option (List ℕ)). ExplainsListingCause trees_of text_of l o (remaining (device_of read)) p.bytes fault.cause p.whole p.later p.left) told p.explains;
-          },
-          p.sent,
-        );
-      }
+  listed_front AreBlobs trees_of text_of fault p = record {
+    bytes = p.text;
+    appends = p.appends;
+    agrees = (
+      record {
+        part = record {
+          whole = p.part.whole;
+          later = p.part.later;
+          bytes = p.part.bytes;
+          left = p.part.left;
+          blobs = p.part.blobs;
+          begins = subst (λ (o : Option (List ℕ)). BeginsWith o p.part.bytes) told p.part.begins;
+          cut = p.part.cut;
+          one = p.part.one;
+          holds = p.part.holds;
+        };
+        done_is = p.done;
+        told = remaining (device_of read);
+        explains = subst (λ (o : Option (List ℕ)). ExplainsListingCause trees_of text_of l o (remaining (device_of read)) p.part.bytes fault.cause p.part.whole p.part.later p.part.left) told p.explains;
+      },
+      p.sent,
+    );
+  }
 
   pub ran : (what : Conversion) (answer : Result Report ConvertFault) → Ran what l remaining contents reader writer answer read written
       → Wrote (Finished what l input) (Stopped what l input) contents writer written answer

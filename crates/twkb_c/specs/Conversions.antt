@@ -5,7 +5,7 @@ use Rattle.twkb_grammar.specs.declared.style.Style.{Style}
 use Rattle.twkb_c.specs.declared.conversion.Conversion.{Conversion}
 use Rattle.twkb_c.specs.declared.conversion.Conversion.TheVariants as conversion
 use Rattle.twkb_c.specs.declared.report.BufferReport.{BufferReport}
-use Rattle.twkb_c.specs.Calls.{Ends, FillsSlice, Stops}
+use Rattle.twkb_c.specs.Calls.{Ends, FillsSlice, Measures, Stops}
 use Rattle.twkb_c.specs.Lengths.{PacksTo, ShowsTo, UnpacksTo}
 use Rattle.twkb_c.specs.Slices.{PackedFront, PackedSlice, ShownFront, ShownSlice, UnpackedFront, UnpackedSlice}
 
@@ -27,14 +27,22 @@ HasLength (conversion.Pack style) l input = PacksTo style l input
 HasLength conversion.Unpack l input = UnpacksTo l input
 HasLength conversion.Show l input = ShowsTo l input
 
+-- the front of a slice was filled with the output of this input, as a report tells
+abbrev pub FillsOutput : Conversion → Allowance → List ℕ → List ℕ → BufferReport → Type 0
+FillsOutput what l input slice report = FillsSlice (Finished what l input) (Stopped what l input) (HasLength what l input) slice report
+
+-- the output of this input was measured, as a report tells
+abbrev pub MeasuresOutput : Conversion → Allowance → List ℕ → BufferReport → Type 0
+MeasuresOutput what l input report = Measures (Finished what l input) (Stopped what l input) (HasLength what l input) report
+
 -- a table was packed into a slice
 abbrev pub PacksSlice : Style → Allowance → List ℕ → List ℕ → BufferReport → Type 0
-PacksSlice style l table = FillsSlice (PackedSlice style l table) (PackedFront style l table) (PacksTo style l table)
+PacksSlice style = FillsOutput (conversion.Pack style)
 
 -- a stream was unpacked into a slice
 abbrev pub UnpacksSlice : Allowance → List ℕ → List ℕ → BufferReport → Type 0
-UnpacksSlice l stream = FillsSlice (UnpackedSlice l stream) (UnpackedFront l stream) (UnpacksTo l stream)
+UnpacksSlice = FillsOutput conversion.Unpack
 
 -- a stream was shown in a slice
 abbrev pub ShowsSlice : Allowance → List ℕ → List ℕ → BufferReport → Type 0
-ShowsSlice l stream = FillsSlice (ShownSlice l stream) (ShownFront l stream) (ShowsTo l stream)
+ShowsSlice = FillsOutput conversion.Show

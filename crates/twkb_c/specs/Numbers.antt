@@ -44,7 +44,20 @@ point_text_number_of text.Half = 25
 point_text_number_of text.Range = 26
 point_text_number_of text.TooMany = 27
 
--- what is wrong with a record: 1 to 16, and that of its text of points
+-- what is wrong with the id, the precision or the points of a record: 8 to 16, and that of its text of points
+abbrev pub value_number_of : RowReason → ℕ
+value_number_of row.BadId = 8
+value_number_of row.IdNotAllowed = 9
+value_number_of row.MixedIds = 10
+value_number_of row.BadPrecision = 11
+value_number_of row.PrecisionMissing = 12
+value_number_of row.PrecisionNotAllowed = 13
+value_number_of row.PolylineNotAllowed = 14
+value_number_of (row.Polyline offset why) = point_text_number_of why
+value_number_of row.PointCount = 16
+value_number_of reason = 0
+
+-- what is wrong with a record: 1 to 7 with its form or its place, and else with what it holds
 abbrev pub row_number_of : RowReason → ℕ
 row_number_of row.BadHeader = 1
 row_number_of row.FieldCount = 2
@@ -53,15 +66,7 @@ row_number_of row.BadKind = 4
 row_number_of row.BadPlace = 5
 row_number_of row.TooDeep = 6
 row_number_of row.TooManyNodes = 7
-row_number_of row.BadId = 8
-row_number_of row.IdNotAllowed = 9
-row_number_of row.MixedIds = 10
-row_number_of row.BadPrecision = 11
-row_number_of row.PrecisionMissing = 12
-row_number_of row.PrecisionNotAllowed = 13
-row_number_of row.PolylineNotAllowed = 14
-row_number_of (row.Polyline offset why) = point_text_number_of why
-row_number_of row.PointCount = 16
+row_number_of reason = value_number_of reason
 
 -- what is wrong with an item of a blob: 41 to 49
 abbrev pub blob_number_of : BlobReason → ℕ
@@ -97,22 +102,8 @@ place_of cause.TooManyRecords = 0
 
 -- where the text of points of a record is refused
 abbrev pub row_text_offset_of : RowReason → ℕ
-row_text_offset_of row.BadHeader = 0
-row_text_offset_of row.FieldCount = 0
-row_text_offset_of row.BadDepth = 0
-row_text_offset_of row.BadKind = 0
-row_text_offset_of row.BadPlace = 0
-row_text_offset_of row.TooDeep = 0
-row_text_offset_of row.TooManyNodes = 0
-row_text_offset_of row.BadId = 0
-row_text_offset_of row.IdNotAllowed = 0
-row_text_offset_of row.MixedIds = 0
-row_text_offset_of row.BadPrecision = 0
-row_text_offset_of row.PrecisionMissing = 0
-row_text_offset_of row.PrecisionNotAllowed = 0
-row_text_offset_of row.PolylineNotAllowed = 0
 row_text_offset_of (row.Polyline offset why) = offset
-row_text_offset_of row.PointCount = 0
+row_text_offset_of reason = 0
 
 -- where a text of points is refused, and 0 where none is
 abbrev pub text_offset_of : Cause → ℕ

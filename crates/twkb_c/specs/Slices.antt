@@ -1,44 +1,31 @@
 -- What the conversions do between two slices: the bytes that were read, and those that were written.
-use Rattle.std.specs.Prelude.{◌≡◌, ℕ, ◌^◌, ◌<◌, List, ◌++◌, length, Option, Some}
+use Rattle.std.specs.Prelude.{◌≡◌, ℕ, List, length, Option, Some}
 use Rattle.twkb_tree.specs.Tree.{Tree}
 use Rattle.twkb_tree.specs.Limits.{Allowance}
 use Rattle.twkb_grammar.specs.Blob.{Stream}
 use Rattle.twkb_grammar.specs.Written.{canonical_stream}
 use Rattle.twkb_grammar.specs.declared.style.Style.{Style}
-use Rattle.twkb_table.specs.Record.{Record}
-use Rattle.twkb_table.specs.Named.{Named}
-use Rattle.twkb_table.specs.CsvRecords.{AreRecordsOf}
-use Rattle.twkb_convert.specs.BlobSending.{HoldsWhole}
+use Rattle.twkb_convert.specs.Fronts.{FrontOfBlobs, FrontOfText}
 use Rattle.twkb_convert.specs.Listed.{ExplainsListingCause}
 use Rattle.twkb_convert.specs.LocatedBlobs.{LocatedStream, geometries_of, lines_text}
 use Rattle.twkb_convert.specs.Outputs.{AtMostOneCut, table_text}
 use Rattle.twkb_convert.specs.Packed.{ExplainsPackingCause}
-use Rattle.twkb_convert.specs.RefusedRows.{MayBeWritten}
+use Rattle.twkb_convert.specs.RefusedRows.{WholeTable}
 use Rattle.twkb_convert.specs.declared.report.Cause.{Cause}
 
 -- The records of the table name this many geometries, and their canonical stream was written.
 pub record PackedSlice (style : Style) (l : Allowance) (table written : List ℕ) (done : ℕ) : Type 0 where
-  pub records : List Record
-  pub geometries : List Tree
-  pub all : AreRecordsOf table records
-  pub few : length records < 2 ^ 32
-  pub named : Named l records geometries
-  pub written_is : written ≡ canonical_stream style geometries
-  pub done_is : done ≡ length geometries
+  pub whole : WholeTable l (Some table)
+  pub written_is : written ≡ canonical_stream style whole.geometries
+  pub done_is : done ≡ length whole.geometries
 
 -- Geometries of the table may be written: the canonical blobs of this many were, and a front of the next one's. The cause explains that.
 pub record PackedFront (style : Style) (l : Allowance) (table written : List ℕ) (done : ℕ) (why : Cause) : Type 0 where
-  pub whole : List Tree
-  pub later : List Tree
-  pub front : List ℕ
-  pub rest : List ℕ
-  pub ready : MayBeWritten l (Some table) (whole ++ later)
-  pub cut : canonical_stream style later ≡ front ++ rest
-  pub one : AtMostOneCut later rest
-  pub written_is : written ≡ canonical_stream style whole ++ front
-  pub done_is : done ≡ length whole
+  pub part : FrontOfBlobs style l (Some table) written
+  pub one : AtMostOneCut part.later part.rest
+  pub done_is : done ≡ length part.whole
   pub given : ℕ
-  pub explains : ExplainsPackingCause style l (Some table) given why whole later front
+  pub explains : ExplainsPackingCause style l (Some table) given why part.whole part.later part.front
 
 -- The bytes are this many blobs, and their text was written.
 pub record ListedSlice {A : Type 0} (AreBlobs : List ℕ → List A → Type 0) (text_of : List A → List ℕ) (stream written : List ℕ) (done : ℕ) : Type 0 where
@@ -50,19 +37,10 @@ pub record ListedSlice {A : Type 0} (AreBlobs : List ℕ → List A → Type 0) 
 -- The bytes begin with blobs, and a front of their text was written, with that of this many of them. The cause explains that.
 pub record ListedFront {A : Type 0} (AreBlobs : List ℕ → List A → Type 0) (trees_of : List A → List Tree) (text_of : List A → List ℕ) (l : Allowance)
     (stream written : List ℕ) (done : ℕ) (why : Cause) : Type 0 where
-  pub whole : List A
-  pub later : List A
-  pub bytes : List ℕ
-  pub more : List ℕ
-  pub blobs : AreBlobs bytes (whole ++ later)
-  pub begins : stream ≡ bytes ++ more
-  pub left : List ℕ
-  pub cut : text_of (whole ++ later) ≡ written ++ left
-  pub one : AtMostOneCut later left
-  pub holds : HoldsWhole text_of written whole
-  pub done_is : done ≡ length whole
+  pub part : FrontOfText AreBlobs text_of (Some stream) written
+  pub done_is : done ≡ length part.whole
   pub told : Option (List ℕ)
-  pub explains : ExplainsListingCause trees_of text_of l (Some stream) told bytes why whole later left
+  pub explains : ExplainsListingCause trees_of text_of l (Some stream) told part.bytes why part.whole part.later part.left
 
 -- the same of the table of a stream
 abbrev pub UnpackedSlice : Allowance → List ℕ → List ℕ → ℕ → Type 0

@@ -4,8 +4,7 @@ ghost use Rattle.twkb_tree.specs.Limits.{IsAllowance, standard_limits};
 ghost use Rattle.twkb_grammar.specs.declared.style.Style.{Style};
 ghost use Rattle.twkb_c.specs.Numbers.{IsConversionNumber, IsStyleNumber};
 ghost use Rattle.twkb_c.specs.Reports.{allowance_of, arguments_report};
-ghost use Rattle.twkb_c.specs.Calls.{FillsSlice, Measures};
-ghost use Rattle.twkb_c.specs.Conversions.{Finished, HasLength, PacksSlice, ShowsSlice, Stopped, UnpacksSlice};
+ghost use Rattle.twkb_c.specs.Conversions.{MeasuresOutput, PacksSlice, ShowsSlice, UnpacksSlice};
 ghost use Rattle.twkb_c.specs.declared.conversion.Conversion.{Conversion};
 
 use crate::conversion::{Conversion, conversion_of};
@@ -96,7 +95,7 @@ pub extern "C" fn polytwkb_measure(
     style: u32,
 ) -> BufferReport
     ensures measures { IsAllowance (allowance_of limits) → (s : Style) → IsStyleNumber s style → (what : Conversion) → IsConversionNumber s what conversion
-        → Measures (Finished what (allowance_of limits) input.now) (Stopped what (allowance_of limits) input.now) (HasLength what (allowance_of limits) input.now) result }
+        → MeasuresOutput what (allowance_of limits) input.now result }
     ensures limits_out_of_range { (IsAllowance (allowance_of limits) → ⊥) → result ≡ arguments_report }
     ensures style_out_of_range { 1 < style → result ≡ arguments_report }
     ensures conversion_out_of_range { 2 < conversion → result ≡ arguments_report }

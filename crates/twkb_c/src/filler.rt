@@ -8,7 +8,7 @@ use std::io::Write;
 
 /// A writer that fills a slice from its front, and takes no more than fits.
 #[derive(Drop)]
-pub struct Filler<'a> {
+pub(crate) struct Filler<'a> {
     buffer: &'a mut [u8],
     filled: usize,
     ghost within: { filled ≤ length buffer.now },
@@ -18,7 +18,7 @@ impl<'a> Filler<'a> {
     ghost use Rattle.twkb_c.specs.Fillers.{buffer_of, filled_of};
 
     /// A writer that has filled nothing.
-    pub fn new(buffer: &'a mut [u8]) -> Filler<'a>
+    pub(crate) fn new(buffer: &'a mut [u8]) -> Filler<'a>
         ensures same_buffer { (buffer_of result).ghost_name ≡ buffer.entry.ghost_name }
         ensures untouched { (buffer_of result).now ≡ buffer.old }
         ensures filled { filled_of result ≡ 0 }

@@ -1,7 +1,7 @@
 //! The conversions from a slice into a slice.
 ghost use Rattle.std.specs.Prelude.{◌≡◌, ◌≢◌, ◌<◌, Some};
-ghost use Rattle.twkb_c.specs.Calls.{Fills, FillsSlice};
-ghost use Rattle.twkb_c.specs.Conversions.{Finished, HasLength, Stopped};
+ghost use Rattle.twkb_c.specs.Calls.{Fills};
+ghost use Rattle.twkb_c.specs.Conversions.{FillsOutput, Finished, Stopped};
 ghost use Rattle.twkb_c.specs.Fillers.{buffer_of, filled_of};
 
 use crate::conversion::{Conversion, run};
@@ -68,7 +68,7 @@ pub(crate) fn fill(
     output: &mut [u8],
     limits: Limits,
 ) -> BufferReport
-    ensures { FillsSlice (Finished what limits input.now) (Stopped what limits input.now) (HasLength what limits input.now) output.new result }
+    ensures { FillsOutput what limits input.now output.new result }
 {
     let room = output.len();
     let fault = match fill_front(alloc, what, input, output, limits) {

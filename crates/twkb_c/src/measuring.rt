@@ -1,7 +1,7 @@
 //! How long the output of a conversion is.
 ghost use Rattle.std.specs.Prelude.{◌≡◌, IfSome};
-ghost use Rattle.twkb_c.specs.Calls.{Counts, MeasuresBy, Measures, whole_length_of};
-ghost use Rattle.twkb_c.specs.Conversions.{Finished, HasLength, Stopped};
+ghost use Rattle.twkb_c.specs.Calls.{Counts, MeasuresBy, whole_length_of};
+ghost use Rattle.twkb_c.specs.Conversions.{Finished, HasLength, MeasuresOutput, Stopped};
 
 use crate::conversion::{Conversion, run};
 use crate::report::{BufferReport, finished, stopped};
@@ -66,7 +66,7 @@ pub(crate) fn output_length(
 
 /// What a conversion would write, without writing it: `needed` is the length of its whole output.
 pub(crate) fn measure(alloc: Global, what: Conversion, input: &[u8], limits: Limits) -> BufferReport
-    ensures { Measures (Finished what limits input.now) (Stopped what limits input.now) (HasLength what limits input.now) result }
+    ensures { MeasuresOutput what limits input.now result }
 {
     measured(count_output(alloc, what, input, limits))
 }

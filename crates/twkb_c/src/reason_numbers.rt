@@ -7,22 +7,22 @@ use twkb_convert::{BlobReason, Cause, PolyReason, RowReason};
 /// All was converted.
 pub(crate) const DONE: u32 = 0;
 
-/// The input is refused, or too long.
+// The input is refused, or too long.
 const REFUSED: u32 = 1;
 
 /// The limits, the style or the conversion is none.
 pub(crate) const ARGUMENTS: u32 = 2;
 
-/// The input could not be read.
+// The input could not be read.
 const DEVICE: u32 = 3;
 
-/// No memory was found.
+// No memory was found.
 const MEMORY: u32 = 4;
 
 /// The output is too small.
 pub(crate) const TOO_SMALL: u32 = 5;
 
-/// What is wrong with a text of points.
+// What is wrong with a text of points.
 fn point_text_number(reason: PolyReason) -> u32
     ensures { result ≡ point_text_number_of reason }
 {
@@ -37,7 +37,7 @@ fn point_text_number(reason: PolyReason) -> u32
     }
 }
 
-/// What is wrong with a record.
+// What is wrong with a record.
 fn row_number(reason: RowReason) -> u32
     ensures { result ≡ row_number_of reason }
 {
@@ -61,7 +61,7 @@ fn row_number(reason: RowReason) -> u32
     }
 }
 
-/// What is wrong with an item of a blob.
+// What is wrong with an item of a blob.
 fn blob_number(reason: BlobReason) -> u32
     ensures { result ≡ blob_number_of reason }
 {

@@ -8,7 +8,7 @@ use crate::help;
 use clap::{Arg, Command, value_parser};
 use std::alloc::{AllocError, Global};
 
-/// The option `--max-nest`.
+// The option `--max-nest`.
 fn max_nest_option<'a>(alloc: Global) -> Arg<'a>
     ensures rule { rule_of result ≡ max_nest }
     ensures local { result.global ≡ false }
@@ -20,7 +20,7 @@ fn max_nest_option<'a>(alloc: Global) -> Arg<'a>
     described(nest, help::MAX_NEST)
 }
 
-/// The option `--style`, which takes one of these names.
+// The option `--style`, which takes one of these names.
 fn style_choice<'a>(alloc: Global, styles: &'a [&'a str]) -> Arg<'a>
     ensures rule { rule_of result ≡ style_option styles.entry }
     ensures local { result.global ≡ false }
@@ -32,7 +32,7 @@ fn style_choice<'a>(alloc: Global, styles: &'a [&'a str]) -> Arg<'a>
     described(style, help::STYLE)
 }
 
-/// The option with what help says of it.
+// The option with what help says of it.
 fn described<'a>(option: Arg<'a>, help: &'a str) -> Arg<'a>
     ensures rule { rule_of result ≡ rule_of option.entry }
     ensures local { result.global ≡ option.entry.global }
@@ -40,7 +40,7 @@ fn described<'a>(option: Arg<'a>, help: &'a str) -> Arg<'a>
     option.help(help)
 }
 
-/// A subcommand without options.
+// A subcommand without options.
 fn subcommand<'a>(alloc: Global, name: &'a str, about: &'a str) -> Command<'a>
     ensures app { app_of result ≡ new_app name.entry.now }
     ensures local { (out-Command result).has_globals ≡ false }
@@ -50,7 +50,7 @@ fn subcommand<'a>(alloc: Global, name: &'a str, about: &'a str) -> Command<'a>
         .after_help(help::ELSEWHERE)
 }
 
-/// A subcommand with the option `--max-nest`.
+// A subcommand with the option `--max-nest`.
 fn conversion_command<'a>(
     alloc: Global,
     name: &'a str,
@@ -62,7 +62,7 @@ fn conversion_command<'a>(
     subcommand(alloc, name, about).arg(max_nest_option(alloc))
 }
 
-/// The subcommand `pack`, which has the option `--style` too.
+// The subcommand `pack`, which has the option `--style` too.
 fn pack_command<'a>(alloc: Global, styles: &'a [&'a str]) -> Result<Command<'a>, AllocError>
     ensures shape { IfOk result (λ command. shape_of command ≡ pack_shape styles.entry) }
     ensures local { IfOk result (λ command. (out-Command command).has_globals ≡ false) }
@@ -72,7 +72,7 @@ fn pack_command<'a>(alloc: Global, styles: &'a [&'a str]) -> Result<Command<'a>,
         .arg(style_choice(alloc, styles))
 }
 
-/// The program's command, with what help says of it.
+// The program's command, with what help says of it.
 fn described_command<'a>(alloc: Global) -> Command<'a>
     ensures app { app_of result ≡ new_app (codes "polytwkb") }
     ensures local { (out-Command result).has_globals ≡ false }
@@ -82,7 +82,7 @@ fn described_command<'a>(alloc: Global) -> Command<'a>
         .after_long_help(help::MORE)
 }
 
-/// The program's command, without its subcommands.
+// The program's command, without its subcommands.
 fn bare_command<'a>(alloc: Global) -> Command<'a>
     ensures app { app_of result ≡ bare_app }
     ensures local { (out-Command result).has_globals ≡ false }
@@ -95,7 +95,7 @@ fn bare_command<'a>(alloc: Global) -> Command<'a>
 
 /// The command line: one of the subcommands.
 #[tactic(auto, unfolding(crate::specs::CommandLine::command_line))]
-pub fn command<'a>(alloc: Global, styles: &'a [&'a str]) -> Result<Command<'a>, AllocError>
+pub(crate) fn command<'a>(alloc: Global, styles: &'a [&'a str]) -> Result<Command<'a>, AllocError>
     ensures { IfOk result (λ command. app_of command ≡ command_line styles.entry) }
 {
     bare_command(alloc)

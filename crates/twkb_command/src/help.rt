@@ -1,33 +1,35 @@
 //! What help says.
 
 /// The version of the program.
-pub const VERSION: &str = "0.1.0";
+pub(crate) const VERSION: &str = "0.1.0";
 
 /// What the program does.
-pub const PROGRAM: &str =
+pub(crate) const PROGRAM: &str =
     "Converts between CSV tables of encoded polylines and streams of TWKB blobs";
 
 /// What `pack` does.
-pub const PACK: &str = "Reads a table and writes a stream of blobs, one for each geometry";
+pub(crate) const PACK: &str = "Reads a table and writes a stream of blobs, one for each geometry";
 
 /// What `unpack` does.
-pub const UNPACK: &str = "Reads a stream of blobs and writes a table, the header line first";
+pub(crate) const UNPACK: &str = "Reads a stream of blobs and writes a table, the header line first";
 
 /// What `show` does.
-pub const SHOW: &str = "Reads a stream of blobs and writes a line for each TWKB header in it";
+pub(crate) const SHOW: &str =
+    "Reads a stream of blobs and writes a line for each TWKB header in it";
 
 /// Where the help of a subcommand leads.
-pub const ELSEWHERE: &str = "'polytwkb --help' describes tables, streams and exit statuses.";
+pub(crate) const ELSEWHERE: &str = "'polytwkb --help' describes tables, streams and exit statuses.";
 
 /// What `--max-nest` is.
-pub const MAX_NEST: &str = "How many collections a geometry may stand in, 0 to 32 [default: 16]";
+pub(crate) const MAX_NEST: &str =
+    "How many collections a geometry may stand in, 0 to 32 [default: 16]";
 
 /// What `--style` is.
-pub const STYLE: &str = "full: blobs with sizes and boxes; plain: without [default: full]";
+pub(crate) const STYLE: &str = "full: blobs with sizes and boxes; plain: without [default: full]";
 
 /// What `--help` adds: how to call the program, the table, the stream, the lines of `show`, the
 /// statuses.
-pub const MORE: &str = "Each command reads standard input and writes standard output:
+pub(crate) const MORE: &str = "Each command reads standard input and writes standard output:
 
   polytwkb pack < places.csv > places.twkb
   polytwkb show < places.twkb

@@ -1,6 +1,6 @@
 -- The text of one blob, from the parts that were put.
 use Rattle.std.specs.Prelude.{map}
-use Rattle.std.proofs.Common.{Bool, true, ◌≡◌, ◌∙◌, ℕ, List, [], ◌∷◌, ◌++◌, Option, Some, Ok, ap, refl, subst, append_assoc}
+use Rattle.std.proofs.Common.{Bool, true, ◌≡◌, ◌∙◌, ℕ, List, [], ◌∷◌, ◌++◌, Ok, ap, refl, subst, append_assoc}
 use Rattle.std.specs.declared.io.traits.Read.{Ghosts}
 use Rattle.twkb_tree.specs.Tree.{Tree}
 use Rattle.twkb_tree.specs.Rows.{Row}
@@ -52,7 +52,7 @@ module _ {R : Type 0} {read : Ghosts R} (from to : Reader R read) where
     own = own;
   }
 
-  pub lines_given : (found : Option (List Span)) (spans : List Span) (text : List ℕ) → IsSpanned (limits_of from) (reader_input from) (reader_input to) (Ok found) → found ≡ Some spans → text ≡ span_lines spans → GivesText listing.Headers from to text
-  lines_given found spans text next is own =
-      let here = subst (λ f. IsSpanned (limits_of from) (reader_input from) (reader_input to) (Ok f)) is next in
+  pub lines_given : (found : Bool) (rs : List Row) (spans : List Span) (text : List ℕ) → IsSpanned (limits_of from) (reader_input from) (reader_input to) (Ok found) rs spans → found ≡ true → text ≡ span_lines spans → GivesText listing.Headers from to text
+  lines_given found rs spans text next is own =
+      let here = subst (λ f. IsSpanned (limits_of from) (reader_input from) (reader_input to) (Ok f) rs spans) is next in
       told_lines here.0 spans text here.1 own

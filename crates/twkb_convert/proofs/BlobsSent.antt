@@ -1,29 +1,11 @@
 -- Blobs whose texts were sent, one after another.
-use Rattle.std.proofs.Common.{◌≡◌, ◌∙◌, ◌+◌, ℕ, List, [], ◌∷◌, ◌++◌, Option, Some, None, length, ap, arith, refl, sym, subst, inl, inr, length-append, false}
-use Rattle.std.specs.Prelude.{IfSome}
-use Rattle.std.proofs.lemmas.List.{append-nil}
+use Rattle.twkb_convert.proofs.Prelude.{◌≡◌, ◌∙◌, ◌+◌, ℕ, List, [], ◌∷◌, ◌++◌, Option, Some, None, length, ap, arith, refl, sym, subst, inl, inr, append_assoc, length-append, false, IfSome, append-nil, Consumes, Ghosts, BeginsWith, count_failure, Cut, Sent, Took, is_spent, output_failures, sent_of, refused_join, took_join, took_nothing, Output, OutFault, Allowance, Reader, BlobFault, Located, LocatedStream, TellsSpans, blob_text, blobs_text, Listing, StreamObstacle}
 use Rattle.std.proofs.KnownBytes.{Consumes-nil, Consumes-trans, Consumes-whole}
-use Rattle.std.specs.Io.KnownBytes.{Consumes}
-use Rattle.std.specs.declared.io.traits.Read.{Ghosts}
-use Rattle.twkb_io.specs.Copies.{BeginsWith}
-use Rattle.twkb_io.specs.Taps.{count_failure}
-use Rattle.twkb_io.specs.Outputs.{Cut, Sent, Took, is_spent, output_failures, sent_of}
-use Rattle.twkb_io.specs.OutputLaws.{refused_join, took_join, took_nothing}
-use Rattle.twkb_io.specs.declared.output.Output.{Output}
-use Rattle.twkb_io.specs.declared.output.OutFault.{OutFault}
-use Rattle.twkb_tree.specs.Limits.{Allowance}
 use Rattle.twkb_convert.specs.BlobReading.{Misses, RefusesBlob, Used, given, limits_of, rest_of, told_of}
-use Rattle.twkb_blob.specs.declared.reader.Reader.{Reader}
-use Rattle.twkb_blob.specs.declared.fault.BlobFault.{BlobFault}
 use Rattle.twkb_blob.specs.declared.fault.BlobFault.TheVariants as blob
 use Rattle.twkb_io.specs.declared.input.InFault.TheVariants as input
-use Rattle.twkb_blob.specs.declared.spans.Located.{Located}
-use Rattle.twkb_convert.specs.LocatedBlobs.{LocatedStream, TellsSpans}
-use Rattle.twkb_convert.specs.Listings.{blob_text, blobs_text}
-use Rattle.twkb_convert.specs.declared.listing.Listing.{Listing}
-use Rattle.twkb_convert.specs.BlobSending.{CutBlob, CutBlobs, EndsBlobs, ExplainsObstacle, ExplainsStream, Follows, GivesText, SentAllBlobs, SentBlob, SentBlobs, StopsBlob, StopsRead, UnlessOutput, is_write}
-use Rattle.twkb_convert.specs.declared.halt.Obstacle.{Obstacle}
-use Rattle.twkb_convert.specs.declared.halt.Obstacle.TheVariants as obstacle
+use Rattle.twkb_convert.specs.BlobSending.{CutBlob, CutText, EndsBlobs, ExplainsObstacle, ExplainsStream, Follows, GivesText, SentBlob, SentBlobs, SentText, StopsBlob, StopsRead, UnlessOutput, is_write}
+use Rattle.twkb_convert.specs.declared.obstacle.StreamObstacle.TheVariants as obstacle
 use Rattle.twkb_convert.proofs.LocatedLemmas.{located-append, located-one}
 use Rattle.twkb_convert.proofs.ListingTexts.{blobs_text-append, blobs_text-one}
 
@@ -74,7 +56,7 @@ module _ {R : Type 0} {read : Ghosts R} where
     within = second.within;
   }
 
-  pub stops_later : (a b c : Reader R read) (why : Obstacle) → Follows a b false → StopsRead b why c → StopsRead a why c
+  pub stops_later : (a b c : Reader R read) (why : StreamObstacle) → Follows a b false → StopsRead b why c → StopsRead a why c
   stops_later a b c why first stops = record {
     has_failed = stops.has_failed;
     follows = follows_trans a b c stops.has_failed first stops.follows;
@@ -118,7 +100,7 @@ module _ {R W : Type 0} {read : Ghosts R} (what : Listing) (contents : W → Opt
       }
 
   pub sent_all : (remaining : R → Option (List ℕ)) (from mid to : Reader R read) (old out : Output W) (done : ℕ) → SentBlobs what contents from old mid out done
-      → EndsBlobs remaining mid to → SentAllBlobs what contents from old out done
+      → EndsBlobs remaining mid to → SentText (blobs_text what) contents from old out done
   sent_all remaining from mid to old out done sent ends = record {
     found = sent.found;
     bytes = sent.bytes;
@@ -129,21 +111,24 @@ module _ {R W : Type 0} {read : Ghosts R} (what : Listing) (contents : W → Opt
   }
 
   -- no text was sent behind those of whole blobs
-  cut_none : (from mid to : Reader R read) (old out new : Output W) (done : ℕ) (why : Obstacle) (sent : SentBlobs what contents from old mid out done) → new ≡ out → is_spent out ≡ false
+  cut_none : (from mid to : Reader R read) (old out new : Output W) (done : ℕ) (why : StreamObstacle) (sent : SentBlobs what contents from old mid out done) → new ≡ out → is_spent out ≡ false
       → is_write why ≡ false → ((fact : Type 0) → fact → UnlessOutput why fact)
       → ExplainsObstacle (limits_of from) (rest_of from) (told_of to) (given from) sent.bytes why (sent_of old) (blobs_text what (sent.found ++ [])) [] []
-      → CutBlobs what contents from old to new (record { done = done; obstacle = why })
+      → CutText (blobs_text what) contents from old to new (record { done = done; why = why })
   cut_none from mid to old out new done why sent same fresh no_write unless explains = record {
-    whole = sent.found;
-    later = [];
-    bytes = sent.bytes;
-    blobs = subst (λ bs. LocatedStream (limits_of from) (given from) sent.bytes bs) (sym (append-nil sent.found)) sent.blobs;
-    begins = consumes_begins (rest_of from) (rest_of mid) sent.bytes sent.used.consumed;
-    front = [];
-    left = [];
-    cut = refl;
-    one = inl refl;
-    sends = subst (λ o. Sent contents old (blobs_text what sent.found ++ []) o) (sym same) (subst (λ text. Sent contents old text out) (sym (append-nil (blobs_text what sent.found))) sent.took.sends);
+    text = blobs_text what sent.found;
+    part = record {
+      whole = sent.found;
+      later = [];
+      bytes = sent.bytes;
+      left = [];
+      blobs = subst (λ bs. LocatedStream (limits_of from) (given from) sent.bytes bs) (sym (append-nil sent.found)) sent.blobs;
+      begins = consumes_begins (rest_of from) (rest_of mid) sent.bytes sent.used.consumed;
+      cut = ap (blobs_text what) (append-nil sent.found) ∙ sym (append-nil (blobs_text what sent.found));
+      one = inl refl;
+      holds = inr ([], sym (append-nil (blobs_text what sent.found)));
+    };
+    sends = subst (λ o. Sent contents old (blobs_text what sent.found) o) (sym same) sent.took.sends;
     count = sent.count;
     explains = explains;
     failures = ap output_failures same ∙ (sent.took.failures ∙ ap (λ b. count_failure b (output_failures old)) (sym no_write));
@@ -156,39 +141,40 @@ module _ {R W : Type 0} {read : Ghosts R} (what : Listing) (contents : W → Opt
 
   -- a front of the text of one more blob was sent
   cut_one : (from mid to : Reader R read) (old out new : Output W) (done : ℕ) (why : OutFault) (sent : SentBlobs what contents from old mid out done) → limits_of mid ≡ limits_of from
-      → is_spent out ≡ false → CutBlob what contents mid out to why new → CutBlobs what contents from old to new (record { done = done; obstacle = obstacle.Output why })
+      → is_spent out ≡ false → CutBlob what contents mid out to why new → CutText (blobs_text what) contents from old to new (record { done = done; why = obstacle.Output why })
   cut_one from mid to old out new done why sent same fresh one =
       let all = used_join (rest_of from) (rest_of mid) (rest_of to) (given from) (given mid) (given to) sent.bytes one.gives.front sent.used one.gives.used in
       let refused = refused_join contents old out new (blobs_text what sent.found) one.cut.front why sent.took one.cut.refused in
       let single : blobs_text what (one.found ∷ []) ≡ blob_text what one.found = blobs_text-one what one.found in
-      let text : blobs_text what (sent.found ++ one.found ∷ []) ≡ blobs_text what sent.found ++ blobs_text what (one.found ∷ []) = blobs_text-append what sent.found (one.found ∷ []) in
+      let joined : blobs_text what (sent.found ++ one.found ∷ []) ≡ blobs_text what sent.found ++ blobs_text what (one.found ∷ []) = blobs_text-append what sent.found (one.found ∷ []) in
       record {
-        whole = sent.found;
-        later = one.found ∷ [];
-        bytes = sent.bytes ++ one.gives.front;
-        blobs = one_more (limits_of from) (limits_of mid) (given from) (given mid) sent.bytes one.gives.front sent.found one.found sent.blobs same sent.used.counted one.gives.tells;
-        begins = consumes_begins (rest_of from) (rest_of to) (sent.bytes ++ one.gives.front) all.consumed;
-        front = one.cut.front;
-        left = one.cut.rest;
-        cut = single ∙ one.cut.whole;
-        one = inr (one.found, refl, one.cut.left fresh);
+        text = blobs_text what sent.found ++ one.cut.front;
+        part = record {
+          whole = sent.found;
+          later = one.found ∷ [];
+          bytes = sent.bytes ++ one.gives.front;
+          left = one.cut.rest;
+          blobs = one_more (limits_of from) (limits_of mid) (given from) (given mid) sent.bytes one.gives.front sent.found one.found sent.blobs same sent.used.counted one.gives.tells;
+          begins = consumes_begins (rest_of from) (rest_of to) (sent.bytes ++ one.gives.front) all.consumed;
+          cut = joined ∙ ap (λ t. blobs_text what sent.found ++ t) (single ∙ one.cut.whole) ∙ sym (append_assoc (blobs_text what sent.found) one.cut.front one.cut.rest);
+          one = inr (one.found, refl, one.cut.left fresh);
+          holds = inr (one.cut.front, refl);
+        };
         sends = refused.sends;
         count = sent.count;
         explains = (
           λ long. let far = one.cut.too_long long in
-              omega (arith, far, sent.took.sends.sent, ap length text, ap length single, length-append (blobs_text what sent.found) (blobs_text what (one.found ∷ []))),
+              omega (arith, far, sent.took.sends.sent, ap length joined, ap length single, length-append (blobs_text what sent.found) (blobs_text what (one.found ∷ []))),
           one.cut.unspent fresh,
         );
         failures = refused.failures;
         unspent = tt;
       }
 
-  pub cut_blobs : (from mid to : Reader R read) (old out new : Output W) (done : ℕ) (why : Obstacle) → SentBlobs what contents from old mid out done → limits_of mid ≡ limits_of from
-      → is_spent out ≡ false → StopsBlob what contents mid out why to new → CutBlobs what contents from old to new (record { done = done; obstacle = why })
+  pub cut_blobs : (from mid to : Reader R read) (old out new : Output W) (done : ℕ) (why : StreamObstacle) → SentBlobs what contents from old mid out done → limits_of mid ≡ limits_of from
+      → is_spent out ≡ false → StopsBlob what contents mid out why to new → CutText (blobs_text what) contents from old to new (record { done = done; why = why })
   cut_blobs from mid to old out new done (obstacle.Stream why) sent same fresh stops =
       let misses : Misses (limits_of from) (rest_of mid) (given mid) (told_of to) why = subst (λ l. Misses l (rest_of mid) (given mid) (told_of to) why) same stops.1 in
       cut_none from mid to old out new done (obstacle.Stream why) sent stops.0 fresh refl (λ fact held. held)
       (refl, refl, explained (limits_of from) (rest_of from) (rest_of mid) (told_of to) (given from) (given mid) sent.bytes why sent.used misses)
-  cut_blobs from mid to old out new done obstacle.Memory sent same fresh stops =
-      cut_none from mid to old out new done obstacle.Memory sent stops fresh refl (λ fact held. held) (refl, refl)
   cut_blobs from mid to old out new done (obstacle.Output why) sent same fresh stops = cut_one from mid to old out new done why sent same fresh stops

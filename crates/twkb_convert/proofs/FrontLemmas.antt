@@ -1,39 +1,22 @@
 -- What may be written is a front of the whole output.
-use Rattle.std.specs.Prelude.{◌⊎◌, map}
-use Rattle.std.proofs.Common.{◌≡◌, ◌∙◌, ℕ, List, [], ◌∷◌, ◌++◌, Some, None, ap, refl, sym, subst, inl, inr, append_assoc}
-use Rattle.std.proofs.lemmas.List.{append-nil}
-use Rattle.std.proofs.lemmas.Grind.{flat_map-append}
+use Rattle.twkb_convert.proofs.Prelude.{◌⊎◌, map, ◌≡◌, ◌∙◌, ℕ, List, [], ◌∷◌, ◌++◌, Some, None, ap, refl, sym, subst, inl, inr, append_assoc, append-nil, flat_map-append, BeginsWith, Tree, Allowance, IsAllowance, Row, rows, rows_of, Stream, FirstFault, Reason, canonical_blob, canonical_stream, Style, Record, header, record_of, Named, AreComplete, HasNoHeader, all_but_last, RowReason, AreRecordsOf, BeginWith, FrontOfBlobs, PackTextTo, PackTo, UnpackTo, rows_text, table_text, MayBeWritten}
 use Rattle.csv.specs.Reading.{AreRecords, Reached, default_config, strip_bom}
 use Rattle.csv.specs.Machine.{Read, next_record}
 use Rattle.csv.specs.declared.parser.Config.{Config}
 use Rattle.csv.specs.declared.parser.State.{State}
 use Rattle.csv.specs.declared.parser.State.TheVariants.{StartRecord}
-use Rattle.twkb_tree.specs.Tree.{Tree}
-use Rattle.twkb_tree.specs.Limits.{Allowance, IsAllowance}
-use Rattle.twkb_tree.specs.Rows.{Row, rows, rows_of}
 use Rattle.twkb_tree.specs.RowLists.{AreGeometries}
 use Rattle.twkb_tree.proofs.LimitLaws.{valid_front}
 use Rattle.twkb_tree.proofs.RootEnd.{at_root, first_ended}
 use Rattle.twkb_tree.proofs.RootLaws.{below_root}
-use Rattle.twkb_grammar.specs.Blob.{Stream}
-use Rattle.twkb_grammar.specs.Fault.{FirstFault, Reason}
-use Rattle.twkb_grammar.specs.Written.{canonical_blob, canonical_stream}
-use Rattle.twkb_grammar.specs.declared.style.Style.{Style}
 use Rattle.twkb_grammar.proofs.One.{peel, one_blob_lem}
 use Rattle.twkb_grammar.proofs.OneFault.{no_fault}
 use Rattle.twkb_grammar.proofs.Streams.{behind_stream}
-use Rattle.twkb_table.specs.Record.{Record, header, record_of}
-use Rattle.twkb_table.specs.Named.{Named}
-use Rattle.twkb_table.specs.RowFault.{AreComplete, HasNoHeader, all_but_last}
-use Rattle.twkb_table.specs.declared.reason.RowReason.{RowReason}
 use Rattle.twkb_table.proofs.FaultLaws.{later_none}
 use Rattle.twkb_table.proofs.FieldLemmas.{head_same, tail_same}
 use Rattle.twkb_table.proofs.Tables.{geometries, one_table, split, table_front}
 use Rattle.twkb_table.proofs.TableReaderLemmas.{never_none}
-use Rattle.twkb_table.specs.CsvRecords.{AreRecordsOf, BeginWith}
 use Rattle.twkb_table.specs.TableReading.{NameSoFar}
-use Rattle.twkb_convert.specs.Outputs.{PackTo, UnpackTo, rows_text, table_text}
-use Rattle.twkb_convert.specs.RefusedRows.{MayBeWritten}
 use Rattle.twkb_convert.proofs.RoundTrips.{one_records}
 use Rattle.twkb_convert.proofs.RowTexts.{table_text-append}
 
@@ -170,15 +153,16 @@ ready_packed style l text records gs bytes allowed all may (inl (hs, named, e)) 
 ready_packed style l text records gs bytes allowed all may (inr (number, reason, hs, complete, e)) =
     (hs, e, ready_complete l text records may.records number reason may.geometries gs hs allowed all may.begins may.named may.ready complete)
 
-pub pack_front : (style : Style) (l : Allowance) (text : List ℕ) (records : List Record) (whole later : List Tree) (front rest bytes : List ℕ) → IsAllowance l → AreRecordsOf text records
-    → MayBeWritten l (Some text) (whole ++ later) → canonical_stream style later ≡ front ++ rest → PackTo style l records bytes → (more : List ℕ) × (bytes ≡ (canonical_stream style whole ++ front) ++ more)
-pack_front style l text records whole later front rest bytes allowed all may cut packs =
-    let (hs, e, (others, first)) = ready_packed style l text records (whole ++ later) bytes allowed all may packs in
-    let stream = canonical_stream style in (
-      rest ++ stream others,
-      e ∙ ap stream first ∙ flat_map-append (canonical_blob style) (whole ++ later) others ∙ ap (λ b. b ++ stream others) (flat_map-append (canonical_blob style) whole later)
-          ∙ append_assoc (stream whole) (stream later) (stream others) ∙ ap (λ b. stream whole ++ (b ++ stream others)) cut
-          ∙ ap (λ b. stream whole ++ b) (append_assoc front rest (stream others)) ∙ sym (append_assoc (stream whole) front (rest ++ stream others)),
+pub pack_front : (style : Style) (l : Allowance) (text written bytes : List ℕ) → IsAllowance l → FrontOfBlobs style l (Some text) written → PackTextTo style l text bytes → BeginsWith (Some bytes) written
+pack_front style l text written bytes allowed f (records, all, packs) =
+    let (hs, e, (others, first)) = ready_packed style l text records (f.whole ++ f.later) bytes allowed all f.ready packs in
+    let stream = canonical_stream style in
+    let behind = f.rest ++ stream others in (
+      behind,
+      e ∙ ap stream first ∙ flat_map-append (canonical_blob style) (f.whole ++ f.later) others ∙ ap (λ b. b ++ stream others) (flat_map-append (canonical_blob style) f.whole f.later)
+          ∙ append_assoc (stream f.whole) (stream f.later) (stream others) ∙ ap (λ b. stream f.whole ++ (b ++ stream others)) f.cut
+          ∙ ap (λ b. stream f.whole ++ b) (append_assoc f.front f.rest (stream others)) ∙ sym (append_assoc (stream f.whole) f.front behind)
+          ∙ ap (λ b. b ++ behind) (sym f.bytes),
     )
 
 -- ---- tables
@@ -199,8 +183,8 @@ blobs_unpacked : (l : Allowance) (all bytes rest : List ℕ) (gs : List Tree) (t
 blobs_unpacked l all bytes rest gs text whole s (inl (hs, t, e)) = let behind = behind_stream l bytes rest gs hs s (subst (λ k. Stream l k hs) whole t) in (hs, e, (behind.0, behind.1))
 blobs_unpacked l all bytes rest gs text whole s (inr (offset, reason, hs, f, e)) = (hs, e, blobs_first l bytes f.front rest f.rest gs hs f.within reason s f.blobs f.first (sym whole ∙ f.whole))
 
-pub unpack_front : (l : Allowance) (all bytes rest : List ℕ) (gs : List Tree) (text written left : List ℕ) → all ≡ bytes ++ rest → Stream l bytes gs → table_text gs ≡ written ++ left → UnpackTo l all text
-    → (more : List ℕ) × (text ≡ written ++ more)
-unpack_front l all bytes rest gs text written left whole s cut unpacks =
+pub unpack_front : (l : Allowance) (all bytes text written : List ℕ) (gs : List Tree) → BeginsWith (Some all) bytes → Stream l bytes gs → BeginsWith (Some (table_text gs)) written
+    → UnpackTo l all text → BeginsWith (Some text) written
+unpack_front l all bytes text written gs (rest, whole) s (left, cut) unpacks =
     let (hs, e, (others, first)) = blobs_unpacked l all bytes rest gs text whole s unpacks in
     (left ++ rows_text others, e ∙ ap table_text first ∙ table_text-append gs others ∙ ap (λ k. k ++ rows_text others) cut ∙ append_assoc written left (rows_text others))

@@ -1,3 +1,4 @@
+pub mod Prelude
 pub mod WorkLemmas
 pub mod SendingLemmas
 pub mod RoundTrips
@@ -7,6 +8,7 @@ pub mod ListingTexts
 pub mod BlobTexts
 pub mod BlobsSent
 pub mod ListingSent
+pub mod FlushedAfter
 pub mod ListingStops
 pub mod TableListed
 pub mod PackedLemmas

@@ -1,27 +1,9 @@
 -- The texts of a stream's blobs, sent behind what stands before the first.
-use Rattle.std.proofs.Common.{◌≡◌, ◌∙◌, ◌+◌, ℕ, List, [], ◌++◌, Option, Some, None, Result, Ok, Err, length, ap, arith, refl, sym, subst, inl, inr, length-append, append_assoc, false}
-use Rattle.std.specs.Prelude.{IfOk, IfErr, IfSome}
-use Rattle.std.proofs.lemmas.List.{append-nil}
-use Rattle.std.specs.declared.io.traits.Read.{Ghosts}
-use Rattle.twkb_io.specs.Copies.{BeginsWith}
-use Rattle.twkb_io.specs.Taps.{count_failure}
-use Rattle.twkb_io.specs.Outputs.{Cut, Refused, Took, is_spent, sent_of}
-use Rattle.twkb_io.specs.OutputLaws.{refused_join, sent_join, took_join}
-use Rattle.twkb_io.specs.declared.output.Output.{Output}
-use Rattle.twkb_io.specs.declared.output.OutFault.{OutFault}
+use Rattle.twkb_convert.proofs.Prelude.{◌≡◌, ◌∙◌, ◌+◌, ℕ, List, [], ◌++◌, Option, Some, None, Result, Ok, Err, length, ap, arith, refl, sym, subst, inl, inr, length-append, append_assoc, false, IfOk, IfErr, IfSome, append-nil, Ghosts, BeginsWith, count_failure, Cut, Refused, Took, is_spent, sent_of, refused_join, sent_join, took_join, Output, OutFault, Allowance, Reader, Located, HoldsWhole, LocatedStream, blobs_text, first_line, listing_text, Listing, StreamObstacle, Unfinished}
 use Rattle.twkb_io.specs.declared.output.OutFault.TheVariants as out
-use Rattle.twkb_tree.specs.Limits.{Allowance}
 use Rattle.twkb_convert.specs.BlobReading.{given, limits_of, rest_of, told_of}
-use Rattle.twkb_blob.specs.declared.reader.Reader.{Reader}
-use Rattle.twkb_blob.specs.declared.spans.Located.{Located}
-use Rattle.twkb_convert.specs.LocatedBlobs.{LocatedStream}
-use Rattle.twkb_convert.specs.Listings.{blobs_text, first_line, listing_text}
-use Rattle.twkb_convert.specs.declared.listing.Listing.{Listing}
-use Rattle.twkb_convert.specs.BlobSending.{CutBlobs, CutListing, ExplainsObstacle, SentAllBlobs, SentListing, is_write}
-use Rattle.twkb_convert.specs.declared.halt.Obstacle.{Obstacle}
-use Rattle.twkb_convert.specs.declared.halt.Obstacle.TheVariants as obstacle
-use Rattle.twkb_convert.specs.declared.halt.Halt.{Halt}
-use Rattle.twkb_convert.proofs.ListingTexts.{blobs_text-append}
+use Rattle.twkb_convert.specs.BlobSending.{CutText, ExplainsObstacle, SentText, is_write}
+use Rattle.twkb_convert.specs.declared.obstacle.StreamObstacle.TheVariants as obstacle
 
 any_begins : (known : Option (List ℕ)) → BeginsWith known []
 any_begins None = tt
@@ -32,31 +14,37 @@ all_begins None bytes all = tt
 all_begins (Some whole) bytes all = ([], all ∙ sym (append-nil bytes))
 
 -- what was to be sent in all grows by what stands before the first blob
-explains_more : (what : Listing) (l : Allowance) (known told : Option (List ℕ)) (before : ℕ) (bytes : List ℕ) (why : Obstacle) (old mid : ℕ) (whole later : List Located) (left : List ℕ)
+explains_more : (what : Listing) (l : Allowance) (known told : Option (List ℕ)) (before : ℕ) (bytes : List ℕ) (why : StreamObstacle) (old mid : ℕ) (whole later : List Located) (left : List ℕ)
     → mid ≡ old + length (first_line what) → ExplainsObstacle l known told before bytes why mid (blobs_text what whole) later left
     → ExplainsObstacle l known told before bytes why old (listing_text what whole) later left
 explains_more what l known told before bytes (obstacle.Stream why) old mid whole later left sent explains = explains
-explains_more what l known told before bytes obstacle.Memory old mid whole later left sent explains = explains
 explains_more what l known told before bytes (obstacle.Output why) old mid whole later left sent explains = (
   λ long. let far = explains.0 long in omega (arith, far, sent, length-append (first_line what) (blobs_text what whole)),
   explains.1,
 )
 
+-- what is in front of blobs' texts stays in front of them, behind the line
+holds_behind : (what : Listing) (text : List ℕ) (bs : List Located) → HoldsWhole (blobs_text what) text bs → HoldsWhole (listing_text what) (first_line what ++ text) bs
+holds_behind what text bs (inl none) = inl none
+holds_behind what text bs (inr (more, e)) = inr (more, ap (λ t. first_line what ++ t) e ∙ sym (append_assoc (first_line what) (blobs_text what bs) more))
+
 module _ {R W : Type 0} {read : Ghosts R} (what : Listing) (contents : W → Option (List ℕ)) where
   -- not all of what stands before the first blob was sent
   pub cut_first : (from : Reader R read) (old new : Output W) (text : List ℕ) (why : OutFault) → text ≡ first_line what → is_spent old ≡ false → Cut contents old text why new
-      → CutListing what contents from old from new (record { done = 0; obstacle = obstacle.Output why })
+      → CutText (listing_text what) contents from old from new (record { done = 0; why = obstacle.Output why })
   cut_first from old new text why own fresh cut = record {
-    whole = [];
-    later = [];
-    bytes = [];
-    blobs = refl;
-    begins = any_begins (rest_of from);
     text = cut.front;
-    left = cut.rest;
-    cut = append-nil (first_line what) ∙ (sym own ∙ cut.whole);
-    one = inl refl;
-    holds = inl refl;
+    part = record {
+      whole = [];
+      later = [];
+      bytes = [];
+      left = cut.rest;
+      blobs = refl;
+      begins = any_begins (rest_of from);
+      cut = append-nil (first_line what) ∙ (sym own ∙ cut.whole);
+      one = inl refl;
+      holds = inl refl;
+    };
     sends = cut.refused.sends;
     count = refl;
     explains = (λ e. (let far = cut.too_long e in omega (arith, far, ap length own, ap length (append-nil (first_line what)))), cut.unspent fresh);
@@ -64,7 +52,7 @@ module _ {R W : Type 0} {read : Ghosts R} (what : Listing) (contents : W → Opt
     unspent = tt;
   }
 
-  sent_listing : (from : Reader R read) (old mid new : Output W) (done : ℕ) → Took contents old (first_line what) mid → SentAllBlobs what contents from mid new done → SentListing what contents from old new done
+  sent_listing : (from : Reader R read) (old mid new : Output W) (done : ℕ) → Took contents old (first_line what) mid → SentText (blobs_text what) contents from mid new done → SentText (listing_text what) contents from old new done
   sent_listing from old mid new done took sent = record {
     found = sent.found;
     bytes = sent.bytes;
@@ -74,57 +62,58 @@ module _ {R W : Type 0} {read : Ghosts R} (what : Listing) (contents : W → Opt
     count = sent.count;
   }
 
-  pub listing_sent : (from : Reader R read) (old mid new : Output W) (r : Result ℕ Halt) → Took contents old (first_line what) mid → IfOk r (λ done. SentAllBlobs what contents from mid new done)
-      → IfOk r (λ done. SentListing what contents from old new done)
+  pub listing_sent : (from : Reader R read) (old mid new : Output W) (r : Result ℕ (Unfinished StreamObstacle)) → Took contents old (first_line what) mid → IfOk r (λ done. SentText (blobs_text what) contents from mid new done)
+      → IfOk r (λ done. SentText (listing_text what) contents from old new done)
   listing_sent from old mid new (Ok done) took sent = sent_listing from old mid new done took sent
-  listing_sent from old mid new (Err halt) took sent = tt
+  listing_sent from old mid new (Err stop) took sent = tt
 
-  cut_listing : (from to : Reader R read) (old mid new : Output W) (halt : Halt) → Took contents old (first_line what) mid → CutBlobs what contents from mid to new halt → CutListing what contents from old to new halt
-  cut_listing from to old mid new halt took cut =
-      let text = first_line what ++ (blobs_text what cut.whole ++ cut.front) in
+  cut_listing : (from to : Reader R read) (old mid new : Output W) (stop : Unfinished StreamObstacle) → Took contents old (first_line what) mid → CutText (blobs_text what) contents from mid to new stop → CutText (listing_text what) contents from old to new stop
+  cut_listing from to old mid new stop took cut =
       record {
-        whole = cut.whole;
-        later = cut.later;
-        bytes = cut.bytes;
-        blobs = cut.blobs;
-        begins = cut.begins;
-        text = text;
-        left = cut.left;
-        cut = ap (λ l. first_line what ++ l) (blobs_text-append what cut.whole cut.later
-            ∙ ap (λ l. blobs_text what cut.whole ++ l) cut.cut ∙ sym (append_assoc (blobs_text what cut.whole) cut.front cut.left))
-            ∙ sym (append_assoc (first_line what) (blobs_text what cut.whole ++ cut.front) cut.left);
-        one = cut.one;
-        holds = inr (cut.front, sym (append_assoc (first_line what) (blobs_text what cut.whole) cut.front));
-        sends = sent_join contents old mid new (first_line what) (blobs_text what cut.whole ++ cut.front) took.sends cut.sends;
+        text = first_line what ++ cut.text;
+        part = record {
+          whole = cut.part.whole;
+          later = cut.part.later;
+          bytes = cut.part.bytes;
+          left = cut.part.left;
+          blobs = cut.part.blobs;
+          begins = cut.part.begins;
+          cut = ap (λ t. first_line what ++ t) cut.part.cut ∙ sym (append_assoc (first_line what) cut.text cut.part.left);
+          one = cut.part.one;
+          holds = holds_behind what cut.text cut.part.whole cut.part.holds;
+        };
+        sends = sent_join contents old mid new (first_line what) cut.text took.sends cut.sends;
         count = cut.count;
-        explains = explains_more what (limits_of from) (rest_of from) (told_of to) (given from) cut.bytes halt.obstacle (sent_of old) (sent_of mid)
-            (cut.whole ++ cut.later) cut.later cut.left took.sends.sent cut.explains;
-        failures = cut.failures ∙ ap (count_failure (is_write halt.obstacle)) took.failures;
+        explains = explains_more what (limits_of from) (rest_of from) (told_of to) (given from) cut.part.bytes stop.why (sent_of old) (sent_of mid)
+            (cut.part.whole ++ cut.part.later) cut.part.later cut.part.left took.sends.sent cut.explains;
+        failures = cut.failures ∙ ap (count_failure (is_write stop.why)) took.failures;
         unspent = cut.unspent;
       }
 
-  pub listing_cut : (from to : Reader R read) (old mid new : Output W) (r : Result ℕ Halt) → Took contents old (first_line what) mid → IfErr r (λ halt. CutBlobs what contents from mid to new halt)
-      → IfErr r (λ halt. CutListing what contents from old to new halt)
+  pub listing_cut : (from to : Reader R read) (old mid new : Output W) (r : Result ℕ (Unfinished StreamObstacle)) → Took contents old (first_line what) mid → IfErr r (λ stop. CutText (blobs_text what) contents from mid to new stop)
+      → IfErr r (λ stop. CutText (listing_text what) contents from old to new stop)
   listing_cut from to old mid new (Ok done) took cut = tt
-  listing_cut from to old mid new (Err halt) took cut = cut_listing from to old mid new halt took cut
+  listing_cut from to old mid new (Err stop) took cut = cut_listing from to old mid new stop took cut
 
   -- the flush failed behind the whole text
-  pub cut_by_flush : (from to : Reader R read) (old mid new : Output W) (done : ℕ) (why : OutFault) → SentListing what contents from old mid done → Refused contents mid [] why new
-      → (why ≡ out.TooLong → ⊥) → (why ≡ out.Spent → ⊥) → CutListing what contents from old to new (record { done = done; obstacle = obstacle.Output why })
+  pub cut_by_flush : (from to : Reader R read) (old mid new : Output W) (done : ℕ) (why : OutFault) → SentText (listing_text what) contents from old mid done → Refused contents mid [] why new
+      → (why ≡ out.TooLong → ⊥) → (why ≡ out.Spent → ⊥) → CutText (listing_text what) contents from old to new (record { done = done; why = obstacle.Output why })
   cut_by_flush from to old mid new done why sent refused short unspent =
       let all = refused_join contents old mid new (listing_text what sent.found) [] why sent.took refused in
       let same : listing_text what sent.found ++ [] ≡ listing_text what sent.found = append-nil (listing_text what sent.found) in
       record {
-        whole = sent.found;
-        later = [];
-        bytes = sent.bytes;
-        blobs = subst (λ bs. LocatedStream (limits_of from) (given from) sent.bytes bs) (sym (append-nil sent.found)) sent.blobs;
-        begins = all_begins (rest_of from) sent.bytes sent.all;
         text = listing_text what sent.found ++ [];
-        left = [];
-        cut = ap (listing_text what) (append-nil sent.found) ∙ (sym same ∙ sym (append-nil (listing_text what sent.found ++ [])));
-        one = inl refl;
-        holds = inr ([], refl);
+        part = record {
+          whole = sent.found;
+          later = [];
+          bytes = sent.bytes;
+          left = [];
+          blobs = subst (λ bs. LocatedStream (limits_of from) (given from) sent.bytes bs) (sym (append-nil sent.found)) sent.blobs;
+          begins = all_begins (rest_of from) sent.bytes sent.all;
+          cut = ap (listing_text what) (append-nil sent.found) ∙ (sym same ∙ sym (append-nil (listing_text what sent.found ++ [])));
+          one = inl refl;
+          holds = inr ([], refl);
+        };
         sends = all.sends;
         count = sent.count;
         explains = (λ long. absurd (short long), unspent);

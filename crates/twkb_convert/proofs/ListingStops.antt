@@ -1,36 +1,12 @@
 -- What a caller of a conversion of a stream learns of a stop.
-use Rattle.std.proofs.Common.{◌≡◌, ◌∙◌, ◌+◌, ◌<◌, ◌^◌, ℕ, List, [], ◌++◌, Option, Some, None, Bool, true, false, length, ap, arith, refl, sym, subst, inl, inr}
-use Rattle.std.specs.Prelude.{IfSome, ◌⊎◌}
-use Rattle.std.proofs.lemmas.List.{append-nil}
-use Rattle.std.specs.Io.KnownBytes.{Appends, IsAtEnd}
-use Rattle.std.specs.declared.io.traits.Read.{Ghosts}
-use Rattle.twkb_io.specs.Copies.{BeginsWith}
-use Rattle.twkb_io.specs.Taps.{count_failure, device_of, failures_of}
-use Rattle.twkb_io.specs.Outputs.{output_tap, sent_of}
-use Rattle.twkb_io.specs.declared.tap.Tap.{Tap}
-use Rattle.twkb_io.specs.declared.output.Output.{Output}
+use Rattle.twkb_convert.proofs.Prelude.{◌≡◌, ◌∙◌, ◌+◌, ◌<◌, ◌^◌, ℕ, List, [], ◌++◌, Option, Some, None, Bool, true, false, length, ap, arith, refl, sym, subst, inl, inr, IfSome, ◌⊎◌, append-nil, Appends, IsAtEnd, Ghosts, BeginsWith, count_failure, device_of, failures_of, output_tap, sent_of, Tap, Output, Tree, Allowance, Stream, StreamFault, reason_of, BlobReason, Reader, Located, LocatedStream, geometries_of, listing_text, IsDeviceCause, Listing, StreamObstacle, Unfinished, Cause}
 use Rattle.twkb_io.specs.declared.input.InFault.TheVariants as input
 use Rattle.twkb_io.specs.declared.output.OutFault.TheVariants as out
-use Rattle.twkb_tree.specs.Tree.{Tree}
-use Rattle.twkb_tree.specs.Limits.{Allowance}
-use Rattle.twkb_grammar.specs.Blob.{Stream}
-use Rattle.twkb_grammar.specs.Fault.{StreamFault}
-use Rattle.twkb_engine.specs.Stops.{reason_of}
 use Rattle.twkb_convert.specs.BlobReading.{RefusesBlob, given, limits_of, reader_failures, reader_tap, rest_of, told_of}
-use Rattle.twkb_engine.specs.declared.blob_reason.BlobReason.{BlobReason}
-use Rattle.twkb_blob.specs.declared.reader.Reader.{Reader}
 use Rattle.twkb_blob.specs.declared.fault.BlobFault.TheVariants as blob
-use Rattle.twkb_blob.specs.declared.spans.Located.{Located}
-use Rattle.twkb_convert.specs.LocatedBlobs.{LocatedStream, geometries_of}
-use Rattle.twkb_convert.specs.Listings.{listing_text}
-use Rattle.twkb_convert.specs.BlobSending.{CutListing, ExplainsObstacle, Follows, IsEnded, SentListing, StopsRead, is_read, is_write}
-use Rattle.twkb_convert.specs.Devices.{IsDeviceCause}
+use Rattle.twkb_convert.specs.BlobSending.{CutText, ExplainsObstacle, Follows, IsEnded, SentText, StopsRead, is_read, is_write}
 use Rattle.twkb_convert.specs.Listed.{ExplainsListingCause, Listed, StoppedListing, cause_of_obstacle}
-use Rattle.twkb_convert.specs.declared.listing.Listing.{Listing}
-use Rattle.twkb_convert.specs.declared.halt.Obstacle.{Obstacle}
-use Rattle.twkb_convert.specs.declared.halt.Obstacle.TheVariants as obstacle
-use Rattle.twkb_convert.specs.declared.halt.Halt.{Halt}
-use Rattle.twkb_convert.specs.declared.report.Cause.{Cause}
+use Rattle.twkb_convert.specs.declared.obstacle.StreamObstacle.TheVariants as obstacle
 use Rattle.twkb_convert.specs.declared.report.Cause.TheVariants as causes
 use Rattle.twkb_convert.proofs.LocatedLemmas.{located-stream}
 
@@ -50,14 +26,13 @@ was_read true told = refl
 was_read false (inl e) = cc e
 was_read false (inr e) = cc e
 
-tell : (why : Obstacle) (failed : Bool) → (failed ≡ is_read why) ⊎ (is_write why ≡ true) → IsDeviceCause failed (is_write why) (cause_of_obstacle why)
+tell : (why : StreamObstacle) (failed : Bool) → (failed ≡ is_read why) ⊎ (is_write why ≡ true) → IsDeviceCause failed (is_write why) (cause_of_obstacle why)
 tell (obstacle.Stream blob.Memory) failed told = neither failed causes.Memory told (λ e. cc e) (λ e. cc e)
 tell (obstacle.Stream (blob.Device input.Read)) failed told = was_read failed told
 tell (obstacle.Stream (blob.Device input.TooLong)) failed told = neither failed causes.TooLong told (λ e. cc e) (λ e. cc e)
 tell (obstacle.Stream (blob.Device input.Spent)) failed told = neither failed causes.TooLong told (λ e. cc e) (λ e. cc e)
 tell (obstacle.Stream blob.Spent) failed told = neither failed causes.TooLong told (λ e. cc e) (λ e. cc e)
 tell (obstacle.Stream (blob.At offset reason)) failed told = neither failed (causes.Blob offset reason) told (λ e. cc e) (λ e. cc e)
-tell obstacle.Memory failed told = neither failed causes.Memory told (λ e. cc e) (λ e. cc e)
 tell (obstacle.Output out.Write) failed told = wrote failed
 tell (obstacle.Output out.Stuck) failed told = wrote failed
 tell (obstacle.Output out.TooLong) failed told = neither failed causes.TooLong told (λ e. cc e) (λ e. cc e)
@@ -87,7 +62,7 @@ none_later : (l : Allowance) (offset : ℕ) (bytes : List ℕ) (whole later : Li
 none_later l offset bytes whole later blobs none =
     located-stream l offset bytes whole (subst (λ bs. LocatedStream l offset bytes bs) (ap (λ bs. whole ++ bs) none ∙ append-nil whole) blobs)
 
-caused : (what : Listing) (l : Allowance) (old told : Option (List ℕ)) (before : ℕ) (bytes : List ℕ) (why : Obstacle) (sent : ℕ) (whole later : List Located) (left : List ℕ)
+caused : (what : Listing) (l : Allowance) (old told : Option (List ℕ)) (before : ℕ) (bytes : List ℕ) (why : StreamObstacle) (sent : ℕ) (whole later : List Located) (left : List ℕ)
     → before ≡ 0 → sent ≡ 0 → LocatedStream l before bytes (whole ++ later)
     → ExplainsObstacle l old told before bytes why sent (listing_text what (whole ++ later)) later left
     → ExplainsListingCause geometries_of (listing_text what) l old told bytes (cause_of_obstacle why) whole later left
@@ -98,7 +73,6 @@ caused what l old told before bytes (obstacle.Stream (blob.Device input.TooLong)
 caused what l old told before bytes (obstacle.Stream (blob.Device input.Spent)) sent whole later left start none blobs e = absurd e.2
 caused what l old told before bytes (obstacle.Stream (blob.At offset reason)) sent whole later left start none blobs e =
     (e.0, e.1, stream_fault l old before bytes (geometries_of whole) offset reason start (none_later l before bytes whole later blobs e.0) e.2)
-caused what l old told before bytes obstacle.Memory sent whole later left start none blobs e = e
 caused what l old told before bytes (obstacle.Output out.Write) sent whole later left start none blobs e = tt
 caused what l old told before bytes (obstacle.Output out.Stuck) sent whole later left start none blobs e = tt
 caused what l old told before bytes (obstacle.Output out.TooLong) sent whole later left start none blobs e = inr (let far = e.0 refl in omega (arith, far, none))
@@ -116,7 +90,7 @@ module _ {R W : Type 0} {read : Ghosts R} (what : Listing) (remaining : R → Op
       → limits_of from ≡ l → rest_of from ≡ remaining (device_of reader) → given from ≡ 0 → reader_failures from ≡ failures_of reader
       → (output_tap old).now ≡ writer → sent_of old ≡ 0 → sent ≡ sent_of new
       → (reader_tap to).now ≡ after → (output_tap new).now ≡ written
-      → SentListing what contents from old new done → Follows from to false × IsEnded remaining from to
+      → SentText (listing_text what) contents from old new done → Follows from to false × IsEnded remaining from to
       → Listed (LocatedStream l 0) (listing_text what) remaining contents reader writer (record { geometries = done; bytes = sent }) after written
   listed l reader after writer written from to old new done sent limits told start failures lent none count ends closes sends (follows, ended) =
       let blobs : LocatedStream l 0 sends.bytes sends.found = subst (λ n. LocatedStream l n sends.bytes sends.found) start (subst (λ a. LocatedStream a (given from) sends.bytes sends.found) limits sends.blobs) in
@@ -136,42 +110,45 @@ module _ {R W : Type 0} {read : Ghosts R} (what : Listing) (remaining : R → Op
 -- ---- the stop
 
 module _ {R W : Type 0} {read : Ghosts R} (what : Listing) (remaining : R → Option (List ℕ)) (contents : W → Option (List ℕ)) where
-  pub stopped : (l : Allowance) (reader after : Tap R) (writer written : Tap W) (from to : Reader R read) (old new : Output W) (halt : Halt) (sent : ℕ) (why : Cause)
+  pub stopped : (l : Allowance) (reader after : Tap R) (writer written : Tap W) (from to : Reader R read) (old new : Output W) (stop : Unfinished StreamObstacle) (sent : ℕ) (why : Cause)
       → limits_of from ≡ l → rest_of from ≡ remaining (device_of reader) → given from ≡ 0 → reader_failures from ≡ failures_of reader
-      → (output_tap old).now ≡ writer → sent_of old ≡ 0 → sent ≡ sent_of new → why ≡ cause_of_obstacle halt.obstacle
+      → (output_tap old).now ≡ writer → sent_of old ≡ 0 → sent ≡ sent_of new → why ≡ cause_of_obstacle stop.why
       → (reader_tap to).now ≡ after → (output_tap new).now ≡ written → told_of to ≡ remaining (device_of after)
-      → CutListing what contents from old to new halt → StopsRead from halt.obstacle to
-      → StoppedListing (LocatedStream l 0) geometries_of (listing_text what) l remaining contents reader writer (record { done = halt.done; sent = sent; cause = why }) after written
-  stopped l reader after writer written from to old new halt sent why limits told start failures lent none count is_cause ends closes later_told cut stops =
+      → CutText (listing_text what) contents from old to new stop → StopsRead from stop.why to
+      → StoppedListing (LocatedStream l 0) geometries_of (listing_text what) l remaining contents reader writer (record { done = stop.done; sent = sent; cause = why }) after written
+  stopped l reader after writer written from to old new stop sent why limits told start failures lent none count is_cause ends closes later_told cut stops =
+      let p = cut.part in
       let total : sent ≡ length cut.text = omega (arith, count, cut.sends.sent, none) in
-      let all = listing_text what (cut.whole ++ cut.later) in
-      let within : LocatedStream l (given from) cut.bytes (cut.whole ++ cut.later) = subst (λ a. LocatedStream a (given from) cut.bytes (cut.whole ++ cut.later)) limits cut.blobs in
-      let known : ExplainsObstacle l (remaining (device_of reader)) (remaining (device_of after)) (given from) cut.bytes halt.obstacle (sent_of old) all cut.later cut.left =
-      subst (λ a. ExplainsObstacle a (remaining (device_of reader)) (remaining (device_of after)) (given from) cut.bytes halt.obstacle (sent_of old) all cut.later cut.left) limits
-      (subst (λ k. ExplainsObstacle (limits_of from) k (remaining (device_of after)) (given from) cut.bytes halt.obstacle (sent_of old) all cut.later cut.left) told
-      (subst (λ k. ExplainsObstacle (limits_of from) (rest_of from) k (given from) cut.bytes halt.obstacle (sent_of old) all cut.later cut.left) later_told cut.explains)) in
+      let all = listing_text what (p.whole ++ p.later) in
+      let within : LocatedStream l (given from) p.bytes (p.whole ++ p.later) = subst (λ a. LocatedStream a (given from) p.bytes (p.whole ++ p.later)) limits p.blobs in
+      let known : ExplainsObstacle l (remaining (device_of reader)) (remaining (device_of after)) (given from) p.bytes stop.why (sent_of old) all p.later p.left =
+      subst (λ a. ExplainsObstacle a (remaining (device_of reader)) (remaining (device_of after)) (given from) p.bytes stop.why (sent_of old) all p.later p.left) limits
+      (subst (λ k. ExplainsObstacle (limits_of from) k (remaining (device_of after)) (given from) p.bytes stop.why (sent_of old) all p.later p.left) told
+      (subst (λ k. ExplainsObstacle (limits_of from) (rest_of from) k (given from) p.bytes stop.why (sent_of old) all p.later p.left) later_told cut.explains)) in
       record {
-        whole = cut.whole;
-        later = cut.later;
-        bytes = cut.bytes;
-        blobs = subst (λ n. LocatedStream l n cut.bytes (cut.whole ++ cut.later)) start within;
-        begins = subst (λ k. BeginsWith k cut.bytes) told cut.begins;
         text = cut.text;
-        left = cut.left;
-        cut = cut.cut;
-        one = cut.one;
-        holds = cut.holds;
+        part = record {
+          whole = p.whole;
+          later = p.later;
+          bytes = p.bytes;
+          left = p.left;
+          blobs = subst (λ n. LocatedStream l n p.bytes (p.whole ++ p.later)) start within;
+          begins = subst (λ k. BeginsWith k p.bytes) told p.begins;
+          cut = p.cut;
+          one = p.one;
+          holds = p.holds;
+        };
         appends = subst (λ t. Appends (contents (device_of t)) (contents (device_of written)) cut.text) lent
             (subst (λ t. Appends (contents (device_of (output_tap old).now)) (contents (device_of t)) cut.text) closes cut.sends.appends);
         done = cut.count;
         sent = total;
-        explains = subst (λ c. ExplainsListingCause geometries_of (listing_text what) l (remaining (device_of reader)) (remaining (device_of after)) cut.bytes c cut.whole cut.later cut.left) (sym is_cause)
-            (caused what l (remaining (device_of reader)) (remaining (device_of after)) (given from) cut.bytes halt.obstacle (sent_of old) cut.whole cut.later cut.left start none within known);
+        explains = subst (λ c. ExplainsListingCause geometries_of (listing_text what) l (remaining (device_of reader)) (remaining (device_of after)) p.bytes c p.whole p.later p.left) (sym is_cause)
+            (caused what l (remaining (device_of reader)) (remaining (device_of after)) (given from) p.bytes stop.why (sent_of old) p.whole p.later p.left start none within known);
         devices = record {
           read_failed = stops.has_failed;
-          write_failed = is_write halt.obstacle;
+          write_failed = is_write stop.why;
           reads = ap failures_of (sym ends) ∙ (stops.follows.failures ∙ ap (count_failure stops.has_failed) failures);
-          writes = ap failures_of (sym closes) ∙ (cut.failures ∙ ap (λ t. count_failure (is_write halt.obstacle) (failures_of t)) lent);
-          tell = subst (λ c. IsDeviceCause stops.has_failed (is_write halt.obstacle) c) (sym is_cause) (tell halt.obstacle stops.has_failed stops.told);
+          writes = ap failures_of (sym closes) ∙ (cut.failures ∙ ap (λ t. count_failure (is_write stop.why) (failures_of t)) lent);
+          tell = subst (λ c. IsDeviceCause stops.has_failed (is_write stop.why) c) (sym is_cause) (tell stop.why stops.has_failed stops.told);
         };
       }

@@ -1,22 +1,9 @@
 -- Any records are packed to one output, and any bytes are unpacked to one.
-use Rattle.std.specs.Prelude.{◌⊎◌}
-use Rattle.std.proofs.Common.{◌≡◌, ◌∙◌, ℕ, List, ap, refl, sym, inl, inr}
-use Rattle.twkb_tree.specs.Tree.{Tree}
-use Rattle.twkb_tree.specs.Limits.{Allowance, IsAllowance}
-use Rattle.twkb_grammar.specs.Bits.{AreBytes}
-use Rattle.twkb_grammar.specs.Blob.{Stream}
-use Rattle.twkb_grammar.specs.Fault.{Reason, StreamFault}
-use Rattle.twkb_grammar.specs.Written.{canonical_stream}
-use Rattle.twkb_grammar.specs.declared.style.Style.{Style}
+use Rattle.twkb_convert.proofs.Prelude.{◌⊎◌, ◌≡◌, ◌∙◌, ℕ, List, ap, refl, sym, inl, inr, Tree, Allowance, IsAllowance, AreBytes, Stream, Reason, StreamFault, canonical_stream, Style, Record, Named, NamesNone, AreComplete, RowFault, RowReason, PackTo, UnpackTo, table_text}
 use Rattle.twkb_grammar.proofs.Streams.{one_stream_fault, stream_or_fault}
-use Rattle.twkb_table.specs.Record.{Record}
-use Rattle.twkb_table.specs.Named.{Named, NamesNone}
-use Rattle.twkb_table.specs.RowFault.{AreComplete, RowFault}
-use Rattle.twkb_table.specs.declared.reason.RowReason.{RowReason}
 use Rattle.twkb_table.proofs.Complete.{one_complete, some_complete}
 use Rattle.twkb_table.proofs.Deciding.{named_or_fault}
 use Rattle.twkb_table.proofs.FaultLaws.{fault_none}
-use Rattle.twkb_convert.specs.Outputs.{PackTo, UnpackTo, table_text}
 use Rattle.twkb_convert.proofs.RoundTrips.{packed_records, unpacked_stream}
 
 -- records with a fault name nothing

@@ -1,42 +1,27 @@
 -- From an output to what a caller of a conversion sees.
-use Rattle.std.proofs.Common.{◌≡◌, ◌∙◌, ◌<◌, ◌^◌, ℕ, List, [], ◌++◌, Bool, true, false, Option, ap, arith, refl, subst, sym, inl, inr}
-use Rattle.std.specs.Io.KnownBytes.{Appends, IsAtEnd}
-use Rattle.twkb_io.specs.Taps.{bytes_given, count_failure, device_of, failures_of}
-use Rattle.twkb_io.specs.Outputs.{output_tap, sent_of}
-use Rattle.twkb_io.specs.declared.tap.Tap.{Tap}
-use Rattle.twkb_io.specs.declared.output.Output.{Output}
+use Rattle.twkb_convert.proofs.Prelude.{◌≡◌, ◌∙◌, ◌<◌, ◌^◌, ℕ, List, [], ◌++◌, Bool, true, false, Option, ap, arith, refl, subst, sym, inl, inr, Appends, IsAtEnd, bytes_given, count_failure, device_of, failures_of, output_tap, sent_of, Tap, Output, Tree, Allowance, canonical_stream, Style, Changes, IsDeviceCause, TableObstacle, Unfinished, Tally, Cause}
 use Rattle.twkb_io.specs.declared.output.OutFault.TheVariants as out
-use Rattle.twkb_tree.specs.Tree.{Tree}
-use Rattle.twkb_tree.specs.Limits.{Allowance}
-use Rattle.twkb_grammar.specs.Written.{canonical_stream}
-use Rattle.twkb_grammar.specs.declared.style.Style.{Style}
 use Rattle.twkb_table.specs.declared.table_fault.TableFault.TheVariants as fault
-use Rattle.twkb_convert.specs.Devices.{Changes, IsDeviceCause}
-use Rattle.twkb_convert.specs.Packed.{ExplainsPackingCause, PackedWith, StoppedPacking}
+use Rattle.twkb_convert.specs.Packed.{ExplainsAs, ExplainsPackingCause, PackedWith, StoppedPacking}
 use Rattle.twkb_convert.specs.Sending.{ExplainsWhy, SentTable, Stopped, is_write}
-use Rattle.twkb_convert.specs.declared.sending.Stop.{Stop}
-use Rattle.twkb_convert.specs.declared.sending.Why.{Why}
-use Rattle.twkb_convert.specs.declared.sending.Why.TheVariants as why
-use Rattle.twkb_convert.specs.declared.sending.Tally.{Tally}
-use Rattle.twkb_convert.specs.declared.report.Cause.{Cause}
+use Rattle.twkb_convert.specs.declared.obstacle.TableObstacle.TheVariants as obstacle
 use Rattle.twkb_convert.specs.declared.report.Cause.TheVariants as cause
-use Rattle.twkb_convert.proofs.SendingLemmas.{all_ready, sent_whole}
+use Rattle.twkb_convert.proofs.SendingLemmas.{all_ready, whole_front}
 use Rattle.twkb_convert.proofs.WorkLemmas.{read_thrice, read_twice}
 
 -- a stop that is no failed write, where a read failed
-pub read_explained : (style : Style) (l : Allowance) (told : Option (List ℕ)) (passed : ℕ) (stop : Why) (sent : ℕ) (whole later : List Tree) (front : List ℕ) → is_write stop ≡ false → sent ≡ 0
+pub read_explained : (style : Style) (l : Allowance) (told : Option (List ℕ)) (passed : ℕ) (stop : TableObstacle) (sent : ℕ) (whole later : List Tree) (front : List ℕ) → is_write stop ≡ false → sent ≡ 0
     → ExplainsWhy style l told passed stop sent whole later front → ExplainsPackingCause style l told passed cause.ReadDevice whole later front
-read_explained style l told passed (why.Table (fault.At number reason)) sent whole later front quiet none e = inl (e.0, e.1)
-read_explained style l told passed (why.Table fault.TooManyRecords) sent whole later front quiet none e = inl (e.0, e.1)
-read_explained style l told passed (why.Table fault.Source) sent whole later front quiet none e = inl e
-read_explained style l told passed (why.Table fault.Memory) sent whole later front quiet none e = inl e
-read_explained style l told passed (why.Table fault.Spent) sent whole later front quiet none e = absurd e
-read_explained style l told passed why.Memory sent whole later front quiet none e = inl e
-read_explained style l told passed why.Undrained sent whole later front quiet none e = inl (e.0, e.1)
-read_explained style l told passed (why.Output out.Write) sent whole later front quiet none e = absurd (cc quiet)
-read_explained style l told passed (why.Output out.Stuck) sent whole later front quiet none e = absurd (cc quiet)
-read_explained style l told passed (why.Output out.TooLong) sent whole later front quiet none e = inr (let far = e.0 refl in omega (arith, far, none))
-read_explained style l told passed (why.Output out.Spent) sent whole later front quiet none e = absurd (e.1 refl)
+read_explained style l told passed (obstacle.Table (fault.At number reason)) sent whole later front quiet none e = inl (e.0, e.1)
+read_explained style l told passed (obstacle.Table fault.TooManyRecords) sent whole later front quiet none e = inl (e.0, e.1)
+read_explained style l told passed (obstacle.Table fault.Source) sent whole later front quiet none e = inl e
+read_explained style l told passed (obstacle.Table fault.Memory) sent whole later front quiet none e = inl e
+read_explained style l told passed (obstacle.Table fault.Spent) sent whole later front quiet none e = absurd e
+read_explained style l told passed obstacle.Undrained sent whole later front quiet none e = inl (e.0, e.1)
+read_explained style l told passed (obstacle.Output out.Write) sent whole later front quiet none e = absurd (cc quiet)
+read_explained style l told passed (obstacle.Output out.Stuck) sent whole later front quiet none e = absurd (cc quiet)
+read_explained style l told passed (obstacle.Output out.TooLong) sent whole later front quiet none e = inr (let far = e.0 refl in omega (arith, far, none))
+read_explained style l told passed (obstacle.Output out.Spent) sent whole later front quiet none e = absurd (e.1 refl)
 
 -- what an output appended, the writer that was lent to it did
 appends_lent : {W : Type 0} (contents : W → Option (List ℕ)) (writer written : Tap W) (old new : Output W) (bytes : List ℕ) → (output_tap old).now ≡ writer → (output_tap new).now ≡ written
@@ -58,12 +43,8 @@ module _ {R W : Type 0} (style : Style) (l : Allowance) (remaining : R → Optio
       → PackedWith style l remaining contents reader writer (record { geometries = tally.geometries; bytes = sent }) tally.work read written
   packed_with tally few_points few_nodes is end all = record {
     packed = record {
-      records = all.records;
-      geometries = all.geometries;
-      all = all.all;
-      few = all.few;
-      named = all.named;
-      appends = appends_lent contents writer written old new (canonical_stream style all.geometries) lent closes all.took.sends.appends;
+      table = all.table;
+      appends = appends_lent contents writer written old new (canonical_stream style all.table.geometries) lent closes all.took.sends.appends;
       count = all.count;
       bytes = (let more = all.took.sends.sent in omega (arith, total, more, none));
       end = end;
@@ -76,26 +57,20 @@ module _ {R W : Type 0} (style : Style) (l : Allowance) (remaining : R → Optio
   }
 
   -- not the whole table was sent, or the flush failed
-  pub stopped_packing : (passed : ℕ) (stop : Stop) (answer : Cause) → passed ≡ bytes_given read → IsDeviceCause failed (is_write stop.why) answer
-      → ((count : ℕ) (whole later : List Tree) (front : List ℕ) → count ≡ 0 → ExplainsWhy style l (remaining (device_of reader)) passed stop.why count whole later front
-      → ExplainsPackingCause style l (remaining (device_of reader)) passed answer whole later front)
+  pub stopped_packing : (passed : ℕ) (stop : Unfinished TableObstacle) (answer : Cause) → passed ≡ bytes_given read → IsDeviceCause failed (is_write stop.why) answer
+      → ExplainsAs stop.why answer
       → Stopped style l contents (remaining (device_of reader)) passed old new stop
       → StoppedPacking style l remaining contents reader writer (record { done = stop.done; sent = sent; cause = answer }) read written
   stopped_packing passed stop answer gave device explain s =
-      let bytes = canonical_stream style s.whole ++ s.front in
       record {
-        whole = s.whole;
-        later = s.later;
-        front = s.front;
-        rest = s.rest;
-        ready = s.ready;
-        cut = s.cut;
+        bytes = s.bytes;
+        part = s.part;
         one = s.one;
-        appends = appends_lent contents writer written old new bytes lent closes s.sends.appends;
+        appends = appends_lent contents writer written old new s.bytes lent closes s.sends.appends;
         sent = (let more = s.sends.sent in omega (arith, total, more, none));
         done = s.count;
-        explains = subst (λ n. ExplainsPackingCause style l (remaining (device_of reader)) n answer s.whole s.later s.front) gave
-            (explain (sent_of old) s.whole s.later s.front none s.explains);
+        explains = subst (λ n. ExplainsPackingCause style l (remaining (device_of reader)) n answer s.part.whole s.part.later s.part.front) gave
+            (explain style l (remaining (device_of reader)) passed (sent_of old) s.part.whole s.part.later s.part.front none s.explains);
         devices = record {
           read_failed = failed;
           write_failed = is_write stop.why;
@@ -109,17 +84,12 @@ module _ {R W : Type 0} (style : Style) (l : Allowance) (remaining : R → Optio
   pub read_failed_in : (tally : Tally) → failed ≡ true → SentTable style l contents (remaining (device_of reader)) old new tally
       → StoppedPacking style l remaining contents reader writer (record { done = tally.geometries; sent = sent; cause = cause.ReadDevice }) read written
   read_failed_in tally is all =
-      let sends = sent_whole contents old new (canonical_stream style all.geometries) all.took.sends in
       record {
-        whole = all.geometries;
-        later = [];
-        front = [];
-        rest = [];
-        ready = all_ready style l contents (remaining (device_of reader)) old new tally all;
-        cut = refl;
+        bytes = canonical_stream style all.table.geometries;
+        part = whole_front style l (remaining (device_of reader)) all.table.geometries (all_ready style l contents (remaining (device_of reader)) old new tally all);
         one = inl refl;
-        appends = appends_lent contents writer written old new (canonical_stream style all.geometries ++ []) lent closes sends.appends;
-        sent = (let more = sends.sent in omega (arith, total, more, none));
+        appends = appends_lent contents writer written old new (canonical_stream style all.table.geometries) lent closes all.took.sends.appends;
+        sent = (let more = all.took.sends.sent in omega (arith, total, more, none));
         done = all.count;
         explains = inl (refl, refl);
         devices = record {

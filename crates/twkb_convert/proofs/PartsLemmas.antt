@@ -1,27 +1,9 @@
 -- Tables and streams in parts.
-use Rattle.std.specs.Prelude.{map}
-use Rattle.std.proofs.Common.{◌≡◌, ◌∙◌, ◌+◌, ℕ, List, [], ◌∷◌, ◌++◌, length, ap, arith, refl, sym, subst, inl, inr, append_assoc}
-use Rattle.std.proofs.lemmas.List.{append_cancel_left}
-use Rattle.std.proofs.lemmas.Grind.{flat_map-append}
-use Rattle.twkb_tree.specs.Tree.{Tree}
-use Rattle.twkb_tree.specs.Limits.{Allowance, IsAllowance}
-use Rattle.twkb_grammar.specs.Blob.{Stream}
-use Rattle.twkb_grammar.specs.Fault.{StreamFault}
-use Rattle.twkb_grammar.specs.Spans.{moved_span}
-use Rattle.twkb_grammar.specs.Written.{canonical_blob, canonical_stream}
-use Rattle.twkb_grammar.specs.declared.style.Style.{Style}
+use Rattle.twkb_convert.proofs.Prelude.{map, ◌≡◌, ◌∙◌, ◌+◌, ℕ, List, [], ◌∷◌, ◌++◌, length, ap, arith, refl, sym, subst, inl, inr, append_assoc, append_cancel_left, flat_map-append, Tree, Allowance, IsAllowance, Stream, StreamFault, moved_span, canonical_blob, canonical_stream, Style, Record, header, csvtext, Located, BeginLocated, LocatedStream, ShowTo, geometries_of, lines_text, UnpackTo, rows_text, table_text, AreMovedLines, PackApart, RowsName, all_moved, span_lines}
 use Rattle.twkb_grammar.proofs.SpanLaws.{blob_moved}
 use Rattle.twkb_grammar.proofs.Streams.{fault-append, stream-append}
-use Rattle.twkb_table.specs.Record.{Record, header}
-use Rattle.twkb_table.specs.Named.{Named}
 use Rattle.twkb_table.specs.Parts.{BeginAtRoot}
-use Rattle.twkb_table.specs.Text.{csvtext}
 use Rattle.twkb_table.proofs.PartsLemmas.{named_cut, named_joined}
-use Rattle.twkb_blob.specs.declared.spans.Located.{Located}
-use Rattle.twkb_convert.specs.LocatedBlobs.{BeginLocated, LocatedStream, ShowTo, geometries_of, lines_text}
-use Rattle.twkb_convert.specs.Outputs.{PackTo, UnpackTo, rows_text, table_text}
-use Rattle.twkb_convert.specs.Parts.{all_moved}
-use Rattle.twkb_convert.specs.SpanLines.{span_lines}
 use Rattle.twkb_convert.proofs.LocatedLemmas.{located-append, located-stream}
 use Rattle.twkb_convert.proofs.RoundTrips.{packed_records, unpacked_stream}
 use Rattle.twkb_convert.proofs.RowTexts.{table_text-append, table_text-rows}
@@ -29,18 +11,16 @@ use Rattle.twkb_convert.proofs.ShownLemmas.{one_shown, some_located_stream}
 
 -- ---- tables
 
-pub packed_joined : (style : Style) (l : Allowance) (rows more : List Record) (gs hs : List Tree) (a b : List ℕ) → IsAllowance l → Named l (header ∷ rows) gs → Named l (header ∷ more) hs
-    → PackTo style l (header ∷ rows) a → PackTo style l (header ∷ more) b → PackTo style l (header ∷ (rows ++ more)) (a ++ b)
-packed_joined style l rows more gs hs a b cap first second first_out second_out =
+pub packed_joined : (style : Style) (l : Allowance) (rows more : List Record) → IsAllowance l → RowsName l rows → RowsName l more → PackApart style l rows more
+packed_joined style l rows more cap (gs, first) (hs, second) a b first_out second_out =
     let one = packed_records style l (header ∷ rows) a gs cap first first_out in
     let other = packed_records style l (header ∷ more) b hs cap second second_out in
     inl (gs ++ hs, named_joined l rows more gs hs first second, ap (λ k. k ++ b) one ∙ ap (λ k. canonical_stream style gs ++ k) other ∙ sym (flat_map-append (canonical_blob style) gs hs))
 
-pub packed_cut : (style : Style) (l : Allowance) (rows more : List Record) (ks : List Tree) (a b : List ℕ) → IsAllowance l → BeginAtRoot more → Named l (header ∷ (rows ++ more)) ks
-    → PackTo style l (header ∷ rows) a → PackTo style l (header ∷ more) b → PackTo style l (header ∷ (rows ++ more)) (a ++ b)
-packed_cut style l rows more ks a b cap root named first second =
+pub packed_cut : (style : Style) (l : Allowance) (rows more : List Record) → IsAllowance l → BeginAtRoot more → RowsName l (rows ++ more) → PackApart style l rows more
+packed_cut style l rows more cap root (ks, named) =
     let (gs, hs, whole, here, there) = named_cut l rows more ks cap root named in
-    packed_joined style l rows more gs hs a b cap here there first second
+    packed_joined style l rows more cap (gs, here) (hs, there)
 
 -- ---- streams as tables
 
@@ -86,18 +66,18 @@ geometries_joined n (b ∷ bs) cs = ap (λ gs. b.geometry ∷ gs) (geometries_jo
 lines_joined : (n : ℕ) (bs cs : List Located) → lines_text bs ++ lines_text (all_moved n cs) ≡ lines_text (bs ++ all_moved n cs)
 lines_joined n bs cs = sym (flat_map-append (λ (b : Located). span_lines b.spans) bs (all_moved n cs))
 
--- The second text is that of these blobs, and the join is shown by the first text and their lines, moved.
+-- The join is shown by the first text and the lines of the second, moved.
 abbrev ShowsMoved : Allowance → (a b first second : List ℕ) → Type 0
-ShowsMoved l a b first second = (cs : List Located) × (second ≡ lines_text cs) × ShowTo l (a ++ b) (first ++ lines_text (all_moved (length a) cs))
+ShowsMoved l a b first second = (later : List ℕ) × AreMovedLines (length a) second later × ShowTo l (a ++ b) (first ++ later)
 
 behind_located : (l : Allowance) (a b first second : List ℕ) (bs : List Located) → LocatedStream l 0 a bs → first ≡ lines_text bs → ShowTo l b second → ShowsMoved l a b first second
 behind_located l a b first second bs s e (inl (cs, t, lines)) =
-    (cs, lines, inl (bs ++ all_moved (length a) cs, located_joined l a b bs cs s t, ap (λ k. k ++ lines_text (all_moved (length a) cs)) e ∙ lines_joined (length a) bs cs))
+    (lines_text (all_moved (length a) cs), (cs, lines, refl), inl (bs ++ all_moved (length a) cs, located_joined l a b bs cs s t, ap (λ k. k ++ lines_text (all_moved (length a) cs)) e ∙ lines_joined (length a) bs cs))
 behind_located l a b first second bs s e (inr (offset, reason, cs, f, (front, rest, whole, t), lines)) =
     let both = fault-append l a b (geometries_of bs) (geometries_of cs) offset reason (located-stream l 0 a bs s) f in
     let begin : BeginLocated l (a ++ b) (bs ++ all_moved (length a) cs) = (a ++ front, rest, ap (λ k. a ++ k) whole ∙ sym (append_assoc a front rest), located_joined l a front bs cs s t) in (
-      cs,
-      lines,
+      lines_text (all_moved (length a) cs),
+      (cs, lines, refl),
       inr (
         length a + offset,
         reason,

@@ -1,16 +1,5 @@
 -- A record that is refused in a beginning of a text is refused in all of it, and what is complete before it is the output.
-use Rattle.std.proofs.Common.{◌≡◌, ◌∙◌, ℕ, List, [], ◌∷◌, ◌++◌, Some, refl, ap, sym, subst, inl, inr, append_assoc}
-use Rattle.twkb_tree.specs.Tree.{Tree}
-use Rattle.twkb_tree.specs.Limits.{Allowance}
-use Rattle.twkb_grammar.specs.Written.{canonical_stream}
-use Rattle.twkb_grammar.specs.declared.style.Style.{Style}
-use Rattle.twkb_table.specs.Record.{Record}
-use Rattle.twkb_table.specs.Named.{NamesNone}
-use Rattle.twkb_table.specs.RowFault.{AreComplete}
-use Rattle.twkb_table.specs.CsvRecords.{AreRecordsOf}
-use Rattle.twkb_table.specs.declared.reason.RowReason.{RowReason}
-use Rattle.twkb_convert.specs.Outputs.{PackTo}
-use Rattle.twkb_convert.specs.RefusedRows.{IsRefusedAt}
+use Rattle.twkb_convert.proofs.Prelude.{◌≡◌, ◌∙◌, ℕ, List, [], ◌∷◌, ◌++◌, refl, ap, sym, subst, inl, inr, append_assoc, Tree, Allowance, canonical_stream, Style, Record, NamesNone, AreComplete, RowReason, PackTo, IsRefusedText}
 use Rattle.twkb_convert.proofs.FrontLemmas.{first_records}
 use Rattle.twkb_convert.proofs.OutputLemmas.{complete_none}
 use Rattle.twkb_convert.proofs.RoundTrips.{one_records}
@@ -35,16 +24,16 @@ complete_more l seen more number reason gs only (inr (later, same)) =
       same,
     )
 
-pub refused_all : (l : Allowance) (text : List ℕ) (records : List Record) (number : ℕ) (reason : RowReason) (gs : List Tree) → AreRecordsOf text records → IsRefusedAt l (Some text) number reason gs
+pub refused_all : (l : Allowance) (text : List ℕ) (records : List Record) (number : ℕ) (reason : RowReason) (gs : List Tree) → IsRefusedText l text records number reason gs
     → AreComplete l records number reason gs
-refused_all l text records number reason gs all refused =
+refused_all l text records number reason gs (all, refused) =
     let (more, whole) = first_records text records refused.seen all refused.begins in
     let only : refused.seen ≡ [] → more ≡ [] = λ none. sym (whole ∙ ap (λ rs. rs ++ more) none) ∙ one_records text records [] all (refused.none none) in
     subst (λ rs. AreComplete l rs number reason gs) (sym whole) (complete_more l refused.seen more number reason gs only refused.fault)
 
-pub refused_none : (l : Allowance) (text : List ℕ) (records : List Record) (number : ℕ) (reason : RowReason) (gs : List Tree) → AreRecordsOf text records → IsRefusedAt l (Some text) number reason gs → NamesNone l records
-refused_none l text records number reason gs all refused = complete_none l records number reason gs (refused_all l text records number reason gs all refused)
+pub refused_none : (l : Allowance) (text : List ℕ) (records : List Record) (number : ℕ) (reason : RowReason) (gs : List Tree) → IsRefusedText l text records number reason gs → NamesNone l records
+refused_none l text records number reason gs refused = complete_none l records number reason gs (refused_all l text records number reason gs refused)
 
-pub refused_output : (style : Style) (l : Allowance) (text : List ℕ) (records : List Record) (number : ℕ) (reason : RowReason) (gs : List Tree) → AreRecordsOf text records → IsRefusedAt l (Some text) number reason gs
+pub refused_output : (style : Style) (l : Allowance) (text : List ℕ) (records : List Record) (number : ℕ) (reason : RowReason) (gs : List Tree) → IsRefusedText l text records number reason gs
     → PackTo style l records (canonical_stream style gs)
-refused_output style l text records number reason gs all refused = inr (number, reason, gs, refused_all l text records number reason gs all refused, refl)
+refused_output style l text records number reason gs refused = inr (number, reason, gs, refused_all l text records number reason gs refused, refl)

@@ -1,26 +1,15 @@
 -- What is packed and unpacked comes back.
-use Rattle.std.proofs.Common.{◌≡◌, ◌∙◌, ℕ, List, [], ◌∷◌, None, ap, refl, sym, subst, inl, inr}
+use Rattle.twkb_convert.proofs.Prelude.{◌≡◌, ◌∙◌, ℕ, List, [], ◌∷◌, None, ap, refl, sym, subst, inl, inr, Tree, Allowance, IsAllowance, Stream, canonical_stream, Style, Record, table, Named, AreComplete, RowReason, AreRecordsOf, IsTable, PackTextTo, PackTo, UnpackTo, table_text}
 use Rattle.csv.specs.Reading.{AreRecords, Reached, default_config, strip_bom}
 use Rattle.csv.specs.Machine.{Read, next_record}
 use Rattle.csv.specs.declared.parser.Config.{Config}
 use Rattle.csv.specs.declared.parser.State.{State}
 use Rattle.csv.specs.declared.parser.State.TheVariants.{StartRecord}
-use Rattle.twkb_tree.specs.Tree.{Tree}
-use Rattle.twkb_tree.specs.Limits.{Allowance, IsAllowance}
 use Rattle.twkb_tree.specs.RowLists.{AreValid}
-use Rattle.twkb_grammar.specs.Blob.{Stream}
-use Rattle.twkb_grammar.specs.Written.{canonical_stream}
-use Rattle.twkb_grammar.specs.declared.style.Style.{Style}
 use Rattle.twkb_grammar.proofs.Streams.{no_stream, one_stream, written_stream}
-use Rattle.twkb_table.specs.Record.{Record, table}
-use Rattle.twkb_table.specs.Named.{Named}
-use Rattle.twkb_table.specs.RowFault.{AreComplete}
-use Rattle.twkb_table.specs.declared.reason.RowReason.{RowReason}
 use Rattle.twkb_table.proofs.FaultLaws.{fault_none}
 use Rattle.twkb_table.proofs.ReadBack.{text_read}
 use Rattle.twkb_table.proofs.Tables.{one_table}
-use Rattle.twkb_table.specs.CsvRecords.{AreRecordsOf}
-use Rattle.twkb_convert.specs.Outputs.{PackTo, UnpackTo, table_text}
 
 -- ---- a text has one list of records
 
@@ -67,17 +56,17 @@ valid_stream : (l : Allowance) (bytes : List ℕ) (gs : List Tree) → Stream l 
 valid_stream l bytes [] s = tt
 valid_stream l bytes (g ∷ gs) s = (s.3.valid, valid_stream l s.1 gs s.4)
 
-pub unpack_of_pack : (style : Style) (l : Allowance) (packed : List ℕ) (records : List Record) (gs : List Tree) (bytes text : List ℕ) → IsAllowance l
-    → AreRecordsOf packed records → Named l records gs → PackTo style l records bytes → UnpackTo l bytes text → AreRecordsOf text records
-unpack_of_pack style l packed records gs bytes text allowed are named packs unpacks =
+pub unpack_of_pack : (style : Style) (l : Allowance) (packed bytes text : List ℕ) (records : List Record) → IsAllowance l
+    → IsTable l packed records → PackTo style l records bytes → UnpackTo l bytes text → AreRecordsOf text records
+unpack_of_pack style l packed bytes text records allowed (are, (gs, named)) packs unpacks =
     let stream : Stream l bytes gs = subst (λ b. Stream l b gs) (sym (packed_records style l records bytes gs allowed named packs)) (written_stream l style gs allowed named.valid) in
     let same : text ≡ table_text gs = unpacked_stream l bytes text gs stream unpacks in
     let read : AreRecordsOf (table_text gs) (table gs) = text_read l (table gs) gs allowed (record { table_of = refl; valid = named.valid }) in
     subst (λ r. AreRecordsOf text r) (sym named.table_of) (subst (λ t. AreRecordsOf t (table gs)) (sym same) read)
 
-pub pack_of_unpack : (style : Style) (l : Allowance) (bytes : List ℕ) (gs : List Tree) (text : List ℕ) (records : List Record) (packed : List ℕ) → IsAllowance l
-    → Stream l bytes gs → UnpackTo l bytes text → AreRecordsOf text records → PackTo style l records packed → packed ≡ canonical_stream style gs
-pack_of_unpack style l bytes gs text records packed allowed stream unpacks are packs =
+pub pack_of_unpack : (style : Style) (l : Allowance) (bytes text packed : List ℕ) (gs : List Tree) → IsAllowance l
+    → Stream l bytes gs → UnpackTo l bytes text → PackTextTo style l text packed → packed ≡ canonical_stream style gs
+pack_of_unpack style l bytes text packed gs allowed stream unpacks (records, are, packs) =
     let same : text ≡ table_text gs = unpacked_stream l bytes text gs stream unpacks in
     let named : Named l (table gs) gs = record { table_of = refl; valid = valid_stream l bytes gs stream } in
     let read : AreRecordsOf (table_text gs) (table gs) = text_read l (table gs) gs allowed named in

@@ -1,22 +1,6 @@
 -- Where the sending of a table stops.
-use Rattle.std.proofs.Common.{◌≡◌, ◌∙◌, ◌+◌, ◌<◌, ◌≤◌, ◌-◌, ◌^◌, ℕ, Bool, true, false, List, [], ◌∷◌, ◌++◌, Option, Some, None, Err, length, ap, arith, refl, sym, subst, inl, inr, length-append}
-use Rattle.std.specs.Prelude.{IfSome}
-use Rattle.std.proofs.lemmas.List.{append-nil}
-use Rattle.std.proofs.lemmas.Grind.{flat_map-append}
-use Rattle.twkb_io.specs.Outputs.{Refused, Sent, Took, is_spent, sent_of}
-use Rattle.twkb_io.specs.OutputLaws.{refused_join, took_join}
-use Rattle.twkb_io.specs.declared.output.Output.{Output}
-use Rattle.twkb_io.specs.declared.output.OutFault.{OutFault}
+use Rattle.twkb_convert.proofs.Prelude.{◌≡◌, ◌∙◌, ◌+◌, ◌<◌, ◌≤◌, ◌-◌, ◌^◌, ℕ, Bool, true, false, List, [], ◌∷◌, ◌++◌, Option, Some, None, Err, length, ap, arith, refl, sym, subst, inl, inr, length-append, IfSome, append-nil, flat_map-append, Refused, Took, is_spent, sent_of, refused_join, took_join, Output, OutFault, Tree, simple, collection, Row, Allowance, Work, canonical_blob, canonical_stream, Style, Record, AreRecordsOf, BeginWith, standing, all_but_last, FrontOfBlobs, MayBeWritten, TableObstacle}
 use Rattle.twkb_io.specs.declared.output.OutFault.TheVariants as out
-use Rattle.twkb_tree.specs.Tree.{Tree, simple, collection}
-use Rattle.twkb_tree.specs.Rows.{Row}
-use Rattle.twkb_tree.specs.Limits.{Allowance}
-use Rattle.twkb_flat.specs.declared.work.Work.{Work}
-use Rattle.twkb_grammar.specs.Written.{canonical_blob, canonical_stream}
-use Rattle.twkb_grammar.specs.declared.style.Style.{Style}
-use Rattle.twkb_table.specs.Record.{Record}
-use Rattle.twkb_table.specs.CsvRecords.{AreRecordsOf, BeginWith, standing}
-use Rattle.twkb_table.specs.RowFault.{all_but_last}
 use Rattle.twkb_table.specs.RowReading.{waiting}
 use Rattle.twkb_table.specs.TableReading as Table
 use Rattle.twkb_table.specs.TableReading.{HaveGiven, StandsAfter, is_ended}
@@ -24,10 +8,9 @@ use Rattle.twkb_table.specs.declared.table_fault.TableFault.{TableFault}
 use Rattle.twkb_table.specs.declared.table_fault.TableFault.TheVariants as fault
 use Rattle.twkb_table.specs.declared.table_reader.TableReader.{TableReader}
 use Rattle.twkb_table.proofs.TableReaderLemmas.{all_but_last-last, names_so_far, text_begins}
-use Rattle.twkb_convert.specs.RefusedRows.{MayBeWritten}
-use Rattle.twkb_convert.specs.Sending.{CutsOne, ExplainsWhy, SendsNext, SendsOne, SentTable, SentSoFar, Stopped, UnlessOutput, is_write}
-use Rattle.twkb_convert.specs.declared.sending.Why.{Why}
-use Rattle.twkb_convert.specs.declared.sending.Why.TheVariants as why
+use Rattle.twkb_convert.specs.CountedWork.{IsWorkOf}
+use Rattle.twkb_convert.specs.Sending.{CutsOne, EndsTable, ExplainsWhy, SendsNext, SendsOne, SentTable, SentSoFar, Stopped, UnlessOutput, is_write}
+use Rattle.twkb_convert.specs.declared.obstacle.TableObstacle.TheVariants as obstacle
 use Rattle.twkb_convert.specs.declared.sending.Tally.{Tally}
 use Rattle.twkb_convert.proofs.WorkLemmas.{work_more}
 
@@ -77,13 +60,28 @@ module _ {R W : Type 0} (style : Style) (l : Allowance) (remaining : R → Optio
     work_of = work_more s.geometries one.geometry before after s.work_of one.writes.work;
   }
 
-pub sent_whole : {W : Type 0} (contents : W → Option (List ℕ)) (old new : Output W) (bytes : List ℕ) → Sent contents old bytes new → Sent contents old (bytes ++ []) new
-sent_whole contents old new bytes sends = rw (append-nil bytes) sends
+  -- no more
+  pub sent_table : (from to : TableReader R) (old mid new : Output W) (done : ℕ) (before after : Work) (s : SentSoFar style l remaining contents told from old mid done before)
+      → EndsTable l remaining told s.records s.geometries to mid before new after → SentTable style l contents told old new (record { geometries = done; work = after })
+  sent_table from to old mid new done before after s ends = record {
+    table = record { records = ends.meets.seen; geometries = s.geometries; all = ends.meets.all; few = ends.meets.stands.few; named = ends.meets.named };
+    took = subst (λ o. Took contents old (canonical_stream style s.geometries) o) (sym ends.same) s.took;
+    count = s.count;
+    work_of = subst (λ w. IsWorkOf s.geometries w) (sym ends.same_work) s.work_of;
+  }
+
+-- the blobs of geometries that may be written, and nothing behind them
+abbrev pub front_with : (style : Style) (l : Allowance) (told : Option (List ℕ)) (gs : List Tree) (bytes : List ℕ) → MayBeWritten l told (gs ++ []) → bytes ≡ canonical_stream style gs ++ []
+    → FrontOfBlobs style l told bytes
+front_with style l told gs bytes ready are = record { whole = gs; later = []; front = []; rest = []; ready = ready; cut = refl; bytes = are }
+
+abbrev pub whole_front : (style : Style) (l : Allowance) (told : Option (List ℕ)) (gs : List Tree) → MayBeWritten l told (gs ++ []) → FrontOfBlobs style l told (canonical_stream style gs)
+whole_front style l told gs ready = front_with style l told gs (canonical_stream style gs) ready (sym (append-nil (canonical_stream style gs)))
 
 -- ---- stops
 
 explains_fault : (style : Style) (l : Allowance) (told : Option (List ℕ)) (passed : ℕ) (records : List Record) (given : List Tree) (f : TableFault) (sent : ℕ) → Table.Explains l told records given f
-    → ExplainsWhy style l told passed (why.Table f) sent given [] []
+    → ExplainsWhy style l told passed (obstacle.Table f) sent given [] []
 explains_fault style l told passed records given (fault.At number reason) sent e =
     (refl, refl, record { seen = e.seen; begins = e.begins; none = e.none; fault = e.complete })
 explains_fault style l told passed records given fault.TooManyRecords sent e =
@@ -94,21 +92,17 @@ explains_fault style l told passed records given fault.Spent sent e = e
 
 module _ {R W : Type 0} (style : Style) (l : Allowance) (remaining : R → Option (List ℕ)) (contents : W → Option (List ℕ)) (told : Option (List ℕ)) (passed : ℕ) where
   -- where the output took all that it was handed
-  stopped_between : (from : TableReader R) (old mid new : Output W) (done : ℕ) (work : Work) (stop : Why) (s : SentSoFar style l remaining contents told from old mid done work)
+  stopped_between : (from : TableReader R) (old mid new : Output W) (done : ℕ) (work : Work) (stop : TableObstacle) (s : SentSoFar style l remaining contents told from old mid done work)
       → new ≡ mid → is_write stop ≡ false → ((P : Type 0) → P → UnlessOutput stop P) → ExplainsWhy style l told passed stop (sent_of old) s.geometries [] []
       → Stopped style l contents told passed old new (record { done = done; why = stop })
   stopped_between from old mid new done work stop s same quiet kept explains =
       let took = subst (λ o. Took contents old (canonical_stream style s.geometries) o) (sym same) s.took in
       let ready : MayBeWritten l told (s.geometries ++ []) = subst (λ gs. MayBeWritten l told gs) (sym (append-nil s.geometries)) (ready_after l remaining told s.records s.geometries from s.stands) in
       record {
-        whole = s.geometries;
-        later = [];
-        front = [];
-        rest = [];
-        ready = ready;
-        cut = refl;
+        bytes = canonical_stream style s.geometries;
+        part = whole_front style l told s.geometries ready;
         one = inl refl;
-        sends = sent_whole contents old new (canonical_stream style s.geometries) took.sends;
+        sends = took.sends;
         count = s.count;
         explains = explains;
         failures = rw quiet took.failures;
@@ -117,16 +111,20 @@ module _ {R W : Type 0} (style : Style) (l : Allowance) (remaining : R → Optio
 
   -- where it refused a front of a blob
   stopped_inside : (from : TableReader R) (old mid new : Output W) (done : ℕ) (work : Work) (f : OutFault) (s : SentSoFar style l remaining contents told from old mid done work)
-      → is_spent mid ≡ false → CutsOne style l contents told s.geometries mid f new → Stopped style l contents told passed old new (record { done = done; why = why.Output f })
+      → is_spent mid ≡ false → CutsOne style l contents told s.geometries mid f new → Stopped style l contents told passed old new (record { done = done; why = obstacle.Output f })
   stopped_inside from old mid new done work f s fresh one =
       let all = refused_join contents old mid new (canonical_stream style s.geometries) one.cut.front f s.took one.cut.refused in
       record {
-        whole = s.geometries;
-        later = one.geometry ∷ [];
-        front = one.cut.front;
-        rest = one.cut.rest;
-        ready = one.ready;
-        cut = append-nil (canonical_blob style one.geometry) ∙ one.cut.whole;
+        bytes = canonical_stream style s.geometries ++ one.cut.front;
+        part = record {
+          whole = s.geometries;
+          later = one.geometry ∷ [];
+          front = one.cut.front;
+          rest = one.cut.rest;
+          ready = one.ready;
+          cut = append-nil (canonical_blob style one.geometry) ∙ one.cut.whole;
+          bytes = refl;
+        };
         one = inr (one.geometry, refl, one.cut.left fresh);
         sends = all.sends;
         count = s.count;
@@ -139,13 +137,12 @@ module _ {R W : Type 0} (style : Style) (l : Allowance) (remaining : R → Optio
         unspent = tt;
       }
 
-  pub stopped_next : (from to : TableReader R) (old mid new : Output W) (done : ℕ) (before after : Work) (stop : Why) (s : SentSoFar style l remaining contents told from old mid done before)
+  pub stopped_next : (from to : TableReader R) (old mid new : Output W) (done : ℕ) (before after : Work) (stop : TableObstacle) (s : SentSoFar style l remaining contents told from old mid done before)
       → is_spent mid ≡ false → SendsNext style l remaining contents told s.records s.geometries to mid before new after (Err stop) → Stopped style l contents told passed old new (record { done = done; why = stop })
-  stopped_next from to old mid new done before after (why.Table f) s fresh (same, explains) =
-      stopped_between from old mid new done before (why.Table f) s same refl (λ P p. p) (explains_fault style l told passed s.records s.geometries f (sent_of old) explains)
-  stopped_next from to old mid new done before after why.Memory s fresh same = stopped_between from old mid new done before why.Memory s same refl (λ P p. p) (refl, refl)
-  stopped_next from to old mid new done before after why.Undrained s fresh sends = absurd sends
-  stopped_next from to old mid new done before after (why.Output f) s fresh one = stopped_inside from old mid new done before f s fresh one
+  stopped_next from to old mid new done before after (obstacle.Table f) s fresh (same, explains) =
+      stopped_between from old mid new done before (obstacle.Table f) s same refl (λ P p. p) (explains_fault style l told passed s.records s.geometries f (sent_of old) explains)
+  stopped_next from to old mid new done before after obstacle.Undrained s fresh sends = absurd sends
+  stopped_next from to old mid new done before after (obstacle.Output f) s fresh one = stopped_inside from old mid new done before f s fresh one
 
 -- ---- no end
 
@@ -161,16 +158,12 @@ stream_long style (g ∷ gs) = omega (arith, length-append (canonical_blob style
 -- as many geometries as can be counted are more bytes than can be sent
 pub stopped_uncounted : {R W : Type 0} (style : Style) (l : Allowance) (remaining : R → Option (List ℕ)) (contents : W → Option (List ℕ)) (told : Option (List ℕ)) (passed : ℕ) (table : TableReader R) (old new : Output W)
     (done last : ℕ) (work : Work) → SentSoFar style l remaining contents told table old new done work → done ≡ last → 2 ^ 62 < last
-    → Stopped style l contents told passed old new (record { done = last; why = why.Output out.TooLong })
+    → Stopped style l contents told passed old new (record { done = last; why = obstacle.Output out.TooLong })
 stopped_uncounted style l remaining contents told passed table old new done last work s at_last many = record {
-  whole = s.geometries;
-  later = [];
-  front = [];
-  rest = [];
-  ready = subst (λ gs. MayBeWritten l told gs) (sym (append-nil s.geometries)) (ready_after l remaining told s.records s.geometries table s.stands);
-  cut = refl;
+  bytes = canonical_stream style s.geometries;
+  part = whole_front style l told s.geometries (subst (λ gs. MayBeWritten l told gs) (sym (append-nil s.geometries)) (ready_after l remaining told s.records s.geometries table s.stands));
   one = inl refl;
-  sends = sent_whole contents old new (canonical_stream style s.geometries) s.took.sends;
+  sends = s.took.sends;
   count = sym at_last ∙ s.count;
   explains = (
     λ far. (let c = s.count in omega (arith, many, at_last, c, stream_long style s.geometries, ap (λ gs. length (canonical_stream style gs)) (append-nil s.geometries))),
@@ -184,45 +177,37 @@ stopped_uncounted style l remaining contents told passed table old new done last
 
 module _ {W : Type 0} (style : Style) (l : Allowance) (contents : W → Option (List ℕ)) (told : Option (List ℕ)) where
   -- all geometries of a table may be written
-  pub all_ready : (old new : Output W) (tally : Tally) (all : SentTable style l contents told old new tally) → MayBeWritten l told (all.geometries ++ [])
+  pub all_ready : (old new : Output W) (tally : Tally) (all : SentTable style l contents told old new tally) → MayBeWritten l told (all.table.geometries ++ [])
   all_ready old new tally all = record {
-    records = all.records;
-    geometries = all.geometries;
-    begins = begins_all told all.records all.all;
-    named = names_so_far l all.records all.geometries all.named;
-    ready = inr (all.all, append-nil all.geometries);
+    records = all.table.records;
+    geometries = all.table.geometries;
+    begins = begins_all told all.table.records all.table.all;
+    named = names_so_far l all.table.records all.table.geometries all.table.named;
+    ready = inr (all.table.all, append-nil all.table.geometries);
   }
 
   -- the whole table was sent, and the reader gave bytes till their count was full
   pub stopped_undrained : (passed : ℕ) (old new : Output W) (tally : Tally) → 2 ^ 64 - 1 ≤ passed → SentTable style l contents told old new tally
-      → Stopped style l contents told passed old new (record { done = tally.geometries; why = why.Undrained })
+      → Stopped style l contents told passed old new (record { done = tally.geometries; why = obstacle.Undrained })
   stopped_undrained passed old new tally full all = record {
-    whole = all.geometries;
-    later = [];
-    front = [];
-    rest = [];
-    ready = all_ready old new tally all;
-    cut = refl;
+    bytes = canonical_stream style all.table.geometries;
+    part = whole_front style l told all.table.geometries (all_ready old new tally all);
     one = inl refl;
-    sends = sent_whole contents old new (canonical_stream style all.geometries) all.took.sends;
+    sends = all.took.sends;
     count = all.count;
-    explains = (refl, refl, (all.records, all.all, all.named), full);
+    explains = (refl, refl, (all.table.records, all.table.all, all.table.named), full);
     failures = all.took.failures;
     unspent = all.took.spent;
   }
 
   -- the whole table was sent, and the read behind it failed
   pub stopped_unread : (passed : ℕ) (old new : Output W) (tally : Tally) → SentTable style l contents told old new tally
-      → Stopped style l contents told passed old new (record { done = tally.geometries; why = why.Table fault.Source })
+      → Stopped style l contents told passed old new (record { done = tally.geometries; why = obstacle.Table fault.Source })
   stopped_unread passed old new tally all = record {
-    whole = all.geometries;
-    later = [];
-    front = [];
-    rest = [];
-    ready = all_ready old new tally all;
-    cut = refl;
+    bytes = canonical_stream style all.table.geometries;
+    part = whole_front style l told all.table.geometries (all_ready old new tally all);
     one = inl refl;
-    sends = sent_whole contents old new (canonical_stream style all.geometries) all.took.sends;
+    sends = all.took.sends;
     count = all.count;
     explains = (refl, refl);
     failures = all.took.failures;
@@ -231,16 +216,12 @@ module _ {W : Type 0} (style : Style) (l : Allowance) (contents : W → Option (
 
   -- a flush that failed after the whole table
   pub flush_failed : (passed : ℕ) (old mid new : Output W) (tally : Tally) (f : OutFault) → SentTable style l contents told old mid tally → Refused contents mid [] f new → (f ≡ out.TooLong → ⊥) → (f ≡ out.Spent → ⊥)
-      → Stopped style l contents told passed old new (record { done = tally.geometries; why = why.Output f })
+      → Stopped style l contents told passed old new (record { done = tally.geometries; why = obstacle.Output f })
   flush_failed passed old mid new tally f all failed short unspent =
-      let refused = refused_join contents old mid new (canonical_stream style all.geometries) [] f all.took failed in
+      let refused = refused_join contents old mid new (canonical_stream style all.table.geometries) [] f all.took failed in
       record {
-        whole = all.geometries;
-        later = [];
-        front = [];
-        rest = [];
-        ready = all_ready old mid tally all;
-        cut = refl;
+        bytes = canonical_stream style all.table.geometries ++ [];
+        part = front_with style l told all.table.geometries (canonical_stream style all.table.geometries ++ []) (all_ready old mid tally all) refl;
         one = inl refl;
         sends = refused.sends;
         count = all.count;

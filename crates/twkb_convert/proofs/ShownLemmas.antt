@@ -1,22 +1,9 @@
 -- Bytes are shown by one text.
-use Rattle.std.specs.Prelude.{◌⊎◌}
-use Rattle.std.proofs.Common.{◌≡◌, ◌∙◌, ◌+◌, ℕ, List, [], ◌∷◌, ◌++◌, length, ap, arith, refl, sym, subst, inl, inr, length-append, append_assoc}
-use Rattle.std.proofs.lemmas.List.{append-nil}
-use Rattle.std.proofs.lemmas.Grind.{flat_map-append}
-use Rattle.twkb_tree.specs.Tree.{Tree}
-use Rattle.twkb_tree.specs.Limits.{Allowance, IsAllowance}
-use Rattle.twkb_grammar.specs.Bits.{AreBytes}
-use Rattle.twkb_grammar.specs.Blob.{Blob, Stream}
-use Rattle.twkb_grammar.specs.Fault.{Reason, StreamFault}
-use Rattle.twkb_grammar.specs.Spans.{spans_of_blob}
-use Rattle.twkb_grammar.specs.declared.span.Span.{Span}
+use Rattle.twkb_convert.proofs.Prelude.{◌⊎◌, ◌≡◌, ◌∙◌, ◌+◌, ℕ, List, [], ◌∷◌, ◌++◌, length, Some, ap, arith, refl, sym, subst, inl, inr, length-append, append_assoc, append-nil, flat_map-append, BeginsWith, Tree, Allowance, IsAllowance, AreBytes, Blob, Stream, Reason, StreamFault, spans_of_blob, Span, Located, span_lines, LocatedStream, ShowTo, TellsSpans, geometries_of, lines_text}
 use Rattle.twkb_grammar.proofs.One.{one_blob_lem, peel}
 use Rattle.twkb_grammar.proofs.OneFault.{no_fault}
 use Rattle.twkb_grammar.proofs.SpanLaws.{one_list}
 use Rattle.twkb_grammar.proofs.Streams.{blob_long, stream_or_fault}
-use Rattle.twkb_blob.specs.declared.spans.Located.{Located}
-use Rattle.twkb_convert.specs.SpanLines.{span_lines}
-use Rattle.twkb_convert.specs.LocatedBlobs.{LocatedStream, ShowTo, TellsSpans, geometries_of, lines_text}
 use Rattle.twkb_convert.proofs.LocatedLemmas.{located-stream}
 
 -- ---- one list of blobs
@@ -136,9 +123,9 @@ some_of l bytes (inr (gs, offset, reason, f)) =
 pub some_shown : (l : Allowance) (bytes : List ℕ) → IsAllowance l → AreBytes bytes → (text : List ℕ) × ShowTo l bytes text
 some_shown l bytes cap are = some_of l bytes (stream_or_fault l bytes cap are)
 
-pub show_front : (l : Allowance) (all bytes rest : List ℕ) (bs : List Located) (text written left : List ℕ) → all ≡ bytes ++ rest → LocatedStream l 0 bytes bs → lines_text bs ≡ written ++ left → ShowTo l all text
-    → (more : List ℕ) × (text ≡ written ++ more)
-show_front l all bytes rest bs text written left whole blobs cut shows =
+pub show_front : (l : Allowance) (all bytes text written : List ℕ) (bs : List Located) → BeginsWith (Some all) bytes → LocatedStream l 0 bytes bs → BeginsWith (Some (lines_text bs)) written
+    → ShowTo l all text → BeginsWith (Some text) written
+show_front l all bytes text written bs (rest, whole) blobs (left, cut) shows =
     let s = shows_all l all text shows in
     let (others, first) = begins_all l all bytes rest text bs whole blobs s in (
       left ++ lines_text others,

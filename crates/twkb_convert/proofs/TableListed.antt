@@ -1,24 +1,8 @@
 -- A stream that was written as a table, without the spans of its blobs.
-use Rattle.std.specs.Prelude.{IfSome, IfOk, IfErr, Result, Ok, Err}
-use Rattle.std.proofs.Common.{◌≡◌, ◌∙◌, ◌<◌, ◌^◌, ℕ, List, ◌++◌, Option, Some, None, length, ap, sym, subst, inl, inr}
-use Rattle.std.specs.Io.KnownBytes.{Appends}
-use Rattle.std.proofs.lemmas.List.{map-append, length-map}
-use Rattle.twkb_io.specs.declared.tap.Tap.{Tap}
-use Rattle.twkb_io.specs.Taps.{device_of}
-use Rattle.twkb_tree.specs.Tree.{Tree}
-use Rattle.twkb_tree.specs.Limits.{Allowance}
-use Rattle.twkb_grammar.specs.Blob.{Stream}
-use Rattle.twkb_blob.specs.declared.spans.Located.{Located}
-use Rattle.twkb_convert.specs.Outputs.{AtMostOneCut, table_text}
-use Rattle.twkb_convert.specs.LocatedBlobs.{LocatedStream, geometries_of}
-use Rattle.twkb_convert.specs.Listings.{listing_text}
-use Rattle.twkb_convert.specs.BlobSending.{HoldsWhole}
+use Rattle.twkb_convert.proofs.Prelude.{IfSome, IfOk, IfErr, Result, Ok, Err, ◌≡◌, ◌∙◌, ◌<◌, ◌^◌, ℕ, List, ◌++◌, Option, Some, None, length, ap, sym, subst, inl, inr, Appends, map-append, length-map, Tap, device_of, Tree, Allowance, Stream, Located, AtMostOneCut, table_text, LocatedStream, geometries_of, listing_text, HoldsWhole, Report, ConvertFault, Cause}
 use Rattle.twkb_convert.specs.Listed.{ExplainsListingCause, Listed, StoppedListing}
 use Rattle.twkb_convert.specs.Unpacked.{StoppedUnpacking, Unpacked}
 use Rattle.twkb_convert.specs.declared.listing.Listing.TheVariants as listing
-use Rattle.twkb_convert.specs.declared.report.Report.{Report}
-use Rattle.twkb_convert.specs.declared.report.ConvertFault.{ConvertFault}
-use Rattle.twkb_convert.specs.declared.report.Cause.{Cause}
 use Rattle.twkb_convert.specs.declared.report.Cause.TheVariants as causes
 use Rattle.twkb_convert.proofs.LocatedLemmas.{located-stream}
 use Rattle.twkb_convert.proofs.ListingTexts.{table_of_blobs}
@@ -73,23 +57,27 @@ module _ {R W : Type 0} (l : Allowance) (remaining : R → Option (List ℕ)) (c
   stopped_unpacking : (fault : ConvertFault) (read : Tap R) (written : Tap W)
       → StoppedListing (LocatedStream l 0) geometries_of (listing_text listing.Table) l remaining contents reader writer fault read written
       → StoppedUnpacking l remaining contents reader writer fault read written
-  stopped_unpacking fault read written stopped = record {
-    whole = geometries_of stopped.whole;
-    later = geometries_of stopped.later;
-    bytes = stopped.bytes;
-    blobs = subst (λ gs. Stream l stopped.bytes gs) (joined stopped.whole stopped.later) (located-stream l 0 stopped.bytes (stopped.whole ++ stopped.later) stopped.blobs);
-    begins = stopped.begins;
-    text = stopped.text;
-    left = stopped.left;
-    cut = sym (all_text stopped.whole stopped.later) ∙ stopped.cut;
-    one = cut_without stopped.later stopped.left stopped.one;
-    holds = holds_without stopped.text stopped.whole stopped.holds;
-    appends = stopped.appends;
-    done = stopped.done ∙ sym (length-map stopped.whole (λ (b : Located). b.geometry));
-    sent = stopped.sent;
-    explains = explains_without l (remaining (device_of reader)) (remaining (device_of read)) stopped.bytes fault.cause stopped.whole stopped.later stopped.left stopped.explains;
-    devices = stopped.devices;
-  }
+  stopped_unpacking fault read written stopped =
+      let p = stopped.part in
+      record {
+        text = stopped.text;
+        part = record {
+          whole = geometries_of p.whole;
+          later = geometries_of p.later;
+          bytes = p.bytes;
+          left = p.left;
+          blobs = subst (λ gs. Stream l p.bytes gs) (joined p.whole p.later) (located-stream l 0 p.bytes (p.whole ++ p.later) p.blobs);
+          begins = p.begins;
+          cut = sym (all_text p.whole p.later) ∙ p.cut;
+          one = cut_without p.later p.left p.one;
+          holds = holds_without stopped.text p.whole p.holds;
+        };
+        appends = stopped.appends;
+        done = stopped.done ∙ sym (length-map p.whole (λ (b : Located). b.geometry));
+        sent = stopped.sent;
+        explains = explains_without l (remaining (device_of reader)) (remaining (device_of read)) p.bytes fault.cause p.whole p.later p.left stopped.explains;
+        devices = stopped.devices;
+      }
 
   pub table_unpacked : (answer : Result Report ConvertFault) (read : Tap R) (written : Tap W)
       → IfOk answer (λ report. Listed (LocatedStream l 0) (listing_text listing.Table) remaining contents reader writer report read written)

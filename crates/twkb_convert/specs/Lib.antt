@@ -1,6 +1,7 @@
 pub mod Draining
 pub mod RefusedRows
 pub mod Outputs
+pub mod Fronts
 pub mod CountedWork
 pub mod BlobWriting
 pub mod Sending

@@ -2,7 +2,6 @@
 use Rattle.std.specs.Prelude.{◌≡◌, ℕ, ◌^◌, ◌<◌, ◌⊎◌, List, [], ◌++◌, length, Option, IfSome, ⊤}
 use Rattle.std.specs.Io.KnownBytes.{Appends, IsAtEnd}
 use Rattle.twkb_io.specs.Taps.{device_of, failures_of}
-use Rattle.twkb_io.specs.Copies.{BeginsWith}
 use Rattle.twkb_io.specs.declared.tap.Tap.{Tap}
 use Rattle.twkb_io.specs.declared.input.InFault.TheVariants as input
 use Rattle.twkb_io.specs.declared.output.OutFault.TheVariants as out
@@ -13,10 +12,9 @@ use Rattle.twkb_engine.specs.Stops.{reason_of}
 use Rattle.twkb_blob.specs.declared.fault.BlobFault.TheVariants as blob
 use Rattle.twkb_convert.specs.Devices.{CountsOne, DevicesTell}
 use Rattle.twkb_convert.specs.BlobReading.{GaveOnly}
-use Rattle.twkb_convert.specs.Outputs.{AtMostOneCut}
-use Rattle.twkb_convert.specs.BlobSending.{HoldsWhole}
-use Rattle.twkb_convert.specs.declared.halt.Obstacle.{Obstacle}
-use Rattle.twkb_convert.specs.declared.halt.Obstacle.TheVariants as obstacle
+use Rattle.twkb_convert.specs.Fronts.{FrontOfText}
+use Rattle.twkb_convert.specs.declared.obstacle.StreamObstacle.{StreamObstacle}
+use Rattle.twkb_convert.specs.declared.obstacle.StreamObstacle.TheVariants as obstacle
 use Rattle.twkb_convert.specs.declared.report.Report.{Report}
 use Rattle.twkb_convert.specs.declared.report.ConvertFault.{ConvertFault}
 use Rattle.twkb_convert.specs.declared.report.Cause.{Cause}
@@ -51,31 +49,22 @@ ExplainsListingCause trees_of text_of l old told bytes cause.TooManyRecords whol
 -- The bytes of the reader begin with blobs, and the writer took a front of their text, with that of the first of them.
 pub record StoppedListing {R W A : Type 0} (AreBlobs : List ℕ → List A → Type 0) (trees_of : List A → List Tree) (text_of : List A → List ℕ) (l : Allowance)
     (remaining : R → Option (List ℕ)) (contents : W → Option (List ℕ)) (reader : Tap R) (writer : Tap W) (fault : ConvertFault) (read : Tap R) (written : Tap W) : Type 0 where
-  pub whole : List A
-  pub later : List A
-  pub bytes : List ℕ
-  pub blobs : AreBlobs bytes (whole ++ later)
-  pub begins : BeginsWith (remaining (device_of reader)) bytes
   pub text : List ℕ
-  pub left : List ℕ
-  pub cut : text_of (whole ++ later) ≡ text ++ left
-  pub one : AtMostOneCut later left
-  pub holds : HoldsWhole text_of text whole
+  pub part : FrontOfText AreBlobs text_of (remaining (device_of reader)) text
   pub appends : Appends (contents (device_of writer)) (contents (device_of written)) text
-  pub done : fault.done ≡ length whole
+  pub done : fault.done ≡ length part.whole
   pub sent : fault.sent ≡ length text
-  pub explains : ExplainsListingCause trees_of text_of l (remaining (device_of reader)) (remaining (device_of read)) bytes fault.cause whole later left
+  pub explains : ExplainsListingCause trees_of text_of l (remaining (device_of reader)) (remaining (device_of read)) part.bytes fault.cause part.whole part.later part.left
   pub devices : DevicesTell CountsOne reader writer fault.cause read written
 
 -- the cause that an obstacle is
-abbrev pub cause_of_obstacle : Obstacle → Cause
+abbrev pub cause_of_obstacle : StreamObstacle → Cause
 cause_of_obstacle (obstacle.Stream blob.Memory) = cause.Memory
 cause_of_obstacle (obstacle.Stream (blob.Device input.Read)) = cause.ReadDevice
 cause_of_obstacle (obstacle.Stream (blob.Device input.TooLong)) = cause.TooLong
 cause_of_obstacle (obstacle.Stream (blob.Device input.Spent)) = cause.TooLong
 cause_of_obstacle (obstacle.Stream blob.Spent) = cause.TooLong
 cause_of_obstacle (obstacle.Stream (blob.At offset reason)) = cause.Blob offset reason
-cause_of_obstacle obstacle.Memory = cause.Memory
 cause_of_obstacle (obstacle.Output out.Write) = cause.WriteDevice
 cause_of_obstacle (obstacle.Output out.Stuck) = cause.WriteDevice
 cause_of_obstacle (obstacle.Output out.TooLong) = cause.TooLong

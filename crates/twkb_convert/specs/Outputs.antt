@@ -9,6 +9,7 @@ use Rattle.twkb_grammar.specs.Written.{canonical_stream}
 use Rattle.twkb_grammar.specs.declared.style.Style.{Style}
 use Rattle.twkb_table.specs.Record.{Record, record_of, table}
 use Rattle.twkb_table.specs.Text.{csvtext}
+use Rattle.twkb_table.specs.CsvRecords.{AreRecordsOf}
 use Rattle.twkb_table.specs.Named.{Named}
 use Rattle.twkb_table.specs.RowFault.{AreComplete}
 use Rattle.twkb_table.specs.declared.reason.RowReason.{RowReason}
@@ -19,6 +20,18 @@ abbrev pub PackTo : Style → Allowance → List Record → List ℕ → Type 0
 PackTo style l records bytes =
     ((gs : List Tree) × Named l records gs × (bytes ≡ canonical_stream style gs))
     ⊎ ((number : ℕ) × (reason : RowReason) × (gs : List Tree) × AreComplete l records number reason gs × (bytes ≡ canonical_stream style gs))
+
+-- a text is packed to what its records are packed to
+abbrev pub PackTextTo : Style → Allowance → List ℕ → List ℕ → Type 0
+PackTextTo style l text bytes = (records : List Record) × AreRecordsOf text records × PackTo style l records bytes
+
+-- the records name geometries
+abbrev pub NamesSome : Allowance → List Record → Type 0
+NamesSome l records = (gs : List Tree) × Named l records gs
+
+-- a text has these records, and they name geometries
+abbrev pub IsTable : Allowance → List ℕ → List Record → Type 0
+IsTable l text records = AreRecordsOf text records × NamesSome l records
 
 -- the lines of the rows of geometries, without the header (profile)
 abbrev pub rows_text : List Tree → List ℕ

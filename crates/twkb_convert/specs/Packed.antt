@@ -1,5 +1,5 @@
 -- What a table is packed to.
-use Rattle.std.specs.Prelude.{◌≡◌, ℕ, ◌-◌, ◌^◌, ◌<◌, ◌≤◌, ◌*◌, ◌⊎◌, List, [], ◌++◌, length, Option, IfSome, ⊤}
+use Rattle.std.specs.Prelude.{◌≡◌, ℕ, ◌-◌, ◌^◌, ◌<◌, ◌≤◌, ◌*◌, ◌⊎◌, List, [], ◌++◌, length, Option, ⊤}
 use Rattle.std.specs.Io.KnownBytes.{Appends, IsAtEnd}
 use Rattle.twkb_io.specs.Taps.{bytes_given, device_of, failures_of}
 use Rattle.twkb_io.specs.declared.tap.Tap.{Tap}
@@ -8,13 +8,13 @@ use Rattle.twkb_tree.specs.Limits.{Allowance}
 use Rattle.twkb_flat.specs.declared.work.Work.{Work}
 use Rattle.twkb_grammar.specs.Written.{canonical_stream}
 use Rattle.twkb_grammar.specs.declared.style.Style.{Style}
-use Rattle.twkb_table.specs.Record.{Record}
-use Rattle.twkb_table.specs.Named.{Named}
-use Rattle.twkb_table.specs.CsvRecords.{AreRecordsOf}
 use Rattle.twkb_convert.specs.CountedWork.{IsWorkOf}
 use Rattle.twkb_convert.specs.Devices.{Changes, DevicesTell}
 use Rattle.twkb_convert.specs.Outputs.{AtMostOneCut}
-use Rattle.twkb_convert.specs.RefusedRows.{HasTooMany, IsRefusedAt, MayBeWritten, NamesAll}
+use Rattle.twkb_convert.specs.Fronts.{FrontOfBlobs}
+use Rattle.twkb_convert.specs.RefusedRows.{HasTooMany, IsRefusedAt, NamesAll, WholeTable}
+use Rattle.twkb_convert.specs.Sending.{ExplainsWhy}
+use Rattle.twkb_convert.specs.declared.obstacle.TableObstacle.{TableObstacle}
 use Rattle.twkb_convert.specs.declared.report.Cause.{Cause}
 use Rattle.twkb_convert.specs.declared.report.Cause.TheVariants as cause
 use Rattle.twkb_convert.specs.declared.report.ConvertFault.{ConvertFault}
@@ -24,14 +24,10 @@ use Rattle.twkb_convert.specs.declared.report.Report.{Report}
 -- device failed, and the reader is at its end.
 pub record Packed {R W : Type 0} (style : Style) (l : Allowance) (remaining : R → Option (List ℕ)) (contents : W → Option (List ℕ)) (reader : Tap R) (writer : Tap W)
     (report : Report) (read : Tap R) (written : Tap W) : Type 0 where
-  pub records : List Record
-  pub geometries : List Tree
-  pub all : IfSome (remaining (device_of reader)) (λ text. AreRecordsOf text records)
-  pub few : length records < 2 ^ 32
-  pub named : Named l records geometries
-  pub appends : Appends (contents (device_of writer)) (contents (device_of written)) (canonical_stream style geometries)
-  pub count : report.geometries ≡ length geometries
-  pub bytes : report.bytes ≡ length (canonical_stream style geometries)
+  pub table : WholeTable l (remaining (device_of reader))
+  pub appends : Appends (contents (device_of writer)) (contents (device_of written)) (canonical_stream style table.geometries)
+  pub count : report.geometries ≡ length table.geometries
+  pub bytes : report.bytes ≡ length (canonical_stream style table.geometries)
   pub end : IsAtEnd (remaining (device_of read))
   pub reads : failures_of read ≡ failures_of reader
   pub writes : failures_of written ≡ failures_of writer
@@ -40,7 +36,7 @@ pub record Packed {R W : Type 0} (style : Style) (l : Allowance) (remaining : R 
 pub record PackedWith {R W : Type 0} (style : Style) (l : Allowance) (remaining : R → Option (List ℕ)) (contents : W → Option (List ℕ)) (reader : Tap R) (writer : Tap W)
     (report : Report) (work : Work) (read : Tap R) (written : Tap W) : Type 0 where
   pub packed : Packed style l remaining contents reader writer report read written
-  pub work_of : IsWorkOf packed.geometries work
+  pub work_of : IsWorkOf packed.table.geometries work
   pub point_reads : work.point_reads ≤ 2 * work.points
   pub node_reads : work.node_reads ≤ 3 * work.nodes
 
@@ -59,18 +55,19 @@ ExplainsPackingCause style l told given cause.Memory whole later front = (later 
 ExplainsPackingCause style l told given cause.TooLong whole later front =
     (2 ^ 62 < length (canonical_stream style (whole ++ later))) ⊎ ((later ≡ []) × (front ≡ []) × NamesAll l told whole × (2 ^ 64 - 1 ≤ given))
 
+-- what the obstacle says, where nothing had been sent before, this cause says too, whatever was written
+abbrev pub ExplainsAs : TableObstacle → Cause → Type 0
+ExplainsAs why answer = (style : Style) (l : Allowance) (told : Option (List ℕ)) (given sent : ℕ) (whole later : List Tree) (front : List ℕ) → sent ≡ 0
+    → ExplainsWhy style l told given why sent whole later front → ExplainsPackingCause style l told given answer whole later front
+
 -- Geometries of the reader's text may be written: the canonical blobs of the first ones were, and a front of the next one's.
 pub record StoppedPacking {R W : Type 0} (style : Style) (l : Allowance) (remaining : R → Option (List ℕ)) (contents : W → Option (List ℕ)) (reader : Tap R) (writer : Tap W)
     (fault : ConvertFault) (read : Tap R) (written : Tap W) : Type 0 where
-  pub whole : List Tree
-  pub later : List Tree
-  pub front : List ℕ
-  pub rest : List ℕ
-  pub ready : MayBeWritten l (remaining (device_of reader)) (whole ++ later)
-  pub cut : canonical_stream style later ≡ front ++ rest
-  pub one : AtMostOneCut later rest
-  pub appends : Appends (contents (device_of writer)) (contents (device_of written)) (canonical_stream style whole ++ front)
-  pub sent : fault.sent ≡ length (canonical_stream style whole ++ front)
-  pub done : fault.done ≡ length whole
-  pub explains : ExplainsPackingCause style l (remaining (device_of reader)) (bytes_given read) fault.cause whole later front
+  pub bytes : List ℕ
+  pub part : FrontOfBlobs style l (remaining (device_of reader)) bytes
+  pub one : AtMostOneCut part.later part.rest
+  pub appends : Appends (contents (device_of writer)) (contents (device_of written)) bytes
+  pub sent : fault.sent ≡ length bytes
+  pub done : fault.done ≡ length part.whole
+  pub explains : ExplainsPackingCause style l (remaining (device_of reader)) (bytes_given read) fault.cause part.whole part.later part.front
   pub devices : DevicesTell Changes reader writer fault.cause read written

@@ -1,5 +1,5 @@
 -- Where and why a table is refused, and which geometries may be written before.
-use Rattle.std.specs.Prelude.{◌≡◌, ℕ, ◌+◌, ◌^◌, ◌⊎◌, List, [], ◌∷◌, ◌++◌, length, Option, IfSome}
+use Rattle.std.specs.Prelude.{◌≡◌, ℕ, ◌+◌, ◌^◌, ◌<◌, ◌⊎◌, List, [], ◌∷◌, ◌++◌, length, Option, Some, IfSome}
 use Rattle.twkb_tree.specs.Tree.{Tree}
 use Rattle.twkb_tree.specs.Limits.{Allowance}
 use Rattle.twkb_table.specs.Record.{Record}
@@ -16,6 +16,10 @@ pub record IsRefusedAt (l : Allowance) (told : Option (List ℕ)) (number : ℕ)
   pub begins : IfSome told (λ text. BeginWith text seen)
   pub none : seen ≡ [] → IfSome told (λ text. AreRecordsOf text [])
   pub fault : AreComplete l seen number reason gs
+
+-- the text has these records, and is refused at this one
+abbrev pub IsRefusedText : Allowance → List ℕ → List Record → ℕ → RowReason → List Tree → Type 0
+IsRefusedText l text records number reason gs = AreRecordsOf text records × IsRefusedAt l (Some text) number reason gs
 
 -- The text begins with 2 ^ 32 records. Those before the last name geometries, and these are all of them but the last.
 pub record HasTooMany (l : Allowance) (told : Option (List ℕ)) (gs : List Tree) : Type 0 where
@@ -35,6 +39,14 @@ pub record MayBeWritten (l : Allowance) (told : Option (List ℕ)) (gs : List Tr
   pub begins : IfSome told (λ text. BeginWith text records)
   pub named : NameSoFar l records geometries
   pub ready : (gs ≡ all_but_last geometries) ⊎ (IfSome told (λ text. AreRecordsOf text records) × (gs ≡ geometries))
+
+-- The records of the text are all read, are fewer than 2 ^ 32, and name geometries.
+pub record WholeTable (l : Allowance) (told : Option (List ℕ)) : Type 0 where
+  pub records : List Record
+  pub geometries : List Tree
+  pub all : IfSome told (λ text. AreRecordsOf text records)
+  pub few : length records < 2 ^ 32
+  pub named : Named l records geometries
 
 -- the records of the text are all read, and name these geometries
 abbrev pub NamesAll : Allowance → Option (List ℕ) → List Tree → Type 0

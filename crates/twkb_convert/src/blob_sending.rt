@@ -4,14 +4,15 @@ ghost use Rattle.twkb_io.specs.Outputs as Outputs;
 ghost use Rattle.twkb_io.specs.Taps.{has_unflushed};
 ghost use Rattle.twkb_blob.specs.Readers.{has_ended, is_spent};
 ghost use Rattle.twkb_convert.specs.BlobReading.{is_input_spent};
-ghost use Rattle.twkb_convert.specs.BlobSending.{CutBlobs, CutListing, EndsBlobs, Follows, IsEnded, SentAllBlobs, SentBlob, SentListing, StopsBlob, StopsRead, UnlessOutput};
+ghost use Rattle.twkb_convert.specs.Listings.{blobs_text, listing_text};
+ghost use Rattle.twkb_convert.specs.BlobSending.{CutText, EndsBlobs, Follows, IsEnded, SentBlob, SentText, StopsBlob, StopsRead, UnlessOutput};
 
 use crate::blob_text::next_text;
-use crate::halt::{Halt, Obstacle};
 use crate::listing::{Listing, first_text};
+use crate::obstacle::{StreamObstacle, Unfinished};
 use std::alloc::Global;
 use std::io::{Read, Write};
-use twkb_blob::Reader;
+use twkb_blob::{Reader, Spans};
 use twkb_flat::Flat;
 use twkb_io::{Output, Sink};
 
@@ -21,37 +22,37 @@ pub(crate) fn send_listing_and_flush<R: Read, W: Write>(
     alloc: Global,
     reader: &mut Reader<'_, R>,
     output: &mut Output<'_, W>,
-) -> Result<u64, Halt>
+) -> Result<u64, Unfinished<StreamObstacle>>
     requires reader { is_spent reader.old ≡ false }
     requires going_on { has_ended reader.old ≡ false }
     requires input { is_input_spent reader.old ≡ false }
     requires output { Outputs.is_spent output.old ≡ false }
-    ensures ok { IfOk result (λ done. SentListing what W.contents reader.old output.old output.new done) }
+    ensures ok { IfOk result (λ done. SentText (listing_text what) W.contents reader.old output.old output.new done) }
     ensures unfailed { IfOk result (λ done. Follows reader.old reader.new false × IsEnded R.remaining reader.old reader.new) }
-    ensures err { IfErr result (λ halt. CutListing what W.contents reader.old output.old reader.new output.new halt) }
-    ensures stops { IfErr result (λ halt. StopsRead reader.old halt.obstacle reader.new) }
+    ensures err { IfErr result (λ stop. CutText (listing_text what) W.contents reader.old output.old reader.new output.new stop) }
+    ensures stops { IfErr result (λ stop. StopsRead reader.old stop.why reader.new) }
     ensures flushed { OnOk result (has_unflushed (Outputs.output_tap output.new).now ≡ false) }
-    ensures stop_flushed { IfErr result (λ halt. UnlessOutput halt.obstacle (has_unflushed (Outputs.output_tap output.new).now ≡ false)) }
+    ensures stop_flushed { IfErr result (λ stop. UnlessOutput stop.why (has_unflushed (Outputs.output_tap output.new).now ≡ false)) }
 {
     let done = match send_listing(what, alloc, reader, output) {
         Ok(done) => done,
-        Err(halt) => {
-            if let Obstacle::Output(_) = halt.obstacle {
-                return Err(halt);
+        Err(stop) => {
+            if let StreamObstacle::Output(_) = stop.why {
+                return Err(stop);
             }
             if let Err(fault) = output.flush() {
-                return Err(Halt {
-                    done: halt.done,
-                    obstacle: Obstacle::Output(fault),
+                return Err(Unfinished {
+                    done: stop.done,
+                    why: StreamObstacle::Output(fault),
                 });
             }
-            return Err(halt);
+            return Err(stop);
         }
     };
     if let Err(fault) = output.flush() {
-        return Err(Halt {
+        return Err(Unfinished {
             done,
-            obstacle: Obstacle::Output(fault),
+            why: StreamObstacle::Output(fault),
         });
     }
     Ok(done)
@@ -63,21 +64,21 @@ fn send_listing<R: Read, W: Write>(
     alloc: Global,
     reader: &mut Reader<'_, R>,
     output: &mut Output<'_, W>,
-) -> Result<u64, Halt>
+) -> Result<u64, Unfinished<StreamObstacle>>
     requires reader { is_spent reader.old ≡ false }
     requires going_on { has_ended reader.old ≡ false }
     requires input { is_input_spent reader.old ≡ false }
     requires output { Outputs.is_spent output.old ≡ false }
-    ensures ok { IfOk result (λ done. SentListing what W.contents reader.old output.old output.new done) }
+    ensures ok { IfOk result (λ done. SentText (listing_text what) W.contents reader.old output.old output.new done) }
     ensures unfailed { IfOk result (λ done. Follows reader.old reader.new false × IsEnded R.remaining reader.old reader.new) }
-    ensures err { IfErr result (λ halt. CutListing what W.contents reader.old output.old reader.new output.new halt) }
-    ensures stops { IfErr result (λ halt. StopsRead reader.old halt.obstacle reader.new) }
+    ensures err { IfErr result (λ stop. CutText (listing_text what) W.contents reader.old output.old reader.new output.new stop) }
+    ensures stops { IfErr result (λ stop. StopsRead reader.old stop.why reader.new) }
 {
     match output.put(first_text(what)) {
         Ok(()) => send_blobs(what, alloc, reader, output),
-        Err(fault) => Err(Halt {
+        Err(fault) => Err(Unfinished {
             done: 0,
-            obstacle: Obstacle::Output(fault),
+            why: StreamObstacle::Output(fault),
         }),
     }
 }
@@ -88,25 +89,28 @@ fn send_blobs<R: Read, W: Write>(
     alloc: Global,
     reader: &mut Reader<'_, R>,
     output: &mut Output<'_, W>,
-) -> Result<u64, Halt>
+) -> Result<u64, Unfinished<StreamObstacle>>
     requires reader { is_spent reader.old ≡ false }
     requires going_on { has_ended reader.old ≡ false }
     requires input { is_input_spent reader.old ≡ false }
     requires output { Outputs.is_spent output.old ≡ false }
-    ensures ok { IfOk result (λ done. SentAllBlobs what W.contents reader.old output.old output.new done) }
+    ensures ok { IfOk result (λ done. SentText (blobs_text what) W.contents reader.old output.old output.new done) }
     ensures unfailed { IfOk result (λ done. Follows reader.old reader.new false × IsEnded R.remaining reader.old reader.new) }
-    ensures err { IfErr result (λ halt. CutBlobs what W.contents reader.old output.old reader.new output.new halt) }
-    ensures stops { IfErr result (λ halt. StopsRead reader.old halt.obstacle reader.new) }
+    ensures err { IfErr result (λ stop. CutText (blobs_text what) W.contents reader.old output.old reader.new output.new stop) }
+    ensures stops { IfErr result (λ stop. StopsRead reader.old stop.why reader.new) }
 {
     twkb_grammar::laws::some_byte();
     let mut form = Flat::new(alloc);
+    let mut spans = Spans::new(alloc);
     let mut text = Vec::new(alloc);
     let mut done = 0;
     loop {
-        match send_blob(what, alloc, reader, &mut form, &mut text, output) {
+        match send_blob(
+            what, alloc, reader, &mut form, &mut spans, &mut text, output,
+        ) {
             Ok(true) => done += 1,
             Ok(false) => return Ok(done),
-            Err(obstacle) => return Err(Halt { done, obstacle }),
+            Err(why) => return Err(Unfinished { done, why }),
         }
     }
 }
@@ -117,9 +121,10 @@ fn send_blob<R: Read, W: Write>(
     alloc: Global,
     reader: &mut Reader<'_, R>,
     form: &mut Flat,
+    spans: &mut Spans,
     text: &mut Vec<u8>,
     output: &mut Output<'_, W>,
-) -> Result<bool, Obstacle>
+) -> Result<bool, StreamObstacle>
     requires reader { is_spent reader.old ≡ false }
     requires going_on { has_ended reader.old ≡ false }
     requires input { is_input_spent reader.old ≡ false }
@@ -130,14 +135,16 @@ fn send_blob<R: Read, W: Write>(
     ensures input { IfOk result (λ found. found ≡ true → is_input_spent reader.new ≡ false) }
     ensures end { IfOk result (λ found. found ≡ false → EndsBlobs R.remaining reader.old reader.new × (output.new ≡ output.old)) }
     ensures follows { IfOk result (λ found. Follows reader.old reader.new false) }
-    ensures err { IfErr result (λ obstacle. StopsBlob what W.contents reader.old output.old obstacle reader.new output.new) }
-    ensures stops { IfErr result (λ obstacle. StopsRead reader.old obstacle reader.new) }
+    ensures err { IfErr result (λ why. StopsBlob what W.contents reader.old output.old why reader.new output.new) }
+    ensures stops { IfErr result (λ why. StopsRead reader.old why reader.new) }
 {
-    if !next_text(what, alloc, reader, form, text)? {
-        return Ok(false);
+    match next_text(what, alloc, reader, form, spans, text) {
+        Ok(true) => {}
+        Ok(false) => return Ok(false),
+        Err(fault) => return Err(StreamObstacle::Stream(fault)),
     }
     if let Err(fault) = output.put(text.as_slice()) {
-        return Err(Obstacle::Output(fault));
+        return Err(StreamObstacle::Output(fault));
     }
     Ok(true)
 }

@@ -2,26 +2,26 @@
 ghost use Rattle.std.specs.Prelude.{◌≡◌, false, true, IfOk, IfErr};
 ghost use Rattle.twkb_blob.specs.Readers.{has_ended, is_spent};
 ghost use Rattle.twkb_convert.specs.BlobReading.{is_input_spent};
-ghost use Rattle.twkb_convert.specs.BlobSending.{EndsBlobs, Follows, GivesText, StopsRead, StopsText};
+ghost use Rattle.twkb_convert.specs.BlobSending.{EndsBlobs, Follows, GivesText, StopsText, is_read_stop};
 
-use crate::halt::Obstacle;
 use crate::listing::Listing;
 use crate::span_line::put_lines;
 use std::alloc::Global;
 use std::io::Read;
-use twkb_blob::Reader;
+use twkb_blob::{BlobFault, Reader, Spans};
 use twkb_flat::{Flat, Work};
 use twkb_table::put_flat_rows;
 
-/// Reads the next blob, if there is one, and makes the text what is written of it. The form is room
-/// for its rows.
+/// Reads the next blob, if there is one, and makes the text what is written of it. Form and list are
+/// room for its rows and spans.
 pub(crate) fn next_text<R: Read>(
     what: Listing,
     alloc: Global,
     reader: &mut Reader<'_, R>,
     form: &mut Flat,
+    spans: &mut Spans,
     text: &mut Vec<u8>,
-) -> Result<bool, Obstacle>
+) -> Result<bool, BlobFault>
     requires reader { is_spent reader.old ≡ false }
     requires going_on { has_ended reader.old ≡ false }
     requires input { is_input_spent reader.old ≡ false }
@@ -31,12 +31,12 @@ pub(crate) fn next_text<R: Read>(
     ensures input { IfOk result (λ found. found ≡ true → is_input_spent reader.new ≡ false) }
     ensures end { IfOk result (λ found. found ≡ false → EndsBlobs R.remaining reader.old reader.new) }
     ensures follows { IfOk result (λ found. Follows reader.old reader.new false) }
-    ensures err { IfErr result (λ obstacle. StopsText reader.old obstacle reader.new) }
-    ensures stops { IfErr result (λ obstacle. StopsRead reader.old obstacle reader.new) }
+    ensures err { IfErr result (λ fault. StopsText reader.old fault reader.new) }
+    ensures stops { IfErr result (λ fault. Follows reader.old reader.new (is_read_stop fault)) }
 {
     match what {
         Listing::Table => next_rows(alloc, reader, form, text),
-        Listing::Headers => next_lines(alloc, reader, text),
+        Listing::Headers => next_lines(alloc, reader, form, spans, text),
     }
 }
 
@@ -46,7 +46,7 @@ fn next_rows<R: Read>(
     reader: &mut Reader<'_, R>,
     form: &mut Flat,
     text: &mut Vec<u8>,
-) -> Result<bool, Obstacle>
+) -> Result<bool, BlobFault>
     requires reader { is_spent reader.old ≡ false }
     requires going_on { has_ended reader.old ≡ false }
     requires input { is_input_spent reader.old ≡ false }
@@ -56,17 +56,17 @@ fn next_rows<R: Read>(
     ensures input { IfOk result (λ found. found ≡ true → is_input_spent reader.new ≡ false) }
     ensures end { IfOk result (λ found. found ≡ false → EndsBlobs R.remaining reader.old reader.new) }
     ensures follows { IfOk result (λ found. Follows reader.old reader.new false) }
-    ensures err { IfErr result (λ obstacle. StopsText reader.old obstacle reader.new) }
-    ensures stops { IfErr result (λ obstacle. StopsRead reader.old obstacle reader.new) }
+    ensures err { IfErr result (λ fault. StopsText reader.old fault reader.new) }
+    ensures stops { IfErr result (λ fault. Follows reader.old reader.new (is_read_stop fault)) }
 {
     match reader.next_flat(alloc, form) {
         Ok(true) => {}
         Ok(false) => return Ok(false),
-        Err(fault) => return Err(Obstacle::Stream(fault)),
+        Err(fault) => return Err(fault),
     }
     text.clear();
     if put_flat_rows(form, &mut Work::new(), text).is_err() {
-        return Err(Obstacle::Memory);
+        return Err(BlobFault::Memory);
     }
     Ok(true)
 }
@@ -75,8 +75,10 @@ fn next_rows<R: Read>(
 fn next_lines<R: Read>(
     alloc: Global,
     reader: &mut Reader<'_, R>,
+    form: &mut Flat,
+    spans: &mut Spans,
     text: &mut Vec<u8>,
-) -> Result<bool, Obstacle>
+) -> Result<bool, BlobFault>
     requires reader { is_spent reader.old ≡ false }
     requires going_on { has_ended reader.old ≡ false }
     requires input { is_input_spent reader.old ≡ false }
@@ -86,17 +88,17 @@ fn next_lines<R: Read>(
     ensures input { IfOk result (λ found. found ≡ true → is_input_spent reader.new ≡ false) }
     ensures end { IfOk result (λ found. found ≡ false → EndsBlobs R.remaining reader.old reader.new) }
     ensures follows { IfOk result (λ found. Follows reader.old reader.new false) }
-    ensures err { IfErr result (λ obstacle. StopsText reader.old obstacle reader.new) }
-    ensures stops { IfErr result (λ obstacle. StopsRead reader.old obstacle reader.new) }
+    ensures err { IfErr result (λ fault. StopsText reader.old fault reader.new) }
+    ensures stops { IfErr result (λ fault. Follows reader.old reader.new (is_read_stop fault)) }
 {
-    let spans = match reader.next_spans(alloc) {
-        Ok(Some(spans)) => spans,
-        Ok(None) => return Ok(false),
-        Err(fault) => return Err(Obstacle::Stream(fault)),
-    };
+    match reader.next_spans(alloc, form, spans) {
+        Ok(true) => {}
+        Ok(false) => return Ok(false),
+        Err(fault) => return Err(fault),
+    }
     text.clear();
     if put_lines(spans.as_slice(), text).is_err() {
-        return Err(Obstacle::Memory);
+        return Err(BlobFault::Memory);
     }
     Ok(true)
 }

@@ -7,7 +7,7 @@ ghost use Rattle.twkb_convert.specs.Draining.{Drains};
 use std::io::Read;
 use twkb_io::Tap;
 
-/// How many bytes one read asks for.
+// How many bytes one read asks for.
 const PIECE: usize = 64;
 
 /// Why a reader was not read to its end.

@@ -1,5 +1,6 @@
 //! Laws of both conversions, each the contract of a function that does nothing.
 ghost use Rattle.std.specs.Prelude.{◌≡◌, ◌++◌, ◌∷◌, [], ℕ, List, length, Some};
+ghost use Rattle.twkb_io.specs.Copies.{BeginsWith};
 ghost use Rattle.twkb_tree.specs.Tree.{Tree};
 ghost use Rattle.twkb_tree.specs.Limits.{Allowance, IsAllowance};
 ghost use Rattle.twkb_grammar.specs.Bits.{AreBytes};
@@ -7,30 +8,31 @@ ghost use Rattle.twkb_grammar.specs.Blob.{Stream};
 ghost use Rattle.twkb_grammar.specs.Written.{canonical_stream};
 ghost use Rattle.twkb_grammar.specs.declared.style.Style.{Style};
 ghost use Rattle.twkb_table.specs.Record.{Record, header};
-ghost use Rattle.twkb_table.specs.Named.{Named, NamesNone};
+ghost use Rattle.twkb_table.specs.Named.{NamesNone};
 ghost use Rattle.twkb_table.specs.Parts.{BeginAtRoot};
 ghost use Rattle.twkb_table.specs.RowFault.{AreComplete};
 ghost use Rattle.twkb_table.specs.declared.reason.RowReason.{RowReason};
 ghost use Rattle.twkb_table.specs.CsvRecords.{AreRecordsOf};
 ghost use Rattle.twkb_table.specs.Text.{csvtext};
 ghost use Rattle.twkb_blob.specs.declared.spans.Located.{Located};
+ghost use Rattle.twkb_convert.specs.Fronts.{FrontOfBlobs};
 ghost use Rattle.twkb_convert.specs.LocatedBlobs.{LocatedStream, ShowTo, geometries_of, lines_text};
-ghost use Rattle.twkb_convert.specs.Outputs.{PackTo, UnpackTo, table_text};
-ghost use Rattle.twkb_convert.specs.Parts.{all_moved};
-ghost use Rattle.twkb_convert.specs.RefusedRows.{IsRefusedAt, MayBeWritten};
+ghost use Rattle.twkb_convert.specs.Outputs.{IsTable, PackTextTo, PackTo, UnpackTo, table_text};
+ghost use Rattle.twkb_convert.specs.Parts.{AreMovedLines, PackApart, RowsName, all_moved};
+ghost use Rattle.twkb_convert.specs.RefusedRows.{IsRefusedText};
 
 /// Where the records of a text name geometries, the reader of `csv` reads the same records from
 /// what the stream is unpacked to that they are packed to, in either style.
 pub fn unpack_of_pack()
-    ensures { (style : Style) (l : Allowance) (table : List ℕ) (records : List Record) (gs : List Tree) (bytes text : List ℕ) → IsAllowance l
-        → AreRecordsOf table records → Named l records gs → PackTo style l records bytes → UnpackTo l bytes text → AreRecordsOf text records }
+    ensures { (style : Style) (l : Allowance) (table bytes text : List ℕ) (records : List Record) → IsAllowance l
+        → IsTable l table records → PackTo style l records bytes → UnpackTo l bytes text → AreRecordsOf text records }
 {}
 
 /// Where bytes are a stream of geometries, the records of what it is unpacked to are packed to the
 /// canonical stream of these geometries.
 pub fn pack_of_unpack()
-    ensures { (style : Style) (l : Allowance) (bytes : List ℕ) (gs : List Tree) (text : List ℕ) (records : List Record) (packed : List ℕ) → IsAllowance l
-        → Stream l bytes gs → UnpackTo l bytes text → AreRecordsOf text records → PackTo style l records packed → packed ≡ canonical_stream style gs }
+    ensures { (style : Style) (l : Allowance) (bytes text packed : List ℕ) (gs : List Tree) → IsAllowance l
+        → Stream l bytes gs → UnpackTo l bytes text → PackTextTo style l text packed → packed ≡ canonical_stream style gs }
 {}
 
 /// Any records are packed to one output in a style.
@@ -43,23 +45,23 @@ pub fn one_packed_output()
 /// refused, with the geometries that this leaves complete; so the records name no geometries.
 pub fn refused_table()
     ensures complete { (l : Allowance) (text : List ℕ) (records : List Record) (number : ℕ) (reason : RowReason) (gs : List Tree)
-        → AreRecordsOf text records → IsRefusedAt l (Some text) number reason gs → AreComplete l records number reason gs }
+        → IsRefusedText l text records number reason gs → AreComplete l records number reason gs }
     ensures none { (l : Allowance) (text : List ℕ) (records : List Record) (number : ℕ) (reason : RowReason) (gs : List Tree)
-        → AreRecordsOf text records → IsRefusedAt l (Some text) number reason gs → NamesNone l records }
+        → IsRefusedText l text records number reason gs → NamesNone l records }
 {}
 
 /// The blobs of the geometries that a refused record leaves complete, as a stop of `pack` tells them,
 /// are all that the records of the text are packed to.
 pub fn refused_output()
     ensures { (style : Style) (l : Allowance) (text : List ℕ) (records : List Record) (number : ℕ) (reason : RowReason) (gs : List Tree)
-        → AreRecordsOf text records → IsRefusedAt l (Some text) number reason gs → PackTo style l records (canonical_stream style gs) }
+        → IsRefusedText l text records number reason gs → PackTo style l records (canonical_stream style gs) }
 {}
 
-/// What a stop of `pack` says was written is a front of what the records of the text are packed
-/// to: the blobs of the first of the geometries that may be written, and a front of the next one's.
+/// What a stop of `pack` says was written is a front of what the text is packed to: the blobs of the
+/// first of the geometries that may be written, and a front of the next one's.
 pub fn pack_front()
-    ensures { (style : Style) (l : Allowance) (text : List ℕ) (records : List Record) (whole later : List Tree) (front rest bytes : List ℕ) → IsAllowance l → AreRecordsOf text records
-        → MayBeWritten l (Some text) (whole ++ later) → canonical_stream style later ≡ front ++ rest → PackTo style l records bytes → (more : List ℕ) × (bytes ≡ (canonical_stream style whole ++ front) ++ more) }
+    ensures { (style : Style) (l : Allowance) (text written bytes : List ℕ) → IsAllowance l
+        → FrontOfBlobs style l (Some text) written → PackTextTo style l text bytes → BeginsWith (Some bytes) written }
 {}
 
 /// Any bytes are unpacked to one text.
@@ -71,8 +73,8 @@ pub fn one_unpacked_output()
 /// What a stop of `unpack` says was written is a front of what the bytes are unpacked to: a front
 /// of the table of the blobs that they begin with.
 pub fn unpack_front()
-    ensures { (l : Allowance) (all bytes rest : List ℕ) (gs : List Tree) (text written left : List ℕ) → all ≡ bytes ++ rest → Stream l bytes gs
-        → table_text gs ≡ written ++ left → UnpackTo l all text → (more : List ℕ) × (text ≡ written ++ more) }
+    ensures { (l : Allowance) (all bytes text written : List ℕ) (gs : List Tree) → BeginsWith (Some all) bytes → Stream l bytes gs
+        → BeginsWith (Some (table_text gs)) written → UnpackTo l all text → BeginsWith (Some text) written }
 {}
 
 /// A stream tells one list of its blobs with their spans.
@@ -90,8 +92,8 @@ pub fn one_shown_output()
 /// What a stop of `show` says was written is a front of what the bytes are shown by: a front of the
 /// lines of the blobs that they begin with.
 pub fn show_front()
-    ensures { (l : Allowance) (all bytes rest : List ℕ) (bs : List Located) (text written left : List ℕ) → all ≡ bytes ++ rest → LocatedStream l 0 bytes bs
-        → lines_text bs ≡ written ++ left → ShowTo l all text → (more : List ℕ) × (text ≡ written ++ more) }
+    ensures { (l : Allowance) (all bytes text written : List ℕ) (bs : List Located) → BeginsWith (Some all) bytes → LocatedStream l 0 bytes bs
+        → BeginsWith (Some (lines_text bs)) written → ShowTo l all text → BeginsWith (Some text) written }
 {}
 
 // ---- parts, converted apart
@@ -99,10 +101,8 @@ pub fn show_front()
 /// Where two tables name geometries, the rows of both, one after the other below one header, are
 /// packed to what each table is packed to, joined. So is a table that is cut before a row of depth 0.
 pub fn packed_parts()
-    ensures joined { (style : Style) (l : Allowance) (rows more : List Record) (gs hs : List Tree) (a b : List ℕ) → IsAllowance l → Named l (header ∷ rows) gs → Named l (header ∷ more) hs
-        → PackTo style l (header ∷ rows) a → PackTo style l (header ∷ more) b → PackTo style l (header ∷ (rows ++ more)) (a ++ b) }
-    ensures cut { (style : Style) (l : Allowance) (rows more : List Record) (ks : List Tree) (a b : List ℕ) → IsAllowance l → BeginAtRoot more → Named l (header ∷ (rows ++ more)) ks
-        → PackTo style l (header ∷ rows) a → PackTo style l (header ∷ more) b → PackTo style l (header ∷ (rows ++ more)) (a ++ b) }
+    ensures joined { (style : Style) (l : Allowance) (rows more : List Record) → IsAllowance l → RowsName l rows → RowsName l more → PackApart style l rows more }
+    ensures cut { (style : Style) (l : Allowance) (rows more : List Record) → IsAllowance l → BeginAtRoot more → RowsName l (rows ++ more) → PackApart style l rows more }
 {}
 
 /// A stream with other bytes behind it is unpacked to its own table and then the rows of theirs:
@@ -116,6 +116,6 @@ pub fn unpacked_parts()
 /// by the length of the stream.
 pub fn shown_parts()
     ensures blobs { (l : Allowance) (a b : List ℕ) (bs cs : List Located) → LocatedStream l 0 a bs → LocatedStream l 0 b cs → LocatedStream l 0 (a ++ b) (bs ++ all_moved (length a) cs) }
-    ensures text { (l : Allowance) (a b : List ℕ) (gs : List Tree) (first second : List ℕ) → Stream l a gs
-        → ShowTo l a first → ShowTo l b second → (cs : List Located) × (second ≡ lines_text cs) × ShowTo l (a ++ b) (first ++ lines_text (all_moved (length a) cs)) }
+    ensures text { (l : Allowance) (a b : List ℕ) (gs : List Tree) (first second : List ℕ) → Stream l a gs → ShowTo l a first
+        → ShowTo l b second → (later : List ℕ) × AreMovedLines (length a) second later × ShowTo l (a ++ b) (first ++ later) }
 {}

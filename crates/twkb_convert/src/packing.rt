@@ -1,16 +1,14 @@
 //! From a table to a stream.
-ghost use Rattle.std.specs.Prelude.{◌≡◌, ◌<◌, ◌^◌, ◌⊎◌, ℕ, List, Option, IfOk, IfErr, true};
-ghost use Rattle.twkb_tree.specs.Tree.{Tree};
-ghost use Rattle.twkb_tree.specs.Limits.{Allowance};
-ghost use Rattle.twkb_grammar.specs.declared.style.Style.{Style};
+ghost use Rattle.std.specs.Prelude.{◌≡◌, ◌<◌, ◌^◌, ◌⊎◌, IfOk, IfErr, true};
 ghost use Rattle.twkb_grammar.specs.declared.style.Style.TheVariants.{Full};
 ghost use Rattle.twkb_convert.specs.Devices.{Changes, IsDeviceCause};
 ghost use Rattle.twkb_convert.specs.Flushing.{IsFlushedButForDevices};
-ghost use Rattle.twkb_convert.specs.Packed.{ExplainsPackingCause, Packed, PackedWith, StoppedPacking};
-ghost use Rattle.twkb_convert.specs.Sending.{ExplainsWhy, is_output, is_write};
+ghost use Rattle.twkb_convert.specs.Packed.{ExplainsAs, Packed, PackedWith, StoppedPacking};
+ghost use Rattle.twkb_convert.specs.Sending.{is_output, is_write};
 
+use crate::obstacle::TableObstacle;
 use crate::report::{Cause, ConvertFault, Report};
-use crate::sending::{Tally, Why};
+use crate::sending::Tally;
 use crate::table_sending::send_table_and_flush;
 use std::alloc::Global;
 use std::io::{Read, Write};
@@ -116,19 +114,19 @@ fn packed(tally: Tally, sent: u64) -> (Report, Work)
 
 // The cause of a stop: a failed write first, and then a failed read.
 #[tactic(auto, using(crate::proofs::PackedLemmas::read_explained))]
-fn packing_cause(why: Why, has_read_failed: bool) -> Cause
+fn packing_cause(why: TableObstacle, has_read_failed: bool) -> Cause
     ensures devices { IsDeviceCause has_read_failed (is_write why) result }
-    ensures explains { (style : Style) (l : Allowance) (told : Option (List ℕ)) (given sent : ℕ) (whole later : List Tree) (front : List ℕ) → sent ≡ 0
-        → ExplainsWhy style l told given why sent whole later front → ExplainsPackingCause style l told given result whole later front }
+    ensures explains { ExplainsAs why result }
     ensures output { is_output why ≡ true → (result ≡ Cause.WriteDevice) ⊎ (result ≡ Cause.ReadDevice) ⊎ (result ≡ Cause.TooLong) }
 {
     match why {
-        Why::Output(OutFault::Write | OutFault::Stuck) => Cause::WriteDevice,
+        TableObstacle::Output(OutFault::Write | OutFault::Stuck) => Cause::WriteDevice,
         _ if has_read_failed => Cause::ReadDevice,
-        Why::Table(TableFault::At { number, reason }) => Cause::Row { number, reason },
-        Why::Table(TableFault::TooManyRecords) => Cause::TooManyRecords,
-        Why::Table(TableFault::Source | TableFault::Memory | TableFault::Spent) => Cause::Memory,
-        Why::Memory => Cause::Memory,
-        Why::Undrained | Why::Output(OutFault::TooLong | OutFault::Spent) => Cause::TooLong,
+        TableObstacle::Table(TableFault::At { number, reason }) => Cause::Row { number, reason },
+        TableObstacle::Table(TableFault::TooManyRecords) => Cause::TooManyRecords,
+        TableObstacle::Table(TableFault::Source | TableFault::Memory | TableFault::Spent) =>
+            Cause::Memory,
+        TableObstacle::Undrained | TableObstacle::Output(OutFault::TooLong | OutFault::Spent) =>
+            Cause::TooLong,
     }
 }

@@ -6,8 +6,8 @@ ghost use Rattle.twkb_convert.specs.Flushing.{IsFlushed};
 ghost use Rattle.twkb_convert.specs.Listed.{Listed, StoppedListing, cause_of_obstacle};
 
 use crate::blob_sending::send_listing_and_flush;
-use crate::halt::Obstacle;
 use crate::listing::Listing;
+use crate::obstacle::StreamObstacle;
 use crate::report::{Cause, ConvertFault, Report};
 use std::alloc::Global;
 use std::io::{Read, Write};
@@ -37,24 +37,24 @@ pub(crate) fn list_stream<R: Read, W: Write>(
             geometries: done,
             bytes: sent,
         }),
-        Err(halt) => Err(ConvertFault {
-            done: halt.done,
+        Err(stop) => Err(ConvertFault {
+            done: stop.done,
             sent,
-            cause: listing_cause(halt.obstacle),
+            cause: listing_cause(stop.why),
         }),
     }
 }
 
 // What an obstacle is to a caller. A call after a refused one is never made.
-fn listing_cause(obstacle: Obstacle) -> Cause
+fn listing_cause(obstacle: StreamObstacle) -> Cause
     ensures { result ≡ cause_of_obstacle obstacle }
 {
     match obstacle {
-        Obstacle::Stream(BlobFault::At { offset, reason }) => Cause::Blob { offset, reason },
-        Obstacle::Stream(BlobFault::Device(InFault::Read)) => Cause::ReadDevice,
-        Obstacle::Output(OutFault::Write | OutFault::Stuck) => Cause::WriteDevice,
-        Obstacle::Stream(BlobFault::Device(_) | BlobFault::Spent) => Cause::TooLong,
-        Obstacle::Memory | Obstacle::Stream(BlobFault::Memory) => Cause::Memory,
-        Obstacle::Output(OutFault::TooLong | OutFault::Spent) => Cause::TooLong,
+        StreamObstacle::Stream(BlobFault::At { offset, reason }) => Cause::Blob { offset, reason },
+        StreamObstacle::Stream(BlobFault::Device(InFault::Read)) => Cause::ReadDevice,
+        StreamObstacle::Output(OutFault::Write | OutFault::Stuck) => Cause::WriteDevice,
+        StreamObstacle::Stream(BlobFault::Device(_) | BlobFault::Spent) => Cause::TooLong,
+        StreamObstacle::Stream(BlobFault::Memory) => Cause::Memory,
+        StreamObstacle::Output(OutFault::TooLong | OutFault::Spent) => Cause::TooLong,
     }
 }

@@ -6,7 +6,8 @@ ghost use Rattle.twkb_io.specs.Outputs.{is_spent, output_tap};
 ghost use Rattle.twkb_convert.specs.Sending.{SendsTable, UnlessOutput};
 
 use crate::draining::{DrainFault, drain};
-use crate::sending::{Stop, Tally, Why, send_table};
+use crate::obstacle::{TableObstacle, Unfinished};
+use crate::sending::{Tally, send_table};
 use std::alloc::Global;
 use std::io::{Read, Write};
 use twkb_io::{Output, Tap};
@@ -21,7 +22,7 @@ pub(crate) fn send_table_and_flush<R: Read, W: Write>(
     limits: Limits,
     style: Style,
     output: &mut Output<'_, W>,
-) -> Result<Tally, Stop>
+) -> Result<Tally, Unfinished<TableObstacle>>
     requires fresh { is_spent output.old ≡ false }
     ensures sends { SendsTable style limits W.contents (R.remaining (device_of tap.old)) (bytes_given tap.new) output.old output.new result }
     ensures end { OnOk result (IsAtEnd (R.remaining (device_of tap.new))) }
@@ -35,18 +36,18 @@ pub(crate) fn send_table_and_flush<R: Read, W: Write>(
                 return Err(stop);
             }
             if let Err(fault) = output.flush() {
-                return Err(Stop {
+                return Err(Unfinished {
                     done: stop.done,
-                    why: Why::Output(fault),
+                    why: TableObstacle::Output(fault),
                 });
             }
             return Err(stop);
         }
     };
     if let Err(fault) = output.flush() {
-        return Err(Stop {
+        return Err(Unfinished {
             done: tally.geometries,
-            why: Why::Output(fault),
+            why: TableObstacle::Output(fault),
         });
     }
     Ok(tally)
@@ -59,7 +60,7 @@ fn send_table_and_drain<R: Read, W: Write>(
     limits: Limits,
     style: Style,
     output: &mut Output<'_, W>,
-) -> Result<Tally, Stop>
+) -> Result<Tally, Unfinished<TableObstacle>>
     requires fresh { is_spent output.old ≡ false }
     ensures sends { SendsTable style limits W.contents (R.remaining (device_of tap.old)) (bytes_given tap.new) output.old output.new result }
     ensures end { OnOk result (IsAtEnd (R.remaining (device_of tap.new))) }
@@ -71,13 +72,13 @@ fn send_table_and_drain<R: Read, W: Write>(
     let done = tally.geometries;
     match drain(tap) {
         Ok(()) => Ok(tally),
-        Err(DrainFault::Read) => Err(Stop {
+        Err(DrainFault::Read) => Err(Unfinished {
             done,
-            why: Why::Table(TableFault::Source),
+            why: TableObstacle::Table(TableFault::Source),
         }),
-        Err(DrainFault::TooLong) => Err(Stop {
+        Err(DrainFault::TooLong) => Err(Unfinished {
             done,
-            why: Why::Undrained,
+            why: TableObstacle::Undrained,
         }),
     }
 }

@@ -9,7 +9,7 @@ use Rattle.twkb_engine.specs.State.{groups_of, step_of}
 use Rattle.twkb_engine.specs.Building.{sums_of, outline_in, refusal, objection_at}
 use Rattle.twkb_engine.specs.declared.builder.Builder.{Builder}
 use Rattle.twkb_engine.proofs.Roles.{has_role}
-use Rattle.twkb_engine.proofs.Keeping.{kept}
+use Rattle.twkb_grammar.proofs.Objections.{kept}
 
 -- what the next item announces stays within the limits, where it is not refused
 pub sums_fit : (b : Builder) (n nodes points : ℕ) → refusal b.limits (sums_of b) (outline_in b) n ≡ None → ((level bytes : ℕ) (r : Role) → step_role level bytes (step_of b.phase) ≡ Some r → nodes ≡ nodes_by r n)

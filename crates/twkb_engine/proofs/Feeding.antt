@@ -1,14 +1,15 @@
 -- An engine takes the bytes of a piece, and comes to the end of the bytes.
-use Rattle.std.proofs.Common.{◌≡◌, ◌⊎◌, inl, inr, ℕ, ◌+◌, ◌-◌, ◌<◌, ◌≤◌, List, [], ◌∷◌, ◌++◌, length, take, drop, get_or, refl, sym, ap, ◌∙◌, subst, append_assoc, true, false, Bool, Result, Ok, Err, OnErr, arith}
-use Rattle.std.proofs.Math.Seq.{take-suc, take-add}
-use Rattle.std.proofs.lemmas.List.{append-nil, length-drop, take_rest}
+use Rattle.std.proofs.Common.{◌≡◌, ◌⊎◌, inl, inr, ℕ, ◌+◌, ◌-◌, ◌<◌, ◌≤◌, List, [], ◌∷◌, ◌++◌, length, take, drop, get_or, sym, ap, ◌∙◌, subst, true, false, Bool, Result, Ok, Err, OnErr, arith}
+use Rattle.std.proofs.Math.Seq.{take-suc}
+use Rattle.std.proofs.lemmas.List.{append-nil}
 use Rattle.twkb_tree.specs.Limits.{Allowance}
 use Rattle.twkb_tree.specs.Rows.{Row}
 use Rattle.twkb_grammar.specs.Blob.{Blob}
-use Rattle.twkb_grammar.specs.Fault.{FirstFault, IsPart}
+use Rattle.twkb_grammar.specs.Fault.{FirstFault}
+use Rattle.twkb_front.proofs.Pieces.{one_front, one_within}
 use Rattle.twkb_engine.specs.State.{IsSpelled}
 use Rattle.twkb_engine.specs.Stops.{reason_of}
-use Rattle.twkb_engine.specs.Parts.{PartIn}
+use Rattle.twkb_engine.specs.Parts.{IsJudged, PartIn}
 use Rattle.twkb_engine.specs.Standing.{StandsAt, IsStep, IsTakenFrom, IsFed, offset_in}
 use Rattle.twkb_engine.specs.declared.engine.Engine.{Engine}
 use Rattle.twkb_engine.specs.declared.phase.Phase.{Phase}
@@ -28,16 +29,6 @@ taken_first limits own bs rest used r rs d same none h =
 -- the first byte was taken
 pub stepped_first : (limits : Allowance) (bs rest : List ℕ) (r : Result Bool Stop) (rs : List Row) (d : Engine) → 0 < length rest → IsStep limits (bs ++ get_or rest 0 0 ∷ []) r rs d → IsStep limits (bs ++ take 1 rest) r rs d
 stepped_first limits bs rest r rs d some h = subst (λ l. IsStep limits (bs ++ l) r rs d) (sym (take-suc rest 0 0 some)) h
-
--- the front of what is left of a piece stands behind what was used
-pub one_front : (bs piece : List ℕ) (used count : ℕ) → (bs ++ take used piece) ++ take count (take (length piece - used) (drop used piece)) ≡ bs ++ take (used + count) piece
-one_front bs piece used count =
-    append_assoc bs (take used piece) (take count (take (length piece - used) (drop used piece)))
-    ∙ ap (λ l. bs ++ l) (ap (λ l. take used piece ++ take count l) (take_rest piece used) ∙ sym (take-add used count piece))
-
--- and stays within it
-pub one_within : (piece : List ℕ) (used count : ℕ) → used ≤ length piece → count ≤ length (take (length piece - used) (drop used piece)) → used + count ≤ length piece
-one_within piece used count within h = omega (arith, within, subst (λ l. count ≤ length l) (take_rest piece used) h, length-drop used piece)
 
 -- what was taken of what is left leads on in the piece
 pub went_on : (own : Allowance) (bs piece : List ℕ) (used : ℕ) (taken : ℕ × Bool) (rs : List Row) (d : Engine) → taken.1 ≡ false
@@ -71,7 +62,7 @@ part_further limits bs piece used within p = record {
   used = used + p.used;
   some = (let some = p.some in omega (arith, some));
   within = one_within piece used p.used within p.within;
-  part = subst (IsPart limits) (one_front bs piece used p.used) p.part;
+  part = subst (IsJudged limits) (one_front bs piece used p.used) p.part;
 }
 
 -- an item that is refused in what is left is refused in the piece
@@ -86,11 +77,6 @@ refused limits own bs piece used (Refused r) rs d same within (count, some, few,
   fault = λ more. subst (λ l. FirstFault l ((bs ++ take (used + count) piece) ++ more) (offset_in d) (reason_of r)) same
       (subst (λ l. FirstFault own (l ++ more) (offset_in d) (reason_of r)) (one_front bs piece used count) (h more));
 }
-
--- a list of length 0
-pub none_of : {A : Type 0} (xs : List A) → length xs ≡ 0 → xs ≡ []
-none_of [] e = refl
-none_of (x ∷ xs) e = absurd (omega arith)
 
 -- what holds bytes waits for more of a number
 pub spelled_by : (p : Phase) (held : List ℕ) → 0 < length held → IsSpelled p ⊎ (held ≡ []) → IsSpelled p

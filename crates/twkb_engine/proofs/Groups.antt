@@ -1,19 +1,18 @@
 -- Members that begin, and the ends of geometries in collections.
-use Rattle.std.proofs.Common.{◌≡◌, ℕ, zero, suc, ◌+◌, ◌-◌, ◌<◌, List, [], ◌∷◌, ◌++◌, length, get_or, true, refl, ap, ◌∙◌, arith}
-use Rattle.std.specs.Prelude.{Ok}
+use Rattle.std.proofs.Common.{◌≡◌, ℕ, zero, suc, ◌+◌, ◌-◌, ◌<◌, List, [], ◌∷◌, ◌++◌, length, get_or, Bool, true, false, refl, sym, subst, arith}
+use Rattle.std.specs.Prelude.{Result, Ok}
 use Rattle.twkb_tree.specs.Rows.{first_id, other_ids}
+use Rattle.twkb_grammar.specs.Fault.{Reason}
 use Rattle.twkb_grammar.specs.Machine as machine
 use Rattle.twkb_grammar.specs.Machine.{ManyGeometries}
 use Rattle.twkb_grammar.specs.PlainReader.{is_exact as exact}
 use Rattle.twkb_outline.specs.Outline as outline
-use Rattle.twkb_outline.specs.Outline.{OnHeader, OnId, members_open, many_counted, outline_past_end}
+use Rattle.twkb_outline.specs.Outline.{OnHeader, members_open, outline_past_end}
 use Rattle.twkb_outline.specs.Growing.{id_in}
 use Rattle.twkb_engine.specs.Names.{ids_of}
 use Rattle.twkb_engine.specs.State.{head_of, group_of, groups_from, groups_of}
+use Rattle.twkb_engine.specs.Stops.{IsPast, Passes}
 use Rattle.twkb_engine.specs.declared.phase.Group.{Group}
-
-less_one : (k : ℕ) → suc k - 1 ≡ k
-less_one k = omega arith
 
 -- the last group is the innermost
 pub groups_pushed : (below : List outline.Group) (gs : List Group) (g : Group) → groups_from below (gs ++ g ∷ []) ≡ group_of g ∷ groups_from below gs
@@ -25,20 +24,28 @@ groups_length below [] = omega arith
 groups_length below (g ∷ gs) = omega (arith, groups_length (group_of g ∷ below) gs)
 
 -- the first member of a collection begins
-pub collection_begun : (items gs : List Group) (g : Group) (count : ℕ) → items ≡ gs ++ g ∷ [] → (count ≡ 0 → ⊥) → g.left ≡ count - 1
-    → (groups_of items, OnHeader) ≡ members_open ManyGeometries (head_of g.head) (groups_of gs) (ids_of g.names) count
-collection_begun items gs g zero e n l = absurd (n refl)
-collection_begun items gs g (suc k) e n l = rw (e, groups_pushed [] gs g, l, less_one k) refl
+pub collection_begun : (items gs : List Group) (g : Group) → items ≡ gs ++ g ∷ [] → (groups_of items, OnHeader) ≡ members_open ManyGeometries (head_of g.head) (groups_of gs) (ids_of g.names) (suc g.left)
+collection_begun items gs g e = rw (e, groups_pushed [] gs g) refl
 
 -- the end of a member that others follow
 pub going_on : (bytes : ℕ) (h : machine.Head) (old rest items : List Group) (f k : Group) → exact h.size (bytes - h.from) ≡ true → old ≡ rest ++ f ∷ [] → items ≡ rest ++ k ∷ []
     → 0 < f.left → k.left ≡ f.left - 1 → head_of k.head ≡ head_of f.head → ids_of k.names ≡ other_ids (ids_of f.names)
     → outline_past_end (exact h.size (bytes - h.from)) bytes (groups_of old) ≡ Ok (groups_of items, OnHeader)
-going_on bytes h old rest items f k x o i z l hd ids = go f.left refl z
-  where
-    go : (n : ℕ) → f.left ≡ n → 0 < n → outline_past_end (exact h.size (bytes - h.from)) bytes (groups_of old) ≡ Ok (groups_of items, OnHeader)
-    go zero e z = absurd (omega arith)
-    go (suc n) e z = rw (x, o, i, groups_pushed [] rest f, groups_pushed [] rest k, e) (let less : k.left ≡ n = l ∙ (ap (λ m. m - 1) e ∙ less_one n) in rw (less, hd, ids) refl)
+going_on bytes h old rest items f k x o i z l hd ids =
+    let one : f.left ≡ suc k.left = omega (arith, z, l) in
+    rw (x, o, i, groups_pushed [] rest f, groups_pushed [] rest k, one, hd, ids) refl
+
+-- such a member's end passes
+pub going_passes : (bytes : ℕ) (h : machine.Head) (old rest : List Group) (f : Group) → exact h.size (bytes - h.from) ≡ true → old ≡ rest ++ f ∷ [] → 0 < f.left
+    → Passes (outline_past_end (exact h.size (bytes - h.from)) bytes (groups_of old))
+going_passes bytes h old rest f x o z =
+    let one : f.left ≡ suc (f.left - 1) = omega (arith, z) in
+    rw (x, o, groups_pushed [] rest f, one) tt
+
+-- where they were passed, they pass
+pub past_passes : (way : Result outline.Outline Reason) (left : List Group) (whole : Bool) → IsPast way left (Ok whole) → Passes way
+past_passes way left true past = subst Passes (sym past) tt
+past_passes way left false past = subst Passes (sym past) tt
 
 -- the end of the last member is followed by that of its collection
 pub going_up : (bytes : ℕ) (h : machine.Head) (old rest : List Group) (f : Group) (up : machine.Head) → exact h.size (bytes - h.from) ≡ true → old ≡ rest ++ f ∷ [] → f.left ≡ 0

@@ -1,16 +1,10 @@
-pub mod NameLemmas
 pub mod PointRuns
 pub mod Groups
-pub mod Depth
-pub mod Starts
 pub mod Roles
-pub mod Opening
 pub mod Feeding
+pub mod Judging
 pub mod Taking
 pub mod Stepping
 pub mod Ahead
-pub mod Keeping
 pub mod Adding
-pub mod LinePoints
 pub mod WholePoints
-pub mod WholeNumbers

@@ -1,25 +1,23 @@
 -- Points that stand whole in front lead a list on, and a body; and the bytes up to one for which there is no memory are a part.
-use Rattle.std.proofs.Common.{◌≡◌, ℕ, zero, suc, ◌+◌, ◌-◌, ◌<◌, ◌≤◌, List, [], ◌∷◌, ◌++◌, length, take, drop, Bool, false, refl, sym, ap, ◌∙◌, subst, append_assoc, append-nil, length-append, arith}
+use Rattle.std.proofs.Common.{◌≡◌, ℕ, zero, suc, ◌+◌, ◌-◌, ◌<◌, ◌≤◌, List, [], ◌∷◌, ◌++◌, length, take, drop, Bool, false, refl, sym, ap, ◌∙◌, subst, arith}
 use Rattle.std.specs.Prelude.{Option, ℤ}
-use Rattle.std.proofs.Math.Seq.{take-add}
-use Rattle.std.proofs.lemmas.List.{length-drop, take_rest}
 use Rattle.twkb_points.specs.Point.{Point}
 use Rattle.twkb_tree.specs.Tree.{Ids}
-use Rattle.twkb_tree.specs.Limits.{Allowance}
 use Rattle.twkb_tree.specs.Rows.{Row, first_id}
 use Rattle.twkb_tree.specs.RowGrowth.{point_added}
-use Rattle.twkb_grammar.specs.Machine.{Head, Form, PointForm, LineForm, PolygonForm, MultiPointForm, MultiLineForm, MultiPolygonForm, Sums}
-use Rattle.twkb_grammar.specs.Noting.{Notes}
+use Rattle.twkb_grammar.specs.Machine.{Head, Form, PointForm, LineForm, PolygonForm, MultiPointForm, MultiLineForm, MultiPolygonForm}
 use Rattle.twkb_outline.specs.Outline as outline
 use Rattle.twkb_outline.specs.Outline.{Group, Outline, Step, OnBody, Wanted, shut, next_ids}
 use Rattle.twkb_outline.specs.Growing.{applied, NewPoint, point_change, id_in}
 use Rattle.twkb_outline.specs.Reading.{Pair, sums_past, point_after}
 use Rattle.twkb_outline.specs.Noting.{NotedOutline}
-use Rattle.twkb_outline.proofs.Outlined.{outlined_part}
 use Rattle.twkb_outline.proofs.NotedPairs.{noted_point}
+use Rattle.twkb_outline.proofs.NotedJoins.{noted_still, noted_join}
+use Rattle.twkb_front.proofs.Pieces.{used_join, one_within}
 use Rattle.twkb_front.specs.Front.{PointInFront}
 use Rattle.twkb_engine.specs.Body.{form_of, spot_of, after_of}
 use Rattle.twkb_engine.specs.Names.{ids_of}
+use Rattle.twkb_engine.specs.Stops.{IsPastEnds}
 use Rattle.twkb_engine.specs.Steps.{body_at}
 use Rattle.twkb_engine.specs.Running.{RunsTo, HasLists, ListPlace, ListRuns, ListStops, PhaseRuns, PhaseStops, StopsWith}
 use Rattle.twkb_engine.specs.State.{head_of, step_of, IsHeadAt}
@@ -28,36 +26,8 @@ use Rattle.twkb_engine.specs.declared.phase.Phase.{Phase}
 use Rattle.twkb_engine.specs.declared.lefts.After.{After}
 use Rattle.twkb_engine.specs.declared.lefts.Spot.{Spot}
 use Rattle.twkb_engine.specs.declared.body.Body.{Body}
+use Rattle.twkb_engine.proofs.Judging.{outlined_judged}
 use Rattle.twkb_engine.proofs.Feeding.{part_further}
-
--- the sums behind two pieces
-sums_join : (e : Sums) (xs ys : List ℕ) (at to : Point) → sums_past (sums_past e xs at) ys to ≡ sums_past e (xs ++ ys) to
-sums_join e xs ys at to =
-    let sum : (e.bytes + length xs) + length ys ≡ e.bytes + length (xs ++ ys) = omega (arith, length-append xs ys) in
-    λ t. record { bytes = sum t; position = to; nodes = e.nodes; points = e.points }
-
--- and behind no bytes
-sums_still : (e : Sums) (at : Point) → e.position ≡ at → e ≡ sums_past e [] at
-sums_still e at same =
-    let none : e.bytes ≡ e.bytes + 0 = omega arith in
-    λ t. record { bytes = none t; position = same t; nodes = e.nodes; points = e.points }
-
--- where a reader stands behind no bytes, and behind two pieces
-module _ (limits : Allowance) (front : List ℕ) (e : Sums) (o : Outline) (rs : List Row) (told : ℕ → Notes) where
-  noted_still : (at : Point) → e.position ≡ at → NotedOutline limits front e o rs told → NotedOutline limits (front ++ []) (sums_past e [] at) o rs told
-  noted_still at same n = subst (λ l. NotedOutline limits l (sums_past e [] at) o rs told) (sym (append-nil front)) (subst (λ s. NotedOutline limits front s o rs told) (sums_still e at same) n)
-
-  noted_join : (xs ys : List ℕ) (at to : Point) → NotedOutline limits ((front ++ xs) ++ ys) (sums_past (sums_past e xs at) ys to) o rs told → NotedOutline limits (front ++ (xs ++ ys)) (sums_past e (xs ++ ys) to) o rs told
-  noted_join xs ys at to n = subst (λ l. NotedOutline limits l (sums_past e (xs ++ ys) to) o rs told) (append_assoc front xs ys) (subst (λ s. NotedOutline limits ((front ++ xs) ++ ys) s o rs told) (sums_join e xs ys at to) n)
-
--- the piece behind the bytes that were used
-pub used_join : (bytes : List ℕ) (used count : ℕ) → take (used + count) bytes ≡ take used bytes ++ take count (take (length bytes - used) (drop used bytes))
-used_join bytes used count = take-add used count bytes ∙ ap (λ l. take used bytes ++ take count l) (sym (take_rest bytes used))
-
-pub used_within : (bytes : List ℕ) (used count : ℕ) → count ≤ length (take (length bytes - used) (drop used bytes)) → used ≤ length bytes → used + count ≤ length bytes
-used_within bytes used count few within =
-    let rest : count ≤ length (drop used bytes) = subst (λ l. count ≤ length l) (take_rest bytes used) few in
-    omega (arith, rest, within, length-drop used bytes)
 
 -- ---- a list of points
 
@@ -112,8 +82,8 @@ list_stops rs mid all left used count from at to bytes some within cut run = λ 
     record {
       used = used + count;
       some = (let one = cut.some in omega (arith, one));
-      within = used_within bytes used count cut.within within;
-      part = outlined_part p.limits (front ++ take (used + count) bytes) (sums_past e (take (used + count) bytes) to) (p.groups, OnBody p.head p.form p.ids (Wanted 0 ((left - 1) ∷ p.lefts))) (point_added to mid) there.outlined.outlined;
+      within = one_within bytes used count within cut.within;
+      part = outlined_judged p.limits (front ++ take (used + count) bytes) (sums_past e (take (used + count) bytes) to) (p.groups, OnBody p.head p.form p.ids (Wanted 0 ((left - 1) ∷ p.lefts))) (point_added to mid) there.outlined.outlined tt;
     }
 
 -- ---- what comes next
@@ -173,8 +143,9 @@ list_stops_in_body h b rs left lefts from bytes stops begins lists same = λ lim
     stops place front e (record { outlined = subst (λ k. NotedOutline limits front e (gs, OnBody (head_of h) (form_of b.form) (ids_of b.names) k) rs told) begins i.outlined; position = i.position })
 
 -- there is no memory for a point
-pub point_stops : (h : place.Head) (b : Body) (rs : List Row) (from to : Point) (bytes lefts : List ℕ) (used : ℕ) → spot_of b.spot ≡ Wanted 0 lefts → PointInFront from bytes to used → StopsWith h b rs from bytes
-point_stops h b rs from to bytes lefts used spot cut = λ limits front e gs told i.
+pub point_stops : (h : place.Head) (b : Body) (rs : List Row) (from to : Point) (bytes lefts : List ℕ) (used : ℕ) → spot_of b.spot ≡ Wanted 0 lefts → PointInFront from bytes to used
+    → ((k : Head) (f : Form) (ids : Ids) → IsPastEnds (shut k f ids 0 lefts)) → StopsWith h b rs from bytes
+point_stops h b rs from to bytes lefts used spot cut goes = λ limits front e gs told i.
     let f = form_of b.form in
     let ids = ids_of b.names in
     let here = subst (λ s. NotedOutline limits front e (gs, OnBody (head_of h) f ids s) rs told) spot i.outlined in
@@ -183,5 +154,5 @@ point_stops h b rs from to bytes lefts used spot cut = λ limits front e gs told
       used = used;
       some = cut.some;
       within = cut.within;
-      part = outlined_part limits (front ++ take used bytes) (sums_past e (take used bytes) to) (gs, shut (head_of h) f ids 0 lefts) (applied (point_after to gs (head_of h) f ids) rs) next.outlined;
+      part = outlined_judged limits (front ++ take used bytes) (sums_past e (take used bytes) to) (gs, shut (head_of h) f ids 0 lefts) (applied (point_after to gs (head_of h) f ids) rs) next.outlined (goes (head_of h) f ids);
     }

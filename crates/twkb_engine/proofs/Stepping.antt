@@ -1,5 +1,6 @@
 -- An engine takes a byte.
-use Rattle.std.proofs.Common.{◌≡◌, inl, inr, ℕ, ◌+◌, ◌<◌, ◌≤◌, List, [], ◌∷◌, ◌++◌, length, refl, sym, ap, ◌∙◌, subst, append_assoc, length-append, take, IfOk, OnErr, true, false, Bool, Result, Some, Ok, Err, arith}
+use Rattle.std.proofs.Common.{◌≡◌, inl, inr, ℕ, ◌+◌, ◌<◌, ◌≤◌, List, [], ◌∷◌, ◌++◌, length, refl, sym, ap, ◌∙◌, subst, append_assoc, length-append, take, IfOk, OnErr, true, false, Bool, Result, Option, Some, None, Ok, Err, arith}
+use Rattle.std.specs.Prelude.{IfSome}
 use Rattle.std.proofs.lemmas.List.{append-nil, length-take}
 use Rattle.twkb_num.specs.Varint.{IsVarint, IsOpenVarint}
 use Rattle.twkb_tree.specs.Limits.{Allowance}
@@ -7,13 +8,14 @@ use Rattle.twkb_tree.specs.Rows.{Row}
 use Rattle.twkb_grammar.specs.Fault.{FirstFault, BadVarint}
 use Rattle.twkb_grammar.specs.Roles.{Item}
 use Rattle.twkb_grammar.specs.Reading.{Gives}
-use Rattle.twkb_outline.specs.Outline.{outline_role}
 use Rattle.twkb_outline.proofs.Outlined.{outlined_long}
+use Rattle.twkb_front.specs.Front.{NumberInFront}
+use Rattle.twkb_front.proofs.OpenNumbers.{number_begun}
 use Rattle.twkb_engine.specs.State.{groups_of, IsSpelled, IsByte}
 use Rattle.twkb_engine.specs.Parts.{PartIn}
-use Rattle.twkb_engine.specs.Building.{sums_of, outline_in, StandsBehind, IsTaken}
+use Rattle.twkb_engine.specs.Building.{sums_of, outline_in, StandsBehind, IsTaken, Takes}
 use Rattle.twkb_engine.specs.Ahead.{RunsBehind, StopsBehind}
-use Rattle.twkb_engine.specs.Standing.{StandsAt, LeadsOn, StopsIn, IsStep, ItemInFront, allowance_of, held_in, offset_in}
+use Rattle.twkb_engine.specs.Standing.{StandsAt, LeadsOn, StopsIn, IsStep, ItemInFront, IsOneItem, allowance_of, held_in, offset_in}
 use Rattle.twkb_engine.specs.declared.builder.Builder.{Builder}
 use Rattle.twkb_engine.specs.declared.engine.Engine.{Engine}
 use Rattle.twkb_engine.specs.declared.stop.Stop.{Stop}
@@ -58,10 +60,6 @@ stepped limits bytes (Ok true) rs d none t = (t.0, t.1, t.2, behind_items [] [] 
 stepped limits bytes (Err Memory) rs d none t = t
 stepped limits bytes (Err (Refused x)) rs d none t = t
 
--- what a builder does with each item of this number and so many bytes that may come next
-abbrev pub Takes : Builder → (n len : ℕ) → List Row → Result Bool Stop → List Row → Builder → Type 0
-Takes b n len rs r more new = (front : List ℕ) (i : Item) → StandsBehind front rs b → outline_role (sums_of b) (outline_in b) ≡ Some i.role → Gives i.role i.number i.bytes → i.number ≡ n → length i.bytes ≡ len → IsTaken b.limits (front ++ i.bytes) r more new
-
 -- whole items that stood in front
 pub whole_stepped : (bs bytes : List ℕ) (rs more : List Row) (d : Engine) (c : Builder) (r : Result Bool Stop) → held_in d ≡ [] → ((front : List ℕ) → StandsBehind front rs d.builder → IsTaken (allowance_of d) (front ++ bytes) r more c) → StandsAt bs rs d
     → IsStep (allowance_of d) (bs ++ bytes) r more (record { builder = c; partial = d.partial })
@@ -69,42 +67,41 @@ whole_stepped bs bytes rs more d c r none taken s =
     let e : Engine = record { builder = c; partial = d.partial } in
     subst (λ l. IsStep (allowance_of d) (l ++ bytes) r more e) (sym (all_whole bs rs d none s)) (stepped (allowance_of d) (s.front ++ bytes) r more e none (taken s.front (before_item bs rs d s)))
 
--- an item
+-- an item behind whole items
+item_led : (bs all bytes : List ℕ) (n len : ℕ) (rs more : List Row) (d e : Engine) (r : Result Bool Stop) (s : StandsAt bs rs d) → s.front ++ bytes ≡ all → length bytes ≡ len → held_in e ≡ [] → Takes d.builder n len rs r more e.builder
+    → (let b = d.builder in Gives (has_role (length (groups_of b.groups.items)) b.bytes b.phase b.waits).0 n bytes) → IsStep (allowance_of d) all r more e
+item_led bs all bytes n len rs more d e r s at size none takes gives =
+    let b = d.builder in
+    let role = has_role (length (groups_of b.groups.items)) b.bytes b.phase b.waits in
+    let i : Item = record { role = role.0; number = n; bytes = bytes } in
+    subst (λ l. IsStep (allowance_of d) l r more e) at (stepped (allowance_of d) (s.front ++ bytes) r more e none (takes s.front i (before_item bs rs d s) role.1 gives refl size))
+
+-- an item that stands whole in front
 pub item_stepped : (bs rest : List ℕ) (n count : ℕ) (rs more : List Row) (d : Engine) (c : Builder) (r : Result Bool Stop) → ItemInFront d rest n count → Takes d.builder n count rs r more c → StandsAt bs rs d
     → IsStep (allowance_of d) (bs ++ take count rest) r more (record { builder = c; partial = d.partial })
 item_stepped bs rest n count rs more d c r f takes s =
     let b = d.builder in
     let role = has_role (length (groups_of b.groups.items)) b.bytes b.phase b.waits in
-    let i : Item = record { role = role.0; number = n; bytes = take count rest } in
     let size : length (take count rest) ≡ count = let within = f.within in omega (arith, length-take count rest, within) in
-    whole_stepped bs (take count rest) rs more d c r f.alone (λ front here. takes front i here role.1 (f.gives role.0 role.1) refl size) s
+    item_led bs (bs ++ take count rest) (take count rest) n count rs more d (record { builder = c; partial = d.partial }) r s (ap (λ l. l ++ take count rest) (sym (all_whole bs rs d f.alone s))) size f.alone takes (f.gives role.0 role.1)
 
 -- a byte at a byte's place
 pub byte_stepped : (bs : List ℕ) (u : ℕ) (rs more : List Row) (d e : Engine) (r : Result Bool Stop) → StandsAt bs rs d → IsByte d.builder.phase → u < 256 → held_in e ≡ held_in d
     → Takes d.builder u 1 rs r more e.builder → IsStep (allowance_of d) (bs ++ u ∷ []) r more e
 byte_stepped bs u rs more d e r s is_byte low same takes =
     let b = d.builder in
-    let level = length (groups_of b.groups.items) in
-    let role = has_role level b.bytes b.phase b.waits in
     let none = byte_alone b.phase is_byte s.spelled in
-    let i : Item = record { role = role.0; number = u; bytes = u ∷ [] } in
-    let at : s.front ≡ bs = sym (all_whole bs rs d none s) in
-    let one : length i.bytes ≡ 1 = omega arith in
-    subst (λ l. IsStep (allowance_of d) (l ++ u ∷ []) r more e) at
-    (stepped (allowance_of d) (s.front ++ u ∷ []) r more e (same ∙ none) (takes s.front i (before_item bs rs d s) role.1 (byte_written level b.bytes u b.phase b.waits low is_byte) refl one))
+    let at : s.front ++ u ∷ [] ≡ bs ++ u ∷ [] = ap (λ l. l ++ u ∷ []) (sym (all_whole bs rs d none s)) in
+    item_led bs (bs ++ u ∷ []) (u ∷ []) u 1 rs more d e r s at (omega arith) (same ∙ none) takes (byte_written (length (groups_of b.groups.items)) b.bytes b.phase b.waits u low is_byte)
 
 -- the last byte of a number
 pub number_stepped : (bs : List ℕ) (u value : ℕ) (rs more : List Row) (d e : Engine) (r : Result Bool Stop) → StandsAt bs rs d → IsSpelled d.builder.phase → IsVarint (held_in d ++ u ∷ []) value → held_in e ≡ []
     → Takes d.builder value (length (held_in d) + 1) rs r more e.builder → IsStep (allowance_of d) (bs ++ u ∷ []) r more e
 number_stepped bs u value rs more d e r s spelled v none takes =
     let b = d.builder in
-    let level = length (groups_of b.groups.items) in
-    let role = has_role level b.bytes b.phase b.waits in
     let whole : List ℕ = held_in d ++ u ∷ [] in
-    let i : Item = record { role = role.0; number = value; bytes = whole } in
     let at : s.front ++ whole ≡ bs ++ u ∷ [] = sym (ap (λ l. l ++ u ∷ []) s.whole ∙ append_assoc s.front (held_in d) (u ∷ [])) in
-    subst (λ l. IsStep (allowance_of d) l r more e) at
-    (stepped (allowance_of d) (s.front ++ whole) r more e none (takes s.front i (before_item bs rs d s) role.1 (number_written level b.bytes value whole b.phase b.waits v spelled) refl (length-append (held_in d) (u ∷ []))))
+    item_led bs (bs ++ u ∷ []) whole value (length (held_in d) + 1) rs more d e r s at (length-append (held_in d) (u ∷ [])) none takes (number_written (length (groups_of b.groups.items)) b.bytes b.phase b.waits value whole v spelled)
 
 -- a byte more is held of a number
 pub held_more : (bs : List ℕ) (u : ℕ) (rs : List Row) (d : Engine) (p : List ℕ) → IsSpelled d.builder.phase → p ≡ held_in d ++ u ∷ [] → StandsAt bs rs d → StandsAt (bs ++ u ∷ []) rs (record { builder = d.builder; partial = p })
@@ -130,3 +127,8 @@ long_refused bs more u rs d s spelled begun nine above =
     let role = has_role level b.bytes b.phase b.waits in
     subst (λ l. FirstFault b.limits l b.bytes BadVarint) (held_bytes bs s.front (held_in d) more u s.whole)
     (outlined_long b.limits s.front (sums_of b) (outline_in b) rs (held_in d ++ u ∷ more) role.0 s.outlined role.1 (is_number level b.bytes b.phase b.waits spelled) (record { nine = held_in d; tenth = u; more = more; whole = refl; length = nine; go_on = begun.high; above = above }))
+
+-- a number that stands whole in front is one item
+pub one_number : (d : Engine) (bytes : List ℕ) (found : Option (ℕ × ℕ)) → held_in d ≡ [] → IsSpelled d.builder.phase → IfSome found (λ front. NumberInFront bytes front.0 front.1) → IfSome found (λ front. IsOneItem d bytes front.1)
+one_number d bytes None alone number h = tt
+one_number d bytes (Some (n, count)) alone number h = inr (record { alone = alone; number = number; begun = number_begun bytes n count h })

@@ -3,7 +3,7 @@ use Rattle.std.proofs.Common.{◌≡◌, ℕ, List, [], ◌++◌, sym, ◌∙◌
 use Rattle.twkb_tree.specs.Limits.{Allowance}
 use Rattle.twkb_tree.specs.Rows.{Row}
 use Rattle.twkb_grammar.specs.Fault as fault
-use Rattle.twkb_grammar.specs.Fault.{FirstFault, IsPart, moved}
+use Rattle.twkb_grammar.specs.Fault.{FirstFault}
 use Rattle.twkb_grammar.specs.Roles.{Item}
 use Rattle.twkb_grammar.specs.PlainReader.{objection}
 use Rattle.twkb_grammar.specs.Machine.{Sums, added}
@@ -11,7 +11,7 @@ use Rattle.twkb_grammar.specs.Reading.{Gives}
 use Rattle.twkb_outline.specs.Outline.{Outline, OnFinished, outline_role, outline_advanced, outline_ends}
 use Rattle.twkb_outline.specs.Growing.{applied, change_of}
 use Rattle.twkb_outline.specs.Reading.{Outlined, OutlineLanded, outline_after, change_after}
-use Rattle.twkb_outline.proofs.Outlined.{outlined_item, outlined_part, outlined_refused, outlined_ends, outlined_whole}
+use Rattle.twkb_outline.proofs.Outlined.{outlined_item, outlined_refused, outlined_ends, outlined_whole}
 use Rattle.twkb_engine.specs.State.{IsPlacedIn}
 use Rattle.twkb_engine.specs.Stops.{reason_of}
 use Rattle.twkb_engine.specs.Building.{sums_of, outline_in, refusal, objection_at, StandsBehind, IsAt, IsTaken}
@@ -19,26 +19,23 @@ use Rattle.twkb_engine.specs.declared.builder.Builder.{Builder}
 use Rattle.twkb_engine.specs.declared.blob_reason.BlobReason.{BlobReason}
 use Rattle.twkb_engine.specs.declared.stop.Stop.{Stop}
 use Rattle.twkb_engine.specs.declared.stop.Stop.TheVariants.{Memory, Refused}
+use Rattle.twkb_engine.proofs.Judging.{landed_judged}
 
 -- what the code did with the ends behind an item, where the laws say how it goes on
 pub landed : (limits : Allowance) (bytes : List ℕ) (e : Sums) (rs more : List Row) (way : Result Outline fault.Reason) (r : Result Bool Stop) (b : Builder) → b.limits ≡ limits
-    → IsPart limits bytes → OutlineLanded limits bytes e rs way → IsAt way e r b → OnOk r (more ≡ rs) → OnOk r (IsPlacedIn b.groups.items b.phase) → IsTaken limits bytes r more b
-landed limits bytes e rs more way (Ok false) b same part l at grown placed =
+    → OutlineLanded limits bytes e rs way → IsAt way e r b → OnOk r (more ≡ rs) → OnOk r (IsPlacedIn b.groups.items b.phase) → IsTaken limits bytes r more b
+landed limits bytes e rs more way (Ok false) b same l at grown placed =
     let a : Outlined limits bytes e (outline_in b) rs = subst (λ w. OutlineLanded limits bytes e rs w) at.0 l in
     let c : Outlined limits bytes (sums_of b) (outline_in b) rs = subst (λ s. Outlined limits bytes s (outline_in b) rs) (sym at.1) a in
     let d : Outlined b.limits bytes (sums_of b) (outline_in b) rs = subst (λ l. Outlined l bytes (sums_of b) (outline_in b) rs) (sym same) c in
     record { outlined = subst (λ l. Outlined b.limits bytes (sums_of b) (outline_in b) l) (sym grown) d; placed = placed }
-landed limits bytes e rs more way (Ok true) b same part l at grown placed =
+landed limits bytes e rs more way (Ok true) b same l at grown placed =
     let a : Outlined limits bytes e ([], OnFinished) rs = subst (λ w. OutlineLanded limits bytes e rs w) at.0 l in
     let w = outlined_whole limits bytes e rs a in
     (w.0, w.1, grown ∙ sym w.2, at.1)
-landed limits bytes e rs more way (Err Memory) b same part l at grown placed = part
-landed limits bytes e rs more way (Err (Refused x)) b same part l at grown placed = λ rest.
+landed limits bytes e rs more way (Err Memory) b same l at grown placed = landed_judged limits bytes e rs way l at
+landed limits bytes e rs more way (Err (Refused x)) b same l at grown placed = λ rest.
     subst (λ n. FirstFault limits (bytes ++ rest) n (reason_of x)) (sym at.1) ((subst (λ w. OutlineLanded limits bytes e rs w) at.0 l) rest)
-
--- there was no memory for an item that may stand there
-pub no_memory : (limits : Allowance) (bytes : List ℕ) (r : Result Bool Stop) (rs : List Row) (b : Builder) → r ≡ Err Memory → IsPart limits bytes → IsTaken limits bytes r rs b
-no_memory limits bytes r rs b is part = subst (λ k. IsTaken limits bytes k rs b) (sym is) part
 
 -- where there was no objection to an item
 pub item_taken : (front : List ℕ) (rs more : List Row) (b mid new : Builder) (i : Item) (n : ℕ) (r : Result Bool Stop) → StandsBehind front rs b
@@ -56,8 +53,7 @@ item_taken front rs more b mid new i n r s says gives en free es eo limits at gr
     let there : Way (added e i) o i.number = subst (λ k. Way (added e i) o k) (sym en) (subst (λ q. Way (added e i) q n) eo (subst (λ m. Way m (outline_in mid) n) es at)) in
     let Grown : Sums → Outline → ℕ → Type 0 = λ m q k. OnOk r (more ≡ applied (change_of m.position k q) rs) in
     let put : Grown (added e i) o i.number = subst (λ k. Grown (added e i) o k) (sym en) (subst (λ q. Grown (added e i) q n) eo (subst (λ m. Grown m (outline_in mid) n) es grown)) in
-    landed b.limits (front ++ i.bytes) (added e i) (applied (change_after e i o) rs) more (outline_ends (added e i).bytes (outline_after e i o)) r new limits
-    (outlined_part b.limits (front ++ i.bytes) (added e i) (outline_after e i o) (applied (change_after e i o) rs) next) ends there put placed
+    landed b.limits (front ++ i.bytes) (added e i) (applied (change_after e i o) rs) more (outline_ends (added e i).bytes (outline_after e i o)) r new limits ends there put placed
 
 -- where there was one
 pub item_refused : (front : List ℕ) (rs more : List Row) (b new : Builder) (i : Item) (n : ℕ) (x : BlobReason) → StandsBehind front rs b

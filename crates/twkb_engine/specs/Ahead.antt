@@ -10,6 +10,6 @@ use Rattle.twkb_engine.specs.declared.builder.Builder.{Builder}
 abbrev pub RunsBehind : Builder → List Row → List ℕ → Builder → List Row → Type 0
 RunsBehind b rs bytes c more = (front : List ℕ) (s : StandsBehind front rs b) → (t : StandsBehind (front ++ bytes) more c) × ((start : ℕ) → notes_in start t.outlined ≡ notes_in start s.outlined)
 
--- wherever it stands, a front of the bytes ends a part
+-- wherever it stands, a front of the bytes ends a part that was judged
 abbrev pub StopsBehind : Builder → List Row → List ℕ → Type 0
 StopsBehind b rs bytes = (front : List ℕ) → StandsBehind front rs b → PartIn b.limits front bytes

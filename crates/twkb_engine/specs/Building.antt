@@ -1,21 +1,26 @@
 -- A builder as an outline with sums, and why it refuses an item.
-use Rattle.std.specs.Prelude.{◌≡◌, ℕ, ⊤, Result, Ok, Err, Bool, true, false, List, [], ◌++◌, Option, Some, None}
+use Rattle.std.specs.Prelude.{◌≡◌, ℕ, Result, Ok, Err, Bool, true, false, List, [], ◌++◌, length, take, get_or, Option, Some, None}
 use Rattle.twkb_tree.specs.Limits.{Allowance}
 use Rattle.twkb_grammar.specs.Fault as fault
 use Rattle.twkb_grammar.specs.PlainReader.{objection}
-use Rattle.twkb_grammar.specs.Roles.{Role}
+use Rattle.twkb_grammar.specs.Roles.{Role, Item}
+use Rattle.twkb_grammar.specs.Reading.{Gives}
 use Rattle.twkb_grammar.specs.Machine.{Sums}
 use Rattle.twkb_outline.specs.Outline.{Outline, OnFinished, outline_role}
 use Rattle.twkb_outline.specs.Reading.{Outlined}
 use Rattle.twkb_engine.specs.State.{groups_of, step_of, IsPlacedIn}
-use Rattle.twkb_engine.specs.Stops.{reason_of}
+use Rattle.twkb_engine.specs.Parts.{IsJudged}
+use Rattle.twkb_engine.specs.Stops.{reason_of, Passes}
 use Rattle.twkb_engine.specs.declared.stop.Stop.{Stop}
 use Rattle.twkb_engine.specs.declared.stop.Stop.TheVariants.{Memory, Refused}
+use Rattle.twkb_engine.specs.Front.{WholePoint}
 use Rattle.twkb_engine.specs.declared.builder.Builder.{Builder}
+use Rattle.twkb_engine.specs.declared.phase.Phase.TheVariants.{Header}
+use Rattle.twkb_engine.specs.declared.whole.Whole.{Whole}
 use Rattle.twkb_tree.specs.Tree.{Tree}
 use Rattle.twkb_tree.specs.Rows.{Row, rows}
 use Rattle.twkb_grammar.specs.Blob.{Blob}
-use Rattle.twkb_grammar.specs.Fault.{FirstFault, IsPart}
+use Rattle.twkb_grammar.specs.Fault.{FirstFault}
 
 -- what its items so far sum to
 abbrev pub sums_of : Builder → Sums
@@ -43,12 +48,22 @@ refusal limits e o n = objection_at limits e n (outline_role e o)
 abbrev pub IsAt : Result Outline fault.Reason → Sums → Result Bool Stop → Builder → Type 0
 IsAt way e (Ok false) b = (way ≡ Ok (outline_in b)) × (sums_of b ≡ e)
 IsAt way e (Ok true) b = (way ≡ Ok ([], OnFinished)) × StandsBehind [] [] b
-IsAt way e (Err Memory) b = ⊤
+IsAt way e (Err Memory) b = Passes way
 IsAt way e (Err (Refused r)) b = (way ≡ Err (reason_of r)) × (b.bytes ≡ e.bytes)
 
--- the last item leads on, or ends a blob with these rows, or may stand there but there is no memory for it, or is refused, whatever follows
+-- the last item leads on, or ends a blob with these rows, or was judged and may stand there but there is no memory for it, or is refused, whatever follows
 abbrev pub IsTaken : Allowance → List ℕ → Result Bool Stop → List Row → Builder → Type 0
 IsTaken limits bytes (Ok false) rs b = StandsBehind bytes rs b
 IsTaken limits bytes (Ok true) rs b = (g : Tree) × Blob limits bytes g × (rs ≡ rows 0 g) × StandsBehind [] [] b
-IsTaken limits bytes (Err Memory) rs b = IsPart limits bytes
+IsTaken limits bytes (Err Memory) rs b = IsJudged limits bytes
 IsTaken limits bytes (Err (Refused r)) rs b = (more : List ℕ) → FirstFault limits (bytes ++ more) b.bytes (reason_of r)
+
+-- what a builder does with each item of this number and so many bytes that may come next
+abbrev pub Takes : Builder → (n count : ℕ) → List Row → Result Bool Stop → List Row → Builder → Type 0
+Takes b n count rs r more new =
+    (front : List ℕ) (i : Item) → StandsBehind front rs b → outline_role (sums_of b) (outline_in b) ≡ Some i.role → Gives i.role i.number i.bytes → i.number ≡ n → length i.bytes ≡ count → IsTaken b.limits (front ++ i.bytes) r more new
+
+-- and with such a point that stands whole in front with its header and has this type byte, where a type byte comes next
+abbrev pub TakesPoint : Builder → (first : ℕ) → Whole → List Row → Result Bool Stop → List Row → Builder → Type 0
+TakesPoint b first p rs r more new =
+    (front bytes : List ℕ) → StandsBehind front rs b → b.phase ≡ Header → WholePoint bytes p.to p.used p.size → first ≡ get_or bytes 0 0 → IsTaken b.limits (front ++ take p.used bytes) r more new

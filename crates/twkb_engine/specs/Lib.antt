@@ -4,7 +4,6 @@ pub mod Steps
 pub mod Front
 pub mod Running
 pub mod State
-pub mod Led
 pub mod Stops
 pub mod Open
 pub mod Parts

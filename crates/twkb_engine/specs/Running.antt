@@ -50,7 +50,7 @@ pub record InList (p : ListPlace) (front : List ℕ) (e : Sums) (left : ℕ) (rs
 abbrev pub ListRuns : List Row → ℕ → Point → List ℕ → List Row → ℕ → Point → Type 0
 ListRuns rs left from bytes more after to = (p : ListPlace) (front : List ℕ) (e : Sums) → InList p front e left rs from → InList p (front ++ bytes) (sums_past e bytes to) after more to
 
--- wherever it stands, a front of the bytes ends a part
+-- wherever it stands, a front of the bytes ends a part that was judged
 abbrev pub ListStops : List Row → ℕ → Point → List ℕ → Type 0
 ListStops rs left from bytes = (p : ListPlace) (front : List ℕ) (e : Sums) → InList p front e left rs from → PartIn p.limits front bytes
 
@@ -65,7 +65,7 @@ abbrev pub PhaseRuns : Phase → List Row → Point → List ℕ → Phase → L
 PhaseRuns p rs from bytes q more to =
     (limits : Allowance) (front : List ℕ) (e : Sums) (gs : List Group) (told : ℕ → Notes) → InPhase limits front e gs told p rs from → InPhase limits (front ++ bytes) (sums_past e bytes to) gs told q more to
 
--- wherever it comes next, a front of the bytes ends a part
+-- wherever it comes next, a front of the bytes ends a part that was judged
 abbrev pub PhaseStops : Phase → List Row → Point → List ℕ → Type 0
 PhaseStops p rs from bytes = (limits : Allowance) (front : List ℕ) (e : Sums) (gs : List Group) (told : ℕ → Notes) → InPhase limits front e gs told p rs from → PartIn limits front bytes
 

@@ -5,7 +5,7 @@ use Rattle.twkb_tree.specs.Tree.{Tree}
 use Rattle.twkb_tree.specs.Limits.{Allowance}
 use Rattle.twkb_tree.specs.Rows.{Row, rows}
 use Rattle.twkb_grammar.specs.Blob.{Blob}
-use Rattle.twkb_grammar.specs.Fault.{FirstFault, IsPart, Reason, Truncated}
+use Rattle.twkb_grammar.specs.Fault.{FirstFault, Reason, Truncated}
 use Rattle.twkb_grammar.specs.Roles.{Role}
 use Rattle.twkb_grammar.specs.Reading.{Gives}
 use Rattle.twkb_outline.specs.Outline.{outline_role}
@@ -13,7 +13,7 @@ use Rattle.twkb_outline.specs.Reading.{Outlined, open_count}
 use Rattle.twkb_outline.specs.Noting.{notes_in}
 use Rattle.twkb_engine.specs.State.{IsSpelled, IsPlacedIn, step_of}
 use Rattle.twkb_engine.specs.Open.{awaited_at}
-use Rattle.twkb_engine.specs.Parts.{PartIn}
+use Rattle.twkb_engine.specs.Parts.{IsJudged, PartIn}
 use Rattle.twkb_engine.specs.Stops.{reason_of}
 use Rattle.twkb_engine.specs.Building.{sums_of, outline_in}
 use Rattle.twkb_engine.specs.declared.awaited.Awaited.{Awaited}
@@ -61,7 +61,7 @@ pub record StandsAt (bytes : List ℕ) (rs : List Row) (d : Engine) : Type 0 whe
 abbrev pub LeadsOn : List Row → Engine → List ℕ → List Row → Engine → Type 0
 LeadsOn rs d bytes more e = (front : List ℕ) (s : StandsAt front rs d) → (t : StandsAt (front ++ bytes) more e) × ((start : ℕ) → notes_in start t.outlined ≡ notes_in start s.outlined)
 
--- wherever the engine stands, a front of these bytes ends a part
+-- wherever the engine stands, a front of these bytes ends a part that was judged
 abbrev pub StopsIn : List Row → Engine → List ℕ → Type 0
 StopsIn rs d bytes = (front : List ℕ) → StandsAt front rs d → PartIn (allowance_of d) front bytes
 
@@ -83,12 +83,12 @@ pub record NumberTaken (d : Engine) (bytes : List ℕ) (count : ℕ) : Type 0 wh
 abbrev pub IsOneItem : Engine → List ℕ → ℕ → Type 0
 IsOneItem d bytes count = (count ≡ 1) ⊎ NumberTaken d bytes count
 
--- the bytes are a blob so far, or a blob with these rows and none of a further one, or a part for whose last item there is no memory, or they
+-- the bytes are a blob so far, or a blob with these rows and none of a further one, or a part that was judged, for whose last item there is no memory, or they
 -- have a first fault, whatever follows
 abbrev pub IsStep : Allowance → List ℕ → Result Bool Stop → List Row → Engine → Type 0
 IsStep limits bytes (Ok false) rs d = StandsAt bytes rs d
 IsStep limits bytes (Ok true) rs d = (g : Tree) × Blob limits bytes g × (rs ≡ rows 0 g) × StandsAt [] [] d
-IsStep limits bytes (Err Memory) rs d = IsPart limits bytes
+IsStep limits bytes (Err Memory) rs d = IsJudged limits bytes
 IsStep limits bytes (Err (Refused r)) rs d = (more : List ℕ) → FirstFault limits (bytes ++ more) (offset_in d) (reason_of r)
 
 -- some bytes were taken from the front of the rest of a piece, or a byte of it is the last of an item for which there is no memory, or that is

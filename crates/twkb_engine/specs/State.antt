@@ -7,7 +7,7 @@ use Rattle.twkb_grammar.specs.Machine as machine
 use Rattle.twkb_grammar.specs.Machine.{SimpleKind, CollectionKind, ManyPoints, ManyLines, ManyPolygons, ManyGeometries}
 use Rattle.twkb_outline.specs.Outline as outline
 use Rattle.twkb_outline.specs.Outline.{OnHeader, OnMetadata, OnOption, OnCount, OnId, OnBody, OnEnd}
-use Rattle.twkb_outline.specs.Growing.{id_in}
+use Rattle.twkb_outline.specs.Growing.{Change, Nothing, NewRow, own_of, id_in}
 use Rattle.twkb_engine.specs.Body.{form_of, spot_of}
 use Rattle.twkb_engine.specs.Names.{ids_of}
 use Rattle.twkb_engine.specs.declared.place.Head.{Head}
@@ -73,9 +73,9 @@ step_of phase.Header = OnHeader
 step_of (phase.Metadata typed) = OnMetadata (kind_of typed.kind) typed.precision
 step_of (phase.Optional kind head part) = OnOption (kind_of kind) (head_of head) (role_of_part part) (roles_behind head.metadata part)
 step_of (phase.Count many head) = OnCount (many_of many) (head_of head)
-step_of (phase.Id many head members ids left) = OnId (many_of many) (head_of head) members ids.items left
+step_of (phase.Id many head others ids left) = OnId (many_of many) (head_of head) (suc others) ids.items left
 step_of (phase.Body head body) = OnBody (head_of head) (form_of body.form) (ids_of body.names) (spot_of body.spot)
-step_of (phase.End head) = OnEnd (head_of head)
+step_of (phase.End head kind) = OnEnd (head_of head)
 
 -- the header's geometry stands at this depth and has this id
 pub record IsHeadAt (depth : ℕ) (id : Option ℤ) (h : Head) : Type 0 where
@@ -86,7 +86,7 @@ pub record IsHeadAt (depth : ℕ) (id : Option ℤ) (h : Head) : Type 0 where
 abbrev pub IsPlaced : ℕ → Option ℤ → Phase → Type 0
 IsPlaced depth id (phase.Optional kind head part) = IsHeadAt depth id head
 IsPlaced depth id (phase.Count many head) = IsHeadAt depth id head
-IsPlaced depth id (phase.Id many head members ids left) = IsHeadAt depth id head
+IsPlaced depth id (phase.Id many head others ids left) = IsHeadAt depth id head
 IsPlaced depth id (phase.Body head body) = IsHeadAt depth id head
 IsPlaced depth id _ = ⊤
 
@@ -95,15 +95,20 @@ abbrev pub HasHead : Phase → Type 0
 HasHead phase.Header = ⊥
 HasHead _ = ⊤
 
+-- the row that is still to come: a geometry that ends with its header, or with its count, has no other
+abbrev pub own_change : Phase → Change
+own_change (phase.End head kind) = NewRow (own_of head.depth head.id (kind_of kind) head.precision)
+own_change _ = Nothing
+
 -- an item comes next: the geometry that is read does not end
 abbrev pub goes_on : Phase → Bool
-goes_on (phase.End head) = false
+goes_on (phase.End head kind) = false
 goes_on _ = true
 
 -- an item comes next that is in no body
 abbrev pub stands_apart : Phase → Bool
 stands_apart (phase.Body head body) = false
-stands_apart (phase.End head) = false
+stands_apart (phase.End head kind) = false
 stands_apart _ = true
 
 -- the next item is a number

@@ -1,14 +1,19 @@
 -- A body as a step of an outline, and what a number changes of the rows.
-use Rattle.std.specs.Prelude.{Bool, true, false}
+use Rattle.std.specs.Prelude.{◌≡◌, ℕ, List, Bool, true, false, Option, Some, None, Result, Ok, Err}
 use Rattle.twkb_points.specs.Point.{Point}
 use Rattle.twkb_tree.specs.Rows.{first_id}
-use Rattle.twkb_grammar.specs.Machine.{Head}
-use Rattle.twkb_outline.specs.Outline.{Step, OnBody, OnEnd}
+use Rattle.twkb_grammar.specs.Machine.{Head, depth_of}
+use Rattle.twkb_outline.specs.Outline.{Step, OnBody, OnEnd, spot_after, outline_ends}
 use Rattle.twkb_outline.specs.Growing.{Change, spot_change}
+use Rattle.twkb_outline.specs.Reading.{SpotFits}
 use Rattle.twkb_engine.specs.Body.{form_of, spot_of}
 use Rattle.twkb_engine.specs.Names.{ids_of}
+use Rattle.twkb_engine.specs.State.{head_of, groups_of}
+use Rattle.twkb_engine.specs.Stops.{IsPast}
 use Rattle.twkb_engine.specs.declared.place.Head as place
 use Rattle.twkb_engine.specs.declared.body.Body.{Body}
+use Rattle.twkb_engine.specs.declared.phase.Group.{Group}
+use Rattle.twkb_engine.specs.declared.stop.Stop.{Stop}
 
 -- the body goes on, or is done
 abbrev pub body_at : Head → Body → Bool → Step
@@ -18,3 +23,14 @@ body_at h b false = OnBody h (form_of b.form) (ids_of b.names) (spot_of b.spot)
 -- what the next number changes, in a geometry of this header
 abbrev pub change_by : Point → place.Head → Body → Change
 change_by p h b = spot_change p h.depth h.id h.precision (form_of b.form) (first_id (ids_of b.names)) (spot_of b.spot)
+
+-- behind a number that led to this step: the body goes on, or geometries end with it, the first of these its own
+abbrev pub IsBehind : (bytes : ℕ) → List Group → Step → place.Head → Body → List Group → Result (Option Bool) Stop → Type 0
+IsBehind bytes gs s h b left (Ok None) = (left ≡ gs) × (s ≡ body_at (head_of h) b false)
+IsBehind bytes gs s h b left (Ok (Some whole)) = IsPast (outline_ends bytes (groups_of gs, s)) left (Ok whole)
+IsBehind bytes gs s h b left (Err stop) = IsPast (outline_ends bytes (groups_of gs, s)) left (Err stop)
+
+-- what a body does with its next number, if it is this one
+abbrev pub TakesNumber : place.Head → (bytes n : ℕ) → Body → List Group → Result (Option Bool) Stop → Body → List Group → Type 0
+TakesNumber h bytes n b gs r new left =
+    SpotFits (depth_of (form_of b.form)) (spot_of b.spot) → IsBehind bytes gs (spot_after (head_of h) (form_of b.form) (ids_of b.names) n (spot_of b.spot)) h new left r

@@ -1,17 +1,16 @@
 //! A geometry that is read item by item into a flat form.
-ghost use Rattle.std.specs.Prelude.{◌≡◌, ◌≤◌, ◌++◌, ℕ, List, ◌+◌, ◌-◌, ◌^◌, ◌%◌, ◌||◌, [], nat_eq, nat_lt, IfSome, IsSome, None, Some, true, length, length as length_of, false, ◌<◌, ◌⊎◌, OnOk, OnErr, IfOk, take};
+ghost use Rattle.std.specs.Prelude.{◌≡◌, ◌≤◌, ◌+◌, ◌-◌, ◌^◌, ◌%◌, ◌||◌, [], nat_eq, nat_lt, IfSome, IsSome, None, Some, true, length, length as length_of, false, ◌<◌, ◌⊎◌, OnOk, OnErr, IfOk, Result, Ok, take};
 ghost use Rattle.twkb_grammar.specs.PlainReader.{unless, objection as objection_in, is_exact as exact};
 ghost use Rattle.twkb_grammar.specs.Fault as fault;
 ghost use Rattle.twkb_grammar.specs.Fault.{moved as moved_by};
 ghost use Rattle.twkb_grammar.specs.Roles.{Role, Metadata, Count, Item};
-ghost use Rattle.twkb_grammar.specs.Reading.{Gives};
 ghost use Rattle.twkb_grammar.specs.Machine.{kind_number, first_count, added};
-ghost use Rattle.twkb_outline.specs.Outline.{spot_role, outline_role, outline_advanced, outline_ends, outline_past_end};
+ghost use Rattle.twkb_outline.specs.Outline.{Outline, spot_role, outline_role, outline_advanced, outline_ends, outline_past_end};
 ghost use Rattle.twkb_outline.specs.Growing.{applied, change_of};
 ghost use Rattle.twkb_outline.specs.Reading.{StepFits};
 ghost use Rattle.twkb_engine.specs.Body.{spot_of};
 ghost use Rattle.twkb_engine.specs.State.{kind_of, many_of, groups_of, step_of, goes_on, stands_apart, IsPlacedIn, IsShallow, IsSpelled};
-ghost use Rattle.twkb_engine.specs.Stops.{objection_of};
+ghost use Rattle.twkb_engine.specs.Stops.{objection_of, IsPast, Passes};
 
 use crate::blob_reason::BlobReason;
 use crate::items::{announced, announces_point};
@@ -19,52 +18,53 @@ use crate::lefts::Spot;
 use crate::members::past_end;
 use crate::phase::{Groups, Kind, Many, Optional, Phase};
 use crate::place::Head;
-use crate::steps::{Led, next, take_in_body};
+use crate::site::{push_row, whole_row};
+use crate::steps::next;
 use crate::stop::Stop;
 use smallvec::SmallVec;
 use std::alloc::{AllocError, Global};
 use std::mem;
 use twkb_flat::Flat;
 use twkb_front::{moved_x, moved_y, origin};
+use twkb_header::TypeByte;
 use twkb_num::unzigzag;
 use twkb_points::Pt;
 use twkb_tree::Limits;
 
-/// A geometry that is read item by item: the sums of its items, the collections that are open, and what comes next.
+// A geometry that is read item by item: the sums of its items, the collections that are open, and what comes next.
 #[derive(Drop)]
-pub struct Builder {
+pub(crate) struct Builder {
     alloc: Global,
-    pub limits: Limits,
-    pub bytes: u64,
-    pub position: Pt,
+    pub(crate) limits: Limits,
+    pub(crate) bytes: u64,
+    pub(crate) position: Pt,
     nodes: u64,
-    pub points: u64,
-    pub groups: Groups,
-    pub phase: Phase,
+    pub(crate) points: u64,
+    pub(crate) groups: Groups,
+    pub(crate) phase: Phase,
     ghost nodes_kept: { nodes ≤ limits.nodes },
     ghost points_kept: { points ≤ limits.points },
     ghost waits: { goes_on phase ≡ true },
     ghost groups_few: { IsShallow groups.items },
 }
 
-/// Why this number is no type byte.
+// Why this number is no type byte.
 fn bad_type(number: u64) -> Option<BlobReason>
     ensures { objection_of result ≡ unless (nat_eq (number % 16) 0 || nat_lt 7 (number % 16)) fault.BadType None }
 {
-    let kind = number % 16;
-    if kind == 0 || kind > 7 {
-        Some(BlobReason::BadType)
-    } else {
+    if TypeByte::from_number(number).names_type() {
         None
+    } else {
+        Some(BlobReason::BadType)
     }
 }
 
 impl Builder {
-    ghost use Rattle.twkb_engine.specs.Building.{sums_of, outline_in, refusal, objection_at, StandsBehind, IsAt, IsTaken};
+    ghost use Rattle.twkb_engine.specs.Building.{sums_of, outline_in, refusal, objection_at, StandsBehind, IsAt, Takes};
     ghost use Rattle.twkb_engine.specs.Ahead.{RunsBehind, StopsBehind};
 
-    /// One that has read nothing. Takes no memory.
-    pub fn new(alloc: Global, limits: Limits) -> Builder
+    // One that has read nothing. Takes no memory.
+    pub(crate) fn new(alloc: Global, limits: Limits) -> Builder
         ensures stands { StandsBehind [] [] result }
         ensures limits { result.limits ≡ limits }
         ensures bytes { result.bytes ≡ 0 }
@@ -83,7 +83,7 @@ impl Builder {
         }
     }
 
-    /// Why a count may not be this large.
+    // Why a count may not be this large.
     fn too_many(&self, nodes: u64, points: u64) -> Option<BlobReason>
         ensures { objection_of result ≡ unless (nat_lt self.now.limits.nodes (self.now.nodes + nodes)) fault.TooManyNodes (unless (nat_lt self.now.limits.points (self.now.points + points)) fault.TooManyPoints None) }
     {
@@ -96,7 +96,7 @@ impl Builder {
         }
     }
 
-    /// Why a geometry of this type may not have this metadata byte.
+    // Why a geometry of this type may not have this metadata byte.
     fn objection_to_metadata(&self, kind: Kind, number: u64) -> Option<BlobReason>
         ensures { objection_of result ≡ objection_in self.now.limits (sums_of self.now) (Metadata (kind_number (kind_of kind))) number }
     {
@@ -107,7 +107,7 @@ impl Builder {
         }
     }
 
-    /// Why there may not be so many members.
+    // Why there may not be so many members.
     fn objection_to_count(&self, many: Many, number: u64) -> Option<BlobReason>
         ensures { objection_of result ≡ objection_in self.now.limits (sums_of self.now) (Count (first_count (many_of many) (length (groups_of self.now.groups.items)))) number }
     {
@@ -124,7 +124,7 @@ impl Builder {
         }
     }
 
-    /// Why the next number of a body may not be this one.
+    // Why the next number of a body may not be this one.
     fn objection_to_number(&self, spot: Spot, number: u64) -> Option<BlobReason>
         ensures { objection_of result ≡ objection_at self.now.limits (sums_of self.now) number (spot_role (spot_of spot)) }
     {
@@ -148,7 +148,7 @@ impl Builder {
         }
     }
 
-    /// Why the next item may not have this number.
+    // Why the next item may not have this number.
     fn objection(&self, number: u64) -> Option<BlobReason>
         ensures { objection_of result ≡ refusal self.now.limits (sums_of self.now) (outline_in self.now) number }
     {
@@ -164,12 +164,12 @@ impl Builder {
             }
             Phase::Count { many, .. } => self.objection_to_count(*many, number),
             Phase::Body(_, body) => self.objection_to_number(body.spot, number),
-            Phase::Id { .. } | Phase::End(_) => None,
+            Phase::Id { .. } | Phase::End(_, _) => None,
         }
     }
 
-    /// Goes to the start.
-    pub fn restart(&mut self)
+    // Goes to the start.
+    pub(crate) fn restart(&mut self)
         ensures stands { StandsBehind [] [] self.new }
         ensures limits { self.new.limits ≡ self.old.limits }
         ensures bytes { self.new.bytes ≡ 0 }
@@ -183,23 +183,35 @@ impl Builder {
         self.phase = Phase::Header;
     }
 
-    /// A geometry ends; answers whether it is the outermost one.
-    pub fn finish(&mut self, head: Head) -> Result<bool, Stop>
+    // Goes on behind the ends of geometries, and answers the same: whether the outermost one has ended.
+    fn settle(&mut self, whole: bool) -> bool
+        ensures limits { self.new.limits ≡ self.old.limits }
+        ensures bytes { self.new.bytes ≤ self.old.bytes }
+        ensures landed { (way : Result Outline fault.Reason) → IsPast way self.old.groups.items (Ok whole) → IsAt way (sums_of self.old) (Ok result) self.new }
+        ensures placed { IsPlacedIn self.new.groups.items self.new.phase }
+    {
+        if whole {
+            self.restart();
+            return true;
+        }
+        self.phase = Phase::Header;
+        false
+    }
+
+    // A geometry ends; answers whether the outermost one does.
+    pub(crate) fn finish(&mut self, head: Head) -> Result<bool, Stop>
         ensures limits { self.new.limits ≡ self.old.limits }
         ensures bytes { self.new.bytes ≤ self.old.bytes }
         ensures landed { IsAt (outline_past_end (exact head.size (self.old.bytes - head.from)) self.old.bytes (groups_of self.old.groups.items)) (sums_of self.old) result self.new }
+        ensures passes { OnOk result (Passes (outline_past_end (exact head.size (self.old.bytes - head.from)) self.old.bytes (groups_of self.old.groups.items))) }
         ensures placed { OnOk result (IsPlacedIn self.new.groups.items self.new.phase) }
     {
-        if past_end(&mut self.groups, self.bytes, head)? {
-            self.restart();
-            return Ok(true);
-        }
-        self.phase = Phase::Header;
-        Ok(false)
+        let whole = past_end(&mut self.groups, self.bytes, head)?;
+        Ok(self.settle(whole))
     }
 
-    /// Goes to what the item of this number leads to that was added last and is in no body, and past the ends behind it; answers
-    /// whether a geometry is whole. A row, an id and a group take memory.
+    // Goes to what the item of this number leads to that was added last and is in no body, and past the ends behind it, whose sizes are
+    // judged before a row is kept; answers whether a geometry is whole. A row, an id and a group take memory.
     fn advance(&mut self, flat: &mut Flat, number: u64) -> Result<bool, Stop>
         requires byte { number < 256 ⊎ IsSpelled self.old.phase }
         requires apart { stands_apart self.old.phase ≡ true }
@@ -215,35 +227,46 @@ impl Builder {
             self.alloc,
             &mut self.groups,
             phase,
-            self.position,
             self.bytes,
             number,
         )?;
-        if let Phase::End(head) = reached {
-            return self.finish(head);
+        if let Phase::End(head, kind) = reached {
+            let ended = self.finish(head)?;
+            push_row(flat, whole_row(head, kind), &[])?;
+            return Ok(ended);
         }
         self.phase = reached;
         Ok(false)
     }
 
-    /// Goes to what the item of this number leads to that was added last, and past the ends behind it; answers whether a geometry is
-    /// whole. A row, a point, an id and a group take memory.
+    // Goes to what the item of this number leads to that was added last, and past the ends behind it; answers whether a geometry is
+    // whole. A row, a point, an id and a group take memory.
     fn go_on(&mut self, flat: &mut Flat, number: u64) -> Result<bool, Stop>
         requires byte { number < 256 ⊎ IsSpelled self.old.phase }
         ensures limits { self.new.limits ≡ self.old.limits }
         ensures bytes { self.new.bytes ≤ self.old.bytes }
         ensures landed { StepFits (step_of self.old.phase) → IsAt (outline_ends self.old.bytes (outline_advanced self.old.bytes number (outline_in self.old))) (sums_of self.old) result self.new }
         ensures rows { IsPlacedIn self.old.groups.items self.old.phase → OnOk result (flat.new ≡ applied (change_of self.old.position number (outline_in self.old)) flat.old) }
-        ensures placed { IsPlacedIn self.old.groups.items self.old.phase → OnOk result (IsPlacedIn self.new.groups.items self.new.phase) }
+        ensures placed { StepFits (step_of self.old.phase) → IsPlacedIn self.old.groups.items self.old.phase → OnOk result (IsPlacedIn self.new.groups.items self.new.phase) }
     {
-        match take_in_body(&mut self.phase, flat, self.position, number)? {
-            Led::On => Ok(false),
-            Led::Ended(head) => self.finish(head),
-            Led::Elsewhere => self.advance(flat, number),
-        }
+        let Phase::Body(head, body) = &mut self.phase else {
+            return self.advance(flat, number);
+        };
+        let ended = body.take(
+            flat,
+            &mut self.groups,
+            *head,
+            number,
+            self.position,
+            self.bytes,
+        )?;
+        let Some(whole) = ended else {
+            return Ok(false);
+        };
+        Ok(self.settle(whole))
     }
 
-    /// The place behind the next item, where that is in range.
+    // The place behind the next item, where that is in range.
     fn moved(&self, number: u64) -> Option<Pt>
         ensures place { (r : Role) → outline_role (sums_of self.now) (outline_in self.now) ≡ Some r → IfSome result (λ p. p ≡ moved_by self.now.position r number) }
         ensures found { refusal self.now.limits (sums_of self.now) (outline_in self.now) number ≡ None → IsSome result }
@@ -259,7 +282,7 @@ impl Builder {
         }
     }
 
-    /// Adds the next item to the sums.
+    // Adds the next item to the sums.
     fn add(&mut self, number: u64, length: u64)
         requires room { self.old.bytes + length < 2 ^ 64 }
         requires allowed { refusal self.old.limits (sums_of self.old) (outline_in self.old) number ≡ None }
@@ -279,15 +302,14 @@ impl Builder {
         self.position = position;
     }
 
-    /// Takes an item with this number, which has so many bytes, and the ends behind it; answers whether a geometry is whole. A row, a
-    /// point, an id and a group take memory.
-    pub fn take(&mut self, flat: &mut Flat, number: u64, length: u64) -> Result<bool, Stop>
+    // Takes an item with this number, which has so many bytes, and the ends behind it; answers whether a geometry is whole. A row, a
+    // point, an id and a group take memory.
+    pub(crate) fn take(&mut self, flat: &mut Flat, number: u64, length: u64) -> Result<bool, Stop>
         requires byte { number < 256 ⊎ IsSpelled self.old.phase }
         requires room { self.old.bytes + length < 2 ^ 64 }
         ensures limits { self.new.limits ≡ self.old.limits }
         ensures bytes { self.new.bytes ≤ self.old.bytes + length }
-        ensures taken { (front : List ℕ) (i : Item) → StandsBehind front flat.old self.old → outline_role (sums_of self.old) (outline_in self.old) ≡ Some i.role
-            → Gives i.role i.number i.bytes → i.number ≡ number → length_of i.bytes ≡ length → IsTaken self.old.limits (front ++ i.bytes) result flat.new self.new }
+        ensures taken { Takes self.old number length flat.old result flat.new self.new }
     {
         if let Some(reason) = self.objection(number) {
             return Err(Stop::Refused(reason));
@@ -296,9 +318,9 @@ impl Builder {
         self.go_on(flat, number)
     }
 
-    /// Takes points of a body as far as they stand whole in front and it is not done with them, and answers how many bytes they had. They
-    /// take memory.
-    pub fn take_points(&mut self, flat: &mut Flat, rest: &[u8]) -> Result<usize, AllocError>
+    // Takes points of a body as far as they stand whole in front and it is not done with them, and answers how many bytes they had. They
+    // take memory.
+    pub(crate) fn take_points(&mut self, flat: &mut Flat, rest: &[u8]) -> Result<usize, AllocError>
         requires room { self.old.bytes + length_of rest.now < 2 ^ 64 }
         ensures limits { self.new.limits ≡ self.old.limits }
         ensures within { IfOk result (λ used. used ≤ length_of rest.now) }

@@ -62,6 +62,7 @@ impl Engine {
 
     /// Takes points of a body as far as they stand whole in front, where no byte of a number is held, and answers how many bytes they
     /// had, up to all of the piece. The last point of a body is left, so no geometry begins or ends in them. Points take memory.
+    #[tactic(auto, using(crate::proofs::Stepping::stays_put))]
     pub fn take_points(&mut self, flat: &mut Flat, rest: &[u8]) -> Result<usize, AllocError>
         requires room { count_of self.old + length_of rest.now ≤ 2 ^ 63 }
         ensures limits { allowance_of self.new ≡ allowance_of self.old }

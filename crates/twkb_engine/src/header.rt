@@ -1,87 +1,55 @@
 //! From a type byte to a body.
-ghost use Rattle.std.specs.Prelude.{◌≡◌, ◌<◌, ◌/◌, ◌%◌, length, None, IfOk, OnOk};
+ghost use Rattle.std.specs.Prelude.{◌≡◌, ◌<◌, ◌/◌, ◌%◌, length, None};
 ghost use Rattle.twkb_num.specs.Zigzag.{unzigzag_of};
-ghost use Rattle.twkb_tree.specs.Tree.{IsPrecision};
-ghost use Rattle.twkb_grammar.specs.Bits.{bit};
-ghost use Rattle.twkb_grammar.specs.Machine.{asked, with_option, kind_at as kind_of_number};
+ghost use Rattle.twkb_grammar.specs.Machine as machine;
+ghost use Rattle.twkb_grammar.specs.Machine.{asked, with_option, kind_at};
+ghost use Rattle.twkb_grammar.specs.Noting.{shown};
 ghost use Rattle.twkb_outline.specs.Outline.{options, begins, OnMetadata, OnBody};
-ghost use Rattle.twkb_outline.specs.Growing.{header_change, applied, id_in};
+ghost use Rattle.twkb_outline.specs.Growing.{header_change, id_in};
 ghost use Rattle.twkb_engine.specs.Body.{form_of, spot_of};
-ghost use Rattle.twkb_engine.specs.State.{kind_of, head_of, step_of, groups_of, role_of_part, roles_behind, roles_from, size_roles, box_roles, IsPlaced, IsPlacedIn, IsShallow};
+ghost use Rattle.twkb_engine.specs.State.{kind_of, head_of, step_of, groups_of, role_of_part, roles_behind, roles_from, size_roles, box_roles, own_change, IsPlaced, IsPlacedIn, IsShallow};
 
 use crate::body::Body;
 use crate::lefts::{Lefts, Spot};
 use crate::names::Names;
 use crate::phase::{Groups, Kind, Many, Optional, Phase};
 use crate::place::{Head, Typed};
-use crate::site::{Form, push_row, whole_row};
-use std::alloc::{AllocError, Global};
-use twkb_flat::Flat;
+use crate::site::Form;
+use std::alloc::Global;
+use twkb_header::{Metadata, TypeByte};
+use twkb_tree::Kind as RowKind;
 
-/// Bit of a metadata byte: a box follows.
-pub const BOX: u32 = 0;
-
-/// Bit of a metadata byte: a size follows.
-pub const SIZE: u32 = 1;
-
-/// Bit of a metadata byte: ids follow the count of members.
-pub const IDS: u32 = 2;
-
-/// Bit of a metadata byte: the extended dimensions byte follows.
-pub const EXTENDED: u32 = 3;
-
-/// Bit of a metadata byte: there is no body.
-pub const EMPTY: u32 = 4;
-
-/// Numbers of a box behind the first.
+// Numbers of a box behind the first.
 const BOX_REST: u8 = 3;
 
-/// Whether a bit of a byte is set; bit 0 is the lowest.
-pub fn has_bit(number: u64, position: u32) -> bool
-    requires { position < 8 }
-    ensures { result ≡ bit number position }
+// The type whose rows are of this kind; no type has rings.
+fn typed_as(kind: RowKind) -> Kind
+    ensures { (k : machine.Kind) → shown k ≡ kind → kind_of result ≡ k }
 {
-    number >> position & 1 == 1
-}
-
-/// The precision of a type byte's upper half, -8 to 7 (TWKB, type and precision).
-pub fn precision_at(half: u64) -> i8
-    requires { half < 16 }
-    ensures value { result ≡ unzigzag_of half }
-    ensures fits { IsPrecision result }
-{
-    let size = (half >> 1) as i8;
-    if half & 1 == 1 { !size } else { size }
-}
-
-/// The type of a type byte's lower half, which is 1 to 7.
-fn kind_at(number: u64) -> Kind
-    ensures { kind_of result ≡ kind_of_number number }
-{
-    match number {
-        1 => Kind::Simple(Form::Point),
-        2 => Kind::Simple(Form::Line),
-        3 => Kind::Simple(Form::Polygon),
-        4 => Kind::Simple(Form::MultiPoint),
-        5 => Kind::Simple(Form::MultiLine),
-        6 => Kind::Simple(Form::MultiPolygon),
-        _ => Kind::Collection,
+    match kind {
+        RowKind::Point => Kind::Simple(Form::Point),
+        RowKind::Linestring => Kind::Simple(Form::Line),
+        RowKind::Polygon => Kind::Simple(Form::Polygon),
+        RowKind::MultiPoint => Kind::Simple(Form::MultiPoint),
+        RowKind::MultiLinestring => Kind::Simple(Form::MultiLine),
+        RowKind::MultiPolygon => Kind::Simple(Form::MultiPolygon),
+        RowKind::Ring | RowKind::Collection => Kind::Collection,
     }
 }
 
-/// What follows a type byte.
-pub fn after_type(number: u64) -> Phase
+// What follows a type byte.
+pub(crate) fn after_type(number: u64) -> Phase
     requires { number < 256 }
-    ensures step { step_of result ≡ OnMetadata (kind_of_number (number % 16)) (unzigzag_of (number / 16)) }
+    ensures step { step_of result ≡ OnMetadata (kind_at (number % 16)) (unzigzag_of (number / 16)) }
 {
-    let typed = Typed {
-        kind: kind_at(number % 16),
-        precision: precision_at(number / 16),
-    };
-    Phase::Metadata(typed)
+    let byte = TypeByte::from_number(number);
+    Phase::Metadata(Typed {
+        kind: typed_as(byte.kind()),
+        precision: byte.precision(),
+    })
 }
 
-/// The id of the geometry that is read in these collections.
+// The id of the geometry that is read in these collections.
 fn id_within(groups: &Groups) -> Option<i64>
     ensures { result ≡ id_in (groups_of groups.now.items) }
 {
@@ -92,18 +60,17 @@ fn id_within(groups: &Groups) -> Option<i64>
     groups[depth - 1].names.next()
 }
 
-/// The header behind a metadata byte, before its optional parts.
-pub fn head_within(groups: &Groups, typed: Typed, bytes: u64, number: u64) -> Head
-    requires few { IsShallow groups.now.items }
-    requires byte { number < 256 }
-    ensures head { head_of result ≡ record { precision = typed.precision; meta = number; size = None; from = bytes } }
-    ensures metadata { result.metadata ≡ number }
+// The header behind a metadata byte, before its optional parts.
+pub(crate) fn head_within(groups: &Groups, typed: Typed, bytes: u64, metadata: Metadata) -> Head
+    requires { IsShallow groups.now.items }
+    ensures head { head_of result ≡ record { precision = typed.precision; meta = metadata; size = None; from = bytes } }
+    ensures metadata { result.metadata ≡ metadata }
     ensures depth { result.depth ≡ length (groups_of groups.now.items) }
     ensures id { result.id ≡ id_in (groups_of groups.now.items) }
 {
     Head {
         precision: typed.precision,
-        metadata: number as u8,
+        metadata: metadata.byte(),
         size: None,
         from: bytes,
         depth: groups.len() as u32,
@@ -111,38 +78,38 @@ pub fn head_within(groups: &Groups, typed: Typed, bytes: u64, number: u64) -> He
     }
 }
 
-/// The part behind the size, or behind where it would stand.
-fn behind_size(metadata: u8) -> Option<Optional>
+// The part behind the size, or behind where it would stand.
+fn behind_size(metadata: Metadata) -> Option<Optional>
     ensures { roles_from metadata result ≡ box_roles metadata }
 {
-    if has_bit(u64::from(metadata), BOX) {
+    if metadata.has_box() {
         return Some(Optional::Box { left: BOX_REST });
     }
     None
 }
 
-/// The part behind the extended byte, or behind where it would stand.
-fn behind_extended(metadata: u8) -> Option<Optional>
+// The part behind the extended byte, or behind where it would stand.
+fn behind_extended(metadata: Metadata) -> Option<Optional>
     ensures { roles_from metadata result ≡ size_roles metadata }
 {
-    if has_bit(u64::from(metadata), SIZE) {
+    if metadata.has_size() {
         return Some(Optional::Size);
     }
     behind_size(metadata)
 }
 
-/// The part behind the metadata byte.
-fn first_part(metadata: u8) -> Option<Optional>
+// The part behind the metadata byte.
+fn first_part(metadata: Metadata) -> Option<Optional>
     ensures { roles_from metadata result ≡ asked metadata }
 {
-    if has_bit(u64::from(metadata), EXTENDED) {
+    if metadata.has_extended() {
         return Some(Optional::Extended);
     }
     behind_extended(metadata)
 }
 
-/// The part behind this one.
-fn next_part(metadata: u8, part: Optional) -> Option<Optional>
+// The part behind this one.
+fn next_part(metadata: Metadata, part: Optional) -> Option<Optional>
     ensures { roles_from metadata result ≡ roles_behind metadata part }
 {
     match part {
@@ -153,8 +120,8 @@ fn next_part(metadata: u8, part: Optional) -> Option<Optional>
     }
 }
 
-/// The header with an optional part of this number, behind so many bytes.
-pub fn head_with(mut head: Head, part: Optional, bytes: u64, number: u64) -> Head
+// The header with an optional part of this number, behind so many bytes.
+pub(crate) fn head_with(mut head: Head, part: Optional, bytes: u64, number: u64) -> Head
     ensures head { head_of result ≡ with_option (head_of head) (role_of_part part) number bytes }
     ensures precision { result.precision ≡ head.precision }
     ensures metadata { result.metadata ≡ head.metadata }
@@ -172,7 +139,7 @@ pub fn head_with(mut head: Head, part: Optional, bytes: u64, number: u64) -> Hea
     head
 }
 
-/// A body without members that have ids begins. Takes no memory.
+// A body without members that have ids begins. Takes no memory.
 fn simple_body(alloc: Global, head: Head, form: Form, spot: Spot) -> Phase
     ensures step { step_of result ≡ OnBody (head_of head) (form_of form) None (spot_of spot) }
     ensures placed { IsPlaced head.depth head.id result }
@@ -181,7 +148,7 @@ fn simple_body(alloc: Global, head: Head, form: Form, spot: Spot) -> Phase
     Phase::Body(head, Body { form, names, spot })
 }
 
-/// The body begins. Takes no memory.
+// The body begins. Takes no memory.
 fn begin_body(alloc: Global, kind: Kind, head: Head) -> Phase
     ensures step { step_of result ≡ begins (kind_of kind) (head_of head) }
     ensures placed { IsPlaced head.depth head.id result }
@@ -204,67 +171,53 @@ fn begin_body(alloc: Global, kind: Kind, head: Head) -> Phase
     Phase::Count { many, head }
 }
 
-/// Goes to a part of a header, or else behind it: a geometry without a body has a row at once, for which it takes memory.
-fn go_to(
-    flat: &mut Flat,
-    alloc: Global,
-    kind: Kind,
-    head: Head,
-    part: Option<Optional>,
-) -> Result<Phase, AllocError>
-    ensures step { IfOk result (λ phase. step_of phase ≡ options (kind_of kind) (head_of head) (roles_from head.metadata part)) }
-    ensures placed { IfOk result (IsPlaced head.depth head.id) }
-    ensures rows { OnOk result (flat.new ≡ applied (header_change head.depth head.id (kind_of kind) head.precision head.metadata (roles_from head.metadata part)) flat.old) }
+// Goes to a part of a header, or else behind it. Takes no memory.
+fn go_to(alloc: Global, kind: Kind, head: Head, part: Option<Optional>) -> Phase
+    ensures step { step_of result ≡ options (kind_of kind) (head_of head) (roles_from head.metadata part) }
+    ensures placed { IsPlaced head.depth head.id result }
+    ensures row { own_change result ≡ header_change head.depth head.id (kind_of kind) head.precision head.metadata (roles_from head.metadata part) }
 {
     if let Some(part) = part {
-        return Ok(Phase::Optional { kind, head, part });
+        return Phase::Optional { kind, head, part };
     }
-    if has_bit(u64::from(head.metadata), EMPTY) {
-        push_row(flat, whole_row(head, kind), &[])?;
-        return Ok(Phase::End(head));
+    if Metadata::from_byte(head.metadata).is_empty() {
+        return Phase::End(head, kind);
     }
-    Ok(begin_body(alloc, kind, head))
+    begin_body(alloc, kind, head)
 }
 
-/// What follows a metadata byte. Takes memory for a row.
-pub fn after_metadata(
-    flat: &mut Flat,
+// What follows a metadata byte. Takes no memory.
+pub(crate) fn after_metadata(
     alloc: Global,
     groups: &Groups,
     typed: Typed,
     bytes: u64,
     number: u64,
-) -> Result<Phase, AllocError>
+) -> Phase
     requires few { IsShallow groups.now.items }
     requires byte { number < 256 }
-    ensures step { IfOk result (λ phase. step_of phase ≡ options (kind_of typed.kind) (record { precision = typed.precision; meta = number; size = None; from = bytes }) (asked number)) }
-    ensures placed { IfOk result (IsPlacedIn groups.now.items) }
-    ensures rows { OnOk result (flat.new ≡ applied (header_change (length (groups_of groups.now.items)) (id_in (groups_of groups.now.items)) (kind_of typed.kind) typed.precision number (asked number)) flat.old) }
+    ensures step { step_of result ≡ options (kind_of typed.kind) (record { precision = typed.precision; meta = number; size = None; from = bytes }) (asked number) }
+    ensures placed { IsPlacedIn groups.now.items result }
+    ensures row { own_change result ≡ header_change (length (groups_of groups.now.items)) (id_in (groups_of groups.now.items)) (kind_of typed.kind) typed.precision number (asked number) }
 {
-    let head = head_within(groups, typed, bytes, number);
-    go_to(flat, alloc, typed.kind, head, first_part(head.metadata))
+    let metadata = Metadata::from_number(number);
+    let head = head_within(groups, typed, bytes, metadata);
+    go_to(alloc, typed.kind, head, first_part(metadata))
 }
 
-/// What follows an optional part. Takes memory for a row.
-pub fn after_option(
-    flat: &mut Flat,
+// What follows an optional part. Takes no memory.
+pub(crate) fn after_option(
     alloc: Global,
     kind: Kind,
     head: Head,
     part: Optional,
     bytes: u64,
     number: u64,
-) -> Result<Phase, AllocError>
-    ensures step { IfOk result (λ phase. step_of phase ≡ options (kind_of kind) (with_option (head_of head) (role_of_part part) number bytes) (roles_behind head.metadata part)) }
-    ensures placed { IfOk result (IsPlaced head.depth head.id) }
-    ensures rows { OnOk result (flat.new ≡ applied (header_change head.depth head.id (kind_of kind) head.precision head.metadata (roles_behind head.metadata part)) flat.old) }
+) -> Phase
+    ensures step { step_of result ≡ options (kind_of kind) (with_option (head_of head) (role_of_part part) number bytes) (roles_behind head.metadata part) }
+    ensures placed { IsPlaced head.depth head.id result }
+    ensures row { own_change result ≡ header_change head.depth head.id (kind_of kind) head.precision head.metadata (roles_behind head.metadata part) }
 {
-    let next = next_part(head.metadata, part);
-    go_to(
-        flat,
-        alloc,
-        kind,
-        head_with(head, part, bytes, number),
-        next,
-    )
+    let next = next_part(Metadata::from_byte(head.metadata), part);
+    go_to(alloc, kind, head_with(head, part, bytes, number), next)
 }

@@ -6,20 +6,20 @@ ghost use Rattle.twkb_grammar.specs.Machine.{kind_number};
 ghost use Rattle.twkb_outline.specs.Outline.{step_role};
 ghost use Rattle.twkb_engine.specs.State.{kind_of, step_of};
 
-use crate::header::{EMPTY, has_bit};
 use crate::lefts::Spot;
 use crate::phase::{Kind, Many, Phase};
 use crate::site::Form;
+use twkb_header::Metadata;
 
-/// Whether a geometry of this type and with this metadata byte is a point that its header announces.
-pub fn announces_point(kind: Kind, number: u64) -> bool
+// Whether a geometry of this type and with this metadata byte is a point that its header announces.
+pub(crate) fn announces_point(kind: Kind, number: u64) -> bool
     ensures { result ≡ announces (kind_number (kind_of kind)) number }
 {
-    kind == Kind::Simple(Form::Point) && !has_bit(number, EMPTY)
+    kind == Kind::Simple(Form::Point) && !Metadata::from_number(number).is_empty()
 }
 
-/// The nodes and the points that the item announces which has this number.
-pub fn announced(phase: &Phase, number: u64) -> (u64, u64)
+// The nodes and the points that the item announces which has this number.
+pub(crate) fn announced(phase: &Phase, number: u64) -> (u64, u64)
     ensures nodes { (level bytes : ℕ) (r : Role) → step_role level bytes (step_of phase.now) ≡ Some r → result.0 ≡ nodes_by r number }
     ensures points { (level bytes : ℕ) (r : Role) → step_role level bytes (step_of phase.now) ≡ Some r → result.1 ≡ points_by r number }
 {

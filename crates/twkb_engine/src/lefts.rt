@@ -1,39 +1,39 @@
 //! How many values are left in the lists of a body.
-ghost use Rattle.std.specs.Prelude.{◌≡◌, ◌≤◌, [], length};
+ghost use Rattle.std.specs.Prelude.{◌≡◌, ◌≤◌, length};
 ghost use Rattle.twkb_tree.specs.Tree.{Ids};
 ghost use Rattle.twkb_tree.specs.Rows.{other_ids};
 ghost use Rattle.twkb_grammar.specs.Machine.{Form, Head};
 ghost use Rattle.twkb_outline.specs.Outline.{shut, listing, OnBody, OnEnd};
 ghost use Rattle.twkb_engine.specs.Body.{lefts_of, after_of, spot_of};
 
-/// How many values are left in each open list behind the one that stands open, the innermost first.
+// How many values are left in each open list behind the one that stands open, the innermost first.
 #[derive(Clone, Copy, Debug, PartialEq, Eq)]
-pub enum Lefts {
+pub(crate) enum Lefts {
     Empty,
     One(u64),
     Two(u64, u64),
     Three(u64, u64, u64),
 }
 
-/// What a body wants next.
+// What a body wants next.
 #[derive(Clone, Copy, Debug, PartialEq, Eq)]
-pub enum Spot {
+pub(crate) enum Spot {
     X(Lefts),
     Y(Lefts),
-    /// The count of a line's or ring's points.
+    // The count of a line's or ring's points.
     LineCount(Lefts),
-    /// The count of a polygon's rings.
+    // The count of a polygon's rings.
     AreaCount(Lefts),
 }
 
-/// What stands behind a value that is done: what the body wants next, or its end; and whether the next member begins.
+// What stands behind a value that is done: what the body wants next, or its end; and whether the next member begins.
 #[derive(Clone, Copy, Debug, PartialEq, Eq)]
-pub struct After {
-    pub spot: Option<Spot>,
-    pub next_member: bool,
+pub(crate) struct After {
+    pub(crate) spot: Option<Spot>,
+    pub(crate) next_member: bool,
 }
 
-/// The next value of the outermost list begins.
+// The next value of the outermost list begins.
 fn member(spot: Spot) -> After
     ensures { (h : Head) (f : Form) (ids : Ids) → after_of h f ids result ≡ OnBody h f (other_ids ids) (spot_of spot) }
 {
@@ -43,8 +43,8 @@ fn member(spot: Spot) -> After
     }
 }
 
-/// The next value of a list within others begins.
-fn part(spot: Spot) -> After
+// The next value of a list within others begins.
+pub(crate) fn part(spot: Spot) -> After
     ensures { (h : Head) (f : Form) (ids : Ids) → after_of h f ids result ≡ OnBody h f ids (spot_of spot) }
 {
     After {
@@ -53,7 +53,7 @@ fn part(spot: Spot) -> After
     }
 }
 
-/// The body is done.
+// The body is done.
 fn done() -> After
     ensures { (h : Head) (f : Form) (ids : Ids) → after_of h f ids result ≡ OnEnd h }
 {
@@ -63,7 +63,7 @@ fn done() -> After
     }
 }
 
-/// A polygon is done.
+// A polygon is done.
 fn shut_area(lefts: Lefts) -> After
     ensures { length (lefts_of lefts) ≤ 1 → (h : Head) (f : Form) (ids : Ids) → after_of h f ids result ≡ shut h f ids 2 (lefts_of lefts) }
 {
@@ -73,7 +73,7 @@ fn shut_area(lefts: Lefts) -> After
     }
 }
 
-/// A line or ring is done.
+// A line or ring is done.
 fn shut_line(lefts: Lefts) -> After
     ensures { length (lefts_of lefts) ≤ 2 → (h : Head) (f : Form) (ids : Ids) → after_of h f ids result ≡ shut h f ids 1 (lefts_of lefts) }
 {
@@ -94,8 +94,8 @@ fn shut_line(lefts: Lefts) -> After
     }
 }
 
-/// A point is done.
-pub fn shut_point(lefts: Lefts) -> After
+// A point is done.
+pub(crate) fn shut_point(lefts: Lefts) -> After
     ensures { (h : Head) (f : Form) (ids : Ids) → after_of h f ids result ≡ shut h f ids 0 (lefts_of lefts) }
 {
     match lefts {
@@ -121,8 +121,8 @@ pub fn shut_point(lefts: Lefts) -> After
     }
 }
 
-/// A list of so many points begins.
-pub fn open_line(lefts: Lefts, count: u64) -> After
+// A list of so many points begins.
+pub(crate) fn open_line(lefts: Lefts, count: u64) -> After
     ensures { length (lefts_of lefts) ≤ 2 → (h : Head) (f : Form) (ids : Ids) → after_of h f ids result ≡ listing h f ids 0 count (lefts_of lefts) }
 {
     if count == 0 {
@@ -136,8 +136,8 @@ pub fn open_line(lefts: Lefts, count: u64) -> After
     }
 }
 
-/// A list of so many lines or rings begins.
-pub fn open_area(lefts: Lefts, count: u64) -> After
+// A list of so many lines or rings begins.
+pub(crate) fn open_area(lefts: Lefts, count: u64) -> After
     ensures { length (lefts_of lefts) ≤ 1 → (h : Head) (f : Form) (ids : Ids) → after_of h f ids result ≡ listing h f ids 1 count (lefts_of lefts) }
 {
     if count == 0 {
@@ -148,14 +148,4 @@ pub fn open_area(lefts: Lefts, count: u64) -> After
         Lefts::One(areas) => part(Spot::LineCount(Lefts::Two(count - 1, areas))),
         _ => done(),
     }
-}
-
-/// A list of so many polygons begins.
-pub fn open_areas(count: u64) -> After
-    ensures { (h : Head) (f : Form) (ids : Ids) → after_of h f ids result ≡ listing h f ids 2 count [] }
-{
-    if count == 0 {
-        return done();
-    }
-    part(Spot::AreaCount(Lefts::One(count - 1)))
 }

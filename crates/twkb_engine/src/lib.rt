@@ -22,5 +22,4 @@ mod whole;
 pub use awaited::Awaited;
 pub use blob_reason::BlobReason;
 pub use engine::Engine;
-pub use header::precision_at;
 pub use stop::Stop;

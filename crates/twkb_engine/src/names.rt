@@ -2,19 +2,19 @@
 ghost use Rattle.std.specs.Prelude.{◌≡◌, if◌then◌else◌, Some, None};
 ghost use Rattle.twkb_tree.specs.Rows.{first_id, other_ids};
 
-/// The ids of the members, if they have any, and how many of them were given.
+// The ids of the members, if they have any, and how many of them were given.
 #[derive(Debug, Drop)]
-pub struct Names {
-    pub named: bool,
-    pub ids: Vec<i64>,
-    pub given: usize,
+pub(crate) struct Names {
+    pub(crate) named: bool,
+    pub(crate) ids: Vec<i64>,
+    pub(crate) given: usize,
 }
 
 impl Names {
     ghost use Rattle.twkb_engine.specs.Names.{ids_of};
 
-    /// No ids, or these.
-    pub fn new(named: bool, ids: Vec<i64>) -> Names
+    // No ids, or these.
+    pub(crate) fn new(named: bool, ids: Vec<i64>) -> Names
         ensures { ids_of result ≡ (if named then Some ids.items else None) }
     {
         Names {
@@ -24,8 +24,8 @@ impl Names {
         }
     }
 
-    /// The id of the member that stands open.
-    pub fn next(&self) -> Option<i64>
+    // The id of the member that stands open.
+    pub(crate) fn next(&self) -> Option<i64>
         ensures { result ≡ first_id (ids_of self.now) }
     {
         if !self.named {
@@ -38,8 +38,8 @@ impl Names {
         }
     }
 
-    /// The next member begins.
-    pub fn go_on(&mut self)
+    // The next member begins.
+    pub(crate) fn go_on(&mut self)
         ensures { ids_of self.new ≡ other_ids (ids_of self.old) }
     {
         if self.given < self.ids.len() {

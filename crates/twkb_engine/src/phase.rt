@@ -10,50 +10,50 @@ use smallvec::SmallVec;
 use std::alloc::Global;
 use std::default::MadeWith;
 
-/// The seven types (TWKB, geometry types).
+// The seven types (TWKB, geometry types).
 #[derive(Clone, Copy, Debug, PartialEq, Eq)]
-pub enum Kind {
+pub(crate) enum Kind {
     Simple(Form),
     Collection,
 }
 
-/// What the count of a geometry with members counts.
+// What the count of a geometry with members counts.
 #[derive(Clone, Copy, Debug, PartialEq, Eq)]
-pub enum Many {
+pub(crate) enum Many {
     Points,
     Lines,
     Areas,
     Geometries,
 }
 
-/// A part that stands between the metadata byte and the body.
+// A part that stands between the metadata byte and the body.
 #[derive(Clone, Copy, Debug, PartialEq, Eq)]
-pub enum Optional {
-    /// The extended dimensions byte.
+pub(crate) enum Optional {
+    // The extended dimensions byte.
     Extended,
-    /// The size.
+    // The size.
     Size,
-    /// A number of the box, with so many behind it.
+    // A number of the box, with so many behind it.
     Box { left: u8 },
 }
 
-/// A collection that is begun and not finished: its header, the ids from the member on that stands open, and how many follow
-/// that one.
+// A collection that is begun and not finished: its header, the ids from the member on that stands open, and how many follow
+// that one.
 #[derive(Debug, Drop)]
-pub struct Group {
-    pub head: Head,
-    pub names: Names,
-    pub left: u64,
+pub(crate) struct Group {
+    pub(crate) head: Head,
+    pub(crate) names: Names,
+    pub(crate) left: u64,
 }
 
-/// More collections than can be open.
-pub const DEEPEST: usize = 64;
+// More collections than can be open.
+pub(crate) const DEEPEST: usize = 64;
 
-/// How many open collections take no memory of their own.
-pub const INLINE: usize = 1;
+// How many open collections take no memory of their own.
+pub(crate) const INLINE: usize = 1;
 
-/// The open collections, the innermost last.
-pub type Groups = SmallVec<Group, INLINE>;
+// The open collections, the innermost last.
+pub(crate) type Groups = SmallVec<Group, INLINE>;
 
 impl MadeWith<Global> for Group {
     fn made_with(alloc: Global) -> Group {
@@ -72,40 +72,40 @@ impl MadeWith<Global> for Group {
     }
 }
 
-/// What comes next.
+// What comes next.
 #[derive(Debug, Drop)]
-pub enum Phase {
-    /// A type byte.
+pub(crate) enum Phase {
+    // A type byte.
     Header,
-    /// A metadata byte.
+    // A metadata byte.
     Metadata(Typed),
-    /// A part that a metadata byte asked for.
+    // A part that a metadata byte asked for.
     Optional {
         kind: Kind,
         head: Head,
         part: Optional,
     },
-    /// The count before ids.
+    // The count before ids.
     Count {
         many: Many,
         head: Head,
     },
-    /// An id, behind some, with so many more behind it.
+    // An id, behind some, with so many more behind it. The members are a first one and these others.
     Id {
         many: Many,
         head: Head,
-        members: u64,
+        others: u64,
         ids: Vec<i64>,
         left: u64,
     },
-    /// A number of a body.
+    // A number of a body.
     Body(Head, Body),
-    /// The end of a geometry.
-    End(Head),
+    // The end of a geometry of this type that has no body, or no members: its own row is still to come.
+    End(Head, Kind),
 }
 
-/// Whether the item that comes next is a byte, and no number.
-pub fn wants_byte(phase: &Phase) -> bool
+// Whether the item that comes next is a byte, and no number.
+pub(crate) fn wants_byte(phase: &Phase) -> bool
     ensures spelled { (result ≡ false) → IsSpelled phase.now }
     ensures byte { (result ≡ true) → IsByte phase.now }
 {

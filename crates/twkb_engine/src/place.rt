@@ -4,24 +4,24 @@ ghost use Rattle.twkb_tree.specs.Tree.{IsPrecision};
 
 use crate::phase::Kind;
 
-/// What a type byte says.
+// What a type byte says.
 #[derive(Clone, Copy, Debug)]
-pub struct Typed {
-    pub kind: Kind,
-    pub precision: i8,
+pub(crate) struct Typed {
+    pub(crate) kind: Kind,
+    pub(crate) precision: i8,
     ghost fits: { IsPrecision precision },
 }
 
-/// A header: what its type byte and metadata byte say, its size if it has one, and behind how many bytes that counts; and where its
-/// geometry stands, how deep and with which id.
+// A header: what its type byte and metadata byte say, its size if it has one, and behind how many bytes that counts; and where its
+// geometry stands, how deep and with which id.
 #[derive(Clone, Copy, Debug)]
-pub struct Head {
-    pub precision: i8,
-    pub metadata: u8,
-    pub size: Option<u64>,
-    pub from: u64,
-    pub depth: u32,
-    pub id: Option<i64>,
+pub(crate) struct Head {
+    pub(crate) precision: i8,
+    pub(crate) metadata: u8,
+    pub(crate) size: Option<u64>,
+    pub(crate) from: u64,
+    pub(crate) depth: u32,
+    pub(crate) id: Option<i64>,
     ghost fits: { IsPrecision precision },
     ghost shallow: { depth + 2 < 2 ^ 32 },
 }

@@ -18,19 +18,19 @@ use twkb_flat::Flat;
 use twkb_front::front_point;
 use twkb_points::Pt;
 
-/// Points that were taken.
+// Points that were taken.
 #[derive(Clone, Copy, Debug, PartialEq, Eq)]
-pub struct Taken {
-    /// How many bytes they had.
-    pub used: usize,
-    /// The last of them, or where none was taken the point before.
-    pub position: Pt,
+pub(crate) struct Taken {
+    // How many bytes they had.
+    pub(crate) used: usize,
+    // The last of them, or where none was taken the point before.
+    pub(crate) position: Pt,
 }
 
-/// The points of the largest geometry.
+// The points of the largest geometry.
 const MOST_POINTS: u64 = 1 << 24;
 
-/// Whether so many points may come to the last row: wherever a list of points is read they may.
+// Whether so many points may come to the last row: wherever a list of points is read they may.
 fn takes_points(flat: &Flat, count: u64) -> bool
     ensures line { result ≡ true → EndsInLine flat.now }
     ensures room { result ≡ true → length (row_points flat.now) + count ≤ 2 ^ 24 }
@@ -41,8 +41,8 @@ fn takes_points(flat: &Flat, count: u64) -> bool
     count <= MOST_POINTS - u64::from(flat.point_count())
 }
 
-/// Takes points of a list that stand whole in front, while others have to follow them, and answers how many values are left behind the
-/// one that is wanted then. Takes memory.
+// Takes points of a list that stand whole in front, while others have to follow them, and answers how many values are left behind the
+// one that is wanted then. Takes memory.
 fn take_list(flat: &mut Flat, most: u64, from: Pt, bytes: &[u8]) -> Result<(Taken, u64), AllocError>
     requires line { EndsInLine flat.old }
     requires room { length (row_points flat.old) + most ≤ 2 ^ 24 }
@@ -65,7 +65,7 @@ fn take_list(flat: &mut Flat, most: u64, from: Pt, bytes: &[u8]) -> Result<(Take
     Ok((Taken { used, position }, left))
 }
 
-/// How many values are left in the innermost list, if there are any.
+// How many values are left in the innermost list, if there are any.
 fn first_left(lefts: Lefts) -> Option<u64>
     ensures { IfSome result (λ left. lefts_of lefts ≡ left ∷ outer (lefts_of lefts)) }
 {
@@ -77,7 +77,7 @@ fn first_left(lefts: Lefts) -> Option<u64>
     }
 }
 
-/// The same lists, with so many values left in the innermost.
+// The same lists, with so many values left in the innermost.
 fn with_left(lefts: Lefts, left: u64) -> Lefts
     ensures { (n : ℕ) → lefts_of lefts ≡ n ∷ outer (lefts_of lefts) → lefts_of result ≡ left ∷ outer (lefts_of lefts) }
 {
@@ -89,7 +89,7 @@ fn with_left(lefts: Lefts, left: u64) -> Lefts
     }
 }
 
-/// Whether the ids stay where the next point of the innermost list begins.
+// Whether the ids stay where the next point of the innermost list begins.
 fn keeps_ids(names: &Names, lefts: Lefts) -> bool
     ensures { result ≡ true → next_ids (outer (lefts_of lefts)) (ids_of names.now) ≡ ids_of names.now }
 {
@@ -100,7 +100,7 @@ fn keeps_ids(names: &Names, lefts: Lefts) -> bool
     }
 }
 
-/// Whether bodies of this form have their points in lists, each list in a row.
+// Whether bodies of this form have their points in lists, each list in a row.
 fn has_lists(form: Form) -> bool
     ensures { result ≡ true → HasLists (form_of form) }
 {
@@ -113,8 +113,8 @@ fn has_lists(form: Form) -> bool
 impl Body {
     ghost use Rattle.twkb_engine.specs.Running.{RunsTo, StopsWith};
 
-    /// Takes a point that stands whole in front, where one is wanted with which the body is not done; `None` changes nothing. Takes
-    /// memory.
+    // Takes a point that stands whole in front, where one is wanted with which the body is not done; `None` changes nothing. Takes
+    // memory.
     fn take_point(
         &mut self,
         flat: &mut Flat,
@@ -143,7 +143,7 @@ impl Body {
         Ok(Some(Taken { used, position }))
     }
 
-    /// Takes points as far as they stand whole in front and the body is not done with them. Takes memory.
+    // Takes points as far as they stand whole in front and the body is not done with them. Takes memory.
     fn take_each(
         &mut self,
         flat: &mut Flat,
@@ -167,8 +167,8 @@ impl Body {
         Ok(Taken { used, position })
     }
 
-    /// Takes points of the list that stands open, but not its last, as far as they stand whole in front; none where each is a row of its
-    /// own. Takes memory.
+    // Takes points of the list that stands open, but not its last, as far as they stand whole in front; none where each is a row of its
+    // own. Takes memory.
     fn take_in_list(&mut self, flat: &mut Flat, from: Pt, bytes: &[u8]) -> Result<Taken, AllocError>
         ensures run { (h : Head) → IfOk result (λ taken. RunsTo h self.old flat.old from (take taken.used bytes.now) self.new flat.new taken.position) }
         ensures within { IfOk result (λ taken. taken.used ≤ length bytes.now) }
@@ -198,8 +198,8 @@ impl Body {
         Ok(taken)
     }
 
-    /// Takes points as far as they stand whole in front and the body is not done with them. Takes memory.
-    pub fn take_points(
+    // Takes points as far as they stand whole in front and the body is not done with them. Takes memory.
+    pub(crate) fn take_points(
         &mut self,
         flat: &mut Flat,
         head: Head,

@@ -13,9 +13,9 @@ use twkb_flat::{Flat, Row};
 use twkb_points::Pt;
 use twkb_tree::Kind as RowKind;
 
-/// The six simple types.
+// The six simple types.
 #[derive(Clone, Copy, Debug, PartialEq, Eq)]
-pub enum Form {
+pub(crate) enum Form {
     Point,
     Line,
     Polygon,
@@ -24,9 +24,9 @@ pub enum Form {
     MultiPolygon,
 }
 
-/// Appends a row with these points, if it goes on with the rows: wherever a reader stands it does. Takes memory; an `Err` changes
-/// nothing.
-pub fn push_row(flat: &mut Flat, row: Row, points: &[Pt]) -> Result<(), AllocError>
+// Appends a row with these points, if it goes on with the rows: wherever a reader stands it does. Takes memory; an `Err` changes
+// nothing.
+pub(crate) fn push_row(flat: &mut Flat, row: Row, points: &[Pt]) -> Result<(), AllocError>
     ensures pushed { OnOk result (flat.new ≡ flat.old ++ row_with row points.now ∷ []) }
     ensures same { OnErr result (flat.new ≡ flat.old) }
 {
@@ -36,9 +36,9 @@ pub fn push_row(flat: &mut Flat, row: Row, points: &[Pt]) -> Result<(), AllocErr
     flat.push(row, points)
 }
 
-/// Puts a point that was read: as a row of its own, or behind those of the last row, if the rows take it: wherever a reader stands
-/// they do. Takes memory; an `Err` changes nothing.
-pub fn put_point(
+// Puts a point that was read: as a row of its own, or behind those of the last row, if the rows take it: wherever a reader stands
+// they do. Takes memory; an `Err` changes nothing.
+pub(crate) fn put_point(
     flat: &mut Flat,
     head: Head,
     form: Form,
@@ -76,7 +76,7 @@ pub fn put_point(
     }
 }
 
-/// The kind of the row of a type.
+// The kind of the row of a type.
 fn row_kind(kind: Kind) -> RowKind
     ensures { result ≡ row_kind (kind_of kind) }
 {
@@ -91,8 +91,8 @@ fn row_kind(kind: Kind) -> RowKind
     }
 }
 
-/// A geometry's own row.
-pub fn whole_row(head: Head, kind: Kind) -> Row
+// A geometry's own row.
+pub(crate) fn whole_row(head: Head, kind: Kind) -> Row
     ensures { row_with result [] ≡ own_of head.depth head.id (kind_of kind) head.precision }
 {
     Row {
@@ -103,7 +103,7 @@ pub fn whole_row(head: Head, kind: Kind) -> Row
     }
 }
 
-/// A row of a geometry's part.
+// A row of a geometry's part.
 fn part_row(depth: u32, kind: RowKind, id: Option<i64>) -> Row
     ensures { row_with result [] ≡ plain_row depth kind id [] }
 {
@@ -115,8 +115,8 @@ fn part_row(depth: u32, kind: RowKind, id: Option<i64>) -> Row
     }
 }
 
-/// The row of a list of points that begins.
-pub fn line_row(head: Head, form: Form, member: Option<i64>) -> Row
+// The row of a list of points that begins.
+pub(crate) fn line_row(head: Head, form: Form, member: Option<i64>) -> Row
     ensures { row_with result [] ≡ list_row head.depth head.id head.precision (form_of form) member 0 }
 {
     match form {
@@ -127,8 +127,8 @@ pub fn line_row(head: Head, form: Form, member: Option<i64>) -> Row
     }
 }
 
-/// The row of a list of lines or rings that begins.
-pub fn area_row(head: Head, form: Form, member: Option<i64>) -> Row
+// The row of a list of lines or rings that begins.
+pub(crate) fn area_row(head: Head, form: Form, member: Option<i64>) -> Row
     ensures { row_with result [] ≡ list_row head.depth head.id head.precision (form_of form) member 1 }
 {
     match form {

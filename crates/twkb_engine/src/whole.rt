@@ -1,54 +1,49 @@
 //! A point that stands whole in front, with its header.
-ghost use Rattle.std.specs.Prelude.{◌≡◌, ◌+◌, ◌<◌, ◌≤◌, ◌^◌, ◌++◌, ℕ, List, IfSome, take, get_or, length};
+ghost use Rattle.std.specs.Prelude.{◌≡◌, ◌+◌, ◌<◌, ◌≤◌, ◌^◌, IfSome, length};
 ghost use Rattle.twkb_engine.specs.Front.{HeaderInFront, WholePoint, point_head};
 ghost use Rattle.twkb_engine.specs.declared.phase.Phase.TheVariants.{Header};
 
 use crate::builder::Builder;
-use crate::header::{SIZE, head_with, head_within, precision_at};
+use crate::header::{head_with, head_within};
 use crate::phase::{Kind, Optional, Phase};
 use crate::place::{Head, Typed};
 use crate::site::{Form, put_point};
 use crate::stop::Stop;
 use twkb_flat::Flat;
 use twkb_front::{GOES_ON, front_point, origin};
+use twkb_header::{Metadata, TypeByte};
 use twkb_points::Pt;
 
-/// Bytes of a header without optional parts: a type byte and a metadata byte.
+// Bytes of a header without optional parts: a type byte and a metadata byte.
 const BARE: usize = 2;
 
-/// Bytes of a header with a size of one byte, and no other optional part.
+// Bytes of a header with a size of one byte, and no other optional part.
 const SIZED: usize = 3;
 
-/// The metadata byte of the first.
-const PLAIN: u8 = 0;
-
-/// The metadata byte of the second.
-const ONLY_SIZE: u8 = 1 << SIZE;
-
-/// A point that stands whole in front with its header: where it leads, how many bytes both have, and the size that is declared.
+// A point that stands whole in front with its header: where it leads, how many bytes both have, and the size that is declared.
 #[derive(Clone, Copy, Debug)]
-pub struct Whole {
-    pub to: Pt,
-    pub used: usize,
-    pub size: Option<u64>,
+pub(crate) struct Whole {
+    pub(crate) to: Pt,
+    pub(crate) used: usize,
+    pub(crate) size: Option<u64>,
     ghost long: { 3 ≤ used },
 }
 
-/// The size that a point's own header in front declares, if any, and how many bytes the header has; `None` where it is no point's,
-/// or asks for more.
+// The size that a point's own header in front declares, if any, and how many bytes the header has; `None` where it is no point's,
+// or asks for more.
 #[inline]
 fn front_header(bytes: &[u8]) -> Option<(Option<u64>, usize)>
     ensures { IfSome result (λ front. HeaderInFront bytes.now front.0 front.1) }
 {
-    let first = *bytes.first()?;
-    if first % 16 != 1 {
+    let first = TypeByte::from_byte(*bytes.first()?);
+    if !first.is_point() {
         return None;
     }
-    let metadata = *bytes.get(1)?;
-    if metadata == PLAIN {
+    let metadata = Metadata::from_byte(*bytes.get(1)?);
+    if metadata == Metadata::plain() {
         return Some((None, BARE));
     }
-    if metadata != ONLY_SIZE {
+    if metadata != Metadata::sized() {
         return None;
     }
     let size = *bytes.get(2)?;
@@ -58,7 +53,7 @@ fn front_header(bytes: &[u8]) -> Option<(Option<u64>, usize)>
     Some((Some(u64::from(size)), SIZED))
 }
 
-/// The point that stands whole in front behind such a header.
+// The point that stands whole in front behind such a header.
 #[inline]
 fn whole_point(bytes: &[u8]) -> Option<Whole>
     ensures { IfSome result (λ front. WholePoint bytes.now front.to front.used front.size) }
@@ -73,13 +68,13 @@ fn whole_point(bytes: &[u8]) -> Option<Whole>
 }
 
 impl Builder {
-    ghost use Rattle.twkb_engine.specs.Building.{StandsBehind, IsTaken};
+    ghost use Rattle.twkb_engine.specs.Building.{TakesPoint};
     ghost use Rattle.twkb_engine.specs.State.{groups_of, head_of};
     ghost use Rattle.twkb_outline.specs.Growing.{id_in};
 
-    /// The same, where a geometry comes next, and a point more may.
+    // The same, where a geometry comes next, and a point more may.
     #[inline]
-    pub fn point_in_front(&self, bytes: &[u8]) -> Option<Whole>
+    pub(crate) fn point_in_front(&self, bytes: &[u8]) -> Option<Whole>
         ensures point { IfSome result (λ front. WholePoint bytes.now front.to front.used front.size) }
         ensures header { IfSome result (λ front. self.now.phase ≡ Header) }
         ensures room { IfSome result (λ front. self.now.points < self.now.limits.points) }
@@ -93,7 +88,7 @@ impl Builder {
         whole_point(bytes)
     }
 
-    /// The header of such a point with this type byte, where it comes next.
+    // The header of such a point with this type byte, where it comes next.
     #[inline]
     fn point_head(&self, first: u8, size: Option<u64>) -> Head
         requires room { self.now.bytes + 3 < 2 ^ 64 }
@@ -103,30 +98,36 @@ impl Builder {
     {
         let typed = Typed {
             kind: Kind::Simple(Form::Point),
-            precision: precision_at(u64::from(first) / 16),
+            precision: TypeByte::from_byte(first).precision(),
         };
         let bare = self.bytes + BARE as u64;
         let Some(size) = size else {
-            return head_within(&self.groups, typed, bare, u64::from(PLAIN));
+            return head_within(&self.groups, typed, bare, Metadata::plain());
         };
-        let head = head_within(&self.groups, typed, bare, u64::from(ONLY_SIZE));
+        let head = head_within(&self.groups, typed, bare, Metadata::sized());
         head_with(head, Optional::Size, self.bytes + SIZED as u64, size)
     }
 
-    /// Takes such a point with this type byte, and the ends behind it; answers whether a geometry is whole. Its row takes memory.
-    pub fn take_point(&mut self, flat: &mut Flat, first: u8, point: Whole) -> Result<bool, Stop>
+    // Takes such a point with this type byte, and the ends behind it; answers whether a geometry is whole. Its row takes memory.
+    pub(crate) fn take_point(
+        &mut self,
+        flat: &mut Flat,
+        first: u8,
+        point: Whole,
+    ) -> Result<bool, Stop>
         requires allowed { self.old.points < self.old.limits.points }
         requires room { self.old.bytes + point.used < 2 ^ 64 }
         ensures limits { self.new.limits ≡ self.old.limits }
         ensures bytes { self.new.bytes ≤ self.old.bytes + point.used }
-        ensures taken { (front bytes : List ℕ) → StandsBehind front flat.old self.old → self.old.phase ≡ Header → WholePoint bytes point.to point.used point.size → first ≡ get_or bytes 0 0 → IsTaken self.old.limits (front ++ take point.used bytes) result flat.new self.new }
+        ensures taken { TakesPoint self.old first point flat.old result flat.new self.new }
     {
         let _most = self.limits.points();
         let head = self.point_head(first, point.size);
-        put_point(flat, head, Form::Point, None, point.to)?;
         self.bytes += point.used as u64;
         self.position = point.to;
         self.points += 1;
-        self.finish(head)
+        let ended = self.finish(head)?;
+        put_point(flat, head, Form::Point, None, point.to)?;
+        Ok(ended)
     }
 }

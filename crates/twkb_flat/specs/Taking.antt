@@ -1,11 +1,14 @@
 -- Where the rows of a part, of parts or of a geometry stand among the rows.
 use Rattle.std.specs.Prelude.{◌≡◌, ℕ, suc, ℤ, List, [], ◌∷◌, ◌++◌, length, drop, Option, None, Some, ⊤}
 use Rattle.std.specs.List.{AllByRecursion}
+use Rattle.twkb_points.specs.Point.{Point}
+use Rattle.twkb_tree.specs.declared.kind.Kind.{Kind}
 use Rattle.twkb_tree.specs.Tree.{Ids, Tree, IsTree, HasIds, precision_of}
 use Rattle.twkb_tree.specs.Shape.{tree_of}
 use Rattle.twkb_tree.specs.declared.geometry.Shape.{Shape}
 use Rattle.twkb_tree.specs.Rows.{Row, rows_with, rows_of_each}
 use Rattle.twkb_tree.specs.RowLists.{IsAbove}
+use Rattle.twkb_flat.specs.Parts.{part_rows}
 
 -- there is a row, and the first stands at this depth
 abbrev pub IsAt : ℕ → List Row → Type 0
@@ -32,6 +35,10 @@ IsAny item = ⊤
 -- the rows of a geometry at a depth stand at a place
 abbrev pub TreeAt : List Row → ℕ → ℕ → Option ℤ → Tree → List Row → Type 0
 TreeAt rows at d id g rest = ItemAt IsTree (λ i h. rows_with i d h) rows at d id g rest
+
+-- the rows of parts of this kind at a depth stand at a place
+abbrev pub PartsAt : {A : Type 0} → (A → List Point) → (ℕ → A → List Row) → Kind → List Row → ℕ → ℕ → Ids → List A → List Row → Type 0
+PartsAt own below kind rows at d ids parts rest = EachAt IsAny (part_rows own below kind d) rows at d ids parts rest
 
 -- a precision and a shape are those of this geometry
 pub record AreOf (precision : Option ℤ) (shape : Shape) (g : Tree) : Type 0 where

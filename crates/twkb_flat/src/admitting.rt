@@ -12,22 +12,23 @@ use crate::node::Row;
 use twkb_points::Pt;
 use twkb_tree::{Kind, Limits, OpenRow, Standing, row_rules};
 
-/// The least precision.
+// The least precision.
 const LEAST_PRECISION: i8 = -8;
 
-/// The greatest precision.
+// The greatest precision.
 const GREATEST_PRECISION: i8 = 7;
 
-/// Tells a proof that an id is in range. It changes nothing.
+// Tells a proof that an id is in range. It changes nothing.
 fn look_at_id(id: Option<i64>)
     ensures { id_in_range id ≡ true }
 {
     if let Some(number) = id {
-        let _value = number;
+        // learnt: the number fits 64 bits
+        let _learnt = number;
     }
 }
 
-/// Whether a row of this kind under this parent has an id where it is to have one, and none else.
+// Whether a row of this kind under this parent has an id where it is to have one, and none else.
 fn id_fits(parent: Option<OpenRow>, kind: Kind, id: Option<i64>) -> bool
     ensures { result ≡ (id_allowed (row_of parent) kind id && has_same_ids (child_of parent) id) }
 {
@@ -35,8 +36,8 @@ fn id_fits(parent: Option<OpenRow>, kind: Kind, id: Option<i64>) -> bool
     row_rules::id_allowed(parent, kind, has_id) && row_rules::has_same_ids(parent, has_id)
 }
 
-/// Whether a row under this parent has a precision in range where it is a geometry of its own, and
-/// none else.
+// Whether a row under this parent has a precision in range where it is a geometry of its own, and
+// none else.
 fn precision_fits(parent: Option<OpenRow>, precision: Option<i8>) -> bool
     ensures { result ≡ (precision_in_range precision && precision_fits (row_of parent) precision) }
 {
@@ -47,7 +48,7 @@ fn precision_fits(parent: Option<OpenRow>, precision: Option<i8>) -> bool
     }
 }
 
-/// Whether a row under this parent is what it is to be, with so many points of its own.
+// Whether a row under this parent is what it is to be, with so many points of its own.
 fn fits(parent: Option<OpenRow>, row: &Row, count: usize) -> bool
     ensures { (own : List Point) → length own ≡ count → result ≡ fits (row_of parent) (child_of parent) (row_with row.now own) }
 {
@@ -64,7 +65,7 @@ fn fits(parent: Option<OpenRow>, row: &Row, count: usize) -> bool
     row_rules::count_fits(row.kind, row_rules::is_whole(parent), count)
 }
 
-/// Whether the limits leave room for a row that stands there and has so many points of its own.
+// Whether the limits leave room for a row that stands there and has so many points of its own.
 fn has_room(limits: &Limits, standing: &Standing, count: usize) -> bool
     ensures { result ≡ (nat_lt standing.now.nodes limits.now.nodes && nat_le (standing.now.points + count) limits.now.points) }
 {
@@ -73,7 +74,7 @@ fn has_room(limits: &Limits, standing: &Standing, count: usize) -> bool
         && count <= (limits.points() - standing.points) as usize
 }
 
-/// Whether the row with so many points of its own may stand there.
+// Whether the row with so many points of its own may stand there.
 fn admits_at(limits: &Limits, standing: &Standing, row: &Row, count: usize) -> bool
     ensures { (own : List Point) → length own ≡ count → result ≡ is_admitted_at limits.now standing.now (row_with row.now own) }
 {
@@ -82,7 +83,7 @@ fn admits_at(limits: &Limits, standing: &Standing, row: &Row, count: usize) -> b
         && fits(standing.parent, row, count)
 }
 
-/// Whether a row at this depth is the root where no row is open, and no root elsewhere.
+// Whether a row at this depth is the root where no row is open, and no root elsewhere.
 fn is_next(rows: &[OpenRow], depth: u32) -> bool
     ensures { (r : TableRow) → r.depth ≡ depth → result ≡ is_next rows.now r }
 {
@@ -93,18 +94,19 @@ fn is_next(rows: &[OpenRow], depth: u32) -> bool
     }
 }
 
-/// Tells a proof that the points are in range. It changes nothing.
+// Tells a proof that the points are in range. It changes nothing.
 fn look(points: &[Pt])
     ensures { AreInRange points.now }
 {
     for point in points {
-        point.x();
+        // learnt: the point is in range
+        let _learnt = point.x();
     }
 }
 
-/// Whether the row with these points may come next after rows of one geometry, so many rows and
-/// points, of which the first `levels` of `rows` are open.
-pub fn admits_under(
+// Whether the row with these points may come next after rows of one geometry, so many rows and
+// points, of which the first `levels` of `rows` are open.
+pub(crate) fn admits_under(
     rows: &[OpenRow],
     levels: u32,
     nodes: u32,
@@ -126,8 +128,8 @@ pub fn admits_under(
     admits_at(&Limits::largest(), &standing, row, own.len())
 }
 
-/// Opens a row: its parent has had a child, and the row stands at its depth.
-pub fn open_row(rows: &mut [OpenRow], row: &Row)
+// Opens a row: its parent has had a child, and the row stands at its depth.
+pub(crate) fn open_row(rows: &mut [OpenRow], row: &Row)
     requires { row.now.depth < length rows.old }
     ensures opened { (own : List Point) → take (row.now.depth + 1) rows.new ≡ opened row.now.depth rows.old (row_with row.now own) }
     ensures room { length rows.new ≡ length rows.old }

@@ -5,8 +5,7 @@ ghost use Rattle.twkb_tree.specs.Limits.{largest_limits, IsValid};
 ghost use Rattle.twkb_tree.specs.Shape.{tree_of};
 ghost use Rattle.twkb_tree.specs.Tree.{Ids, Tree, IsTree, precision_of};
 ghost use Rattle.twkb_tree.specs.Rows.{Row as TableRow, rows, rows_with};
-ghost use Rattle.twkb_flat.specs.Parts.{part_rows};
-ghost use Rattle.twkb_flat.specs.Taking.{TreeAt, EachAt, IsAny, AreOf, ids_in, id_list};
+ghost use Rattle.twkb_flat.specs.Taking.{TreeAt, EachAt, PartsAt, AreOf, ids_in, id_list};
 
 use crate::flat::Flat;
 use crate::parts::Part;
@@ -21,13 +20,14 @@ impl Flat {
         ensures rows { IfOk result (λ g. rows 0 g ≡ self.now) }
         ensures valid { IfOk result (λ g. IsValid largest_limits g) }
     {
-        self.is_empty();
+        // learnt: the rows are those of one geometry
+        let _learnt = self.is_empty();
         let (geometry, _next) = take_geometry(self, alloc, 0)?;
         Ok(geometry)
     }
 }
 
-/// The geometry whose rows stand at a place, and the place after them.
+// The geometry whose rows stand at a place, and the place after them.
 #[cycle(building)]
 fn take_geometry(flat: &Flat, alloc: Global, at: usize) -> Result<(Geometry, usize), AllocError>
     requires { (d : ℕ) × (id : Option ℤ) × (g : Tree) × (rest : List TableRow) × TreeAt flat.now at d id g rest }
@@ -38,7 +38,7 @@ fn take_geometry(flat: &Flat, alloc: Global, at: usize) -> Result<(Geometry, usi
     Ok((made_of(precision, shape), next))
 }
 
-/// The geometry of a precision and a shape.
+// The geometry of a precision and a shape.
 fn made_of(precision: Option<i8>, shape: Shape) -> Geometry
     requires { (g : Tree) × AreOf precision shape g }
     ensures { (g : Tree) → AreOf precision shape g → result ≡ g }
@@ -52,7 +52,7 @@ fn made_of(precision: Option<i8>, shape: Shape) -> Geometry
     }
 }
 
-/// The shape of the geometry whose rows stand at a place, and the place after them.
+// The shape of the geometry whose rows stand at a place, and the place after them.
 #[cycle(building)]
 fn take_shape(flat: &Flat, alloc: Global, at: usize) -> Result<(Shape, usize), AllocError>
     requires { (d : ℕ) × (id : Option ℤ) × (g : Tree) × (rest : List TableRow) × TreeAt flat.now at d id g rest }
@@ -94,8 +94,8 @@ fn take_shape(flat: &Flat, alloc: Global, at: usize) -> Result<(Shape, usize), A
     }
 }
 
-/// The geometries whose rows stand at a place, as many as follow at this depth; their ids, and the
-/// place after them.
+// The geometries whose rows stand at a place, as many as follow at this depth; their ids, and the
+// place after them.
 #[cycle(building)]
 fn take_members(
     flat: &Flat,
@@ -118,16 +118,16 @@ fn take_members(
     Ok((Members::from_vec(members), found_ids(ids), at))
 }
 
-/// The parts whose rows stand at a place, as many as follow at this depth; their ids, and the place
-/// after them.
-pub fn take_each<T: Part>(
+// The parts whose rows stand at a place, as many as follow at this depth; their ids, and the place
+// after them.
+pub(crate) fn take_each<T: Part>(
     flat: &Flat,
     alloc: Global,
     start: usize,
     depth: u32,
 ) -> Result<(Items<T>, Ids, usize), AllocError>
-    requires { (kind : Kind) × (ids : Ids) × (parts : List T) × (rest : List TableRow) × EachAt IsAny (part_rows T.own T.below kind depth) flat.now start depth ids parts rest }
-    ensures { (kind : Kind) (ids : Ids) (parts : List T) (rest : List TableRow) → EachAt IsAny (part_rows T.own T.below kind depth) flat.now start depth ids parts rest → IfOk result (λ taken. (taken.0 ≡ parts) × (taken.1 ≡ ids) × (drop taken.2 flat.now ≡ rest)) }
+    requires { (kind : Kind) × (ids : Ids) × (parts : List T) × (rest : List TableRow) × PartsAt T.own T.below kind flat.now start depth ids parts rest }
+    ensures { (kind : Kind) (ids : Ids) (parts : List T) (rest : List TableRow) → PartsAt T.own T.below kind flat.now start depth ids parts rest → IfOk result (λ taken. (taken.0 ≡ parts) × (taken.1 ≡ ids) × (drop taken.2 flat.now ≡ rest)) }
 {
     let mut parts = Vec::new(alloc);
     let mut ids = Vec::new(alloc);
@@ -141,7 +141,7 @@ pub fn take_each<T: Part>(
     Ok((Items::from_vec(parts), found_ids(ids), at))
 }
 
-/// Appends the id, if there is one.
+// Appends the id, if there is one.
 fn push_id(ids: &mut Vec<i64>, id: Option<i64>) -> Result<(), AllocError>
     ensures { OnOk result (ids.new.items ≡ ids.old.items ++ id_list id) }
 {
@@ -151,7 +151,7 @@ fn push_id(ids: &mut Vec<i64>, id: Option<i64>) -> Result<(), AllocError>
     Ok(())
 }
 
-/// The ids, where there are any.
+// The ids, where there are any.
 fn found_ids(ids: Vec<i64>) -> Ids
     ensures { result ≡ ids_in ids.items }
 {

@@ -6,23 +6,23 @@ ghost use Rattle.twkb_flat.specs.Lasts.{IsLineKind, LastIsLine};
 use crate::node::{NodeId, Row};
 use twkb_tree::Kind;
 
-/// A row and where its own points are.
+// A row and where its own points are.
 #[derive(Clone, Copy, Debug)]
-pub struct Span {
-    pub row: Row,
-    pub first: u32,
-    pub points: u32,
+pub(crate) struct Span {
+    pub(crate) row: Row,
+    pub(crate) first: u32,
+    pub(crate) points: u32,
 }
 
-/// A span, and the node after its subtree, or 0 while all rows after it are below it.
+// A span, and the node after its subtree, or 0 while all rows after it are below it.
 #[derive(Clone, Copy, Debug)]
-pub struct Entry {
-    pub span: Span,
-    pub next: NodeId,
+pub(crate) struct Entry {
+    pub(crate) span: Span,
+    pub(crate) next: NodeId,
 }
 
-/// Says where the subtree of one node ends.
-pub fn close(entries: &mut [Entry], at: u32, next: u32)
+// Says where the subtree of one node ends.
+fn close(entries: &mut [Entry], at: u32, next: u32)
     requires { at < length entries.old }
     ensures spans { map span_of entries.new ≡ map span_of entries.old }
     ensures nexts { map next_of entries.new ≡ slice_set (map next_of entries.old) at next }
@@ -31,8 +31,8 @@ pub fn close(entries: &mut [Entry], at: u32, next: u32)
     entry.next = NodeId(next);
 }
 
-/// Says where the subtrees of the nodes at `spine[from..to]` end.
-pub fn close_all(entries: &mut [Entry], spine: &[u32], from: usize, to: usize, next: u32)
+// Says where the subtrees of the nodes at `spine[from..to]` end.
+pub(crate) fn close_all(entries: &mut [Entry], spine: &[u32], from: usize, to: usize, next: u32)
     requires range { from ≤ to }
     requires room { to ≤ length spine.now }
     requires below { (k : ℕ) → k < to → slice_index spine.now k < length entries.old }
@@ -44,9 +44,9 @@ pub fn close_all(entries: &mut [Entry], spine: &[u32], from: usize, to: usize, n
     }
 }
 
-/// Counts a point more of the last node's.
+// Counts a point more of the last node's.
 #[inline(always)]
-pub fn count_point(entries: &mut [Entry])
+pub(crate) fn count_point(entries: &mut [Entry])
     requires some { 0 < length entries.old }
     requires room { LastHasRoom entries.old }
     ensures spans { map span_of entries.new ≡ last_longer (map span_of entries.old) }
@@ -57,7 +57,7 @@ pub fn count_point(entries: &mut [Entry])
     entry.span.points += 1;
 }
 
-/// Whether the row is a linestring or a ring.
+// Whether the row is a linestring or a ring.
 fn is_line(kind: Kind) -> bool
     ensures { IsTrue result ↔ IsLineKind kind }
 {
@@ -67,9 +67,9 @@ fn is_line(kind: Kind) -> bool
     }
 }
 
-/// Whether there is a node, and the last is a linestring or a ring.
+// Whether there is a node, and the last is a linestring or a ring.
 #[inline(always)]
-pub fn ends_in_line(entries: &[Entry]) -> bool
+pub(crate) fn ends_in_line(entries: &[Entry]) -> bool
     ensures { IsTrue result ↔ LastIsLine entries.now }
 {
     let count = entries.len();

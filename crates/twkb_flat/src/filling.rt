@@ -27,7 +27,7 @@ impl Flat {
     }
 }
 
-/// Appends the rows of a geometry, which has this id and stands at this depth.
+// Appends the rows of a geometry, which has this id and stands at this depth.
 #[cycle(filling)]
 fn push_geometry(
     geometry: &Geometry,
@@ -44,7 +44,7 @@ fn push_geometry(
     push_under(geometry, below, flat)
 }
 
-/// The row of the geometry itself, and its points.
+// The row of the geometry itself, and its points.
 fn own_row(geometry: &Geometry, depth: u32, id: Option<i64>) -> (Row, &[Pt])
     ensures { row_with result.0 result.1.now ≡ own_row id depth geometry.now }
 {
@@ -59,7 +59,7 @@ fn own_row(geometry: &Geometry, depth: u32, id: Option<i64>) -> (Row, &[Pt])
     (row, points)
 }
 
-/// Appends the rows of a geometry but for its own, the first of them at this depth.
+// Appends the rows of a geometry but for its own, the first of them at this depth.
 #[cycle(filling)]
 fn push_under(geometry: &Geometry, depth: u32, flat: &mut Flat) -> Result<(), AllocError>
     requires { AreValidRowsOfOne largest_limits (flat.old ++ rows_under depth geometry.now) }
@@ -81,7 +81,7 @@ fn push_under(geometry: &Geometry, depth: u32, flat: &mut Flat) -> Result<(), Al
     }
 }
 
-/// Appends the rows of the members of a collection, with these ids and at this depth.
+// Appends the rows of the members of a collection, with these ids and at this depth.
 #[cycle(filling)]
 #[tactic(auto, using(twkb_tree::specs::Size::member_smaller))]
 fn push_members(members: &Members, depth: u32, ids: &Ids, flat: &mut Flat) -> Result<(), AllocError>
@@ -97,8 +97,8 @@ fn push_members(members: &Members, depth: u32, ids: &Ids, flat: &mut Flat) -> Re
     Ok(())
 }
 
-/// Appends the rows of parts, with these ids and at this depth.
-pub fn push_each<T: Part>(
+// Appends the rows of parts, with these ids and at this depth.
+pub(crate) fn push_each<T: Part>(
     kind: Kind,
     depth: u32,
     parts: &[T],

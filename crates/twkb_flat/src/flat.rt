@@ -20,26 +20,26 @@ use std::mem::swap;
 use twkb_points::Pt;
 use twkb_tree::{Kind, OpenRow};
 
-/// How many depths a row of a geometry within `Limits::largest()` may have: a root, a member in 32
-/// collections, its parts and their rings.
+// How many depths a row of a geometry within `Limits::largest()` may have: a root, a member in 32
+// collections, its parts and their rings.
 const LEVELS: usize = 35;
 
-/// The points of the largest geometry.
+// The points of the largest geometry.
 const MOST_POINTS: usize = 1 << 24;
 
 /// One geometry within `Limits::largest()`, or none: its rows in preorder, and the points of all
 /// rows one after another. A contract sees the list of its rows, each with its own points.
 #[derive(Drop)]
 pub struct Flat {
-    /// The nodes in preorder.
+    // The nodes in preorder.
     pub(crate) entries: Vec<Entry>,
-    /// The points of all rows.
+    // The points of all rows.
     pub(crate) points: Vec<Pt>,
-    /// Which row is open at each depth.
+    // Which row is open at each depth.
     spine: [u32; LEVELS],
-    /// What the test of the next row asks of the open rows.
+    // What the test of the next row asks of the open rows.
     open_rows: [OpenRow; LEVELS],
-    /// How many rows are open.
+    // How many rows are open.
     levels: u32,
 }
 
@@ -186,7 +186,8 @@ impl Flat {
         ensures added { OnOk result (self.new ≡ point_added point self.old) }
         ensures same { OnErr result (self.new ≡ self.old) }
     {
-        point.x();
+        // learnt: the point is in range
+        let _learnt = point.x();
         if let Err(refused) = self.points.push(point) {
             return Err(refused.into());
         }

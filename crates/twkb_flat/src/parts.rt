@@ -16,24 +16,24 @@ use std::slice::from_ref;
 use twkb_points::Pt;
 use twkb_tree::{Item, Kind, Lines, Pts};
 
-/// What a multi or a polygon has as members or rings.
-pub trait Part: Item {
+// What a multi or a polygon has as members or rings.
+pub(crate) trait Part: Item {
     // The points of its own row.
     ghost own: { Self → List Point };
 
     // The rows below its own, the first of them at a depth.
     ghost below: { ℕ → Self → List TableRow };
 
-    /// The points of its own row. Takes no memory.
+    // The points of its own row. Takes no memory.
     fn own_points(&self) -> &[Pt]
         ensures { result.now ≡ own self.now };
 
-    /// Appends the rows below its own, at this depth.
+    // Appends the rows below its own, at this depth.
     fn push_below(&self, depth: u32, flat: &mut Flat) -> Result<(), AllocError>
         requires valid { AreValidRowsOfOne largest_limits (flat.old ++ below depth self.now) }
         ensures { OnOk result (flat.new ≡ flat.old ++ below depth self.now) };
 
-    /// The part whose rows stand at a place, and the place after them.
+    // The part whose rows stand at a place, and the place after them.
     fn take(flat: &Flat, alloc: Global, at: usize) -> Result<(Self, usize), AllocError>
         requires stands { (kind : Kind) × (d : ℕ) × (id : Option ℤ) × (part : Self) × (rest : List TableRow) × ItemAt IsAny (part_rows own below kind d) flat.now at d id part rest }
         ensures { (kind : Kind) (d : ℕ) (id : Option ℤ) (part : Self) (rest : List TableRow) → ItemAt IsAny (part_rows own below kind d) flat.now at d id part rest → IfOk result (λ taken. (taken.0 ≡ part) × (drop taken.1 flat.now ≡ rest)) };

@@ -28,10 +28,10 @@ pub trait PointSource {
         ensures { refuses self.now result };
 }
 
-/// Points that stand in a list, and are copied.
+// Points that stand in a list, and are copied.
 #[derive(Clone, Copy)]
 pub(crate) struct Copied<'a> {
-    pub points: &'a [Pt],
+    pub(crate) points: &'a [Pt],
 }
 
 impl PointSource for Copied<'_> {

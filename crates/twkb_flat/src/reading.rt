@@ -9,7 +9,7 @@ use crate::node::Row;
 use twkb_points::Pt;
 
 impl Flat {
-    /// Whether there is a row at a place, and it stands at this depth.
+    // Whether there is a row at a place, and it stands at this depth.
     pub(crate) fn is_at(&self, at: usize, depth: u32) -> bool
         ensures { IsTrue result ↔ IsAt depth (drop at self.now) }
     {
@@ -19,7 +19,7 @@ impl Flat {
         self.row(at).depth == depth
     }
 
-    /// The row at a place.
+    // The row at a place.
     pub(crate) fn row(&self, at: usize) -> Row
         requires { at < length self.now }
         ensures row { (row : TableRow) (rest : List TableRow) → drop at self.now ≡ row ∷ rest → row_with result row.points ≡ row }
@@ -29,7 +29,7 @@ impl Flat {
         self.entries[at].span.row
     }
 
-    /// The points of the row at a place.
+    // The points of the row at a place.
     pub(crate) fn own_points(&self, at: usize) -> &[Pt]
         requires { at < length self.now }
         ensures points { (row : TableRow) (rest : List TableRow) → drop at self.now ≡ row ∷ rest → result.now ≡ row.points }
@@ -42,7 +42,7 @@ impl Flat {
     }
 }
 
-/// The points from one place up to another.
+// The points from one place up to another.
 fn part(points: &[Pt], first: usize, last: usize) -> &[Pt]
     requires order { first ≤ last }
     requires within { last ≤ length points.now }

@@ -1,3 +1,5 @@
 pub mod Ranges
 pub mod Steps
 pub mod InFront
+pub mod Pieces
+pub mod OpenNumbers

@@ -3,7 +3,7 @@ use Rattle.std.proofs.Common.{Bool, true, false, ◌≡◌, ℕ, suc, ◌+◌, �
 use Rattle.std.proofs.lemmas.Int.{ints}
 use Rattle.std.proofs.lemmas.Bool.{cases_lt, false≢true}
 use Rattle.std.proofs.Common.{inl, inr}
-use Rattle.std.specs.Prelude.{ℤ, pos, ⊤, ◌+ℤ◌, ◌-ℤ◌}
+use Rattle.std.specs.Prelude.{ℤ, ⊤, ◌+ℤ◌}
 use Rattle.std.specs.List.{AllByRecursion}
 use Rattle.twkb_num.specs.Zigzag.{unzigzag_of}
 use Rattle.twkb_points.specs.Point.{Point, IsCoordinate, IsInRange}
@@ -107,8 +107,8 @@ framed_was most kind p own Body is e f k = (d.1, there)
     d = kept_split most f.box f.body e3 c.0
 
     there : (sums_after e3 f.box).position ≡ origin
-    there = still_after (where_set (bit f.meta 0) (Box ∷ Box ∷ Box ∷ Box ∷ [])) f.box e3 f.box_is (still_where (bit f.meta 0) (Box ∷ Box ∷ Box ∷ Box ∷ []) ((λ p n. refl), ((λ p n. refl), ((λ p n. refl), ((λ p n. refl), tt)))))
-        ∙ (still_after (where_set (bit f.meta 1) (Size ∷ [])) f.size e2 f.size_is (still_where (bit f.meta 1) (Size ∷ []) ((λ p n. refl), tt)) ∙ still_after (where_set (bit f.meta 3) (Extended ∷ [])) f.extended e1 f.extended_is (still_where (bit f.meta 3) (Extended ∷ []) ((λ p n. refl), tt)))
+    there = still_after (where_set (bit f.meta 0) (Box ∷ Box ∷ Box ∷ Box ∷ [])) f.box e3 f.optional.box_is (still_where (bit f.meta 0) (Box ∷ Box ∷ Box ∷ Box ∷ []) ((λ p n. refl), ((λ p n. refl), ((λ p n. refl), ((λ p n. refl), tt)))))
+        ∙ (still_after (where_set (bit f.meta 1) (Size ∷ [])) f.size e2 f.optional.size_is (still_where (bit f.meta 1) (Size ∷ []) ((λ p n. refl), tt)) ∙ still_after (where_set (bit f.meta 3) (Extended ∷ [])) f.extended e1 f.optional.extended_is (still_where (bit f.meta 3) (Extended ∷ []) ((λ p n. refl), tt)))
 
 no_places : (k : Kind) (p : ℤ) → AllByRecursion IsInRange (flat (Rattle.twkb_grammar.specs.Machine.empty_of k p))
 no_places (SimpleKind Rattle.twkb_grammar.specs.Machine.PointForm) p = tt

@@ -1,7 +1,6 @@
 -- Every state that the machine reaches has a completion: zeros, 0x10 for a metadata byte, 01 10 for a geometry.
 use Rattle.std.proofs.Common.{Bool, true, false, ◌≡◌, ℕ, zero, suc, ◌+◌, ◌-◌, List, [], ◌∷◌, ◌++◌, length, refl, ap, sym, subst, Some, None, arith}
 use Rattle.std.specs.Prelude.{ℤ, ⊤}
-use Rattle.std.specs.List.{AllByRecursion}
 use Rattle.twkb_num.specs.Varint.{IsVarint}
 use Rattle.twkb_tree.specs.Tree.{Tree, Trees, Ids, simple, collection}
 use Rattle.twkb_grammar.specs.Bits.{bit}

@@ -72,9 +72,11 @@ plain_frame g {Body} bytes s =
         byte = says.byte;
         agrees = says.agrees;
         whole = refl;
-        extended_is = subst (λ b. HaveRoles (where_set b (Extended ∷ [])) []) (sym says.extended) tt;
-        size_is = subst (λ b. HaveRoles (where_set b (Size ∷ [])) []) (sym says.sized_is) tt;
-        box_is = subst (λ b. HaveRoles (where_set b (Box ∷ Box ∷ Box ∷ Box ∷ [])) []) (sym says.box_is) tt;
+        optional = record {
+          extended_is = subst (λ b. HaveRoles (where_set b (Extended ∷ [])) []) (sym says.extended) tt;
+          size_is = subst (λ b. HaveRoles (where_set b (Size ∷ [])) []) (sym says.sized_is) tt;
+          box_is = subst (λ b. HaveRoles (where_set b (Box ∷ Box ∷ Box ∷ Box ∷ [])) []) (sym says.box_is) tt;
+        };
         body_is = subst (λ b. BodyAt b Body s.items) (sym says.empty_is) s.are;
       };
       exact = (tt, (tt, AreExact-append s.items (end_item None s.items ∷ []) s.exact (tt, tt)));
@@ -103,9 +105,11 @@ full_frame g {Body} bytes in_range few s =
         byte = says.byte;
         agrees = says.agrees;
         whole = refl;
-        extended_is = subst (λ b. HaveRoles (where_set b (Extended ∷ [])) []) (sym says.extended) tt;
-        size_is = subst (λ b. HaveRoles (where_set b (Size ∷ [])) (size ∷ [])) (sym says.sized_is) (refl, spells Size (length (join rest)) tt small, tt);
-        box_is = subst (λ c. HaveRoles (where_set c (Box ∷ Box ∷ Box ∷ Box ∷ [])) b.items) (sym says.box_is) b.roles;
+        optional = record {
+          extended_is = subst (λ b. HaveRoles (where_set b (Extended ∷ [])) []) (sym says.extended) tt;
+          size_is = subst (λ b. HaveRoles (where_set b (Size ∷ [])) (size ∷ [])) (sym says.sized_is) (refl, spells Size (length (join rest)) tt small, tt);
+          box_is = subst (λ c. HaveRoles (where_set c (Box ∷ Box ∷ Box ∷ Box ∷ [])) b.items) (sym says.box_is) b.roles;
+        };
         body_is = subst (λ b. BodyAt b Body s.items) (sym says.empty_is) s.are;
       };
       exact = (tt, (tt, (tt, AreExact-append rest (last ∷ []) (AreExact-append b.items s.items b.exact s.exact) (refl, tt))));

@@ -107,16 +107,16 @@ tail_run : (k : Kind) (p : ℤ) (own : Flags) (Body : List Item → Type 0) (fs 
     → Runs e (fs, wanting k (head p f.meta None e.bytes) (asked f.meta)) (f.extended ++ (f.size ++ ((f.box ++ f.body) ++ end_item (declared f.size) (f.box ++ f.body) ∷ []))) (ended fs g)
 tail_run k p own Body fs e is g f runs here =
     Runs-append f.extended e (fs, wanting k (head p f.meta None e.bytes) (asked f.meta)) (fs, wanting k (head p f.meta None e2.bytes) (sizes ++ boxes)) (f.size ++ (rest ++ last ∷ [])) (ended fs g)
-    (extended_run k p f.meta fs (bit f.meta 3) f.extended (sizes ++ boxes) e f.extended_is)
+    (extended_run k p f.meta fs (bit f.meta 3) f.extended (sizes ++ boxes) e f.optional.extended_is)
     (Runs-append f.size e2 (fs, wanting k (head p f.meta None e2.bytes) (sizes ++ boxes)) (fs, wanting k h boxes) (rest ++ last ∷ []) (ended fs g)
-    (size_run k p f.meta fs (bit f.meta 1) f.size boxes e2 f.size_is)
+    (size_run k p f.meta fs (bit f.meta 1) f.size boxes e2 f.optional.size_is)
     (Runs-append rest e3 (fs, wanting k h boxes) (fs, AtEnd h g) (last ∷ []) (ended fs g)
     (Runs-append f.box e3 (fs, wanting k h boxes) (fs, wanting k h []) f.body (fs, AtEnd h g)
-    (box_run k p f.meta fs (bit f.meta 0) f.box h e3 f.box_is)
+    (box_run k p f.meta fs (bit f.meta 0) f.box h e3 f.optional.box_is)
     (runs (sums_after e3 f.box) (declared f.size) e3.bytes
-    (still_after boxes f.box e3 f.box_is (still_where (bit f.meta 0) (Box ∷ Box ∷ Box ∷ Box ∷ []) ((λ p n. refl), ((λ p n. refl), ((λ p n. refl), ((λ p n. refl), tt)))))
-    ∙ (still_after sizes f.size e2 f.size_is (still_where (bit f.meta 1) (Size ∷ []) ((λ p n. refl), tt))
-    ∙ (still_after extends f.extended e f.extended_is (still_where (bit f.meta 3) (Extended ∷ []) ((λ p n. refl), tt)) ∙ here)))))
+    (still_after boxes f.box e3 f.optional.box_is (still_where (bit f.meta 0) (Box ∷ Box ∷ Box ∷ Box ∷ []) ((λ p n. refl), ((λ p n. refl), ((λ p n. refl), ((λ p n. refl), tt)))))
+    ∙ (still_after sizes f.size e2 f.optional.size_is (still_where (bit f.meta 1) (Size ∷ []) ((λ p n. refl), tt))
+    ∙ (still_after extends f.extended e f.optional.extended_is (still_where (bit f.meta 3) (Extended ∷ []) ((λ p n. refl), tt)) ∙ here)))))
     (ap (λ n. Some (End (declared f.size) n)) (ap (λ b. b - e3.bytes) (bytes_after rest e3) ∙ sub_add e3.bytes (length (join rest))), (refl, refl), refl)))
   where
     extends : List Role

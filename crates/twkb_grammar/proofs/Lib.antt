@@ -30,6 +30,9 @@ pub mod Decoding
 pub mod TwoFronts
 pub mod OneFault
 pub mod PartBytes
+pub mod ExactEnds
+pub mod RoleBytes
+pub mod Objections
 pub mod Streams
 pub mod Depths
 pub mod Frames

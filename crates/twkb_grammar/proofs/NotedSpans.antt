@@ -159,10 +159,10 @@ module _ (start kind : ℕ) (p : ℤ) (own : Flags) (Body : List Item → Type 0
     begins : noted start e w (before_body f) ≡ w1
     begins =
         noted-append start f.extended (f.size ++ f.box) e0 w0
-        ∙ (ap (λ v. noted start e2 v (f.size ++ f.box)) (quiet_roles start (where_set (bit f.meta 3) (Extended ∷ [])) f.extended e0 w0 f.extended_is (quiet_where (bit f.meta 3) (Extended ∷ []) (tt, tt)))
+        ∙ (ap (λ v. noted start e2 v (f.size ++ f.box)) (quiet_roles start (where_set (bit f.meta 3) (Extended ∷ [])) f.extended e0 w0 f.optional.extended_is (quiet_where (bit f.meta 3) (Extended ∷ []) (tt, tt)))
         ∙ (noted-append start f.size f.box e2 w0
-        ∙ (ap (λ v. noted start (sums_after e2 f.size) v f.box) (quiet_roles start (where_set (bit f.meta 1) (Size ∷ [])) f.size e2 w0 f.size_is (quiet_where (bit f.meta 1) (Size ∷ []) (tt, tt)))
-        ∙ (quiet_roles start (where_set (bit f.meta 0) (Box ∷ Box ∷ Box ∷ Box ∷ [])) f.box (sums_after e2 f.size) w0 f.box_is (quiet_where (bit f.meta 0) (Box ∷ Box ∷ Box ∷ Box ∷ []) (tt, (tt, (tt, (tt, tt)))))
+        ∙ (ap (λ v. noted start (sums_after e2 f.size) v f.box) (quiet_roles start (where_set (bit f.meta 1) (Size ∷ [])) f.size e2 w0 f.optional.size_is (quiet_where (bit f.meta 1) (Size ∷ []) (tt, tt)))
+        ∙ (quiet_roles start (where_set (bit f.meta 0) (Box ∷ Box ∷ Box ∷ Box ∷ [])) f.box (sums_after e2 f.size) w0 f.optional.box_is (quiet_where (bit f.meta 0) (Box ∷ Box ∷ Box ∷ Box ∷ []) (tt, (tt, (tt, (tt, tt)))))
         ∙ head_noted (start + e.bytes) e.points kind p k f.meta w fits low same))))
       where
         e0 : Sums

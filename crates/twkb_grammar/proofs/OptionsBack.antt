@@ -1,10 +1,10 @@
 -- What the machine ran through begins with the optional parts that a metadata byte asks for.
 use Rattle.std.proofs.Common.{Bool, true, false, ◌≡◌, ℕ, zero, suc, ◌+◌, ◌<◌, List, [], ◌∷◌, ◌++◌, length, refl, ap, sym, subst, None, arith}
-use Rattle.std.specs.Prelude.{ℤ, pos, negsuc}
+use Rattle.std.specs.Prelude.{ℤ}
 use Rattle.twkb_tree.specs.Tree.{Tree}
 use Rattle.twkb_grammar.specs.Roles.{Item, Role, Extended, Size, Box, HaveRoles, where_set}
 use Rattle.twkb_grammar.specs.Items.{declared}
-use Rattle.twkb_grammar.specs.Machine.{Kind, SimpleKind, CollectionKind, Form, PointForm, LineForm, PolygonForm, MultiPointForm, MultiLineForm, MultiPolygonForm, kind_number, kind_at, Head, Frame, Phase, AtHeader, AtMetadata, AtOption, AtCount, AtEnd, Finished, ManyGeometries, empty_of, begun, wanting, asked, ended, snoc, members_begin, Sums, nothing, started, added, Stack, stack_after, role_at, Runs}
+use Rattle.twkb_grammar.specs.Machine.{Kind, kind_number, kind_at, Head, Frame, Phase, AtOption, Finished, wanting, Sums, added, Stack, Runs}
 use Rattle.twkb_grammar.proofs.Headers.{sums_after, head}
 use Rattle.twkb_grammar.proofs.BodiesBack.{some_role}
 

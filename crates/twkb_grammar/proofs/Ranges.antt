@@ -136,10 +136,10 @@ framed_kept most kind p own Body is e f body =
       tt,
       (
         tt,
-        Kept-append most f.extended (f.size ++ ((f.box ++ f.body) ++ end_item (declared f.size) (f.box ++ f.body) ∷ [])) e1 (roles_kept most extends f.extended e1 f.extended_is (easy_where most (bit f.meta 3) (Extended ∷ []) ((λ p n. tt), tt)))
-            (Kept-append most f.size ((f.box ++ f.body) ++ end_item (declared f.size) (f.box ++ f.body) ∷ []) e2 (roles_kept most sizes f.size e2 f.size_is (easy_where most (bit f.meta 1) (Size ∷ []) ((λ p n. tt), tt)))
+        Kept-append most f.extended (f.size ++ ((f.box ++ f.body) ++ end_item (declared f.size) (f.box ++ f.body) ∷ [])) e1 (roles_kept most extends f.extended e1 f.optional.extended_is (easy_where most (bit f.meta 3) (Extended ∷ []) ((λ p n. tt), tt)))
+            (Kept-append most f.size ((f.box ++ f.body) ++ end_item (declared f.size) (f.box ++ f.body) ∷ []) e2 (roles_kept most sizes f.size e2 f.optional.size_is (easy_where most (bit f.meta 1) (Size ∷ []) ((λ p n. tt), tt)))
             (Kept-append most (f.box ++ f.body) (end_item (declared f.size) (f.box ++ f.body) ∷ []) e3
-            (Kept-append most f.box f.body e3 (roles_kept most boxes f.box e3 f.box_is (easy_where most (bit f.meta 0) (Box ∷ Box ∷ Box ∷ Box ∷ []) ((λ p n. tt), ((λ p n. tt), ((λ p n. tt), ((λ p n. tt), tt))))))
+            (Kept-append most f.box f.body e3 (roles_kept most boxes f.box e3 f.optional.box_is (easy_where most (bit f.meta 0) (Box ∷ Box ∷ Box ∷ Box ∷ []) ((λ p n. tt), ((λ p n. tt), ((λ p n. tt), ((λ p n. tt), tt))))))
             (body (sums_after e3 f.box) there)) (tt, tt))),
       ),
     )
@@ -163,8 +163,8 @@ framed_kept most kind p own Body is e f body =
     boxes = where_set (bit f.meta 0) (Box ∷ Box ∷ Box ∷ Box ∷ [])
 
     there : (sums_after e3 f.box).position ≡ origin
-    there = still_after boxes f.box e3 f.box_is (still_where (bit f.meta 0) (Box ∷ Box ∷ Box ∷ Box ∷ []) ((λ p n. refl), ((λ p n. refl), ((λ p n. refl), ((λ p n. refl), tt)))))
-        ∙ (still_after sizes f.size e2 f.size_is (still_where (bit f.meta 1) (Size ∷ []) ((λ p n. refl), tt)) ∙ still_after extends f.extended e1 f.extended_is (still_where (bit f.meta 3) (Extended ∷ []) ((λ p n. refl), tt)))
+    there = still_after boxes f.box e3 f.optional.box_is (still_where (bit f.meta 0) (Box ∷ Box ∷ Box ∷ Box ∷ []) ((λ p n. refl), ((λ p n. refl), ((λ p n. refl), ((λ p n. refl), tt)))))
+        ∙ (still_after sizes f.size e2 f.optional.size_is (still_where (bit f.meta 1) (Size ∷ []) ((λ p n. refl), tt)) ∙ still_after extends f.extended e1 f.optional.extended_is (still_where (bit f.meta 3) (Extended ∷ []) ((λ p n. refl), tt)))
 
 simple_kept : (most : ℕ) (s : Simple) (body : List Item) → AllByRecursion IsInRange (points_in s) → (b : Bool) → BodyAt b (AreFields (fields s)) body → (e : Sums) → e.position ≡ origin → Kept most e body
 simple_kept most s body all true is e here = subst (λ l. Kept most e l) (sym is) tt

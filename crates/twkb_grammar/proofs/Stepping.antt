@@ -10,7 +10,7 @@ use Rattle.twkb_points.specs.Point.{IsCoordinate}
 use Rattle.twkb_tree.specs.Limits.{Allowance}
 use Rattle.twkb_grammar.specs.Roles.{Counted, Vertices, Rings, Points, Parts, Geometries, Item, Role, Header, Metadata, Extended, Count, X, Y, End}
 use Rattle.twkb_grammar.specs.Blob.{IsExact}
-use Rattle.twkb_grammar.specs.Fault.{Reason, Truncated, BadType, ExtraDimensions, BadVarint, TooDeep, TooManyNodes, TooManyPoints, CoordinateRange, SizeMismatch, Refused, When, FirstByte, FirstNumber, IsCut, IsTooLong, IsDeep, NumberFirst, announces_point, announced_points, announced_nodes, nodes_of, points_of, position}
+use Rattle.twkb_grammar.specs.Fault.{Reason, BadType, ExtraDimensions, TooDeep, TooManyNodes, TooManyPoints, CoordinateRange, SizeMismatch, Refused, When, FirstByte, FirstNumber, IsCut, IsTooLong, IsDeep, NumberFirst, announces_point, announced_points, announced_nodes, nodes_of, points_of, position}
 use Rattle.twkb_grammar.specs.Machine.{Sums}
 use Rattle.twkb_grammar.specs.PlainReader.{in_range, too_deep, unless, objection}
 use Rattle.twkb_grammar.proofs.Dead.{Allowed, run_ends, not_long, number_not}

@@ -3,14 +3,14 @@ use Rattle.std.proofs.Common.{Bool, true, false, ◌≡◌, ℕ, suc, ◌+◌, L
 use Rattle.std.proofs.lemmas.Bool.{false≢true}
 use Rattle.std.proofs.lemmas.List.Sums.{sum_by-cons}
 use Rattle.std.proofs.lemmas.List.Concat.{length-flat_map}
-use Rattle.std.specs.Prelude.{ℤ, flat_map, sum_by, if◌then◌else◌}
+use Rattle.std.specs.Prelude.{ℤ, flat_map, sum_by}
 use Rattle.twkb_points.specs.Point.{Point}
 use Rattle.twkb_tree.specs.Tree.{Simple, point, line, polygon, multi_point, multi_line, multi_polygon, Tree, simple, collection, Trees, end, ◌▷◌, count, Ids, HasIds, IdsFit, IsTree, AreTrees, nodes, nodes_all, nodes_in, area_nodes, flat, flat_all, points_in, flatten}
 use Rattle.twkb_grammar.specs.Bits.{bit}
-use Rattle.twkb_grammar.specs.Roles.{Item, Role, Header, Metadata, Extended, Size, Box, Count, Counted, Vertices, Rings, Points, Parts, Geometries, Id, X, Y, End, Field, AreFields, HaveRoles, where_set, item}
+use Rattle.twkb_grammar.specs.Roles.{Item, Role, Header, Metadata, Extended, Size, Box, Count, Counted, Geometries, Id, X, Y, End, AreFields, HaveRoles, where_set}
 use Rattle.twkb_grammar.specs.Items.{Place, OfCount, OfId, OfPoint, id_places, fields, outline, run_of, rings_of, declared, end_item, Flags, Agrees, flags, flags_all, BodyAt, Framed, Follow, Items, ItemsOfAll, kind_of, id_fields, header_byte}
 use Rattle.twkb_grammar.specs.Fault.{nodes_by, points_by, nodes_of, points_of}
-use Rattle.twkb_grammar.specs.Machine.{Kind, SimpleKind, CollectionKind, kind_number, empty_of}
+use Rattle.twkb_grammar.specs.Machine.{Kind, SimpleKind, CollectionKind, empty_of}
 use Rattle.twkb_grammar.proofs.Places.{steps, fields_are}
 use Rattle.twkb_points.specs.Point.{origin}
 use Rattle.twkb_grammar.proofs.Bodies.{form_of}
@@ -106,9 +106,9 @@ module _ (f : Role → ℕ → ℕ) (c : Counted → ℕ → ℕ) (counts : (k :
         total-append f fr.size ((fr.box ++ fr.body) ++ last ∷ []),
         total-append f (fr.box ++ fr.body) (last ∷ []),
         total-append f fr.box fr.body,
-        option_total (bit fr.meta 3) Extended fr.extended extended fr.extended_is,
-        option_total (bit fr.meta 1) Size fr.size size fr.size_is,
-        box_total (bit fr.meta 0) fr.box fr.box_is,
+        option_total (bit fr.meta 3) Extended fr.extended extended fr.optional.extended_is,
+        option_total (bit fr.meta 1) Size fr.size size fr.optional.size_is,
+        box_total (bit fr.meta 0) fr.box fr.optional.box_is,
         ends (declared fr.size) (length (Rattle.twkb_grammar.specs.Roles.join (fr.box ++ fr.body))) 0,
       )
 

@@ -1,10 +1,10 @@
 -- The machine runs through the items of any geometry.
 use Rattle.std.proofs.Common.{Bool, true, false, ◌≡◌, ℕ, suc, ◌+◌, ◌<◌, List, [], ◌∷◌, ◌++◌, length, refl, ap, sym, ◌∙◌, subst, Some, None, arith}
 use Rattle.std.proofs.lemmas.Bool.{false≢true}
-use Rattle.std.specs.Prelude.{ℤ, if◌then◌else◌}
+use Rattle.std.specs.Prelude.{ℤ}
 use Rattle.twkb_tree.specs.Tree.{Simple, point, line, polygon, multi_point, multi_line, multi_polygon, Tree, simple, collection, Trees, end, ◌▷◌, count, Ids, HasIds, IdsFit, IsTree, AreTrees}
 use Rattle.twkb_grammar.specs.Bits.{bit}
-use Rattle.twkb_grammar.specs.Roles.{Item, Role, Count, Geometries, Field, AreFields, join}
+use Rattle.twkb_grammar.specs.Roles.{Item, Count, Geometries, AreFields, join}
 use Rattle.twkb_grammar.specs.Items.{OfId, id_places, filled, fields, Agrees, flags, flags_all, BodyAt, Framed, Follow, Items, ItemsOfAll, kind_of, id_fields}
 use Rattle.twkb_grammar.specs.Machine.{SimpleKind, CollectionKind, kind_number, Head, Frame, AtHeader, AtEnd, AtCount, ManyGeometries, empty_of, wanting, ended, snoc, members_begin, Sums, Stack, Runs}
 use Rattle.twkb_grammar.proofs.Places.{steps, fields_are}

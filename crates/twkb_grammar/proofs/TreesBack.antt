@@ -239,12 +239,12 @@ module _ (tree : Tree) where
   empty_items : (f : Form) (level : ℕ) (p : ℤ) (meta : ℕ) (extended size box : List Item) → bit meta 4 ≡ true → meta < 256 → HaveRoles (where_set (bit meta 3) (Extended ∷ [])) extended
       → HaveRoles (where_set (bit meta 1) (Size ∷ [])) size → HaveRoles (where_set (bit meta 0) (Box ∷ Box ∷ Box ∷ Box ∷ [])) box
       → Items level (empty_of (SimpleKind f) p) (framed (kind_number (SimpleKind f)) p meta extended size box [])
-  empty_items PointForm level p meta extended size box bare b x s o = record { meta = meta; extended = extended; size = size; box = box; body = []; byte = b; extended_is = x; size_is = s; box_is = o; agrees = bare; body_is = rw bare refl; whole = refl }
-  empty_items LineForm level p meta extended size box bare b x s o = record { meta = meta; extended = extended; size = size; box = box; body = []; byte = b; extended_is = x; size_is = s; box_is = o; agrees = tt; body_is = rw bare refl; whole = refl }
-  empty_items PolygonForm level p meta extended size box bare b x s o = record { meta = meta; extended = extended; size = size; box = box; body = []; byte = b; extended_is = x; size_is = s; box_is = o; agrees = tt; body_is = rw bare refl; whole = refl }
-  empty_items MultiPointForm level p meta extended size box bare b x s o = record { meta = meta; extended = extended; size = size; box = box; body = []; byte = b; extended_is = x; size_is = s; box_is = o; agrees = tt; body_is = rw bare refl; whole = refl }
-  empty_items MultiLineForm level p meta extended size box bare b x s o = record { meta = meta; extended = extended; size = size; box = box; body = []; byte = b; extended_is = x; size_is = s; box_is = o; agrees = tt; body_is = rw bare refl; whole = refl }
-  empty_items MultiPolygonForm level p meta extended size box bare b x s o = record { meta = meta; extended = extended; size = size; box = box; body = []; byte = b; extended_is = x; size_is = s; box_is = o; agrees = tt; body_is = rw bare refl; whole = refl }
+  empty_items PointForm level p meta extended size box bare b x s o = record { meta = meta; extended = extended; size = size; box = box; body = []; byte = b; optional = record { extended_is = x; size_is = s; box_is = o }; agrees = bare; body_is = rw bare refl; whole = refl }
+  empty_items LineForm level p meta extended size box bare b x s o = record { meta = meta; extended = extended; size = size; box = box; body = []; byte = b; optional = record { extended_is = x; size_is = s; box_is = o }; agrees = tt; body_is = rw bare refl; whole = refl }
+  empty_items PolygonForm level p meta extended size box bare b x s o = record { meta = meta; extended = extended; size = size; box = box; body = []; byte = b; optional = record { extended_is = x; size_is = s; box_is = o }; agrees = tt; body_is = rw bare refl; whole = refl }
+  empty_items MultiPointForm level p meta extended size box bare b x s o = record { meta = meta; extended = extended; size = size; box = box; body = []; byte = b; optional = record { extended_is = x; size_is = s; box_is = o }; agrees = tt; body_is = rw bare refl; whole = refl }
+  empty_items MultiLineForm level p meta extended size box bare b x s o = record { meta = meta; extended = extended; size = size; box = box; body = []; byte = b; optional = record { extended_is = x; size_is = s; box_is = o }; agrees = tt; body_is = rw bare refl; whole = refl }
+  empty_items MultiPolygonForm level p meta extended size box bare b x s o = record { meta = meta; extended = extended; size = size; box = box; body = []; byte = b; optional = record { extended_is = x; size_is = s; box_is = o }; agrees = tt; body_is = rw bare refl; whole = refl }
 
   empty_fits : (f : Form) (p : ℤ) → IsPrecision p → IsTree (empty_of (SimpleKind f) p)
   empty_fits PointForm p h = (h, tt)
@@ -282,9 +282,7 @@ module _ (tree : Tree) where
               box = o;
               body = v.front;
               byte = b;
-              extended_is = hx;
-              size_is = hs;
-              box_is = ho;
+              optional = record { extended_is = hx; size_is = hs; box_is = ho };
               agrees = v.agrees;
               body_is = rw full (subst (λ l. AreFields l v.front) (ap (λ q. steps q (outline v.shape)) here ∙ sym (fields_are v.shape)) v.are);
               whole = refl;
@@ -334,7 +332,7 @@ module _ (tree : Tree) where
         front = [];
         rest = is;
         whole = refl;
-        items = λ x s o b hx hs ho. record { meta = meta; extended = x; size = s; box = o; body = []; byte = b; extended_is = hx; size_is = hs; box_is = ho; agrees = tt; body_is = rw bare refl; whole = refl };
+        items = λ x s o b hx hs ho. record { meta = meta; extended = x; size = s; box = o; body = []; byte = b; optional = record { extended_is = hx; size_is = hs; box_is = ho }; agrees = tt; body_is = rw bare refl; whole = refl };
         runs = rw bare at r;
       }
   gathering_back n one p meta size from fs e is fuel here false full r =
@@ -354,9 +352,7 @@ module _ (tree : Tree) where
           box = o;
           body = c.front ++ m.front;
           byte = b;
-          extended_is = hx;
-          size_is = hs;
-          box_is = ho;
+          optional = record { extended_is = hx; size_is = hs; box_is = ho };
           agrees = agrees_all h c.ids m.members (subst (λ n. SaysIds h c.ids n) (sym m.many) c.says) full;
           body_is = rw full (record {
             front = c.front;

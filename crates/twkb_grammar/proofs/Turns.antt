@@ -1,12 +1,12 @@
 -- How many items may still come: a measure that each item lowers.
-use Rattle.std.proofs.Common.{true, false, Bool, ◌≡◌, ℕ, zero, suc, ◌+◌, ◌*◌, ◌<◌, ◌≤◌, List, [], ◌∷◌, ◌++◌, length, refl, sym, subst, Some, None, arith, ap}
+use Rattle.std.proofs.Common.{true, false, Bool, ◌≡◌, ℕ, zero, suc, ◌+◌, ◌*◌, ◌<◌, ◌≤◌, List, [], ◌∷◌, ◌++◌, length, refl, subst, Some, None, arith, ap}
 use Rattle.std.specs.Prelude.{if◌then◌else◌}
 use Rattle.twkb_num.specs.Varint.{HasMarks, IsVarint}
 use Rattle.twkb_points.specs.Point.{Point}
-use Rattle.twkb_tree.specs.Tree.{Ids, Tree, Trees}
+use Rattle.twkb_tree.specs.Tree.{Ids, Tree}
 use Rattle.twkb_grammar.specs.Bits.{bit}
 use Rattle.twkb_grammar.specs.Roles.{Role, Header, Metadata, Extended, Size, Box, Count, Id, X, Y, Spells, where_set}
-use Rattle.twkb_grammar.specs.Machine.{Body, Want, WantY, Done, opened, closed, body_after, listed, Form, depth_of, Kind, SimpleKind, CollectionKind, PointForm, LineForm, PolygonForm, MultiPointForm, MultiLineForm, MultiPolygonForm, kind_number, Head, Frame, Phase, AtHeader, AtMetadata, AtOption, AtCount, AtId, AtBody, AtEnd, Finished, Many, ManyPoints, ManyLines, ManyPolygons, ManyGeometries, first_count, settled, begun, wanting, members_begin, counted, ended, asked, top, Stack, phase_role, advanced}
+use Rattle.twkb_grammar.specs.Machine.{Body, Want, WantY, Done, opened, body_after, listed, Form, depth_of, Kind, SimpleKind, CollectionKind, PointForm, LineForm, PolygonForm, MultiPointForm, MultiLineForm, MultiPolygonForm, kind_number, Head, Frame, Phase, AtHeader, AtMetadata, AtOption, AtCount, AtId, AtBody, AtEnd, Finished, Many, ManyPoints, ManyLines, ManyPolygons, ManyGeometries, first_count, settled, begun, wanting, members_begin, counted, ended, asked, top, Stack, phase_role, advanced}
 use Rattle.twkb_grammar.proofs.BodiesBack.{some_role}
 
 -- the geometries that are open, and the optional parts that are wanted

@@ -1,5 +1,5 @@
 -- Where and why bytes are no blob (profile: the reasons, their order and the limits; the layout that they speak of: TWKB).
-use Rattle.std.specs.Prelude.{◌≡◌, ◌≢◌, ℕ, ◌+◌, ◌%◌, ◌<◌, ◌≤◌, ◌⊎◌, Bool, not, true, false, List, [], ◌∷◌, ◌++◌, length, ◌+ℤ◌, sum_by, nat_eq, if◌then◌else◌}
+use Rattle.std.specs.Prelude.{◌≡◌, ◌≢◌, ℕ, ◌+◌, ◌%◌, ◌<◌, ◌≤◌, ◌⊎◌, ℤ, Bool, not, true, false, List, [], ◌∷◌, ◌++◌, length, ◌+ℤ◌, sum_by, nat_eq, if◌then◌else◌}
 use Rattle.std.specs.List.{AllByRecursion}
 use Rattle.twkb_num.specs.Zigzag.{unzigzag_of}
 use Rattle.twkb_num.specs.Varint.{IsVarint}
@@ -132,28 +132,38 @@ When r P reason Others = (P × (r ≡ reason)) ⊎ ((P → ⊥) × Others)
 abbrev pub NumberFirst : Reason → List ℕ → Type 0 → Type 0
 NumberFirst r rest Others = When r (IsCut rest) Truncated (When r (IsTooLong rest) BadVarint Others)
 
--- r is the first reason that holds at a place with this role, behind the items `before`, with these bytes left (profile).
--- No bytes at the header of a root are the end of a stream, and no fault.
-abbrev pub Refused : Allowance → List Item → List ℕ → Role → Reason → Type 0
-Refused limits before rest Header r =
+-- The reasons of a byte: none is left, or this holds of it (profile).
+abbrev pub ByteRefused : Reason → List ℕ → (ℕ → Type 0) → Reason → Type 0
+ByteRefused r rest P reason = When r (rest ≡ []) Truncated (When r (FirstByte P rest) reason ⊥)
+
+-- The reasons of a type byte. No bytes at the header of a root are the end of a stream, and no fault (profile).
+abbrev pub HeaderRefused : List Item → List ℕ → Reason → Type 0
+HeaderRefused before rest r =
     When r ((before ≢ []) × (rest ≡ [])) Truncated
     (When r (FirstByte (λ b. (b % 16 ≡ 0) ⊎ (7 < b % 16)) rest) BadType ⊥)
-Refused limits before rest (Metadata kind) r =
-    When r (rest ≡ []) Truncated
-    (When r (FirstByte (λ b. (announces_point kind b ≡ true) × (limits.points ≤ announced_points before)) rest) TooManyPoints ⊥)
-Refused limits before rest Extended r =
-    When r (rest ≡ []) Truncated (When r (FirstByte (λ b. b % 4 ≢ 0) rest) ExtraDimensions ⊥)
-Refused limits before rest Size r = NumberFirst r rest ⊥
-Refused limits before rest Box r = NumberFirst r rest ⊥
-Refused limits before rest Id r = NumberFirst r rest ⊥
-Refused limits before rest (Count c) r = NumberFirst r rest
+
+-- The reasons of a count: those of any number, and then the limits on depth, nodes and points, in this order (profile).
+abbrev pub CountRefused : Allowance → List Item → List ℕ → Counted → Reason → Type 0
+CountRefused limits before rest c r = NumberFirst r rest
     (When r (FirstNumber (λ n. IsDeep c limits.nest × (0 < n)) rest) TooDeep
     (When r (FirstNumber (λ n. limits.nodes < announced_nodes before + nodes_of c n) rest) TooManyNodes
     (When r (FirstNumber (λ n. limits.points < announced_points before + points_of c n) rest) TooManyPoints ⊥)))
-Refused limits before rest X r = NumberFirst r rest
-    (When r (FirstNumber (λ n. IsCoordinate ((position before).x +ℤ unzigzag_of n) → ⊥) rest) CoordinateRange ⊥)
-Refused limits before rest Y r = NumberFirst r rest
-    (When r (FirstNumber (λ n. IsCoordinate ((position before).y +ℤ unzigzag_of n) → ⊥) rest) CoordinateRange ⊥)
+
+-- The reasons of a difference behind this coordinate: those of any number, and then the range of their sum (profile).
+abbrev pub DifferenceRefused : ℤ → List ℕ → Reason → Type 0
+DifferenceRefused from rest r = NumberFirst r rest (When r (FirstNumber (λ n. IsCoordinate (from +ℤ unzigzag_of n) → ⊥) rest) CoordinateRange ⊥)
+
+-- r is the first reason that holds at a place with this role, behind the items `before`, with these bytes left (profile).
+abbrev pub Refused : Allowance → List Item → List ℕ → Role → Reason → Type 0
+Refused limits before rest Header r = HeaderRefused before rest r
+Refused limits before rest (Metadata kind) r = ByteRefused r rest (λ b. (announces_point kind b ≡ true) × (limits.points ≤ announced_points before)) TooManyPoints
+Refused limits before rest Extended r = ByteRefused r rest (λ b. b % 4 ≢ 0) ExtraDimensions
+Refused limits before rest Size r = NumberFirst r rest ⊥
+Refused limits before rest Box r = NumberFirst r rest ⊥
+Refused limits before rest Id r = NumberFirst r rest ⊥
+Refused limits before rest (Count c) r = CountRefused limits before rest c r
+Refused limits before rest X r = DifferenceRefused (position before).x rest r
+Refused limits before rest Y r = DifferenceRefused (position before).y rest r
 Refused limits before rest (End declared came) r = When r (IsExact (End declared came) → ⊥) SizeMismatch ⊥
 
 -- The bytes, which begin a blob, are refused at this offset for this reason.

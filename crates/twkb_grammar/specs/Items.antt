@@ -121,6 +121,13 @@ abbrev pub BodyAt : Bool → (List Item → Type 0) → List Item → Type 0
 BodyAt true Body is = is ≡ []
 BodyAt false Body is = Body is
 
+-- What stands before a body where the metadata byte asks for it, and nowhere else: the extended byte, the size and the four numbers of a
+-- box (TWKB, metadata header, bits 3, 1 and 0).
+pub record AreOptional (meta : ℕ) (extended size box : List Item) : Type 0 where
+  pub extended_is : HaveRoles (where_set (bit meta 3) (Extended ∷ [])) extended
+  pub size_is : HaveRoles (where_set (bit meta 1) (Size ∷ [])) size
+  pub box_is : HaveRoles (where_set (bit meta 0) (Box ∷ Box ∷ Box ∷ Box ∷ [])) box
+
 -- A geometry: type byte, metadata byte, where flagged the extended byte, the size and the four numbers of a box, then the body
 -- (TWKB, structure; profile: size, box numbers and bits 2 to 7 of the extended byte may be any).
 pub record Framed (kind : ℕ) (precision : ℤ) (own : Flags) (Body : List Item → Type 0) (is : List Item) : Type 0 where
@@ -130,9 +137,7 @@ pub record Framed (kind : ℕ) (precision : ℤ) (own : Flags) (Body : List Item
   pub box : List Item
   pub body : List Item
   pub byte : meta < 256
-  pub extended_is : HaveRoles (where_set (bit meta 3) (Extended ∷ [])) extended
-  pub size_is : HaveRoles (where_set (bit meta 1) (Size ∷ [])) size
-  pub box_is : HaveRoles (where_set (bit meta 0) (Box ∷ Box ∷ Box ∷ Box ∷ [])) box
+  pub optional : AreOptional meta extended size box
   pub agrees : Agrees own meta
   pub body_is : BodyAt (bit meta 4) Body body
   pub whole : is ≡ item Header (header_byte kind precision) ∷ item (Metadata kind) meta

@@ -1,15 +1,17 @@
 -- A reader that notes the spans of a blob as its items come.
 -- It is what the code of such a reader is proved against, and no part of the format; the law `noting` joins it to the spans of blobs.
-use Rattle.std.specs.Prelude.{⊤, ℕ, zero, suc, ◌+◌, ◌-◌, ◌/◌, ◌%◌, List, [], ◌∷◌, ◌++◌, length}
+use Rattle.std.specs.Prelude.{◌≡◌, ⊤, ℕ, zero, suc, ◌+◌, ◌-◌, ◌/◌, ◌%◌, List, [], ◌∷◌, ◌++◌, length}
 use Rattle.twkb_num.specs.Zigzag.{unzigzag_of}
 use Rattle.twkb_tree.specs.declared.kind.Kind.{Kind}
 use Rattle.twkb_tree.specs.declared.kind.Kind.TheVariants as kind
-use Rattle.twkb_tree.specs.Tree.{Tree}
+use Rattle.twkb_tree.specs.Tree.{Tree, flat}
 use Rattle.twkb_tree.specs.Limits.{Allowance}
 use Rattle.twkb_grammar.specs.Roles.{Role, Header, Metadata, End, Item}
 use Rattle.twkb_grammar.specs.Machine as machine
 use Rattle.twkb_grammar.specs.Machine.{SimpleKind, CollectionKind, PointForm, LineForm, PolygonForm, MultiPointForm, MultiLineForm, MultiPolygonForm, kind_at, Sums, nothing, added, Stack, Phase, AtHeader, AtMetadata, AtOption}
-use Rattle.twkb_grammar.specs.Reading.{Stands}
+use Rattle.twkb_grammar.specs.Reading.{Stands, frame_count}
+use Rattle.twkb_grammar.specs.Blob.{Blob}
+use Rattle.twkb_grammar.specs.Spans.{spans_of_blob}
 use Rattle.twkb_grammar.specs.declared.span.Span.{Span}
 
 -- The kind of a type.
@@ -105,3 +107,17 @@ IsCalm _ = ⊤
 -- Where a reader stands has these notes.
 abbrev pub notes_of : {limits : Allowance} {bytes held : List ℕ} {gs : List Tree} {e : Sums} {st : Stack} → (start : ℕ) → Stands limits bytes gs e st held → Notes
 notes_of start s = noted start nothing no_notes s.reached.items
+
+-- What is noted there, with what this byte notes by itself where it is a header's.
+abbrev pub notes_with : {limits : Allowance} {bytes held : List ℕ} {gs : List Tree} {e : Sums} {st : Stack} → (start byte : ℕ) → Stands limits bytes gs e st held → Notes
+notes_with {e = e} {st = st} start byte s = note_byte st.1 (start + e.bytes) e.points byte (notes_of start s)
+
+-- One byte more, behind which a reader stands, notes what it does by itself, and the ends behind it.
+abbrev pub NotesGoOn : {limits : Allowance} {bytes held : List ℕ} {e : Sums} {st : Stack} → Stands limits bytes [] e st held → Type 0
+NotesGoOn {limits} {bytes} {st = st} s = (start byte : ℕ) (f : Sums) (su : Stack) (kept : List ℕ) (t : Stands limits (bytes ++ byte ∷ []) [] f su kept)
+    → IsCalm st.1 → notes_of start t ≡ note_ends_to (frame_count su) (start + f.bytes) f.points (notes_with start byte s)
+
+-- One byte more, which ends a blob, notes what it does by itself, and the ends of all that is open; and then these are the blob's spans.
+abbrev pub NotesEnd : {limits : Allowance} {bytes held : List ℕ} {e : Sums} {st : Stack} → Stands limits bytes [] e st held → Type 0
+NotesEnd {limits} {bytes} {st = st} s = (start byte : ℕ) (g : Tree) (b : Blob limits (bytes ++ byte ∷ []) g)
+    → IsCalm st.1 → spans_of_blob start b ≡ (note_ends_to 0 (start + length (bytes ++ byte ∷ [])) (length (flat g)) (notes_with start byte s)).spans

@@ -6,9 +6,9 @@ use Rattle.twkb_num.specs.Varint.{IsVarint}
 use Rattle.twkb_points.specs.Point.{Point, IsCoordinate}
 use Rattle.twkb_tree.specs.Tree.{Tree, collection}
 use Rattle.twkb_tree.specs.Limits.{Allowance}
-use Rattle.twkb_grammar.specs.Roles.{Role, Header, Metadata, Extended, Size, Box, Count, Id, X, Y, End, IsNumber, Item, join}
+use Rattle.twkb_grammar.specs.Roles.{Role, Header, Metadata, Extended, Size, Box, Count, Id, X, Y, End, IsNumber, HasBytes, Item, join}
 use Rattle.twkb_grammar.specs.Blob.{AreExact, Stream}
-use Rattle.twkb_grammar.specs.Fault.{Reason, SizeMismatch, FirstFault, GoOn, IsDeep, announced_nodes, announced_points}
+use Rattle.twkb_grammar.specs.Fault.{Reason, SizeMismatch, Refused, FirstFault, GoOn, IsDeep, announced_nodes, announced_points}
 use Rattle.twkb_grammar.specs.Machine.{Sums, nothing, added, sums_after, Frame, Phase, AtHeader, AtEnd, Finished, Stack, started, snoc, role_at, stack_after, Runs}
 use Rattle.twkb_grammar.specs.PlainReader.{is_exact}
 
@@ -52,6 +52,10 @@ Gives X n bytes = IsVarint bytes n
 Gives Y n bytes = IsVarint bytes n
 Gives (End declared came) n bytes = (n ≡ 0) × (bytes ≡ [])
 
+-- The item's bytes give its number.
+abbrev pub IsGiven : Item → Type 0
+IsGiven i = Gives i.role i.number i.bytes
+
 -- A geometry ends behind so many bytes, its size being exact or not, and with it each collection whose last member it is, while their sizes are exact.
 abbrev pub past_end : Bool → ℕ → Tree → List Frame → Result Stack Reason
 past_end false bytes g fs = Err SizeMismatch
@@ -66,6 +70,19 @@ abbrev pub ends : ℕ → List Frame → Phase → Result Stack Reason
 ends bytes fs (AtEnd h g) = past_end (is_exact h.size (bytes - h.from)) bytes g fs
 ends bytes fs p = Ok (fs, p)
 
+-- Whatever bytes follow, the first fault is at this item, for this reason.
+abbrev pub FaultAt : Allowance → List ℕ → Sums → Item → Reason → Type 0
+FaultAt limits bytes e i reason = (more : List ℕ) → FirstFault limits (bytes ++ (i.bytes ++ more)) e.bytes reason
+
+-- Where this is known and the role that is wanted next is that of a number, that holds of the bytes that follow.
+abbrev pub AtNumber : Type 0 → Option Role → (List ℕ → Type 0) → Type 0
+AtNumber Known next Holds = (rest : List ℕ) (role : Role) → Known → next ≡ Some role → IsNumber role → Holds rest
+
+-- Where this stack waits for an item behind these ones, each refusal is a fault of this sort at their end.
+abbrev pub RefusalsAre : (List ℕ → ℕ → Reason → Type 0) → Allowance → List Item → Stack → Type 0
+RefusalsAre IsFault limits before st = (rest : List ℕ) (role : Role) (reason : Reason) → role_at (sums_after nothing before) st ≡ Some role
+    → Refused limits before rest role reason → IsFault (join before ++ rest) (length (join before)) reason
+
 -- Where a reader stands behind the ends; or the first fault, whatever bytes follow.
 abbrev pub Landed : Allowance → List ℕ → Sums → Result Stack Reason → Type 0
 Landed limits bytes e (Ok st) = Reached limits bytes e st
@@ -73,7 +90,7 @@ Landed limits bytes e (Err reason) = (rest : List ℕ) → FirstFault limits (by
 
 -- What an item leads to, against which there is this objection or none: a further place, or the first fault, whatever bytes follow.
 abbrev pub Leads : Allowance → List ℕ → Sums → Stack → Item → Option Reason → Type 0
-Leads limits bytes e st i (Some reason) = (more : List ℕ) → FirstFault limits (bytes ++ (i.bytes ++ more)) e.bytes reason
+Leads limits bytes e st i (Some reason) = FaultAt limits bytes e i reason
 Leads limits bytes e st i None = Landed limits (bytes ++ i.bytes) (added e i) (ends (added e i).bytes (stack_after e i st).0 (stack_after e i st).1)
 
 -- The bytes are blobs of these geometries, then whole items of a further one or none, and then the first bytes of a number, which are held.
@@ -86,10 +103,17 @@ pub record Stands (limits : Allowance) (bytes : List ℕ) (gs : List Tree) (e : 
   -- the next item is wanted, and it has bytes
   pub role : Role
   pub wants : role_at e st ≡ Some role
-  pub spelled : (d : Option ℕ) (came : ℕ) → role ≡ End d came → ⊥
+  pub spelled : HasBytes role
   pub go_on : GoOn held
   pub few : length held < 10
   pub number : (held ≡ []) ⊎ IsNumber role
+
+-- Two places of a reader of a stream are one: the same geometries, sums, stack and bytes that are held.
+pub record IsSamePlace (gs hs : List Tree) (e f : Sums) (st su : Stack) (held kept : List ℕ) : Type 0 where
+  pub geometries : gs ≡ hs
+  pub sums : e ≡ f
+  pub stack : st ≡ su
+  pub bytes : held ≡ kept
 
 -- How many geometries are begun and not ended behind an item with this role.
 abbrev pub open_by : ℕ → Role → ℕ

@@ -62,6 +62,10 @@ IsNumber X = ⊤
 IsNumber Y = ⊤
 IsNumber (End declared came) = ⊥
 
+-- An item with this role has bytes: it is no end.
+abbrev pub HasBytes : Role → Type 0
+HasBytes role = (declared : Option ℕ) (came : ℕ) → role ≡ End declared came → ⊥
+
 -- The bytes of the item say its number in its role.
 abbrev pub IsItem : Item → Type 0
 IsItem i = Spells i.role i.number i.bytes

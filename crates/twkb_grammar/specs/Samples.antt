@@ -1,5 +1,5 @@
--- Geometries and limits for the samples.
-use Rattle.std.specs.Prelude.{◌^◌, [], ◌∷◌, pos, negsuc, Some, None}
+-- Geometries, limits and bytes for the samples.
+use Rattle.std.specs.Prelude.{ℕ, zero, suc, ◌^◌, List, [], ◌∷◌, pos, negsuc, Some, None}
 use Rattle.twkb_points.specs.Point.{origin, point_at}
 use Rattle.twkb_tree.specs.Limits.{Allowance}
 use Rattle.twkb_tree.specs.Tree.{point, line, polygon, multi_point, multi_line, multi_polygon, Tree, simple, collection, end, ◌▷◌}
@@ -99,3 +99,39 @@ two_members = collection (pos 0) None ((simple (pos 0) (point (Some (point_at (p
 -- Nine collections, each but the first the one member of another.
 abbrev pub nine_deep : Tree
 nine_deep = collection (pos 0) None ((collection (pos 0) None ((collection (pos 0) None ((collection (pos 0) None ((collection (pos 0) None ((collection (pos 0) None ((collection (pos 0) None ((collection (pos 0) None ((collection (pos 0) None end) ▷ end)) ▷ end)) ▷ end)) ▷ end)) ▷ end)) ▷ end)) ▷ end)) ▷ end)
+
+-- The canonical full blob of the linestring of three points.
+abbrev pub three_points_blob : List ℕ
+three_points_blob =
+    0xA2 ∷ 0x03 ∷ 0x23 ∷ 0xE7 ∷ 0xCE ∷ 0x87 ∷ 0x0C ∷ 0xA8 ∷ 0xAA ∷ 0x4C ∷ 0xA0 ∷ 0xFC ∷ 0xD5 ∷ 0x03 ∷ 0x80 ∷ 0x81 ∷
+    0x3A ∷ 0x03 ∷ 0xBF ∷ 0xA4 ∷ 0xBB ∷ 0x0B ∷ 0xA0 ∷ 0xFC ∷ 0xD5 ∷ 0x03 ∷ 0xEF ∷ 0x93 ∷ 0x09 ∷ 0xC0 ∷ 0xED ∷ 0x1A ∷
+    0xB7 ∷ 0x96 ∷ 0x43 ∷ 0xC0 ∷ 0x93 ∷ 0x1F ∷ []
+
+-- The canonical full blob of the linestring from the greatest coordinate to the least one.
+abbrev pub widest_blob : List ℕ
+widest_blob =
+    0x02 ∷ 0x03 ∷ 0x2B ∷ 0xFF ∷ 0xFF ∷ 0xFF ∷ 0xFF ∷ 0xFF ∷ 0xFF ∷ 0xFF ∷ 0xFF ∷ 0x7F ∷ 0xFE ∷ 0xFF ∷ 0xFF ∷ 0xFF ∷
+    0xFF ∷ 0xFF ∷ 0xFF ∷ 0xFF ∷ 0xFF ∷ 0x01 ∷ 0x00 ∷ 0x00 ∷ 0x02 ∷ 0xFE ∷ 0xFF ∷ 0xFF ∷ 0xFF ∷ 0xFF ∷ 0xFF ∷ 0xFF ∷
+    0xFF ∷ 0x7F ∷ 0x00 ∷ 0xFD ∷ 0xFF ∷ 0xFF ∷ 0xFF ∷ 0xFF ∷ 0xFF ∷ 0xFF ∷ 0xFF ∷ 0xFF ∷ 0x01 ∷ 0x00 ∷ []
+
+-- The canonical full blob of the nine collections.
+abbrev pub nine_deep_blob : List ℕ
+nine_deep_blob =
+    0x07 ∷ 0x02 ∷ 0x20 ∷ 0x01 ∷ 0x07 ∷ 0x02 ∷ 0x1C ∷ 0x01 ∷ 0x07 ∷ 0x02 ∷ 0x18 ∷ 0x01 ∷ 0x07 ∷ 0x02 ∷ 0x14 ∷ 0x01 ∷
+    0x07 ∷ 0x02 ∷ 0x10 ∷ 0x01 ∷ 0x07 ∷ 0x02 ∷ 0x0C ∷ 0x01 ∷ 0x07 ∷ 0x02 ∷ 0x08 ∷ 0x01 ∷ 0x07 ∷ 0x02 ∷ 0x04 ∷ 0x01 ∷
+    0x07 ∷ 0x12 ∷ 0x00 ∷ []
+
+-- The canonical full blob of the collection with ids.
+abbrev pub named_members_blob : List ℕ
+named_members_blob =
+    0x07 ∷ 0x07 ∷ 0x0F ∷ 0x02 ∷ 0x00 ∷ 0x02 ∷ 0x00 ∷ 0x02 ∷ 0x0E ∷ 0x01 ∷ 0x01 ∷ 0x02 ∷ 0x02 ∷ 0x02 ∷ 0x02 ∷ 0x02 ∷
+    0x12 ∷ 0x00 ∷ []
+
+-- A plain blob of a collection without members.
+abbrev pub bare_collection : List ℕ
+bare_collection = 0x07 ∷ 0x10 ∷ []
+
+-- So many plain collections round a blob, each with the next as its one member.
+abbrev pub in_collections : ℕ → List ℕ → List ℕ
+in_collections zero bytes = bytes
+in_collections (suc n) bytes = 0x07 ∷ 0x00 ∷ 0x01 ∷ in_collections n bytes

@@ -1,20 +1,20 @@
 //! Laws of blobs, each the contract of a function that does nothing.
-ghost use Rattle.std.specs.Prelude.{◌≡◌, ◌≢◌, ◌↔◌, ◌⊎◌, ◌<◌, ◌≤◌, ◌+◌, ◌*◌, ℕ, List, [], ◌∷◌, ◌++◌, length, map, Option, Some};
+ghost use Rattle.std.specs.Prelude.{◌≡◌, ◌≢◌, ◌↔◌, ◌⊎◌, ◌<◌, ◌≤◌, ◌+◌, ◌*◌, ℕ, List, [], ◌++◌, length, map, Some};
 ghost use Rattle.std.specs.List.{AllByRecursion};
 ghost use Rattle.twkb_tree.specs.Tree.{Tree, IsTree, nodes, flat};
 ghost use Rattle.twkb_tree.specs.Limits.{Allowance, IsAllowance, IsValid};
 ghost use Rattle.twkb_grammar.specs.declared.style.Style.{Style};
 ghost use Rattle.twkb_grammar.specs.Bits.{AreBytes};
-ghost use Rattle.twkb_grammar.specs.Roles.{Item, Role, End, IsNumber, join};
+ghost use Rattle.twkb_grammar.specs.Roles.{Item, Role, HasBytes};
 ghost use Rattle.twkb_grammar.specs.Items.{Items};
 ghost use Rattle.twkb_grammar.specs.Blob.{Blob, BlobInFront, Stream};
 ghost use Rattle.twkb_grammar.specs.Written.{canonical_blob, canonical_stream};
-ghost use Rattle.twkb_grammar.specs.Fault.{Refused, Fault, FirstFault, StreamFault, Reason, Truncated, BadVarint, Part, IsPart, IsCut, IsTooLong};
+ghost use Rattle.twkb_grammar.specs.Fault.{Fault, FirstFault, StreamFault, Reason, Truncated, BadVarint, Part, IsPart, IsCut, IsTooLong};
 ghost use Rattle.twkb_grammar.specs.Machine.{Runs, Sums, nothing, started, Finished, Stack, role_at, sums_after};
 ghost use Rattle.twkb_grammar.specs.PlainReader.{decode, objection, Made, RefusedAt, GoesOn};
 ghost use Rattle.twkb_grammar.specs.Spans.{spans_of_blob, moved_span, geometries, CoversBlob};
-ghost use Rattle.twkb_grammar.specs.Noting.{no_notes, noted, note_byte, note_ends_to, notes_of, IsCalm};
-ghost use Rattle.twkb_grammar.specs.Reading.{Ran, Reached, Gives, Leads, Stands, frame_count, open_after};
+ghost use Rattle.twkb_grammar.specs.Noting.{no_notes, noted, NotesGoOn, NotesEnd};
+ghost use Rattle.twkb_grammar.specs.Reading.{Ran, Reached, IsGiven, AtNumber, RefusalsAre, Leads, Stands, IsSamePlace, frame_count, open_after};
 
 /// The canonical blob of a valid geometry, in either style, is a blob of it, and its length is bounded by nodes and points;
 /// and the canonical stream of valid geometries is a stream of them.
@@ -94,10 +94,8 @@ pub fn parts()
 /// Where the machine waits for an item, and a reason holds first of the bytes that are left, the bytes are refused there for it;
 /// and within the limits, with exact sizes, that is the first fault.
 pub fn refusals()
-    ensures fault { (limits : Allowance) (before : List Item) (rest : List ℕ) (st : Stack) (role : Role) (reason : Reason) → Runs nothing started before st
-        → role_at (sums_after nothing before) st ≡ Some role → Refused limits before rest role reason → Fault limits (join before ++ rest) (length (join before)) reason }
-    ensures first { (limits : Allowance) (before : List Item) (rest : List ℕ) (st : Stack) (role : Role) (reason : Reason) → Ran limits before st
-        → role_at (sums_after nothing before) st ≡ Some role → Refused limits before rest role reason → FirstFault limits (join before ++ rest) (length (join before)) reason }
+    ensures fault { (limits : Allowance) (before : List Item) (st : Stack) → Runs nothing started before st → RefusalsAre (Fault limits) limits before st }
+    ensures first { (limits : Allowance) (before : List Item) (st : Stack) → Ran limits before st → RefusalsAre (FirstFault limits) limits before st }
 {}
 
 /// Where a reader that takes items one by one stands: at the start, behind an item, at a blob's end, and where bytes are missing or a number is too long.
@@ -107,22 +105,21 @@ pub fn reading()
     ensures depth { (limits : Allowance) (bytes : List ℕ) (e : Sums) (st : Stack) → Reached limits bytes e st → length st.0 ≤ limits.nest }
     ensures frames { (limits : Allowance) (bytes : List ℕ) (e : Sums) (st : Stack) (r : Reached limits bytes e st) → frame_count st ≡ open_after 0 r.items }
     ensures few_frames { (limits : Allowance) (bytes : List ℕ) (e : Sums) (st : Stack) → Reached limits bytes e st → frame_count st ≤ limits.nest + 1 }
-    ensures leads { (limits : Allowance) (bytes : List ℕ) (e : Sums) (st : Stack) (i : Item) → Reached limits bytes e st → role_at e st ≡ Some i.role → Gives i.role i.number i.bytes
+    ensures leads { (limits : Allowance) (bytes : List ℕ) (e : Sums) (st : Stack) (i : Item) → Reached limits bytes e st → role_at e st ≡ Some i.role → IsGiven i
         → Leads limits bytes e st i (objection limits e i.role i.number) }
     ensures blob { (limits : Allowance) (bytes : List ℕ) (e : Sums) (g : Tree) → Reached limits bytes e ([], Finished g) → Blob limits bytes g }
-    ensures cut { (limits : Allowance) (bytes : List ℕ) (e : Sums) (st : Stack) (rest : List ℕ) (role : Role) → Reached limits bytes e st → role_at e st ≡ Some role
-        → IsNumber role → IsCut rest → FirstFault limits (bytes ++ rest) e.bytes Truncated }
-    ensures long { (limits : Allowance) (bytes : List ℕ) (e : Sums) (st : Stack) (rest : List ℕ) (role : Role) → Reached limits bytes e st → role_at e st ≡ Some role
-        → IsNumber role → IsTooLong rest → FirstFault limits (bytes ++ rest) e.bytes BadVarint }
+    ensures cut { (limits : Allowance) (bytes : List ℕ) (e : Sums) (st : Stack)
+        → AtNumber (Reached limits bytes e st) (role_at e st) (λ rest. IsCut rest → FirstFault limits (bytes ++ rest) e.bytes Truncated) }
+    ensures long { (limits : Allowance) (bytes : List ℕ) (e : Sums) (st : Stack)
+        → AtNumber (Reached limits bytes e st) (role_at e st) (λ rest. IsTooLong rest → FirstFault limits (bytes ++ rest) e.bytes BadVarint) }
     ensures missing { (limits : Allowance) (bytes : List ℕ) (e : Sums) (st : Stack) (role : Role) → Reached limits bytes e st → role_at e st ≡ Some role
-        → bytes ≢ [] → ((d : Option ℕ) (came : ℕ) → role ≡ End d came → ⊥) → FirstFault limits bytes e.bytes Truncated }
+        → bytes ≢ [] → HasBytes role → FirstFault limits bytes e.bytes Truncated }
 {}
 
 /// Where a reader of a stream stands: behind blobs, before a further one or within it. The bytes alone tell it; at a blob's end they are a stream, and elsewhere they are cut.
 pub fn standing()
     ensures starts { (limits : Allowance) (bytes : List ℕ) (gs : List Tree) → IsAllowance limits → Stream limits bytes gs → Stands limits bytes gs nothing started [] }
-    ensures one_place { (limits : Allowance) (bytes : List ℕ) (gs hs : List Tree) (e f : Sums) (st su : Stack) (held kept : List ℕ) → Stands limits bytes gs e st held → Stands limits bytes hs f su kept
-        → (gs ≡ hs) × (e ≡ f) × (st ≡ su) × (held ≡ kept) }
+    ensures one_place { (limits : Allowance) (bytes : List ℕ) (gs hs : List Tree) (e f : Sums) (st su : Stack) (held kept : List ℕ) → Stands limits bytes gs e st held → Stands limits bytes hs f su kept → IsSamePlace gs hs e f st su held kept }
     ensures whole { (limits : Allowance) (bytes : List ℕ) (gs : List Tree) (e : Sums) (st : Stack) (held : List ℕ) → Stands limits bytes gs e st held → e.bytes ≡ 0 → Stream limits bytes gs }
     ensures cut { (limits : Allowance) (bytes : List ℕ) (gs : List Tree) (e : Sums) (st : Stack) (held : List ℕ) (s : Stands limits bytes gs e st held) → 0 < e.bytes
         → StreamFault limits bytes gs (length s.front + e.bytes) Truncated }
@@ -140,8 +137,6 @@ pub fn spans()
 /// is told by where the reader stands before it and behind it.
 pub fn noting()
     ensures whole { (limits : Allowance) (bytes : List ℕ) (g : Tree) (start : ℕ) (b : Blob limits bytes g) → noted start nothing no_notes b.items ≡ record { spans = spans_of_blob start b; begun = [] } }
-    ensures goes_on { (limits : Allowance) (bytes : List ℕ) (e : Sums) (st : Stack) (held : List ℕ) (s : Stands limits bytes [] e st held) (start byte : ℕ) (f : Sums) (su : Stack) (kept : List ℕ) (t : Stands limits (bytes ++ byte ∷ []) [] f su kept)
-        → IsCalm st.1 → notes_of start t ≡ note_ends_to (frame_count su) (start + f.bytes) f.points (note_byte st.1 (start + e.bytes) e.points byte (notes_of start s)) }
-    ensures ends { (limits : Allowance) (bytes : List ℕ) (e : Sums) (st : Stack) (held : List ℕ) (s : Stands limits bytes [] e st held) (start byte : ℕ) (g : Tree) (b : Blob limits (bytes ++ byte ∷ []) g)
-        → IsCalm st.1 → spans_of_blob start b ≡ (note_ends_to 0 (start + length (bytes ++ byte ∷ [])) (length (flat g)) (note_byte st.1 (start + e.bytes) e.points byte (notes_of start s))).spans }
+    ensures goes_on { (limits : Allowance) (bytes : List ℕ) (e : Sums) (st : Stack) (held : List ℕ) (s : Stands limits bytes [] e st held) → NotesGoOn s }
+    ensures ends { (limits : Allowance) (bytes : List ℕ) (e : Sums) (st : Stack) (held : List ℕ) (s : Stands limits bytes [] e st held) → NotesEnd s }
 {}

@@ -24,6 +24,10 @@ IsAnswer unit group base longest us u BadUnit = group u ≡ None
 IsAnswer unit group base longest us u TooLong =
     ((length us + 1 ≡ longest) × ((d : ℕ) × (group u ≡ Some (d, true)))) ⊎ IsAbove unit base (us ++ u ∷ [])
 
+-- the unit u is refused after the open units us: it is none of the alphabet, or the spelling is too long or its number too large
+abbrev pub IsRefused : (ℕ → Bool → ℕ) → (ℕ → Option (ℕ × Bool)) → ℕ → ℕ → List ℕ → ℕ → Type 0
+IsRefused unit group base longest us u = IsAnswer unit group base longest us u BadUnit ⊎ IsAnswer unit group base longest us u TooLong
+
 -- the units that the reader holds after the answer: it begins anew after any but More
 abbrev pub held_after : List ℕ → ℕ → Step → List ℕ
 held_after us u More = us ++ u ∷ []

@@ -5,7 +5,7 @@ ghost use Rattle.twkb_num.specs.Spelling.{shortest};
 use crate::groups::Groups;
 use std::marker::Model;
 
-/// The most units that a spelling has: 64 bits in groups of five.
+// The most units that a spelling has: 64 bits in groups of five.
 const ROOM: usize = 13;
 
 /// A spelling in an array of its own, 1 to 13 units. A contract sees the list of its units.

@@ -1,12 +1,12 @@
 //! Laws of the numbers and spellings, each the contract of a function that does nothing.
-ghost use Rattle.std.specs.Prelude.{◌≡◌, ℕ, ℤ, negsuc, ◌-◌, ◌<◌, ◌≤◌, ◌^◌, ◌↔◌, ◌⊎◌, Bool, [], ◌∷◌, ◌++◌, List, length, codes};
+ghost use Rattle.std.specs.Prelude.{◌≡◌, ℕ, ℤ, negsuc, ◌-◌, ◌<◌, ◌≤◌, ◌^◌, ◌↔◌, Bool, [], ◌∷◌, ◌++◌, List, length, codes};
 ghost use Rattle.twkb_num.specs.Alphabet.{leb_unit, leb_group, five_unit};
-ghost use Rattle.twkb_num.specs.Answer.{IsAnswer};
+ghost use Rattle.twkb_num.specs.Answer.{IsAnswer, IsRefused};
 ghost use Rattle.twkb_num.specs.Spelling.{IsSpelling, IsOpen, shortest};
 ghost use Rattle.twkb_num.specs.Varint.{IsVarint, IsOpenVarint, varint_of};
 ghost use Rattle.twkb_num.specs.Zigzag.{zigzag_of, unzigzag_of};
 ghost use Rattle.twkb_num.specs.declared.partial.Step.{Step};
-ghost use Rattle.twkb_num.specs.declared.partial.Step.TheVariants.{More, Done, BadUnit, TooLong};
+ghost use Rattle.twkb_num.specs.declared.partial.Step.TheVariants.{More, Done, TooLong};
 
 use crate::groups::Groups;
 
@@ -55,7 +55,7 @@ pub fn open_units_end<G: Groups>()
 
 /// A unit that is refused is in no spelling behind these units, whatever follows.
 pub fn refused_units_end<G: Groups>()
-    ensures { (us : List ℕ) (u : ℕ) (more : List ℕ) (n : ℕ) → (IsAnswer G.unit_of G.group_of (2 ^ G.BITS) G.MAX_LEN us u BadUnit) ⊎ (IsAnswer G.unit_of G.group_of (2 ^ G.BITS) G.MAX_LEN us u TooLong) → IsSpelling G.unit_of (2 ^ G.BITS) G.MAX_LEN (us ++ u ∷ more) n → ⊥ }
+    ensures { (us : List ℕ) (u : ℕ) (more : List ℕ) (n : ℕ) → IsRefused G.unit_of G.group_of (2 ^ G.BITS) G.MAX_LEN us u → IsSpelling G.unit_of (2 ^ G.BITS) G.MAX_LEN (us ++ u ∷ more) n → ⊥ }
 {}
 
 /// The varints are the spellings in `Leb128`, and what begins a varint are its open units.

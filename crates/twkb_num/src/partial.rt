@@ -79,7 +79,7 @@ impl<G: Groups> Partial<G> {
         Step::Done { value, shortest }
     }
 
-    /// Makes it as new.
+    // Makes it as new.
     fn clear(&mut self)
         ensures { self.new ≡ [] }
     {

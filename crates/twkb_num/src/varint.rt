@@ -2,7 +2,7 @@
 ghost use Rattle.std.specs.Prelude.{◌≡◌, ◌≤◌, length};
 ghost use Rattle.twkb_num.specs.Varint.{varint_of};
 
-/// A varint of two bytes at least says this or more.
+// A varint of two bytes at least says this or more.
 const TWO_BYTES: u64 = 0x80;
 
 /// How many bytes the shortest varint of a number has (TWKB specification; LEB128). Takes no memory.

@@ -3,6 +3,12 @@ pub mod RowGrowth
 pub mod Growths
 pub mod Validity
 pub mod Outlined
+pub mod ExactOutlines
+pub mod Starts
+pub mod LeftIds
+pub mod LinePoints
+pub mod PointHeaders
 pub mod PointPairs
 pub mod Notings
 pub mod NotedPairs
+pub mod NotedJoins

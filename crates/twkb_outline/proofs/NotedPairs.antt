@@ -22,7 +22,7 @@ use Rattle.twkb_grammar.proofs.NotedSpans.{noted-append, quiet}
 use Rattle.twkb_grammar.proofs.Reaching.{role_behind}
 use Rattle.twkb_grammar.proofs.Running.{agrees, ran_item}
 use Rattle.twkb_grammar.proofs.Stepping.{Agree}
-use Rattle.twkb_outline.specs.Outline.{Group, Outline, Wanted, WantedY, OnBody, shut, outline_of, outline_role}
+use Rattle.twkb_outline.specs.Outline.{Group, Outline, Wanted, WantedY, OnBody, shut, outline_role}
 use Rattle.twkb_outline.specs.Growing.{applied, rows_so_far}
 use Rattle.twkb_outline.specs.Reading.{outline_after, change_after, Pair, sums_past, point_after}
 use Rattle.twkb_outline.specs.Noting.{NotedOutline}

@@ -1,18 +1,18 @@
 -- Where a reader stands that keeps an outline and rows, and no part of the tree.
-use Rattle.std.specs.Prelude.{◌+ℤ◌, true, ◌≡◌, ℕ, suc, ◌+◌, ◌++◌, List, length, Result, Ok, Err, ⊤}
+use Rattle.std.specs.Prelude.{◌+ℤ◌, true, ◌≡◌, ℕ, suc, ◌+◌, ◌++◌, List, length, Option, Some, Result, Ok, Err, ⊤}
 use Rattle.twkb_num.specs.Varint.{IsVarint}
 use Rattle.twkb_num.specs.Zigzag.{unzigzag_of}
 use Rattle.twkb_points.specs.Point.{Point, point_at}
 use Rattle.twkb_tree.specs.Tree.{Ids}
 use Rattle.twkb_tree.specs.Limits.{Allowance}
 use Rattle.twkb_tree.specs.Rows.{Row, first_id}
-use Rattle.twkb_grammar.specs.Roles.{Item}
+use Rattle.twkb_grammar.specs.Roles.{Role, Item}
 use Rattle.twkb_grammar.specs.Fault.{Reason, FirstFault, moved}
-use Rattle.twkb_grammar.specs.Machine.{Form, Head, depth_of, Sums, Stack}
-use Rattle.twkb_grammar.specs.PlainReader.{in_range}
-use Rattle.twkb_grammar.specs.Reading.{Reached}
-use Rattle.twkb_outline.specs.Outline.{Group, Spot, Wanted, WantedY, Full, Step, OnHeader, OnBody, OnFinished, Outline, outline_of, outline_advanced}
-use Rattle.twkb_outline.specs.Growing.{rows_so_far, Change, change_of, point_change, id_in}
+use Rattle.twkb_grammar.specs.Machine.{Form, Head, depth_of, Sums, added, Stack}
+use Rattle.twkb_grammar.specs.PlainReader.{in_range, objection}
+use Rattle.twkb_grammar.specs.Reading.{Reached, IsGiven}
+use Rattle.twkb_outline.specs.Outline.{Group, Spot, Wanted, WantedY, Full, Step, OnHeader, OnBody, OnFinished, Outline, outline_of, outline_role, outline_advanced, shut}
+use Rattle.twkb_outline.specs.Growing.{rows_so_far, Change, change_of, applied, point_change, id_in}
 
 -- The bytes are whole items that the machine ran through within the limits; these are the sums behind them, the outline of its stack, and the rows that it holds.
 pub record Outlined (limits : Allowance) (bytes : List ℕ) (e : Sums) (o : Outline) (rs : List Row) : Type 0 where
@@ -28,6 +28,18 @@ outline_after e i o = outline_advanced (e.bytes + length i.bytes) i.number o
 -- What the item changes.
 abbrev pub change_after : Sums → Item → Outline → Change
 change_after e i o = change_of (moved e.position i.role i.number) i.number o
+
+-- A reader stands behind this item more.
+abbrev pub OutlinedBehind : Allowance → List ℕ → Sums → Outline → List Row → Item → Type 0
+OutlinedBehind limits bytes e o rs i = Outlined limits (bytes ++ i.bytes) (added e i) (outline_after e i o) (applied (change_after e i o) rs)
+
+-- An item with this role is wanted next.
+abbrev pub Wants : Sums → Outline → Role → Type 0
+Wants e o role = outline_role e o ≡ Some role
+
+-- Where this item is wanted next, its bytes give its number, and there is this objection to it or none, that holds.
+abbrev pub WithItem : Allowance → Sums → Outline → Item → Option Reason → Type 0 → Type 0
+WithItem limits e o i against Holds = Wants e o i.role → IsGiven i → objection limits e i.role i.number ≡ against → Holds
 
 -- Where a reader stands behind the ends, with the same rows; or the first fault, whatever bytes follow.
 abbrev pub OutlineLanded : Allowance → List ℕ → Sums → List Row → Result Outline Reason → Type 0
@@ -71,3 +83,10 @@ sums_past e bytes to = record { bytes = e.bytes + length bytes; position = to; n
 -- What a point changes.
 abbrev pub point_after : Point → List Group → Head → Form → Ids → Change
 point_after to gs h f ids = point_change to (length gs) (id_in gs) h.precision f (first_id ids)
+
+-- Where this is known of a place at which a point is wanted, and its two numbers come next, that holds of the place behind them: of the
+-- bytes, the sums, the outline, and what the point changes in the rows.
+abbrev pub AtPoint : (List ℕ → Sums → Outline → List Row → Type 0) → (List ℕ → Sums → Outline → Change → List Row → Type 0) → Type 0
+AtPoint Known Holds = (front : List ℕ) (e : Sums) (gs : List Group) (h : Head) (f : Form) (ids : Ids) (lefts : List ℕ) (rs : List Row) (bytes : List ℕ) (to : Point)
+    → Known front e (gs, OnBody h f ids (Wanted 0 lefts)) rs → Pair e.position bytes to
+    → Holds (front ++ bytes) (sums_past e bytes to) (gs, shut h f ids 0 lefts) (point_after to gs h f ids) rs

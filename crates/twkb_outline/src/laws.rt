@@ -1,22 +1,21 @@
 //! Laws of outlines, each the contract of a function that does nothing.
-ghost use Rattle.std.specs.Prelude.{◌≡◌, ◌≢◌, ◌≤◌, ℕ, List, [], ◌∷◌, ◌++◌, length, Option, Some, None, Ok};
+ghost use Rattle.std.specs.Prelude.{◌≡◌, ◌≢◌, ◌≤◌, ℕ, List, [], ◌∷◌, ◌++◌, length, Some, None, Ok};
 ghost use Rattle.twkb_points.specs.Point.{Point};
 ghost use Rattle.twkb_tree.specs.Rows.{Row, rows};
-ghost use Rattle.twkb_tree.specs.Tree.{Tree, Ids};
+ghost use Rattle.twkb_tree.specs.Tree.{Tree};
 ghost use Rattle.twkb_tree.specs.Limits.{Allowance, IsAllowance, largest_limits};
 ghost use Rattle.twkb_tree.specs.Accepted.{Continues};
 ghost use Rattle.twkb_tree.specs.RowLists.{AreValidRowsOfOne};
-ghost use Rattle.twkb_grammar.specs.Roles.{Role, End, IsNumber, Item};
+ghost use Rattle.twkb_grammar.specs.Roles.{Role, HasBytes, Item};
 ghost use Rattle.twkb_grammar.specs.Blob.{Blob};
 ghost use Rattle.twkb_grammar.specs.Fault.{Reason, Truncated, BadVarint, FirstFault, IsPart, IsCut, IsTooLong};
-ghost use Rattle.twkb_grammar.specs.PlainReader.{objection};
-ghost use Rattle.twkb_grammar.specs.Machine.{Form, Head, Sums, nothing, added, Stack, Finished, role_at, advanced};
-ghost use Rattle.twkb_grammar.specs.Reading.{Reached, Gives, ends, frame_count};
+ghost use Rattle.twkb_grammar.specs.Machine.{Sums, nothing, Stack, Finished, role_at, advanced};
+ghost use Rattle.twkb_grammar.specs.Reading.{Reached, FaultAt, AtNumber, ends, frame_count};
 ghost use Rattle.twkb_grammar.specs.Noting.{Notes, note_byte, IsCalm};
 ghost use Rattle.twkb_outline.specs.Noting.{note_step, IsCalmStep, NotedOutline};
-ghost use Rattle.twkb_outline.specs.Outline.{Group, Outline, Wanted, OnHeader, OnBody, shut, step_of, OnFinished, outline_of, outline_role, outline_advanced, outline_in, outline_ends};
+ghost use Rattle.twkb_outline.specs.Outline.{Outline, OnHeader, step_of, OnFinished, outline_of, outline_role, outline_advanced, outline_in, outline_ends};
 ghost use Rattle.twkb_outline.specs.Growing.{rows_so_far, change_of, applied, Takes};
-ghost use Rattle.twkb_outline.specs.Reading.{Outlined, outline_after, change_after, OutlineLanded, StepFits, open_count, Pair, sums_past, point_after};
+ghost use Rattle.twkb_outline.specs.Reading.{Outlined, OutlinedBehind, Wants, WithItem, OutlineLanded, StepFits, open_count, AtPoint};
 
 /// The role of the next item is told by the outline alone.
 pub fn role()
@@ -47,10 +46,10 @@ pub fn valid()
 /// or a number is too long. What it has read is a part. A row that an item begins goes on with the rows before it, and a point that it brings comes to a line's row.
 pub fn reading()
     ensures starts { (limits : Allowance) → IsAllowance limits → Outlined limits [] nothing ([], OnHeader) [] }
-    ensures item { (limits : Allowance) (bytes : List ℕ) (e : Sums) (o : Outline) (rs : List Row) (i : Item) → Outlined limits bytes e o rs → outline_role e o ≡ Some i.role → Gives i.role i.number i.bytes
-        → objection limits e i.role i.number ≡ None → Outlined limits (bytes ++ i.bytes) (added e i) (outline_after e i o) (applied (change_after e i o) rs) }
-    ensures refused { (limits : Allowance) (bytes : List ℕ) (e : Sums) (o : Outline) (rs : List Row) (i : Item) (reason : Reason) → Outlined limits bytes e o rs → outline_role e o ≡ Some i.role → Gives i.role i.number i.bytes
-        → objection limits e i.role i.number ≡ Some reason → (more : List ℕ) → FirstFault limits (bytes ++ (i.bytes ++ more)) e.bytes reason }
+    ensures item { (limits : Allowance) (bytes : List ℕ) (e : Sums) (o : Outline) (rs : List Row) (i : Item) → Outlined limits bytes e o rs
+        → WithItem limits e o i None (OutlinedBehind limits bytes e o rs i) }
+    ensures refused { (limits : Allowance) (bytes : List ℕ) (e : Sums) (o : Outline) (rs : List Row) (i : Item) (reason : Reason) → Outlined limits bytes e o rs
+        → WithItem limits e o i (Some reason) (FaultAt limits bytes e i reason) }
     ensures ends { (limits : Allowance) (bytes : List ℕ) (e : Sums) (o : Outline) (rs : List Row) → Outlined limits bytes e o rs → OutlineLanded limits bytes e rs (outline_ends e.bytes o) }
     ensures blob { (limits : Allowance) (bytes : List ℕ) (e : Sums) (rs : List Row) → Outlined limits bytes e ([], OnFinished) rs → (g : Tree) × Blob limits bytes g × (rows 0 g ≡ rs) }
     ensures valid { (limits : Allowance) (bytes : List ℕ) (e : Sums) (o : Outline) (rs : List Row) → Outlined limits bytes e o rs → AreValidRowsOfOne limits rs }
@@ -61,24 +60,20 @@ pub fn reading()
     ensures offset { (limits : Allowance) (bytes : List ℕ) (e : Sums) (o : Outline) (rs : List Row) → Outlined limits bytes e o rs → length bytes ≡ e.bytes }
     ensures depth { (limits : Allowance) (bytes : List ℕ) (e : Sums) (o : Outline) (rs : List Row) → Outlined limits bytes e o rs → length o.0 ≤ limits.nest }
     ensures part { (limits : Allowance) (bytes : List ℕ) (e : Sums) (o : Outline) (rs : List Row) → Outlined limits bytes e o rs → IsPart limits bytes }
-    ensures cut { (limits : Allowance) (bytes : List ℕ) (e : Sums) (o : Outline) (rs : List Row) (rest : List ℕ) (role : Role) → Outlined limits bytes e o rs → outline_role e o ≡ Some role
-        → IsNumber role → IsCut rest → FirstFault limits (bytes ++ rest) e.bytes Truncated }
-    ensures long { (limits : Allowance) (bytes : List ℕ) (e : Sums) (o : Outline) (rs : List Row) (rest : List ℕ) (role : Role) → Outlined limits bytes e o rs → outline_role e o ≡ Some role
-        → IsNumber role → IsTooLong rest → FirstFault limits (bytes ++ rest) e.bytes BadVarint }
-    ensures missing { (limits : Allowance) (bytes : List ℕ) (e : Sums) (o : Outline) (rs : List Row) (role : Role) → Outlined limits bytes e o rs → outline_role e o ≡ Some role
-        → bytes ≢ [] → ((d : Option ℕ) (came : ℕ) → role ≡ End d came → ⊥) → FirstFault limits bytes e.bytes Truncated }
+    ensures cut { (limits : Allowance) (bytes : List ℕ) (e : Sums) (o : Outline) (rs : List Row)
+        → AtNumber (Outlined limits bytes e o rs) (outline_role e o) (λ rest. IsCut rest → FirstFault limits (bytes ++ rest) e.bytes Truncated) }
+    ensures long { (limits : Allowance) (bytes : List ℕ) (e : Sums) (o : Outline) (rs : List Row)
+        → AtNumber (Outlined limits bytes e o rs) (outline_role e o) (λ rest. IsTooLong rest → FirstFault limits (bytes ++ rest) e.bytes BadVarint) }
+    ensures missing { (limits : Allowance) (bytes : List ℕ) (e : Sums) (o : Outline) (rs : List Row) (role : Role) → Outlined limits bytes e o rs → Wants e o role
+        → bytes ≢ [] → HasBytes role → FirstFault limits bytes e.bytes Truncated }
 {}
 
 /// The two numbers of a point, wherever one is wanted, taken at once: in a list behind which others follow, at the end of lists, and at that of a geometry.
 pub fn points()
-    ensures taken { (limits : Allowance) (front : List ℕ) (e : Sums) (gs : List Group) (h : Head) (f : Form) (ids : Ids) (lefts : List ℕ) (rs : List Row) (bytes : List ℕ) (to : Point)
-        → Outlined limits front e (gs, OnBody h f ids (Wanted 0 lefts)) rs → Pair e.position bytes to
-        → Outlined limits (front ++ bytes) (sums_past e bytes to) (gs, shut h f ids 0 lefts) (applied (point_after to gs h f ids) rs) }
-    ensures takes { (limits : Allowance) (front : List ℕ) (e : Sums) (gs : List Group) (h : Head) (f : Form) (ids : Ids) (lefts : List ℕ) (rs : List Row) (bytes : List ℕ) (to : Point)
-        → Outlined limits front e (gs, OnBody h f ids (Wanted 0 lefts)) rs → Pair e.position bytes to → Takes (point_after to gs h f ids) rs }
-    ensures noted { (limits : Allowance) (front : List ℕ) (e : Sums) (gs : List Group) (h : Head) (f : Form) (ids : Ids) (lefts : List ℕ) (rs : List Row) (told : ℕ → Notes) (bytes : List ℕ) (to : Point)
-        → NotedOutline limits front e (gs, OnBody h f ids (Wanted 0 lefts)) rs told → Pair e.position bytes to
-        → NotedOutline limits (front ++ bytes) (sums_past e bytes to) (gs, shut h f ids 0 lefts) (applied (point_after to gs h f ids) rs) told }
+    ensures taken { (limits : Allowance) → AtPoint (Outlined limits) (λ bytes e o change rs. Outlined limits bytes e o (applied change rs)) }
+    ensures takes { (limits : Allowance) → AtPoint (Outlined limits) (λ bytes e o change rs. Takes change rs) }
+    ensures noted { (limits : Allowance) (told : ℕ → Notes)
+        → AtPoint (λ bytes e o rs. NotedOutline limits bytes e o rs told) (λ bytes e o change rs. NotedOutline limits bytes e o (applied change rs) told) }
 {}
 
 /// What a reader notes of spans is told by the outline.

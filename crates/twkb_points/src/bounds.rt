@@ -27,7 +27,7 @@ impl Model for Bounds {
     ghost inverse = { λ e. record { least = e.least; greatest = e.greatest } };
 }
 
-/// The lesser of two coordinates.
+// The lesser of two coordinates.
 fn lesser(a: i64, b: i64) -> i64
     requires a_in_range { IsCoordinate a }
     requires b_in_range { IsCoordinate b }
@@ -37,7 +37,7 @@ fn lesser(a: i64, b: i64) -> i64
     a.min(b)
 }
 
-/// The greater of two coordinates.
+// The greater of two coordinates.
 fn greater(a: i64, b: i64) -> i64
     requires a_in_range { IsCoordinate a }
     requires b_in_range { IsCoordinate b }
@@ -47,7 +47,7 @@ fn greater(a: i64, b: i64) -> i64
     a.max(b)
 }
 
-/// How far the greatest coordinate is above the least.
+// How far the greatest coordinate is above the least.
 fn width_of(least: i64, greatest: i64) -> i64
     requires least_in_range { IsCoordinate least }
     requires greatest_in_range { IsCoordinate greatest }
@@ -56,7 +56,7 @@ fn width_of(least: i64, greatest: i64) -> i64
     greatest - least
 }
 
-/// The lesser of each coordinate.
+// The lesser of each coordinate.
 fn least_of(a: Pt, b: Pt) -> Pt
     ensures { result ≡ point_at (int_min a.x b.x) (int_min a.y b.y) }
 {
@@ -65,7 +65,7 @@ fn least_of(a: Pt, b: Pt) -> Pt
     Pt::at(x, y)
 }
 
-/// The greater of each coordinate.
+// The greater of each coordinate.
 fn greatest_of(a: Pt, b: Pt) -> Pt
     ensures { result ≡ point_at (int_max a.x b.x) (int_max a.y b.y) }
 {

@@ -1,5 +1,5 @@
 //! Whole lists of points as differences, and back.
-ghost use Rattle.std.specs.Prelude.{◌≡◌, ◌≤◌, ◌++◌, ℤ, List, length, take, drop, slice_get};
+ghost use Rattle.std.specs.Prelude.{◌≡◌, ◌≤◌, ◌++◌, List, length, take, drop, slice_get};
 ghost use Rattle.twkb_points.specs.Point.{Point, IsInRange, AreInRange};
 ghost use Rattle.twkb_points.specs.Differences.{differences, points_of};
 

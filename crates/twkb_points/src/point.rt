@@ -4,10 +4,10 @@ ghost use Rattle.twkb_points.specs.Point.{IsCoordinate, IsInRange, point_at, mov
 
 use std::marker::Model;
 
-/// The least coordinate, -2^62.
+// The least coordinate, -2^62.
 const LEAST: i64 = -(1 << 62);
 
-/// The greatest coordinate, 2^62 - 1.
+// The greatest coordinate, 2^62 - 1.
 const GREATEST: i64 = (1 << 62) - 1;
 
 /// A point whose coordinates are from -2^62 to 2^62 - 1, so that the difference of any two fits 64 bits (a choice of
@@ -44,7 +44,7 @@ impl Pt {
         }
     }
 
-    /// The point at coordinates that are in range.
+    // The point at coordinates that are in range.
     pub(crate) fn at(x: i64, y: i64) -> Pt
         requires x_in_range { IsCoordinate x }
         requires y_in_range { IsCoordinate y }
@@ -53,7 +53,7 @@ impl Pt {
         Pt { x, y }
     }
 
-    /// The point that lies `dx` and `dy` from this one, or `None` where a coordinate would leave its range.
+    // The point that lies `dx` and `dy` from this one, or `None` where a coordinate would leave its range.
     pub(crate) fn moved(self, dx: i64, dy: i64) -> Option<Pt>
         ensures range { IsSome result ↔ IsInRange (moved_by self dx dy) }
         ensures value { IfSome result (λ p. p ≡ moved_by self dx dy) }
@@ -81,14 +81,14 @@ impl Pt {
     }
 }
 
-/// Whether the number is in the range of a coordinate.
+// Whether the number is in the range of a coordinate.
 pub(crate) fn is_coordinate(number: i64) -> bool
     ensures { IsTrue result ↔ IsCoordinate number }
 {
     LEAST <= number && number <= GREATEST
 }
 
-/// The sum, where it is in the range of a coordinate.
+// The sum, where it is in the range of a coordinate.
 pub(crate) fn moved_coordinate(from: i64, by: i64) -> Option<i64>
     ensures range { IsSome result ↔ IsCoordinate (from +ℤ by) }
     ensures in_range { IfSome result IsCoordinate }

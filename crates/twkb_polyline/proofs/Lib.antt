@@ -9,3 +9,4 @@ pub mod StopLemmas
 pub mod OneFault
 pub mod TextOrFault
 pub mod WholeLemmas
+pub mod OnePoint

@@ -1,5 +1,5 @@
 //! Text to points.
-ghost use Rattle.std.specs.Prelude.{◌≡◌, ℕ, ◌+◌, ◌<◌, ◌≤◌, List, ◌++◌, length, drop, ◌⊎◌, IfOk, IfErr, OnOk, OnErr, MatchResult};
+ghost use Rattle.std.specs.Prelude.{◌≡◌, ℕ, ◌+◌, ◌<◌, List, ◌++◌, length, drop, ◌⊎◌, ◌∷◌, [], IfOk, IfErr, IfSome, IfNone, OnOk, OnErr, MatchResult};
 ghost use Rattle.twkb_points.specs.Point.{Point, IsInRange};
 ghost use Rattle.twkb_polyline.specs.Polyline.{AppendsDecoded, DecodesTo};
 ghost use Rattle.twkb_polyline.specs.Fault.{IsNumberFault, IsPointFault, IsTextFault, IsRefused};
@@ -44,7 +44,26 @@ pub fn decode_into<L: PointTail>(text: &[u8], max: u32, points: &mut L) -> Resul
     result
 }
 
-/// Appends the points of the text, or those before its first fault.
+/// The point whose polyline the text is, and `None` where it is not the polyline of just one. Takes no memory.
+#[inline(always)]
+pub fn decode_one(text: &[u8]) -> Option<Pt>
+    ensures point { IfSome result (λ point. DecodesTo text.now 1 (point ∷ [])) }
+    ensures no_other { IfNone result ((point : Point) → ¬ DecodesTo text.now 1 (point ∷ [])) }
+{
+    if text.is_empty() {
+        return None;
+    }
+    let mut cursor = Cursor::origin();
+    let Ok((point, end)) = next_point(text, 0, &mut cursor) else {
+        return None;
+    };
+    if end < text.len() {
+        return None;
+    }
+    Some(point)
+}
+
+// Appends the points of the text, or those before its first fault.
 fn read_points<L: PointTail>(text: &[u8], max: u32, points: &mut L) -> Result<(), PolyFault>
     ensures decodes { OnOk result (AppendsDecoded text.now max (L.held points.old) (L.held points.new)) }
     ensures refuses { IfErr result (IsRefused text.now max) }
@@ -64,7 +83,7 @@ fn read_points<L: PointTail>(text: &[u8], max: u32, points: &mut L) -> Result<()
     Ok(())
 }
 
-/// The point whose latitude begins at `start`, and where the text goes on.
+// The point whose latitude begins at `start`, and where the text goes on.
 #[inline(always)]
 fn next_point(text: &[u8], start: usize, cursor: &mut Cursor) -> Result<(Pt, usize), PolyFault>
     requires { start < length text.now }
@@ -79,7 +98,7 @@ fn next_point(text: &[u8], start: usize, cursor: &mut Cursor) -> Result<(Pt, usi
     }
 }
 
-/// The same step by step, so that a fault is found in its place.
+// The same step by step, so that a fault is found in its place.
 #[cold]
 fn point_at(text: &[u8], start: usize, cursor: &mut Cursor) -> Result<(Pt, usize), PolyFault>
     requires { start < length text.now }
@@ -102,7 +121,7 @@ fn point_at(text: &[u8], start: usize, cursor: &mut Cursor) -> Result<(Pt, usize
     }
 }
 
-/// The number that begins at `start`, and where the text goes on.
+// The number that begins at `start`, and where the text goes on.
 fn number_at(text: &[u8], start: usize) -> Result<(i64, usize), PolyFault>
     requires { start < length text.now }
     ensures read { IfOk result (λ r. IsNumberAt text.now start r.0 r.1) }

@@ -8,7 +8,7 @@ use std::alloc::{AllocError, Global};
 use twkb_num::{Five, Groups, NumBuf, zigzag};
 use twkb_points::{Cursor, Pt};
 
-/// How many groups of five bits there are.
+// How many groups of five bits there are.
 const BASE: u64 = 1 << 5;
 
 /// The polyline of the points, in a vector of its own (Encoded Polyline Algorithm Format). Takes
@@ -34,7 +34,7 @@ pub fn encode_into(points: &[Pt], text: &mut Vec<u8>) -> Result<(), AllocError>
     result
 }
 
-/// Appends the polyline of the points, or a front of it where memory is refused.
+// Appends the polyline of the points, or a front of it where memory is refused.
 fn put_points(points: &[Pt], text: &mut Vec<u8>) -> Result<(), AllocError>
     ensures appended { OnOk result (text.new.items ≡ text.old.items ++ polyline points.now) }
     ensures grown { (more : List ℕ) × (text.new.items ≡ text.old.items ++ more) }
@@ -48,7 +48,7 @@ fn put_points(points: &[Pt], text: &mut Vec<u8>) -> Result<(), AllocError>
     Ok(())
 }
 
-/// Appends a number's characters, or none where memory is refused.
+// Appends a number's characters, or none where memory is refused.
 #[inline(always)]
 fn put(number: i64, text: &mut Vec<u8>) -> Result<(), AllocError>
     ensures appended { OnOk result (text.new.items ≡ text.old.items ++ number_text number) }
@@ -57,8 +57,8 @@ fn put(number: i64, text: &mut Vec<u8>) -> Result<(), AllocError>
     put_unsigned(zigzag(number), text)
 }
 
-/// Appends the characters of a zigzag form, or none where memory is refused: one or two as they are,
-/// as most numbers have.
+// Appends the characters of a zigzag form, or none where memory is refused: one or two as they are,
+// as most numbers have.
 #[inline(always)]
 fn put_unsigned(unsigned: u64, text: &mut Vec<u8>) -> Result<(), AllocError>
     ensures appended { OnOk result (text.new.items ≡ text.old.items ++ shortest five_unit 32 unsigned) }
@@ -73,7 +73,7 @@ fn put_unsigned(unsigned: u64, text: &mut Vec<u8>) -> Result<(), AllocError>
     text.extend_from_slice(NumBuf::put::<Five>(unsigned).as_slice())
 }
 
-/// The character of a number of one group.
+// The character of a number of one group.
 #[inline(always)]
 fn one_character(unsigned: u64) -> u8
     requires { unsigned < 32 }
@@ -82,7 +82,7 @@ fn one_character(unsigned: u64) -> u8
     Five::to_unit(unsigned as u8, false)
 }
 
-/// The characters of a number of two groups.
+// The characters of a number of two groups.
 #[inline(always)]
 fn two_characters(unsigned: u64) -> [u8; 2]
     requires two { 32 ≤ unsigned }

@@ -31,7 +31,7 @@ pub enum PolyReason {
 }
 
 impl PolyReason {
-    /// The refusal for this reason at this offset.
+    // The refusal for this reason at this offset.
     pub(crate) fn at(self, offset: usize) -> PolyFault
         ensures { result ≡ PolyFault.At offset self }
     {

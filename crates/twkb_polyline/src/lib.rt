@@ -7,6 +7,6 @@ mod fault;
 pub mod laws;
 mod whole;
 
-pub use decoding::{decode, decode_into};
+pub use decoding::{decode, decode_into, decode_one};
 pub use encoding::{encode, encode_into};
 pub use fault::{PolyFault, PolyReason};

@@ -7,13 +7,13 @@ ghost use Rattle.twkb_polyline.specs.Reading.{IsNumberAt, IsPointAt, IsBegun};
 use twkb_num::unzigzag;
 use twkb_points::{Cursor, Pt};
 
-/// Bits of a group.
+// Bits of a group.
 const BITS: u32 = 5;
 
-/// The shift of a thirteenth group, the last that a number may have.
+// The shift of a thirteenth group, the last that a number may have.
 const LAST_SHIFT: u32 = 12 * BITS;
 
-/// The point whose latitude begins at `start`, and where the text goes on. `None` says nothing.
+// The point whose latitude begins at `start`, and where the text goes on. `None` says nothing.
 #[inline(always)]
 pub(crate) fn whole_point(text: &[u8], start: usize, cursor: &mut Cursor) -> Option<(Pt, usize)>
     ensures read { IfSome result (λ r. IsPointAt text.now start cursor.old r.0 r.1) }
@@ -27,7 +27,7 @@ pub(crate) fn whole_point(text: &[u8], start: usize, cursor: &mut Cursor) -> Opt
     Some((point, end))
 }
 
-/// The group of a character behind which a number goes on.
+// The group of a character behind which a number goes on.
 #[inline(always)]
 fn open_group(unit: u8) -> Option<u64>
     ensures { IfSome result (λ group. five_group unit ≡ Some (group, true)) }
@@ -38,7 +38,7 @@ fn open_group(unit: u8) -> Option<u64>
     }
 }
 
-/// The group of a character that ends a number.
+// The group of a character that ends a number.
 #[inline(always)]
 fn last_group(unit: u8) -> Option<u64>
     ensures { IfSome result (λ group. five_group unit ≡ Some (group, false)) }
@@ -49,7 +49,7 @@ fn last_group(unit: u8) -> Option<u64>
     }
 }
 
-/// The number that begins at `start`, and where the text goes on. `None` says nothing.
+// The number that begins at `start`, and where the text goes on. `None` says nothing.
 #[inline(always)]
 fn whole_number(text: &[u8], start: usize) -> Option<(i64, usize)>
     ensures { IfSome result (λ r. IsNumberAt text.now start r.0 r.1) }
@@ -70,7 +70,7 @@ fn whole_number(text: &[u8], start: usize) -> Option<(i64, usize)>
     long_number(text, start, first + (second << BITS))
 }
 
-/// The same of a number whose first two characters go on, and have this value.
+// The same of a number whose first two characters go on, and have this value.
 #[inline(always)]
 fn long_number(text: &[u8], start: usize, begun: u64) -> Option<(i64, usize)>
     requires { IsBegun text.now start (start + 2) begun }

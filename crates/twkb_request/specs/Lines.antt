@@ -1,5 +1,5 @@
 -- The line on standard error that tells why a conversion stopped, or why words were refused (profile).
-use Rattle.std.specs.Prelude.{ℕ, List, ◌++◌, codes, decimal}
+use Rattle.std.specs.Prelude.{ℕ, List, [], ◌++◌, codes, decimal}
 use Rattle.twkb_polyline.specs.declared.fault.PolyReason.{PolyReason}
 use Rattle.twkb_polyline.specs.declared.fault.PolyReason.TheVariants as text
 use Rattle.twkb_table.specs.declared.reason.RowReason.{RowReason}
@@ -19,7 +19,20 @@ point_text_words text.Half = codes "latitude without longitude"
 point_text_words text.Range = codes "coordinate out of range"
 point_text_words text.TooMany = codes "too many points"
 
--- what is wrong with a record, in words; of a text of points only where the rest is told
+-- what is wrong with the id, the precision or the points of a record; of a text of points only that it is one
+abbrev pub value_words : RowReason → List ℕ
+value_words row.BadId = codes "bad id"
+value_words row.IdNotAllowed = codes "id not allowed"
+value_words row.MixedIds = codes "id on some children only"
+value_words row.BadPrecision = codes "bad precision"
+value_words row.PrecisionMissing = codes "precision missing"
+value_words row.PrecisionNotAllowed = codes "precision not allowed"
+value_words row.PolylineNotAllowed = codes "polyline not allowed"
+value_words row.PointCount = codes "wrong number of points"
+value_words (row.Polyline offset reason) = codes "polyline at "
+value_words reason = []
+
+-- what is wrong with a record, in words: with its form or its place, and else with what it holds
 abbrev pub row_words : RowReason → List ℕ
 row_words row.BadHeader = codes "bad header"
 row_words row.FieldCount = codes "not five fields"
@@ -28,15 +41,7 @@ row_words row.BadKind = codes "unknown kind"
 row_words row.BadPlace = codes "kind not allowed there"
 row_words row.TooDeep = codes "nested too deep"
 row_words row.TooManyNodes = codes "too many rows in one geometry"
-row_words row.BadId = codes "bad id"
-row_words row.IdNotAllowed = codes "id not allowed"
-row_words row.MixedIds = codes "id on some children only"
-row_words row.BadPrecision = codes "bad precision"
-row_words row.PrecisionMissing = codes "precision missing"
-row_words row.PrecisionNotAllowed = codes "precision not allowed"
-row_words row.PolylineNotAllowed = codes "polyline not allowed"
-row_words (row.Polyline offset reason) = codes "polyline at "
-row_words row.PointCount = codes "wrong number of points"
+row_words reason = value_words reason
 
 -- what is wrong with a text of points, and where
 abbrev pub text_reason : ℕ → PolyReason → List ℕ

@@ -10,7 +10,7 @@ use twkb_io::{Output, Sink, Tap};
 use twkb_polyline::PolyReason;
 use twkb_table::RowReason;
 
-/// What is wrong with a text of points.
+// What is wrong with a text of points.
 fn point_text_fault(reason: PolyReason) -> &'static [u8]
     ensures text { result.now ≡ point_text_words reason }
     ensures short { length result.now ≤ 40 }
@@ -26,7 +26,7 @@ fn point_text_fault(reason: PolyReason) -> &'static [u8]
     }
 }
 
-/// What is wrong with a record; of a text of points only that it is one.
+// What is wrong with a record; of a text of points only that it is one.
 fn row_fault(reason: RowReason) -> &'static [u8]
     ensures text { result.now ≡ row_words reason }
     ensures short { length result.now ≤ 40 }
@@ -51,7 +51,7 @@ fn row_fault(reason: RowReason) -> &'static [u8]
     }
 }
 
-/// What is wrong with an item of a blob.
+// What is wrong with an item of a blob.
 fn blob_fault(reason: BlobReason) -> &'static [u8]
     ensures text { result.now ≡ blob_words reason }
     ensures short { length result.now ≤ 40 }
@@ -163,7 +163,7 @@ fn put_flushed<W: Write>(output: &mut Output<'_, W>, text: &[u8])
     let _ = output.flush();
 }
 
-// Prints a text and flushes, up to the first write that fails. Takes no memory.
+/// Prints a text and flushes, up to the first write that fails. Takes no memory.
 pub(crate) fn print_text<W: Write>(device: &mut Tap<W>, text: &str)
     ensures { length text.now ≤ 2 ^ 62 → IsPrinted W.contents device.old text.now device.new }
 {

@@ -7,13 +7,13 @@ use twkb_convert::Cause;
 /// Everything was converted, or help was asked for and given.
 pub(crate) const DONE: u8 = 0;
 
-/// The input is refused, or too long.
+// The input is refused, or too long.
 const REFUSED: u8 = 1;
 
 /// The words of the command line are refused.
 pub(crate) const USAGE: u8 = 2;
 
-/// A device failed.
+// A device failed.
 const DEVICE: u8 = 3;
 
 /// No memory was found.

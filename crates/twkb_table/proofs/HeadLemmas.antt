@@ -1,7 +1,11 @@
 -- The row of a head with the points that it gave.
-use Rattle.std.proofs.Common.{◌≡◌, List, [], ◌++◌, sym, ◌∙◌, ap, subst}
-use Rattle.std.specs.Prelude.{reverse}
+use Rattle.std.proofs.Common.{◌≡◌, ◌<◌, List, [], ◌∷◌, ◌++◌, true, Option, Some, None, inr, refl, sym, ◌∙◌, ap, subst, arith}
+use Rattle.std.specs.Prelude.{IfSome, reverse}
+use Rattle.std.proofs.lemmas.Bool.{true≢false}
 use Rattle.twkb_points.specs.Point.{Point}
+use Rattle.twkb_polyline.specs.Polyline.{DecodesTo}
+use Rattle.twkb_tree.specs.declared.kind.Kind.TheVariants as kind
+use Rattle.twkb_tree.specs.Admits.{has_points, is_whole, points_fit}
 use Rattle.twkb_tree.specs.Limits.{Allowance}
 use Rattle.twkb_tree.specs.Rows.{Row}
 use Rattle.twkb_tree.specs.RowLists.{AreValidRowsOfOne}
@@ -11,6 +15,7 @@ use Rattle.twkb_flat.specs.declared.node.Row.{Row as Bare}
 use Rattle.twkb_table.specs.Record.{Record}
 use Rattle.twkb_table.specs.Judged.{Verdict, Accepted}
 use Rattle.twkb_table.specs.Head.{head_row, JudgedAs}
+use Rattle.twkb_table.specs.Standing.{place_seen}
 use Rattle.twkb_table.specs.RowReading.{JudgedAfter}
 use Rattle.twkb_table.specs.declared.head.Head.{Head}
 use Rattle.twkb_table.proofs.RowReaderLemmas.{accepts_next}
@@ -31,3 +36,13 @@ pub comes_next : (l : Allowance) (rows : List Row) (fields : Record) (head : Hea
 comes_next l rows fields head row own of_one read row_is given =
     let judged : JudgedAfter l rows fields (Accepted row) = subst (λ r. JudgedAfter l rows fields (Accepted r)) row_is (read (Accepted (row_with (head_row head) own)) given) in
     record { judged = judged; accepts = accepts_next l rows fields row of_one (judged []) }
+
+-- a point's text is that of a row of kind point where there is room for it
+one_accepted : (head : Head) (p : Point) → head.kind ≡ kind.Point → head.standing.points < head.limits.points → DecodesTo head.text.now 1 (p ∷ []) → JudgedAs head (Accepted (row_with (head_row head) (p ∷ [])))
+one_accepted head p is room read =
+    let fits : points_fit head.kind (is_whole (place_seen head.standing).parent) (p ∷ []) ≡ true = ap (λ k. points_fit k (is_whole (place_seen head.standing).parent) (p ∷ [])) is in
+    inr (λ bare. true≢false (sym (ap has_points is) ∙ bare.1), inr (p ∷ [], record { spelled = read.spelled; in_range = read.in_range; few = omega (arith, room) }, inr (λ e. true≢false (sym fits ∙ e), refl)))
+
+pub one_judged : (head : Head) (r : Option Point) → head.kind ≡ kind.Point → head.standing.points < head.limits.points → IfSome r (λ p. DecodesTo head.text.now 1 (p ∷ [])) → IfSome r (λ p. JudgedAs head (Accepted (row_with (head_row head) (p ∷ []))))
+one_judged head None is room read = tt
+one_judged head (Some p) is room read = one_accepted head p is room read

@@ -1,18 +1,10 @@
 -- The open rows after one more row, by their end.
-use Rattle.std.proofs.Common.{◌≡◌, ℕ, zero, suc, ◌<◌, ◌≤◌, Bool, List, [], ◌∷◌, ◌++◌, length, None, take, refl, sym, ◌∙◌, ap, arith, length-append}
-use Rattle.std.specs.Prelude.{is_some}
+use Rattle.std.proofs.Common.{◌≡◌, ℕ, zero, suc, ◌<◌, ◌≤◌, List, [], ◌∷◌, ◌++◌, length, take, refl, sym, ◌∙◌, ap, arith, length-append}
 use Rattle.std.proofs.lemmas.List.{length-take-le}
 use Rattle.twkb_tree.specs.declared.open_rows.OpenRow.{OpenRow}
 use Rattle.twkb_tree.specs.Rows.{Row}
-use Rattle.twkb_tree.specs.Open.{opened, first_answer}
-
--- the parent has had a child
-abbrev pub noted : OpenRow → Bool → OpenRow
-noted o b = record { kind = o.kind; child_ids = first_answer o.child_ids b }
-
--- the row has had none
-abbrev pub entered : Row → OpenRow
-entered r = record { kind = r.kind; child_ids = None }
+use Rattle.twkb_tree.specs.Open.{opened}
+use Rattle.twkb_flat.proofs.OpenRowLemmas.{entered, noted}
 
 empty_apart : (ys : List OpenRow) (q : OpenRow) → [] ≡ ys ++ q ∷ [] → ⊥
 empty_apart [] q e = cc e
@@ -21,11 +13,11 @@ empty_apart (y ∷ ys) q e = cc e
 heads : (x y : OpenRow) (xs ys : List OpenRow) → x ∷ xs ≡ y ∷ ys → (x ≡ y) × (xs ≡ ys)
 heads x y xs ys e = (cc e, cc e)
 
-pub opened_some : (d : ℕ) (os ys : List OpenRow) (q : OpenRow) (r : Row) → d ≤ length os → take d os ≡ ys ++ q ∷ [] → opened d os r ≡ (ys ++ noted q (is_some r.id) ∷ []) ++ entered r ∷ []
+pub opened_some : (d : ℕ) (os ys : List OpenRow) (q : OpenRow) (r : Row) → d ≤ length os → take d os ≡ ys ++ q ∷ [] → opened d os r ≡ (ys ++ noted q r ∷ []) ++ entered r ∷ []
 opened_some zero os ys q r le e = absurd (empty_apart ys q e)
 opened_some (suc d) [] ys q r le e = absurd (omega arith)
 opened_some (suc zero) (o ∷ os) [] q r le e =
-    ap (λ (p : OpenRow). noted p (is_some r.id) ∷ entered r ∷ []) (heads o q [] [] e).0
+    ap (λ (p : OpenRow). noted p r ∷ entered r ∷ []) (heads o q [] [] e).0
 opened_some (suc zero) (o ∷ os) (y ∷ ys) q r le e = absurd (empty_apart ys q (heads o y [] (ys ++ q ∷ []) e).1)
 opened_some (suc (suc d)) (o ∷ []) ys q r le e = absurd (omega arith)
 opened_some (suc (suc d)) (o ∷ p ∷ os) [] q r le e = cc (heads o q (p ∷ take d os) [] e).1

@@ -1,5 +1,5 @@
 -- How a read of `csv` goes on in a text.
-use Rattle.std.proofs.Common.{◌≡◌, ◌∙◌, ℕ, List, [], ◌∷◌, ◌++◌, Option, Some, None, true, false, sym, refl, inl}
+use Rattle.std.proofs.Common.{◌≡◌, ◌∙◌, ℕ, List, [], ◌∷◌, ◌++◌, Option, Some, None, Bool, true, false, sym, refl, inl}
 use Rattle.std.specs.Prelude.{option_map, IfSome}
 use Rattle.std.specs.Borrow.{MutBor}
 use Rattle.csv.specs.Reading.{Reached, ReadRecord, default_config, is_flexible, reader_state, source_of, strip_bom, took_first}
@@ -8,7 +8,7 @@ use Rattle.csv.specs.declared.parser.State.TheVariants as st
 use Rattle.csv.proofs.ReadFacts.{rows-end, rows-more}
 use Rattle.twkb_io.specs.declared.tap.Tap.{Tap}
 use Rattle.twkb_table.specs.Record.{Record}
-use Rattle.twkb_table.specs.CsvRecords.{AreRecordsOf, HasGivenOf, IsSetUp, told_by}
+use Rattle.twkb_table.specs.CsvRecords.{AreRecordsOf, BeginWith, HasGivenOf, IsSetUp, standing, told_by}
 
 -- a new reader gave none
 pub given_none : {R : Type 0} (remaining : R → Option (List ℕ)) (told : Option (List ℕ)) (reader : Reader (MutBor (Tap R)))
@@ -40,3 +40,9 @@ pub given_all : {R : Type 0} (remaining : R → Option (List ℕ)) (old new : Re
 given_all remaining old new fields set_up read None records given = tt
 given_all remaining old new fields set_up read (Some text) records given =
     (reader_state old, given.0, given.2, rows-end (told_by remaining) old new fields default_config given.0 set_up.3 given.1 read)
+
+-- the text begins with the records given
+pub standing_begins : {R : Type 0} (remaining : R → Option (List ℕ)) (told : Option (List ℕ)) (records : List Record) (ended : Bool) (reader : Reader (MutBor (Tap R))) → standing remaining told records ended reader → IfSome told (λ text. BeginWith text records)
+standing_begins remaining None records ended reader s = tt
+standing_begins remaining (Some text) records false reader s = (reader_state reader, s.1.0, s.1.2)
+standing_begins remaining (Some text) records true reader s = (s.0, s.1, s.2)

@@ -12,7 +12,7 @@ use Rattle.twkb_table.specs.CsvRecords.{AreRecordsOf, BeginWith, standing}
 use Rattle.twkb_table.specs.Numbering.{fault_of}
 use Rattle.twkb_table.specs.Standing.{IfRefused}
 use Rattle.twkb_table.specs.RowReading.{limits_of, waiting}
-use Rattle.twkb_table.specs.TableReading.{HaveGiven, StandsAfter, Extends, GivesNext, GivesTree, MeetsEnd, IsRefusedAt, Explains, IsReading, HasHeader, BeginsNext, ReadsRoot, ReadsOn, HasRead, is_ended, is_spent}
+use Rattle.twkb_table.specs.TableReading.{HaveGiven, StandsAfter, GivesGeometry, Ends, Extends, GivesNext, GivesTree, MeetsEnd, IsRefusedAt, Explains, IsReading, HasHeader, BeginsNext, ReadsRoot, ReadsOn, HasRead, is_ended, is_spent}
 use Rattle.twkb_table.specs.declared.judging.JudgeFault.{JudgeFault}
 use Rattle.twkb_table.specs.declared.judging.JudgeFault.TheVariants.{Memory, Refused}
 use Rattle.twkb_table.specs.declared.reason.RowReason.TheVariants.{BadHeader}
@@ -180,13 +180,12 @@ end_kept : {R : Type 0} (l : Allowance) (remaining : R → Option (List ℕ)) (t
 end_kept l remaining told records given reader flat m = record { seen = m.seen; extends = m.extends; all = m.all; named = m.named; stands = stands_with l remaining told m.seen given reader flat m.stands }
 
 pub found_kept : {R : Type 0} (remaining : R → Option (List ℕ)) (old new : TableReader R) (before after : List Row) (r : Result (Option Tree) TableFault)
-    → IfOk r (λ found. IfSome found (λ geometry. (l : Allowance) (told : Option (List ℕ)) (records : List Record) (given : List Tree) → StandsAfter l remaining told records given (record old { kept = before }) → GivesTree l remaining told records given geometry new))
-    → IfOk r (λ found. IfSome found (λ geometry. (l : Allowance) (told : Option (List ℕ)) (records : List Record) (given : List Tree) → StandsAfter l remaining told records given old → GivesTree l remaining told records given geometry (record new { kept = after })))
+    → IfOk r (λ found. IfSome found (λ geometry. GivesGeometry remaining (record old { kept = before }) geometry new))
+    → IfOk r (λ found. IfSome found (λ geometry. GivesGeometry remaining old geometry (record new { kept = after })))
 found_kept remaining old new before after (Ok (Some geometry)) h = λ l told records given s. tree_kept l remaining told records given geometry new after (h l told records given (stands_with l remaining told records given old before s))
 found_kept remaining old new before after (Ok None) h = tt
 found_kept remaining old new before after (Err f) h = tt
 
 pub none_kept : {R : Type 0} (remaining : R → Option (List ℕ)) (old new : TableReader R) (before after : List Row)
-    → ((l : Allowance) (told : Option (List ℕ)) (records : List Record) (given : List Tree) → StandsAfter l remaining told records given (record old { kept = before }) → MeetsEnd l remaining told records given new)
-    → (l : Allowance) (told : Option (List ℕ)) (records : List Record) (given : List Tree) → StandsAfter l remaining told records given old → MeetsEnd l remaining told records given (record new { kept = after })
+    → Ends remaining (record old { kept = before }) new → Ends remaining old (record new { kept = after })
 none_kept remaining old new before after h l told records given s = end_kept l remaining told records given new after (h l told records given (stands_with l remaining told records given old before s))

@@ -1,11 +1,8 @@
 -- What the calls of a reader of tables answer, by what one record shows.
-use Rattle.std.proofs.Common.{◌≡◌, ℕ, ◌<◌, Bool, true, false, List, [], ◌∷◌, ◌++◌, length, Option, Some, None, refl, sym, ◌∙◌, ap, subst, arith, append_assoc, append-nil}
+use Rattle.std.proofs.Common.{◌≡◌, ℕ, ◌<◌, List, [], ◌∷◌, ◌++◌, length, Option, Some, None, refl, sym, ◌∙◌, ap, subst, arith, append_assoc, append-nil}
 use Rattle.std.specs.Prelude.{reverse, IfSome}
-use Rattle.std.specs.Borrow.{MutBor}
-use Rattle.csv.specs.Reading.{reader_state, strip_bom, Reached}
-use Rattle.csv.specs.declared.reader.Reader.{Reader}
+use Rattle.csv.specs.Reading.{strip_bom, Reached}
 use Rattle.csv.specs.declared.parser.State.TheVariants as st
-use Rattle.twkb_io.specs.declared.tap.Tap.{Tap}
 use Rattle.twkb_tree.specs.Tree.{Tree}
 use Rattle.twkb_tree.specs.Limits.{Allowance}
 use Rattle.twkb_tree.specs.Rows.{Row, rows, rows_of}
@@ -14,7 +11,7 @@ use Rattle.twkb_table.specs.Record.{Record}
 use Rattle.twkb_table.specs.Named.{Named}
 use Rattle.twkb_table.specs.Judged.{Verdict, Judged}
 use Rattle.twkb_table.specs.RowFault.{all_but_last}
-use Rattle.twkb_table.specs.CsvRecords.{BeginWith, standing}
+use Rattle.twkb_table.specs.CsvRecords.{BeginWith}
 use Rattle.twkb_table.specs.SourceStanding as Source
 use Rattle.twkb_table.specs.RowReading.{JudgedAfter}
 use Rattle.twkb_table.specs.TableReading.{NameSoFar, Extends, GivesNext, Explains, HasRead, is_ended}
@@ -22,6 +19,7 @@ use Rattle.twkb_table.specs.declared.record_source.RecordSource.{RecordSource}
 use Rattle.twkb_table.specs.declared.table_fault.TableFault.{TableFault}
 use Rattle.twkb_table.specs.declared.table_fault.TableFault.TheVariants as fault
 use Rattle.twkb_table.specs.declared.table_reader.TableReader.{TableReader}
+use Rattle.twkb_table.proofs.RecordFacts.{standing_begins}
 
 -- ---- the text begins with the records that were read
 
@@ -29,11 +27,6 @@ pub begins_none : (told : Option (List ℕ)) → IfSome told (λ text. BeginWith
 unfolding Reached
 begins_none None = tt
 begins_none (Some text) = (st.StartRecord, strip_bom text, (refl, refl))
-
-standing_begins : {R : Type 0} (remaining : R → Option (List ℕ)) (told : Option (List ℕ)) (records : List Record) (ended : Bool) (reader : Reader (MutBor (Tap R))) → standing remaining told records ended reader → IfSome told (λ text. BeginWith text records)
-standing_begins remaining None records ended reader s = tt
-standing_begins remaining (Some text) records false reader s = (reader_state reader, s.1.0, s.1.2)
-standing_begins remaining (Some text) records true reader s = (s.0, s.1, s.2)
 
 pub text_begins : {R : Type 0} (remaining : R → Option (List ℕ)) (told : Option (List ℕ)) (records : List Record) (reader : TableReader R) → HasRead remaining told records reader → IfSome told (λ text. BeginWith text records)
 text_begins remaining told records reader s = standing_begins remaining told records (is_ended reader) reader.reader s

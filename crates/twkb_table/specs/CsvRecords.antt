@@ -1,5 +1,5 @@
 -- The records that `csv` reads from a text, and how far its reader gave them.
-use Rattle.std.specs.Prelude.{ℕ, ◌≡◌, List, Option, Some, None, IfSome, Bool, true, false, ⊤}
+use Rattle.std.specs.Prelude.{ℕ, ◌≡◌, List, [], ◌∷◌, ◌++◌, Option, Some, None, IfSome, Bool, true, false, ⊤}
 use Rattle.std.specs.Borrow.{MutBor}
 use Rattle.csv.specs.Reading.{AreRecords, Reached, Ready, default_config, is_flexible, reader_config, reader_state, reader_trim, source_of, strip_bom}
 use Rattle.csv.specs.declared.parser.State.{State}
@@ -41,3 +41,15 @@ HasGiven remaining told records reader = IsSetUp reader × HasGivenOf remaining 
 abbrev pub standing : {R : Type 0} → (R → Option (List ℕ)) → Option (List ℕ) → List Record → Bool → Reader (MutBor (Tap R)) → Type 0
 standing remaining told records false reader = HasGiven remaining told records reader
 standing remaining told records true reader = IfSome told (λ text. AreRecordsOf text records)
+
+-- wherever the old reader stands, the new one stands behind this record more, and the text begins with the records given
+abbrev pub Advances : {R : Type 0} → (R → Option (List ℕ)) → Bool → Reader (MutBor (Tap R)) → Record → Bool → Reader (MutBor (Tap R)) → Type 0
+Advances remaining ended old here over new =
+    (told : Option (List ℕ)) (records : List Record) → standing remaining told records ended old
+    → standing remaining told (records ++ here ∷ []) over new × IfSome told (λ text. BeginWith text (records ++ here ∷ []))
+
+-- wherever the old reader stands, the new one stands too, and the records given are all those of the text
+abbrev pub Finishes : {R : Type 0} → (R → Option (List ℕ)) → Bool → Reader (MutBor (Tap R)) → Bool → Reader (MutBor (Tap R)) → Type 0
+Finishes remaining ended old over new =
+    (told : Option (List ℕ)) (records : List Record) → standing remaining told records ended old
+    → standing remaining told records over new × IfSome told (λ text. AreRecordsOf text records)

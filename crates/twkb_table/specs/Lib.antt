@@ -6,6 +6,7 @@ pub mod Judged
 pub mod Named
 pub mod Numbering
 pub mod Parts
+pub mod Places
 pub mod Printing
 pub mod Reading
 pub mod Record

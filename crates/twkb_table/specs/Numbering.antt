@@ -1,9 +1,25 @@
--- What is answered of a record of a number that gave no row.
-use Rattle.std.specs.Prelude.{ℕ}
+-- Why no record of a number gave a row.
+use Rattle.std.specs.Prelude.{ℕ, ◌≡◌, ◌+◌, ◌^◌, ◌⊎◌, List, [], ◌∷◌, ◌++◌, Option, IfSome, Bool}
+use Rattle.std.specs.Borrow.{MutBor}
+use Rattle.csv.specs.declared.reader.Reader.{Reader}
+use Rattle.twkb_io.specs.declared.tap.Tap.{Tap}
+use Rattle.twkb_table.specs.Record.{Record}
+use Rattle.twkb_table.specs.CsvRecords.{BeginWith, standing}
 use Rattle.twkb_table.specs.declared.judging.JudgeFault.{JudgeFault}
 use Rattle.twkb_table.specs.declared.judging.JudgeFault.TheVariants.{Memory, Refused}
 use Rattle.twkb_table.specs.declared.table_fault.TableFault.{TableFault}
 use Rattle.twkb_table.specs.declared.table_fault.TableFault.TheVariants as fault
+
+-- wherever the reader stands, the text has a record more than it gave
+abbrev pub HasMore : {R : Type 0} → (R → Option (List ℕ)) → Bool → Reader (MutBor (Tap R)) → Type 0
+HasMore remaining ended reader =
+    (told : Option (List ℕ)) (records : List Record) → standing remaining told records ended reader
+    → (here : Record) × IfSome told (λ text. BeginWith text (records ++ here ∷ []))
+
+-- no record was read, or one that would have the number 2 ^ 32
+abbrev pub MissesRecord : {R : Type 0} → (R → Option (List ℕ)) → Bool → Reader (MutBor (Tap R)) → ℕ → TableFault → Type 0
+MissesRecord remaining ended reader number f =
+    (f ≡ fault.Source) ⊎ ((f ≡ fault.TooManyRecords) × (number + 1 ≡ 2 ^ 32) × HasMore remaining ended reader)
 
 -- want of memory, or the reason at this number
 abbrev pub fault_of : ℕ → JudgeFault → TableFault

@@ -5,7 +5,7 @@ use Rattle.twkb_tree.specs.Rows.{rows_of}
 use Rattle.twkb_tree.specs.Limits.{Allowance}
 use Rattle.twkb_table.specs.Record.{Record, header}
 use Rattle.twkb_table.specs.Named.{Named, NamesNone}
-use Rattle.twkb_table.specs.Judged.{Judged, Refused}
+use Rattle.twkb_table.specs.Judged.{Verdict, Judged, Refused}
 use Rattle.twkb_table.specs.declared.reason.RowReason.{RowReason}
 use Rattle.twkb_table.specs.declared.reason.RowReason.TheVariants.{BadHeader}
 
@@ -13,6 +13,10 @@ use Rattle.twkb_table.specs.declared.reason.RowReason.TheVariants.{BadHeader}
 abbrev pub HasNoHeader : List Record → Type 0
 HasNoHeader [] = ⊤
 HasNoHeader (first ∷ records) = first ≢ header
+
+-- what a record is behind the rows of these geometries
+abbrev pub JudgedBehind : Allowance → List Tree → Record → Verdict → Type 0
+JudgedBehind l gs here v = Judged l (reverse (rows_of gs)) here v
 
 -- The records before this one name geometries, with it they name none, and the reason is the first that holds of it.
 pub record IsLaterFault (l : Allowance) (records : List Record) (number : ℕ) (reason : RowReason) : Type 0 where
@@ -24,7 +28,7 @@ pub record IsLaterFault (l : Allowance) (records : List Record) (number : ℕ) (
   pub geometries : List Tree
   pub named : Named l before geometries
   pub none : NamesNone l (before ++ here ∷ [])
-  pub judged : Judged l (reverse (rows_of geometries)) here (Refused reason)
+  pub judged : JudgedBehind l geometries here (Refused reason)
 
 -- the records are refused at the record of this number, counted from 1, for this reason
 abbrev pub RowFault : Allowance → List Record → ℕ → RowReason → Type 0

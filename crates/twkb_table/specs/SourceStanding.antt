@@ -1,8 +1,11 @@
 -- Where a source of records stands in the text of its reader.
-use Rattle.std.specs.Prelude.{ℕ, ◌≡◌, List, Option, Bool, false}
+use Rattle.std.specs.Prelude.{ℕ, ◌≡◌, List, [], ◌∷◌, ◌++◌, Option, IfSome, Bool, false}
 use Rattle.csv.specs.Records as Csv
+use Rattle.csv.specs.Records.{fields_of}
 use Rattle.twkb_table.specs.Record.{Record}
-use Rattle.twkb_table.specs.CsvRecords.{standing}
+use Rattle.twkb_table.specs.CsvRecords.{AreRecordsOf, BeginWith, standing}
+use Rattle.twkb_table.specs.declared.record_source.SourceFault.{SourceFault}
+use Rattle.twkb_table.specs.declared.record_source.SourceFault.TheVariants as fault
 use Rattle.twkb_table.specs.declared.record_source.RecordSource.{RecordSource}
 
 -- the source gave these records, and refused no call
@@ -20,3 +23,22 @@ is_ended source = source.ended
 -- whether a call answered an error
 abbrev pub is_spent : {R : Type 0} → RecordSource R → Bool
 is_spent source = source.spent
+
+-- wherever the old source stands, the new one gave one record more, and the text begins with the records given
+abbrev pub GivesRecord : {R : Type 0} → (R → Option (List ℕ)) → RecordSource R → RecordSource R → Type 0
+GivesRecord remaining old new =
+    (told : Option (List ℕ)) (records : List Record) → StandsAfter remaining told records old
+    → StandsAfter remaining told (records ++ fields_of (record_in new) ∷ []) new
+    × IfSome told (λ text. BeginWith text (records ++ fields_of (record_in new) ∷ []))
+
+-- wherever the old source stands, the new one stands too, and the records given are all those of the text
+abbrev pub Ends : {R : Type 0} → (R → Option (List ℕ)) → RecordSource R → RecordSource R → Type 0
+Ends remaining old new =
+    (told : Option (List ℕ)) (records : List Record) → StandsAfter remaining told records old
+    → StandsAfter remaining told records new × IfSome told (λ text. AreRecordsOf text records)
+
+-- wherever the source stands, the fault is its reader's, and the text begins with the records given
+abbrev pub Faults : {R : Type 0} → (R → Option (List ℕ)) → RecordSource R → SourceFault → Type 0
+Faults remaining old f =
+    (told : Option (List ℕ)) (records : List Record) → StandsAfter remaining told records old
+    → (f ≡ fault.Source) × IfSome told (λ text. BeginWith text records)

@@ -112,6 +112,30 @@ Explains l told records given fault.Source = ⊤
 Explains l told records given fault.Memory = ⊤
 Explains l told records given fault.Spent = ⊥
 
+-- ---- what a call shows, wherever the reader stood before it
+
+-- this holds of the limits, the text, the records read and the geometries given with which the reader may stand
+abbrev pub Wherever : {R : Type 0} → (R → Option (List ℕ)) → TableReader R → (Allowance → Option (List ℕ) → List Record → List Tree → Type 0) → Type 0
+Wherever remaining old Holds =
+    (l : Allowance) (told : Option (List ℕ)) (records : List Record) (given : List Tree)
+    → StandsAfter l remaining told records given old → Holds l told records given
+
+-- the records name one geometry more, whose rows are these, and the new reader stands behind it
+abbrev pub Gives : {R : Type 0} → (R → Option (List ℕ)) → TableReader R → List Row → TableReader R → Type 0
+Gives remaining old flat new = Wherever remaining old (λ l told records given. GivesNext l remaining told records given flat new)
+
+-- the records name this geometry more, and the new reader stands behind it
+abbrev pub GivesGeometry : {R : Type 0} → (R → Option (List ℕ)) → TableReader R → Tree → TableReader R → Type 0
+GivesGeometry remaining old geometry new = Wherever remaining old (λ l told records given. GivesTree l remaining told records given geometry new)
+
+-- all records of the text name the geometries given, and the new reader stands at its end
+abbrev pub Ends : {R : Type 0} → (R → Option (List ℕ)) → TableReader R → TableReader R → Type 0
+Ends remaining old new = Wherever remaining old (λ l told records given. MeetsEnd l remaining told records given new)
+
+-- the text has what the fault says
+abbrev pub Faults : {R : Type 0} → (R → Option (List ℕ)) → TableReader R → TableFault → Type 0
+Faults remaining old f = Wherever remaining old (λ l told records given. Explains l told records given f)
+
 -- ---- inside a call
 
 -- how many records were read
@@ -157,3 +181,29 @@ abbrev pub ReadsOn : {R : Type 0} → Allowance → (R → Option (List ℕ)) �
 ReadsOn l remaining told records given so_far reader (Ok true) = (here : Record) × IsReading l remaining told (records ++ here ∷ []) given so_far reader
 ReadsOn l remaining told records given so_far reader (Ok false) = GivesNext l remaining told records given so_far reader
 ReadsOn l remaining told records given so_far reader (Err fault) = Explains l told records given fault
+
+-- the reading of the first record shows it, wherever the old reader stood
+abbrev pub ShowsHeader : {R : Type 0} → (R → Option (List ℕ)) → TableReader R → TableReader R → Result (Unit {0}) TableFault → Type 0
+ShowsHeader remaining old new result = Wherever remaining old (λ l told records given. ReadsHeader l remaining told records given new result)
+
+-- the reading of a root shows it, wherever the old reader stood
+abbrev pub ShowsRoot : {R : Type 0} → (R → Option (List ℕ)) → TableReader R → TableReader R → Result Bool TableFault → Type 0
+ShowsRoot remaining old new result = Wherever remaining old (λ l told records given. ReadsRoot l remaining told records given new result)
+
+-- this holds of the limits, the text, the records read and the geometries given with which the reader may be reading rows
+abbrev pub WhereverReading : {R : Type 0} → (R → Option (List ℕ)) → TableReader R → List Row → (Allowance → Option (List ℕ) → List Record → List Tree → Type 0) → Type 0
+WhereverReading remaining old so_far Holds =
+    (l : Allowance) (told : Option (List ℕ)) (records : List Record) (given : List Tree)
+    → IsReading l remaining told records given so_far old → Holds l told records given
+
+-- the records name the geometry that was being read, whose rows are these, and the new reader stands behind it
+abbrev pub Completes : {R : Type 0} → (R → Option (List ℕ)) → TableReader R → List Row → List Row → TableReader R → Type 0
+Completes remaining old so_far flat new = WhereverReading remaining old so_far (λ l told records given. GivesNext l remaining told records given flat new)
+
+-- the text has what the fault says of a geometry that was being read
+abbrev pub FaultsIn : {R : Type 0} → (R → Option (List ℕ)) → TableReader R → List Row → TableFault → Type 0
+FaultsIn remaining old so_far f = WhereverReading remaining old so_far (λ l told records given. Explains l told records given f)
+
+-- the reading of one record shows it, wherever the old reader was reading
+abbrev pub ShowsRow : {R : Type 0} → (R → Option (List ℕ)) → TableReader R → List Row → List Row → TableReader R → Result Bool TableFault → Type 0
+ShowsRow remaining old so_far flat new result = WhereverReading remaining old so_far (λ l told records given. ReadsOn l remaining told records given flat new result)

@@ -8,10 +8,10 @@ use std::alloc::AllocError;
 
 const GREATEST_DEPTH: i64 = 999;
 
-/// The greatest number of one digit.
+// The greatest number of one digit.
 const GREATEST_DIGIT: i64 = 9;
 
-/// The greatest number that is an i64 with any digit more behind it.
+// The greatest number that is an i64 with any digit more behind it.
 const MOST_BEFORE_A_DIGIT: u64 = 922_337_203_685_477_579;
 
 const LEAST_PRECISION: i64 = -8;
@@ -29,7 +29,7 @@ pub fn parse_depth(field: &[u8]) -> Option<u32>
     }
 }
 
-/// The number that a field of one digit spells, as most fields do.
+// The number that a field of one digit spells, as most fields do.
 #[inline(always)]
 fn digit_of(field: &[u8]) -> Option<i64>
     ensures some { IfSome result (λ id. IsIdField field.now id) }
@@ -51,7 +51,7 @@ pub fn parse_id(field: &[u8]) -> Option<i64>
     read_number(field)
 }
 
-/// The number that a field of digits spells, of which the first is not 0. `None` says nothing.
+// The number that a field of digits spells, of which the first is not 0. `None` says nothing.
 #[inline(always)]
 fn digits_of(field: &[u8]) -> Option<i64>
     ensures some { IfSome result (λ id. IsIdField field.now id) }
@@ -74,7 +74,7 @@ fn digits_of(field: &[u8]) -> Option<i64>
     Some(number.cast_signed())
 }
 
-/// The id whose canonical decimal the field is, of any length: most are of a few digits alone.
+// The id whose canonical decimal the field is, of any length: most are of a few digits alone.
 #[inline(never)]
 fn read_number(field: &[u8]) -> Option<i64>
     ensures reads { Reads (IsIdField field.now) result }
@@ -85,7 +85,7 @@ fn read_number(field: &[u8]) -> Option<i64>
     read_decimal(field)
 }
 
-/// The same by std's reader and printer.
+// The same by std's reader and printer.
 #[inline(never)]
 fn read_decimal(field: &[u8]) -> Option<i64>
     ensures reads { Reads (IsIdField field.now) result }
@@ -145,7 +145,7 @@ pub fn parse_optional_precision(field: &[u8]) -> Option<Option<i8>>
     }
 }
 
-/// The digit of a number of one digit, as most numbers are.
+// The digit of a number of one digit, as most numbers are.
 #[inline(always)]
 pub(crate) fn one_digit(number: i64) -> Option<u8>
     ensures { IfSome result (λ digit. signed_decimal number ≡ digit ∷ []) }

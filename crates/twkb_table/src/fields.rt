@@ -5,20 +5,20 @@ ghost use Rattle.twkb_table.specs.FiveFields.{record_seen};
 
 use csv::ByteRecord;
 
-/// How many fields the record of a row has.
+// How many fields the record of a row has.
 pub(crate) const FIELD_COUNT: usize = 5;
 
-/// The fields of a row's record, as they stand.
+// The fields of a row's record, as they stand.
 #[derive(Clone, Copy)]
 pub(crate) struct Fields<'a> {
-    pub depth: &'a [u8],
-    pub kind: &'a [u8],
-    pub id: &'a [u8],
-    pub precision: &'a [u8],
-    pub polyline: &'a [u8],
+    pub(crate) depth: &'a [u8],
+    pub(crate) kind: &'a [u8],
+    pub(crate) id: &'a [u8],
+    pub(crate) precision: &'a [u8],
+    pub(crate) polyline: &'a [u8],
 }
 
-/// The field at this place, counted from 0, of a record that has it.
+// The field at this place, counted from 0, of a record that has it.
 #[inline(always)]
 fn field(row: &ByteRecord, place: usize) -> &[u8]
     requires { place < length (fields_of row.now) }
@@ -27,7 +27,7 @@ fn field(row: &ByteRecord, place: usize) -> &[u8]
     row.get(place).unwrap()
 }
 
-/// The fields of a record of five.
+// The fields of a record of five.
 #[inline(always)]
 pub(crate) fn five_fields(row: &ByteRecord) -> Fields<'_>
     requires { length (fields_of row.now) ≡ 5 }

@@ -28,7 +28,7 @@ pub fn put_flat_rows(flat: &Flat, work: &mut Work, text: &mut Vec<u8>) -> Result
     result
 }
 
-/// Appends the lines, or a front of them where memory is refused.
+// Appends the lines, or a front of them where memory is refused.
 fn put_each(flat: &Flat, work: &mut Work, text: &mut Vec<u8>) -> Result<(), AllocError>
     ensures appended { OnOk result (text.new.items ≡ text.old.items ++ row_lines flat.now) }
     ensures grown { Grows text.old.items text.new.items }

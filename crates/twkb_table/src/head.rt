@@ -2,28 +2,30 @@
 use crate::judging::JudgeFault;
 use crate::reason::RowReason;
 use twkb_flat::{PointSource, Row};
-use twkb_points::PointTail;
-use twkb_polyline::{PolyFault, decode_into};
+use twkb_points::{PointTail, Pt};
+use twkb_polyline::{PolyFault, decode_into, decode_one};
 use twkb_tree::row_rules::{count_fits, has_points, is_whole};
 use twkb_tree::{Kind, Limits, Standing};
 
-/// A row that was read but for its points: where it stands, what its fields say, and the text of
-/// its points.
+// A row that was read but for its points: where it stands, what its fields say, and the text of
+// its points.
 #[derive(Clone, Copy)]
 pub(crate) struct Head<'a> {
-    pub limits: Limits,
-    pub standing: Standing,
-    pub kind: Kind,
-    pub id: Option<i64>,
-    pub precision: Option<i8>,
-    pub text: &'a [u8],
+    pub(crate) limits: Limits,
+    pub(crate) standing: Standing,
+    pub(crate) kind: Kind,
+    pub(crate) id: Option<i64>,
+    pub(crate) precision: Option<i8>,
+    pub(crate) text: &'a [u8],
 }
 
 impl Head<'_> {
-    ghost use Rattle.std.specs.Prelude.{◌≡◌};
-    ghost use Rattle.twkb_table.specs.Head.{head_row};
+    ghost use Rattle.std.specs.Prelude.{◌≡◌, ◌∷◌, [], IfSome};
+    ghost use Rattle.twkb_flat.specs.Rows.{row_with};
+    ghost use Rattle.twkb_table.specs.Judged.{Accepted};
+    ghost use Rattle.twkb_table.specs.Head.{head_row, JudgedAs};
 
-    /// The row itself.
+    // The row itself.
     #[inline(always)]
     pub(crate) fn row(&self) -> Row
         ensures { result ≡ head_row self.now }
@@ -34,6 +36,21 @@ impl Head<'_> {
             id: self.id,
             precision: self.precision,
         }
+    }
+
+    // The point of a row of kind point that has one, where the limit leaves room for it. `None` says nothing.
+    #[inline(always)]
+    #[tactic(auto, using(crate::proofs::HeadLemmas::one_judged))]
+    fn one_point(&self) -> Option<Pt>
+        ensures { IfSome result (λ point. JudgedAs self.now (Accepted (row_with (head_row self.now) (point ∷ [])))) }
+    {
+        if self.kind != Kind::Point {
+            return None;
+        }
+        if self.limits.points() <= self.standing.points {
+            return None;
+        }
+        decode_one(self.text)
     }
 }
 
@@ -51,6 +68,12 @@ impl PointSource for Head<'_> {
 
     #[inline(always)]
     fn append_to<L: PointTail>(&self, points: &mut L) -> Result<(), JudgeFault> {
+        if let Some(point) = self.one_point() {
+            return match points.put(point) {
+                Ok(()) => Ok(()),
+                Err(_) => Err(JudgeFault::Memory),
+            };
+        }
         if !self.text.is_empty() && !has_points(self.kind) {
             return Err(JudgeFault::Refused(RowReason::PolylineNotAllowed));
         }

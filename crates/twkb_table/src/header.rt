@@ -14,7 +14,7 @@ pub fn header_text() -> &'static [u8]
     b"depth,kind,id,precision,polyline\n"
 }
 
-/// Whether the record is the header.
+// Whether the record is the header.
 pub(crate) fn is_header(here: &ByteRecord) -> bool
     ensures { IsTrue result ↔ (fields_of here.now ≡ header) }
 {

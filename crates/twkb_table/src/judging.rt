@@ -28,7 +28,7 @@ pub enum JudgeFault {
     Refused(RowReason),
 }
 
-/// The row of these fields but for its points, of this kind and standing there, or why it is none.
+// The row of these fields but for its points, of this kind and standing there, or why it is none.
 #[inline(always)]
 fn judge_standing<'a>(
     limits: &Limits,
@@ -62,7 +62,7 @@ fn judge_standing<'a>(
     })
 }
 
-/// The row of a record of these five fields but for its points, or why it is none.
+// The row of a record of these five fields but for its points, or why it is none.
 #[inline(always)]
 fn judge_fields<'a>(
     limits: &Limits,
@@ -93,9 +93,9 @@ fn judge_fields<'a>(
     )
 }
 
-/// What a record after the first is but for its points, after rows so far with these open rows,
-/// the root first, and these counts of rows and points since the last root: its row, or the first
-/// reason that holds of it (profile). Whatever its points make of the row, they make of the record.
+// What a record after the first is but for its points, after rows so far with these open rows,
+// the root first, and these counts of rows and points since the last root: its row, or the first
+// reason that holds of it (profile). Whatever its points make of the row, they make of the record.
 #[inline(always)]
 pub(crate) fn judge_head<'a>(
     limits: &Limits,

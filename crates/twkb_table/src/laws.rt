@@ -4,15 +4,15 @@ ghost use Rattle.csv.specs.Reading.{AreRecords, default_config, strip_bom};
 ghost use Rattle.csv.specs.declared.parser.State.TheVariants.{StartRecord};
 ghost use Rattle.twkb_tree.specs.Tree.{Tree};
 ghost use Rattle.twkb_tree.specs.Limits.{Allowance, IsAllowance};
-ghost use Rattle.twkb_tree.specs.Rows.{Row, rows_of};
+ghost use Rattle.twkb_tree.specs.Rows.{Row};
 ghost use Rattle.twkb_tree.specs.RowLists.{AreValidRows};
 ghost use Rattle.twkb_tree.specs.Accepted.{Accepts};
 ghost use Rattle.twkb_table.specs.Record.{Record, header, record_of};
-ghost use Rattle.twkb_table.specs.Named.{Named, NamesNone};
-ghost use Rattle.twkb_table.specs.Parts.{BeginAtRoot};
+ghost use Rattle.twkb_table.specs.Named.{Named, NamesNone, NameMore};
+ghost use Rattle.twkb_table.specs.Parts.{BeginAtRoot, NameApart};
 ghost use Rattle.twkb_table.specs.Text.{csvtext};
 ghost use Rattle.twkb_table.specs.Judged.{Judged, Verdict, Accepted, Refused};
-ghost use Rattle.twkb_table.specs.RowFault.{RowFault, AreComplete};
+ghost use Rattle.twkb_table.specs.RowFault.{JudgedBehind, RowFault, AreComplete};
 ghost use Rattle.twkb_table.specs.Samples.{PointTable, PointText, PolygonTable, CollectionTable};
 ghost use Rattle.twkb_table.specs.Reading.{read_table, Judges, IsReading};
 ghost use Rattle.twkb_table.specs.declared.reason.RowReason.{RowReason};
@@ -31,8 +31,7 @@ pub fn fronts()
 /// table that is cut before a row of depth 0 is two such tables.
 pub fn parts()
     ensures joined { (l : Allowance) (rows more : List Record) (gs hs : List Tree) → Named l (header ∷ rows) gs → Named l (header ∷ more) hs → Named l (header ∷ (rows ++ more)) (gs ++ hs) }
-    ensures cut { (l : Allowance) (rows more : List Record) (ks : List Tree) → IsAllowance l → BeginAtRoot more → Named l (header ∷ (rows ++ more)) ks
-        → (gs hs : List Tree) × (ks ≡ gs ++ hs) × Named l (header ∷ rows) gs × Named l (header ∷ more) hs }
+    ensures cut { (l : Allowance) (rows more : List Record) (ks : List Tree) → IsAllowance l → BeginAtRoot more → Named l (header ∷ (rows ++ more)) ks → NameApart l rows more ks }
 {}
 
 /// The reader of `csv`, set to no header row, flexible lengths and no trimming, reads the records
@@ -55,10 +54,8 @@ pub fn one_verdict()
 /// After records that name geometries, a record that is judged a row leads to records that name
 /// geometries with that row; one that is refused leads to records that name none.
 pub fn judged()
-    ensures grows { (l : Allowance) (records : List Record) (here : Record) (gs : List Tree) (row : Row) → Named l records gs → Judged l (reverse (rows_of gs)) here (Accepted row)
-        → (hs : List Tree) × Named l (records ++ here ∷ []) hs × (rows_of hs ≡ rows_of gs ++ row ∷ []) }
-    ensures refused { (l : Allowance) (records : List Record) (here : Record) (gs : List Tree) (reason : RowReason) → IsAllowance l → Named l records gs → Judged l (reverse (rows_of gs)) here (Refused reason)
-        → NamesNone l (records ++ here ∷ []) }
+    ensures grows { (l : Allowance) (records : List Record) (here : Record) (gs : List Tree) (row : Row) → Named l records gs → JudgedBehind l gs here (Accepted row) → NameMore l records here gs row }
+    ensures refused { (l : Allowance) (records : List Record) (here : Record) (gs : List Tree) (reason : RowReason) → IsAllowance l → Named l records gs → JudgedBehind l gs here (Refused reason) → NamesNone l (records ++ here ∷ []) }
 {}
 
 /// Records name geometries or have a fault, and not both; the fault has one place and one reason.

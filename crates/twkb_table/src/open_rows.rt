@@ -8,9 +8,9 @@ use std::alloc::AllocError;
 use twkb_flat::Row;
 use twkb_tree::OpenRow;
 
-/// Opens a row that was read: the open rows at its depth and below go, its parent has had a child,
-/// and the row stands last. Takes memory where more rows are open than ever before; an `Err`
-/// changes nothing.
+// Opens a row that was read: the open rows at its depth and below go, its parent has had a child,
+// and the row stands last. Takes memory where more rows are open than ever before; an `Err`
+// changes nothing.
 #[inline(always)]
 pub(crate) fn open_row(rows: &mut Vec<OpenRow>, row: &Row) -> Result<(), AllocError>
     requires { row.now.depth ≤ length rows.old.items }

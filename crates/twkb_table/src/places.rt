@@ -1,8 +1,6 @@
 //! What a row may be where it stands.
-ghost use Rattle.std.specs.Prelude.{ℕ, ℤ, List, Option, OnOk, IfOk, IfErr};
-ghost use Rattle.twkb_tree.specs.declared.kind.Kind.{Kind};
-ghost use Rattle.twkb_tree.specs.Limits.{Allowance};
-ghost use Rattle.twkb_table.specs.Judged.{Verdict, Refused, JudgedByPlace, JudgedById, JudgedByPrecision, JudgedByPoints};
+ghost use Rattle.std.specs.Prelude.{OnOk, IfOk, IfErr};
+ghost use Rattle.twkb_table.specs.Places.{HasPlace, LacksPlace, HasId, LacksId, HasPrecision, LacksPrecision};
 ghost use Rattle.twkb_table.specs.Standing.{place_seen};
 
 use crate::decimal::{parse_optional_id, parse_optional_precision};
@@ -10,11 +8,11 @@ use crate::reason::RowReason;
 use twkb_tree::row_rules::{has_place, has_same_ids, id_allowed, is_whole, nest_kept};
 use twkb_tree::{Kind, Limits, Standing};
 
-/// Why a row of this kind may not stand there.
+// Why a row of this kind may not stand there.
 #[inline(always)]
 pub(crate) fn check_place(limits: &Limits, standing: &Standing, kind: Kind) -> Result<(), RowReason>
-    ensures passed { OnOk result ((id_field precision_field text : List ℕ) (v : Verdict) → JudgedById limits.now (place_seen standing.now) kind id_field precision_field text v → JudgedByPlace limits.now (place_seen standing.now) kind id_field precision_field text v) }
-    ensures refused { IfErr result (λ reason. (id_field precision_field text : List ℕ) → JudgedByPlace limits.now (place_seen standing.now) kind id_field precision_field text (Refused reason)) }
+    ensures passed { OnOk result (HasPlace limits.now (place_seen standing.now) kind) }
+    ensures refused { IfErr result (λ reason. LacksPlace limits.now (place_seen standing.now) kind reason) }
 {
     if !has_place(standing.parent, kind) {
         return Err(RowReason::BadPlace);
@@ -28,15 +26,15 @@ pub(crate) fn check_place(limits: &Limits, standing: &Standing, kind: Kind) -> R
     Ok(())
 }
 
-/// The id of a row of this kind that stands there, or why it may not have it.
+// The id of a row of this kind that stands there, or why it may not have it.
 #[inline(always)]
 pub(crate) fn read_id(
     standing: &Standing,
     kind: Kind,
     field: &[u8],
 ) -> Result<Option<i64>, RowReason>
-    ensures read { IfOk result (λ id. (l : Allowance) (precision_field text : List ℕ) (v : Verdict) → JudgedByPrecision l (place_seen standing.now) kind id precision_field text v → JudgedById l (place_seen standing.now) kind field.now precision_field text v) }
-    ensures refused { IfErr result (λ reason. (l : Allowance) (precision_field text : List ℕ) → JudgedById l (place_seen standing.now) kind field.now precision_field text (Refused reason)) }
+    ensures read { IfOk result (λ id. HasId (place_seen standing.now) kind field.now id) }
+    ensures refused { IfErr result (λ reason. LacksId (place_seen standing.now) kind field.now reason) }
 {
     let Some(id) = parse_optional_id(field) else {
         return Err(RowReason::BadId);
@@ -51,11 +49,11 @@ pub(crate) fn read_id(
     Ok(id)
 }
 
-/// The precision of a row that stands there, or why it may not have it.
+// The precision of a row that stands there, or why it may not have it.
 #[inline(always)]
 pub(crate) fn read_precision(standing: &Standing, field: &[u8]) -> Result<Option<i8>, RowReason>
-    ensures read { IfOk result (λ precision. (l : Allowance) (kind : Kind) (id : Option ℤ) (text : List ℕ) (v : Verdict) → JudgedByPoints l (place_seen standing.now) kind id precision text v → JudgedByPrecision l (place_seen standing.now) kind id field.now text v) }
-    ensures refused { IfErr result (λ reason. (l : Allowance) (kind : Kind) (id : Option ℤ) (text : List ℕ) → JudgedByPrecision l (place_seen standing.now) kind id field.now text (Refused reason)) }
+    ensures read { IfOk result (λ precision. HasPrecision (place_seen standing.now) field.now precision) }
+    ensures refused { IfErr result (λ reason. LacksPrecision (place_seen standing.now) field.now reason) }
 {
     let Some(precision) = parse_optional_precision(field) else {
         return Err(RowReason::BadPrecision);

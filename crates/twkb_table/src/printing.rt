@@ -43,7 +43,7 @@ pub fn put_rows(geometry: &Geometry, text: &mut Vec<u8>) -> Result<(), AllocErro
     result
 }
 
-/// Appends the lines of a geometry's rows, which has this id and stands at this depth.
+// Appends the lines of a geometry's rows, which has this id and stands at this depth.
 #[cycle(lines)]
 fn put_geometry(
     geometry: &Geometry,
@@ -68,7 +68,7 @@ fn put_geometry(
     }
 }
 
-/// The row of the geometry itself, and its points.
+// The row of the geometry itself, and its points.
 fn own_line(geometry: &Geometry, depth: u32, id: Option<i64>) -> (Row, &[Pt])
     ensures { row_with result.0 result.1.now ≡ own_row id depth geometry.now }
 {
@@ -83,7 +83,7 @@ fn own_line(geometry: &Geometry, depth: u32, id: Option<i64>) -> (Row, &[Pt])
     (row, points)
 }
 
-/// Appends the line of a part, which has no precision of its own.
+// Appends the line of a part, which has no precision of its own.
 fn put_part(
     depth: u32,
     kind: Kind,
@@ -103,7 +103,7 @@ fn put_part(
     put_row(&row, points, text)
 }
 
-/// Appends the lines of the members of a collection.
+// Appends the lines of the members of a collection.
 #[cycle(lines)]
 #[tactic(auto, using(twkb_tree::specs::Size::member_smaller))]
 fn put_members(
@@ -125,7 +125,7 @@ fn put_members(
     Ok(())
 }
 
-/// Appends the lines of the polygons of a multipolygon.
+// Appends the lines of the polygons of a multipolygon.
 fn put_areas(depth: u32, areas: &[Lines], ids: &Ids, text: &mut Vec<u8>) -> Result<(), AllocError>
     requires { depth + 1 < 2 ^ 32 }
     ensures appended { OnOk result (text.new.items ≡ text.old.items ++ row_lines (rows_of_each (polygon_rows depth) ids.now areas.now)) }
@@ -141,7 +141,7 @@ fn put_areas(depth: u32, areas: &[Lines], ids: &Ids, text: &mut Vec<u8>) -> Resu
     Ok(())
 }
 
-/// Appends the lines of the linestrings of a multilinestring.
+// Appends the lines of the linestrings of a multilinestring.
 fn put_lines(depth: u32, lines: &[Pts], ids: &Ids, text: &mut Vec<u8>) -> Result<(), AllocError>
     ensures appended { OnOk result (text.new.items ≡ text.old.items ++ row_lines (rows_of_each (λ id ps. plain_row depth Kind.Linestring id ps ∷ []) ids.now lines.now)) }
     ensures grown { Grows text.old.items text.new.items }
@@ -156,7 +156,7 @@ fn put_lines(depth: u32, lines: &[Pts], ids: &Ids, text: &mut Vec<u8>) -> Result
     Ok(())
 }
 
-/// Appends the lines of the points of a multipoint.
+// Appends the lines of the points of a multipoint.
 fn put_points(depth: u32, points: &[Pt], ids: &Ids, text: &mut Vec<u8>) -> Result<(), AllocError>
     ensures appended { OnOk result (text.new.items ≡ text.old.items ++ row_lines (rows_of_each (λ id p. plain_row depth Kind.Point id (p ∷ []) ∷ []) ids.now points.now)) }
     ensures grown { Grows text.old.items text.new.items }
@@ -171,7 +171,7 @@ fn put_points(depth: u32, points: &[Pt], ids: &Ids, text: &mut Vec<u8>) -> Resul
     Ok(())
 }
 
-/// Appends the lines of the rings of a polygon.
+// Appends the lines of the rings of a polygon.
 fn put_rings(depth: u32, rings: &[Pts], text: &mut Vec<u8>) -> Result<(), AllocError>
     ensures appended { OnOk result (text.new.items ≡ text.old.items ++ row_lines (ring_rows depth rings.now)) }
     ensures grown { Grows text.old.items text.new.items }

@@ -1,9 +1,8 @@
 //! The records of a table, one at a time.
-ghost use Rattle.std.specs.Prelude.{◌≡◌, ◌++◌, ◌∷◌, ◌↔◌, ◌⊎◌, ℕ, List, Option, Some, None, Ok, Err, [], true, false, is_err, IfOk, IfErr, IfSome};
+ghost use Rattle.std.specs.Prelude.{◌≡◌, ◌↔◌, ◌⊎◌, Ok, Err, [], true, false, is_err, IfOk, IfErr};
 ghost use Rattle.csv.specs.Records.{fields_of};
 ghost use Rattle.twkb_io.specs.Taps.{device_of};
-ghost use Rattle.twkb_table.specs.Record.{Record};
-ghost use Rattle.twkb_table.specs.CsvRecords.{AreRecordsOf, BeginWith, HasGiven, standing};
+ghost use Rattle.twkb_table.specs.CsvRecords.{HasGiven, Advances, Finishes};
 
 use csv::{ByteRecord, Reader, ReaderBuilder};
 use std::alloc::Global;
@@ -32,7 +31,7 @@ pub struct RecordSource<'a, R> {
 }
 
 impl<'a, R: Read> RecordSource<'a, R> {
-    ghost use Rattle.twkb_table.specs.SourceStanding.{StandsAfter, is_ended, is_spent, record_in};
+    ghost use Rattle.twkb_table.specs.SourceStanding.{StandsAfter, GivesRecord, Ends, Faults, is_ended, is_spent, record_in};
 
     /// Reads nothing yet, and takes no memory.
     pub fn new(alloc: Global, tap: &'a mut Tap<R>) -> RecordSource<'a, R>
@@ -56,15 +55,9 @@ impl<'a, R: Read> RecordSource<'a, R> {
     /// Reads the next record, and answers whether there was one. After an `Err` each call answers
     /// `Spent`, and after the end each call answers that there is none.
     pub fn read(&mut self) -> Result<bool, SourceFault>
-        ensures gives { IfOk result (λ found. found ≡ true → (told : Option (List ℕ)) (records : List Record)
-            → StandsAfter R.remaining told records self.old
-            → StandsAfter R.remaining told (records ++ fields_of (record_in self.new) ∷ []) self.new
-            × IfSome told (λ text. BeginWith text (records ++ fields_of (record_in self.new) ∷ []))) }
-        ensures ends { IfOk result (λ found. found ≡ false → (told : Option (List ℕ)) (records : List Record)
-            → StandsAfter R.remaining told records self.old
-            → StandsAfter R.remaining told records self.new × IfSome told (λ text. AreRecordsOf text records)) }
-        ensures source { IfErr result (λ fault. (told : Option (List ℕ)) (records : List Record)
-            → StandsAfter R.remaining told records self.old → (fault ≡ SourceFault.Source) × IfSome told (λ text. BeginWith text records)) }
+        ensures gives { IfOk result (λ found. found ≡ true → GivesRecord R.remaining self.old self.new) }
+        ensures ends { IfOk result (λ found. found ≡ false → Ends R.remaining self.old self.new) }
+        ensures source { IfErr result (λ fault. Faults R.remaining self.old fault) }
         ensures over { is_ended self.old ≡ true → is_spent self.old ≡ false → result ≡ Ok false }
         ensures spent { (result ≡ Err SourceFault.Spent) ↔ (is_spent self.old ≡ true) }
         ensures unchanged { (is_ended self.old ≡ true) ⊎ (is_spent self.old ≡ true) → self.new ≡ self.old }
@@ -80,21 +73,16 @@ impl<'a, R: Read> RecordSource<'a, R> {
     }
 }
 
-/// Reads the next record, and answers whether there was one. After the end each call answers that
-/// there is none.
+// Reads the next record, and answers whether there was one. After the end each call answers that
+// there is none.
 #[inline(always)]
 pub(crate) fn read_next<R: Read>(
     reader: &mut Reader<&mut Tap<R>>,
     held: &mut ByteRecord,
     ended: &mut bool,
 ) -> Result<bool, SourceFault>
-    ensures gives { IfOk result (λ found. found ≡ true → (told : Option (List ℕ)) (records : List Record)
-        → standing R.remaining told records ended.old reader.old
-        → standing R.remaining told (records ++ fields_of held.new ∷ []) ended.new reader.new
-        × IfSome told (λ text. BeginWith text (records ++ fields_of held.new ∷ []))) }
-    ensures ends { IfOk result (λ found. found ≡ false → (told : Option (List ℕ)) (records : List Record)
-        → standing R.remaining told records ended.old reader.old
-        → standing R.remaining told records ended.new reader.new × IfSome told (λ text. AreRecordsOf text records)) }
+    ensures gives { IfOk result (λ found. found ≡ true → Advances R.remaining ended.old reader.old (fields_of held.new) ended.new reader.new) }
+    ensures ends { IfOk result (λ found. found ≡ false → Finishes R.remaining ended.old reader.old ended.new reader.new) }
     ensures source { IfErr result (λ fault. fault ≡ SourceFault.Source) }
     ensures over { ended.old ≡ true → result ≡ Ok false }
     ensures unread { ended.old ≡ true → (reader.new ≡ reader.old) × (held.new ≡ held.old) × (ended.new ≡ ended.old) }
@@ -111,7 +99,7 @@ pub(crate) fn read_next<R: Read>(
     found
 }
 
-/// A reader of every record, of any length, as it stands.
+// A reader of every record, of any length, as it stands.
 pub(crate) fn new_reader<'a, R: Read>(alloc: Global, tap: &'a mut Tap<R>) -> Reader<&'a mut Tap<R>>
     ensures { HasGiven R.remaining (R.remaining (device_of tap.old)) [] result }
 {
@@ -127,10 +115,8 @@ fn read_record<R: Read>(
     reader: &mut Reader<&mut Tap<R>>,
     held: &mut ByteRecord,
 ) -> Result<bool, SourceFault>
-    ensures more { IfOk result (λ found. found ≡ true → (told : Option (List ℕ)) (records : List Record)
-        → HasGiven R.remaining told records reader.old → HasGiven R.remaining told (records ++ fields_of held.new ∷ []) reader.new) }
-    ensures end { IfOk result (λ found. found ≡ false → (told : Option (List ℕ)) (records : List Record)
-        → HasGiven R.remaining told records reader.old → IfSome told (λ text. AreRecordsOf text records)) }
+    ensures more { IfOk result (λ found. found ≡ true → Advances R.remaining false reader.old (fields_of held.new) false reader.new) }
+    ensures end { IfOk result (λ found. found ≡ false → Finishes R.remaining false reader.old true reader.new) }
     ensures source { IfErr result (λ fault. fault ≡ SourceFault.Source) }
 {
     let Ok(found) = reader.read_byte_record(held) else {

@@ -13,7 +13,7 @@ use twkb_points::Pt;
 use twkb_polyline::encode_into;
 use twkb_tree::Kind;
 
-/// Appends the line of a row with its points, or a front of it where memory is refused.
+// Appends the line of a row with its points, or a front of it where memory is refused.
 pub(crate) fn put_row(row: &Row, points: &[Pt], text: &mut Vec<u8>) -> Result<(), AllocError>
     ensures appended { OnOk result (text.new.items ≡ text.old.items ++ row_lines (row_with row.now points.now ∷ [])) }
     ensures grown { Grows text.old.items text.new.items }
@@ -27,7 +27,7 @@ pub(crate) fn put_row(row: &Row, points: &[Pt], text: &mut Vec<u8>) -> Result<()
     Ok(())
 }
 
-/// Appends the end of a line.
+// Appends the end of a line.
 #[inline(always)]
 fn end_line(text: &mut Vec<u8>) -> Result<(), AllocError>
     ensures appended { OnOk result (text.new.items ≡ text.old.items ++ (10 ∷ [])) }
@@ -36,7 +36,7 @@ fn end_line(text: &mut Vec<u8>) -> Result<(), AllocError>
     text.extend_from_slice(b"\n")
 }
 
-/// Appends the canonical decimal of a depth.
+// Appends the canonical decimal of a depth.
 #[inline(always)]
 fn put_depth(depth: u32, text: &mut Vec<u8>) -> Result<(), AllocError>
     ensures appended { OnOk result (text.new.items ≡ text.old.items ++ decimal depth) }
@@ -45,7 +45,7 @@ fn put_depth(depth: u32, text: &mut Vec<u8>) -> Result<(), AllocError>
     push_decimal(text, i64::from(depth))
 }
 
-/// Appends the word of a kind between two commas.
+// Appends the word of a kind between two commas.
 #[inline(always)]
 fn put_kind(kind: Kind, text: &mut Vec<u8>) -> Result<(), AllocError>
     ensures appended { OnOk result (text.new.items ≡ text.old.items ++ (44 ∷ (word_of kind ++ 44 ∷ []))) }
@@ -54,7 +54,7 @@ fn put_kind(kind: Kind, text: &mut Vec<u8>) -> Result<(), AllocError>
     text.extend_from_slice(kind_field(kind))
 }
 
-/// The word of a kind between two commas.
+// The word of a kind between two commas.
 #[inline(always)]
 fn kind_field(kind: Kind) -> &'static [u8]
     ensures { result.now ≡ 44 ∷ (word_of kind ++ 44 ∷ []) }
@@ -71,7 +71,7 @@ fn kind_field(kind: Kind) -> &'static [u8]
     }
 }
 
-/// Appends the canonical decimal of an id where there is one.
+// Appends the canonical decimal of an id where there is one.
 #[inline(always)]
 fn put_id(id: Option<i64>, text: &mut Vec<u8>) -> Result<(), AllocError>
     ensures appended { OnOk result (text.new.items ≡ text.old.items ++ optional id) }
@@ -83,7 +83,7 @@ fn put_id(id: Option<i64>, text: &mut Vec<u8>) -> Result<(), AllocError>
     }
 }
 
-/// Appends the canonical decimal of a precision, where there is one, between two commas.
+// Appends the canonical decimal of a precision, where there is one, between two commas.
 #[inline(always)]
 fn put_precision(precision: Option<i8>, text: &mut Vec<u8>) -> Result<(), AllocError>
     ensures appended { OnOk result (text.new.items ≡ text.old.items ++ (44 ∷ (optional precision ++ 44 ∷ []))) }
@@ -99,7 +99,7 @@ fn put_precision(precision: Option<i8>, text: &mut Vec<u8>) -> Result<(), AllocE
     }
 }
 
-/// Appends the canonical decimal of a number between two commas.
+// Appends the canonical decimal of a number between two commas.
 fn put_between(number: i64, text: &mut Vec<u8>) -> Result<(), AllocError>
     ensures appended { OnOk result (text.new.items ≡ text.old.items ++ (44 ∷ (signed_decimal number ++ 44 ∷ []))) }
     ensures grown { Grows text.old.items text.new.items }

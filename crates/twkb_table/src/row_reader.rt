@@ -17,15 +17,15 @@ use twkb_flat::{Flat, PointSource, Row};
 use twkb_points::Pt;
 use twkb_tree::{Kind, Limits, OpenRow};
 
-/// A root that waits: each root stands at depth 0, and has no id.
+// A root that waits: each root stands at depth 0, and has no id.
 #[derive(Clone, Copy)]
 pub(crate) struct Root {
     kind: Kind,
     precision: Option<i8>,
 }
 
-/// What a reader keeps of a table's rows: those that are open in the geometry that it reads, and
-/// the root of the next geometry while it waits, with its points in a buffer that serves all roots.
+// What a reader keeps of a table's rows: those that are open in the geometry that it reads, and
+// the root of the next geometry while it waits, with its points in a buffer that serves all roots.
 #[derive(Drop)]
 pub(crate) struct RowReader {
     limits: Limits,
@@ -38,7 +38,7 @@ pub(crate) struct RowReader {
 impl RowReader {
     ghost use Rattle.twkb_table.specs.RowReading.{limits_of, waiting, BeginsFirst, JudgedAfter, Keeps, GoesOn, EndsBefore};
 
-    /// Keeps nothing yet. Takes no memory.
+    // Keeps nothing yet. Takes no memory.
     pub(crate) fn new(alloc: Global, limits: Limits) -> RowReader
         ensures limits { limits_of result ≡ limits }
         ensures none { waiting result ≡ [] }
@@ -51,7 +51,7 @@ impl RowReader {
         }
     }
 
-    /// Whether a root waits.
+    // Whether a root waits.
     #[inline(always)]
     pub(crate) fn has_root(&self) -> bool
         ensures { IsTrue result ↔ (0 < length (waiting self.now)) }
@@ -59,14 +59,15 @@ impl RowReader {
         self.waiting.is_some()
     }
 
-    /// Reads a record where no row is open: the root of the first geometry, which then waits.
+    // Reads a record where no row is open: the root of the first geometry, which then waits.
     pub(crate) fn read_root(&mut self, here: &ByteRecord) -> Result<(), JudgeFault>
         ensures read { OnOk result (BeginsFirst self.old (fields_of here.now) self.new) }
         ensures refused { IfErr result (IfRefused (λ reason. Judged (limits_of self.old) [] (fields_of here.now) (Refused reason))) }
         ensures limits { limits_of self.new ≡ limits_of self.old }
         ensures sound { IsAllowance (limits_of self.old) }
     {
-        self.limits.nest();
+        // learnt: the limits are allowed
+        let _learnt = self.limits.nest();
         self.waiting = None;
         match judge(&self.limits, &[], 0, 0, here, &mut self.points) {
             Ok(row) => {
@@ -81,7 +82,7 @@ impl RowReader {
         }
     }
 
-    /// Puts the root that waits into a flat form, in place of its rows.
+    // Puts the root that waits into a flat form, in place of its rows.
     #[inline(always)]
     pub(crate) fn begin(&mut self, flat: &mut Flat) -> Result<(), AllocError>
         requires waits { 0 < length (waiting self.old) }
@@ -89,7 +90,8 @@ impl RowReader {
         ensures keeps { OnOk result (Keeps self.new flat.new) }
         ensures limits { limits_of self.new ≡ limits_of self.old }
     {
-        self.limits.nest();
+        // learnt: the limits are allowed
+        let _learnt = self.limits.nest();
         let Some(root) = self.waiting else {
             unreachable!()
         };
@@ -109,8 +111,8 @@ impl RowReader {
         Ok(())
     }
 
-    /// Reads a record after the rows of the flat form. A row of the same geometry is put there; the
-    /// root of the next geometry waits, and the answer is false.
+    // Reads a record after the rows of the flat form. A row of the same geometry is put there; the
+    // root of the next geometry waits, and the answer is false.
     #[inline(always)]
     pub(crate) fn read_row(
         &mut self,
@@ -124,7 +126,8 @@ impl RowReader {
         ensures limits { limits_of self.new ≡ limits_of self.old }
         ensures sound { IsAllowance (limits_of self.old) }
     {
-        self.limits.nest();
+        // learnt: the limits are allowed
+        let _learnt = self.limits.nest();
         self.waiting = None;
         let head = match self.judge_next(here, flat) {
             Ok(head) => head,

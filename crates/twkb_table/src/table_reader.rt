@@ -1,9 +1,6 @@
 //! The geometries of a table, one after another.
-ghost use Rattle.std.specs.Prelude.{◌≡◌, ◌+◌, ◌∷◌, ◌++◌, ◌⊎◌, ◌↔◌, ◌<◌, ◌^◌, ◌≢◌, [], ℕ, length, List, Option, None, Some, Ok, Err, true, false, is_err, OnOk, IfOk, IfErr, IfSome, IsTrue};
+ghost use Rattle.std.specs.Prelude.{◌≡◌, ◌+◌, ◌⊎◌, ◌↔◌, ◌<◌, ◌^◌, ◌≢◌, [], length, None, Ok, Err, true, false, is_err, OnOk, IfOk, IfErr, IfSome, IsTrue};
 ghost use Rattle.twkb_io.specs.Taps.{device_of};
-ghost use Rattle.twkb_tree.specs.Tree.{Tree};
-ghost use Rattle.twkb_tree.specs.Limits.{Allowance};
-ghost use Rattle.twkb_table.specs.Record.{Record, header};
 
 use crate::header::is_header;
 use crate::numbering::{fault_at, next_record};
@@ -24,23 +21,23 @@ use twkb_tree::{Geometry, Limits};
 pub struct TableReader<'a, R> {
     alloc: Global,
     reader: Reader<&'a mut Tap<R>>,
-    /// The record that was read last.
+    // The record that was read last.
     held: ByteRecord,
-    /// Whether the end of the table was met.
+    // Whether the end of the table was met.
     ended: bool,
-    /// How many records were read.
+    // How many records were read.
     number: u32,
     rows: RowReader,
-    /// What `next` reads rows into.
+    // What `next` reads rows into.
     kept: Flat,
-    /// Whether a call answered an error.
+    // Whether a call answered an error.
     spent: bool,
 }
 
-/// The number that no record of a table may have.
+// The number that no record of a table may have.
 const RECORD_CAP: u64 = 1 << 32;
 
-/// What a first record is answered that is missing or not the header.
+// What a first record is answered that is missing or not the header.
 const BAD_HEADER: TableFault = TableFault::At {
     number: 1,
     reason: RowReason::BadHeader,
@@ -48,7 +45,7 @@ const BAD_HEADER: TableFault = TableFault::At {
 
 impl<'a, R: Read> TableReader<'a, R> {
     ghost use Rattle.twkb_table.specs.RowReading.{waiting, Keeps};
-    ghost use Rattle.twkb_table.specs.TableReading.{StandsAfter, GivesNext, GivesTree, MeetsEnd, Explains, IsReading, ReadsHeader, ReadsRoot, ReadsOn, IsOver, is_spent, records_read};
+    ghost use Rattle.twkb_table.specs.TableReading.{StandsAfter, Gives, GivesGeometry, Ends, Faults, Completes, FaultsIn, ShowsHeader, ShowsRoot, ShowsRow, IsOver, is_spent, records_read};
 
     /// Reads nothing yet, and takes no memory.
     pub fn new(alloc: Global, tap: &'a mut Tap<R>, limits: Limits) -> TableReader<'a, R>
@@ -72,12 +69,9 @@ impl<'a, R: Read> TableReader<'a, R> {
     /// after an `Err` each call answers `Spent`, and nothing more is read. Takes memory for one record, one root's points and
     /// the open rows, and for the flat form.
     pub fn next_flat(&mut self, flat: &mut Flat) -> Result<bool, TableFault>
-        ensures gives { IfOk result (λ found. found ≡ true → (l : Allowance) (told : Option (List ℕ)) (records : List Record) (given : List Tree)
-            → StandsAfter l R.remaining told records given self.old → GivesNext l R.remaining told records given flat.new self.new) }
-        ensures ends { IfOk result (λ found. found ≡ false → (l : Allowance) (told : Option (List ℕ)) (records : List Record) (given : List Tree)
-            → StandsAfter l R.remaining told records given self.old → MeetsEnd l R.remaining told records given self.new) }
-        ensures fault { IfErr result (λ fault. (l : Allowance) (told : Option (List ℕ)) (records : List Record) (given : List Tree)
-            → StandsAfter l R.remaining told records given self.old → Explains l told records given fault) }
+        ensures gives { IfOk result (λ found. found ≡ true → Gives R.remaining self.old flat.new self.new) }
+        ensures ends { IfOk result (λ found. found ≡ false → Ends R.remaining self.old self.new) }
+        ensures fault { IfErr result (λ fault. Faults R.remaining self.old fault) }
         ensures cleared { (result ≡ Ok true) ⊎ (flat.new ≡ []) }
         ensures some { result ≡ Ok true → 0 < length flat.new }
 
@@ -109,12 +103,9 @@ impl<'a, R: Read> TableReader<'a, R> {
     /// The next geometry, or `None` at the table's end, as `next_flat` reads them; calls of the two
     /// may be mixed. Takes memory for the geometry too.
     pub fn next(&mut self) -> Result<Option<Geometry>, TableFault>
-        ensures gives { IfOk result (λ found. IfSome found (λ geometry. (l : Allowance) (told : Option (List ℕ)) (records : List Record) (given : List Tree)
-            → StandsAfter l R.remaining told records given self.old → GivesTree l R.remaining told records given geometry self.new)) }
-        ensures ends { result ≡ Ok None → (l : Allowance) (told : Option (List ℕ)) (records : List Record) (given : List Tree)
-            → StandsAfter l R.remaining told records given self.old → MeetsEnd l R.remaining told records given self.new }
-        ensures fault { IfErr result (λ fault. (l : Allowance) (told : Option (List ℕ)) (records : List Record) (given : List Tree)
-            → StandsAfter l R.remaining told records given self.old → Explains l told records given fault) }
+        ensures gives { IfOk result (λ found. IfSome found (λ geometry. GivesGeometry R.remaining self.old geometry self.new)) }
+        ensures ends { result ≡ Ok None → Ends R.remaining self.old self.new }
+        ensures fault { IfErr result (λ fault. Faults R.remaining self.old fault) }
 
         // the end for good, and a refusal for good
         ensures over { IsOver self.old → is_spent self.old ≡ false → result ≡ Ok None }
@@ -149,12 +140,9 @@ impl<'a, R: Read> TableReader<'a, R> {
     // The next geometry, read into a flat form.
     #[inline(never)]
     fn next_tree(&mut self, flat: &mut Flat) -> Result<Option<Geometry>, TableFault>
-        ensures gives { IfOk result (λ found. IfSome found (λ geometry. (l : Allowance) (told : Option (List ℕ)) (records : List Record) (given : List Tree)
-            → StandsAfter l R.remaining told records given self.old → GivesTree l R.remaining told records given geometry self.new)) }
-        ensures ends { result ≡ Ok None → (l : Allowance) (told : Option (List ℕ)) (records : List Record) (given : List Tree)
-            → StandsAfter l R.remaining told records given self.old → MeetsEnd l R.remaining told records given self.new }
-        ensures fault { IfErr result (λ fault. (l : Allowance) (told : Option (List ℕ)) (records : List Record) (given : List Tree)
-            → StandsAfter l R.remaining told records given self.old → Explains l told records given fault) }
+        ensures gives { IfOk result (λ found. IfSome found (λ geometry. GivesGeometry R.remaining self.old geometry self.new)) }
+        ensures ends { result ≡ Ok None → Ends R.remaining self.old self.new }
+        ensures fault { IfErr result (λ fault. Faults R.remaining self.old fault) }
         ensures over { IsOver self.old → is_spent self.old ≡ false → result ≡ Ok None }
         ensures ended { result ≡ Ok None → IsOver self.new }
         ensures spent { (result ≡ Err TableFault.Spent) ↔ (is_spent self.old ≡ true) }
@@ -175,12 +163,9 @@ impl<'a, R: Read> TableReader<'a, R> {
     // Reads the next geometry into a flat form, in place of what it holds.
     #[inline(always)]
     fn read_geometry(&mut self, flat: &mut Flat) -> Result<bool, TableFault>
-        ensures gives { IfOk result (λ found. found ≡ true → (l : Allowance) (told : Option (List ℕ)) (records : List Record) (given : List Tree)
-            → StandsAfter l R.remaining told records given self.old → GivesNext l R.remaining told records given flat.new self.new) }
-        ensures ends { IfOk result (λ found. found ≡ false → (l : Allowance) (told : Option (List ℕ)) (records : List Record) (given : List Tree)
-            → StandsAfter l R.remaining told records given self.old → MeetsEnd l R.remaining told records given self.new) }
-        ensures fault { IfErr result (λ fault. (l : Allowance) (told : Option (List ℕ)) (records : List Record) (given : List Tree)
-            → StandsAfter l R.remaining told records given self.old → Explains l told records given fault) }
+        ensures gives { IfOk result (λ found. found ≡ true → Gives R.remaining self.old flat.new self.new) }
+        ensures ends { IfOk result (λ found. found ≡ false → Ends R.remaining self.old self.new) }
+        ensures fault { IfErr result (λ fault. Faults R.remaining self.old fault) }
         ensures some { result ≡ Ok true → 0 < length flat.new }
         ensures over { IsOver self.old → result ≡ Ok false }
         ensures unread { IsOver self.old → self.new ≡ self.old }
@@ -206,8 +191,7 @@ impl<'a, R: Read> TableReader<'a, R> {
     // first is read.
     #[inline(always)]
     fn next_root(&mut self) -> Result<bool, TableFault>
-        ensures reads { (l : Allowance) (told : Option (List ℕ)) (records : List Record) (given : List Tree)
-            → StandsAfter l R.remaining told records given self.old → ReadsRoot l R.remaining told records given self.new result }
+        ensures reads { ShowsRoot R.remaining self.old self.new result }
         ensures waits { result ≡ Ok true → 0 < length (waiting self.new.rows) }
         ensures over { IsOver self.old → result ≡ Ok false }
         ensures unread { IsOver self.old → self.new ≡ self.old }
@@ -229,8 +213,7 @@ impl<'a, R: Read> TableReader<'a, R> {
     fn begin_table(&mut self) -> Result<bool, TableFault>
         requires first { records_read self.old ≡ 0 }
         requires none { waiting self.old.rows ≡ [] }
-        ensures reads { (l : Allowance) (told : Option (List ℕ)) (records : List Record) (given : List Tree)
-            → StandsAfter l R.remaining told records given self.old → ReadsRoot l R.remaining told records given self.new result }
+        ensures reads { ShowsRoot R.remaining self.old self.new result }
         ensures waits { result ≡ Ok true → 0 < length (waiting self.new.rows) }
         ensures ended { result ≡ Ok false → IsOver self.new }
         ensures fresh { IfErr result (λ fault. fault ≢ TableFault.Spent) }
@@ -246,8 +229,7 @@ impl<'a, R: Read> TableReader<'a, R> {
     fn read_header(&mut self) -> Result<(), TableFault>
         requires first { records_read self.old ≡ 0 }
         requires none { waiting self.old.rows ≡ [] }
-        ensures reads { (l : Allowance) (told : Option (List ℕ)) (records : List Record) (given : List Tree)
-            → StandsAfter l R.remaining told records given self.old → ReadsHeader l R.remaining told records given self.new result }
+        ensures reads { ShowsHeader R.remaining self.old self.new result }
         ensures counted { OnOk result (records_read self.new ≡ 1) }
         ensures none { waiting self.new.rows ≡ [] }
         ensures fresh { IfErr result (λ fault. fault ≢ TableFault.Spent) }
@@ -270,8 +252,7 @@ impl<'a, R: Read> TableReader<'a, R> {
     fn first_root(&mut self) -> Result<bool, TableFault>
         requires begun { 0 < records_read self.old }
         requires none { waiting self.old.rows ≡ [] }
-        ensures reads { (l : Allowance) (told : Option (List ℕ)) (records : List Record) (given : List Tree)
-            → StandsAfter l R.remaining told records given self.old → ReadsRoot l R.remaining told records given self.new result }
+        ensures reads { ShowsRoot R.remaining self.old self.new result }
         ensures waits { result ≡ Ok true → 0 < length (waiting self.new.rows) }
         ensures over { IsOver self.old → result ≡ Ok false }
         ensures unread { IsOver self.old → self.new ≡ self.old }
@@ -299,16 +280,14 @@ impl<'a, R: Read> TableReader<'a, R> {
     #[inline(always)]
     fn read_rows(&mut self, flat: &mut Flat) -> Result<(), TableFault>
         requires keeps { Keeps self.old.rows flat.old }
-        ensures gives { OnOk result ((l : Allowance) (told : Option (List ℕ)) (records : List Record) (given : List Tree)
-            → IsReading l R.remaining told records given flat.old self.old → GivesNext l R.remaining told records given flat.new self.new) }
-        ensures fault { IfErr result (λ fault. (l : Allowance) (told : Option (List ℕ)) (records : List Record) (given : List Tree)
-            → IsReading l R.remaining told records given flat.old self.old → Explains l told records given fault) }
+        ensures gives { OnOk result (Completes R.remaining self.old flat.old flat.new self.new) }
+        ensures fault { IfErr result (λ fault. FaultsIn R.remaining self.old flat.old fault) }
         ensures some { OnOk result (0 < length flat.new) }
         ensures fresh { IfErr result (λ fault. fault ≢ TableFault.Spent) }
         ensures same { is_spent self.new ≡ is_spent self.old }
     {
-        // a proof learns by reading it that the number is a u32
-        let _number = self.number;
+        // learnt: the number is a u32
+        let _learnt = self.number;
         for _ in 0..RECORD_CAP {
             match self.read_row(flat) {
                 Ok(true) => {}
@@ -323,8 +302,7 @@ impl<'a, R: Read> TableReader<'a, R> {
     #[inline(always)]
     fn read_row(&mut self, flat: &mut Flat) -> Result<bool, TableFault>
         requires keeps { Keeps self.old.rows flat.old }
-        ensures reads { (l : Allowance) (told : Option (List ℕ)) (records : List Record) (given : List Tree)
-            → IsReading l R.remaining told records given flat.old self.old → ReadsOn l R.remaining told records given flat.new self.new result }
+        ensures reads { ShowsRow R.remaining self.old flat.old flat.new self.new result }
         ensures keeps { IfOk result (λ more. more ≡ true → Keeps self.new.rows flat.new) }
         ensures counts { IfOk result (λ more. more ≡ true → (records_read self.new ≡ records_read self.old + 1) × (records_read self.new < 2 ^ 32)) }
         ensures some { OnOk result (0 < length flat.new) }

@@ -1,5 +1,5 @@
 -- What a row is refused for: the first test that it fails, in the order of the table's reasons (profile).
-use Rattle.std.specs.Prelude.{ℕ, ◌+◌, ◌^◌, Bool, true, false, ◌&&◌, ◌||◌, not, is_some, is_none, nat_lt, nat_le, ℤ, pos, negsuc, List, [], ◌∷◌, length, Option, Some, None, reverse, ◌==◌, if◌then◌else◌}
+use Rattle.std.specs.Prelude.{ℕ, ◌+◌, ◌^◌, Bool, true, false, ◌&&◌, ◌||◌, not, is_some, is_none, nat_lt, nat_le, ℤ, pos, negsuc, List, [], ◌∷◌, ◌++◌, length, Option, Some, None, reverse, ◌==◌, if◌then◌else◌}
 use Rattle.twkb_points.specs.Point.{Point}
 use Rattle.twkb_tree.specs.Limits.{Allowance}
 use Rattle.twkb_tree.specs.Rows.{Row}
@@ -8,19 +8,10 @@ use Rattle.twkb_tree.specs.Accepted.{nest_kept, geometry_rows, point_count}
 
 -- why a row may not come next
 pub data Refusal : Type 0 where
-  BadPlace : Refusal
-  TooDeep : Refusal
-  TooManyNodes : Refusal
-  BadId : Refusal
-  IdNotAllowed : Refusal
-  MixedIds : Refusal
-  BadPrecision : Refusal
-  PrecisionMissing : Refusal
-  PrecisionNotAllowed : Refusal
-  PointsNotAllowed : Refusal
-  CoordinateRange : Refusal
-  TooManyPoints : Refusal
-  PointCount : Refusal
+  BadPlace TooDeep TooManyNodes : Refusal
+  BadId IdNotAllowed MixedIds : Refusal
+  BadPrecision PrecisionMissing PrecisionNotAllowed : Refusal
+  PointsNotAllowed CoordinateRange TooManyPoints PointCount : Refusal
 
 -- from -2 ^ 62 to 2 ^ 62 - 1
 abbrev pub is_coordinate : ℤ → Bool
@@ -46,23 +37,34 @@ pub record Check : Type 0 where
 abbrev pub check : Bool → Refusal → Check
 check holds otherwise = record { holds = holds; otherwise = otherwise }
 
+-- the tests of a row's id under this parent, beside this first child
+abbrev pub id_checks : Option Row → Option Row → Row → List Check
+id_checks p f r = check (id_in_range r.id) BadId ∷ check (id_allowed p r.kind r.id) IdNotAllowed ∷ check (has_same_ids f r.id) MixedIds ∷ []
+
+-- the tests of a row's precision under this parent
+abbrev pub precision_checks : Option Row → Row → List Check
+precision_checks p r =
+    check (precision_in_range r.precision) BadPrecision
+    ∷ check (not (is_whole p) || is_some r.precision) PrecisionMissing
+    ∷ check (is_whole p || is_none r.precision) PrecisionNotAllowed
+    ∷ []
+
+-- the tests of a row's points under this parent, in a geometry with so many points so far
+abbrev pub point_checks : Allowance → Option Row → ℕ → Row → List Check
+point_checks l p points r =
+    check (has_points r.kind || has_none r.points) PointsNotAllowed
+    ∷ check (are_in_range r.points) CoordinateRange
+    ∷ check (nat_le (points + length r.points) l.points) TooManyPoints
+    ∷ check (points_fit r.kind (is_whole p) r.points) PointCount
+    ∷ []
+
 -- the tests of a row in their order: whether it is not too deep to stand here, its parent and the first child, how many rows and points its geometry has
 abbrev pub checks_under : Allowance → Bool → Option Row → Option Row → ℕ → ℕ → Row → List Check
 checks_under l steps p f nodes points r =
     check (steps && has_place p r.kind) BadPlace
     ∷ check (nest_kept l p r.depth) TooDeep
     ∷ check (nat_lt nodes l.nodes) TooManyNodes
-    ∷ check (id_in_range r.id) BadId
-    ∷ check (id_allowed p r.kind r.id) IdNotAllowed
-    ∷ check (has_same_ids f r.id) MixedIds
-    ∷ check (precision_in_range r.precision) BadPrecision
-    ∷ check (not (is_whole p) || is_some r.precision) PrecisionMissing
-    ∷ check (is_whole p || is_none r.precision) PrecisionNotAllowed
-    ∷ check (has_points r.kind || has_none r.points) PointsNotAllowed
-    ∷ check (are_in_range r.points) CoordinateRange
-    ∷ check (nat_le (points + length r.points) l.points) TooManyPoints
-    ∷ check (points_fit r.kind (is_whole p) r.points) PointCount
-    ∷ []
+    ∷ id_checks p f r ++ (precision_checks p r ++ point_checks l p points r)
 
 -- the tests of a row at this depth after the rows so far with the last one first
 abbrev pub checks_at : Allowance → ℕ → List Row → Row → List Check

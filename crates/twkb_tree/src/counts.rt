@@ -7,7 +7,7 @@ use crate::geometry::{Geometry, Members, Shape};
 use crate::lists::Areas;
 use crate::placed::Placed;
 
-/// The rows of polygons: one each, and one for each ring.
+// The rows of polygons: one each, and one for each ring.
 fn rows_of(areas: &Areas) -> u64
     ensures { result ≡ saturated (area_nodes areas.now) }
 {

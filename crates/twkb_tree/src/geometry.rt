@@ -99,7 +99,8 @@ impl Members {
         ensures { result ≡ items.items }
     {
         for member in &items {
-            member.precision();
+            // learnt: that the member is a tree, with its points in range
+            let _learnt = member.precision();
         }
         Members { items }
     }
@@ -121,7 +122,7 @@ impl Members {
     }
 }
 
-/// Whether ids are there only with members, one for each of `count`.
+// Whether ids are there only with members, one for each of `count`.
 fn ids_fit(count: usize, ids: &Ids) -> bool
     ensures { IsTrue result ↔ HasIds ids.now count }
 {
@@ -137,7 +138,7 @@ fn ids_fit(count: usize, ids: &Ids) -> bool
 impl Shape {
     ghost use Rattle.twkb_tree.specs.Shape.{HasFitIds, HasTrees, IsShapeInRange};
 
-    /// Whether the ids of its members fit. Tells a proof of its members and points on the way.
+    // Whether the ids of its members fit. Tells a proof of its members and points on the way.
     fn has_fit_ids(&self) -> bool
         ensures fit { IsTrue result ↔ HasFitIds self.now }
         ensures trees { HasTrees self.now }
@@ -146,15 +147,18 @@ impl Shape {
         match self {
             Shape::Point(None) => true,
             Shape::Point(Some(point)) => {
-                point.x();
+                // learnt: that the point is in range
+                let _learnt = point.x();
                 true
             }
             Shape::Line(points) => {
-                points.as_slice();
+                // learnt: that its points are in range
+                let _learnt = points.as_slice();
                 true
             }
             Shape::Polygon(rings) => {
-                rings.as_slice();
+                // learnt: that its points are in range
+                let _learnt = rings.as_slice();
                 true
             }
             Shape::MultiPoint(points, ids) => ids_fit(points.as_slice().len(), ids),

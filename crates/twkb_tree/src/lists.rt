@@ -39,7 +39,8 @@ impl Item for Pt {
     ghost Fits = { IsInRange };
 
     fn look(&self) {
-        self.x();
+        // learnt: that the point is in range
+        let _learnt = self.x();
     }
 
     fn same(&self, other: &Pt) -> bool {
@@ -55,7 +56,8 @@ impl Item for i64 {
     ghost Fits = { IsId };
 
     fn look(&self) {
-        let _value = *self;
+        // learnt: that the id is one, by its type's range
+        let _learnt = *self;
     }
 
     fn same(&self, other: &i64) -> bool {
@@ -90,7 +92,8 @@ impl<T: Item> Items<T> {
         ensures { result ≡ items.items }
     {
         for item in &items {
-            item.look();
+            // learnt: that the item fits
+            let _learnt = item.look();
         }
         Items { items }
     }
@@ -115,7 +118,8 @@ impl<T: Item> Item for Items<T> {
     ghost Fits = { AllByRecursion T.Fits };
 
     fn look(&self) {
-        self.as_slice();
+        // learnt: that each of its items fits
+        let _learnt = self.as_slice();
     }
 
     #[tactic(auto, using(crate::proofs::Pairs::pairs))]

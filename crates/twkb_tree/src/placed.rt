@@ -7,16 +7,16 @@ ghost use Rattle.twkb_tree.specs.Tree.{flatten, saturated};
 use crate::lists::{Areas, Lines, Pts};
 use twkb_points::{Bounds, merged};
 
-/// What has points, in an order.
-pub trait Placed {
+// What has points, in an order.
+pub(crate) trait Placed {
     // Its points, in order.
     ghost points_of: { Self → List Point };
 
-    /// How many points it has, at most `u64::MAX`.
+    // How many points it has, at most `u64::MAX`.
     fn points(&self) -> u64
         ensures { result ≡ saturated (length (points_of self.now)) };
 
-    /// The least box round its points, and `None` where it has none.
+    // The least box round its points, and `None` where it has none.
     fn bounds(&self) -> Option<Bounds>
         ensures { result ≡ extent (points_of self.now) };
 }

@@ -21,7 +21,7 @@ impl Members {
 }
 
 impl Geometry {
-    /// Whether it and each member of a collection in it, at any depth, have this precision.
+    // Whether it and each member of a collection in it, at any depth, have this precision.
     #[cycle(uniform)]
     fn has_precision(&self, precision: i8) -> bool
         ensures { result ≡ has_precision precision self.now }

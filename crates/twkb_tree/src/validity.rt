@@ -21,7 +21,7 @@ impl Members {
 }
 
 impl Geometry {
-    /// How many collections there are round a member, at most.
+    // How many collections there are round a member, at most.
     #[cycle(nest)]
     fn nest(&self) -> u64
         ensures { result ≡ saturated (nest self.now) }
@@ -37,7 +37,8 @@ impl Geometry {
     pub fn within(&self, limits: &Limits) -> bool
         ensures { IsTrue result ↔ IsValid limits.now self.now }
     {
-        self.precision();
+        // learnt: that it is a tree, with its points in range
+        let _learnt = self.precision();
         if self.nest() > u64::from(limits.nest()) {
             return false;
         }

@@ -1,7 +1,7 @@
 -- Levels with no rows from a depth on.
-use Rattle.std.proofs.Common.{◌≡◌, ◌≢◌, ℕ, ◌-◌, ◌<◌, List, length, get_or, ◌∙◌, ap, inl, inr, arith}
+use Rattle.std.proofs.Common.{◌≡◌, ◌≢◌, ℕ, ◌-◌, ◌<◌, List, length, get_or, ◌≤◌, ◌∙◌, sym, ap, subst, inl, inr, arith}
 use lib.ListN.{replicate, set}
-use Rattle.std.proofs.lemmas.List.{get_or-replicate, get_or-set_same, get_or-set_other, length-set, length-replicate}
+use Rattle.std.proofs.lemmas.List.{get_or-replicate, set-get_or, get_or-set_same, get_or-set_other, length-set, length-replicate}
 use Rattle.std.proofs.lemmas.Bool.{cases_eq}
 use Rattle.twkb_writer.specs.declared.levels.Level.{Level}
 use Rattle.twkb_writer.specs.Depths.{IsBlankFrom}
@@ -21,6 +21,12 @@ set_blank levels i k l none here there =
       | inl same ↦ ap (λ (j : ℕ). get_or (set levels i l) j blank) same ∙ get_or-set_same levels i l blank here ∙ none
       | inr other ↦ get_or-set_other levels i k l blank other ∙ there other
     ]
+
+-- a level from which on there are no rows is blank already
+pub blank_there : (used : ℕ) (levels now : List Level) (depth : ℕ) → IsBlankFrom used levels → levels ≡ now → used ≤ depth → depth < 36 → now ≡ set now depth blank
+blank_there used levels now depth old view above small =
+    let kept : levels ≡ set levels depth blank = sym (ap (λ (l : Level). set levels depth l) (sym (old.blanks depth above small)) ∙ set-get_or levels depth blank) in
+    subst (λ (ls : List Level). ls ≡ set ls depth blank) view kept
 
 -- the last level with rows is made blank
 pub blank_last : (used : ℕ) (levels : List Level) (l : Level) → l ≡ blank → 0 < used → IsBlankFrom used levels → IsBlankFrom (used - 1) (set levels (used - 1) l)

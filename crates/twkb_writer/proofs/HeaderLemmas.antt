@@ -1,6 +1,6 @@
 -- The header of a geometry by its entry is that of its canonical blob.
 use Rattle.std.proofs.Common.{◌≡◌, ℕ, ◌+◌, ◌*◌, ◌%◌, ◌≤◌, Bool, true, false, List, [], ◌∷◌, ◌++◌, length, Option, Some, None, refl, ap, sym, ◌∙◌, append_assoc, arith}
-use Rattle.std.specs.Prelude.{ℤ, pos, negsuc, flat_map, not, ◌&&◌, if◌then◌else◌}
+use Rattle.std.specs.Prelude.{ℤ, pos, negsuc, flat_map, not, ◌&&◌, if◌then◌else◌, is_some}
 use Rattle.std.proofs.lemmas.Int.{ints}
 use Rattle.twkb_num.specs.Zigzag.{zigzag_of}
 use Rattle.twkb_num.specs.Varint.{varint_of}
@@ -14,8 +14,11 @@ use Rattle.twkb_grammar.specs.Items.{header_byte, kind_of, flags}
 use Rattle.twkb_grammar.specs.Written.{is_point, has_any, boxed, box_of, flag_bits, flags_of_tree, kind_of_tree, metadata_byte, framed, written, canonical_blob}
 use Rattle.twkb_grammar.specs.declared.style.Style.{Style}
 use Rattle.twkb_grammar.specs.declared.style.Style.TheVariants.{Full, Plain}
-use Rattle.twkb_writer.specs.Bytes.{type_of, type_byte, body_bits, box_bit, metadata_of, size_bytes, box_bytes, header, signed}
+use Rattle.twkb_header.specs.TypeByte.{type_of, type_byte}
+use Rattle.twkb_header.specs.Metadata.{bit_value}
+use Rattle.twkb_writer.specs.Bytes.{is_bare, metadata_of, size_bytes, box_bytes, header, signed}
 use Rattle.twkb_writer.specs.Sizes.{body_of, own_body, bounds_of, content_of, entry_of}
+use Rattle.twkb_writer.specs.declared.sizes.Entry.{Entry}
 
 -- ---- type byte
 
@@ -60,6 +63,11 @@ box_where true ps = option_box (extent ps)
 pub box_is : (g : Tree) → box_bytes (bounds_of Full g) ≡ box_of g
 box_is g = box_where (boxed g) (flat g)
 
+-- bit 0
+abbrev box_bit : Option Extent → ℕ
+box_bit None = 0
+box_bit (Some b) = 1
+
 some_bit : (e : Extent) (o : Option Extent) → box_bit (joined_options (Some e) o) ≡ 1
 some_bit e None = refl
 some_bit e (Some f) = refl
@@ -73,6 +81,10 @@ boxed_any : (g : Tree) → boxed g ≡ true → has_any (flat g) ≡ true
 boxed_any g h = (both_true (has_any (flat g)) (uniform g) (both_true (not (is_point g)) (has_any (flat g) && uniform g) h).1).0
 
 -- ---- metadata byte
+
+-- bits 4 and 2
+abbrev body_bits : ℕ → Entry → ℕ
+body_bits own e = if is_bare own e then 16 else if e.named then 4 else 0
 
 simple_bits : (style : Style) (p : ℤ) (s : Simple) → body_bits (length (own_points s)) (entry_of style (simple p s)) ≡ flag_bits (flags s)
 simple_bits style p (point None) = refl
@@ -97,11 +109,30 @@ tree_bits style id d (collection p ids end) = refl
 tree_bits style id d (collection p None (g ▷ gs)) = refl
 tree_bits style id d (collection p (Some ids) (g ▷ gs)) = refl
 
+-- the sum of the bits in a full blob
+full_bits : (bare named : Bool) (box : Option Extent) → bit_value (is_some box) 0 + bit_value true 1 + bit_value (not bare && named) 2 + bit_value bare 4 ≡ (if bare then 16 else if named then 4 else 0) + (box_bit box + 2)
+full_bits true named None = refl
+full_bits true named (Some e) = refl
+full_bits false true None = refl
+full_bits false true (Some e) = refl
+full_bits false false None = refl
+full_bits false false (Some e) = refl
+
+-- and in a plain one
+plain_bits : (bare named : Bool) → bit_value false 0 + bit_value false 1 + bit_value (not bare && named) 2 + bit_value bare 4 ≡ (if bare then 16 else if named then 4 else 0)
+plain_bits true named = refl
+plain_bits false true = refl
+plain_bits false false = refl
+
 pub meta_is : (style : Style) (id : Option ℤ) (d : ℕ) (g : Tree) → metadata_of style (length (own_row id d g).points) (entry_of style g) ≡ metadata_byte style g
 meta_is Full id d g =
-    ap (λ n. n + (box_bit (bounds_of Full g) + 2)) (tree_bits Full id d g)
-    ∙ ap (λ n. flag_bits (flags_of_tree g) + (n + 2)) (bit_where (boxed g) (flat g) (boxed_any g))
-meta_is Plain id d g = tree_bits Plain id d g
+    let own = length (own_row id d g).points in
+    full_bits (is_bare own (entry_of Full g)) (entry_of Full g).named (bounds_of Full g)
+    ∙ (ap (λ n. n + (box_bit (bounds_of Full g) + 2)) (tree_bits Full id d g)
+    ∙ ap (λ n. flag_bits (flags_of_tree g) + (n + 2)) (bit_where (boxed g) (flat g) (boxed_any g)))
+meta_is Plain id d g =
+    let own = length (own_row id d g).points in
+    plain_bits (is_bare own (entry_of Plain g)) (entry_of Plain g).named ∙ tree_bits Plain id d g
 
 -- ---- the whole
 

@@ -1,91 +1,116 @@
--- The pass over a flat form of one node.
-use Rattle.std.proofs.Common.{◌≡◌, ℕ, ◌+◌, ◌*◌, ◌<◌, ◌≤◌, List, [], ◌++◌, length, drop, get_or, Option, None, Some, refl, sym, ◌∙◌, ap, subst, arith}
-use Rattle.std.specs.Prelude.{reverse}
-use lib.ListN.{replicate, set}
-use Rattle.std.proofs.lemmas.List.{get_or-replicate, length-replicate}
-use Rattle.twkb_points.specs.Point.{Point}
+-- The sizes of a flat form of one node, which needs no pass.
+use Rattle.std.proofs.Common.{◌≡◌, ℕ, ◌+◌, ◌<◌, ◌≤◌, ◌^◌, false, List, [], ◌∷◌, ◌++◌, length, drop, Option, None, Some, refl, sym, ◌∙◌, ap, subst, arith, append-nil}
+use Rattle.std.specs.Prelude.{ℤ, slice_get}
+use Rattle.std.proofs.lemmas.List.{drop_all}
+use Rattle.twkb_points.specs.Point.{Point, origin}
+use Rattle.twkb_tree.specs.declared.kind.Kind.TheVariants as kind
 use Rattle.twkb_tree.specs.Limits.{largest_limits}
-use Rattle.twkb_tree.specs.Rows.{Row}
+use Rattle.twkb_tree.specs.Tree.{Tree, simple, collection, saturated}
+use Rattle.twkb_tree.specs.Rows.{Row, own_row, rows, row_points}
 use Rattle.twkb_tree.specs.RowLists.{AreValidRowsOfOne}
 use Rattle.twkb_flat.specs.declared.node.Node.{Node}
-use Rattle.twkb_flat.specs.Rows.{IsNode}
+use Rattle.twkb_flat.specs.declared.work.Work.{Work}
+use Rattle.twkb_flat.specs.Rows.{IsNode, row_with}
 use Rattle.twkb_grammar.specs.declared.style.Style.{Style}
+use Rattle.twkb_grammar.specs.declared.style.Style.TheVariants.{Full, Plain}
 use Rattle.twkb_writer.specs.declared.levels.Level.{Level}
 use Rattle.twkb_writer.specs.declared.sizes.Entry.{Entry}
 use Rattle.twkb_writer.specs.declared.tails.Tail.{Tail}
-use Rattle.twkb_writer.specs.Levels.{blank}
-use Rattle.twkb_writer.specs.Measuring.{load, cost_of, row_level, row_entry, points_at, option_list, tail_after, TakenRow}
+use Rattle.twkb_writer.specs.Levels.{blank, entry_for}
+use Rattle.twkb_writer.specs.Measuring.{measured, row_entry, points_at, option_list}
+use Rattle.twkb_writer.specs.Reads.{ReadsExactly}
 use Rattle.twkb_writer.specs.Sizes.{AreSizes}
-use Rattle.twkb_writer.specs.Tails.{tail_of}
-use Rattle.twkb_writer.proofs.MeasuringCaps.{IsCapped, capped, node_depth}
-use Rattle.twkb_writer.proofs.MeasuringPass.{pass_start, pass_step, pass_end}
-use Rattle.twkb_writer.proofs.MeasuringSteps.{Pass}
+use Rattle.twkb_writer.specs.Tails.{step_len, tail_of}
+use Rattle.twkb_writer.proofs.MeasuringPass.{sizes_are}
+use Rattle.twkb_writer.proofs.MeasuringPoints.{own_at, read_back}
+use Rattle.twkb_writer.proofs.ReadLemmas.{exactly_none, exactly_node, exactly_point}
+use Rattle.twkb_writer.proofs.RowStep.{rest_is}
 
--- no rows at any depth
-abbrev none : List Level
-none = replicate 36 blank
+-- ---- the node
 
-none_at : (k : ℕ) → k < 36 → get_or none k blank ≡ blank
-none_at k small = get_or-replicate 36 k blank blank small
+root_of : (g : Tree) (r : Row) (rs : List Row) → rows 0 g ≡ r ∷ rs → r.precision ≡ None → ⊥
+root_of (simple p s) r rs e none =
+    let same : own_row None 0 (simple p s) ≡ r = cc e in
+    let some = ap (λ (q : Row). q.precision) same in cc
+root_of (collection p ids gs) r rs e none =
+    let same : own_row None 0 (collection p ids gs) ≡ r = cc e in
+    let some = ap (λ (q : Row). q.precision) same in cc
 
-reverse_option : (e : Option Entry) → option_list e ≡ reverse (option_list e)
-reverse_option None = refl
-reverse_option (Some e) = refl
+-- the first node has a precision
+pub root_whole : (rs : List Row) (node : Node) → AreValidRowsOfOne largest_limits rs → IsNode rs 0 node → node.row.precision ≡ None → ⊥
+root_whole [] node valid is none = let e = is.here in cc e
+root_whole (r ∷ rs) node valid is none = root_of valid.0 (row_with node.row is.own) is.rest (valid.2 ∙ is.here) none
 
--- a row taken in where there are no others
-taken_alone : (style : Style) (node : Node) (points : Tail) (own : Level) (e : Option Entry) → node.row.depth < 35
-    → own ≡ row_level style node.row.kind node.points node.row.id node.row.precision blank points blank
-    → load own ≤ load blank + load blank + cost_of node.row.precision points.bytes
-    → e ≡ row_entry style node.row.kind node.points node.row.precision blank points
-    → TakenRow style node points none (set (set none (node.row.depth + 1) blank) node.row.depth own) e
-taken_alone style node points own e deep own_is own_small entry_is =
-    let child : blank ≡ get_or none (node.row.depth + 1) blank = sym (none_at (node.row.depth + 1) (omega arith)) in
-    let here : blank ≡ get_or none node.row.depth blank = sym (none_at node.row.depth (omega arith)) in
-    record {
-      own = own;
-      own_is = own_is
-          ∙ ap (λ (l : Level). row_level style node.row.kind node.points node.row.id node.row.precision l points blank) child
-          ∙ ap (λ (l : Level). row_level style node.row.kind node.points node.row.id node.row.precision (get_or none (node.row.depth + 1) blank) points l) here;
-      own_small = subst (λ (l : Level). load own ≤ load (get_or none (node.row.depth + 1) blank) + load l + cost_of node.row.precision points.bytes) here
-          (subst (λ (l : Level). load own ≤ load l + load blank + cost_of node.row.precision points.bytes) child own_small);
-      set_both = refl;
-      entry_is = entry_is ∙ ap (λ (l : Level). row_entry style node.row.kind node.points node.row.precision l points) child;
-    }
+-- no node is behind the only one
+none_behind : (rs : List Row) (node : Node) (is : IsNode rs 0 node) → length rs ≡ 1 → is.rest ≡ []
+none_behind rs node is one = rest_is rs 0 node is ∙ drop_all 1 rs (omega (arith, one))
 
--- the entry of the only row is all sizes
-pub sizes_alone : (style : Style) (rows : List Row) (node : Node) (points : Tail) (own : Level) (e : Option Entry) → AreValidRowsOfOne largest_limits rows → length rows ≡ 1 → IsNode rows 0 node
-    → ((ahead : List Point) → tail_of [] ≡ tail_of ahead → points ≡ tail_of (points_at (drop 0 rows) ++ ahead)) → points.bytes ≤ (tail_of []).bytes + 20 * node.points
-    → own ≡ row_level style node.row.kind node.points node.row.id node.row.precision blank points blank
-    → load own ≤ load blank + load blank + cost_of node.row.precision points.bytes
-    → e ≡ row_entry style node.row.kind node.points node.row.precision blank points
-    → AreSizes style rows (option_list e)
-sizes_alone style rows node points own e valid one is found short own_is own_small entry_is =
-    let caps : IsCapped rows = capped rows valid in
-    let start : Pass style (drop 1 rows) none (tail_of []) [] = pass_start style rows 1 none (tail_of []) [] (omega (arith, one)) (length-replicate 36 blank) none_at refl refl in
-    let taken = taken_alone style node points own e (omega (arith, node_depth rows 0 node caps is)) own_is own_small entry_is in
-    let step : Pass style (drop 0 rows) (set (set none (node.row.depth + 1) blank) node.row.depth own) (tail_after node.row.precision points) (option_list e) =
-    pass_step style rows 1 0 node none _ (tail_of []) points _ e [] (option_list e) (omega arith) caps is start found short taken refl refl in
-    pass_end style rows 0 _ _ (option_list e) (option_list e) valid refl step (reverse_option e)
+-- ---- its points
 
--- the same, with what is known of the first arguments apart
-pub sizes_of_one : (style : Style) (rows : List Row) (node : Node) (points : Tail) (own : Level) (e : Option Entry) (below others : Level) (before : Tail) → below ≡ blank → others ≡ blank → before ≡ tail_of []
-    → AreValidRowsOfOne largest_limits rows → length rows ≡ 1 → IsNode rows 0 node
-    → ((ahead : List Point) → before ≡ tail_of ahead → points ≡ tail_of (points_at (drop 0 rows) ++ ahead)) → points.bytes ≤ before.bytes + 20 * node.points
-    → own ≡ row_level style node.row.kind node.points node.row.id node.row.precision below points others
-    → load own ≤ load below + load others + cost_of node.row.precision points.bytes
-    → e ≡ row_entry style node.row.kind node.points node.row.precision below points
-    → AreSizes style rows (option_list e)
-sizes_of_one style rows node points own e below others before no_below no_others no_before valid one is found short own_is own_small entry_is =
-    sizes_alone style rows node points own e valid one is (λ ahead starts. found ahead (no_before ∙ starts))
-    (subst (λ (t : Tail). points.bytes ≤ t.bytes + 20 * node.points) no_before short)
-    (own_is
-    ∙ ap (λ (l : Level). row_level style node.row.kind node.points node.row.id node.row.precision l points others) no_below
-    ∙ ap (λ (l : Level). row_level style node.row.kind node.points node.row.id node.row.precision blank points l) no_others)
-    (subst (λ (l : Level). load own ≤ load l + load blank + cost_of node.row.precision points.bytes) no_below
-    (subst (λ (l : Level). load own ≤ load below + load l + cost_of node.row.precision points.bytes) no_others own_small))
-    (entry_is ∙ ap (λ (l : Level). row_entry style node.row.kind node.points node.row.precision l points) no_below)
+-- the points up to its end are its own
+pub all_points : (rs : List Row) (node : Node) (is : IsNode rs 0 node) (points before : Tail) → before ≡ tail_of []
+    → ((ahead : List Point) → before ≡ tail_of ahead → points ≡ tail_of (points_at (drop 0 rs) ++ ahead)) → points ≡ tail_of is.own
+all_points rs node is points before none found = found [] none ∙ ap tail_of (append-nil (points_at (drop 0 rs)) ∙ own_at rs 0 node is)
 
--- the entry kept behind none
-pub kept_alone : (style : Style) (rows : List Row) (e : Option Entry) (before kept : List Entry) → before ≡ [] → kept ≡ before ++ option_list e → AreSizes style rows (option_list e) → AreSizes style rows kept
-kept_alone style rows e before kept nothing are sizes =
-    subst (λ (l : List Entry). AreSizes style rows l) (sym (are ∙ ap (λ (l : List Entry). l ++ option_list e) nothing)) sizes
+-- where it has one, the one that was read
+only_point : (rs : List Row) (node : Node) (is : IsNode rs 0 node) (p : Point) → node.points ≡ 1 → slice_get (row_points rs) node.first.0 ≡ Some p → is.own ≡ p ∷ []
+only_point rs node is p one read =
+    let here : node.first.0 ≡ node.first.0 + 0 = omega arith in
+    let all : length is.own ≤ 1 = omega (arith, is.count, one) in
+    sym (own_at rs 0 node is)
+    ∙ read_back rs 0 node is 0 p (omega (arith, one)) (subst (λ (n : ℕ). slice_get (row_points rs) n ≡ Some p) here read)
+    ∙ ap (λ (ps : List Point). p ∷ drop 1 ps) (own_at rs 0 node is)
+    ∙ ap (λ (ps : List Point). p ∷ ps) (drop_all 1 is.own all)
+
+-- the reads of the node and its only point
+pub reads_point : (old next new : Work) (points all : ℕ) → old.node_reads < 2 ^ 64 → old.point_reads < 2 ^ 64
+    → next ≡ record old { node_reads = saturated (old.node_reads + 1) } → new ≡ record next { point_reads = saturated (next.point_reads + 1) }
+    → points ≡ 1 → all ≡ points + 0 → ReadsExactly old 1 all new
+reads_point old next new points all few_nodes few_points node_read point_read one total =
+    let both : ReadsExactly old 1 1 new = exactly_point old next new 1 0 (exactly_node old old next 0 0 (exactly_none old few_nodes few_points) node_read) point_read in
+    let same : 1 ≡ all = omega (arith, one, total) in
+    subst (λ (n : ℕ). ReadsExactly old 1 n new) same both
+
+-- ---- its entry
+
+-- what a pass finds
+measured_one : (style : Style) (rs : List Row) (node : Node) (is : IsNode rs 0 node) → length rs ≡ 1
+    → measured style rs ≡ option_list (row_entry style node.row.kind node.points node.row.precision blank (tail_of is.own))
+measured_one style rs node is one =
+    let entry_with = λ (n : ℕ) (ps : List Point). option_list (row_entry style node.row.kind n node.row.precision blank (tail_of ps)) in
+    ap (measured style) is.here
+    ∙ ap (λ (more : List Row). measured style (row_with node.row is.own ∷ more)) (none_behind rs node is one)
+    ∙ append-nil (entry_with (length is.own) (is.own ++ []))
+    ∙ ap (λ (n : ℕ). entry_with n (is.own ++ [])) is.count
+    ∙ ap (λ (ps : List Point). entry_with node.points ps) (append-nil is.own)
+
+-- the entry of the only node is all sizes
+pub sizes_of_one : (style : Style) (rs : List Row) (node : Node) (p : ℤ) (below : Level) (points : Tail) (e : Entry) → AreValidRowsOfOne largest_limits rs → length rs ≡ 1
+    → (is : IsNode rs 0 node) → node.row.precision ≡ Some p → below ≡ blank → points ≡ tail_of is.own → e ≡ entry_for style node.row.kind p node.points below points
+    → AreSizes style rs (e ∷ [])
+sizes_of_one style rs node p below points e valid one is whole no_rows points_are entry_is =
+    let entry : e ≡ entry_for style node.row.kind p node.points blank (tail_of is.own) =
+    entry_is
+    ∙ ap (λ (l : Level). entry_for style node.row.kind p node.points l points) no_rows
+    ∙ ap (λ (t : Tail). entry_for style node.row.kind p node.points blank t) points_are in
+    sizes_are style rs (e ∷ []) valid
+    (ap (λ (x : Entry). x ∷ []) entry
+    ∙ ap (λ (q : Option ℤ). option_list (row_entry style node.row.kind node.points q blank (tail_of is.own))) (sym whole)
+    ∙ sym (measured_one style rs node is one))
+
+-- of a point
+pub point_entry_is : (style : Style) (p : ℤ) (q : Point) (size : ℕ) → size ≡ step_len origin q
+    → record { size = size; bounds = None; members = 0; named = false } ≡ entry_for style kind.Point p 1 blank (tail_of (q ∷ []))
+point_entry_is Full p q size e = let whole : size ≡ 0 + (0 + 0 + (step_len origin q + 0)) = omega (arith, e) in ap (λ (n : ℕ). record { size = n; bounds = None; members = 0; named = false }) whole
+point_entry_is Plain p q size e = let whole : size ≡ 0 + (0 + 0 + (step_len origin q + 0)) = omega (arith, e) in ap (λ (n : ℕ). record { size = n; bounds = None; members = 0; named = false }) whole
+
+-- and it is all sizes where it is the only node
+pub sizes_of_point : (style : Style) (rs : List Row) (node : Node) (p : ℤ) (q : Point) (e : Entry) → AreValidRowsOfOne largest_limits rs → length rs ≡ 1 → IsNode rs 0 node
+    → node.row.precision ≡ Some p → (node.row.kind ≡ kind.Point) × (node.points ≡ 1) → slice_get (row_points rs) node.first.0 ≡ Some q
+    → e ≡ entry_for style kind.Point p 1 blank (tail_of (q ∷ [])) → AreSizes style rs (e ∷ [])
+sizes_of_point style rs node p q e valid one is whole is_point read entry_is =
+    sizes_of_one style rs node p blank (tail_of is.own) e valid one is whole refl refl
+    (entry_is
+    ∙ ap (λ k. entry_for style k p 1 blank (tail_of (q ∷ []))) (sym is_point.0)
+    ∙ ap (λ (n : ℕ). entry_for style node.row.kind p n blank (tail_of (q ∷ []))) (sym is_point.1)
+    ∙ ap (λ (ps : List Point). entry_for style node.row.kind p node.points blank (tail_of ps)) (sym (only_point rs node is q is_point.1 read)))

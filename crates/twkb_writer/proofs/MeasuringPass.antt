@@ -93,7 +93,8 @@ points_back rows total back node some is =
 pub points_of_one : (rows : List Row) (node : Node) → length rows ≡ 1 → IsNode rows 0 node → length (row_points rows) ≡ node.points + 0
 points_of_one rows node one is = points_back rows 1 0 node (omega arith) is ∙ ap (λ (rs : List Row). node.points + length (row_points rs)) (drop_all 1 rows (omega (arith, one)))
 
-sizes_are : (style : Style) (rows : List Row) (sizes : List Entry) → AreValidRowsOfOne largest_limits rows → sizes ≡ measured style rows → AreSizes style rows sizes
+-- what the pass finds are the sizes
+pub sizes_are : (style : Style) (rows : List Row) (sizes : List Entry) → AreValidRowsOfOne largest_limits rows → sizes ≡ measured style rows → AreSizes style rows sizes
 sizes_are style [] sizes valid e = e
 sizes_are style (r ∷ rs) sizes valid e = (valid.0, valid.1.tree, valid.2, e ∙ ap (measured style) (sym valid.2) ∙ measured_rows style valid.0 valid.1.tree)
 

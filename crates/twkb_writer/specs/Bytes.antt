@@ -1,5 +1,5 @@
 -- The bytes that rows in preorder stand for, with what was measured of their geometries.
-use Rattle.std.specs.Prelude.{ℕ, zero, suc, ◌+◌, ◌*◌, ◌%◌, Bool, true, false, if◌then◌else◌, nat_le, nat_eq, ◌&&◌, List, [], ◌∷◌, ◌++◌, length, drop, flat_map, ℤ, Option, None, Some}
+use Rattle.std.specs.Prelude.{ℕ, zero, suc, ◌+◌, Bool, true, false, if◌then◌else◌, nat_le, nat_eq, not, ◌&&◌, is_some, List, [], ◌∷◌, ◌++◌, length, drop, flat_map, ℤ, Option, None, Some}
 use Rattle.twkb_num.specs.Zigzag.{zigzag_of}
 use Rattle.twkb_num.specs.Varint.{varint_of}
 use Rattle.twkb_points.specs.Point.{Point, origin}
@@ -10,6 +10,9 @@ use Rattle.twkb_tree.specs.declared.kind.Kind.TheVariants as kind
 use Rattle.twkb_tree.specs.Rows.{Row}
 use Rattle.twkb_grammar.specs.declared.style.Style.{Style}
 use Rattle.twkb_grammar.specs.declared.style.Style.TheVariants.{Full, Plain}
+use Rattle.twkb_header.specs.TypeByte.{type_byte}
+use Rattle.twkb_header.specs.Metadata.{metadata_number}
+use Rattle.twkb_header.specs.declared.metadata.MetadataFlags.{MetadataFlags}
 use Rattle.twkb_writer.specs.declared.sizes.Entry.{Entry}
 
 -- ---- numbers
@@ -61,21 +64,6 @@ counts_bytes kind.Collection own members ids = varint_of members ++ ids
 
 -- ---- headers
 
--- the number of a type (TWKB, type and precision); a ring has none
-abbrev pub type_of : Kind → ℕ
-type_of kind.Ring = 0
-type_of kind.Point = 1
-type_of kind.Linestring = 2
-type_of kind.Polygon = 3
-type_of kind.MultiPoint = 4
-type_of kind.MultiLinestring = 5
-type_of kind.MultiPolygon = 6
-type_of kind.Collection = 7
-
--- the type byte: the type, and four bits of the precision's zigzag form (TWKB, type and precision)
-abbrev pub type_byte : Kind → ℤ → ℕ
-type_byte k p = type_of k + 16 * (zigzag_of p % 16)
-
 -- the count is 0
 abbrev pub is_zero : ℕ → Bool
 is_zero zero = true
@@ -85,19 +73,23 @@ is_zero (suc n) = false
 abbrev pub is_bare : ℕ → Entry → Bool
 is_bare own e = is_zero own && is_zero e.members
 
--- bits 4 and 2 (TWKB, metadata header)
-abbrev pub body_bits : ℕ → Entry → ℕ
-body_bits own e = if is_bare own e then 16 else if e.named then 4 else 0
+-- there are sizes and boxes in a style
+abbrev pub is_full : Style → Bool
+is_full Full = true
+is_full Plain = false
 
--- bit 0 (TWKB, metadata header)
-abbrev pub box_bit : Option Extent → ℕ
-box_bit None = 0
-box_bit (Some b) = 1
+-- what the metadata byte says in a style: ids are there only with a body, size and box only in a full blob (TWKB, metadata header; profile)
+abbrev pub flags_of : Style → ℕ → Entry → MetadataFlags
+flags_of style own e = record {
+  has_box = is_full style && is_some e.bounds;
+  has_size = is_full style;
+  has_ids = not (is_bare own e) && e.named;
+  is_empty = is_bare own e;
+}
 
--- the metadata byte in a style: bit 1 in a full blob
+-- the metadata byte in a style
 abbrev pub metadata_of : Style → ℕ → Entry → ℕ
-metadata_of Full own e = body_bits own e + (box_bit e.bounds + 2)
-metadata_of Plain own e = body_bits own e
+metadata_of style own e = metadata_number (flags_of style own e)
 
 -- the size, which a full blob has
 abbrev pub size_bytes : Style → Entry → List ℕ

@@ -5,14 +5,14 @@ ghost use Rattle.twkb_writer.specs.Levels.{blank};
 use crate::levels::Level;
 use std::marker::Model;
 
-/// How many depths a row may have, and one below them.
+// How many depths a row may have, and one below them.
 const DEPTHS: usize = 36;
 
 /// What the rows at each depth come to, with room to measure one flat form after another. A contract sees the list of it.
 #[derive(Drop)]
 pub struct Depths {
     levels: [Level; DEPTHS],
-    /// From here on there are no rows.
+    // From here on there are no rows.
     used: usize,
 }
 
@@ -41,7 +41,7 @@ impl Depths {
         }
     }
 
-    /// Forgets the rows of all depths.
+    // Forgets the rows of all depths.
     pub(crate) fn clear(&mut self)
         ensures { IsBlankFrom 0 self.new }
     {
@@ -52,20 +52,33 @@ impl Depths {
         }
     }
 
-    /// What the rows at a depth come to.
-    pub(crate) fn at(&self, depth: usize) -> Level
+    // What the rows at a depth come to.
+    #[inline(always)]
+    pub(crate) fn at(&self, depth: usize) -> &Level
         requires { depth < 36 }
-        ensures { result ≡ slice_index_or self.now depth blank }
+        ensures { result.now ≡ slice_index_or self.now depth blank }
     {
-        self.levels[depth]
+        &self.levels[depth]
     }
 
-    /// Sets what the rows at a depth come to, and leaves none below.
+    // Leaves no rows at a depth, where there are any.
+    #[inline(always)]
+    fn blank_at(&mut self, depth: usize)
+        requires { depth < 36 }
+        ensures { self.new ≡ slice_set self.old depth blank }
+    {
+        if self.used > depth {
+            self.levels[depth] = Level::blank();
+        }
+    }
+
+    // Sets what the rows at a depth come to, and leaves none below.
+    #[inline(always)]
     pub(crate) fn put(&mut self, depth: usize, own: Level)
         requires { depth < 35 }
         ensures { self.new ≡ slice_set (slice_set self.old (depth + 1) blank) depth own }
     {
-        self.levels[depth + 1] = Level::blank();
+        self.blank_at(depth + 1);
         self.levels[depth] = own;
         if self.used <= depth {
             self.used = depth + 1;

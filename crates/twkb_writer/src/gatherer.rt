@@ -9,7 +9,7 @@ use twkb_io::Sink;
 use twkb_num::zigzag;
 use twkb_points::{Cursor, Pt};
 
-/// A sink, and the piece in which bytes are gathered on their way to it.
+// A sink, and the piece in which bytes are gathered on their way to it.
 #[derive(Drop)]
 pub(crate) struct Gatherer<'a, S> {
     pub(crate) sink: &'a mut S,
@@ -29,7 +29,8 @@ fn step_to(cursor: &mut Cursor, to: Pt) -> (u64, u64)
 impl<'a, S: Sink> Gatherer<'a, S> {
     ghost use Rattle.twkb_writer.specs.Putting.{Moved, Failed};
 
-    /// Puts what the piece holds, and empties it.
+    // Puts what the piece holds, and empties it.
+    #[inline(always)]
     pub(crate) fn flush(&mut self) -> Result<(), S::Fault>
         ensures ok { OnOk result (Moved S.took self.old [] self.new) }
         ensures empty { OnOk result (self.new.piece.now ≡ []) }
@@ -41,6 +42,7 @@ impl<'a, S: Sink> Gatherer<'a, S> {
     }
 
     // Puts what the piece holds where it has no room for a step, two numbers.
+    #[inline(always)]
     fn make_room(&mut self) -> Result<(), S::Fault>
         ensures ok { OnOk result (Moved S.took self.old [] self.new) }
         ensures room { OnOk result (length self.new.piece.now + 20 ≤ 4096) }
@@ -49,12 +51,21 @@ impl<'a, S: Sink> Gatherer<'a, S> {
         if self.piece.has_room() {
             return Ok(());
         }
-        self.sink.put(self.piece.as_slice())?;
-        self.piece.clear();
-        Ok(())
+        self.empty()
     }
 
-    /// Puts two bytes.
+    // Puts what the piece holds, and empties it, as happens once a piece.
+    #[inline(never)]
+    fn empty(&mut self) -> Result<(), S::Fault>
+        ensures ok { OnOk result (Moved S.took self.old [] self.new) }
+        ensures room { OnOk result (length self.new.piece.now + 20 ≤ 4096) }
+        ensures err { IfErr result (λ fault. Failed S.refused self.old [] fault self.new) }
+    {
+        self.flush()
+    }
+
+    // Puts two bytes.
+    #[inline(always)]
     pub(crate) fn put_two(&mut self, bytes: [u8; 2]) -> Result<(), S::Fault>
         ensures ok { OnOk result (Moved S.took self.old bytes self.new) }
         ensures err { IfErr result (λ fault. Failed S.refused self.old bytes fault self.new) }
@@ -66,7 +77,8 @@ impl<'a, S: Sink> Gatherer<'a, S> {
         Ok(())
     }
 
-    /// Puts a number, by its shortest varint.
+    // Puts a number, by its shortest varint.
+    #[inline(always)]
     pub(crate) fn put_number(&mut self, number: u64) -> Result<(), S::Fault>
         ensures ok { OnOk result (Moved S.took self.old (varint_of number) self.new) }
         ensures err { IfErr result (λ fault. Failed S.refused self.old (varint_of number) fault self.new) }
@@ -77,6 +89,7 @@ impl<'a, S: Sink> Gatherer<'a, S> {
     }
 
     // Puts a whole number, by its zigzag form.
+    #[inline(always)]
     fn put_signed(&mut self, number: i64) -> Result<(), S::Fault>
         ensures ok { OnOk result (Moved S.took self.old (signed number) self.new) }
         ensures err { IfErr result (λ fault. Failed S.refused self.old (signed number) fault self.new) }
@@ -84,7 +97,8 @@ impl<'a, S: Sink> Gatherer<'a, S> {
         self.put_number(zigzag(number))
     }
 
-    /// Puts an id, where there is one.
+    // Puts an id, where there is one.
+    #[inline(always)]
     pub(crate) fn put_id(&mut self, id: Option<i64>) -> Result<(), S::Fault>
         ensures ok { OnOk result (Moved S.took self.old (id_bytes id) self.new) }
         ensures err { IfErr result (λ fault. Failed S.refused self.old (id_bytes id) fault self.new) }
@@ -95,7 +109,7 @@ impl<'a, S: Sink> Gatherer<'a, S> {
         }
     }
 
-    /// Puts whole numbers.
+    // Puts whole numbers.
     pub(crate) fn put_all(&mut self, numbers: &[i64]) -> Result<(), S::Fault>
         ensures ok { OnOk result (Moved S.took self.old (flat_map signed numbers.now) self.new) }
         ensures err { IfErr result (λ fault. Failed S.refused self.old (flat_map signed numbers.now) fault self.new) }
@@ -106,7 +120,8 @@ impl<'a, S: Sink> Gatherer<'a, S> {
         Ok(())
     }
 
-    /// Puts the difference to a point, where the cursor moves.
+    // Puts the difference to a point, where the cursor moves.
+    #[inline(always)]
     pub(crate) fn put_step(&mut self, cursor: &mut Cursor, to: Pt) -> Result<(), S::Fault>
         ensures ok { OnOk result (Moved S.took self.old (step_bytes (to.x -ℤ cursor.old.x, to.y -ℤ cursor.old.y)) self.new) }
         ensures moved { OnOk result (cursor.new ≡ to) }

@@ -3,7 +3,7 @@ use crate::sizes::Sizes;
 use twkb_flat::{Flat, Node, NodeId};
 use twkb_grammar::Style;
 
-/// A flat form, the style of its blob, and its sizes in that style.
+// A flat form, the style of its blob, and its sizes in that style.
 #[derive(Clone, Copy)]
 pub(crate) struct Job<'a> {
     pub(crate) flat: &'a Flat,
@@ -11,7 +11,7 @@ pub(crate) struct Job<'a> {
     pub(crate) sizes: &'a Sizes,
 }
 
-/// A node of the flat form, with its place.
+// A node of the flat form, with its place.
 #[derive(Clone, Copy)]
 pub(crate) struct Placed {
     pub(crate) id: NodeId,

@@ -5,15 +5,18 @@ ghost use Rattle.twkb_writer.specs.Tails.{number_len, signed_len};
 
 use twkb_num::{varint_len, zigzag};
 
-/// A number below this has one byte (TWKB specification; LEB128).
-pub const TWO_BYTES: u64 = 1 << 7;
+// A number below this has one byte (TWKB specification; LEB128).
+pub(crate) const TWO_BYTES: u64 = 1 << 7;
 
-/// A number below this has two bytes at most.
-pub const THREE_BYTES: u64 = 1 << 14;
+// A number below this has two bytes at most.
+pub(crate) const THREE_BYTES: u64 = 1 << 14;
 
-/// The bytes of a number that has two at most.
+// A number below this has four bytes at most.
+pub(crate) const FIVE_BYTES: u64 = 1 << 28;
+
+// The bytes of a number that has two at most.
 #[tactic(auto, using(twkb_num::proofs::VarintLemmas::varint_lengths))]
-pub fn short_len(number: u64) -> usize
+pub(crate) fn short_len(number: u64) -> usize
     requires { number < 2 ^ 14 }
     ensures value { result ≡ length (varint_of number) }
     ensures most { result ≤ 2 }
@@ -21,21 +24,23 @@ pub fn short_len(number: u64) -> usize
     if number < TWO_BYTES { 1 } else { 2 }
 }
 
-/// The bytes of a number.
+// The bytes of a number.
 #[tactic(auto, unfolding(crate::specs::Tails::number_len))]
-pub fn number_len(number: u64) -> u64
+pub(crate) fn number_len(number: u64) -> u64
     ensures value { result ≡ number_len number }
     ensures most { result ≤ 10 }
 {
     if number < THREE_BYTES {
         short_len(number) as u64
+    } else if number < FIVE_BYTES {
+        2 + short_len(number / TWO_BYTES / TWO_BYTES) as u64
     } else {
         varint_len(number) as u64
     }
 }
 
-/// The bytes of a whole number.
-pub fn signed_len(number: i64) -> u64
+// The bytes of a whole number.
+pub(crate) fn signed_len(number: i64) -> u64
     ensures value { result ≡ signed_len number }
     ensures most { result ≤ 10 }
 {

@@ -11,24 +11,24 @@ use twkb_grammar::Style;
 use twkb_points::{Bounds, merged};
 use twkb_tree::Kind;
 
-/// What the rows at one depth come to, from a place on up to the next row above them, with all rows below them.
+// What the rows at one depth come to, from a place on up to the next row above them, with all rows below them.
 #[derive(Clone, Copy, Debug, PartialEq, Eq)]
-pub struct Level {
-    /// How many rows there are at this depth.
-    pub members: u32,
-    /// The bytes of their ids.
-    pub ids: u64,
-    /// Whether one has an id.
-    pub named: bool,
-    /// The bytes of whole geometries, and of the counts of parts.
-    pub bytes: u64,
-    /// The bounds of the points of whole geometries.
-    pub bounds: Option<Bounds>,
-    /// The precisions of whole geometries.
-    pub precisions: Precisions,
+pub(crate) struct Level {
+    // How many rows there are at this depth.
+    pub(crate) members: u32,
+    // The bytes of their ids.
+    pub(crate) ids: u64,
+    // Whether one has an id.
+    pub(crate) named: bool,
+    // The bytes of whole geometries, and of the counts of parts.
+    pub(crate) bytes: u64,
+    // The bounds of the points of whole geometries.
+    pub(crate) bounds: Option<Bounds>,
+    // The precisions of whole geometries.
+    pub(crate) precisions: Precisions,
 }
 
-/// The bytes of an id.
+// The bytes of an id.
 fn id_len(id: Option<i64>) -> u64
     ensures value { result ≡ id_len id }
     ensures most { result ≤ 10 }
@@ -39,7 +39,7 @@ fn id_len(id: Option<i64>) -> u64
     }
 }
 
-/// The bytes of a box.
+// The bytes of a box.
 fn box_len(bounds: &Option<Bounds>) -> u64
     ensures value { result ≡ box_len bounds.now }
     ensures most { result ≤ 40 }
@@ -53,15 +53,15 @@ fn box_len(bounds: &Option<Bounds>) -> u64
     }
 }
 
-/// Whether the row is a point.
+// Whether the row is a point.
 fn is_point(kind: Kind) -> bool
     ensures { result ≡ is_point kind }
 {
     matches!(kind, Kind::Point)
 }
 
-/// The bytes of a whole blob with so many bytes of box and body.
-pub fn blob_len(style: Style, size: u64) -> u64
+// The bytes of a whole blob with so many bytes of box and body.
+fn blob_len(style: Style, size: u64) -> u64
     requires room { size ≤ 2 ^ 50 }
     ensures value { result ≡ blob_len style size }
     ensures most { result ≤ size + 12 }
@@ -73,8 +73,8 @@ pub fn blob_len(style: Style, size: u64) -> u64
 }
 
 impl Level {
-    /// No rows.
-    pub fn blank() -> Level
+    // No rows.
+    pub(crate) fn blank() -> Level
         ensures { result ≡ blank }
     {
         Level {
@@ -87,7 +87,7 @@ impl Level {
         }
     }
 
-    /// The bytes of a count, and of ids where members are counted: of a row with so many points of its own and these rows below it.
+    // The bytes of a count, and of ids where members are counted: of a row with so many points of its own and these rows below it.
     fn lead_len(&self, kind: Kind, own: u32) -> u64
         requires room { self.now.ids ≤ 2 ^ 40 }
         ensures value { result ≡ lead_len kind own self.now }
@@ -100,7 +100,7 @@ impl Level {
         }
     }
 
-    /// The bytes of a geometry's body.
+    // The bytes of a geometry's body.
     fn body_len(&self, kind: Kind, own: u32, tail: &Tail) -> u64
         requires ids { self.now.ids ≤ 2 ^ 40 }
         requires bytes { self.now.bytes ≤ 2 ^ 40 }
@@ -114,14 +114,14 @@ impl Level {
         self.lead_len(kind, own) + self.bytes + tail.from_origin()
     }
 
-    /// The bounds of all points of a geometry.
+    // The bounds of all points of a geometry.
     fn all_bounds(&self, tail: &Tail) -> Option<Bounds>
         ensures { result ≡ all_bounds self.now tail.now }
     {
         merged(tail.bounds, self.bounds)
     }
 
-    /// The bounds for a geometry's box, where it has one.
+    // The bounds for a geometry's box, where it has one.
     fn box_for(&self, style: Style, kind: Kind, precision: i8, tail: &Tail) -> Option<Bounds>
         ensures { result ≡ box_for style kind precision self.now tail.now }
     {
@@ -131,7 +131,7 @@ impl Level {
         }
     }
 
-    /// The same in a full blob.
+    // The same in a full blob.
     fn full_box(&self, kind: Kind, precision: i8, tail: &Tail) -> Option<Bounds>
         ensures { result ≡ box_for Full kind precision self.now tail.now }
     {
@@ -141,8 +141,15 @@ impl Level {
         self.all_bounds(tail)
     }
 
-    /// What is measured of a geometry with so many points of its own, these rows below it, and these points up to its end.
-    pub fn entry_for(&self, style: Style, kind: Kind, precision: i8, own: u32, tail: &Tail) -> Entry
+    // What is measured of a geometry with so many points of its own, these rows below it, and these points up to its end.
+    pub(crate) fn entry_for(
+        &self,
+        style: Style,
+        kind: Kind,
+        precision: i8,
+        own: u32,
+        tail: &Tail,
+    ) -> Entry
         requires ids { self.now.ids ≤ 2 ^ 40 }
         requires bytes { self.now.bytes ≤ 2 ^ 40 }
         requires points { tail.now.bytes ≤ 2 ^ 40 }
@@ -159,8 +166,9 @@ impl Level {
         }
     }
 
-    /// These rows with a part of a geometry before them, with so many points of its own and rows below it.
-    pub fn with_part(self, kind: Kind, own: u32, id: Option<i64>, below: &Level) -> Level
+    // These rows with a part of a geometry before them, with so many points of its own and rows below it.
+    #[inline(always)]
+    pub(crate) fn with_part(self, kind: Kind, own: u32, id: Option<i64>, below: &Level) -> Level
         requires members { self.members ≤ 2 ^ 20 }
         requires ids { self.ids ≤ 2 ^ 40 }
         requires bytes { self.bytes ≤ 2 ^ 40 }
@@ -179,9 +187,9 @@ impl Level {
         }
     }
 
-    /// These rows with a geometry before them, whose box and body have so many bytes, with these rows below it and these
-    /// points up to its end.
-    pub fn with_geometry(
+    // These rows with a geometry before them, whose box and body have so many bytes, with these rows below it and these
+    // points up to its end.
+    pub(crate) fn with_geometry(
         self,
         style: Style,
         size: u64,

@@ -1,6 +1,7 @@
 //! Canonical blobs of flat forms: their sizes, and their bytes to a sink.
 #![tactic(auto)]
 
+mod alone;
 mod depths;
 mod encoding;
 mod gatherer;

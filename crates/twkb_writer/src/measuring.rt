@@ -3,12 +3,15 @@ ghost use Rattle.std.specs.Prelude.{◌≡◌, ◌+◌, ◌++◌, ◌*◌, ◌<�
 ghost use Rattle.twkb_points.specs.Point.{Point};
 ghost use Rattle.twkb_tree.specs.Rows.{row_points};
 ghost use Rattle.twkb_flat.specs.Rows.{IsNode};
+ghost use Rattle.twkb_grammar.specs.declared.style.Style.{Style as InStyle};
+ghost use Rattle.twkb_writer.specs.declared.tails.Tail.{Tail as PointsAhead};
 ghost use Rattle.twkb_writer.specs.Levels.{blank, IsSmall};
-ghost use Rattle.twkb_writer.specs.Measuring.{row_level, row_entry, option_list, tail_after, cost_of, points_at, TakenRow, Counted};
+ghost use Rattle.twkb_writer.specs.Measuring.{option_list, tail_after, points_at, TakenRow, Counted};
 ghost use Rattle.twkb_writer.specs.Reads.{ReadsExactly};
 ghost use Rattle.twkb_writer.specs.Sizes.{AreSizes};
 ghost use Rattle.twkb_writer.specs.Tails.{tail_of};
 
+use crate::alone::measure_alone;
 use crate::depths::Depths;
 use crate::levels::Level;
 use crate::sizes::{Entry, Sizes};
@@ -17,17 +20,19 @@ use std::alloc::{AllocError, Global};
 use twkb_flat::{Flat, Node, NodeId, PointId, Work};
 use twkb_grammar::Style;
 
-/// Tells a proof that counts of reads fit 64 bits. It changes nothing.
-fn look_at_reads(work: &Work)
+// Tells a proof that counts of reads fit 64 bits. It changes nothing.
+pub(crate) fn look_at_reads(work: &Work)
     ensures nodes { work.now.node_reads < 2 ^ 64 }
     ensures points { work.now.point_reads < 2 ^ 64 }
 {
-    let _nodes = work.node_reads;
-    let _points = work.point_reads;
+    // learnt: both fit
+    let _learnt = work.node_reads;
+    let _learnt = work.point_reads;
 }
 
-/// The points of a row before those up to the end of its geometry, each read once.
-fn take_points(flat: &Flat, id: NodeId, node: &Node, tail: Tail, work: &mut Work) -> Tail
+// The points of a row before those up to the end of its geometry, each read once.
+#[inline(always)]
+pub(crate) fn take_points(flat: &Flat, id: NodeId, node: &Node, tail: Tail, work: &mut Work) -> Tail
     requires node { IsNode flat.now id.0 node.now }
     requires few { length (row_points flat.now) ≤ 2 ^ 24 }
     requires room { tail.bytes ≤ 2 ^ 30 }
@@ -44,60 +49,68 @@ fn take_points(flat: &Flat, id: NodeId, node: &Node, tail: Tail, work: &mut Work
     tail
 }
 
-/// The rows at a row's depth with this row before them, and its entry where it is a geometry of its own.
-#[inline(always)]
-fn measure_row(
+// Takes in a row that is a geometry of its own, and gives its entry.
+fn take_geometry(
     style: Style,
     node: &Node,
-    below: &Level,
-    tail: &Tail,
-    others: Level,
-) -> (Level, Option<Entry>)
-    requires below { IsSmall below.now }
-    requires others { IsSmall others }
-    requires points { tail.now.bytes ≤ 2 ^ 40 }
-    ensures level { result.0 ≡ row_level style node.now.row.kind node.now.points node.now.row.id node.now.row.precision below.now tail.now others }
-    ensures most { result.0.ids + result.0.bytes ≤ (below.now.ids + below.now.bytes) + (others.ids + others.bytes) + cost_of node.now.row.precision tail.now.bytes }
-    ensures entry { result.1 ≡ row_entry style node.now.row.kind node.now.points node.now.row.precision below.now tail.now }
+    precision: i8,
+    points: &Tail,
+    levels: &mut Depths,
+) -> Entry
+    requires deep { node.now.row.depth < 35 }
+    requires small { (k : ℕ) → k < 36 → IsSmall (slice_index_or levels.old k blank) }
+    requires points { points.now.bytes ≤ 2 ^ 40 }
+    requires whole { node.now.row.precision ≡ Some precision }
+    ensures { TakenRow style node.now points.now levels.old levels.new (Some result) }
 {
-    match node.row.precision {
-        Some(precision) => {
-            let entry = below.entry_for(style, node.row.kind, precision, node.points, tail);
-            let level = others.with_geometry(
-                style,
-                entry.size,
-                precision,
-                node.row.id,
-                below,
-                tail,
-            );
-            (level, Some(entry))
-        }
-        None => (
-            others.with_part(node.row.kind, node.points, node.row.id, below),
-            None,
-        ),
-    }
+    let depth = node.row.depth as usize;
+    let below = levels.at(depth + 1);
+    let entry = below.entry_for(style, node.row.kind, precision, node.points, points);
+    let others = *levels.at(depth);
+    let own = others.with_geometry(style, entry.size, precision, node.row.id, below, points);
+    levels.put(depth, own);
+    entry
 }
 
-/// Takes a row in: sets what the rows at its depth come to, with this row before them, and leaves none below. Gives its
-/// entry, where it is a geometry of its own.
+// Takes in a row that is a part of a geometry.
+#[inline(always)]
+fn take_part(node: &Node, levels: &mut Depths)
+    requires deep { node.now.row.depth < 35 }
+    requires small { (k : ℕ) → k < 36 → IsSmall (slice_index_or levels.old k blank) }
+    requires part { node.now.row.precision ≡ None }
+    ensures { (style : InStyle) (points : PointsAhead) → TakenRow style node.now points levels.old levels.new None }
+{
+    let depth = node.row.depth as usize;
+    let others = *levels.at(depth);
+    let below = levels.at(depth + 1);
+    let own = others.with_part(node.row.kind, node.points, node.row.id, below);
+    levels.put(depth, own);
+}
+
+// Takes a row in: sets what the rows at its depth come to, with this row before them, and leaves none below. Gives its
+// entry, where it is a geometry of its own.
+#[inline(always)]
 fn take_row(style: Style, node: &Node, points: &Tail, levels: &mut Depths) -> Option<Entry>
     requires deep { node.now.row.depth < 35 }
     requires small { (k : ℕ) → k < 36 → IsSmall (slice_index_or levels.old k blank) }
     requires points { points.now.bytes ≤ 2 ^ 40 }
     ensures { TakenRow style node.now points.now levels.old levels.new result }
 {
-    let depth = node.row.depth as usize;
-    let below = levels.at(depth + 1);
-    let others = levels.at(depth);
-    let (level, entry) = measure_row(style, node, &below, points, others);
-    levels.put(depth, level);
-    entry
+    match node.row.precision {
+        Some(precision) => Some(take_geometry(style, node, precision, points, levels)),
+        None => {
+            take_part(node, levels);
+            None
+        }
+    }
 }
 
-/// Keeps an entry, where there is one; the first makes room for `most`, the only growth.
-fn keep(entries: &mut Vec<Entry>, entry: Option<Entry>, most: usize) -> Result<(), AllocError>
+// Keeps an entry, where there is one; the first makes room for `most`, the only growth.
+pub(crate) fn keep(
+    entries: &mut Vec<Entry>,
+    entry: Option<Entry>,
+    most: usize,
+) -> Result<(), AllocError>
     ensures { OnOk result (entries.new.items ≡ entries.old.items ++ option_list entry) }
 {
     let Some(entry) = entry else {
@@ -109,7 +122,7 @@ fn keep(entries: &mut Vec<Entry>, entry: Option<Entry>, most: usize) -> Result<(
     entries.extend_from_slice(&[entry])
 }
 
-/// The points up to the end of their geometry before a row whose points these are, with those after it.
+// The points up to the end of their geometry before a row whose points these are, with those after it.
 fn before_row(node: &Node, points: Tail) -> Tail
     ensures { result ≡ tail_after node.now.row.precision points }
 {
@@ -119,46 +132,8 @@ fn before_row(node: &Node, points: Tail) -> Tail
     }
 }
 
-/// The entry of a flat form of one row, which needs no levels.
-fn measure_one(flat: &Flat, style: Style, work: &mut Work) -> Option<Entry>
-    requires { length flat.now ≡ 1 }
-    ensures sizes { AreSizes style flat.now (option_list result) }
-    ensures reads { ReadsExactly work.old 1 (length (row_points flat.now)) work.new }
-{
-    // a proof learns by counting them that the rows are valid
-    let _total = flat.node_count();
-    look_at_reads(work);
-    let id = NodeId(0);
-    let node = flat.node(id, work);
-    let points = take_points(flat, id, &node, Tail::none(), work);
-    let (_, entry) = measure_row(style, &node, &Level::blank(), &points, Level::blank());
-    entry
-}
-
-/// Makes sizes those of a flat form of one row.
-fn measure_alone(
-    flat: &Flat,
-    style: Style,
-    sizes: &mut Sizes,
-    work: &mut Work,
-) -> Result<(), AllocError>
-    requires { length flat.now ≡ 1 }
-    ensures sizes { OnOk result (AreSizes style flat.now sizes.new) }
-    ensures work { OnOk result (Counted work.old (length (row_points flat.now)) (length flat.now) (length sizes.new) work.new) }
-{
-    let entry = measure_one(flat, style, work);
-    sizes.entries.clear();
-    keep(&mut sizes.entries, entry, 1)?;
-    work.points = work.points.saturating_add(flat.point_count() as u64);
-    work.nodes = work.nodes.saturating_add(1);
-    work.entries = work.entries.saturating_add(sizes.entries.len() as u64);
-    Ok(())
-}
-
-/// Makes sizes those of a flat form in a style, in place of what they were: one entry for each TWKB geometry in preorder,
-/// and none where there is no node. Reads each node and each point once, in one pass at any nesting; counts them and the
-/// entries. Takes memory for the entries, where their room does not suffice.
-pub fn measure_into(
+// Makes sizes those of a flat form, row by row from the last to the first.
+fn measure_rows(
     flat: &Flat,
     style: Style,
     depths: &mut Depths,
@@ -169,9 +144,6 @@ pub fn measure_into(
     ensures work { OnOk result (Counted work.old (length (row_points flat.now)) (length flat.now) (length sizes.new) work.new) }
 {
     let total = flat.node_count();
-    if total == 1 {
-        return measure_alone(flat, style, sizes, work);
-    }
     depths.clear();
     sizes.entries.clear();
     look_at_reads(work);
@@ -189,6 +161,25 @@ pub fn measure_into(
     work.nodes = work.nodes.saturating_add(total as u64);
     work.entries = work.entries.saturating_add(sizes.entries.len() as u64);
     Ok(())
+}
+
+/// Makes sizes those of a flat form in a style, in place of what they were: one entry for each TWKB geometry in preorder,
+/// and none where there is no node. Reads each node and each point once, in one pass at any nesting; counts them and the
+/// entries. Takes memory for the entries, where their room does not suffice.
+pub fn measure_into(
+    flat: &Flat,
+    style: Style,
+    depths: &mut Depths,
+    sizes: &mut Sizes,
+    work: &mut Work,
+) -> Result<(), AllocError>
+    ensures sizes { OnOk result (AreSizes style flat.now sizes.new) }
+    ensures work { OnOk result (Counted work.old (length (row_points flat.now)) (length flat.now) (length sizes.new) work.new) }
+{
+    if flat.node_count() == 1 {
+        return measure_alone(flat, style, sizes, work);
+    }
+    measure_rows(flat, style, depths, sizes, work)
 }
 
 /// The sizes of a flat form in a style, one entry for each TWKB geometry in preorder, and none where there is no node.

@@ -11,14 +11,14 @@ use crate::job::Placed;
 use twkb_flat::{Flat, NodeId, Work};
 use twkb_io::Sink;
 
-/// What is written of a node's members: how many they are, and their ids where these are written.
+// What is written of a node's members: how many they are, and their ids where these are written.
 #[derive(Clone, Copy)]
 pub(crate) struct Members {
     pub(crate) count: u32,
     pub(crate) named: bool,
 }
 
-/// Puts the ids of a node's members. Reads each member once.
+// Puts the ids of a node's members. Reads each member once.
 pub(crate) fn put_ids<S: Sink>(
     flat: &Flat,
     at: &Placed,
@@ -40,7 +40,7 @@ pub(crate) fn put_ids<S: Sink>(
     Ok(())
 }
 
-/// How many members a node has. Reads each once.
+// How many members a node has. Reads each once.
 pub(crate) fn count_members(flat: &Flat, at: &Placed, work: &mut Work) -> u32
     requires { IsNode flat.now at.now.id.0 at.now.node }
     ensures count { result ≡ length (members_of flat.now at.now) }

@@ -2,16 +2,16 @@
 ghost use Rattle.std.specs.Prelude.{◌≡◌, ◌≤◌, ◌<◌, ◌+◌, ◌%◌, ◌++◌, ◌∷◌, ◌^◌, ◌↔◌, [], length, IsTrue, if◌then◌else◌, nat_lt};
 ghost use Rattle.twkb_num.specs.Varint.{varint_of};
 
-use crate::lengths::{THREE_BYTES, TWO_BYTES, short_len};
+use crate::lengths::{FIVE_BYTES, THREE_BYTES, TWO_BYTES, short_len};
 use std::marker::Model;
 
-/// How many bytes a piece holds.
+// How many bytes a piece holds.
 const ROOM: usize = 4096;
 
-/// The most bytes of two numbers.
+// The most bytes of two numbers.
 const STEP: usize = 20;
 
-/// In each byte of a number but the last this bit is set (TWKB specification; LEB128).
+// In each byte of a number but the last this bit is set (TWKB specification; LEB128).
 const GOES_ON: u8 = 0x80;
 
 /// What gathers bytes until it has no room for a step more. A contract sees the bytes that it holds.
@@ -53,28 +53,29 @@ impl Piece {
         }
     }
 
-    /// The bytes.
+    // The bytes.
     pub(crate) fn as_slice(&self) -> &[u8]
         ensures { result.now ≡ self.now }
     {
         &self.bytes[..self.len]
     }
 
-    /// Forgets the bytes.
+    // Forgets the bytes.
     pub(crate) fn clear(&mut self)
         ensures { self.new ≡ [] }
     {
         self.len = 0;
     }
 
-    /// Whether there is room for a step more.
+    // Whether there is room for a step more.
     pub(crate) fn has_room(&self) -> bool
         ensures { IsTrue result ↔ (length self.now + 20 ≤ 4096) }
     {
         self.len <= ROOM - STEP
     }
 
-    /// Appends a byte.
+    // Appends a byte.
+    #[inline(always)]
     pub(crate) fn push(&mut self, byte: u8)
         requires { length self.old < 4096 }
         ensures { self.new ≡ self.old ++ byte ∷ [] }
@@ -85,6 +86,7 @@ impl Piece {
     }
 
     // Appends a number that has two bytes at most, both written at once.
+    #[inline(always)]
     fn push_short(&mut self, number: u64)
         requires small { number < 2 ^ 14 }
         requires room { length self.old + 2 ≤ 4096 }
@@ -96,7 +98,22 @@ impl Piece {
         self.len = at + short_len(number);
     }
 
+    // Appends a number that has three bytes or four.
+    #[inline(never)]
+    fn push_middle(&mut self, number: u64)
+        requires more { 2 ^ 14 ≤ number }
+        requires small { number < 2 ^ 28 }
+        requires room { length self.old + 4 ≤ 4096 }
+        ensures { self.new ≡ self.old ++ varint_of number }
+    {
+        let high = number / TWO_BYTES;
+        self.push(lead_byte(number));
+        self.push(lead_byte(high));
+        self.push_short(high / TWO_BYTES);
+    }
+
     // Appends any number, byte by byte.
+    #[inline(never)]
     fn push_long(&mut self, number: u64)
         requires { length self.old + 10 ≤ 4096 }
         ensures { self.new ≡ self.old ++ varint_of number }
@@ -109,7 +126,8 @@ impl Piece {
         self.push(rest as u8);
     }
 
-    /// Appends a number, by its shortest varint.
+    // Appends a number, by its shortest varint.
+    #[inline(always)]
     pub(crate) fn push_number(&mut self, number: u64)
         requires { length self.old + 10 ≤ 4096 }
         ensures value { self.new ≡ self.old ++ varint_of number }
@@ -117,6 +135,8 @@ impl Piece {
     {
         if number < THREE_BYTES {
             self.push_short(number);
+        } else if number < FIVE_BYTES {
+            self.push_middle(number);
         } else {
             self.push_long(number);
         }

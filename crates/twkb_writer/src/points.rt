@@ -11,7 +11,8 @@ use twkb_flat::{Flat, Node, PointId, Work};
 use twkb_io::Sink;
 use twkb_points::Cursor;
 
-/// Puts the way of a cursor through a node's own points. Reads each once.
+// Puts the way of a cursor through a node's own points. Reads each once.
+#[inline(always)]
 pub(crate) fn put_points<S: Sink>(
     flat: &Flat,
     node: &Node,

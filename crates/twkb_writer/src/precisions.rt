@@ -2,20 +2,20 @@
 ghost use Rattle.std.specs.Prelude.{◌≡◌};
 ghost use Rattle.twkb_writer.specs.Precisions.{agreed, all_are};
 
-/// What is known of the precisions of some geometries.
+// What is known of the precisions of some geometries.
 #[derive(Clone, Copy, Debug, PartialEq, Eq)]
-pub enum Precisions {
-    /// There is no geometry.
+pub(crate) enum Precisions {
+    // There is no geometry.
     Absent,
-    /// All have this one.
+    // All have this one.
     One(i8),
-    /// Two differ.
+    // Two differ.
     Several,
 }
 
 impl Precisions {
-    /// Whether all are this one.
-    pub fn all_are(self, precision: i8) -> bool
+    // Whether all are this one.
+    pub(crate) fn all_are(self, precision: i8) -> bool
         ensures { result ≡ all_are precision self }
     {
         match self {
@@ -25,8 +25,8 @@ impl Precisions {
         }
     }
 
-    /// What is known of these and of others.
-    pub fn and(self, others: Precisions) -> Precisions
+    // What is known of these and of others.
+    pub(crate) fn and(self, others: Precisions) -> Precisions
         ensures { result ≡ agreed self others }
     {
         match (self, others) {

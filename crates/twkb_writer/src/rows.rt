@@ -39,6 +39,7 @@ fn put_members<S: Sink>(
 }
 
 // Puts what stands before a node's points, behind its header.
+#[inline(always)]
 fn put_counts<S: Sink>(
     flat: &Flat,
     at: &Placed,
@@ -63,6 +64,7 @@ fn put_counts<S: Sink>(
 }
 
 // Puts what stands between the header of a geometry and the points of its row.
+#[inline(always)]
 fn put_own<S: Sink>(
     flat: &Flat,
     at: &Placed,
@@ -86,6 +88,7 @@ fn put_own<S: Sink>(
 }
 
 // Puts what stands before the points of a part of a geometry.
+#[inline(always)]
 fn put_part<S: Sink>(
     flat: &Flat,
     at: &Placed,
@@ -107,12 +110,13 @@ fn put_part<S: Sink>(
 
 // Where the way stands, and the entry of the next geometry.
 #[derive(Clone, Copy, Debug)]
-pub struct Place {
-    pub(crate) cursor: Cursor,
-    pub(crate) entry: usize,
+struct Place {
+    cursor: Cursor,
+    entry: usize,
 }
 
 // Puts what stands before the points of a row, and gives the place where these begin.
+#[inline(always)]
 fn put_lead<S: Sink>(
     job: &Job<'_>,
     at: &Placed,
@@ -146,7 +150,7 @@ fn put_lead<S: Sink>(
     }
 }
 
-/// Puts all rows with their entries, in one pass.
+// Puts all rows with their entries, in one pass.
 pub(crate) fn put_rows<S: Sink>(
     job: &Job<'_>,
     gatherer: &mut Gatherer<'_, S>,

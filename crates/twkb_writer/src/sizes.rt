@@ -5,16 +5,16 @@ use std::alloc::Global;
 use std::marker::Model;
 use twkb_points::Bounds;
 
-/// What is measured of a TWKB geometry before its header can be written.
+// What is measured of a TWKB geometry before its header can be written.
 #[derive(Clone, Copy, Debug, PartialEq, Eq)]
-pub struct Entry {
-    /// The bytes behind the size up to the geometry's end: box and body.
+pub(crate) struct Entry {
+    // The bytes behind the size up to the geometry's end: box and body.
     pub(crate) size: u64,
-    /// The bounds of all its points, where it has a box.
+    // The bounds of all its points, where it has a box.
     pub(crate) bounds: Option<Bounds>,
-    /// How many members or rings it has.
+    // How many members or rings it has.
     pub(crate) members: u32,
-    /// Whether its members have ids.
+    // Whether its members have ids.
     pub(crate) named: bool,
 }
 

@@ -6,19 +6,19 @@ ghost use Rattle.twkb_writer.specs.Tails.{step_len, from_origin, tail_of};
 use crate::lengths::signed_len;
 use twkb_points::{Bounds, Cursor, Pt, merged};
 
-/// What the points from a place on up to the end of their geometry come to.
+// What the points from a place on up to the end of their geometry come to.
 #[derive(Clone, Copy, Debug, PartialEq, Eq)]
-pub struct Tail {
-    /// The first of them.
-    pub first: Option<Pt>,
-    /// The bytes of the differences of all but the first, each from the point before it.
-    pub bytes: u64,
-    /// Their bounds.
-    pub bounds: Option<Bounds>,
+pub(crate) struct Tail {
+    // The first of them.
+    pub(crate) first: Option<Pt>,
+    // The bytes of the differences of all but the first, each from the point before it.
+    pub(crate) bytes: u64,
+    // Their bounds.
+    pub(crate) bounds: Option<Bounds>,
 }
 
-/// The bytes of the way from one point to the next.
-pub fn step_len(from: Pt, to: Pt) -> u64
+// The bytes of the way from one point to the next.
+fn step_len(from: Pt, to: Pt) -> u64
     ensures value { result ≡ step_len from to }
     ensures most { result ≤ 20 }
 {
@@ -29,8 +29,8 @@ pub fn step_len(from: Pt, to: Pt) -> u64
 }
 
 impl Tail {
-    /// No points.
-    pub fn none() -> Tail
+    // No points.
+    pub(crate) fn none() -> Tail
         ensures { result ≡ tail_of [] }
     {
         Tail {
@@ -40,8 +40,8 @@ impl Tail {
         }
     }
 
-    /// The same with a point before them.
-    pub fn behind(self, point: Pt) -> Tail
+    // The same with a point before them.
+    pub(crate) fn behind(self, point: Pt) -> Tail
         requires room { self.bytes ≤ 2 ^ 40 }
         ensures value { (ps : List Point) → self ≡ tail_of ps → result ≡ tail_of (point ∷ ps) }
         ensures most { result.bytes ≤ self.bytes + 20 }
@@ -57,8 +57,8 @@ impl Tail {
         }
     }
 
-    /// The bytes of all their differences, where the first counts from (0, 0).
-    pub fn from_origin(&self) -> u64
+    // The bytes of all their differences, where the first counts from (0, 0).
+    pub(crate) fn from_origin(&self) -> u64
         requires room { self.now.bytes ≤ 2 ^ 40 }
         ensures value { result ≡ from_origin self.now }
         ensures most { result ≤ self.now.bytes + 20 }

@@ -17,7 +17,7 @@ use twkb_grammar::Style;
 use twkb_points::Pt;
 use twkb_tree::{Geometry, Ids, Item, Kind, Lines, Members, Pts, Shape, id_at, own_parts};
 
-/// A part of a geometry that is no geometry of its own: a point, line, ring or polygon.
+// A part of a geometry that is no geometry of its own: a point, line, ring or polygon.
 trait Part: Item {
     // The points of its own row.
     ghost own: { Self → List Point };
@@ -25,11 +25,11 @@ trait Part: Item {
     // All its points, in order.
     ghost all: { Self → List Point };
 
-    /// The points of its own row. Takes no memory.
+    // The points of its own row. Takes no memory.
     fn own_points(&self) -> &[Pt]
         ensures { result.now ≡ own self.now };
 
-    /// Its points before those up to the end of the geometry.
+    // Its points before those up to the end of the geometry.
     fn in_front_of(&self, tail: Tail) -> Tail
         requires room { tail.bytes + 20 * length (all self.now) ≤ 2 ^ 40 }
         ensures value { (ahead : List Point) → tail ≡ tail_of ahead → result ≡ tail_of (all self.now ++ ahead) }
@@ -78,7 +78,7 @@ impl Part for Lines {
     }
 }
 
-/// The points of parts before those up to the end of the geometry.
+// The points of parts before those up to the end of the geometry.
 fn tail_before<T: Part>(parts: &[T], tail: Tail) -> Tail
     requires room { tail.bytes + 20 * length (flat_map T.all parts.now) ≤ 2 ^ 40 }
     ensures value { (ahead : List Point) → tail ≡ tail_of ahead → result ≡ tail_of (flat_map T.all parts.now ++ ahead) }
@@ -91,7 +91,7 @@ fn tail_before<T: Part>(parts: &[T], tail: Tail) -> Tail
     tail
 }
 
-/// All points of a part, with none after them.
+// All points of a part, with none after them.
 fn whole_tail<T: Part>(part: &T) -> Tail
     requires few { length (T.all part.now) ≤ 2 ^ 24 }
     ensures value { result ≡ tail_of (T.all part.now) }
@@ -100,7 +100,7 @@ fn whole_tail<T: Part>(part: &T) -> Tail
     part.in_front_of(Tail::none())
 }
 
-/// What rings, or members that are points or linestrings, come to.
+// What rings, or members that are points or linestrings, come to.
 fn parts_level<T: Part>(kind: Kind, parts: &[T], ids: &Ids) -> Level
     requires few { length parts.now ≤ 2 ^ 20 }
     requires few_points { length (flat_map T.own parts.now) ≤ 2 ^ 24 }
@@ -115,7 +115,7 @@ fn parts_level<T: Part>(kind: Kind, parts: &[T], ids: &Ids) -> Level
     level
 }
 
-/// What members that are polygons come to.
+// What members that are polygons come to.
 fn areas_level(areas: &[Lines], ids: &Ids) -> Level
     requires few { area_nodes areas.now ≤ 2 ^ 20 }
     requires few_points { length (flat_map flatten areas.now) ≤ 2 ^ 24 }
@@ -130,7 +130,7 @@ fn areas_level(areas: &[Lines], ids: &Ids) -> Level
     level
 }
 
-/// The points of the geometry itself, those of its parts included.
+// The points of the geometry itself, those of its parts included.
 fn own_tail(geometry: &Geometry) -> Tail
     requires few { length (flat geometry.now) ≤ 2 ^ 24 }
     ensures value { result ≡ tail_of (way_of geometry.now) }
@@ -145,7 +145,7 @@ fn own_tail(geometry: &Geometry) -> Tail
     }
 }
 
-/// What the members of a collection come to, with these ids.
+// What the members of a collection come to, with these ids.
 #[cycle(measuring)]
 #[tactic(auto, using(twkb_tree::specs::Size::member_smaller))]
 fn members_level(members: &Members, ids: &Ids) -> Level
@@ -161,7 +161,7 @@ fn members_level(members: &Members, ids: &Ids) -> Level
     level
 }
 
-/// What the rows below a geometry's own come to.
+// What the rows below a geometry's own come to.
 #[cycle(measuring)]
 fn below(geometry: &Geometry) -> Level
     requires { IsWithinCaps (nodes geometry.now) (length (flat geometry.now)) }
@@ -178,7 +178,7 @@ fn below(geometry: &Geometry) -> Level
     }
 }
 
-/// The rows at a depth with a geometry before them, which has this id.
+// The rows at a depth with a geometry before them, which has this id.
 #[cycle(measuring)]
 fn with_member(geometry: &Geometry, id: Option<i64>, others: Level) -> Level
     requires caps { IsWithinCaps (nodes geometry.now) (length (flat geometry.now)) }

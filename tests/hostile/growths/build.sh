@@ -11,7 +11,7 @@ cp -a crates crates.txt HANDLES "$copy"
 git init --quiet "$copy"
 mkdir -p "$copy/crates/growths/src"
 cp tests/hostile/growths/main.rt.in "$copy/crates/growths/src/main.rt"
-echo "growths: twkb_io twkb_geom twkb_flat twkb_grammar twkb_writer twkb_table twkb_convert" >> "$copy/crates.txt"
+echo "growths: twkb_io twkb_geom twkb_blob twkb_table twkb_convert" >> "$copy/crates.txt"
 # without a word the program ends with status 2, which says that it was built
 status=0
 (cd "$copy/crates/growths" && rt run < /dev/null) || status=$?

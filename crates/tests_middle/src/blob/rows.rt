@@ -7,7 +7,7 @@ use super::answers::{
 use std::alloc::Global;
 use std::io::Read;
 use std::process::Abort;
-use twkb_blob::{BlobFault, BlobReason, Reader, Session};
+use twkb_blob::{BlobFault, BlobReason, Reader, Session, Spans};
 use twkb_geom::{Flat, Limits};
 use twkb_io::{Fuse, FuseEnd, InFault, Input, Tap};
 
@@ -187,25 +187,44 @@ fn each_growth_of_a_sessions_rows_may_be_refused(rt: HostRuntime) {
     assert_lends_or_memory(&rt, &mut session);
 }
 
-/// How many spans `next_spans` gives, and its fault, if any.
-fn count_of_spans<R: Read>(alloc: Global, tap: &mut Tap<R>) -> Result<usize, BlobFault> {
+/// Whether `next_spans` answers so, with so many rows and spans.
+fn gives_spans<R: Read>(
+    alloc: Global,
+    reader: &mut Reader<'_, R>,
+    flat: &mut Flat,
+    spans: &mut Spans,
+    answer: bool,
+    count: u32,
+) -> bool {
+    reader.next_spans(alloc, flat, spans) == Ok(answer)
+        && flat.node_count() == count
+        && spans.as_slice().len() == count as usize
+}
+
+/// Whether a reader gives four rows and spans, one in their place, and none at the end; or lacks memory for the four.
+fn four_and_one<R: Read>(alloc: Global, tap: &mut Tap<R>) -> bool {
     let mut reader = Reader::new(Input::new(tap), Limits::standard());
-    match reader.next_spans(alloc) {
-        Ok(Some(spans)) => Ok(spans.as_slice().len()),
-        Ok(None) => Ok(0),
-        Err(fault) => Err(fault),
+    let mut flat = Flat::new(alloc);
+    let mut spans = Spans::new(alloc);
+    match reader.next_spans(alloc, &mut flat, &mut spans) {
+        Ok(is_made) => {
+            is_made
+                && has(&flat, 4, 1)
+                && spans.as_slice().len() == 4
+                && gives_spans(alloc, &mut reader, &mut flat, &mut spans, true, 1)
+                && gives_spans(alloc, &mut reader, &mut flat, &mut spans, false, 0)
+        }
+        Err(fault) => {
+            fault == BlobFault::Memory && flat.is_empty() && spans.as_slice().len() == 0
+        }
     }
 }
 
 #[test]
-fn spans_are_given_without_a_geometry(rt: HostRuntime) {
-    let bytes = b"\x07\x00\x02\x07\x00\x01\xA1\x00\x02\x02\x02\x10";
+fn the_spans_of_a_blob_take_the_place_of_those_before(rt: HostRuntime) {
+    let bytes = b"\x07\x00\x02\x07\x00\x01\xA1\x00\x02\x02\x02\x10\x01\x00\x04\x02";
     let mut tap = Tap::new(bytes.as_slice());
-    let count = count_of_spans(rt.alloc(), &mut tap);
-    assert!(rt;
-        count == Ok(4) || count == Err(BlobFault::Memory),
-        "four headers"
-    );
+    assert!(rt; four_and_one(rt.alloc(), &mut tap), "four headers, and one");
 }
 
 /// A line of three points, and behind it, in 12 bytes, one that announces 2^24 points and has three.

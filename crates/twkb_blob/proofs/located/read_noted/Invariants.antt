@@ -6,8 +6,8 @@ use Rattle.twkb_blob.specs.Located.{notes_at}
 use Rattle.twkb_blob.proofs.located.read_noted.Given as goal
 
 -- some bytes left the input, the engine stands for them, what was noted are their spans, and no read failed
-abbrev pub invariant-loop-notes : goal.invariant-loop-notes
-invariant-loop-notes g l =
+abbrev pub invariant-loop-engine : goal.invariant-loop-engine
+invariant-loop-engine g l =
     record {
       read : (bs : List ℕ) × Left l.initial.input l.input bs × (s : StandsAt bs l.flat l.engine) × (l.notes ≡ notes_at l.start s);
       spent : is_spent l.input ≡ true → is_spent l.initial.input ≡ true;
@@ -16,5 +16,5 @@ invariant-loop-notes g l =
       failures : input_failures l.input ≡ input_failures l.initial.input;
     }
 
-abbrev pub decreases-loop-notes : goal.decreases-loop-notes
-decreases-loop-notes g l = 2 ^ 62 - given l.input
+abbrev pub decreases-loop-engine : goal.decreases-loop-engine
+decreases-loop-engine g l = 2 ^ 62 - given l.input

@@ -1,6 +1,7 @@
-use Rattle.twkb_engine.specs.Standing.{allowance_of}
-use Rattle.twkb_blob.proofs.Trees.{spans_row}
+use Rattle.twkb_blob.proofs.Trees.{some_row}
 use Rattle.twkb_blob.proofs.located.read_spans.Goals as goal
 
-pub returns-clause-some : goal.returns-clause-some
-returns-clause-some g c = spans_row (allowance_of c.restart.new.self) c.args.input.now c.read_noted.new.input c.read_noted.result c.read_noted.new.flat c.read_noted.ensures.next
+pub returns-in-Ok-true-clause-some : goal.returns-in-Ok-true-clause-some
+returns-in-Ok-true-clause-some g c = λ e.
+    let (t, has, is) = rw c.in-Ok-true.field-0-test at c.in-Ok-true.ensures.next in
+    some_row c.read_noted.new.flat t is

@@ -1,7 +1,17 @@
-use Rattle.std.proofs.Common.{◌∙◌, arith, rules}
-use Rattle.twkb_convert.proofs.BlobsSent.{cut_blobs, follows_trans, sent_more}
+use Rattle.std.proofs.Common.{◌∙◌, refl, arith, rules}
+use Rattle.twkb_convert.proofs.BlobsSent.{cut_blobs, follows_trans, sent_more, sent_none}
 use Rattle.twkb_convert.proofs.LocatedLemmas.{located_long}
 use Rattle.twkb_convert.proofs.blob_sending.send_blobs.Goals as goal
+
+pub loop-done-init : goal.loop-done-init
+loop-done-init g c = record {
+  sent = sent_none c.args.what g.W.Write.contents c.args.reader.now c.args.output.now;
+  follows = record { same_tap = refl; limits = refl; failures = refl; within = c.args.reader.now.input.within };
+  reader = c.requires.reader;
+  going_on = c.requires.going_on;
+  input = c.requires.input;
+  output = c.requires.output;
+}
 
 pub overflow_add-done : goal.overflow_add-done
 overflow_add-done g c =
@@ -29,4 +39,4 @@ loop-done-preserved g c =
 pub returns-in-Err-clause-err : goal.returns-in-Err-clause-err
 returns-in-Err-clause-err g c =
     let kept = c.loop-done.invariant in
-    cut_blobs c.args.what g.W.Write.contents _ _ _ _ _ _ c.loop-done.done c.in-Err.obstacle kept.sent kept.follows.limits kept.output c.in-Err.ensures.err
+    cut_blobs c.args.what g.W.Write.contents _ _ _ _ _ _ c.loop-done.done c.in-Err.why kept.sent kept.follows.limits kept.output c.in-Err.ensures.err

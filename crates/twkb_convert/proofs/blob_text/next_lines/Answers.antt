@@ -4,4 +4,4 @@ use Rattle.twkb_convert.proofs.blob_text.next_lines.Goals as goal
 
 pub returns-clause-more : goal.returns-clause-more
 returns-clause-more g c = λ found.
-    lines_given c.args.reader.now c.next_spans.new.self _ _ c.put_lines.new.text.items (c.in-Ok-Some.ensures.next c.requires.reader c.requires.going_on) c.in-Ok-Some.field-0-is (search rules)
+    lines_given c.args.reader.now c.next_spans.new.self c.in-Ok-true.field-0 c.next_spans.new.flat c.next_spans.new.spans c.put_lines.new.text.items (c.in-Ok-true.ensures.next c.requires.reader c.requires.going_on) (search rules) (search rules)

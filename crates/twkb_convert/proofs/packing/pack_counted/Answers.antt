@@ -9,7 +9,7 @@ pub returns-in-Err-clause-err : goal.returns-in-Err-clause-err
 returns-in-Err-clause-err g c =
     stopped_packing c.args.style c.args.limits g.R.Read.remaining g.W.Write.contents _ _ _ _ c.new-output.result c.send_table_and_flush-sending.new.output c.has_changed-has_read_failed.result c.failures-reads_failed.result c.failures.result c.sent-sent.result
     (search rules) (search rules) (search rules) (search rules) (search rules) (search rules) (search rules)
-    _ c.in-Err.stop _ (search rules) c.packing_cause-cause.ensures.devices (c.packing_cause-cause.ensures.explains c.args.style c.args.limits _ _) c.in-Err.ensures.sends
+    _ c.in-Err.stop _ (search rules) c.packing_cause-cause.ensures.devices c.packing_cause-cause.ensures.explains c.in-Err.ensures.sends
 
 pub returns-in-Ok-clause-err : goal.returns-in-Ok-clause-err
 returns-in-Ok-clause-err g c =

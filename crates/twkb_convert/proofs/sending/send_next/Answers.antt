@@ -13,7 +13,7 @@ pub returns-in-Err-Memory : goal.returns-in-Err-Memory
 returns-in-Err-Memory g c = record {
   sends = λ l told records given stands.
       let gives = c.in-Ok-true.ensures.gives (search rules) l told records given stands in
-      rw c.in-Err-Memory.field-0-is at (c.in-Err-Memory.ensures.err gives.geometry gives.valid.tree gives.rows);
+      (rw c.in-Err-Memory.field-0-is at (c.in-Err-Memory.ensures.err gives.geometry gives.valid.tree gives.rows), tt);
 }
 
 pub returns-in-Err-Sink : goal.returns-in-Err-Sink

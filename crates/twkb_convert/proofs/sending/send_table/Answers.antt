@@ -1,5 +1,5 @@
 use Rattle.std.proofs.Common.{◌∙◌, arith}
-use Rattle.twkb_convert.proofs.SendingLemmas.{sent_more, stopped_next, stopped_uncounted}
+use Rattle.twkb_convert.proofs.SendingLemmas.{sent_more, sent_table, stopped_next, stopped_uncounted}
 use Rattle.twkb_convert.proofs.sending.send_table.Goals as goal
 
 pub returns-in-Err : goal.returns-in-Err
@@ -9,6 +9,12 @@ returns-in-Err g c =
       sends = stopped_next c.args.style c.args.limits g.R.Read.remaining g.W.Write.contents _ _ _ c.send_next.new.table _ _ _ c.loop-done.done _ c.send_next.new.work c.in-Err.why s c.loop-done.invariant.fresh
           (c.in-Err.ensures.sends c.args.limits _ s.records s.geometries s.stands);
     }
+
+pub returns-in-Ok-false : goal.returns-in-Ok-false
+returns-in-Ok-false g c =
+    let s = c.loop-done.invariant.sent in
+    let ends = rw c.in-Ok-false.field-0-test at (c.in-Ok-false.ensures.sends c.args.limits _ s.records s.geometries s.stands) in
+    record { sends = sent_table c.args.style c.args.limits g.R.Read.remaining g.W.Write.contents _ _ _ _ _ _ c.loop-done.done _ _ s ends }
 
 pub loop-done-preserved : goal.loop-done-preserved
 loop-done-preserved g c =

@@ -1,9 +1,10 @@
 use Rattle.std.proofs.Common.{◌≡◌, ◌<◌, ◌+◌, ◌∙◌, length, sym, ap, subst, arith}
 use Rattle.twkb_tree.specs.Rows.{row_points}
 use Rattle.twkb_tree.specs.RowGrowth.{EndsInLine}
+use Rattle.twkb_front.proofs.Pieces.{one_within}
 use Rattle.twkb_engine.proofs.Feeding.{on_err}
-use Rattle.twkb_engine.proofs.PointRuns.{list_none, list_more, list_stops, used_within}
-use Rattle.twkb_engine.proofs.LinePoints.{ends_again, one_point_more}
+use Rattle.twkb_engine.proofs.PointRuns.{list_none, list_more, list_stops}
+use Rattle.twkb_outline.proofs.LinePoints.{ends_again, one_point_more}
 use Rattle.twkb_engine.proofs.runs.take_list.Goals as goal
 
 pub loop-left-init : goal.loop-left-init
@@ -24,7 +25,7 @@ loop-left-preserved c =
     record {
       run = list_more c.args.flat.now c.loop-left.flat c.add_point.new.self c.args.most c.loop-left.left c.loop-left.used _ c.args.from c.loop-left.position _ c.args.bytes.now some
           added c.in-Some.ensures c.loop-left.invariant.run;
-      within = used_within c.args.bytes.now c.loop-left.used _ c.in-Some.ensures.within c.loop-left.invariant.within;
+      within = one_within c.args.bytes.now c.loop-left.used _ c.loop-left.invariant.within c.in-Some.ensures.within;
       line = subst EndsInLine (sym added) (ends_again _ c.loop-left.flat line);
       room = omega (arith, count, some, c.loop-left.invariant.room);
     }

@@ -16,10 +16,10 @@ pub returns-clause-blob : goal.returns-clause-blob
 returns-clause-blob c = reached_blob
 
 pub returns-clause-cut : goal.returns-clause-cut
-returns-clause-cut c = reached_cut
+returns-clause-cut c = λ limits bytes e st rest role. reached_cut limits bytes e st rest role
 
 pub returns-clause-long : goal.returns-clause-long
-returns-clause-long c = reached_long
+returns-clause-long c = λ limits bytes e st rest role. reached_long limits bytes e st rest role
 
 pub returns-clause-missing : goal.returns-clause-missing
 returns-clause-missing c = reached_end

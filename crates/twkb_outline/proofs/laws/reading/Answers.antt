@@ -38,10 +38,10 @@ pub returns-clause-part : goal.returns-clause-part
 returns-clause-part c = outlined_part
 
 pub returns-clause-cut : goal.returns-clause-cut
-returns-clause-cut c = outlined_cut
+returns-clause-cut c = λ limits bytes e o rs rest role. outlined_cut limits bytes e o rs rest role
 
 pub returns-clause-long : goal.returns-clause-long
-returns-clause-long c = outlined_long
+returns-clause-long c = λ limits bytes e o rs rest role. outlined_long limits bytes e o rs rest role
 
 pub returns-clause-missing : goal.returns-clause-missing
 returns-clause-missing c = outlined_missing

@@ -2,7 +2,8 @@ use Rattle.std.proofs.Common.{◌≡◌, ◌∷◌, [], ◌++◌, List, take, sy
 use Rattle.std.proofs.lemmas.Bool.{false≢true}
 use Rattle.twkb_tree.specs.declared.open_rows.OpenRow.{OpenRow}
 use Rattle.twkb_flat.specs.Rows.{row_with}
-use Rattle.twkb_table.proofs.OpenedLemmas.{opened_some, opened_none, noted, entered, nothing}
+use Rattle.twkb_flat.proofs.OpenRowLemmas.{entered, noted_by}
+use Rattle.twkb_table.proofs.OpenedLemmas.{opened_some, opened_none, nothing}
 use Rattle.twkb_table.proofs.open_rows.open_row.Goals as goal
 use Rattle.twkb_table.proofs.open_rows.open_row.Goals.{in-Some, in_default}
 
@@ -15,7 +16,7 @@ returns-clause-opened c points =
       | in-Some w ↦
           let front : take d c.args.rows.now.items ≡ c.pop.new.self.items ++ w.in-Some.parent ∷ [] = sym cut ∙ w.in-Some.ensures.items in
           let end = opened_some d c.args.rows.now.items c.pop.new.self.items w.in-Some.parent r c.requires front in
-          let child = w.with_child.ensures ∙ ap (noted w.in-Some.parent) w.is_some.ensures in
+          let child = noted_by w.in-Some.parent w.with_child.result r w.is_some.result w.with_child.ensures w.is_some.ensures in
           let noted_is : c.match-pop.rows.items ≡ c.pop.new.self.items ++ w.with_child.result ∷ [] = ap (λ v. v.items) w.rows-is ∙ w.push_reserved.ensures.items in
           c.push_reserved-2.ensures.items ∙ ap (λ (os : List OpenRow). os ++ entered r ∷ []) (noted_is ∙ ap (λ (p : OpenRow). c.pop.new.self.items ++ p ∷ []) child) ∙ sym end
       | in_default w ↦

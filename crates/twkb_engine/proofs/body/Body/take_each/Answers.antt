@@ -3,8 +3,9 @@ use Rattle.twkb_tree.specs.Rows.{Row}
 use Rattle.twkb_engine.specs.declared.body.Body.{Body}
 use Rattle.twkb_engine.specs.declared.phase.Phase.TheVariants as phase
 use Rattle.twkb_engine.specs.Running.{RunsTo}
+use Rattle.twkb_front.proofs.Pieces.{one_within}
 use Rattle.twkb_engine.proofs.Feeding.{on_err}
-use Rattle.twkb_engine.proofs.PointRuns.{phase_none, phase_more, phase_stops_behind, used_within}
+use Rattle.twkb_engine.proofs.PointRuns.{phase_none, phase_more, phase_stops_behind}
 use Rattle.twkb_engine.proofs.body.Body.take_each.Goals as goal
 
 pub loop-used-init : goal.loop-used-init
@@ -28,5 +29,5 @@ loop-used-preserved c =
     let some = rw c.in-Some.is at c.in_ok-taken.ensures.some in
     record {
       run = phase_more (phase.Body c.args.head c.args.self.now) (phase.Body c.args.head c.loop-used.self) (phase.Body c.args.head c.take_point.new.self) c.args.flat.now c.loop-used.flat c.take_point.new.flat c.args.from c.loop-used.position _ c.args.bytes.now c.loop-used.used _ c.loop-used.invariant.run run;
-      within = used_within c.args.bytes.now c.loop-used.used _ some.1 c.loop-used.invariant.within;
+      within = one_within c.args.bytes.now c.loop-used.used _ c.loop-used.invariant.within some.1;
     }

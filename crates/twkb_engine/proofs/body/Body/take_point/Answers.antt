@@ -1,11 +1,13 @@
 use Rattle.std.proofs.Common.{ap, refl, subst, sym, IsSome}
-use Rattle.twkb_engine.specs.Body.{spot_of, lefts_of}
+use Rattle.twkb_engine.specs.Body.{spot_of, lefts_of, step_at, ids_at}
+use Rattle.twkb_engine.specs.Stops.{IsPastEnds}
 use Rattle.twkb_engine.proofs.Feeding.{on_err}
 use Rattle.twkb_engine.proofs.PointRuns.{point_runs, point_stops}
 use Rattle.twkb_engine.proofs.body.Body.take_point.Goals as goal
 
 pub returns-in_err-put_point-clause-memory : goal.returns-in_err-put_point-clause-memory
-returns-in_err-put_point-clause-memory c = on_err c.from_residual.result (point_stops c.args.head c.args.self.now c.args.flat.now c.args.from _ c.args.bytes.now (lefts_of c.in-X.lefts) _ (ap spot_of c.in-X.is) c.in-Some-front_point.ensures)
+returns-in_err-put_point-clause-memory c = on_err c.from_residual.result (point_stops c.args.head c.args.self.now c.args.flat.now c.args.from _ c.args.bytes.now (lefts_of c.in-X.lefts) _ (ap spot_of c.in-X.is) c.in-Some-front_point.ensures
+    (λ k f ids. subst IsPastEnds (c.shut_point-after.ensures k f ids) (subst (λ s. IsPastEnds (step_at k f (ids_at c.shut_point-after.result.next_member ids) s)) (sym c.in-Some.is) tt)))
 
 pub returns-clause-run : goal.returns-clause-run
 returns-clause-run c =

@@ -1,7 +1,7 @@
 use Rattle.std.proofs.Common.{arith, ◌⊎◌, ◌<◌, ◌≤◌, length, inl, inr, ◌∙◌, []}
 use Rattle.twkb_engine.specs.State.{groups_of}
 use Rattle.twkb_engine.proofs.Groups.{groups_length}
-use Rattle.twkb_engine.proofs.Depth.{deep_refused, deep_allowed}
+use Rattle.twkb_grammar.proofs.Objections.{deep_refused, deep_allowed}
 use Rattle.twkb_engine.proofs.builder.Builder.objection_to_count.Goals as goal
 use Rattle.twkb_engine.proofs.builder.Builder.objection_to_count.Goals.{else-len-nest-via-then-len-nest+else-number-gt0, else-len-nest-via-else-len-nest}
 

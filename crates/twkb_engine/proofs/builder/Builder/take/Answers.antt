@@ -18,4 +18,4 @@ returns-clause-taken c = λ front i s says gives en el.
     let fits : StepFits (step_of mid.phase) = subst (λ p. StepFits (step_of p)) (sym kept.phase) (outlined_fits b.limits front (sums_of b) (outline_in b) c.args.flat.now s.outlined) in
     let placed : IsPlacedIn mid.groups.items mid.phase = subst (λ p. IsPlacedIn mid.groups.items p) (sym kept.phase) (subst (λ g. IsPlacedIn g.items b.phase) (sym kept.groups) s.placed) in
     item_taken front c.args.flat.now c.go_on.new.flat b mid c.go_on.new.self i c.args.number c.go_on.result s says gives en (sym c.in_default.ensures)
-    (kept.added i says en el) (λ t. (groups_of (kept.groups t).items, step_of (kept.phase t))) (c.go_on.ensures.limits ∙ kept.limits) (c.go_on.ensures.landed fits) (c.go_on.ensures.rows placed) (c.go_on.ensures.placed placed)
+    (kept.added i says en el) (λ t. (groups_of (kept.groups t).items, step_of (kept.phase t))) (c.go_on.ensures.limits ∙ kept.limits) (c.go_on.ensures.landed fits) (c.go_on.ensures.rows placed) (c.go_on.ensures.placed fits placed)

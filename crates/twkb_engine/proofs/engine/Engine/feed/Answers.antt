@@ -1,6 +1,7 @@
 use Rattle.std.proofs.Common.{◌∙◌, ◌++◌, take, arith}
+use Rattle.twkb_front.proofs.Pieces.{one_within}
 use Rattle.twkb_engine.specs.Standing.{allowance_of}
-use Rattle.twkb_engine.proofs.Feeding.{one_within, went_on, made, refused}
+use Rattle.twkb_engine.proofs.Feeding.{went_on, made, refused}
 use Rattle.twkb_engine.proofs.engine.Engine.feed.Goals as goal
 
 pub returns-in-Err-clause-fed : goal.returns-in-Err-clause-fed

@@ -3,7 +3,7 @@ use Rattle.twkb_outline.proofs.Outlined.{outlined_depth}
 use Rattle.twkb_engine.specs.State.{groups_of}
 use Rattle.twkb_engine.specs.Building.{sums_of, outline_in}
 use Rattle.twkb_engine.proofs.Groups.{groups_length}
-use Rattle.twkb_engine.proofs.Opening.{one_inside}
+use Rattle.twkb_engine.proofs.Roles.{one_inside}
 use Rattle.twkb_engine.proofs.engine.Engine.open_geometries.Goals as goal
 
 pub returns-in-Header-clause-open : goal.returns-in-Header-clause-open

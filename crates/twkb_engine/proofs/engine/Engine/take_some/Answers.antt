@@ -1,6 +1,7 @@
 use Rattle.std.proofs.Common.{◌≡◌, Ok, Err, take, refl, arith}
+use Rattle.std.proofs.lemmas.List.{nil_from_length}
 use Rattle.twkb_engine.specs.Standing.{allowance_of}
-use Rattle.twkb_engine.proofs.Feeding.{none_of, part_taken, taken_first}
+use Rattle.twkb_engine.proofs.Feeding.{part_taken, taken_first}
 use Rattle.twkb_engine.proofs.Stepping.{whole_stepped}
 use Rattle.twkb_engine.proofs.engine.Engine.take_some.Goals as goal
 
@@ -22,7 +23,7 @@ returns-in-Ok-take_point-clause-taken c = λ bs s.
     let found = c.in-Some.ensures in
     let d = c.take_points.new.self in
     taken_first (allowance_of c.args.self.now) (allowance_of d) bs c.args.rest.now c.in-Ok.used (Ok (_, c.in-Ok-take_point.ended)) c.take_point.new.flat (record { builder = c.take_point.new.self; partial = d.partial }) c.in-Ok.ensures.limits none
-    (whole_stepped _ (take _ c.args.rest.now) c.take_points.new.flat c.take_point.new.flat d c.take_point.new.self (Ok c.in-Ok-take_point.ended) (none_of d.partial (omega (arith, c.len.ensures.count, c.if-len-eq0.true)))
+    (whole_stepped _ (take _ c.args.rest.now) c.take_points.new.flat c.take_point.new.flat d c.take_point.new.self (Ok c.in-Ok-take_point.ended) (nil_from_length d.partial (omega (arith, c.len.ensures.count, c.if-len-eq0.true)))
     (λ front here. c.in-Ok-take_point.ensures.taken front c.args.rest.now here found.header found.point refl) (c.in-Ok.ensures.ahead bs s).0)
 
 pub returns-in-Err-take_point-clause-taken : goal.returns-in-Err-take_point-clause-taken
@@ -34,6 +35,6 @@ returns-in-Err-take_point-clause-taken c = λ bs s.
       _,
       found.point.some,
       found.point.within,
-      whole_stepped _ (take _ c.args.rest.now) c.take_points.new.flat c.take_point.new.flat d c.take_point.new.self (Err c.in-Err-take_point.stop) (none_of d.partial (omega (arith, c.len.ensures.count, c.if-len-eq0.true)))
+      whole_stepped _ (take _ c.args.rest.now) c.take_points.new.flat c.take_point.new.flat d c.take_point.new.self (Err c.in-Err-take_point.stop) (nil_from_length d.partial (omega (arith, c.len.ensures.count, c.if-len-eq0.true)))
           (λ front here. c.in-Err-take_point.ensures.taken front c.args.rest.now here found.header found.point refl) (c.in-Ok.ensures.ahead bs s).0,
     )

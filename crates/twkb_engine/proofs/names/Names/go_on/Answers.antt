@@ -1,4 +1,4 @@
-use Rattle.twkb_engine.proofs.NameLemmas.{next_names}
+use Rattle.twkb_outline.proofs.LeftIds.{next_names}
 use Rattle.twkb_engine.proofs.names.Names.go_on.Goals as goal
 
 pub returns-then-self-len : goal.returns-then-self-len

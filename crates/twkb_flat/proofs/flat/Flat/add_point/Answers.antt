@@ -16,7 +16,7 @@ invariant_of-self-2 c =
     let same : length c.count_point.new.entries ≡ c.self.inside.entries.len = sym (length-map _ next_of) ∙ (ap length nexts ∙ (length-map _ next_of ∙ sym c.self.inside.entries.ok.0)) in
     subst (λ (es : List Entry). IsFlat es c.push.new.self.items c.self.inside.spine c.self.inside.open_rows c.self.inside.levels) (sym (with_items_is c.self.inside.entries c.count_point.new.entries same))
     (subst (λ (ps : List Point). IsFlat c.count_point.new.entries ps c.self.inside.spine c.self.inside.open_rows c.self.inside.levels) (sym c.in_default.ensures.items)
-    (point_flat c.self.inside.entries.items c.count_point.new.entries c.self.inside.points.items _ _ _ c.args.point _ c.self.invariant c.self.view_is c.requires.line (point_valid _ _ _ _ _ c.args.point _ c.self.invariant c.self.view_is c.requires.line c.requires.room c.x.ensures.in_range) spans nexts))
+    (point_flat c.self.inside.entries.items c.count_point.new.entries c.self.inside.points.items _ _ _ c.args.point _ c.self.invariant c.self.view_is c.requires.line (point_valid _ _ _ _ _ c.args.point _ c.self.invariant c.self.view_is c.requires.line c.requires.room c.x-learnt.ensures.in_range) spans nexts))
 
 pub returns-clause-added : goal.returns-clause-added
 returns-clause-added c =

@@ -8,7 +8,7 @@ use Rattle.twkb_table.proofs.row_reader.RowReader.begin.Goals as goal
 pub begin-requires : goal.begin-requires
 begin-requires c =
     let l = c.args.self.now.limits in
-    continues_largest l [] _ c.nest.ensures.sound (waiting_begins l c.args.self.now.waiting c.in-Some.root c.args.self.now.points.items c.args.self.now.waits c.in-Some.is)
+    continues_largest l [] _ c.nest-learnt.ensures.sound (waiting_begins l c.args.self.now.waiting c.in-Some.root c.args.self.now.points.items c.args.self.now.waits c.in-Some.is)
 
 pub returns-clause-put : goal.returns-clause-put
 returns-clause-put c = c.in_ok-begin.ensures.begun ∙ ap (λ w. with_points w c.args.self.now.points.items) (sym c.in-Some.is)

@@ -40,7 +40,7 @@ push_from-requires c own given =
     let row = row_with c.row-row.result own in
     let below : 0 < c.row-row.result.depth = omega (arith, c.if-row-eq0.false) in
     let next = comes_next l c.args.flat.now (fields_of c.args.here.now) c.in-Ok.head row own c.requires.keeps.of_one c.in-Ok.ensures.read (ap (λ r. row_with r own) (sym c.row-row.ensures)) given in
-    continues_largest l c.args.flat.now row c.nest.ensures.sound (continues_below l c.args.flat.now row c.requires.keeps.some next.accepts below)
+    continues_largest l c.args.flat.now row c.nest-learnt.ensures.sound (continues_below l c.args.flat.now row c.requires.keeps.some next.accepts below)
 
 pub returns-in-Err-push_from-clause-refused : goal.returns-in-Err-push_from-clause-refused
 returns-in-Err-push_from-clause-refused c =

@@ -8,7 +8,7 @@ use Rattle.twkb_table.proofs.table_reader.TableReader.first_root.Goals as goal
 pub returns-in-Ok-clause-reads : goal.returns-in-Ok-clause-reads
 returns-in-Ok-clause-reads g c l told records given s =
     let here = fields_of c.next_record.new.held in
-    let source = c.in-Ok-true.ensures.more (search rules) told records s.source in
+    let source = (c.in-Ok-true.ensures.more (search rules) told records s.source).0 in
     let going = going_on _ c.in-Ok-true.field-0 c.in-Ok-true.ensures.over (search rules) in
     let counted = c.in-Ok-true.ensures.counted (search rules) in
     let first = c.in-Ok.ensures.read in
@@ -17,7 +17,7 @@ returns-in-Ok-clause-reads g c l told records given s =
 pub returns-in-Err-read_root-clause-reads : goal.returns-in-Err-read_root-clause-reads
 returns-in-Err-read_root-clause-reads g c l told records given s =
     let here = fields_of c.next_record.new.held in
-    let source = c.in-Ok-true.ensures.more (search rules) told records s.source in
+    let source = (c.in-Ok-true.ensures.more (search rules) told records s.source).0 in
     let going = going_on _ c.in-Ok-true.field-0 c.in-Ok-true.ensures.over (search rules) in
     let number = (c.in-Ok-true.ensures.counted (search rules)).0 in
     let refused = c.in-Err-read_root.ensures.refused in

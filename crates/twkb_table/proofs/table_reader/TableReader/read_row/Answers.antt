@@ -16,7 +16,7 @@ returns-in-Err-clause-reads g c l told records given r =
 pub returns-in-Ok-clause-reads : goal.returns-in-Ok-clause-reads
 returns-in-Ok-clause-reads g c l told records given r =
     let here = fields_of c.next_record.new.held in
-    let source = c.in-Ok-true.ensures.more (search rules) told records r.source in
+    let source = (c.in-Ok-true.ensures.more (search rules) told records r.source).0 in
     let counted = c.in-Ok-true.ensures.counted (search rules) in
     let new : TableReader _ = record c.args.self.now { reader = c.next_record.new.reader; held = c.next_record.new.held; ended = c.next_record.new.ended; number = c.next_record.new.number; rows = c.read_row.new.self } in
     reads_by l g.R.Read.remaining told records given c.read_row.new.flat new c.in-Ok.more
@@ -27,7 +27,7 @@ returns-in-Ok-clause-reads g c l told records given r =
 pub returns-in-Err-read_row-clause-reads : goal.returns-in-Err-read_row-clause-reads
 returns-in-Err-read_row-clause-reads g c l told records given r =
     let here = fields_of c.next_record.new.held in
-    let source = c.in-Ok-true.ensures.more (search rules) told records r.source in
+    let source = (c.in-Ok-true.ensures.more (search rules) told records r.source).0 in
     let number = (c.in-Ok-true.ensures.counted (search rules)).0 in
     let refused = c.in-Err-read_row.ensures.refused in
     rw c.fault_at.ensures.value (explained l told records given c.next_record.new.number c.in-Err-read_row.stop
@@ -37,4 +37,4 @@ pub returns-in-Ok-false-clause-reads : goal.returns-in-Ok-false-clause-reads
 returns-in-Ok-false-clause-reads g c l told records given r =
     let end = c.in-Ok-false.ensures.end (search rules) in
     let over = c.in-Ok-false.ensures.ended (search rules) in
-    reads_end l g.R.Read.remaining told records given c.args.flat.now c.args.self.now (record c.args.self.now { reader = c.next_record.new.reader; held = c.next_record.new.held; ended = c.next_record.new.ended; number = c.next_record.new.number }) r (end.1 told records r.source).0 over end.0 refl refl c.requires.keeps.none
+    reads_end l g.R.Read.remaining told records given c.args.flat.now c.args.self.now (record c.args.self.now { reader = c.next_record.new.reader; held = c.next_record.new.held; ended = c.next_record.new.ended; number = c.next_record.new.number }) r (end told records r.source).0 over (c.in-Ok-false.ensures.uncounted (search rules)) refl refl c.requires.keeps.none

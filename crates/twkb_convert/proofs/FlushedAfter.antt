@@ -1,0 +1,107 @@
+-- A flush behind what was sent.
+use Rattle.twkb_convert.proofs.Prelude.{◌≡◌, ◌∙◌, ℕ, List, [], ◌++◌, Option, Bool, true, false, ap, refl, sym, subst, append-nil, Ghosts, count_failure, Refused, Sent, Took, is_spent, output_failures, refused_join, took_join, Output, OutFault, Allowance, canonical_stream, Style, Reader, Located, StreamObstacle, TableObstacle, Unfinished, sent_join, Tally}
+use Rattle.twkb_io.specs.declared.output.OutFault.TheVariants as out
+use Rattle.twkb_convert.specs.BlobSending.{CutText}
+use Rattle.twkb_convert.specs.BlobSending as Blobs
+use Rattle.twkb_convert.specs.Sending.{SentTable, Stopped}
+use Rattle.twkb_convert.specs.Sending as Tables
+use Rattle.twkb_convert.specs.declared.obstacle.StreamObstacle.TheVariants as stream
+use Rattle.twkb_convert.specs.declared.obstacle.TableObstacle.TheVariants as table
+
+module _ {W : Type 0} (contents : W → Option (List ℕ)) where
+  -- what was sent with nothing behind it
+  sent_with : (old mid new : Output W) (bytes : List ℕ) → Sent contents old bytes mid → Sent contents mid [] new → Sent contents old bytes new
+  sent_with old mid new bytes first second = subst (λ b. Sent contents old b new) (append-nil bytes) (sent_join contents old mid new bytes [] first second)
+
+-- ---- tables
+
+table_unless : (why : TableObstacle) (P Q : Type 0) → (P → Q) → Tables.UnlessOutput why P → Tables.UnlessOutput why Q
+table_unless (table.Table f) P Q more p = more p
+table_unless table.Undrained P Q more p = more p
+table_unless (table.Output f) P Q more p = tt
+
+-- where the output refused no call, no write failed
+table_wrote : (why : TableObstacle) → Tables.is_output why ≡ false → Tables.is_write why ≡ false
+table_wrote (table.Table f) none = refl
+table_wrote table.Undrained none = refl
+table_wrote (table.Output f) none = absurd (cc none)
+
+module _ {W : Type 0} (style : Style) (l : Allowance) (contents : W → Option (List ℕ)) (told : Option (List ℕ)) where
+  -- behind the whole table
+  pub table_flushed : (old mid new : Output W) (tally : Tally) → SentTable style l contents told old mid tally → Took contents mid [] new → SentTable style l contents told old new tally
+  table_flushed old mid new tally all flushed = record {
+    table = all.table;
+    took = subst (λ b. Took contents old b new) (append-nil (canonical_stream style all.table.geometries)) (took_join contents old mid new (canonical_stream style all.table.geometries) [] all.took flushed);
+    count = all.count;
+    work_of = all.work_of;
+  }
+
+  -- behind a front of the output
+  pub stopped_flushed : (passed : ℕ) (old mid new : Output W) (stop : Unfinished TableObstacle) → Stopped style l contents told passed old mid stop → Took contents mid [] new
+      → Stopped style l contents told passed old new stop
+  stopped_flushed passed old mid new stop s flushed = record {
+    bytes = s.bytes;
+    part = s.part;
+    one = s.one;
+    sends = sent_with contents old mid new s.bytes s.sends flushed.sends;
+    count = s.count;
+    explains = s.explains;
+    failures = flushed.failures ∙ s.failures;
+    unspent = table_unless stop.why (is_spent mid ≡ is_spent old) (is_spent new ≡ is_spent old) (λ e. flushed.spent ∙ e) s.unspent;
+  }
+
+  -- the same, where it failed
+  pub stopped_unflushed : (passed : ℕ) (old mid new : Output W) (stop : Unfinished TableObstacle) (f : OutFault) → Tables.is_output stop.why ≡ false → Stopped style l contents told passed old mid stop
+      → Refused contents mid [] f new → (f ≡ out.TooLong → ⊥) → (f ≡ out.Spent → ⊥) → Stopped style l contents told passed old new (record { done = stop.done; why = table.Output f })
+  stopped_unflushed passed old mid new stop f none s failed short unspent =
+      let wrote : output_failures mid ≡ output_failures old = s.failures ∙ ap (λ b. count_failure b (output_failures old)) (table_wrote stop.why none) in
+      record {
+        bytes = s.bytes;
+        part = s.part;
+        one = s.one;
+        sends = sent_with contents old mid new s.bytes s.sends failed.sends;
+        count = s.count;
+        explains = (λ far. absurd (short far), unspent);
+        failures = failed.failures ∙ ap (count_failure (Tables.is_write (table.Output f))) wrote;
+        unspent = tt;
+      }
+
+-- ---- streams
+
+stream_unless : (why : StreamObstacle) (P Q : Type 0) → (P → Q) → Blobs.UnlessOutput why P → Blobs.UnlessOutput why Q
+stream_unless (stream.Stream f) P Q more p = more p
+stream_unless (stream.Output f) P Q more p = tt
+
+stream_wrote : (why : StreamObstacle) → ((f : OutFault) → why ≡ stream.Output f → ⊥) → Blobs.is_write why ≡ false
+stream_wrote (stream.Stream f) none = refl
+stream_wrote (stream.Output f) none = absurd (none f refl)
+
+module _ {R W : Type 0} {read : Ghosts R} (text_of : List Located → List ℕ) (contents : W → Option (List ℕ)) where
+  -- behind a front of the text
+  pub cut_flushed : (from to : Reader R read) (old mid new : Output W) (stop : Unfinished StreamObstacle) → CutText text_of contents from old to mid stop → Took contents mid [] new
+      → CutText text_of contents from old to new stop
+  cut_flushed from to old mid new stop s flushed = record {
+    text = s.text;
+    part = s.part;
+    sends = sent_with contents old mid new s.text s.sends flushed.sends;
+    count = s.count;
+    explains = s.explains;
+    failures = flushed.failures ∙ s.failures;
+    unspent = stream_unless stop.why (is_spent mid ≡ false) (is_spent new ≡ false) (λ e. flushed.spent ∙ e) s.unspent;
+  }
+
+  -- the same, where it failed
+  pub cut_unflushed : (from to : Reader R read) (old mid new : Output W) (stop : Unfinished StreamObstacle) (f : OutFault) → ((e : OutFault) → stop.why ≡ stream.Output e → ⊥)
+      → CutText text_of contents from old to mid stop → Refused contents mid [] f new → (f ≡ out.TooLong → ⊥) → (f ≡ out.Spent → ⊥)
+      → CutText text_of contents from old to new (record { done = stop.done; why = stream.Output f })
+  cut_unflushed from to old mid new stop f none s failed short unspent =
+      let wrote : output_failures mid ≡ output_failures old = s.failures ∙ ap (λ b. count_failure b (output_failures old)) (stream_wrote stop.why none) in
+      record {
+        text = s.text;
+        part = s.part;
+        sends = sent_with contents old mid new s.text s.sends failed.sends;
+        count = s.count;
+        explains = (λ far. absurd (short far), unspent);
+        failures = failed.failures ∙ ap (count_failure (Blobs.is_write (stream.Output f))) wrote;
+        unspent = tt;
+      }

@@ -1,0 +1,44 @@
+//! What keeps a conversion from its end.
+ghost use Rattle.std.specs.Prelude.{◌≡◌};
+
+use twkb_blob::BlobFault;
+use twkb_io::OutFault;
+use twkb_table::TableFault;
+
+/// Why not the whole table was sent.
+#[derive(Clone, Copy, PartialEq, Eq, Debug)]
+pub(crate) enum TableObstacle {
+    /// The table gave no geometry, or there was no memory for the sizes of one.
+    Table(TableFault),
+    /// Behind the last record as many reads as can be counted gave bytes.
+    Undrained,
+    /// The output refused a put or a flush.
+    Output(OutFault),
+}
+
+impl TableObstacle {
+    ghost use Rattle.twkb_convert.specs.Sending.{is_output};
+
+    /// Whether the output refused a call.
+    pub(crate) fn is_output(self) -> bool
+        ensures { result ≡ is_output self }
+    {
+        matches!(self, TableObstacle::Output(_))
+    }
+}
+
+/// Why not the text of the whole stream was sent.
+#[derive(Clone, Copy, PartialEq, Eq, Debug)]
+pub(crate) enum StreamObstacle {
+    /// The reader gave no blob, or there was no memory for the text of one.
+    Stream(BlobFault),
+    /// The output refused a put or a flush.
+    Output(OutFault),
+}
+
+/// How many geometries were sent whole, and why no more.
+#[derive(Clone, Copy, PartialEq, Eq, Debug)]
+pub(crate) struct Unfinished<F> {
+    pub(crate) done: u64,
+    pub(crate) why: F,
+}

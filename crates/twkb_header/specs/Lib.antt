@@ -1,0 +1,2 @@
+pub mod TypeByte
+pub mod Metadata

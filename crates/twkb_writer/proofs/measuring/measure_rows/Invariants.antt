@@ -1,0 +1,12 @@
+-- What the pass knows of the rows behind its place.
+use Rattle.std.proofs.Common.{◌-◌, length, drop}
+use Rattle.twkb_tree.specs.Rows.{row_points}
+use Rattle.twkb_writer.specs.Reads.{ReadsExactly}
+use Rattle.twkb_writer.proofs.MeasuringSteps.{Pass}
+use Rattle.twkb_writer.proofs.measuring.measure_rows.Given as goal
+
+abbrev pub invariant-loop-back : goal.invariant-loop-back
+invariant-loop-back l = record {
+  pass : Pass l.style (drop (l.total - l.back) l.flat) l.depths l.tail l.sizes-inside.entries.items;
+  reads : ReadsExactly l.fn.work l.back (length (row_points (drop (l.total - l.back) l.flat))) l.work;
+}

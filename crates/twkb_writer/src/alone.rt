@@ -1,0 +1,116 @@
+//! The sizes of a flat form of one row, which needs no levels.
+ghost use Rattle.std.specs.Prelude.{◌≡◌, ◌≤◌, ◌^◌, ◌↔◌, ◌∷◌, [], ℤ, length, Some, IsTrue, OnOk};
+ghost use Rattle.twkb_tree.specs.Limits.{largest_limits};
+ghost use Rattle.twkb_tree.specs.Rows.{row_points};
+ghost use Rattle.twkb_tree.specs.RowLists.{AreValidRowsOfOne};
+ghost use Rattle.twkb_tree.specs.declared.kind.Kind.TheVariants.{Point as PointKind};
+ghost use Rattle.twkb_flat.specs.Rows.{IsNode};
+ghost use Rattle.twkb_grammar.specs.declared.style.Style.{Style as InStyle};
+ghost use Rattle.twkb_writer.specs.Levels.{blank, entry_for};
+ghost use Rattle.twkb_writer.specs.Measuring.{Counted};
+ghost use Rattle.twkb_writer.specs.Reads.{ReadsExactly};
+ghost use Rattle.twkb_writer.specs.Sizes.{AreSizes};
+ghost use Rattle.twkb_writer.specs.Tails.{tail_of};
+
+use crate::lengths::signed_len;
+use crate::levels::Level;
+use crate::measuring::{keep, look_at_reads, take_points};
+use crate::sizes::{Entry, Sizes};
+use crate::tails::Tail;
+use std::alloc::AllocError;
+use twkb_flat::{Flat, Node, NodeId, Work};
+use twkb_grammar::Style;
+use twkb_points::{Cursor, Pt};
+use twkb_tree::Kind;
+
+// What is measured of a point: it has no box.
+fn point_entry(point: Pt) -> Entry
+    ensures { (style : InStyle) (precision : ℤ) → result ≡ entry_for style PointKind precision 1 blank (tail_of (point ∷ [])) }
+{
+    let (x, y) = Cursor::origin().delta(point);
+    Entry {
+        size: signed_len(x) + signed_len(y),
+        bounds: None,
+        members: 0,
+        named: false,
+    }
+}
+
+// Whether the node is a point, and not an empty one.
+fn is_one_point(node: &Node) -> bool
+    ensures { IsTrue result ↔ ((node.now.row.kind ≡ PointKind) × (node.now.points ≡ 1)) }
+{
+    matches!(node.row.kind, Kind::Point) && node.points == 1
+}
+
+// The entry of the only row, in general.
+fn row_entry(flat: &Flat, style: Style, node: &Node, precision: i8, work: &mut Work) -> Entry
+    requires few { length (row_points flat.now) ≤ 2 ^ 24 }
+    requires one { length flat.now ≡ 1 }
+    requires node { IsNode flat.now 0 node.now }
+    requires whole { node.now.row.precision ≡ Some precision }
+    requires valid { AreValidRowsOfOne largest_limits flat.now }
+    ensures sizes { AreSizes style flat.now (result ∷ []) }
+    ensures reads { ReadsExactly work.old 0 node.now.points work.new }
+{
+    let points = take_points(flat, NodeId(0), node, Tail::none(), work);
+    Level::blank().entry_for(style, node.row.kind, precision, node.points, &points)
+}
+
+// Keeps one entry in place of all: where the last one stood, if it stood alone.
+#[inline(always)]
+fn keep_alone(entries: &mut Vec<Entry>, entry: Entry) -> Result<(), AllocError>
+    ensures { OnOk result (entries.new.items ≡ entry ∷ []) }
+{
+    if entries.len() == 1 {
+        entries[0] = entry;
+        return Ok(());
+    }
+    entries.clear();
+    keep(entries, Some(entry), 1)
+}
+
+// Makes entries those of a flat form of one row.
+#[inline(always)]
+fn measure_one(
+    flat: &Flat,
+    style: Style,
+    entries: &mut Vec<Entry>,
+    work: &mut Work,
+) -> Result<(), AllocError>
+    requires { length flat.now ≡ 1 }
+    ensures sizes { OnOk result (AreSizes style flat.now entries.new.items) }
+    ensures reads { ReadsExactly work.old 1 (length (row_points flat.now)) work.new }
+{
+    // learnt: the rows are valid
+    let _learnt = flat.node_count();
+    look_at_reads(work);
+    let node = flat.node(NodeId(0), work);
+    let Some(precision) = node.row.precision else {
+        unreachable!()
+    };
+    if is_one_point(&node) {
+        let point = flat.point(node.first, work);
+        return keep_alone(entries, point_entry(point));
+    }
+    let entry = row_entry(flat, style, &node, precision, work);
+    keep_alone(entries, entry)
+}
+
+// Makes sizes those of a flat form of one row.
+pub(crate) fn measure_alone(
+    flat: &Flat,
+    style: Style,
+    sizes: &mut Sizes,
+    work: &mut Work,
+) -> Result<(), AllocError>
+    requires { length flat.now ≡ 1 }
+    ensures sizes { OnOk result (AreSizes style flat.now sizes.new) }
+    ensures work { OnOk result (Counted work.old (length (row_points flat.now)) (length flat.now) (length sizes.new) work.new) }
+{
+    measure_one(flat, style, &mut sizes.entries, work)?;
+    work.points = work.points.saturating_add(flat.point_count() as u64);
+    work.nodes = work.nodes.saturating_add(1);
+    work.entries = work.entries.saturating_add(sizes.entries.len() as u64);
+    Ok(())
+}
