@@ -19,6 +19,14 @@ pub fn lines(alloc: Global, rows: &[&[(i64, i64)]]) -> Option<Lines> {
     Some(Lines::from_vec(lines))
 }
 
+pub fn areas(alloc: Global, polygons: &[&[&[(i64, i64)]]]) -> Option<Areas> {
+    let mut areas = Vec::new(alloc);
+    for rows in polygons {
+        areas.push(lines(alloc, *rows)?).ok()?;
+    }
+    Some(Areas::from_vec(areas))
+}
+
 pub fn ids(alloc: Global, ids: &[i64]) -> Option<IdList> {
     Some(IdList::from_vec(Vec::from_slice(alloc, ids).ok()?))
 }
@@ -91,12 +99,9 @@ pub fn point_and_line(alloc: Global) -> Option<Geometry> {
 
 /// `0,multipolygon,,0,` / `1,polygon,3,,` / `2,ring,,,AA` / `2,ring,,,` / `1,polygon,4,,`
 pub fn two_polygons(alloc: Global) -> Option<Geometry> {
-    let rows: [&[(i64, i64)]; 2] = [&[(1, 1)], &[]];
-    let mut areas = Vec::new(alloc);
-    areas.push(lines(alloc, &rows)?).ok()?;
-    areas.push(lines(alloc, &[])?).ok()?;
     let ids = ids(alloc, &[3, 4])?;
-    geometry(0, Shape::MultiPolygon(Areas::from_vec(areas), Some(ids)))
+    let areas = areas(alloc, &[&[&[(1, 1)], &[]], &[]])?;
+    geometry(0, Shape::MultiPolygon(areas, Some(ids)))
 }
 
 /// `0,collection,,0,` and below it one collection a row, to this many rows; the last has no members.

@@ -1,5 +1,6 @@
 //! Limits, and geometries at them.
 use super::fixtures::{dot, nested, nested_with_point, two_point_line, two_points};
+use std::process::Abort;
 use twkb_tree::{Geometry, Limits};
 
 // Whether there are such limits.
@@ -38,9 +39,17 @@ fn readers(rt: HostRuntime) {
     assert!(rt; reads_back(8, 2, 1));
 }
 
-// Whether the limits admit the geometry, where both are there.
-fn admits(limits: Option<Limits>, geometry: Option<Geometry>) -> Option<bool> {
-    Some(geometry?.within(&limits?))
+// Asserts that both are there, and whether the limits admit the geometry.
+fn assert_within(
+    rt: &impl Abort,
+    limits: Option<Limits>,
+    geometry: &Option<Geometry>,
+    answer: bool,
+) {
+    match (limits, geometry) {
+        (Some(limits), Some(geometry)) => assert!(rt; geometry.within(&limits) == answer),
+        _ => panic!(rt; "no limits, or no geometry"),
+    }
 }
 
 // Limits of which only the nest can be passed.
@@ -51,12 +60,17 @@ fn nests(nest: u32) -> Option<Limits> {
 #[test]
 fn a_collection_inside_nest_collections_has_no_members(rt: HostRuntime) {
     let alloc = rt.alloc();
-    assert!(rt; admits(nests(0), nested(alloc, 1)) == Some(true));
-    assert!(rt; admits(nests(0), nested_with_point(alloc, 1)) == Some(false));
-    assert!(rt; admits(nests(8), nested(alloc, 9)) == Some(true));
-    assert!(rt; admits(nests(8), nested_with_point(alloc, 9)) == Some(false));
-    assert!(rt; admits(nests(8), nested(alloc, 10)) == Some(false));
-    assert!(rt; admits(Some(Limits::standard()), nested_with_point(alloc, 9)) == Some(true));
+    assert_within(&rt, nests(0), &nested(alloc, 1), true);
+    assert_within(&rt, nests(0), &nested_with_point(alloc, 1), false);
+    assert_within(&rt, nests(8), &nested(alloc, 9), true);
+    assert_within(&rt, nests(8), &nested_with_point(alloc, 9), false);
+    assert_within(&rt, nests(8), &nested(alloc, 10), false);
+    assert_within(
+        &rt,
+        Some(Limits::standard()),
+        &nested_with_point(alloc, 9),
+        true,
+    );
 }
 
 // Limits of no nesting, of so many rows and points.
@@ -67,9 +81,9 @@ fn flat(nodes: u32, points: u32) -> Option<Limits> {
 #[test]
 fn rows_and_points_at_their_limits(rt: HostRuntime) {
     let alloc = rt.alloc();
-    assert!(rt; admits(flat(2, 2), two_points(alloc)) == Some(false));
-    assert!(rt; admits(flat(3, 2), two_points(alloc)) == Some(true));
-    assert!(rt; admits(flat(1, 1), two_point_line(alloc)) == Some(false));
-    assert!(rt; admits(flat(1, 2), two_point_line(alloc)) == Some(true));
-    assert!(rt; admits(flat(1, 0), dot(0, 2, 1)) == Some(false));
+    assert_within(&rt, flat(2, 2), &two_points(alloc), false);
+    assert_within(&rt, flat(3, 2), &two_points(alloc), true);
+    assert_within(&rt, flat(1, 1), &two_point_line(alloc), false);
+    assert_within(&rt, flat(1, 2), &two_point_line(alloc), true);
+    assert_within(&rt, flat(1, 0), &dot(0, 2, 1), false);
 }

@@ -159,26 +159,27 @@ fn a_row_stands_under_the_last_row_above_its_depth(rt: HostRuntime) {
     assert!(rt; Standing::at(1, &[], 0, 0).is_none() && Standing::at(0, &[], 0, 0).is_some());
 }
 
-// Whether the geometry is there, and its own row is of this kind, with points at these places.
-fn has_own_row(geometry: Option<Geometry>, kind: Kind, places: &[(i64, i64)]) -> bool {
+// Asserts that the geometry is there, and its own row is of this kind, with points at these places.
+fn assert_own_row(rt: &impl Abort, geometry: &Option<Geometry>, kind: Kind, places: &[(i64, i64)]) {
     let Some(geometry) = geometry else {
-        return false;
+        panic!(rt; "no geometry");
     };
     let (own, held) = own_parts(geometry.shape());
-    own == kind && are_at(held, places)
+    assert!(rt; own == kind && are_at(held, places), "{own:?}");
 }
 
 #[test]
 fn own_rows_of_geometries(rt: HostRuntime) {
     let alloc = rt.alloc();
-    assert!(rt;
-        has_own_row(dot(0, 1, 1), Kind::Point, &[(1, 1)])
-            && has_own_row(no_point(), Kind::Point, &[])
+    assert_own_row(&rt, &dot(0, 1, 1), Kind::Point, &[(1, 1)]);
+    assert_own_row(&rt, &no_point(), Kind::Point, &[]);
+    assert_own_row(
+        &rt,
+        &two_point_line(alloc),
+        Kind::Linestring,
+        &[(1, 1), (5, 5)],
     );
-    assert!(rt;
-        has_own_row(two_point_line(alloc), Kind::Linestring, &[(1, 1), (5, 5)])
-            && has_own_row(two_points(alloc), Kind::MultiPoint, &[])
-    );
+    assert_own_row(&rt, &two_points(alloc), Kind::MultiPoint, &[]);
 }
 
 // The id at a place of a list that is there.

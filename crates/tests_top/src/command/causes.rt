@@ -1,5 +1,6 @@
 //! The line and the status of each cause, as docs/FORMATS.md has them.
 use std::alloc::Global;
+use std::process::Abort;
 use twkb_convert::{BlobReason, Cause};
 use twkb_io::Tap;
 use twkb_polyline::PolyReason;
@@ -26,9 +27,18 @@ fn record(alloc: Global, reason: RowReason, text: &str) -> bool {
     is_first && is_told(alloc, last, 1, "record 4294967295: ", text)
 }
 
-// Whether a record that is refused for its polyline has this text.
-fn polyline(alloc: Global, offset: usize, reason: PolyReason, text: &str) -> bool {
-    record(alloc, RowReason::Polyline(offset, reason), text)
+fn assert_records(rt: &impl Abort, alloc: Global, rows: &[(RowReason, &str)]) {
+    for (reason, text) in rows {
+        assert!(rt; record(alloc, *reason, *text), "{text}");
+    }
+}
+
+// Asserts that a record that is refused at an offset of its polyline has this text.
+fn assert_polylines(rt: &impl Abort, alloc: Global, rows: &[(usize, PolyReason, &str)]) {
+    for (offset, reason, text) in rows {
+        let reason = RowReason::Polyline(*offset, *reason);
+        assert!(rt; record(alloc, reason, *text), "{text}");
+    }
 }
 
 // Whether an item that is refused for this reason, the first or the last, has this text.
@@ -40,131 +50,114 @@ fn item(alloc: Global, reason: BlobReason, text: &str) -> bool {
     is_first && is_told(alloc, last, 1, "byte 18446744073709551615: ", text)
 }
 
+const RECORDS: [(RowReason, &str); 4] = [
+    (RowReason::BadHeader, "bad header"),
+    (RowReason::FieldCount, "not five fields"),
+    (RowReason::PolylineNotAllowed, "polyline not allowed"),
+    (RowReason::PointCount, "wrong number of points"),
+];
+
 #[test]
 fn a_refused_record_has_its_line(rt: HostRuntime) {
-    let alloc = rt.alloc();
-    assert!(rt; record(alloc, RowReason::BadHeader, "bad header"));
-    assert!(rt; record(alloc, RowReason::FieldCount, "not five fields"));
-    assert!(rt; record(alloc, RowReason::PolylineNotAllowed, "polyline not allowed"));
-    assert!(rt; record(alloc, RowReason::PointCount, "wrong number of points"));
+    assert_records(&rt, rt.alloc(), &RECORDS);
 }
+
+const PLACES: [(RowReason, &str); 5] = [
+    (RowReason::BadDepth, "bad depth"),
+    (RowReason::BadKind, "unknown kind"),
+    (RowReason::BadPlace, "kind not allowed there"),
+    (RowReason::TooDeep, "nested too deep"),
+    (RowReason::TooManyNodes, "too many rows in one geometry"),
+];
 
 #[test]
 fn a_refused_place_has_its_line(rt: HostRuntime) {
-    let alloc = rt.alloc();
-    assert!(rt; record(alloc, RowReason::BadDepth, "bad depth"));
-    assert!(rt; record(alloc, RowReason::BadKind, "unknown kind"));
-    assert!(rt; record(alloc, RowReason::BadPlace, "kind not allowed there"));
-    assert!(rt; record(alloc, RowReason::TooDeep, "nested too deep"));
-    assert!(rt;
-        record(
-            alloc,
-            RowReason::TooManyNodes,
-            "too many rows in one geometry"
-        )
-    );
+    assert_records(&rt, rt.alloc(), &PLACES);
 }
+
+const IDS: [(RowReason, &str); 3] = [
+    (RowReason::BadId, "bad id"),
+    (RowReason::IdNotAllowed, "id not allowed"),
+    (RowReason::MixedIds, "id on some children only"),
+];
 
 #[test]
 fn a_refused_id_has_its_line(rt: HostRuntime) {
-    let alloc = rt.alloc();
-    assert!(rt; record(alloc, RowReason::BadId, "bad id"));
-    assert!(rt; record(alloc, RowReason::IdNotAllowed, "id not allowed"));
-    assert!(rt; record(alloc, RowReason::MixedIds, "id on some children only"));
+    assert_records(&rt, rt.alloc(), &IDS);
 }
+
+const PRECISIONS: [(RowReason, &str); 3] = [
+    (RowReason::BadPrecision, "bad precision"),
+    (RowReason::PrecisionMissing, "precision missing"),
+    (RowReason::PrecisionNotAllowed, "precision not allowed"),
+];
 
 #[test]
 fn a_refused_precision_has_its_line(rt: HostRuntime) {
-    let alloc = rt.alloc();
-    assert!(rt; record(alloc, RowReason::BadPrecision, "bad precision"));
-    assert!(rt; record(alloc, RowReason::PrecisionMissing, "precision missing"));
-    assert!(rt;
-        record(
-            alloc,
-            RowReason::PrecisionNotAllowed,
-            "precision not allowed"
-        )
-    );
+    assert_records(&rt, rt.alloc(), &PRECISIONS);
 }
+
+const NUMBERS: [(usize, PolyReason, &str); 4] = [
+    (0, PolyReason::BadChar, "polyline at 0: bad character"),
+    (1, PolyReason::Cut, "polyline at 1: number cut short"),
+    (20, PolyReason::TooLong, "polyline at 20: number too long"),
+    (3, PolyReason::Padded, "polyline at 3: padded number"),
+];
 
 #[test]
 fn a_refused_number_of_a_polyline_has_its_line(rt: HostRuntime) {
-    let alloc = rt.alloc();
-    assert!(rt;
-        polyline(
-            alloc,
-            0,
-            PolyReason::BadChar,
-            "polyline at 0: bad character"
-        )
-    );
-    assert!(rt; polyline(alloc, 1, PolyReason::Cut, "polyline at 1: number cut short"));
-    assert!(rt;
-        polyline(
-            alloc,
-            20,
-            PolyReason::TooLong,
-            "polyline at 20: number too long"
-        )
-    );
-    assert!(rt; polyline(alloc, 3, PolyReason::Padded, "polyline at 3: padded number"));
+    assert_polylines(&rt, rt.alloc(), &NUMBERS);
 }
+
+const POINTS: [(usize, PolyReason, &str); 3] = [
+    (
+        4,
+        PolyReason::Half,
+        "polyline at 4: latitude without longitude",
+    ),
+    (
+        5,
+        PolyReason::Range,
+        "polyline at 5: coordinate out of range",
+    ),
+    (6, PolyReason::TooMany, "polyline at 6: too many points"),
+];
 
 #[test]
 fn a_refused_point_of_a_polyline_has_its_line(rt: HostRuntime) {
-    let alloc = rt.alloc();
-    assert!(rt;
-        polyline(
-            alloc,
-            4,
-            PolyReason::Half,
-            "polyline at 4: latitude without longitude"
-        )
-    );
-    assert!(rt;
-        polyline(
-            alloc,
-            5,
-            PolyReason::Range,
-            "polyline at 5: coordinate out of range"
-        )
-    );
-    assert!(rt;
-        polyline(
-            alloc,
-            6,
-            PolyReason::TooMany,
-            "polyline at 6: too many points"
-        )
-    );
+    assert_polylines(&rt, rt.alloc(), &POINTS);
 }
+
+const ITEMS: [(BlobReason, &str); 9] = [
+    (BlobReason::Truncated, "truncated"),
+    (BlobReason::BadType, "unknown type"),
+    (BlobReason::ExtraDimensions, "extra dimensions"),
+    (BlobReason::BadVarint, "bad varint"),
+    (BlobReason::TooDeep, "nested too deep"),
+    (BlobReason::TooManyNodes, "too many nodes"),
+    (BlobReason::TooManyPoints, "too many points"),
+    (BlobReason::CoordinateRange, "coordinate out of range"),
+    (BlobReason::SizeMismatch, "size mismatch"),
+];
 
 #[test]
 fn a_refused_item_has_its_line(rt: HostRuntime) {
-    let alloc = rt.alloc();
-    assert!(rt; item(alloc, BlobReason::Truncated, "truncated"));
-    assert!(rt; item(alloc, BlobReason::BadType, "unknown type"));
-    assert!(rt; item(alloc, BlobReason::ExtraDimensions, "extra dimensions"));
-    assert!(rt; item(alloc, BlobReason::BadVarint, "bad varint"));
-    assert!(rt; item(alloc, BlobReason::TooDeep, "nested too deep"));
-    assert!(rt; item(alloc, BlobReason::TooManyNodes, "too many nodes"));
-    assert!(rt; item(alloc, BlobReason::TooManyPoints, "too many points"));
-    assert!(rt;
-        item(
-            alloc,
-            BlobReason::CoordinateRange,
-            "coordinate out of range"
-        )
-    );
-    assert!(rt; item(alloc, BlobReason::SizeMismatch, "size mismatch"));
+    for (reason, text) in &ITEMS {
+        assert!(rt; item(rt.alloc(), *reason, *text), "{text}");
+    }
 }
+
+const OTHERS: [(Cause, u8, &str); 5] = [
+    (Cause::ReadDevice, 3, "read failed"),
+    (Cause::WriteDevice, 3, "write failed"),
+    (Cause::Memory, 4, "out of memory"),
+    (Cause::TooLong, 1, "input or output too long"),
+    (Cause::TooManyRecords, 1, "too many records"),
+];
 
 #[test]
 fn each_other_cause_has_its_line(rt: HostRuntime) {
-    let alloc = rt.alloc();
-    assert!(rt; is_told(alloc, Cause::ReadDevice, 3, "", "read failed"));
-    assert!(rt; is_told(alloc, Cause::WriteDevice, 3, "", "write failed"));
-    assert!(rt; is_told(alloc, Cause::Memory, 4, "", "out of memory"));
-    assert!(rt; is_told(alloc, Cause::TooLong, 1, "", "input or output too long"));
-    assert!(rt; is_told(alloc, Cause::TooManyRecords, 1, "", "too many records"));
+    for (cause, number, text) in &OTHERS {
+        assert!(rt; is_told(rt.alloc(), *cause, *number, "", *text), "{text}");
+    }
 }

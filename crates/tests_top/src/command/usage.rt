@@ -2,6 +2,7 @@
 use super::{POINT_TABLE, run_line};
 use std::alloc::Global;
 use std::io::ErrorKind;
+use std::process::Abort;
 use twkb_command::run;
 use twkb_io::Tap;
 use twkb_request::{lack_memory, lack_words};
@@ -21,55 +22,56 @@ fn is_refused(alloc: Global, line: &str, named: &str) -> bool {
     status == Some(2) && is_unwritten && is_named
 }
 
-#[test]
-fn a_nesting_that_is_none_ends_with_2(rt: HostRuntime) {
-    let alloc = rt.alloc();
-    let rows = [
-        ("polytwkb pack --max-nest 33", "'33'"),
-        ("polytwkb unpack --max-nest 33", "'33'"),
-        ("polytwkb show --max-nest 33", "'33'"),
-        ("polytwkb pack --max-nest x", "'x'"),
-        ("polytwkb pack --max-nest=-1", "'-1'"),
-        ("polytwkb pack --max-nest", "--max-nest"),
-        ("polytwkb pack --max-nest 1 --max-nest 2", "--max-nest"),
-        ("polytwkb --max-nest 3", "--max-nest"),
-    ];
+// Asserts that each line is refused with a text that has its word in it.
+fn assert_refused(rt: &impl Abort, alloc: Global, rows: &[(&str, &str)]) {
     for (line, named) in rows {
-        assert!(rt; is_refused(alloc, line, named), "{line}");
+        assert!(rt; is_refused(alloc, *line, *named), "{line}");
     }
 }
+
+const NESTINGS: [(&str, &str); 8] = [
+    ("polytwkb pack --max-nest 33", "'33'"),
+    ("polytwkb unpack --max-nest 33", "'33'"),
+    ("polytwkb show --max-nest 33", "'33'"),
+    ("polytwkb pack --max-nest x", "'x'"),
+    ("polytwkb pack --max-nest=-1", "'-1'"),
+    ("polytwkb pack --max-nest", "--max-nest"),
+    ("polytwkb pack --max-nest 1 --max-nest 2", "--max-nest"),
+    ("polytwkb --max-nest 3", "--max-nest"),
+];
+
+#[test]
+fn a_nesting_that_is_none_ends_with_2(rt: HostRuntime) {
+    assert_refused(&rt, rt.alloc(), &NESTINGS);
+}
+
+const STYLES: [(&str, &str); 6] = [
+    ("polytwkb pack --style thin", "'thin'"),
+    ("polytwkb pack --style Plain", "'Plain'"),
+    ("polytwkb pack --style", "--style"),
+    ("polytwkb pack --style plain --style plain", "--style"),
+    ("polytwkb unpack --style plain", "--style"),
+    ("polytwkb show --style full", "--style"),
+];
 
 #[test]
 fn a_style_that_is_none_ends_with_2(rt: HostRuntime) {
-    let alloc = rt.alloc();
-    let rows = [
-        ("polytwkb pack --style thin", "'thin'"),
-        ("polytwkb pack --style Plain", "'Plain'"),
-        ("polytwkb pack --style", "--style"),
-        ("polytwkb pack --style plain --style plain", "--style"),
-        ("polytwkb unpack --style plain", "--style"),
-        ("polytwkb show --style full", "--style"),
-    ];
-    for (line, named) in rows {
-        assert!(rt; is_refused(alloc, line, named), "{line}");
-    }
+    assert_refused(&rt, rt.alloc(), &STYLES);
 }
+
+const UNKNOWN: [(&str, &str); 7] = [
+    ("polytwkb", "subcommand"),
+    ("polytwkb help", "'help'"),
+    ("polytwkb more", "'more'"),
+    ("polytwkb pack more", "'more'"),
+    ("polytwkb pack pack", "'pack'"),
+    ("polytwkb pack --unknown", "'--unknown'"),
+    ("polytwkb pack --version", "'--version'"),
+];
 
 #[test]
 fn words_that_are_unknown_end_with_2(rt: HostRuntime) {
-    let alloc = rt.alloc();
-    let rows = [
-        ("polytwkb", "subcommand"),
-        ("polytwkb help", "'help'"),
-        ("polytwkb more", "'more'"),
-        ("polytwkb pack more", "'more'"),
-        ("polytwkb pack pack", "'pack'"),
-        ("polytwkb pack --unknown", "'--unknown'"),
-        ("polytwkb pack --version", "'--version'"),
-    ];
-    for (line, named) in rows {
-        assert!(rt; is_refused(alloc, line, named), "{line}");
-    }
+    assert_refused(&rt, rt.alloc(), &UNKNOWN);
 }
 
 #[test]

@@ -70,16 +70,16 @@ fn each_write_is_told(alloc: Global, worked: Worked, end: FuseEnd) -> bool {
 
 #[test]
 fn each_write_that_fails_is_told_behind_the_bytes_before_it(rt: HostRuntime) {
-    for worked in WORKED {
-        let are_told = each_write_is_told(rt.alloc(), worked, FuseEnd::Fail);
+    for worked in &WORKED {
+        let are_told = each_write_is_told(rt.alloc(), *worked, FuseEnd::Fail);
         assert!(rt; are_told, "{:?} of {:?}", worked.0, worked.1);
     }
 }
 
 #[test]
 fn each_write_that_takes_nothing_is_told_behind_the_bytes_before_it(rt: HostRuntime) {
-    for worked in WORKED {
-        let are_told = each_write_is_told(rt.alloc(), worked, FuseEnd::Zero);
+    for worked in &WORKED {
+        let are_told = each_write_is_told(rt.alloc(), *worked, FuseEnd::Zero);
         assert!(rt; are_told, "{:?} of {:?}", worked.0, worked.1);
     }
 }
@@ -96,8 +96,8 @@ fn flush_is_told(alloc: Global, worked: Worked) -> bool {
 
 #[test]
 fn a_flush_that_fails_is_told_behind_all_output(rt: HostRuntime) {
-    for worked in WORKED {
-        let is_told = flush_is_told(rt.alloc(), worked);
+    for worked in &WORKED {
+        let is_told = flush_is_told(rt.alloc(), *worked);
         assert!(rt; is_told, "{:?} of {:?}", worked.0, worked.1);
     }
 }

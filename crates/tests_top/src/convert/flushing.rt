@@ -2,6 +2,7 @@
 use super::edge_devices::{Conversion, Flushes};
 use super::{cut_writer, stopped};
 use std::alloc::Global;
+use std::process::Abort;
 use twkb_convert::Cause;
 use twkb_io::{FuseEnd, Tap};
 
@@ -23,6 +24,22 @@ fn flushes(
     (writer.into_inner().last_flushes(), answer.is_ok())
 }
 
+// Asserts that each conversion flushes once and last, and is carried through or is not.
+fn assert_flushed(
+    rt: &impl Abort,
+    alloc: Global,
+    rows: &[(Conversion, &[u8])],
+    is_carried_through: bool,
+) {
+    for (conversion, input) in rows {
+        let seen = flushes(alloc, *conversion, *input, 999);
+        assert!(rt;
+            seen == (Some(1), is_carried_through),
+            "{conversion:?} of {input:?}"
+        );
+    }
+}
+
 #[test]
 fn a_conversion_that_is_carried_through_flushes_once_and_last(rt: HostRuntime) {
     let rows: [(Conversion, &[u8]); 6] = [
@@ -33,14 +50,7 @@ fn a_conversion_that_is_carried_through_flushes_once_and_last(rt: HostRuntime) {
         (Conversion::Show, BLOBS),
         (Conversion::Show, b""),
     ];
-    for (conversion, input) in rows {
-        let seen = flushes(rt.alloc(), conversion, input, 999);
-        assert!(rt;
-            seen == (Some(1), true),
-            "{conversion:?} of {} bytes",
-            input.len()
-        );
-    }
+    assert_flushed(&rt, rt.alloc(), &rows, true);
 }
 
 #[test]
@@ -54,14 +64,7 @@ fn a_refused_input_flushes_once_and_last(rt: HostRuntime) {
         (Conversion::Show, &BLOBS[..9]),
         (Conversion::Show, b"\x08"),
     ];
-    for (conversion, input) in rows {
-        let seen = flushes(rt.alloc(), conversion, input, 999);
-        assert!(rt;
-            seen == (Some(1), false),
-            "{conversion:?} of {} bytes",
-            input.len()
-        );
-    }
+    assert_flushed(&rt, rt.alloc(), &rows, false);
 }
 
 // Whether no flush follows where the writer takes so many bytes and no more.

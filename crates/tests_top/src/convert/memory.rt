@@ -36,7 +36,7 @@ fn a_refused_growth_leaves_a_front_of_the_blobs(rt: HostRuntime) {
         panic!(rt; "the last row is refused");
     };
     assert!(rt; stops_packing(fault), "{fault:?}");
-    assert_eq!(rt; fault.sent, blobs.len() as u64, "{fault:?}");
+    assert!(rt; fault.sent == blobs.len() as u64, "{fault:?}");
 }
 
 // Whether a stop may be that of the stream.
@@ -61,7 +61,7 @@ fn a_refused_growth_leaves_a_front_of_the_table(rt: HostRuntime) {
         panic!(rt; "the last blob is cut");
     };
     assert!(rt; stops_unpacking(fault), "{fault:?}");
-    assert_eq!(rt; fault.sent, table.len() as u64, "{fault:?}");
+    assert!(rt; fault.sent == table.len() as u64, "{fault:?}");
 }
 
 // Whether so many bytes were written of a geometry's output: all of it, or a front where memory was

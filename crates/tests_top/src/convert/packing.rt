@@ -10,15 +10,16 @@ fn is_a_point(alloc: Global, table: &[u8]) -> bool {
     packs_so(alloc, table, Style::Full, limits, report(1, 5), blob)
 }
 
+const POINTS: [&[u8]; 3] = [
+    b"depth,kind,id,precision,polyline\n0,point,,0,AC",
+    b"depth,kind,id,precision,polyline\n\"0\",\"point\",\"\",\"0\",\"AC\"\r\n",
+    b"\"depth\",\"kind\",\"id\",\"precision\",\"polyline\"\r\n\"0\",\"point\",\"\",\"0\",\"AC\"\r\n",
+];
+
 #[test]
 fn lines_and_fields_are_those_of_rfc_4180(rt: HostRuntime) {
-    let tables = [
-        b"depth,kind,id,precision,polyline\n0,point,,0,AC".as_slice(),
-        b"depth,kind,id,precision,polyline\n\"0\",\"point\",\"\",\"0\",\"AC\"\r\n".as_slice(),
-        b"\"depth\",\"kind\",\"id\",\"precision\",\"polyline\"\r\n\"0\",\"point\",\"\",\"0\",\"AC\"\r\n".as_slice(),
-    ];
-    for table in tables {
-        assert!(rt; is_a_point(rt.alloc(), table), "{table:?}");
+    for table in &POINTS {
+        assert!(rt; is_a_point(rt.alloc(), *table), "{table:?}");
     }
 }
 

@@ -1,6 +1,7 @@
 //! Streams that are refused, each at its byte for its reason, after the header's line.
 use super::{HEADER, stopped, unpacks_so};
 use std::alloc::Global;
+use std::process::Abort;
 use twkb_convert::{BlobReason, Cause};
 use twkb_geom::Limits;
 
@@ -21,106 +22,92 @@ fn refused(alloc: Global, blobs: &[u8], offset: u64, reason: BlobReason) -> bool
     refused_under(alloc, Limits::standard(), blobs, offset, reason)
 }
 
+// A stream, the offset at which it is refused, and why.
+type Refused = (&'static [u8], u64, BlobReason);
+
+fn assert_refused(rt: &impl Abort, alloc: Global, rows: &[Refused]) {
+    for (blobs, offset, reason) in rows {
+        assert!(rt; refused(alloc, *blobs, *offset, *reason), "{blobs:?}");
+    }
+}
+
+const ITEMS: [Refused; 6] = [
+    (b"\x08\x00", 0, BlobReason::BadType),
+    (b"\x01\x08\x01", 2, BlobReason::ExtraDimensions),
+    (
+        b"\x01\x00\xff\xff\xff\xff\xff\xff\xff\xff\xff\xff",
+        2,
+        BlobReason::BadVarint,
+    ),
+    (
+        b"\x01\x00\xfe\xff\xff\xff\xff\xff\xff\xff\xff\x01",
+        2,
+        BlobReason::CoordinateRange,
+    ),
+    (b"\x02\x00\x02\x02\x02\x08", 6, BlobReason::Truncated),
+    (
+        b"\x01\x00\xff\xff\xff\xff\xff\xff\xff\xff\xff",
+        2,
+        BlobReason::Truncated,
+    ),
+];
+
 #[test]
 fn a_refused_item_is_told_at_its_first_byte(rt: HostRuntime) {
-    let rows = [
-        (b"\x08\x00".as_slice(), 0, BlobReason::BadType),
-        (b"\x01\x08\x01".as_slice(), 2, BlobReason::ExtraDimensions),
-        (
-            b"\x01\x00\xff\xff\xff\xff\xff\xff\xff\xff\xff\xff".as_slice(),
-            2,
-            BlobReason::BadVarint,
-        ),
-        (
-            b"\x01\x00\xfe\xff\xff\xff\xff\xff\xff\xff\xff\x01".as_slice(),
-            2,
-            BlobReason::CoordinateRange,
-        ),
-        (
-            b"\x02\x00\x02\x02\x02\x08".as_slice(),
-            6,
-            BlobReason::Truncated,
-        ),
-        (
-            b"\x01\x00\xff\xff\xff\xff\xff\xff\xff\xff\xff".as_slice(),
-            2,
-            BlobReason::Truncated,
-        ),
-    ];
-    for (blobs, offset, reason) in rows {
-        assert!(rt; refused(rt.alloc(), blobs, offset, reason), "{blobs:?}");
-    }
+    assert_refused(&rt, rt.alloc(), &ITEMS);
 }
 
 // A count is looked at before what follows it: it announces nodes and points.
+const COUNTS: [Refused; 6] = [
+    (
+        b"\x02\x00\xff\xff\xff\xff\x0f",
+        2,
+        BlobReason::TooManyPoints,
+    ),
+    (b"\x02\x00\x80\x80\x80\x08", 6, BlobReason::Truncated),
+    (b"\x03\x00\x80\x80\x40", 2, BlobReason::TooManyNodes),
+    (b"\x03\x00\xff\xff\x3f", 5, BlobReason::Truncated),
+    (
+        b"\x04\x00\xff\xff\xff\xff\xff\xff\xff\xff\xff\x01",
+        2,
+        BlobReason::TooManyNodes,
+    ),
+    (
+        b"\x04\x00\xff\xff\xff\xff\xff\xff\xff\xff\xff\x02",
+        2,
+        BlobReason::BadVarint,
+    ),
+];
+
 #[test]
 fn a_count_is_refused_for_what_it_announces(rt: HostRuntime) {
-    let rows = [
-        (
-            b"\x02\x00\xff\xff\xff\xff\x0f".as_slice(),
-            2,
-            BlobReason::TooManyPoints,
-        ),
-        (
-            b"\x02\x00\x80\x80\x80\x08".as_slice(),
-            6,
-            BlobReason::Truncated,
-        ),
-        (
-            b"\x03\x00\x80\x80\x40".as_slice(),
-            2,
-            BlobReason::TooManyNodes,
-        ),
-        (b"\x03\x00\xff\xff\x3f".as_slice(), 5, BlobReason::Truncated),
-        (
-            b"\x04\x00\xff\xff\xff\xff\xff\xff\xff\xff\xff\x01".as_slice(),
-            2,
-            BlobReason::TooManyNodes,
-        ),
-        (
-            b"\x04\x00\xff\xff\xff\xff\xff\xff\xff\xff\xff\x02".as_slice(),
-            2,
-            BlobReason::BadVarint,
-        ),
-    ];
-    for (blobs, offset, reason) in rows {
-        assert!(rt; refused(rt.alloc(), blobs, offset, reason), "{blobs:?}");
-    }
+    assert_refused(&rt, rt.alloc(), &COUNTS);
 }
 
 // A size is held against its geometry's end alone, and an inner end comes first.
+const SIZES: [Refused; 5] = [
+    (b"\x01\x02\x03\x04\x02", 5, BlobReason::SizeMismatch),
+    (b"\x01\x02\x01\x04\x02", 5, BlobReason::SizeMismatch),
+    (
+        b"\x01\x02\xff\xff\xff\xff\xff\xff\xff\xff\xff\x01\x04\x02",
+        14,
+        BlobReason::SizeMismatch,
+    ),
+    (
+        b"\x07\x02\x00\x02\x01\x02\x03\x02\x02",
+        9,
+        BlobReason::SizeMismatch,
+    ),
+    (
+        b"\x01\x02\x03\x00\xfe\xff\xff\xff\xff\xff\xff\xff\xff\x01",
+        4,
+        BlobReason::CoordinateRange,
+    ),
+];
+
 #[test]
 fn a_size_is_refused_at_its_geometrys_end(rt: HostRuntime) {
-    let rows = [
-        (
-            b"\x01\x02\x03\x04\x02".as_slice(),
-            5,
-            BlobReason::SizeMismatch,
-        ),
-        (
-            b"\x01\x02\x01\x04\x02".as_slice(),
-            5,
-            BlobReason::SizeMismatch,
-        ),
-        (
-            b"\x01\x02\xff\xff\xff\xff\xff\xff\xff\xff\xff\x01\x04\x02".as_slice(),
-            14,
-            BlobReason::SizeMismatch,
-        ),
-        (
-            b"\x07\x02\x00\x02\x01\x02\x03\x02\x02".as_slice(),
-            9,
-            BlobReason::SizeMismatch,
-        ),
-        (
-            b"\x01\x02\x03\x00\xfe\xff\xff\xff\xff\xff\xff\xff\xff\x01".as_slice(),
-            4,
-            BlobReason::CoordinateRange,
-        ),
-    ];
-    for (blobs, offset, reason) in rows {
-        assert!(rt; refused(rt.alloc(), blobs, offset, reason), "{blobs:?}");
-    }
+    assert_refused(&rt, rt.alloc(), &SIZES);
 }
 
 const MEMBERS: &[u8] = b"\x07\x07\x0f\x02\x00\x02\x00\x02\x0e\x01\x01\x02\x02\x02\x02\x02\x12\x00";
@@ -171,39 +158,38 @@ fn refused_within(
     }
 }
 
+const ABOVE_LIMITS: [((u32, u32, u32), &[u8], u64, BlobReason); 4] = [
+    (
+        (0, 9, 9),
+        b"\x07\x00\x01\x01\x00\x02\x02",
+        2,
+        BlobReason::TooDeep,
+    ),
+    (
+        (16, 2, 9),
+        b"\x04\x00\x02\x02\x02\x00\x00",
+        2,
+        BlobReason::TooManyNodes,
+    ),
+    (
+        (16, 9, 1),
+        b"\x02\x00\x02\x02\x02\x08\x08",
+        2,
+        BlobReason::TooManyPoints,
+    ),
+    (
+        (16, 9, 0),
+        b"\x01\x00\x04\x02",
+        1,
+        BlobReason::TooManyPoints,
+    ),
+];
+
 #[test]
 fn an_item_above_a_limit_is_refused(rt: HostRuntime) {
-    let rows = [
-        (
-            (0, 9, 9),
-            b"\x07\x00\x01\x01\x00\x02\x02".as_slice(),
-            2,
-            BlobReason::TooDeep,
-        ),
-        (
-            (16, 2, 9),
-            b"\x04\x00\x02\x02\x02\x00\x00".as_slice(),
-            2,
-            BlobReason::TooManyNodes,
-        ),
-        (
-            (16, 9, 1),
-            b"\x02\x00\x02\x02\x02\x08\x08".as_slice(),
-            2,
-            BlobReason::TooManyPoints,
-        ),
-        (
-            (16, 9, 0),
-            b"\x01\x00\x04\x02".as_slice(),
-            1,
-            BlobReason::TooManyPoints,
-        ),
-    ];
-    for (most, blobs, offset, reason) in rows {
-        assert!(rt;
-            refused_within(rt.alloc(), most, blobs, offset, reason),
-            "{blobs:?}"
-        );
+    for (most, blobs, offset, reason) in &ABOVE_LIMITS {
+        let is_refused = refused_within(rt.alloc(), *most, *blobs, *offset, *reason);
+        assert!(rt; is_refused, "{blobs:?}");
     }
 }
 

@@ -33,33 +33,30 @@ fn no_blobs_have_no_lines(rt: HostRuntime) {
     assert!(rt; shows(rt.alloc(), b"", 0, ""));
 }
 
+const HEADERS: [(u64, &[u8], &str); 5] = [
+    (1, b"\xF1\x02\x02\x04\x02", "0 0 point -8 02 5 1\n"),
+    (1, b"\x01\xE0\x04\x02", "0 0 point 0 E0 4 1\n"),
+    (
+        1,
+        b"\xA2\x03\x23\xE7\xCE\x87\x0C\xA8\xAA\x4C\xA0\xFC\xD5\x03\x80\x81\x3A\x03\xBF\xA4\xBB\x0B\xA0\xFC\xD5\x03\xEF\x93\x09\xC0\xED\x1A\xB7\x96\x43\xC0\x93\x1F",
+        "0 0 linestring 5 03 38 3\n",
+    ),
+    (
+        1,
+        b"\x07\x07\x0F\x02\x00\x02\x00\x02\x0E\x01\x01\x02\x02\x02\x02\x02\x12\x00",
+        "0 0 collection 0 07 18 1\n1 10 point 0 02 5 1\n1 15 linestring 0 12 3 0\n",
+    ),
+    (
+        2,
+        b"\x01\x00\x04\x02\x01\x12\x00",
+        "0 0 point 0 00 4 1\n0 4 point 0 12 3 0\n",
+    ),
+];
+
 #[test]
 fn a_line_stands_for_each_header(rt: HostRuntime) {
-    let rows = [
-        (
-            1,
-            b"\xF1\x02\x02\x04\x02".as_slice(),
-            "0 0 point -8 02 5 1\n",
-        ),
-        (1, b"\x01\xE0\x04\x02".as_slice(), "0 0 point 0 E0 4 1\n"),
-        (
-            1,
-            b"\xA2\x03\x23\xE7\xCE\x87\x0C\xA8\xAA\x4C\xA0\xFC\xD5\x03\x80\x81\x3A\x03\xBF\xA4\xBB\x0B\xA0\xFC\xD5\x03\xEF\x93\x09\xC0\xED\x1A\xB7\x96\x43\xC0\x93\x1F".as_slice(),
-            "0 0 linestring 5 03 38 3\n",
-        ),
-        (
-            1,
-            b"\x07\x07\x0F\x02\x00\x02\x00\x02\x0E\x01\x01\x02\x02\x02\x02\x02\x12\x00".as_slice(),
-            "0 0 collection 0 07 18 1\n1 10 point 0 02 5 1\n1 15 linestring 0 12 3 0\n",
-        ),
-        (
-            2,
-            b"\x01\x00\x04\x02\x01\x12\x00".as_slice(),
-            "0 0 point 0 00 4 1\n0 4 point 0 12 3 0\n",
-        ),
-    ];
-    for (geometries, blobs, lines) in rows {
-        assert!(rt; shows(rt.alloc(), blobs, geometries, lines), "{lines}");
+    for (geometries, blobs, lines) in &HEADERS {
+        assert!(rt; shows(rt.alloc(), *blobs, *geometries, *lines), "{lines}");
     }
 }
 
@@ -133,5 +130,5 @@ fn a_refused_growth_leaves_a_front_of_the_lines(rt: HostRuntime) {
         panic!(rt; "the last blob is cut");
     };
     assert!(rt; may_stop(fault), "{fault:?}");
-    assert_eq!(rt; fault.sent, lines.len() as u64, "{fault:?}");
+    assert!(rt; fault.sent == lines.len() as u64, "{fault:?}");
 }

@@ -8,49 +8,51 @@ use twkb_table::{
 };
 
 // The format's canonical decimals, and spellings of the same numbers that are none.
+const DEPTHS: [(&[u8], Option<u32>); 15] = [
+    (b"0", Some(0)),
+    (b"7", Some(7)),
+    (b"10", Some(10)),
+    (b"999", Some(999)),
+    (b"1000", None),
+    (b"00", None),
+    (b"01", None),
+    (b"+1", None),
+    (b"-1", None),
+    (b"-0", None),
+    (b" 1", None),
+    (b"1 ", None),
+    (b"", None),
+    (b"x", None),
+    (b"\xff", None),
+];
+
 #[test]
 fn a_depth_is_a_canonical_decimal_up_to_999(rt: HostRuntime) {
-    let rows = [
-        (b"0".as_slice(), Some(0)),
-        (b"7".as_slice(), Some(7)),
-        (b"10".as_slice(), Some(10)),
-        (b"999".as_slice(), Some(999)),
-        (b"1000".as_slice(), None),
-        (b"00".as_slice(), None),
-        (b"01".as_slice(), None),
-        (b"+1".as_slice(), None),
-        (b"-1".as_slice(), None),
-        (b"-0".as_slice(), None),
-        (b" 1".as_slice(), None),
-        (b"1 ".as_slice(), None),
-        (b"".as_slice(), None),
-        (b"x".as_slice(), None),
-        (b"\xff".as_slice(), None),
-    ];
-    for (field, depth) in rows {
-        assert!(rt; parse_depth(field) == depth, "depth {field:?}");
+    for (field, depth) in &DEPTHS {
+        assert!(rt; parse_depth(*field) == *depth, "depth {field:?}");
     }
 }
 
+const IDS: [(&[u8], Option<i64>); 13] = [
+    (b"0", Some(0)),
+    (b"-1", Some(-1)),
+    (b"9223372036854775807", Some(i64::MAX)),
+    (b"-9223372036854775808", Some(i64::MIN)),
+    (b"9223372036854775808", None),
+    (b"-9223372036854775809", None),
+    (b"-0", None),
+    (b"-01", None),
+    (b"007", None),
+    (b"+7", None),
+    (b"-", None),
+    (b"7.0", None),
+    (b"\xd9\xa1", None),
+];
+
 #[test]
 fn an_id_is_a_canonical_decimal_of_an_i64(rt: HostRuntime) {
-    let rows = [
-        (b"0".as_slice(), Some(0)),
-        (b"-1".as_slice(), Some(-1)),
-        (b"9223372036854775807".as_slice(), Some(i64::MAX)),
-        (b"-9223372036854775808".as_slice(), Some(i64::MIN)),
-        (b"9223372036854775808".as_slice(), None),
-        (b"-9223372036854775809".as_slice(), None),
-        (b"-0".as_slice(), None),
-        (b"-01".as_slice(), None),
-        (b"007".as_slice(), None),
-        (b"+7".as_slice(), None),
-        (b"-".as_slice(), None),
-        (b"7.0".as_slice(), None),
-        (b"\xd9\xa1".as_slice(), None),
-    ];
-    for (field, id) in rows {
-        assert!(rt; parse_id(field) == id, "id {field:?}");
+    for (field, id) in &IDS {
+        assert!(rt; parse_id(*field) == *id, "id {field:?}");
     }
 }
 
@@ -61,19 +63,23 @@ fn an_id_may_be_left_out(rt: HostRuntime) {
     assert!(rt; parse_optional_id(b"x").is_none(), "id x");
 }
 
+const PRECISIONS: [(&[u8], Option<i8>); 7] = [
+    (b"-8", Some(-8)),
+    (b"0", Some(0)),
+    (b"7", Some(7)),
+    (b"8", None),
+    (b"-9", None),
+    (b"-0", None),
+    (b"07", None),
+];
+
 #[test]
 fn a_precision_is_a_canonical_decimal_from_minus_8_to_7(rt: HostRuntime) {
-    let rows = [
-        (b"-8".as_slice(), Some(-8)),
-        (b"0".as_slice(), Some(0)),
-        (b"7".as_slice(), Some(7)),
-        (b"8".as_slice(), None),
-        (b"-9".as_slice(), None),
-        (b"-0".as_slice(), None),
-        (b"07".as_slice(), None),
-    ];
-    for (field, precision) in rows {
-        assert!(rt; parse_precision(field) == precision, "precision {field:?}");
+    for (field, precision) in &PRECISIONS {
+        assert!(rt;
+            parse_precision(*field) == *precision,
+            "precision {field:?}"
+        );
     }
 }
 
@@ -93,37 +99,39 @@ fn prints(alloc: Global, number: i64, printed: &[u8]) -> bool {
     push_decimal(&mut text, number).is_ok() && text.as_slice() == printed
 }
 
+const NUMBERS: [(i64, &[u8]); 4] = [
+    (0, b"0"),
+    (-1, b"-1"),
+    (999, b"999"),
+    (i64::MIN, b"-9223372036854775808"),
+];
+
 #[test]
 fn numbers_are_printed_as_canonical_decimals(rt: HostRuntime) {
-    let rows = [
-        (0, b"0".as_slice()),
-        (-1, b"-1".as_slice()),
-        (999, b"999".as_slice()),
-        (i64::MIN, b"-9223372036854775808".as_slice()),
-    ];
-    for (number, printed) in rows {
-        assert!(rt; prints(rt.alloc(), number, printed), "{number}");
+    for (number, printed) in &NUMBERS {
+        assert!(rt; prints(rt.alloc(), *number, *printed), "{number}");
     }
 }
 
+const WORDS: [(&[u8], Option<Kind>); 12] = [
+    (b"point", Some(Kind::Point)),
+    (b"linestring", Some(Kind::Linestring)),
+    (b"polygon", Some(Kind::Polygon)),
+    (b"ring", Some(Kind::Ring)),
+    (b"multipoint", Some(Kind::MultiPoint)),
+    (b"multilinestring", Some(Kind::MultiLinestring)),
+    (b"multipolygon", Some(Kind::MultiPolygon)),
+    (b"collection", Some(Kind::Collection)),
+    (b"Point", None),
+    (b"pont", None),
+    (b"points", None),
+    (b"", None),
+];
+
 #[test]
 fn the_eight_words_name_the_kinds(rt: HostRuntime) {
-    let rows = [
-        (b"point".as_slice(), Some(Kind::Point)),
-        (b"linestring".as_slice(), Some(Kind::Linestring)),
-        (b"polygon".as_slice(), Some(Kind::Polygon)),
-        (b"ring".as_slice(), Some(Kind::Ring)),
-        (b"multipoint".as_slice(), Some(Kind::MultiPoint)),
-        (b"multilinestring".as_slice(), Some(Kind::MultiLinestring)),
-        (b"multipolygon".as_slice(), Some(Kind::MultiPolygon)),
-        (b"collection".as_slice(), Some(Kind::Collection)),
-        (b"Point".as_slice(), None),
-        (b"pont".as_slice(), None),
-        (b"points".as_slice(), None),
-        (b"".as_slice(), None),
-    ];
-    for (field, kind) in rows {
-        assert!(rt; parse_kind(field) == kind, "kind {field:?}");
+    for (field, kind) in &WORDS {
+        assert!(rt; parse_kind(*field) == *kind, "kind {field:?}");
     }
 }
 
@@ -140,30 +148,31 @@ fn tells(alloc: Global, reason: RowReason, text: &str) -> bool {
     }
 }
 
+const REASONS: [(RowReason, &str); 16] = [
+    (RowReason::BadHeader, "bad header"),
+    (RowReason::FieldCount, "not five fields"),
+    (RowReason::BadDepth, "bad depth"),
+    (RowReason::BadKind, "unknown kind"),
+    (RowReason::BadPlace, "kind not allowed there"),
+    (RowReason::TooDeep, "nested too deep"),
+    (RowReason::TooManyNodes, "too many rows in one geometry"),
+    (RowReason::BadId, "bad id"),
+    (RowReason::IdNotAllowed, "id not allowed"),
+    (RowReason::MixedIds, "id on some children only"),
+    (RowReason::BadPrecision, "bad precision"),
+    (RowReason::PrecisionMissing, "precision missing"),
+    (RowReason::PrecisionNotAllowed, "precision not allowed"),
+    (RowReason::PolylineNotAllowed, "polyline not allowed"),
+    (
+        RowReason::Polyline(1, PolyReason::Half),
+        "polyline at 1: latitude without longitude",
+    ),
+    (RowReason::PointCount, "wrong number of points"),
+];
+
 #[test]
 fn reasons_have_their_texts(rt: HostRuntime) {
-    let rows = [
-        (RowReason::BadHeader, "bad header"),
-        (RowReason::FieldCount, "not five fields"),
-        (RowReason::BadDepth, "bad depth"),
-        (RowReason::BadKind, "unknown kind"),
-        (RowReason::BadPlace, "kind not allowed there"),
-        (RowReason::TooDeep, "nested too deep"),
-        (RowReason::TooManyNodes, "too many rows in one geometry"),
-        (RowReason::BadId, "bad id"),
-        (RowReason::IdNotAllowed, "id not allowed"),
-        (RowReason::MixedIds, "id on some children only"),
-        (RowReason::BadPrecision, "bad precision"),
-        (RowReason::PrecisionMissing, "precision missing"),
-        (RowReason::PrecisionNotAllowed, "precision not allowed"),
-        (RowReason::PolylineNotAllowed, "polyline not allowed"),
-        (
-            RowReason::Polyline(1, PolyReason::Half),
-            "polyline at 1: latitude without longitude",
-        ),
-        (RowReason::PointCount, "wrong number of points"),
-    ];
-    for (reason, text) in rows {
-        assert!(rt; tells(rt.alloc(), reason, text), "{text}");
+    for (reason, text) in &REASONS {
+        assert!(rt; tells(rt.alloc(), *reason, *text), "{text}");
     }
 }

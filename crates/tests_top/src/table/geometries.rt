@@ -39,6 +39,14 @@ fn lines(alloc: Global, first: &[(i64, i64)], second: &[(i64, i64)]) -> Option<L
     Some(Lines::from_vec(lines))
 }
 
+/// A polygon, and one without rings behind it.
+fn areas(alloc: Global, first: Lines) -> Option<Areas> {
+    let mut areas = Vec::new(alloc);
+    areas.push(first).ok()?;
+    areas.push(Lines::from_vec(Vec::new(alloc))).ok()?;
+    Some(Areas::from_vec(areas))
+}
+
 /// `0,collection,,0,` / `1,point,7,0,AA` / `1,linestring,-1,0,`
 pub fn point_and_line(alloc: Global) -> Option<Geometry> {
     let mut members = Vec::new(alloc);
@@ -50,11 +58,9 @@ pub fn point_and_line(alloc: Global) -> Option<Geometry> {
 
 /// `0,multipolygon,,0,` / `1,polygon,3,,` / `2,ring,,,AA` / `2,ring,,,` / `1,polygon,4,,`
 pub fn two_polygons(alloc: Global) -> Option<Geometry> {
-    let mut areas = Vec::new(alloc);
-    areas.push(lines(alloc, &[(1, 1)], &[])?).ok()?;
-    areas.push(Lines::from_vec(Vec::new(alloc))).ok()?;
     let ids = ids(alloc, 3, 4)?;
-    geometry(0, Shape::MultiPolygon(Areas::from_vec(areas), ids))
+    let areas = areas(alloc, lines(alloc, &[(1, 1)], &[])?)?;
+    geometry(0, Shape::MultiPolygon(areas, ids))
 }
 
 /// `0,polygon,,0,` / `1,ring,,,???GGF` / `1,ring,,,AA?AA@`

@@ -1,6 +1,7 @@
 //! Worked tables that are refused, each at its record for its reason.
 use super::fixtures::{read_rows, read_text};
 use std::alloc::Global;
+use std::process::Abort;
 use twkb_geom::Limits;
 use twkb_polyline::PolyReason;
 use twkb_table::{RowReason, TableFault};
@@ -29,6 +30,23 @@ fn refused(alloc: Global, rows: &[u8], count: u32, number: u64, reason: RowReaso
     ends_so(alloc, Limits::standard(), rows, count, at(number, reason))
 }
 
+/// Rows, the record of them that is refused, and why.
+type Refused = (&'static [u8], u64, RowReason);
+
+/// Asserts that each of these is refused at its record, behind so many geometries.
+fn assert_refused(rt: &impl Abort, alloc: Global, count: u32, tables: &[Refused]) {
+    for (rows, number, reason) in tables {
+        assert!(rt; refused(alloc, *rows, count, *number, *reason), "{rows:?}");
+    }
+}
+
+/// Asserts that each of these is refused for its reason at the record of this number.
+fn assert_refused_at(rt: &impl Abort, alloc: Global, number: u64, tables: &[(&[u8], RowReason)]) {
+    for (rows, reason) in tables {
+        assert!(rt; refused(alloc, *rows, 0, number, *reason), "{rows:?}");
+    }
+}
+
 /// Whether a text is refused at its first record.
 fn has_no_header(alloc: Global, text: &[u8]) -> bool {
     match read_text(alloc, text) {
@@ -37,158 +55,129 @@ fn has_no_header(alloc: Global, text: &[u8]) -> bool {
     }
 }
 
+const NO_HEADERS: [&[u8]; 7] = [
+    b"",
+    b"\n\n",
+    b"0,point,,0,AC\n",
+    b"depth,kind,id,precision\n",
+    b"depth,kind,id,precision,polyline,\n",
+    b"Depth,kind,id,precision,polyline\n",
+    b"depth,kind,id,precision, polyline\n",
+];
+
 #[test]
 fn a_table_begins_with_its_header(rt: HostRuntime) {
-    let texts = [
-        b"".as_slice(),
-        b"\n\n".as_slice(),
-        b"0,point,,0,AC\n".as_slice(),
-        b"depth,kind,id,precision\n".as_slice(),
-        b"depth,kind,id,precision,polyline,\n".as_slice(),
-        b"Depth,kind,id,precision,polyline\n".as_slice(),
-        b"depth,kind,id,precision, polyline\n".as_slice(),
-    ];
-    for text in texts {
-        assert!(rt; has_no_header(rt.alloc(), text), "{text:?}");
+    for text in &NO_HEADERS {
+        assert!(rt; has_no_header(rt.alloc(), *text), "{text:?}");
     }
 }
+
+const ONLY_ROWS: [(&[u8], RowReason); 14] = [
+    (b"0,point,,0\n", RowReason::FieldCount),
+    (b"0,point,,0,AC,\n", RowReason::FieldCount),
+    (b"00,point,,0,AC\n", RowReason::BadDepth),
+    (b"-1,point,,0,AC\n", RowReason::BadDepth),
+    (b"0,pont,,0,\n", RowReason::BadKind),
+    (b"1,point,,0,AC\n", RowReason::BadPlace),
+    (b"0,ring,,,\n", RowReason::BadPlace),
+    (b"0,point,x,0,AC\n", RowReason::BadId),
+    (b"0,point,7,0,AC\n", RowReason::IdNotAllowed),
+    (b"0,point,,8,AC\n", RowReason::BadPrecision),
+    (b"0,point,,-0,AC\n", RowReason::BadPrecision),
+    (b"0,point,,,AC\n", RowReason::PrecisionMissing),
+    (b"0,polygon,,0,AC\n", RowReason::PolylineNotAllowed),
+    (b"0,point,,0,AAAA\n", RowReason::PointCount),
+];
 
 #[test]
 fn the_only_row_is_refused_for_its_reason(rt: HostRuntime) {
-    let rows = [
-        (b"0,point,,0\n".as_slice(), RowReason::FieldCount),
-        (b"0,point,,0,AC,\n".as_slice(), RowReason::FieldCount),
-        (b"00,point,,0,AC\n".as_slice(), RowReason::BadDepth),
-        (b"-1,point,,0,AC\n".as_slice(), RowReason::BadDepth),
-        (b"0,pont,,0,\n".as_slice(), RowReason::BadKind),
-        (b"1,point,,0,AC\n".as_slice(), RowReason::BadPlace),
-        (b"0,ring,,,\n".as_slice(), RowReason::BadPlace),
-        (b"0,point,x,0,AC\n".as_slice(), RowReason::BadId),
-        (b"0,point,7,0,AC\n".as_slice(), RowReason::IdNotAllowed),
-        (b"0,point,,8,AC\n".as_slice(), RowReason::BadPrecision),
-        (b"0,point,,-0,AC\n".as_slice(), RowReason::BadPrecision),
-        (b"0,point,,,AC\n".as_slice(), RowReason::PrecisionMissing),
-        (
-            b"0,polygon,,0,AC\n".as_slice(),
-            RowReason::PolylineNotAllowed,
-        ),
-        (b"0,point,,0,AAAA\n".as_slice(), RowReason::PointCount),
-    ];
-    for (row, reason) in rows {
-        assert!(rt; refused(rt.alloc(), row, 0, 2, reason), "{row:?}");
-    }
+    assert_refused_at(&rt, rt.alloc(), 2, &ONLY_ROWS);
 }
+
+const POLYLINES: [(&[u8], usize, PolyReason); 6] = [
+    (b"0,linestring,,0,A\n", 1, PolyReason::Half),
+    (b"0,linestring,,0,_\n", 0, PolyReason::Cut),
+    (b"0,linestring,,0,_?\n", 0, PolyReason::Padded),
+    (b"0,linestring,,0,A A\n", 1, PolyReason::BadChar),
+    (b"0,linestring,,0,~~~~~~~~~~~~~\n", 0, PolyReason::TooLong),
+    (b"0,linestring,,0,____________G?\n", 0, PolyReason::Range),
+];
 
 #[test]
 fn a_polyline_is_refused_at_its_byte(rt: HostRuntime) {
-    let rows = [
-        (b"0,linestring,,0,A\n".as_slice(), 1, PolyReason::Half),
-        (b"0,linestring,,0,_\n".as_slice(), 0, PolyReason::Cut),
-        (b"0,linestring,,0,_?\n".as_slice(), 0, PolyReason::Padded),
-        (b"0,linestring,,0,A A\n".as_slice(), 1, PolyReason::BadChar),
-        (
-            b"0,linestring,,0,~~~~~~~~~~~~~\n".as_slice(),
-            0,
-            PolyReason::TooLong,
-        ),
-        (
-            b"0,linestring,,0,____________G?\n".as_slice(),
-            0,
-            PolyReason::Range,
-        ),
-    ];
-    for (row, offset, why) in rows {
-        let reason = RowReason::Polyline(offset, why);
-        assert!(rt; refused(rt.alloc(), row, 0, 2, reason), "{row:?}");
+    for (row, offset, why) in &POLYLINES {
+        let reason = RowReason::Polyline(*offset, *why);
+        assert!(rt; refused(rt.alloc(), *row, 0, 2, reason), "{row:?}");
     }
 }
+
+const BEHIND_OTHERS: [Refused; 4] = [
+    (
+        b"0,multilinestring,,0,\n1,linestring,5,,AA\n1,linestring,,,AA\n",
+        4,
+        RowReason::MixedIds,
+    ),
+    (
+        b"0,multilinestring,,0,\n1,linestring,,,AA\n1,linestring,,,AA\n1,linestring,5,,AA\n",
+        5,
+        RowReason::MixedIds,
+    ),
+    (
+        b"0,collection,,0,\n1,polygon,,,\n",
+        3,
+        RowReason::PrecisionMissing,
+    ),
+    (
+        b"0,polygon,,0,\n1,ring,,0,AA\n",
+        3,
+        RowReason::PrecisionNotAllowed,
+    ),
+];
 
 #[test]
 fn a_row_behind_others_is_refused_for_its_reason(rt: HostRuntime) {
-    let rows = [
-        (
-            b"0,multilinestring,,0,\n1,linestring,5,,AA\n1,linestring,,,AA\n".as_slice(),
-            4,
-            RowReason::MixedIds,
-        ),
-        (
-            b"0,multilinestring,,0,\n1,linestring,,,AA\n1,linestring,,,AA\n1,linestring,5,,AA\n".as_slice(),
-            5,
-            RowReason::MixedIds,
-        ),
-        (
-            b"0,collection,,0,\n1,polygon,,,\n".as_slice(),
-            3,
-            RowReason::PrecisionMissing,
-        ),
-        (
-            b"0,polygon,,0,\n1,ring,,0,AA\n".as_slice(),
-            3,
-            RowReason::PrecisionNotAllowed,
-        ),
-    ];
-    for (row, number, reason) in rows {
-        assert!(rt; refused(rt.alloc(), row, 0, number, reason), "{row:?}");
-    }
+    assert_refused(&rt, rt.alloc(), 0, &BEHIND_OTHERS);
 }
+
+const PARTS: [(&[u8], RowReason); 6] = [
+    (b"0,polygon,,0,\n1,ring,1,,AA\n", RowReason::IdNotAllowed),
+    (b"0,polygon,,0,\n2,ring,,,AA\n", RowReason::BadPlace),
+    (b"0,polygon,,0,\n1,point,,,AA\n", RowReason::BadPlace),
+    (b"0,collection,,0,\n1,ring,,,AA\n", RowReason::BadPlace),
+    (b"0,multipoint,,0,\n1,point,,,\n", RowReason::PointCount),
+    (
+        b"0,multipoint,,0,\n1,point,9223372036854775808,,AA\n",
+        RowReason::BadId,
+    ),
+];
 
 #[test]
 fn a_part_is_refused_for_its_reason(rt: HostRuntime) {
-    let rows = [
-        (
-            b"0,polygon,,0,\n1,ring,1,,AA\n".as_slice(),
-            RowReason::IdNotAllowed,
-        ),
-        (
-            b"0,polygon,,0,\n2,ring,,,AA\n".as_slice(),
-            RowReason::BadPlace,
-        ),
-        (
-            b"0,polygon,,0,\n1,point,,,AA\n".as_slice(),
-            RowReason::BadPlace,
-        ),
-        (
-            b"0,collection,,0,\n1,ring,,,AA\n".as_slice(),
-            RowReason::BadPlace,
-        ),
-        (
-            b"0,multipoint,,0,\n1,point,,,\n".as_slice(),
-            RowReason::PointCount,
-        ),
-        (
-            b"0,multipoint,,0,\n1,point,9223372036854775808,,AA\n".as_slice(),
-            RowReason::BadId,
-        ),
-    ];
-    for (row, reason) in rows {
-        assert!(rt; refused(rt.alloc(), row, 0, 3, reason), "{row:?}");
-    }
+    assert_refused_at(&rt, rt.alloc(), 3, &PARTS);
 }
 
 // The geometry that a refused row might have belonged to is not given; blank lines have no number.
+const BEHIND_ONE: [Refused; 3] = [
+    (
+        b"0,point,,0,AC\n0,point,,0,AA\n0,pont,,0,\n",
+        4,
+        RowReason::BadKind,
+    ),
+    (
+        b"0,point,,0,AC\n0,polygon,,0,\n1,ring,,,AA\n1,ring,,,A\n",
+        5,
+        RowReason::Polyline(1, PolyReason::Half),
+    ),
+    (
+        b"\n\n0,point,,0,AC\n\n0,point,,0,AA\n\n\n0,pont,,0,\n",
+        4,
+        RowReason::BadKind,
+    ),
+];
+
 #[test]
 fn the_last_geometry_before_a_refused_row_is_not_given(rt: HostRuntime) {
-    let half = RowReason::Polyline(1, PolyReason::Half);
-    let rows = [
-        (
-            b"0,point,,0,AC\n0,point,,0,AA\n0,pont,,0,\n".as_slice(),
-            4,
-            RowReason::BadKind,
-        ),
-        (
-            b"0,point,,0,AC\n0,polygon,,0,\n1,ring,,,AA\n1,ring,,,A\n".as_slice(),
-            5,
-            half,
-        ),
-        (
-            b"\n\n0,point,,0,AC\n\n0,point,,0,AA\n\n\n0,pont,,0,\n".as_slice(),
-            4,
-            RowReason::BadKind,
-        ),
-    ];
-    for (row, number, reason) in rows {
-        assert!(rt; refused(rt.alloc(), row, 1, number, reason), "{row:?}");
-    }
+    assert_refused(&rt, rt.alloc(), 1, &BEHIND_ONE);
 }
 
 /// Whether a row below a multilinestring and its first member is refused for this reason.
@@ -200,33 +189,28 @@ fn third(alloc: Global, row: &[u8], reason: RowReason) -> bool {
 }
 
 // Each reason where the next one holds too: the first is told.
+const FIRST_REASONS: [(&[u8], RowReason); 12] = [
+    (b"x,pont,,0\n", RowReason::FieldCount),
+    (b"x,pont,,0,AC\n", RowReason::BadDepth),
+    (b"9,pont,x,9,A\n", RowReason::BadKind),
+    (b"9,linestring,x,9,A\n", RowReason::BadPlace),
+    (b"1,linestring,x,9,A\n", RowReason::BadId),
+    (b"0,linestring,1,9,A\n", RowReason::IdNotAllowed),
+    (b"1,linestring,,9,A\n", RowReason::MixedIds),
+    (b"1,linestring,1,9,A\n", RowReason::BadPrecision),
+    (b"0,polygon,,,A\n", RowReason::PrecisionMissing),
+    (b"1,linestring,1,0,A\n", RowReason::PrecisionNotAllowed),
+    (b"0,polygon,,0,A\n", RowReason::PolylineNotAllowed),
+    (
+        b"0,point,,0,AAAAA\n",
+        RowReason::Polyline(5, PolyReason::Half),
+    ),
+];
+
 #[test]
 fn the_first_reason_is_told(rt: HostRuntime) {
-    let rows = [
-        (b"x,pont,,0\n".as_slice(), RowReason::FieldCount),
-        (b"x,pont,,0,AC\n".as_slice(), RowReason::BadDepth),
-        (b"9,pont,x,9,A\n".as_slice(), RowReason::BadKind),
-        (b"9,linestring,x,9,A\n".as_slice(), RowReason::BadPlace),
-        (b"1,linestring,x,9,A\n".as_slice(), RowReason::BadId),
-        (b"0,linestring,1,9,A\n".as_slice(), RowReason::IdNotAllowed),
-        (b"1,linestring,,9,A\n".as_slice(), RowReason::MixedIds),
-        (b"1,linestring,1,9,A\n".as_slice(), RowReason::BadPrecision),
-        (b"0,polygon,,,A\n".as_slice(), RowReason::PrecisionMissing),
-        (
-            b"1,linestring,1,0,A\n".as_slice(),
-            RowReason::PrecisionNotAllowed,
-        ),
-        (
-            b"0,polygon,,0,A\n".as_slice(),
-            RowReason::PolylineNotAllowed,
-        ),
-        (
-            b"0,point,,0,AAAAA\n".as_slice(),
-            RowReason::Polyline(5, PolyReason::Half),
-        ),
-    ];
-    for (row, reason) in rows {
-        assert!(rt; third(rt.alloc(), row, reason), "{row:?}");
+    for (row, reason) in &FIRST_REASONS {
+        assert!(rt; third(rt.alloc(), *row, *reason), "{row:?}");
     }
 }
 

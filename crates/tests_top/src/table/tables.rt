@@ -6,6 +6,7 @@ use super::geometries::{
 };
 use std::alloc::Global;
 use std::io::Read;
+use std::process::Abort;
 use twkb_geom::{Areas, Flat, Geometry, Limits, Lines, Shape, Work};
 use twkb_io::Tap;
 use twkb_table::{TableReader, put_flat_rows, put_rows, rows_text};
@@ -60,59 +61,75 @@ fn is_read(alloc: Global, geometry: &Geometry, rows: &[u8]) -> Option<bool> {
     Some(names(alloc, &mut tap, geometry))
 }
 
-/// Whether these are the rows of the geometry that was made.
-fn are_rows(alloc: Global, made: Option<Geometry>, rows: &[u8]) -> bool {
+/// Asserts that these are the rows of the geometry that was made.
+fn assert_rows(rt: &impl Abort, alloc: Global, made: &Option<Geometry>, rows: &[u8]) {
     let Some(geometry) = made else {
-        return false;
+        panic!(rt; "no geometry");
     };
-    holds(is_printed(alloc, &geometry, rows))
-        && holds(is_printed_flat(alloc, &geometry, rows))
-        && holds(is_read(alloc, &geometry, rows))
-}
-
-/// Whether these are the rows of a shape of precision 0.
-fn are_rows_of(alloc: Global, shape: Shape, rows: &[u8]) -> bool {
-    are_rows(alloc, geometry(0, shape), rows)
-}
-
-/// Whether these are the rows of a linestring.
-fn are_rows_of_line(alloc: Global, precision: i8, places: &[(i64, i64)], rows: &[u8]) -> bool {
-    are_rows(alloc, line(alloc, precision, places), rows)
+    assert!(rt;
+        holds(is_printed(alloc, geometry, rows)),
+        "{rows:?} of a tree"
+    );
+    assert!(rt;
+        holds(is_printed_flat(alloc, geometry, rows)),
+        "{rows:?} of a form"
+    );
+    assert!(rt; holds(is_read(alloc, geometry, rows)), "{rows:?} read");
 }
 
 // The worked tables of one point: the ends of precisions.
 #[test]
 fn one_row_names_one_point(rt: HostRuntime) {
-    assert!(rt; are_rows(rt.alloc(), dot(0, 2, 1), b"0,point,,0,AC\n"));
-    assert!(rt; are_rows(rt.alloc(), dot(-8, 2, 1), b"0,point,,-8,AC\n"));
-    assert!(rt; are_rows(rt.alloc(), dot(7, 2, 1), b"0,point,,7,AC\n"));
-    assert!(rt; are_rows_of(rt.alloc(), Shape::Point(None), b"0,point,,0,\n"));
+    assert_rows(&rt, rt.alloc(), &dot(0, 2, 1), b"0,point,,0,AC\n");
+    assert_rows(&rt, rt.alloc(), &dot(-8, 2, 1), b"0,point,,-8,AC\n");
+    assert_rows(&rt, rt.alloc(), &dot(7, 2, 1), b"0,point,,7,AC\n");
+    assert_rows(
+        &rt,
+        rt.alloc(),
+        &geometry(0, Shape::Point(None)),
+        b"0,point,,0,\n",
+    );
 }
 
 // With the worked example of the Encoded Polyline Algorithm Format, and the ends of coordinates.
 #[test]
 fn a_line_has_its_places_or_none(rt: HostRuntime) {
     let two = b"0,linestring,,0,AAGG\n";
-    assert!(rt; are_rows_of_line(rt.alloc(), 0, &[(1, 1), (5, 5)], two));
-    assert!(rt; are_rows_of_line(rt.alloc(), 0, &[], b"0,linestring,,0,\n"));
+    assert_rows(
+        &rt,
+        rt.alloc(),
+        &line(rt.alloc(), 0, &[(1, 1), (5, 5)]),
+        two,
+    );
+    assert_rows(
+        &rt,
+        rt.alloc(),
+        &line(rt.alloc(), 0, &[]),
+        b"0,linestring,,0,\n",
+    );
     let places = [
         (-12020000, 3850000),
         (-12095000, 4070000),
         (-12645300, 4325200),
     ];
     let worked = b"0,linestring,,5,_p~iF~ps|U_ulLnnqC_mqNvxq`@\n";
-    assert!(rt; are_rows_of_line(rt.alloc(), 5, &places, worked));
+    assert_rows(&rt, rt.alloc(), &line(rt.alloc(), 5, &places), worked);
     let edge = 1 << 62;
     let ends = b"0,linestring,,0,?}~~~~~~~~~~~F?|~~~~~~~~~~~N\n";
-    assert!(rt; are_rows_of_line(rt.alloc(), 0, &[(edge - 1, 0), (-edge, 0)], ends));
+    assert_rows(
+        &rt,
+        rt.alloc(),
+        &line(rt.alloc(), 0, &[(edge - 1, 0), (-edge, 0)]),
+        ends,
+    );
 }
 
 #[test]
 fn rings_stand_below_their_polygon(rt: HostRuntime) {
     let rings = b"0,polygon,,0,\n1,ring,,,???GGF\n1,ring,,,AA?AA@\n";
-    assert!(rt; are_rows(rt.alloc(), two_rings(rt.alloc()), rings));
+    assert_rows(&rt, rt.alloc(), &two_rings(rt.alloc()), rings);
     let polygons = b"0,multipolygon,,0,\n1,polygon,3,,\n2,ring,,,AA\n2,ring,,,\n1,polygon,4,,\n";
-    assert!(rt; are_rows(rt.alloc(), two_polygons(rt.alloc()), polygons));
+    assert_rows(&rt, rt.alloc(), &two_polygons(rt.alloc()), polygons);
 }
 
 // The ends of i64 as ids; no ids, and a line without places.
@@ -120,25 +137,40 @@ fn rings_stand_below_their_polygon(rt: HostRuntime) {
 fn members_have_their_ids_or_none(rt: HostRuntime) {
     let ends =
         b"0,multipoint,,-8,\n1,point,-9223372036854775808,,??\n1,point,9223372036854775807,,AA\n";
-    assert!(rt; are_rows(rt.alloc(), two_points(rt.alloc()), ends));
+    assert_rows(&rt, rt.alloc(), &two_points(rt.alloc()), ends);
     let lines = b"0,multilinestring,,7,\n1,linestring,,,AAGG\n1,linestring,,,\n";
-    assert!(rt; are_rows(rt.alloc(), two_lines(rt.alloc()), lines));
+    assert_rows(&rt, rt.alloc(), &two_lines(rt.alloc()), lines);
     let empty = b"0,multilinestring,,0,\n1,linestring,,,\n";
-    assert!(rt; are_rows(rt.alloc(), an_empty_line(rt.alloc()), empty));
+    assert_rows(&rt, rt.alloc(), &an_empty_line(rt.alloc()), empty);
 }
 
 #[test]
 fn parts_may_be_none(rt: HostRuntime) {
     let rings = Lines::from_vec(Vec::new(rt.alloc()));
-    assert!(rt; are_rows_of(rt.alloc(), Shape::Polygon(rings), b"0,polygon,,0,\n"));
+    assert_rows(
+        &rt,
+        rt.alloc(),
+        &geometry(0, Shape::Polygon(rings)),
+        b"0,polygon,,0,\n",
+    );
     let lines = Lines::from_vec(Vec::new(rt.alloc()));
     let multiline = Shape::MultiLine(lines, None);
-    assert!(rt; are_rows_of(rt.alloc(), multiline, b"0,multilinestring,,0,\n"));
+    assert_rows(
+        &rt,
+        rt.alloc(),
+        &geometry(0, multiline),
+        b"0,multilinestring,,0,\n",
+    );
     let areas = Areas::from_vec(Vec::new(rt.alloc()));
     let multipolygon = Shape::MultiPolygon(areas, None);
-    assert!(rt; are_rows_of(rt.alloc(), multipolygon, b"0,multipolygon,,0,\n"));
+    assert_rows(
+        &rt,
+        rt.alloc(),
+        &geometry(0, multipolygon),
+        b"0,multipolygon,,0,\n",
+    );
     let collection = b"0,collection,,0,\n";
-    assert!(rt; are_rows(rt.alloc(), empty_collection(rt.alloc()), collection));
+    assert_rows(&rt, rt.alloc(), &empty_collection(rt.alloc()), collection);
 }
 
 /// A multipoint without points.
@@ -148,7 +180,12 @@ fn no_points(alloc: Global) -> Option<Geometry> {
 
 #[test]
 fn a_multipoint_may_be_without_points(rt: HostRuntime) {
-    assert!(rt; are_rows(rt.alloc(), no_points(rt.alloc()), b"0,multipoint,,0,\n"));
+    assert_rows(
+        &rt,
+        rt.alloc(),
+        &no_points(rt.alloc()),
+        b"0,multipoint,,0,\n",
+    );
 }
 
 /// A member with a precision of its own.
@@ -159,12 +196,12 @@ fn a_member(alloc: Global) -> Option<Geometry> {
 #[test]
 fn members_of_a_collection_are_geometries(rt: HostRuntime) {
     let two = b"0,collection,,0,\n1,point,7,0,AA\n1,linestring,-1,0,\n";
-    assert!(rt; are_rows(rt.alloc(), point_and_line(rt.alloc()), two));
+    assert_rows(&rt, rt.alloc(), &point_and_line(rt.alloc()), two);
     let one = b"0,collection,,0,\n1,point,,5,AA\n";
-    assert!(rt; are_rows(rt.alloc(), a_member(rt.alloc()), one));
+    assert_rows(&rt, rt.alloc(), &a_member(rt.alloc()), one);
     let nine =
         b"0,collection,,0,\n1,collection,,0,\n2,collection,,0,\n3,collection,,0,\n4,collection,,0,\n5,collection,,0,\n6,collection,,0,\n7,collection,,0,\n8,collection,,0,\n";
-    assert!(rt; are_rows(rt.alloc(), nested(rt.alloc(), 9), nine));
+    assert_rows(&rt, rt.alloc(), &nested(rt.alloc(), 9), nine);
 }
 
 // Depths of one digit and of two.
@@ -172,7 +209,7 @@ fn members_of_a_collection_are_geometries(rt: HostRuntime) {
 fn depths_go_on_behind_nine(rt: HostRuntime) {
     let twelve =
         b"0,collection,,0,\n1,collection,,0,\n2,collection,,0,\n3,collection,,0,\n4,collection,,0,\n5,collection,,0,\n6,collection,,0,\n7,collection,,0,\n8,collection,,0,\n9,collection,,0,\n10,collection,,0,\n11,collection,,0,\n";
-    assert!(rt; are_rows(rt.alloc(), nested(rt.alloc(), 12), twelve));
+    assert_rows(&rt, rt.alloc(), &nested(rt.alloc(), 12), twelve);
 }
 
 /// Whether a text is read to these rows.
@@ -184,19 +221,20 @@ fn reads(alloc: Global, text: &[u8], rows: &[u8]) -> bool {
 }
 
 // The line ends of RFC 4180 and others, and none behind the last record; blank lines; quotes.
+const TEXTS: [&[u8]; 6] = [
+    b"depth,kind,id,precision,polyline\n0,point,,0,AC\n0,point,,0,AA\n",
+    b"depth,kind,id,precision,polyline\n0,point,,0,AC\n0,point,,0,AA",
+    b"depth,kind,id,precision,polyline\r\n0,point,,0,AC\r\n0,point,,0,AA\r\n",
+    b"depth,kind,id,precision,polyline\r0,point,,0,AC\r0,point,,0,AA\r",
+    b"\ndepth,kind,id,precision,polyline\n\n\n0,point,,0,AC\n\r\n0,point,,0,AA\n\n",
+    b"\"depth\",\"kind\",\"id\",\"precision\",\"polyline\"\r\n\"0\",\"point\",\"\",\"0\",\"AC\"\r\n0,\"point\",,0,\"AA\"",
+];
+
 #[test]
 fn texts_are_read_by_rfc_4180(rt: HostRuntime) {
-    let texts = [
-        b"depth,kind,id,precision,polyline\n0,point,,0,AC\n0,point,,0,AA\n".as_slice(),
-        b"depth,kind,id,precision,polyline\n0,point,,0,AC\n0,point,,0,AA".as_slice(),
-        b"depth,kind,id,precision,polyline\r\n0,point,,0,AC\r\n0,point,,0,AA\r\n".as_slice(),
-        b"depth,kind,id,precision,polyline\r0,point,,0,AC\r0,point,,0,AA\r".as_slice(),
-        b"\ndepth,kind,id,precision,polyline\n\n\n0,point,,0,AC\n\r\n0,point,,0,AA\n\n".as_slice(),
-        b"\"depth\",\"kind\",\"id\",\"precision\",\"polyline\"\r\n\"0\",\"point\",\"\",\"0\",\"AC\"\r\n0,\"point\",,0,\"AA\"".as_slice(),
-    ];
     let rows = b"0,point,,0,AC\n0,point,,0,AA\n";
-    for text in texts {
-        assert!(rt; reads(rt.alloc(), text, rows), "{text:?}");
+    for text in &TEXTS {
+        assert!(rt; reads(rt.alloc(), *text, rows), "{text:?}");
     }
     assert!(rt; reads(rt.alloc(), HEADER, b""), "the header alone");
 }

@@ -1,6 +1,7 @@
 //! The texts of faults.
 use std::alloc::Global;
 use std::fmt::Display;
+use std::process::Abort;
 use twkb_polyline::PolyReason;
 use twkb_table::{RowReason, SourceFault, TableFault};
 
@@ -12,41 +13,45 @@ fn tells<D: Display>(alloc: Global, fault: &D, text: &str) -> bool {
     }
 }
 
-#[test]
-fn faults_of_tables_have_their_texts(rt: HostRuntime) {
-    let half = RowReason::Polyline(4, PolyReason::Half);
-    let rows = [
-        (TableFault::Memory, "out of memory"),
-        (TableFault::Source, "read failed"),
-        (TableFault::TooManyRecords, "too many records"),
-        (TableFault::Spent, "the table was refused before"),
-        (
-            TableFault::At {
-                number: 1,
-                reason: RowReason::BadHeader,
-            },
-            "record 1: bad header",
-        ),
-        (
-            TableFault::At {
-                number: 4_294_967_295,
-                reason: half,
-            },
-            "record 4294967295: polyline at 4: latitude without longitude",
-        ),
-    ];
+fn assert_told<D: Display>(rt: &impl Abort, alloc: Global, rows: &[(D, &str)]) {
     for (fault, text) in rows {
-        assert!(rt; tells(rt.alloc(), &fault, text), "{text}");
+        assert!(rt; tells(alloc, fault, *text), "{text}");
     }
 }
 
+const FIRST: TableFault = TableFault::At {
+    number: 1,
+    reason: RowReason::BadHeader,
+};
+
+const LAST: TableFault = TableFault::At {
+    number: 4_294_967_295,
+    reason: RowReason::Polyline(4, PolyReason::Half),
+};
+
+const FAULTS: [(TableFault, &str); 6] = [
+    (TableFault::Memory, "out of memory"),
+    (TableFault::Source, "read failed"),
+    (TableFault::TooManyRecords, "too many records"),
+    (TableFault::Spent, "the table was refused before"),
+    (FIRST, "record 1: bad header"),
+    (
+        LAST,
+        "record 4294967295: polyline at 4: latitude without longitude",
+    ),
+];
+
+#[test]
+fn faults_of_tables_have_their_texts(rt: HostRuntime) {
+    assert_told(&rt, rt.alloc(), &FAULTS);
+}
+
+const SOURCE_FAULTS: [(SourceFault, &str); 2] = [
+    (SourceFault::Source, "reading the table failed"),
+    (SourceFault::Spent, "the table was refused before"),
+];
+
 #[test]
 fn faults_of_sources_have_their_texts(rt: HostRuntime) {
-    let rows = [
-        (SourceFault::Source, "reading the table failed"),
-        (SourceFault::Spent, "the table was refused before"),
-    ];
-    for (fault, text) in rows {
-        assert!(rt; tells(rt.alloc(), &fault, text), "{text}");
-    }
+    assert_told(&rt, rt.alloc(), &SOURCE_FAULTS);
 }
