@@ -7,7 +7,7 @@ use std::alloc::Global;
 use std::io::{Read, Write};
 use twkb_convert::{ConvertFault, Limits, Report, Style, Tap, pack_styled, show, unpack};
 
-/// What a call converts.
+// What a call converts.
 #[derive(Clone, Copy, Debug, PartialEq, Eq)]
 pub(crate) enum Conversion {
     /// A table to a stream, in a style.
@@ -18,7 +18,7 @@ pub(crate) enum Conversion {
     Show,
 }
 
-/// The conversion of a number: 0 packs in this style, 1 unpacks, 2 shows.
+// The conversion of a number: 0 packs in this style, 1 unpacks, 2 shows.
 pub(crate) fn conversion_of(number: u32, style: Style) -> Option<Conversion>
     ensures some { IfSome result (λ what. IsConversionNumber style what number) }
     ensures other { IsNone result → (number ≢ 0) × (number ≢ 1) × (number ≢ 2) }
@@ -31,7 +31,7 @@ pub(crate) fn conversion_of(number: u32, style: Style) -> Option<Conversion>
     }
 }
 
-/// Converts all that a reader gives, as its conversion does it.
+// Converts all that a reader gives, as its conversion does it.
 pub(crate) fn run<R: Read, W: Write>(
     alloc: Global,
     what: Conversion,

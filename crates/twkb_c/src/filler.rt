@@ -6,7 +6,7 @@ ghost use Rattle.std.specs.Io.KnownBytes.{Keeps, WriteAppends};
 use std::io;
 use std::io::Write;
 
-/// A writer that fills a slice from its front, and takes no more than fits.
+// A writer that fills a slice from its front, and takes no more than fits.
 #[derive(Drop)]
 pub(crate) struct Filler<'a> {
     buffer: &'a mut [u8],
@@ -17,7 +17,7 @@ pub(crate) struct Filler<'a> {
 impl<'a> Filler<'a> {
     ghost use Rattle.twkb_c.specs.Fillers.{buffer_of, filled_of};
 
-    /// A writer that has filled nothing.
+    // A writer that has filled nothing.
     pub(crate) fn new(buffer: &'a mut [u8]) -> Filler<'a>
         ensures same_buffer { (buffer_of result).ghost_name ≡ buffer.entry.ghost_name }
         ensures untouched { (buffer_of result).now ≡ buffer.old }

@@ -59,8 +59,8 @@ fn with_needed(report: BufferReport, whole: Option<u64>, room: usize) -> BufferR
     BufferReport { needed, ..report }
 }
 
-/// Converts a slice into another, as far as there is room. Where there is too little, it converts
-/// once more to tell how much the whole output needs.
+// Converts a slice into another, as far as there is room. Where there is too little, it converts
+// once more to tell how much the whole output needs.
 pub(crate) fn fill(
     alloc: Global,
     what: Conversion,

@@ -52,7 +52,7 @@ fn measured(answer: Result<Report, ConvertFault>) -> BufferReport
     }
 }
 
-/// How many bytes the whole output of a conversion has, where it is known. Writes nothing.
+// How many bytes the whole output of a conversion has, where it is known. Writes nothing.
 pub(crate) fn output_length(
     alloc: Global,
     what: Conversion,
@@ -64,7 +64,7 @@ pub(crate) fn output_length(
     whole_length(count_output(alloc, what, input, limits))
 }
 
-/// What a conversion would write, without writing it: `needed` is the length of its whole output.
+// What a conversion would write, without writing it: `needed` is the length of its whole output.
 pub(crate) fn measure(alloc: Global, what: Conversion, input: &[u8], limits: Limits) -> BufferReport
     ensures { MeasuresOutput what limits input.now result }
 {

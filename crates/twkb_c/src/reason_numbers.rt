@@ -4,13 +4,13 @@ ghost use Rattle.twkb_c.specs.Numbers.{blob_number_of, place_of, point_text_numb
 
 use twkb_convert::{BlobReason, Cause, PolyReason, RowReason};
 
-/// All was converted.
+// All was converted.
 pub(crate) const DONE: u32 = 0;
 
 // The input is refused, or too long.
 const REFUSED: u32 = 1;
 
-/// The limits, the style or the conversion is none.
+// The limits, the style or the conversion is none.
 pub(crate) const ARGUMENTS: u32 = 2;
 
 // The input could not be read.
@@ -19,7 +19,7 @@ const DEVICE: u32 = 3;
 // No memory was found.
 const MEMORY: u32 = 4;
 
-/// The output is too small.
+// The output is too small.
 pub(crate) const TOO_SMALL: u32 = 5;
 
 // What is wrong with a text of points.
@@ -78,7 +78,7 @@ fn blob_number(reason: BlobReason) -> u32
     }
 }
 
-/// Why the input is refused: 0 where it is not.
+// Why the input is refused: 0 where it is not.
 pub(crate) fn reason_number(cause: Cause) -> u32
     ensures { result ≡ reason_number_of cause }
 {
@@ -91,7 +91,7 @@ pub(crate) fn reason_number(cause: Cause) -> u32
     }
 }
 
-/// The status of a conversion that stopped.
+// The status of a conversion that stopped.
 pub(crate) fn status(cause: Cause) -> u32
     ensures { result ≡ status_of cause }
 {
@@ -103,7 +103,7 @@ pub(crate) fn status(cause: Cause) -> u32
     }
 }
 
-/// The refused record, or where the refused item begins; 0 where nothing is refused.
+// The refused record, or where the refused item begins; 0 where nothing is refused.
 pub(crate) fn place(cause: Cause) -> u64
     ensures { result ≡ place_of cause }
 {
@@ -124,7 +124,7 @@ fn row_text_offset(reason: RowReason) -> u64
     }
 }
 
-/// Where a text of points is refused, in bytes from its front; 0 where none is.
+// Where a text of points is refused, in bytes from its front; 0 where none is.
 pub(crate) fn text_offset(cause: Cause) -> u64
     ensures { result ≡ text_offset_of cause }
 {

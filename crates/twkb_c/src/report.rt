@@ -42,7 +42,7 @@ pub struct BufferLimits {
 }
 
 impl BufferLimits {
-    /// The limits, where each is in its range.
+    // The limits, where each is in its range.
     pub(crate) fn limits(self) -> Option<Limits>
         ensures accepted { IsSome result ↔ IsAllowance (allowance_of self) }
         ensures value { IfSome result (λ limits. limits ≡ allowance_of self) }
@@ -51,7 +51,7 @@ impl BufferLimits {
     }
 }
 
-/// The style of a number: 0 is full, 1 is plain.
+// The style of a number: 0 is full, 1 is plain.
 pub(crate) fn style_of(number: u32) -> Option<Style>
     ensures style { IfSome result (λ style. IsStyleNumber style number) }
     ensures other { IsNone result → (number ≢ 0) × (number ≢ 1) }
@@ -63,7 +63,7 @@ pub(crate) fn style_of(number: u32) -> Option<Style>
     }
 }
 
-/// The report of arguments that are refused.
+// The report of arguments that are refused.
 pub(crate) fn refused_arguments() -> BufferReport
     ensures { result ≡ arguments_report }
 {
@@ -78,7 +78,7 @@ pub(crate) fn refused_arguments() -> BufferReport
     }
 }
 
-/// The report of a conversion that was carried through.
+// The report of a conversion that was carried through.
 pub(crate) fn finished(report: Report) -> BufferReport
     ensures { result ≡ record { status = 0; reason = 0; place = 0; text_offset = 0; done = report.geometries; sent = report.bytes; needed = report.bytes } }
 {
@@ -93,7 +93,7 @@ pub(crate) fn finished(report: Report) -> BufferReport
     }
 }
 
-/// The report of a conversion that stopped.
+// The report of a conversion that stopped.
 pub(crate) fn stopped(fault: ConvertFault) -> BufferReport
     ensures told { Tells result fault.cause }
     ensures done { result.done ≡ fault.done }

@@ -93,7 +93,7 @@ fn bare_command<'a>(alloc: Global) -> Command<'a>
         .disable_help_subcommand(true)
 }
 
-/// The command line: one of the subcommands.
+// The command line: one of the subcommands.
 #[tactic(auto, unfolding(crate::specs::CommandLine::command_line))]
 pub(crate) fn command<'a>(alloc: Global, styles: &'a [&'a str]) -> Result<Command<'a>, AllocError>
     ensures { IfOk result (λ command. app_of command ≡ command_line styles.entry) }

@@ -1,34 +1,34 @@
 //! What help says.
 
-/// The version of the program.
+// The version of the program.
 pub(crate) const VERSION: &str = "0.1.0";
 
-/// What the program does.
+// What the program does.
 pub(crate) const PROGRAM: &str =
     "Converts between CSV tables of encoded polylines and streams of TWKB blobs";
 
-/// What `pack` does.
+// What `pack` does.
 pub(crate) const PACK: &str = "Reads a table and writes a stream of blobs, one for each geometry";
 
-/// What `unpack` does.
+// What `unpack` does.
 pub(crate) const UNPACK: &str = "Reads a stream of blobs and writes a table, the header line first";
 
-/// What `show` does.
+// What `show` does.
 pub(crate) const SHOW: &str =
     "Reads a stream of blobs and writes a line for each TWKB header in it";
 
-/// Where the help of a subcommand leads.
+// Where the help of a subcommand leads.
 pub(crate) const ELSEWHERE: &str = "'polytwkb --help' describes tables, streams and exit statuses.";
 
-/// What `--max-nest` is.
+// What `--max-nest` is.
 pub(crate) const MAX_NEST: &str =
     "How many collections a geometry may stand in, 0 to 32 [default: 16]";
 
-/// What `--style` is.
+// What `--style` is.
 pub(crate) const STYLE: &str = "full: blobs with sizes and boxes; plain: without [default: full]";
 
-/// What `--help` adds: how to call the program, the table, the stream, the lines of `show`, the
-/// statuses.
+// What `--help` adds: how to call the program, the table, the stream, the lines of `show`, the
+// statuses.
 pub(crate) const MORE: &str = "Each command reads standard input and writes standard output:
 
   polytwkb pack < places.csv > places.twkb

@@ -16,7 +16,7 @@ use twkb_blob::{Reader, Spans};
 use twkb_flat::Flat;
 use twkb_io::{Output, Sink};
 
-/// Sends what is written of a stream, and flushes the output where it refused no put.
+// Sends what is written of a stream, and flushes the output where it refused no put.
 pub(crate) fn send_listing_and_flush<R: Read, W: Write>(
     what: Listing,
     alloc: Global,

@@ -12,8 +12,8 @@ use twkb_blob::{BlobFault, Reader, Spans};
 use twkb_flat::{Flat, Work};
 use twkb_table::put_flat_rows;
 
-/// Reads the next blob, if there is one, and makes the text what is written of it. Form and list are
-/// room for its rows and spans.
+// Reads the next blob, if there is one, and makes the text what is written of it. Form and list are
+// room for its rows and spans.
 pub(crate) fn next_text<R: Read>(
     what: Listing,
     alloc: Global,

@@ -10,7 +10,7 @@ use twkb_io::Tap;
 // How many bytes one read asks for.
 const PIECE: usize = 64;
 
-/// Why a reader was not read to its end.
+// Why a reader was not read to its end.
 #[derive(Clone, Copy, PartialEq, Eq, Debug)]
 pub(crate) enum DrainFault {
     /// A read failed.
@@ -19,7 +19,7 @@ pub(crate) enum DrainFault {
     TooLong,
 }
 
-/// Reads a reader to its end, and drops what it gives. Takes no memory.
+// Reads a reader to its end, and drops what it gives. Takes no memory.
 pub(crate) fn drain<R: Read>(tap: &mut Tap<R>) -> Result<(), DrainFault>
     ensures end { OnOk result (IsAtEnd (R.remaining (device_of tap.new))) }
     ensures too_long { result ≡ Err DrainFault.TooLong → 2 ^ 64 - 1 ≤ bytes_given tap.new }

@@ -4,7 +4,7 @@ ghost use Rattle.twkb_convert.specs.Listings.{first_line};
 
 use twkb_table::header_text;
 
-/// What is written of a stream of blobs.
+// What is written of a stream of blobs.
 #[derive(Clone, Copy, PartialEq, Eq, Debug)]
 pub(crate) enum Listing {
     /// The rows of each, behind the header's line of a table.
@@ -13,7 +13,7 @@ pub(crate) enum Listing {
     Headers,
 }
 
-/// What stands before the text of the first blob. Takes no memory.
+// What stands before the text of the first blob. Takes no memory.
 pub(crate) fn first_text(what: Listing) -> &'static [u8]
     ensures text { result.now ≡ first_line what }
 {

@@ -5,7 +5,7 @@ use twkb_blob::BlobFault;
 use twkb_io::OutFault;
 use twkb_table::TableFault;
 
-/// Why not the whole table was sent.
+// Why not the whole table was sent.
 #[derive(Clone, Copy, PartialEq, Eq, Debug)]
 pub(crate) enum TableObstacle {
     /// The table gave no geometry, or there was no memory for the sizes of one.
@@ -19,7 +19,7 @@ pub(crate) enum TableObstacle {
 impl TableObstacle {
     ghost use Rattle.twkb_convert.specs.Sending.{is_output};
 
-    /// Whether the output refused a call.
+    // Whether the output refused a call.
     pub(crate) fn is_output(self) -> bool
         ensures { result ≡ is_output self }
     {
@@ -27,7 +27,7 @@ impl TableObstacle {
     }
 }
 
-/// Why not the text of the whole stream was sent.
+// Why not the text of the whole stream was sent.
 #[derive(Clone, Copy, PartialEq, Eq, Debug)]
 pub(crate) enum StreamObstacle {
     /// The reader gave no blob, or there was no memory for the text of one.
@@ -36,7 +36,7 @@ pub(crate) enum StreamObstacle {
     Output(OutFault),
 }
 
-/// How many geometries were sent whole, and why no more.
+// How many geometries were sent whole, and why no more.
 #[derive(Clone, Copy, PartialEq, Eq, Debug)]
 pub(crate) struct Unfinished<F> {
     pub(crate) done: u64,

@@ -14,15 +14,15 @@ use twkb_table::{TableFault, TableReader};
 use twkb_tree::Limits;
 use twkb_writer::{EncodeFault, Style};
 
-/// How many geometries were sent, and the work of it.
+// How many geometries were sent, and the work of it.
 #[derive(Clone, Copy, PartialEq, Eq, Debug)]
 pub(crate) struct Tally {
     pub(crate) geometries: u64,
     pub(crate) work: Work,
 }
 
-/// Sends the geometries of a table in a style, each once the row behind it was accepted or the
-/// table's end was met.
+// Sends the geometries of a table in a style, each once the row behind it was accepted or the
+// table's end was met.
 pub(crate) fn send_table<R: Read, W: Write>(
     alloc: Global,
     tap: &mut Tap<R>,

@@ -15,8 +15,8 @@ use twkb_blob::{BlobFault, Reader};
 use twkb_io::{InFault, Input, OutFault, Output, Tap};
 use twkb_tree::Limits;
 
-/// Writes what is to be written of a stream of blobs, each blob's text before a byte of the next one
-/// is asked for. The writer is flushed last, where it refused no write.
+// Writes what is to be written of a stream of blobs, each blob's text before a byte of the next one
+// is asked for. The writer is flushed last, where it refused no write.
 pub(crate) fn list_stream<R: Read, W: Write>(
     what: Listing,
     alloc: Global,

@@ -15,7 +15,7 @@ use twkb_table::TableFault;
 use twkb_tree::Limits;
 use twkb_writer::Style;
 
-/// Sends a table, and flushes where no put was refused.
+// Sends a table, and flushes where no put was refused.
 pub(crate) fn send_table_and_flush<R: Read, W: Write>(
     alloc: Global,
     tap: &mut Tap<R>,

@@ -163,7 +163,7 @@ fn put_flushed<W: Write>(output: &mut Output<'_, W>, text: &[u8])
     let _ = output.flush();
 }
 
-/// Prints a text and flushes, up to the first write that fails. Takes no memory.
+// Prints a text and flushes, up to the first write that fails. Takes no memory.
 pub(crate) fn print_text<W: Write>(device: &mut Tap<W>, text: &str)
     ensures { length text.now ≤ 2 ^ 62 → IsPrinted W.contents device.old text.now device.new }
 {

@@ -4,19 +4,19 @@ ghost use Rattle.twkb_request.specs.Status.{status_of};
 
 use twkb_convert::Cause;
 
-/// Everything was converted, or help was asked for and given.
+// Everything was converted, or help was asked for and given.
 pub(crate) const DONE: u8 = 0;
 
 // The input is refused, or too long.
 const REFUSED: u8 = 1;
 
-/// The words of the command line are refused.
+// The words of the command line are refused.
 pub(crate) const USAGE: u8 = 2;
 
 // A device failed.
 const DEVICE: u8 = 3;
 
-/// No memory was found.
+// No memory was found.
 pub(crate) const MEMORY: u8 = 4;
 
 /// The status of a conversion that stopped: 1 where the input is refused or a length passes its
