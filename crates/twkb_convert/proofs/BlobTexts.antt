@@ -16,12 +16,12 @@ use Rattle.twkb_convert.specs.BlobSending.{GivesText}
 use Rattle.twkb_convert.specs.SpanLines.{span_lines}
 use Rattle.twkb_convert.specs.declared.listing.Listing.TheVariants as listing
 
--- seven words, each put behind the other with the byte behind it
-pub words_put : (old level offset kind precision metadata length points a b c d e f : List ℕ)
-    → a ≡ old ++ level → b ≡ a ++ offset → c ≡ b ++ kind → d ≡ c ++ precision → e ≡ d ++ metadata → f ≡ e ++ length
-    → f ++ (points ++ 10 ∷ []) ≡ old ++ ((level ++ (offset ++ (kind ++ (precision ++ (metadata ++ (length ++ points)))))) ++ 10 ∷ [])
-words_put old level offset kind precision metadata length points a b c d e f ea eb ec ed ee ef =
-    let whole : f ≡ (((((old ++ level) ++ offset) ++ kind) ++ precision) ++ metadata) ++ length = cc in
+-- seven words, each put behind the other with the byte behind it, but the space behind the offset put with the kind
+pub words_put : (old space level offset kind precision metadata length points a b c d e f : List ℕ)
+    → a ≡ old ++ level → b ≡ a ++ offset → c ≡ b ++ (space ++ kind) → d ≡ c ++ precision → e ≡ d ++ metadata → f ≡ e ++ length
+    → f ++ (points ++ 10 ∷ []) ≡ old ++ ((level ++ ((offset ++ space) ++ (kind ++ (precision ++ (metadata ++ (length ++ points)))))) ++ 10 ∷ [])
+words_put old space level offset kind precision metadata length points a b c d e f ea eb ec ed ee ef =
+    let whole : f ≡ (((((old ++ level) ++ offset) ++ (space ++ kind)) ++ precision) ++ metadata) ++ length = cc in
     ap (λ t. t ++ (points ++ 10 ∷ [])) whole ∙ simp (append_assoc)
 
 module _ {R : Type 0} {read : Ghosts R} (from to : Reader R read) where

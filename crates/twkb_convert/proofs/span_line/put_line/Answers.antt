@@ -1,4 +1,4 @@
-use Rattle.std.proofs.Common.{◌≡◌, List, ℕ, OnOk, SFits, subst, rules, w8}
+use Rattle.std.proofs.Common.{◌≡◌, List, [], ◌∷◌, ℕ, OnOk, SFits, subst, rules, w8}
 use Rattle.std.proofs.lemmas.Int.{to_z-of_z}
 use Rattle.twkb_convert.proofs.BlobTexts.{words_put}
 use Rattle.twkb_convert.proofs.span_line.put_line.Goals as goal
@@ -6,11 +6,11 @@ use Rattle.twkb_convert.proofs.span_line.put_line.Goals as goal
 pub returns : goal.returns
 returns c =
     let fits : SFits w8 c.args.span.now.precision = search rules in
-    let precision = simp (to_z-of_z w8 c.args.span.now.precision fits) at c.in_ok-put_number-3.ensures.appended in
+    let precision = simp (to_z-of_z w8 c.args.span.now.precision fits) at c.in_ok-put_precision.ensures.appended in
     record {
-      appended = subst (λ (t : List ℕ). OnOk c.put_number-5.result (c.put_number-5.new.text.items ≡ t))
-          (words_put c.args.text.now.items _ _ _ _ _ _ _ _ _ _ _ _ _
-          c.in_ok-put_number.ensures.appended c.in_ok-put_number-2.ensures.appended c.in_ok-put_word.ensures.appended
-          precision c.in_ok-put_byte.ensures.appended c.in_ok-put_number-4.ensures.appended)
-          c.put_number-5.ensures.appended;
+      appended = subst (λ (t : List ℕ). OnOk c.put_count-2.result (c.put_count-2.new.text.items ≡ t))
+          (words_put c.args.text.now.items (32 ∷ []) _ _ _ _ _ _ _ _ _ _ _ _ _
+          c.in_ok-put_level.ensures.appended c.in_ok-put_decimal.ensures.appended c.in_ok-put_kind.ensures.appended
+          precision c.in_ok-put_byte.ensures.appended c.in_ok-put_count.ensures.appended)
+          c.put_count-2.ensures.appended;
     }
