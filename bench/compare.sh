@@ -1,8 +1,9 @@
 #!/usr/bin/env bash
 # Times a part of the workspace against a plain loop over the same data (bench/baseline/; wants rustc):
 #
-#   compare.sh reading        blobs of lines of 1000 points and of single points: by a reader, by a session that is fed whole
-#                             pieces, and by one that is fed byte by byte; the memory of 10,000 sessions in the middle of a blob
+#   compare.sh reading        canonical streams of five kinds of tables (bench/plain; wants cargo too): by a reader of rows, by one of
+#                             trees, by a session that is fed whole pieces, and by one that is fed byte by byte; the memory of 10,000
+#                             sessions in the middle of a line
 #   compare.sh writing        lines of 1000 points, held already, below 0, 8, 16 and 32 collections: measured and written
 #   compare.sh tables [MB [ROUNDS]]
 #                             single points, lines of 1000 points, multipolygons, collections 8 deep: by the reader of tables,
@@ -14,7 +15,10 @@ set -euo pipefail
 cd "$(dirname "$0")/.."
 name=${1-}
 case "$name" in
-reading) libraries="twkb_blob twkb_geom twkb_io" words="reader" loops="read_loop" ;;
+reading)
+    libraries="twkb_blob twkb_geom twkb_io" words="reader" loops="read_loop"
+    bench/plain/build.sh bench/out/plain
+    ;;
 writing)
     libraries="twkb_points twkb_io twkb_geom twkb_blob"
     words="0 0" loops="read_loop write_loop"

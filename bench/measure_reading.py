@@ -4,9 +4,10 @@ import subprocess
 import sys
 
 MEGABYTE = 1_000_000
-SIZES = (20, 40)
-RUNS = 5
-WAYS = ("reader", "whole", "bytes")
+TABLE = 40
+RUNS = 9
+WAYS = ("rows", "reader", "whole", "bytes")
+KINDS = ("points", "lines", "multipolygons", "multipoints", "collections")
 
 
 def seconds_of(program, way, source):
@@ -44,20 +45,27 @@ def open_sessions(program, source):
     return int(ended.stdout), int(ended.stderr.split()[-1])
 
 
+def make_stream(kind, folder):
+    """The canonical stream of a table of this kind, as the plain program packs it."""
+    built = "bench/out/plain/release"
+    table, source = f"{folder}/{kind}.csv", f"{folder}/{kind}.twkb"
+    subprocess.run([f"{built}/make_table", kind, str(TABLE * MEGABYTE), table], check=True)
+    with open(table, "rb") as reads, open(source, "wb") as writes:
+        subprocess.run([f"{built}/plain", "pack"], stdin=reads, stdout=writes, check=True)
+    return source
+
+
 def main():
     program, loop, folder = sys.argv[1:4]
-    print("blobs, MB | loop: ns a point | " + " | ".join(f"{way}: ns a point, times the loop" for way in WAYS))
-    for kind in ("lines", "points"):
-        for size in SIZES:
-            source = f"{folder}/{kind}-{size}.twkb"
-            subprocess.run([loop, "make", kind, str(size * MEGABYTE), source], check=True)
-            best, points = measure(program, loop, source)
-            cells = [f"{best['loop'] / points * 1e9:.1f}"]
-            cells += [f"{best[way] / points * 1e9:.1f}, {best[way] / best['loop']:.2f}" for way in WAYS]
-            print(f"{kind}, {size} | " + " | ".join(cells))
+    print("| Blobs | loop | " + " | ".join(f"{way} | times" for way in WAYS) + " |")
+    for kind in KINDS:
+        best, points = measure(program, loop, make_stream(kind, folder))
+        cells = [f"{best['loop'] / points * 1e9:.1f}"]
+        cells += [f"{best[way] / points * 1e9:.1f} | {best[way] / best['loop']:.2f}" for way in WAYS]
+        print(f"| {kind} | " + " | ".join(cells) + " |")
     for size in (8, 2000):
         source = f"{folder}/front.twkb"
-        with open(f"{folder}/lines-{SIZES[0]}.twkb", "rb") as reads, open(source, "wb") as writes:
+        with open(f"{folder}/lines.twkb", "rb") as reads, open(source, "wb") as writes:
             writes.write(reads.read(size))
         opened, kilobytes = open_sessions(program, source)
         print(f"{opened} geometries open in sessions, {size} bytes of each blob read: {kilobytes} kB")

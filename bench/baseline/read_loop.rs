@@ -1,5 +1,5 @@
-//! What the reader is measured against: canonical TWKB blobs of points and lines, made by a fixed generator, and one plain
-//! loop over a slice that decodes their varints, adds the differences and checks the range. Plain Rust, std alone:
+//! What the reader is measured against: one plain loop over a slice of canonical TWKB blobs that decodes their varints, adds the
+//! differences and checks the range and the sizes; and a fixed generator of blobs of points and lines. Plain Rust, std alone:
 //!
 //!     rustc -O read_loop.rs
 //!     ./read_loop make lines|points BYTES FILE      writes blobs of at least so many bytes
@@ -95,30 +95,93 @@ fn stepped(bytes: &[u8], at: usize, from: i64) -> Option<(i64, usize)> {
     if LEAST <= to && to <= GREATEST { Some((to, at)) } else { None }
 }
 
-/// How many blobs and points the bytes have, and a sum of the coordinates, so that none is left out.
-fn read(bytes: &[u8]) -> Option<(u64, u64, i64)> {
-    let (mut at, mut blobs, mut points, mut sum) = (0, 0, 0, 0i64);
-    while at < bytes.len() {
-        let kind = bytes[at] & 0x0F;
-        if kind != 1 && kind != 2 || *bytes.get(at + 1)? != 0x02 {
-            return None;
-        }
-        let (size, from) = number(bytes, at + 2)?;
-        let (count, mut next) = if kind == 2 { number(bytes, from)? } else { (1, from) };
-        let (mut x, mut y) = (0, 0);
-        for _ in 0..count {
-            (x, next) = stepped(bytes, next, x)?;
-            (y, next) = stepped(bytes, next, y)?;
-            sum = sum.wrapping_add(x).wrapping_add(y);
-        }
-        if (next - from) as u64 != size {
-            return None;
-        }
-        at = next;
-        blobs += 1;
-        points += count;
+/// What the loop found: how many points, and a sum of the coordinates, so that none is left out.
+#[derive(Default)]
+struct Found {
+    points: u64,
+    sum: i64,
+}
+
+/// Where a geometry's positions stand.
+#[derive(Default)]
+struct Position {
+    x: i64,
+    y: i64,
+}
+
+/// Reads so many points; the place behind them.
+#[inline(always)]
+fn points(bytes: &[u8], mut at: usize, count: u64, position: &mut Position, found: &mut Found) -> Option<usize> {
+    for _ in 0..count {
+        (position.x, at) = stepped(bytes, at, position.x)?;
+        (position.y, at) = stepped(bytes, at, position.y)?;
+        found.sum = found.sum.wrapping_add(position.x).wrapping_add(position.y);
     }
-    Some((blobs, points, sum))
+    found.points += count;
+    Some(at)
+}
+
+/// Reads lists below so many counts: 1 of points, 2 of lines or rings, 3 of polygons.
+fn lists(bytes: &[u8], at: usize, depth: u32, position: &mut Position, found: &mut Found) -> Option<usize> {
+    let (count, mut at) = number(bytes, at)?;
+    if depth == 1 {
+        return points(bytes, at, count, position, found);
+    }
+    for _ in 0..count {
+        at = lists(bytes, at, depth - 1, position, found)?;
+    }
+    Some(at)
+}
+
+/// Reads what a count of members stands before: ids, and then the members.
+fn members(bytes: &[u8], at: usize, kind: u8, has_ids: bool, found: &mut Found) -> Option<usize> {
+    let (count, mut at) = number(bytes, at)?;
+    if has_ids {
+        for _ in 0..count {
+            (_, at) = number(bytes, at)?;
+        }
+    }
+    let mut position = Position::default();
+    if kind == 4 {
+        return points(bytes, at, count, &mut position, found);
+    }
+    for _ in 0..count {
+        at = if kind == 7 { geometry(bytes, at, found)? } else { lists(bytes, at, u32::from(kind) - 4, &mut position, found)? };
+    }
+    Some(at)
+}
+
+/// Reads a geometry; the place behind it.
+fn geometry(bytes: &[u8], at: usize, found: &mut Found) -> Option<usize> {
+    let kind = bytes.get(at)? & 0x0F;
+    let metadata = *bytes.get(at + 1)?;
+    let (size, from) = number(bytes, at + 2)?;
+    let mut next = from;
+    if metadata & 0x01 != 0 {
+        for _ in 0..4 {
+            (_, next) = number(bytes, next)?;
+        }
+    }
+    if metadata & 0x10 == 0 {
+        let mut position = Position::default();
+        next = match kind {
+            1 => points(bytes, next, 1, &mut position, found)?,
+            2 | 3 => lists(bytes, next, u32::from(kind) - 1, &mut position, found)?,
+            4..=7 => members(bytes, next, kind, metadata & 0x04 != 0, found)?,
+            _ => return None,
+        };
+    }
+    if metadata & 0x02 == 0 || (next - from) as u64 != size { None } else { Some(next) }
+}
+
+/// How many blobs the bytes have, and what is found in them.
+fn read(bytes: &[u8]) -> Option<(u64, u64, i64)> {
+    let (mut at, mut blobs, mut found) = (0, 0, Found::default());
+    while at < bytes.len() {
+        at = geometry(bytes, at, &mut found)?;
+        blobs += 1;
+    }
+    Some((blobs, found.points, found.sum))
 }
 
 fn main() {
