@@ -5,7 +5,7 @@ ghost use Rattle.examples.specs.Routes.{IsJoined};
 use std::alloc::Global;
 use twkb_polyline::{PolyFault, decode, decode_into, encode};
 
-/// The most points that each route may have.
+// The most points that each route may have.
 const MOST: u32 = 10_000;
 
 /// The polyline of the points of both routes, one behind the other. A text that is no polyline, or has too many points,

@@ -7,7 +7,7 @@ use thiserror::Error;
 use twkb_geom::{GeomFault, Geometry, IdList, Limits, Pts, Shape};
 use twkb_points::Pt;
 
-/// Decimals of the coordinates of stops.
+// Decimals of the coordinates of stops.
 const PRECISION: i8 = 5;
 
 /// Why stops are not made, or not printed.

@@ -7,7 +7,7 @@ use twkb_convert::{Cause, RowReason};
 use twkb_io::{Fuse, FuseEnd, Tap};
 use twkb_points::Pt;
 
-/// A linestring of two points with a size and a box and without, and a collection of a point and an empty linestring.
+// A linestring of two points with a size and a box and without, and a collection of a point and an empty linestring.
 const BLOBS: [u8; 37] = [
     0x02, 0x03, 0x09, 0x02, 0x08, 0x02, 0x08, 0x02, 0x02, 0x02, 0x08, 0x08, 0x02, 0x00, 0x02, 0x02,
     0x02, 0x08, 0x08, 0x07, 0x07, 0x0f, 0x02, 0x00, 0x02, 0x00, 0x02, 0x0e, 0x01, 0x01, 0x02, 0x02,
@@ -43,7 +43,7 @@ fn routes_are_joined(rt: HostRuntime) {
     assert!(rt; joins_to(rt.alloc(), b"AA", b"II", b"AAGG"));
 }
 
-/// The table of two stops.
+// The table of two stops.
 const STOPS: &[u8] =
     b"depth,kind,id,precision,polyline\n0,multipoint,,5,\n1,point,1,,??\n1,point,2,,AA\n";
 
@@ -94,7 +94,7 @@ fn packs_so(alloc: Global, table: &[u8], account: Account, bytes: &[u8]) -> bool
     answer == account && writer.into_inner().as_slice() == bytes
 }
 
-/// A point, another, and a kind that there is not.
+// A point, another, and a kind that there is not.
 const THREE_ROWS: &[u8] =
     b"depth,kind,id,precision,polyline\n0,point,,0,AC\n0,point,,0,AA\n0,pont,,0,\n";
 

@@ -28,7 +28,7 @@ pub fn lines_of(alloc: Global, lines: &[&[(i64, i64)]]) -> Option<Lines> {
     Some(Lines::from_vec(items))
 }
 
-/// Polygons of these rings.
+// Polygons of these rings.
 fn areas_of(alloc: Global, areas: &[&[&[(i64, i64)]]]) -> Option<Areas> {
     let mut items = Vec::new(alloc);
     for rings in areas {
@@ -58,7 +58,7 @@ pub fn around(alloc: Global, member: Geometry) -> Option<Geometry> {
     geometry(0, Shape::Collection(Members::from_vec(members), None))
 }
 
-/// A collection of precision 0 with two members, which have these ids.
+// A collection of precision 0 with two members, which have these ids.
 fn pair(alloc: Global, first: Geometry, second: Geometry, ids: Ids) -> Option<Geometry> {
     let mut members = Vec::new(alloc);
     members.push(first).ok()?;

@@ -17,7 +17,7 @@ use twkb_flat::Flat;
 use twkb_io::Input;
 use twkb_tree::{Geometry, Limits};
 
-/// What a reader makes for a geometry: an engine, and a form for the calls to which none is lent.
+// What a reader makes for a geometry: an engine, and a form for the calls to which none is lent.
 #[derive(Drop)]
 pub(crate) struct Kept {
     pub engine: Engine,
@@ -37,7 +37,7 @@ impl Kept {
     }
 }
 
-/// Reads a blob from an input, and makes its geometry.
+// Reads a blob from an input, and makes its geometry.
 pub(crate) fn read_tree<R: Read>(
     input: &mut Input<'_, R>,
     alloc: Global,
@@ -61,7 +61,7 @@ pub(crate) fn read_tree<R: Read>(
     }
 }
 
-/// Reads a blob from an input with the spans of its headers, and makes its geometry.
+// Reads a blob from an input with the spans of its headers, and makes its geometry.
 pub(crate) fn read_located<R: Read>(
     input: &mut Input<'_, R>,
     alloc: Global,

@@ -17,7 +17,7 @@ use twkb_engine::{BlobReason, Engine, Stop};
 use twkb_flat::Flat;
 use twkb_io::Input;
 
-/// Notes which geometries end behind an item: all of them, where the root does, at this offset; else those that the engine has ended.
+// Notes which geometries end behind an item: all of them, where the root does, at this offset; else those that the engine has ended.
 fn note_ends(
     engine: &Engine,
     flat: &Flat,
@@ -39,8 +39,8 @@ fn note_ends(
     }
 }
 
-/// Gives the item that comes next of these bytes to an engine, or a byte of it where it does not stand whole in front, and notes what
-/// it tells; answers how many bytes were taken, and whether a geometry ends behind them. The blob begins at `start`.
+// Gives the item that comes next of these bytes to an engine, or a byte of it where it does not stand whole in front, and notes what
+// it tells; answers how many bytes were taken, and whether a geometry ends behind them. The blob begins at `start`.
 fn feed_item(
     engine: &mut Engine,
     flat: &mut Flat,
@@ -81,8 +81,8 @@ fn feed_item(
     Ok((used, is_whole))
 }
 
-/// Gives points that stand whole in front of the held bytes to an engine, as many as there are: they note nothing. Else gives it the next
-/// item, and notes what it tells.
+// Gives points that stand whole in front of the held bytes to an engine, as many as there are: they note nothing. Else gives it the next
+// item, and notes what it tells.
 fn take_noted(
     engine: &mut Engine,
     flat: &mut Flat,
@@ -109,7 +109,7 @@ fn take_noted(
     feed_item(engine, flat, notes, start, held)
 }
 
-/// Gives the next of the held bytes of an input to an engine, and notes what they tell.
+// Gives the next of the held bytes of an input to an engine, and notes what they tell.
 fn read_item<R: Read>(
     input: &mut Input<'_, R>,
     engine: &mut Engine,
@@ -128,7 +128,8 @@ fn read_item<R: Read>(
     if let Err(fault) = input.fill() {
         return Err(Halt::Device(fault));
     }
-    let _given = input.offset();
+    // learnt: the input has given at most 2 ^ 62 bytes
+    let _learnt = input.offset();
     let held = input.held();
     let count = held.len();
     if count == 0 {
@@ -146,7 +147,7 @@ fn read_item<R: Read>(
     }
 }
 
-/// Reads a blob from an input into a form without rows, with an engine that has read nothing and notes of nothing.
+// Reads a blob from an input into a form without rows, with an engine that has read nothing and notes of nothing.
 fn read_noted<R: Read>(
     input: &mut Input<'_, R>,
     engine: &mut Engine,
@@ -164,7 +165,8 @@ fn read_noted<R: Read>(
     twkb_outline::laws::reading();
     let start = input.offset();
     loop {
-        let _given = input.offset();
+        // learnt: the input has given at most 2 ^ 62 bytes
+        let _learnt = input.offset();
         match read_item(input, engine, flat, notes, start) {
             Ok(Piece::More) => {}
             Ok(Piece::Made) => return Ok(true),
@@ -177,7 +179,8 @@ fn read_noted<R: Read>(
                 return Err(BlobFault::At { offset, reason });
             }
             Err(Halt::Device(fault)) => {
-                let _between = engine.is_between();
+                // learnt: the engine stands behind bytes that it took
+                let _learnt = engine.is_between();
                 return Err(BlobFault::Device(fault));
             }
             Err(Halt::Engine(stop)) => return Err(fault_at(start + engine.offset(), stop)),
@@ -185,8 +188,8 @@ fn read_noted<R: Read>(
     }
 }
 
-/// Reads a blob from an input into a form without rows and a list of spans, in place of what that holds, with an engine that forgets what
-/// it has read. Form and list are empty where none is read.
+// Reads a blob from an input into a form without rows and a list of spans, in place of what that holds, with an engine that forgets what
+// it has read. Form and list are empty where none is read.
 pub(crate) fn read_spans<R: Read>(
     input: &mut Input<'_, R>,
     engine: &mut Engine,

@@ -9,7 +9,7 @@ use twkb_engine::Awaited;
 use twkb_grammar::Span;
 use twkb_header::TypeByte;
 
-/// The spans so far, and which of them are of geometries that are begun and not ended, the innermost last.
+// The spans so far, and which of them are of geometries that are begun and not ended, the innermost last.
 #[derive(Debug, Drop)]
 pub(crate) struct SpanNotes {
     spans: Vec<Span>,
@@ -25,7 +25,7 @@ impl Model for SpanNotes {
     ghost view = { λ n. record { spans = n.spans.items; begun = reverse n.begun.items } };
 }
 
-/// Sets the metadata byte of the span at this place, if there is one.
+// Sets the metadata byte of the span at this place, if there is one.
 fn set_metadata(spans: &mut Vec<Span>, index: usize, metadata: u8)
     ensures { spans.new.items ≡ changed_at index (λ s. record s { metadata = metadata }) spans.old.items }
 {
@@ -34,7 +34,7 @@ fn set_metadata(spans: &mut Vec<Span>, index: usize, metadata: u8)
     }
 }
 
-/// Sets length and points of the span at this place, if there is one, whose geometry ends at this offset, with so many points so far.
+// Sets length and points of the span at this place, if there is one, whose geometry ends at this offset, with so many points so far.
 fn set_end(spans: &mut Vec<Span>, index: usize, offset: u64, points: u64)
     ensures { spans.new.items ≡ changed_at index (measured offset points) spans.old.items }
 {
@@ -86,7 +86,7 @@ impl SpanNotes {
         self.spans
     }
 
-    /// A geometry begins. It takes memory for its span, past the room that there is.
+    // A geometry begins. It takes memory for its span, past the room that there is.
     fn note_header(&mut self, offset: u64, points: u64, byte: u8) -> Result<(), AllocError>
         ensures { OnOk result (length_of self.old.begun < 2 ^ 32 → self.new ≡ header_noted offset points byte self.old) }
     {
@@ -106,7 +106,7 @@ impl SpanNotes {
         Ok(())
     }
 
-    /// The metadata byte of the innermost geometry.
+    // The metadata byte of the innermost geometry.
     fn note_metadata(&mut self, byte: u8)
         ensures { self.new ≡ metadata_noted byte self.old }
     {
@@ -135,7 +135,7 @@ impl SpanNotes {
         Ok(())
     }
 
-    /// The innermost geometry ends, if one is begun.
+    // The innermost geometry ends, if one is begun.
     fn end_inner(&mut self, offset: u64, points: u64)
         ensures { self.new ≡ note_end offset points self.old }
     {

@@ -11,27 +11,27 @@ use twkb_engine::{BlobReason, Engine, Stop};
 use twkb_flat::Flat;
 use twkb_io::{InFault, Input};
 
-/// What the held bytes of an input made.
+// What the held bytes of an input made.
 #[derive(Clone, Copy, Debug, PartialEq, Eq)]
 pub(crate) enum Piece {
-    /// They were used, and more have to follow.
+    // They were used, and more have to follow.
     More,
-    /// A geometry ends in them, whose rows are in the form.
+    // A geometry ends in them, whose rows are in the form.
     Made,
-    /// There are none.
+    // There are none.
     End,
 }
 
-/// Why the held bytes of an input made nothing.
+// Why the held bytes of an input made nothing.
 #[derive(Clone, Copy, Debug, PartialEq, Eq)]
 pub(crate) enum Halt {
-    /// The input gave none.
+    // The input gave none.
     Device(InFault),
-    /// The engine stopped.
+    // The engine stopped.
     Engine(Stop),
 }
 
-/// Gives the held bytes of an input to an engine, up to the end of a geometry.
+// Gives the held bytes of an input to an engine, up to the end of a geometry.
 fn read_piece<R: Read>(
     input: &mut Input<'_, R>,
     engine: &mut Engine,
@@ -48,7 +48,8 @@ fn read_piece<R: Read>(
     if let Err(fault) = input.fill() {
         return Err(Halt::Device(fault));
     }
-    let _given = input.offset();
+    // learnt: the input has given at most 2 ^ 62 bytes
+    let _learnt = input.offset();
     let piece = input.held();
     let count = piece.len();
     if count == 0 {
@@ -67,7 +68,7 @@ fn read_piece<R: Read>(
     }
 }
 
-/// Reads a blob from an input into a form without rows, with an engine that has read nothing.
+// Reads a blob from an input into a form without rows, with an engine that has read nothing.
 fn read_blob<R: Read>(
     input: &mut Input<'_, R>,
     engine: &mut Engine,
@@ -83,7 +84,8 @@ fn read_blob<R: Read>(
     twkb_outline::laws::reading();
     let start = input.offset();
     loop {
-        let _given = input.offset();
+        // learnt: the input has given at most 2 ^ 62 bytes
+        let _learnt = input.offset();
         match read_piece(input, engine, flat) {
             Ok(Piece::More) => {}
             Ok(Piece::Made) => return Ok(true),
@@ -96,7 +98,8 @@ fn read_blob<R: Read>(
                 return Err(BlobFault::At { offset, reason });
             }
             Err(Halt::Device(fault)) => {
-                let _between = engine.is_between();
+                // learnt: the engine stands behind bytes that it took
+                let _learnt = engine.is_between();
                 return Err(BlobFault::Device(fault));
             }
             Err(Halt::Engine(stop)) => return Err(fault_at(start + engine.offset(), stop)),
@@ -104,8 +107,8 @@ fn read_blob<R: Read>(
     }
 }
 
-/// Reads a blob from an input into a form, in place of what that holds, with an engine that forgets what it has read. The form has no rows
-/// where none is read.
+// Reads a blob from an input into a form, in place of what that holds, with an engine that forgets what it has read. The form has no rows
+// where none is read.
 pub(crate) fn read_into<R: Read>(
     input: &mut Input<'_, R>,
     engine: &mut Engine,

@@ -125,7 +125,8 @@ impl Session {
             }
             Ok((used, false)) => {
                 if count < piece.len() {
-                    let _between = self.engine.is_between();
+                    // learnt: the engine stands behind bytes that it took
+                    let _learnt = self.engine.is_between();
                     return Err(BlobFault::Device(InFault::TooLong));
                 }
                 self.spent = false;
@@ -182,7 +183,8 @@ impl Session {
         ensures few { result ≤ 9 }
     {
         twkb_outline::laws::reading();
-        let _between = self.engine.is_between();
+        // learnt: the engine stands behind bytes that it took
+        let _learnt = self.engine.is_between();
         self.engine.held()
     }
 
@@ -194,8 +196,10 @@ impl Session {
     {
         twkb_outline::laws::role();
         twkb_outline::laws::noting();
-        let _held = self.engine.held();
-        let _between = self.engine.is_between();
+        // learnt: what it holds begins a number
+        let _learnt = self.engine.held();
+        // learnt: the engine stands behind bytes that it took
+        let _learnt = self.engine.is_between();
         self.engine.open_geometries()
     }
 }

@@ -4,7 +4,7 @@ ghost use Rattle.twkb_blob.specs.Readers.{spent_at, ended_at};
 
 use crate::fault::BlobFault;
 
-/// What a reader does next.
+// What a reader does next.
 #[derive(Clone, Copy, Debug, PartialEq, Eq)]
 pub(crate) enum State {
     Ready,
@@ -12,7 +12,7 @@ pub(crate) enum State {
     Spent,
 }
 
-/// What a reader does next that answered so.
+// What a reader does next that answered so.
 pub(crate) fn state_behind<T>(found: &Result<Option<T>, BlobFault>) -> State
     ensures spent { spent_at result ≡ is_err found.now }
     ensures ended { found.now ≡ Ok None → ended_at result ≡ true }
@@ -25,7 +25,7 @@ pub(crate) fn state_behind<T>(found: &Result<Option<T>, BlobFault>) -> State
     }
 }
 
-/// The same, where it answered whether there was a geometry.
+// The same, where it answered whether there was a geometry.
 pub(crate) fn state_past(found: Result<bool, BlobFault>) -> State
     ensures spent { spent_at result ≡ is_err found }
     ensures ended { found ≡ Ok false → ended_at result ≡ true }

@@ -10,11 +10,11 @@ use twkb_convert::{ConvertFault, Limits, Report, Style, Tap, pack_styled, show, 
 // What a call converts.
 #[derive(Clone, Copy, Debug, PartialEq, Eq)]
 pub(crate) enum Conversion {
-    /// A table to a stream, in a style.
+    // A table to a stream, in a style.
     Pack(Style),
-    /// A stream to a table.
+    // A stream to a table.
     Unpack,
-    /// A stream to lines of its headers.
+    // A stream to lines of its headers.
     Show,
 }
 

@@ -13,9 +13,9 @@ const PIECE: usize = 64;
 // Why a reader was not read to its end.
 #[derive(Clone, Copy, PartialEq, Eq, Debug)]
 pub(crate) enum DrainFault {
-    /// A read failed.
+    // A read failed.
     Read,
-    /// As many reads as can be counted gave bytes.
+    // As many reads as can be counted gave bytes.
     TooLong,
 }
 

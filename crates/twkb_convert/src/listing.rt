@@ -7,9 +7,9 @@ use twkb_table::header_text;
 // What is written of a stream of blobs.
 #[derive(Clone, Copy, PartialEq, Eq, Debug)]
 pub(crate) enum Listing {
-    /// The rows of each, behind the header's line of a table.
+    // The rows of each, behind the header's line of a table.
     Table,
-    /// A line for each TWKB header.
+    // A line for each TWKB header.
     Headers,
 }
 

@@ -8,11 +8,11 @@ use twkb_table::TableFault;
 // Why not the whole table was sent.
 #[derive(Clone, Copy, PartialEq, Eq, Debug)]
 pub(crate) enum TableObstacle {
-    /// The table gave no geometry, or there was no memory for the sizes of one.
+    // The table gave no geometry, or there was no memory for the sizes of one.
     Table(TableFault),
-    /// Behind the last record as many reads as can be counted gave bytes.
+    // Behind the last record as many reads as can be counted gave bytes.
     Undrained,
-    /// The output refused a put or a flush.
+    // The output refused a put or a flush.
     Output(OutFault),
 }
 
@@ -30,9 +30,9 @@ impl TableObstacle {
 // Why not the text of the whole stream was sent.
 #[derive(Clone, Copy, PartialEq, Eq, Debug)]
 pub(crate) enum StreamObstacle {
-    /// The reader gave no blob, or there was no memory for the text of one.
+    // The reader gave no blob, or there was no memory for the text of one.
     Stream(BlobFault),
-    /// The output refused a put or a flush.
+    // The output refused a put or a flush.
     Output(OutFault),
 }
 

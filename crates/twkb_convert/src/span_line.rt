@@ -12,7 +12,7 @@ use twkb_tree::Kind;
 // The greatest number of one digit.
 const GREATEST_DIGIT: u64 = 9;
 
-/// Appends a line for each span, or a front of them where memory is refused.
+// Appends a line for each span, or a front of them where memory is refused.
 pub(crate) fn put_lines(spans: &[Span], text: &mut Vec<u8>) -> Result<(), AllocError>
     ensures appended { OnOk result (text.new.items ≡ text.old.items ++ span_lines spans.now) }
 {

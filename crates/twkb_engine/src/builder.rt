@@ -70,7 +70,8 @@ impl Builder {
         ensures bytes { result.bytes ≡ 0 }
         ensures phase { result.phase ≡ Phase.Header }
     {
-        limits.nest();
+        // learnt: the limits are allowed
+        let _learnt = limits.nest();
         Builder {
             alloc,
             limits,
@@ -174,7 +175,8 @@ impl Builder {
         ensures limits { self.new.limits ≡ self.old.limits }
         ensures bytes { self.new.bytes ≡ 0 }
     {
-        self.limits.nest();
+        // learnt: the limits are allowed
+        let _learnt = self.limits.nest();
         self.bytes = 0;
         self.position = origin();
         self.nodes = 1;
@@ -292,8 +294,8 @@ impl Builder {
         ensures phase { self.new.phase ≡ self.old.phase }
         ensures added { (i : Item) → outline_role (sums_of self.old) (outline_in self.old) ≡ Some i.role → i.number ≡ number → length_of i.bytes ≡ length → sums_of self.new ≡ added (sums_of self.old) i }
     {
-        let _most_nodes = self.limits.nodes();
-        let _most_points = self.limits.points();
+        // learnt: how many nodes and points are allowed
+        let _learnt = (self.limits.nodes(), self.limits.points());
         let (nodes, points) = announced(&self.phase, number);
         let position = self.moved(number).unwrap();
         self.bytes += length;

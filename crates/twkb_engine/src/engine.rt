@@ -15,7 +15,7 @@ use twkb_front::front_number;
 use twkb_num::{Leb128, Partial, Step};
 use twkb_tree::Limits;
 
-/// Points have two numbers, and so as many bytes: shorter pieces are not looked at for them.
+// Points have two numbers, and so as many bytes: shorter pieces are not looked at for them.
 const SHORTEST: usize = 2;
 
 /// A blob that is read byte by byte into a flat form, which is lent to each call: what stands open, and the bytes of a number that is
@@ -39,7 +39,7 @@ impl Engine {
         }
     }
 
-    /// Takes a byte; answers whether a geometry ends behind it.
+    // Takes a byte; answers whether a geometry ends behind it.
     fn step(&mut self, flat: &mut Flat, byte: u8) -> Result<bool, Stop>
         requires room { count_of self.old < 2 ^ 63 }
         ensures limits { allowance_of self.new ≡ allowance_of self.old }
@@ -81,7 +81,7 @@ impl Engine {
         self.builder.take_points(flat, rest)
     }
 
-    /// The number of the next item and how many bytes it has, where no byte of it is held and it stands whole in front.
+    // The number of the next item and how many bytes it has, where no byte of it is held and it stands whole in front.
     #[inline]
     fn front_item(&self, rest: &[u8]) -> Option<(u64, usize)>
         requires some { 0 < length_of rest.now }
@@ -122,7 +122,7 @@ impl Engine {
         }
     }
 
-    /// Takes the next bytes of a piece, one at least, and answers how many, and whether a geometry ends behind them.
+    // Takes the next bytes of a piece, one at least, and answers how many, and whether a geometry ends behind them.
     fn take_some(&mut self, flat: &mut Flat, rest: &[u8]) -> Result<(usize, bool), Stop>
         requires some { 0 < length_of rest.now }
         requires room { count_of self.old + length_of rest.now ≤ 2 ^ 63 }

@@ -44,8 +44,8 @@ fn push_geometry(
     push_under(geometry, below, flat)
 }
 
-// The row of the geometry itself, and its points.
-fn own_row(geometry: &Geometry, depth: u32, id: Option<i64>) -> (Row, &[Pt])
+/// The row of the geometry itself, with this depth and id, and its points.
+pub fn own_row(geometry: &Geometry, depth: u32, id: Option<i64>) -> (Row, &[Pt])
     ensures { row_with result.0 result.1.now ≡ own_row id depth geometry.now }
 {
     let (kind, points) = own_parts(geometry.shape());

@@ -13,6 +13,7 @@ mod point_source;
 mod reading;
 mod work;
 
+pub use filling::own_row;
 pub use flat::Flat;
 pub use node::{Node, NodeId, PointId, Row};
 pub use point_source::PointSource;

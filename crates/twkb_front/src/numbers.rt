@@ -8,7 +8,7 @@ use twkb_num::{Leb128, Partial, Step};
 /// A byte with this bit set goes on (TWKB, varints).
 pub const GOES_ON: u8 = 0x80;
 
-/// The number that stands in front in one byte.
+// The number that stands in front in one byte.
 #[inline(always)]
 pub(crate) fn byte_number(bytes: &[u8]) -> Option<u64>
     ensures front { IfSome result (λ number. NumberInFront bytes.now number 1) }
@@ -22,7 +22,7 @@ pub(crate) fn byte_number(bytes: &[u8]) -> Option<u64>
     }
 }
 
-/// The number that stands in front in one or two bytes, and how many those are.
+// The number that stands in front in one or two bytes, and how many those are.
 #[inline(always)]
 pub(crate) fn short_number(bytes: &[u8]) -> Option<(u64, usize)>
     ensures front { IfSome result (λ front. NumberInFront bytes.now front.0 front.1) }

@@ -9,7 +9,7 @@ use crate::numbers::{byte_number, front_number, short_number};
 use twkb_num::unzigzag;
 use twkb_points::Pt;
 
-/// The step that a number of one or two bytes spells.
+// The step that a number of one or two bytes spells.
 #[inline(always)]
 fn short_step(number: u64) -> i64
     requires { number < 2 ^ 14 }
@@ -19,7 +19,7 @@ fn short_step(number: u64) -> i64
     unzigzag(number)
 }
 
-/// The coordinate behind such a step.
+// The coordinate behind such a step.
 #[inline(always)]
 fn near_coordinate(from: i64, number: u64) -> i64
     requires in_range { IsCoordinate from }
@@ -29,7 +29,7 @@ fn near_coordinate(from: i64, number: u64) -> i64
     from + short_step(number)
 }
 
-/// The point behind two such steps, or `None` where that is out of range.
+// The point behind two such steps, or `None` where that is out of range.
 #[inline(always)]
 fn near(from: Pt, x: u64, y: u64) -> Option<Pt>
     requires x_small { x < 2 ^ 14 }
@@ -58,7 +58,7 @@ pub fn front_point(from: Pt, bytes: &[u8]) -> Option<(Pt, usize)>
     Some((to, 2))
 }
 
-/// The same, by numbers of one or two bytes.
+// The same, by numbers of one or two bytes.
 #[inline(always)]
 fn short_point(from: Pt, bytes: &[u8]) -> Option<(Pt, usize)>
     ensures { IfSome result (λ front. PointInFront from bytes.now front.0 front.1) }
@@ -73,7 +73,7 @@ fn short_point(from: Pt, bytes: &[u8]) -> Option<(Pt, usize)>
     Some((to, width + height))
 }
 
-/// The same, by any numbers.
+// The same, by any numbers.
 #[inline(never)]
 fn long_point(from: Pt, bytes: &[u8]) -> Option<(Pt, usize)>
     ensures { IfSome result (λ front. PointInFront from bytes.now front.0 front.1) }

@@ -5,19 +5,19 @@ ghost use Rattle.twkb_header.specs.Metadata.{bit_value, metadata_number};
 
 use std::marker::Model;
 
-/// Bit of a metadata byte: a box follows.
+// Bit of a metadata byte: a box follows.
 const BOX: u32 = 0;
 
-/// Bit of a metadata byte: a size follows.
+// Bit of a metadata byte: a size follows.
 const SIZE: u32 = 1;
 
-/// Bit of a metadata byte: ids follow the count of members.
+// Bit of a metadata byte: ids follow the count of members.
 const IDS: u32 = 2;
 
-/// Bit of a metadata byte: the extended dimensions byte follows.
+// Bit of a metadata byte: the extended dimensions byte follows.
 const EXTENDED: u32 = 3;
 
-/// Bit of a metadata byte: there is no body.
+// Bit of a metadata byte: there is no body.
 const EMPTY: u32 = 4;
 
 /// What the metadata byte of a geometry without extended dimensions says.

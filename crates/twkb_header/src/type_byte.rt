@@ -11,13 +11,13 @@ use std::marker::Model;
 use twkb_num::zigzag;
 use twkb_tree::Kind;
 
-/// The values of half a byte: what the upper half counts.
+// The values of half a byte: what the upper half counts.
 const HALF: u8 = 16;
 
-/// The lower half of a point's type byte.
+// The lower half of a point's type byte.
 const POINT: u8 = 1;
 
-/// The greatest number of a type.
+// The greatest number of a type.
 const LAST_TYPE: u8 = 7;
 
 /// The type byte of a geometry (TWKB, type and precision). A contract sees its number.

@@ -2,19 +2,18 @@
 ghost use Rattle.std.specs.Prelude.{◌≡◌, ◌≤◌, ◌<◌, ◌+◌, ◌^◌, ◌∷◌, [], ◌++◌, map, OnOk, OnErr, IfOk};
 ghost use Rattle.twkb_tree.specs.Limits.{largest_limits};
 ghost use Rattle.twkb_tree.specs.Tree.{nest, nest_all, trees};
-ghost use Rattle.twkb_tree.specs.Rows.{own_row, rows, rows_with, member_rows, rows_of_each, plain_row, ring_rows, polygon_rows};
+ghost use Rattle.twkb_tree.specs.Rows.{rows, rows_with, member_rows, rows_of_each, plain_row, ring_rows, polygon_rows};
 ghost use Rattle.twkb_tree.specs.declared.kind.Kind.{Kind};
 ghost use Rattle.twkb_table.specs.Record.{record_of};
 ghost use Rattle.twkb_table.specs.Text.{csvtext};
-ghost use Rattle.twkb_flat.specs.Rows.{row_with};
 ghost use Rattle.twkb_table.specs.Printing.{row_lines, Grows};
 
 use crate::row_line::put_row;
 use std::alloc::{AllocError, Global};
 use std::slice::from_ref;
-use twkb_flat::Row;
+use twkb_flat::{Row, own_row};
 use twkb_points::Pt;
-use twkb_tree::{Geometry, Ids, Kind, Lines, Members, Pts, Shape, id_at, own_parts};
+use twkb_tree::{Geometry, Ids, Kind, Lines, Members, Pts, Shape, id_at};
 
 /// The lines of the geometry's rows, each ended by LF and none of them the header (profile). Takes
 /// memory for the text alone.
@@ -55,7 +54,7 @@ fn put_geometry(
     ensures appended { OnOk result (text.new.items ≡ text.old.items ++ row_lines (rows_with id depth geometry.now)) }
     ensures grown { Grows text.old.items text.new.items }
 {
-    let (row, points) = own_line(geometry, depth, id);
+    let (row, points) = own_row(geometry, depth, id);
     put_row(&row, points, text)?;
     let below = depth + 1;
     match geometry.shape() {
@@ -66,21 +65,6 @@ fn put_geometry(
         Shape::MultiPolygon(areas, ids) => put_areas(below, areas.as_slice(), ids, text),
         Shape::Collection(members, ids) => put_members(below, members, ids, text),
     }
-}
-
-// The row of the geometry itself, and its points.
-fn own_line(geometry: &Geometry, depth: u32, id: Option<i64>) -> (Row, &[Pt])
-    ensures { row_with result.0 result.1.now ≡ own_row id depth geometry.now }
-{
-    let (kind, points) = own_parts(geometry.shape());
-    let precision = Some(geometry.precision());
-    let row = Row {
-        depth,
-        kind,
-        id,
-        precision,
-    };
-    (row, points)
 }
 
 // Appends the line of a part, which has no precision of its own.

@@ -11,7 +11,7 @@ use twkb_grammar::Style;
 use twkb_header::{Metadata, MetadataFlags, TypeByte};
 use twkb_io::Sink;
 
-/// Whether a geometry with so many points of its own has no body.
+// Whether a geometry with so many points of its own has no body.
 pub(crate) fn has_no_body(points: u32, entry: &Entry) -> bool
     ensures { result ≡ is_bare points entry.now }
 {
@@ -70,7 +70,7 @@ fn put_size_and_box<S: Sink>(
     put_box(entry, gatherer)
 }
 
-/// Puts type byte, metadata byte, size and box of a node that is a geometry of its own.
+// Puts type byte, metadata byte, size and box of a node that is a geometry of its own.
 pub(crate) fn put_header<S: Sink>(
     style: Style,
     node: &Node,

@@ -6,7 +6,7 @@ use twkb_blob::{BlobFault, Reader, Session, Span};
 use twkb_geom::{Geometry, Shape};
 use twkb_points::Pt;
 
-/// Whether there is a point, and it stands here.
+// Whether there is a point, and it stands here.
 fn is_at(point: Option<&Pt>, x: i64, y: i64) -> bool {
     match point {
         Some(point) => point.x() == x && point.y() == y,
@@ -14,7 +14,7 @@ fn is_at(point: Option<&Pt>, x: i64, y: i64) -> bool {
     }
 }
 
-/// Whether this is a point of precision 0, and it stands here.
+// Whether this is a point of precision 0, and it stands here.
 fn is_point(geometry: &Geometry, x: i64, y: i64) -> bool {
     match geometry.shape() {
         Shape::Point(Some(point)) => geometry.precision() == 0 && is_at(Some(point), x, y),
@@ -22,12 +22,12 @@ fn is_point(geometry: &Geometry, x: i64, y: i64) -> bool {
     }
 }
 
-/// Whether these are the points (1, 1) and (5, 5).
+// Whether these are the points (1, 1) and (5, 5).
 fn are_two_points(points: &[Pt]) -> bool {
     points.len() == 2 && is_at(points.first(), 1, 1) && is_at(points.get(1), 5, 5)
 }
 
-/// Whether this is the line of precision 0 from (1, 1) to (5, 5).
+// Whether this is the line of precision 0 from (1, 1) to (5, 5).
 fn is_short_line(geometry: &Geometry) -> bool {
     match geometry.shape() {
         Shape::Line(points) => geometry.precision() == 0 && are_two_points(points.as_slice()),

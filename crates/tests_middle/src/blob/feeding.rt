@@ -13,7 +13,7 @@ pub struct Outcome {
     pub fault: Option<BlobFault>,
 }
 
-/// What a reader over a tap answers, call by call.
+// What a reader over a tap answers, call by call.
 fn by_calls<R: Read>(alloc: Global, limits: Limits, tap: &mut Tap<R>, most: usize) -> Outcome {
     let mut reader = Reader::new(Input::new(tap), limits);
     let mut made = 0u64;
@@ -36,7 +36,7 @@ pub fn by_reader(alloc: Global, limits: Limits, bytes: &[u8]) -> Outcome {
     by_calls(alloc, limits, &mut tap, bytes.len().saturating_add(1))
 }
 
-/// Feeds a piece, and the unused rest again.
+// Feeds a piece, and the unused rest again.
 fn feed_all(session: &mut Session, piece: &[u8], outcome: &mut Outcome) {
     let mut rest = piece;
     for _ in 0..piece.len() {

@@ -7,19 +7,19 @@ use std::process::Abort;
 use twkb_blob::{BlobFault, Session};
 use twkb_geom::Limits;
 
-/// A collection with ids: a multipolygon with an id, and a multilinestring of two lines.
+// A collection with ids: a multipolygon with an id, and a multilinestring of two lines.
 const NAMED: [u8; 26] = [
     0x07, 0x04, 0x02, 0x02, 0x04, 0x06, 0x04, 0x01, 0x02, 0x01, 0x03, 0x02, 0x02, 0x02, 0x02, 0x02,
     0x02, 0x05, 0x00, 0x02, 0x01, 0x02, 0x02, 0x01, 0x02, 0x02,
 ];
 
-/// Collections inside five others, and an empty point.
+// Collections inside five others, and an empty point.
 const DEEP: [u8; 20] = [
     0x07, 0x00, 0x01, 0x07, 0x00, 0x01, 0x07, 0x00, 0x01, 0x07, 0x00, 0x01, 0x07, 0x00, 0x01, 0x07,
     0x00, 0x01, 0x01, 0x10,
 ];
 
-/// Whether this is one geometry, or none for want of memory.
+// Whether this is one geometry, or none for want of memory.
 fn made_or_memory(outcome: Outcome) -> bool {
     match outcome.fault {
         None => outcome.made == 1,
@@ -27,7 +27,7 @@ fn made_or_memory(outcome: Outcome) -> bool {
     }
 }
 
-/// Whether each way to read the blob gives its geometry, or answers want of memory.
+// Whether each way to read the blob gives its geometry, or answers want of memory.
 fn each_way(alloc: Global, bytes: &[u8]) -> bool {
     let limits = Limits::standard();
     made_or_memory(by_reader(alloc, limits, bytes))
@@ -45,7 +45,7 @@ fn each_growth_of_open_collections_may_be_refused(rt: HostRuntime) {
     assert!(rt; each_way(rt.alloc(), &DEEP), "six collections");
 }
 
-/// Asserts that a session that took a piece stands between two blobs, or is spent for want of memory.
+// Asserts that a session that took a piece stands between two blobs, or is spent for want of memory.
 fn assert_between_or_spent(rt: &impl Abort, session: &mut Session, piece: &[u8]) {
     let came = session.feed(piece).err();
     if came.is_none() {

@@ -8,7 +8,7 @@ use twkb_blob::{BlobFault, Reader};
 use twkb_geom::Limits;
 use twkb_io::{Input, Tap};
 
-/// How many spans `next_located` gives, and its fault, if any.
+// How many spans `next_located` gives, and its fault, if any.
 fn count_of_spans<R: Read>(alloc: Global, reader: &mut Reader<'_, R>) -> Result<usize, BlobFault> {
     match reader.next_located(alloc) {
         Ok(Some(located)) => Ok(located.spans.as_slice().len()),
@@ -17,7 +17,7 @@ fn count_of_spans<R: Read>(alloc: Global, reader: &mut Reader<'_, R>) -> Result<
     }
 }
 
-/// Asserts that a reader gives four spans and the end, or answers want of memory and is then spent.
+// Asserts that a reader gives four spans and the end, or answers want of memory and is then spent.
 fn assert_four_or_memory<R: Read>(rt: &impl Abort, alloc: Global, tap: &mut Tap<R>) {
     let mut reader = Reader::new(Input::new(tap), Limits::standard());
     let came = count_of_spans(alloc, &mut reader);

@@ -5,7 +5,7 @@ use std::process::Abort;
 use twkb_blob::{BlobFault, BlobReason};
 use twkb_geom::Limits;
 
-/// Asserts that each way to read the stream within these limits, of nesting, nodes and points, refuses it at this offset.
+// Asserts that each way to read the stream within these limits, of nesting, nodes and points, refuses it at this offset.
 fn assert_refused(
     rt: &impl Abort,
     alloc: Global,

@@ -8,7 +8,7 @@ use twkb_blob::{BlobFault, BlobReason, Reader, Span};
 use twkb_geom::{Kind, Limits};
 use twkb_io::{Fuse, FuseEnd, InFault, Input, Tap};
 
-/// A span of one line: level, offset, type, precision, metadata byte, length and points.
+// A span of one line: level, offset, type, precision, metadata byte, length and points.
 fn span(
     level: u32,
     offset: u64,
@@ -29,7 +29,7 @@ fn span(
     }
 }
 
-/// Asserts that a reader gives a geometry with these spans, and then the end, for good.
+// Asserts that a reader gives a geometry with these spans, and then the end, for good.
 fn assert_spans_and_end<R: Read>(rt: &impl Abort, alloc: Global, tap: &mut Tap<R>, spans: &[Span]) {
     let mut reader = Reader::new(Input::new(tap), Limits::standard());
     assert_spans(rt, alloc, &mut reader, spans);
@@ -71,17 +71,17 @@ fn precision_and_free_bits_are_those_of_the_header(rt: HostRuntime) {
     assert_spans_and_end(&rt, rt.alloc(), &mut tap, &free);
 }
 
-/// Asserts that a reader gives a point of four bytes.
+// Asserts that a reader gives a point of four bytes.
 fn assert_the_point<R: Read>(rt: &impl Abort, alloc: Global, reader: &mut Reader<'_, R>) {
     assert_spans(rt, alloc, reader, &[span(0, 0, Kind::Point, 0, 0x00, 4, 1)]);
 }
 
-/// Asserts that a reader gives a point of three bytes, without coordinates, behind four others.
+// Asserts that a reader gives a point of three bytes, without coordinates, behind four others.
 fn assert_the_empty_point<R: Read>(rt: &impl Abort, alloc: Global, reader: &mut Reader<'_, R>) {
     assert_spans(rt, alloc, reader, &[span(0, 4, Kind::Point, 0, 0x12, 3, 0)]);
 }
 
-/// Asserts that a reader gives a point, and behind it a point without coordinates.
+// Asserts that a reader gives a point, and behind it a point without coordinates.
 fn assert_both_points<R: Read>(rt: &impl Abort, alloc: Global, tap: &mut Tap<R>) {
     let mut reader = Reader::new(Input::new(tap), Limits::standard());
     assert_the_point(rt, alloc, &mut reader);
@@ -94,7 +94,7 @@ fn offsets_count_from_the_streams_start(rt: HostRuntime) {
     assert_both_points(&rt, rt.alloc(), &mut tap);
 }
 
-/// Asserts that a reader gives a point, and then refuses a cut point at offset 7, for good.
+// Asserts that a reader gives a point, and then refuses a cut point at offset 7, for good.
 fn assert_point_and_fault<R: Read>(rt: &impl Abort, alloc: Global, tap: &mut Tap<R>) {
     let mut reader = Reader::new(Input::new(tap), Limits::standard());
     let reason = BlobReason::Truncated;
@@ -109,7 +109,7 @@ fn a_stream_gives_its_spans_and_then_its_fault_for_good(rt: HostRuntime) {
     assert_point_and_fault(&rt, rt.alloc(), &mut tap);
 }
 
-/// Asserts that a reader gives a blob by `next`, and then the spans of the one behind it.
+// Asserts that a reader gives a blob by `next`, and then the spans of the one behind it.
 fn assert_both_ways<R: Read>(rt: &impl Abort, alloc: Global, tap: &mut Tap<R>) {
     let mut reader = Reader::new(Input::new(tap), Limits::standard());
     assert_point(rt, alloc, &mut reader, 2, 1);
@@ -135,7 +135,7 @@ fn members_two_levels_down_have_their_own_precision(rt: HostRuntime) {
     assert_spans_and_end(&rt, rt.alloc(), &mut tap, &spans);
 }
 
-/// Asserts that a reader answers a failed read, and is then spent.
+// Asserts that a reader answers a failed read, and is then spent.
 fn assert_failure<R: Read>(rt: &impl Abort, alloc: Global, tap: &mut Tap<R>) {
     let mut reader = Reader::new(Input::new(tap), Limits::standard());
     assert_located_fault(rt, alloc, &mut reader, BlobFault::Device(InFault::Read));

@@ -7,7 +7,7 @@ use twkb_blob::{BlobFault, BlobReason, Reader};
 use twkb_geom::Limits;
 use twkb_io::{Fuse, FuseEnd, InFault, Input, Tap};
 
-/// Asserts that a reader gives the point (2, 1), and then refuses a cut point at offset 7, for good.
+// Asserts that a reader gives the point (2, 1), and then refuses a cut point at offset 7, for good.
 fn assert_point_and_fault<R: Read>(rt: &impl Abort, alloc: Global, tap: &mut Tap<R>) {
     let mut reader = Reader::new(Input::new(tap), Limits::standard());
     let reason = BlobReason::Truncated;
@@ -22,7 +22,7 @@ fn a_stream_gives_its_points_and_then_its_fault_for_good(rt: HostRuntime) {
     assert_point_and_fault(&rt, rt.alloc(), &mut tap);
 }
 
-/// Asserts that a reader gives the line from (1, 1) to (5, 5), and then the end, for good.
+// Asserts that a reader gives the line from (1, 1) to (5, 5), and then the end, for good.
 fn assert_line_and_end<R: Read>(rt: &impl Abort, alloc: Global, tap: &mut Tap<R>) {
     let mut reader = Reader::new(Input::new(tap), Limits::standard());
     assert_short_line(rt, alloc, &mut reader);
@@ -48,7 +48,7 @@ fn size_and_box_are_read_past(rt: HostRuntime) {
     assert_line_and_end(&rt, rt.alloc(), &mut tap);
 }
 
-/// Asserts that a reader answers a failed read, and is then spent.
+// Asserts that a reader answers a failed read, and is then spent.
 fn assert_failure<R: Read>(rt: &impl Abort, alloc: Global, tap: &mut Tap<R>) {
     let mut reader = Reader::new(Input::new(tap), Limits::standard());
     assert_fault(rt, alloc, &mut reader, BlobFault::Device(InFault::Read));

@@ -327,7 +327,7 @@ fn a_cut_point_behind_a_point_is_truncated(rt: HostRuntime) {
     );
 }
 
-/// A collection of a point and an empty line, with a box, sizes and ids.
+// A collection of a point and an empty line, with a box, sizes and ids.
 const WHOLE: [u8; 18] = [
     0x07, 0x07, 0x0F, 0x02, 0x00, 0x02, 0x00, 0x02, 0x0E, 0x01, 0x01, 0x02, 0x02, 0x02, 0x02, 0x02,
     0x12, 0x00,

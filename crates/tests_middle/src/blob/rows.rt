@@ -11,13 +11,13 @@ use twkb_blob::{BlobFault, BlobReason, Reader, Session, Spans};
 use twkb_geom::{Flat, Limits};
 use twkb_io::{Fuse, FuseEnd, InFault, Input, Tap};
 
-/// Asserts that the form has so many rows and points.
+// Asserts that the form has so many rows and points.
 fn assert_has(rt: &impl Abort, flat: &Flat, rows: u32, points: u32) {
     let came = (flat.node_count(), flat.point_count());
     assert!(rt; came == (rows, points), "{came:?}");
 }
 
-/// Asserts that `next_flat` gives so many rows and points.
+// Asserts that `next_flat` gives so many rows and points.
 fn assert_rows<R: Read>(
     rt: &impl Abort,
     alloc: Global,
@@ -31,7 +31,7 @@ fn assert_rows<R: Read>(
     assert_has(rt, flat, rows, points);
 }
 
-/// Asserts that `next_flat` tells the end, and leaves no row.
+// Asserts that `next_flat` tells the end, and leaves no row.
 fn assert_no_rows<R: Read>(
     rt: &impl Abort,
     alloc: Global,
@@ -42,7 +42,7 @@ fn assert_no_rows<R: Read>(
     assert!(rt; came == Ok(false) && flat.is_empty(), "{came:?}");
 }
 
-/// Asserts that `next_flat` answers this fault, and leaves no row.
+// Asserts that `next_flat` answers this fault, and leaves no row.
 fn assert_rows_refused<R: Read>(
     rt: &impl Abort,
     alloc: Global,
@@ -54,7 +54,7 @@ fn assert_rows_refused<R: Read>(
     assert!(rt; came == Err(fault) && flat.is_empty(), "{came:?}");
 }
 
-/// Asserts that a reader gives a line's rows, a point, a line's rows again, and the end for good.
+// Asserts that a reader gives a line's rows, a point, a line's rows again, and the end for good.
 fn assert_mixed<R: Read>(rt: &impl Abort, alloc: Global, tap: &mut Tap<R>) {
     let mut reader = Reader::new(Input::new(tap), Limits::standard());
     let mut flat = Flat::new(alloc);
@@ -73,7 +73,7 @@ fn rows_and_trees_may_be_asked_for_in_turn(rt: HostRuntime) {
     assert_mixed(&rt, rt.alloc(), &mut tap);
 }
 
-/// Asserts that a reader gives a point's row, and then refuses a cut point at offset 7, for good.
+// Asserts that a reader gives a point's row, and then refuses a cut point at offset 7, for good.
 fn assert_row_and_fault<R: Read>(rt: &impl Abort, alloc: Global, tap: &mut Tap<R>) {
     let mut reader = Reader::new(Input::new(tap), Limits::standard());
     let mut flat = Flat::new(alloc);
@@ -91,7 +91,7 @@ fn no_row_is_left_behind_a_fault(rt: HostRuntime) {
     assert_row_and_fault(&rt, rt.alloc(), &mut tap);
 }
 
-/// Asserts that a reader answers a failed read without rows, and is then spent.
+// Asserts that a reader answers a failed read without rows, and is then spent.
 fn assert_failure<R: Read>(rt: &impl Abort, alloc: Global, tap: &mut Tap<R>) {
     let mut reader = Reader::new(Input::new(tap), Limits::standard());
     let mut flat = Flat::new(alloc);
@@ -109,7 +109,7 @@ fn no_row_is_left_behind_a_read_that_fails(rt: HostRuntime) {
     }
 }
 
-/// Asserts that a session answers so for a piece, and then lends so many rows and points.
+// Asserts that a session answers so for a piece, and then lends so many rows and points.
 fn assert_feeds_rows(
     rt: &impl Abort,
     session: &mut Session,
@@ -144,13 +144,13 @@ fn a_session_gives_rows_and_trees_in_turn(rt: HostRuntime) {
     assert!(rt; is_spent, "a call behind the end");
 }
 
-/// A collection with ids: a multipolygon with an id, and a multilinestring of two lines.
+// A collection with ids: a multipolygon with an id, and a multilinestring of two lines.
 const NAMED: [u8; 26] = [
     0x07, 0x04, 0x02, 0x02, 0x04, 0x06, 0x04, 0x01, 0x02, 0x01, 0x03, 0x02, 0x02, 0x02, 0x02, 0x02,
     0x02, 0x05, 0x00, 0x02, 0x01, 0x02, 0x02, 0x01, 0x02, 0x02,
 ];
 
-/// Asserts that a reader gives the rows of the collection, or lacks memory, leaves no row and is spent.
+// Asserts that a reader gives the rows of the collection, or lacks memory, leaves no row and is spent.
 fn assert_rows_or_memory<R: Read>(rt: &impl Abort, alloc: Global, tap: &mut Tap<R>) {
     let mut reader = Reader::new(Input::new(tap), Limits::standard());
     let mut flat = Flat::new(alloc);
@@ -170,7 +170,7 @@ fn each_growth_of_rows_may_be_refused(rt: HostRuntime) {
     assert_rows_or_memory(&rt, rt.alloc(), &mut tap);
 }
 
-/// Asserts that a session lends the rows of the collection, or lacks memory and is spent.
+// Asserts that a session lends the rows of the collection, or lacks memory and is spent.
 fn assert_lends_or_memory(rt: &impl Abort, session: &mut Session) {
     let came = session.feed_flat(&NAMED);
     if came == Err(BlobFault::Memory) {
@@ -187,13 +187,13 @@ fn each_growth_of_a_sessions_rows_may_be_refused(rt: HostRuntime) {
     assert_lends_or_memory(&rt, &mut session);
 }
 
-/// Asserts that a form and a list have so many rows and spans.
+// Asserts that a form and a list have so many rows and spans.
 fn assert_count(rt: &impl Abort, flat: &Flat, spans: &Spans, count: u32) {
     assert!(rt; flat.node_count() == count, "rows");
     assert!(rt; spans.as_slice().len() == count as usize, "spans");
 }
 
-/// Asserts that a reader gives four rows and spans, one in their place, and none at the end; or that memory was refused for the four.
+// Asserts that a reader gives four rows and spans, one in their place, and none at the end; or that memory was refused for the four.
 fn assert_four_and_one<R: Read>(rt: &impl Abort, alloc: Global, tap: &mut Tap<R>) {
     let mut reader = Reader::new(Input::new(tap), Limits::standard());
     let mut flat = Flat::new(alloc);
@@ -219,19 +219,19 @@ fn the_spans_of_a_blob_take_the_place_of_those_before(rt: HostRuntime) {
     assert_four_and_one(&rt, rt.alloc(), &mut tap);
 }
 
-/// A line of three points, and behind it, in 12 bytes, one that announces 2^24 points and has three.
+// A line of three points, and behind it, in 12 bytes, one that announces 2^24 points and has three.
 const ANNOUNCED: [u8; 21] = [
     0x02, 0x00, 0x03, 0x02, 0x02, 0x02, 0x02, 0x02, 0x02, 0x02, 0x00, 0x80, 0x80, 0x80, 0x08, 0x02,
     0x02, 0x02, 0x02, 0x02, 0x02,
 ];
 
-/// What is answered at the end of these bytes.
+// What is answered at the end of these bytes.
 const CUT: BlobFault = BlobFault::At {
     offset: 21,
     reason: BlobReason::Truncated,
 };
 
-/// Asserts that a reader refuses the second line as cut, or lacked memory for the first.
+// Asserts that a reader refuses the second line as cut, or lacked memory for the first.
 fn assert_reads_into_grown_rows<R: Read>(rt: &impl Abort, alloc: Global, tap: &mut Tap<R>) {
     let mut reader = Reader::new(Input::new(tap), Limits::standard());
     let mut flat = Flat::new(alloc);
@@ -250,7 +250,7 @@ fn a_reader_reserves_nothing_for_an_announced_count(rt: HostRuntime) {
     assert_reads_into_grown_rows(&rt, rt.alloc(), &mut tap);
 }
 
-/// Asserts that a session takes the second line's bytes into grown rows, and then may not end, or lacked memory for the first.
+// Asserts that a session takes the second line's bytes into grown rows, and then may not end, or lacked memory for the first.
 fn assert_feeds_into_grown_rows(rt: &impl Abort, session: &mut Session) {
     let came = session.feed_flat(&ANNOUNCED[..9]);
     if came != Err(BlobFault::Memory) {

@@ -6,13 +6,13 @@ use std::process::Abort;
 use twkb_blob::{BlobFault, BlobReason, Session, laws};
 use twkb_geom::{Geometry, Limits, Shape};
 
-/// Asserts that a session has so many geometries begun, and holds so many bytes of a number.
+// Asserts that a session has so many geometries begun, and holds so many bytes of a number.
 fn assert_begun(rt: &impl Abort, session: &Session, frames: usize, held: usize) {
     let came = (session.frames(), session.held());
     assert!(rt; came == (frames, held), "{came:?}");
 }
 
-/// Asserts that the stream may not end behind a type byte, for good.
+// Asserts that the stream may not end behind a type byte, for good.
 fn assert_cut_at_a_type_byte(rt: &impl Abort, session: &mut Session) {
     let reason = BlobReason::Truncated;
     assert_goes_on(rt, session, b"\x01");
@@ -37,7 +37,7 @@ fn a_session_holds_the_first_bytes_of_a_number(rt: HostRuntime) {
     assert_begun(&rt, &session, 1, 1);
 }
 
-/// Asserts that a third coordinate is refused at its extended byte, for good.
+// Asserts that a third coordinate is refused at its extended byte, for good.
 fn assert_third_coordinate_refused(rt: &impl Abort, session: &mut Session) {
     let reason = BlobReason::ExtraDimensions;
     assert_piece_refused(rt, session, b"\x01", BlobFault::At { offset: 2, reason });
@@ -52,13 +52,13 @@ fn single_bytes_are_used_and_refused_where_they_stand(rt: HostRuntime) {
     assert_third_coordinate_refused(&rt, &mut session);
 }
 
-/// Asserts that the stream may end here, and then takes no bytes.
+// Asserts that the stream may end here, and then takes no bytes.
 fn assert_ends_between_blobs(rt: &impl Abort, session: &mut Session, piece: &[u8]) {
     assert!(rt; session.finish().is_ok(), "the end");
     assert_piece_refused(rt, session, piece, BlobFault::Spent);
 }
 
-/// The member of a collection of precision 0 that has one, without ids.
+// The member of a collection of precision 0 that has one, without ids.
 fn only_member(geometry: &Geometry) -> Option<&Geometry> {
     if geometry.precision() != 0 {
         return None;
@@ -76,12 +76,12 @@ fn only_member(geometry: &Geometry) -> Option<&Geometry> {
     }
 }
 
-/// Whether this is the empty point of precision 0.
+// Whether this is the empty point of precision 0.
 fn is_empty_point(geometry: &Geometry) -> bool {
     geometry.precision() == 0 && matches!(geometry.shape(), Shape::Point(None))
 }
 
-/// Whether this is a collection of a collection of the empty point.
+// Whether this is a collection of a collection of the empty point.
 fn is_nested_twice(geometry: &Geometry) -> bool {
     let Some(inner) = only_member(geometry) else {
         return false;
@@ -92,7 +92,7 @@ fn is_nested_twice(geometry: &Geometry) -> bool {
     }
 }
 
-/// Asserts that a session gives that geometry behind so many bytes of the piece.
+// Asserts that a session gives that geometry behind so many bytes of the piece.
 fn assert_nested_twice(rt: &impl Abort, session: &mut Session, piece: &[u8], count: usize) {
     let is_given = match session.feed(piece) {
         Ok((used, Some(geometry))) => used == count && is_nested_twice(&geometry),

@@ -4,19 +4,19 @@ use std::alloc::Global;
 use std::process::Abort;
 use twkb_blob::BlobReason;
 
-/// Asserts that a line with this size in place of 5 is refused behind its last byte.
+// Asserts that a line with this size in place of 5 is refused behind its last byte.
 fn assert_line_refused(rt: &impl Abort, alloc: Global, size: u8) {
     let bytes = [0x02, 0x02, size, 0x02, 0x02, 0x02, 0x08, 0x08];
     assert_refused(rt, alloc, &bytes, 0, 8, BlobReason::SizeMismatch);
 }
 
-/// Asserts that a collection with this size in place of 6 is refused behind its last byte.
+// Asserts that a collection with this size in place of 6 is refused behind its last byte.
 fn assert_collection_refused(rt: &impl Abort, alloc: Global, size: u8) {
     let bytes = [0x07, 0x02, size, 0x01, 0x01, 0x02, 0x02, 0x02, 0x02];
     assert_refused(rt, alloc, &bytes, 0, 9, BlobReason::SizeMismatch);
 }
 
-/// Asserts that a member with this size in place of 2 is refused behind its last byte.
+// Asserts that a member with this size in place of 2 is refused behind its last byte.
 fn assert_member_refused(rt: &impl Abort, alloc: Global, size: u8) {
     let bytes = [
         0x07, 0x00, 0x02, 0x01, 0x02, size, 0x02, 0x02, 0x01, 0x00, 0x02, 0x02,

@@ -5,7 +5,7 @@ use std::process::Abort;
 use twkb_blob::{BlobFault, BlobReason, EncodeFault};
 use twkb_io::{InFault, OutFault};
 
-/// Whether this is printed so.
+// Whether this is printed so.
 fn is_told<T: Display>(alloc: Global, value: &T, text: &str) -> bool {
     match format!(in alloc; "{value}") {
         Ok(told) => told.as_str() == text,
@@ -13,7 +13,7 @@ fn is_told<T: Display>(alloc: Global, value: &T, text: &str) -> bool {
     }
 }
 
-/// Asserts that each is printed as its text.
+// Asserts that each is printed as its text.
 fn assert_told<T: Display>(rt: &impl Abort, alloc: Global, rows: &[(T, &str)]) {
     for (value, text) in rows {
         assert!(rt; is_told(alloc, value, *text), "{text}");

@@ -8,7 +8,7 @@ use twkb_blob::{Reader, Session, encode};
 use twkb_geom::{Geometry, Limits};
 use twkb_io::{Bytes, Input, Tap};
 
-/// Whether the geometry has this canonical blob.
+// Whether the geometry has this canonical blob.
 fn is_written_so(alloc: Global, geometry: &Geometry, canonical: &[u8]) -> bool {
     if !geometry.within(&Limits::largest()) {
         return false;
@@ -20,7 +20,7 @@ fn is_written_so(alloc: Global, geometry: &Geometry, canonical: &[u8]) -> bool {
     sink.into_vec().as_slice() == canonical
 }
 
-/// Asserts that a reader gives that geometry, and then the end.
+// Asserts that a reader gives that geometry, and then the end.
 fn assert_reader_gives<R: Read>(
     rt: &impl Abort,
     alloc: Global,
@@ -36,7 +36,7 @@ fn assert_reader_gives<R: Read>(
     assert_end(rt, alloc, &mut reader);
 }
 
-/// Asserts that a session gives that geometry for a piece, and uses all of it.
+// Asserts that a session gives that geometry for a piece, and uses all of it.
 fn assert_feed_gives(
     rt: &impl Abort,
     alloc: Global,
@@ -53,7 +53,7 @@ fn assert_feed_gives(
     assert!(rt; is_given, "{canonical:?} at {piece:?}");
 }
 
-/// Asserts that a session goes on with the first piece, and gives that geometry for the second.
+// Asserts that a session goes on with the first piece, and gives that geometry for the second.
 fn assert_pieces_give(
     rt: &impl Abort,
     alloc: Global,
@@ -66,7 +66,7 @@ fn assert_pieces_give(
     assert_feed_gives(rt, alloc, &mut session, second, canonical);
 }
 
-/// Asserts that a session gives that geometry for the last of the bytes, one by one.
+// Asserts that a session gives that geometry for the last of the bytes, one by one.
 fn assert_bytes_give(rt: &impl Abort, alloc: Global, before: &[u8], last: &[u8], canonical: &[u8]) {
     let mut session = Session::new(alloc, Limits::standard());
     for byte in before {
@@ -75,7 +75,7 @@ fn assert_bytes_give(rt: &impl Abort, alloc: Global, before: &[u8], last: &[u8],
     assert_feed_gives(rt, alloc, &mut session, last, canonical);
 }
 
-/// Asserts that each way to read the bytes gives the geometry with this canonical blob, and nothing else.
+// Asserts that each way to read the bytes gives the geometry with this canonical blob, and nothing else.
 fn assert_read_as(rt: &impl Abort, alloc: Global, bytes: &[u8], canonical: &[u8]) {
     assert!(rt; !bytes.is_empty());
     let mut tap = Tap::new(bytes);
@@ -87,7 +87,7 @@ fn assert_read_as(rt: &impl Abort, alloc: Global, bytes: &[u8], canonical: &[u8]
     assert_bytes_give(rt, alloc, &bytes[..last], &bytes[last..], canonical);
 }
 
-/// Asserts that each way to read a canonical blob gives its geometry.
+// Asserts that each way to read a canonical blob gives its geometry.
 fn assert_read(rt: &impl Abort, alloc: Global, canonical: &[u8]) {
     assert_read_as(rt, alloc, canonical, canonical);
 }

@@ -7,16 +7,16 @@ use std::alloc::Global;
 use std::process::Abort;
 use twkb_geom::{Flat, Kind, Row};
 
-/// What a row is called, the row, its points, and whether it is admitted.
+// What a row is called, the row, its points, and whether it is admitted.
 type Judged<'a> = (&'a str, Row, &'a [(i64, i64)], bool);
 
-/// Whether the form admits a row with these points.
+// Whether the form admits a row with these points.
 fn admits(alloc: Global, flat: &Flat, row: Row, places: &[(i64, i64)]) -> Option<bool> {
     let own = points(alloc, places)?;
     Some(flat.admits(&row, own.as_slice()))
 }
 
-/// Asserts that the form was made, and that each row is admitted by it, or is not.
+// Asserts that the form was made, and that each row is admitted by it, or is not.
 fn assert_admits(rt: &impl Abort, alloc: Global, flat: Option<Flat>, rows: &[Judged<'_>]) {
     let Some(flat) = flat else {
         panic!(rt; "no form");
@@ -27,7 +27,7 @@ fn assert_admits(rt: &impl Abort, alloc: Global, flat: Option<Flat>, rows: &[Jud
     }
 }
 
-/// Asserts that each row may be the first, or may not.
+// Asserts that each row may be the first, or may not.
 fn assert_begins(rt: &impl Abort, alloc: Global, rows: &[Judged<'_>]) {
     assert_admits(rt, alloc, Some(Flat::new(alloc)), rows);
 }
@@ -96,7 +96,7 @@ fn nothing_comes_after_a_point(rt: HostRuntime) {
     assert_admits(&rt, rt.alloc(), one_point(rt.alloc()), &rows);
 }
 
-/// The root of a multipoint.
+// The root of a multipoint.
 fn multipoint(alloc: Global) -> Option<Flat> {
     form(alloc, &[(whole(0, Kind::MultiPoint), &[])])
 }

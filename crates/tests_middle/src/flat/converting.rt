@@ -5,7 +5,7 @@ use std::alloc::Global;
 use std::process::Abort;
 use twkb_geom::{Flat, Geometry, Kind, Limits, NodeId, PointId, Work};
 
-/// Whether two forms have the same nodes.
+// Whether two forms have the same nodes.
 fn same_nodes(found: &Flat, expected: &Flat) -> bool {
     let mut work = Work::new();
     let nodes = expected.node_count();
@@ -20,7 +20,7 @@ fn same_nodes(found: &Flat, expected: &Flat) -> bool {
     true
 }
 
-/// Whether two forms have the same points.
+// Whether two forms have the same points.
 fn same_points(found: &Flat, expected: &Flat) -> bool {
     let mut work = Work::new();
     let points = expected.point_count();
@@ -35,7 +35,7 @@ fn same_points(found: &Flat, expected: &Flat) -> bool {
     true
 }
 
-/// Whether the form has rows, and they are built to the geometry.
+// Whether the form has rows, and they are built to the geometry.
 fn builds(alloc: Global, flat: &Flat, geometry: &Geometry) -> bool {
     if flat.is_empty() {
         return false;
@@ -46,7 +46,7 @@ fn builds(alloc: Global, flat: &Flat, geometry: &Geometry) -> bool {
     }
 }
 
-/// Whether the geometry is within the largest limits, and made the form.
+// Whether the geometry is within the largest limits, and made the form.
 fn fills(alloc: Global, geometry: &Geometry, flat: &Flat) -> bool {
     if !geometry.within(&Limits::largest()) {
         return false;
@@ -57,7 +57,7 @@ fn fills(alloc: Global, geometry: &Geometry, flat: &Flat) -> bool {
     }
 }
 
-/// Asserts that a form and a geometry were made, and become each other.
+// Asserts that a form and a geometry were made, and become each other.
 fn assert_converts(
     rt: &impl Abort,
     alloc: Global,
@@ -73,7 +73,7 @@ fn assert_converts(
     }
 }
 
-/// Asserts that so do a point's, or those of one without coordinates.
+// Asserts that so do a point's, or those of one without coordinates.
 fn assert_converts_point(rt: &impl Abort, alloc: Global, precision: i8, place: Option<(i64, i64)>) {
     let row = point(0, None, Some(precision));
     let flat = match place {

@@ -5,12 +5,12 @@ use crate::geometries;
 use std::alloc::{AllocError, Global};
 use twkb_geom::{Flat, Geometry, Limits};
 
-/// Whether it is a form of five nodes and a point.
+// Whether it is a form of five nodes and a point.
 fn is_whole(flat: &Flat) -> bool {
     flat.node_count() == 5 && flat.point_count() == 1
 }
 
-/// Whether the geometry is within the largest limits, and made such a form, or memory was refused.
+// Whether the geometry is within the largest limits, and made such a form, or memory was refused.
 fn fills(alloc: Global, geometry: &Geometry) -> bool {
     if !geometry.within(&Limits::largest()) {
         return false;
@@ -28,7 +28,7 @@ fn a_form_is_whole_or_refused(rt: HostRuntime) {
     }
 }
 
-/// Whether the form has rows, and is built to the geometry, or memory was refused.
+// Whether the form has rows, and is built to the geometry, or memory was refused.
 fn builds(alloc: Global, flat: &Flat, expected: &Geometry) -> bool {
     if flat.is_empty() {
         return false;
@@ -50,7 +50,7 @@ fn a_geometry_is_whole_or_refused(rt: HostRuntime) {
     }
 }
 
-/// Whether a form takes a point's row without a growth, once its rows are forgotten.
+// Whether a form takes a point's row without a growth, once its rows are forgotten.
 fn takes_a_row_again(alloc: Global, flat: &mut Flat) -> bool {
     let Some(own) = points(alloc, &[(2, 1)]) else {
         return true;
@@ -67,7 +67,7 @@ fn a_push_into_a_cleared_form_asks_for_no_growth(rt: HostRuntime) {
     }
 }
 
-/// Whether a form takes a point's row in place of its rows without a growth.
+// Whether a form takes a point's row in place of its rows without a growth.
 fn takes_a_root(alloc: Global, flat: &mut Flat) -> bool {
     let empty = Flat::new(alloc);
     let Some(mut own) = points(alloc, &[(2, 1)]) else {

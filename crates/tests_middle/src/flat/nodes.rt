@@ -6,7 +6,7 @@ use crate::forms::{
 use std::alloc::Global;
 use twkb_geom::{Flat, Kind, Node, NodeId, PointId, Row, Work};
 
-/// Whether the node at a place has this row, this next node, and these points of its own.
+// Whether the node at a place has this row, this next node, and these points of its own.
 fn has_node(flat: &Flat, id: u32, row: Row, next: u32, first: u32, points: u32) -> bool {
     let mut work = Work::new();
     if id >= flat.node_count() {
@@ -22,7 +22,7 @@ fn has_node(flat: &Flat, id: u32, row: Row, next: u32, first: u32, points: u32) 
     node == expected && work.node_reads == 1 && work.point_reads == 0
 }
 
-/// Whether the point at a place is this one.
+// Whether the point at a place is this one.
 fn has_point(flat: &Flat, id: u32, x: i64, y: i64) -> bool {
     let mut work = Work::new();
     if id >= flat.point_count() {
@@ -32,12 +32,12 @@ fn has_point(flat: &Flat, id: u32, x: i64, y: i64) -> bool {
     point.x() == x && point.y() == y && work.node_reads == 0 && work.point_reads == 1
 }
 
-/// Whether it has so many nodes and points.
+// Whether it has so many nodes and points.
 fn counts(flat: &Flat, nodes: u32, points: u32) -> bool {
     flat.node_count() == nodes && flat.point_count() == points
 }
 
-/// Whether it has these nodes, each a row, its next node, its first point and how many points it has, and so many points.
+// Whether it has these nodes, each a row, its next node, its first point and how many points it has, and so many points.
 fn has_nodes(flat: &Flat, points: u32, nodes: &[(Row, u32, u32, u32)]) -> bool {
     let mut id = 0u32;
     for (row, next, first, own) in nodes {
@@ -49,7 +49,7 @@ fn has_nodes(flat: &Flat, points: u32, nodes: &[(Row, u32, u32, u32)]) -> bool {
     counts(flat, id, points)
 }
 
-/// Whether a form was made, and has these nodes.
+// Whether a form was made, and has these nodes.
 fn is_made(flat: Option<Flat>, points: u32, nodes: &[(Row, u32, u32, u32)]) -> bool {
     match flat {
         Some(flat) => has_nodes(&flat, points, nodes),
@@ -68,7 +68,7 @@ fn nodes_of_two_rings(rt: HostRuntime) {
     assert!(rt; is_made(two_rings(rt.alloc()), 6, &nodes), "nodes");
 }
 
-/// Whether a form was made, and has these points at two places.
+// Whether a form was made, and has these points at two places.
 fn has_both(flat: Option<Flat>, first: (u32, i64, i64), second: (u32, i64, i64)) -> bool {
     match flat {
         Some(flat) => {
@@ -109,14 +109,14 @@ fn nodes_of_two_polygons(rt: HostRuntime) {
     assert!(rt; is_made(two_polygons(rt.alloc()), 1, &nodes), "nodes");
 }
 
-/// A form of five rows, cleared.
+// A form of five rows, cleared.
 fn cleared(alloc: Global) -> Option<Flat> {
     let mut flat = two_polygons(alloc)?;
     flat.clear();
     Some(flat)
 }
 
-/// Whether the form has no rows.
+// Whether the form has no rows.
 fn has_no_rows(flat: Option<Flat>) -> bool {
     match flat {
         Some(flat) => flat.is_empty() && counts(&flat, 0, 0),
@@ -129,14 +129,14 @@ fn a_cleared_form_has_no_rows(rt: HostRuntime) {
     assert!(rt; has_no_rows(cleared(rt.alloc())), "rows");
 }
 
-/// A form that was cleared, and a point.
+// A form that was cleared, and a point.
 fn point_behind_polygons(alloc: Global) -> Option<Flat> {
     let mut flat = cleared(alloc)?;
     push_row(alloc, &mut flat, point_row(), &[(2, 1)])?;
     Some(flat)
 }
 
-/// Whether the form is that of a point.
+// Whether the form is that of a point.
 fn is_the_point(flat: Option<Flat>) -> bool {
     match flat {
         Some(flat) => {
@@ -153,7 +153,7 @@ fn a_cleared_form_takes_another_geometry(rt: HostRuntime) {
     assert!(rt; is_the_point(point_behind_polygons(rt.alloc())), "a point");
 }
 
-/// Whether counters of the greatest number stay there when the first node and point are read.
+// Whether counters of the greatest number stay there when the first node and point are read.
 fn counters_stay(flat: Option<Flat>) -> bool {
     let Some(flat) = flat else {
         return false;
@@ -174,12 +174,12 @@ fn counters_stop_at_the_greatest_number(rt: HostRuntime) {
     assert!(rt; counters_stay(one_point(rt.alloc())), "both counters");
 }
 
-/// A member of a collection.
+// A member of a collection.
 fn member() -> Row {
     point(1, None, Some(0))
 }
 
-/// A collection of three points: four rows and three points.
+// A collection of three points: four rows and three points.
 fn three_members(alloc: Global) -> Option<Flat> {
     let rows: [(Row, &[(i64, i64)]); 4] = [
         (whole(0, Kind::Collection), &[]),
@@ -190,7 +190,7 @@ fn three_members(alloc: Global) -> Option<Flat> {
     form(alloc, &rows)
 }
 
-/// Whether a push of one row and six points, which needs room for both, appends them or changes nothing.
+// Whether a push of one row and six points, which needs room for both, appends them or changes nothing.
 fn appends_or_stays(alloc: Global, flat: &mut Flat) -> bool {
     let line = whole(1, Kind::Linestring);
     let places = [(5, 6), (7, 8), (5, 6), (7, 8), (5, 6), (7, 8)];
@@ -207,7 +207,7 @@ fn appends_or_stays(alloc: Global, flat: &mut Flat) -> bool {
     }
 }
 
-/// Whether the rows before that push stay as they were.
+// Whether the rows before that push stay as they were.
 fn stays_before(alloc: Global, flat: &mut Flat) -> bool {
     appends_or_stays(alloc, flat)
         && has_node(flat, 3, member(), 4, 2, 1)

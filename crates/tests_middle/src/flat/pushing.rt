@@ -4,7 +4,7 @@ use std::alloc::Global;
 use twkb_geom::{Flat, PointSource};
 use twkb_points::{PointTail, Pt};
 
-/// Gives one point, or takes it away again and refuses.
+// Gives one point, or takes it away again and refuses.
 #[derive(Clone, Copy)]
 struct OnePoint {
     point: Pt,
@@ -37,7 +37,7 @@ impl PointSource for OnePoint {
     }
 }
 
-/// Whether a form without rows takes a point's row from a source, and none from one that refuses.
+// Whether a form without rows takes a point's row from a source, and none from one that refuses.
 fn takes(alloc: Global, point: Pt) -> bool {
     let mut flat = Flat::new(alloc);
     let row = point_row();

@@ -18,7 +18,7 @@ pub fn one_row(kind: Kind, precision: i8, places: &[(i64, i64)], alloc: Global) 
     form(alloc, &[(row, places)])
 }
 
-/// The blob of a flat form in a style.
+// The blob of a flat form in a style.
 fn blob(flat: &Flat, style: Style, alloc: Global) -> Option<Vec<u8>> {
     let mut work = Work::new();
     let sizes = measure_flat(alloc, flat, style, &mut work).ok()?;
@@ -27,7 +27,7 @@ fn blob(flat: &Flat, style: Style, alloc: Global) -> Option<Vec<u8>> {
     Some(sink.into_vec())
 }
 
-/// The blob in a style of a geometry within the caps.
+// The blob in a style of a geometry within the caps.
 fn encoded(geometry: &Geometry, style: Style, alloc: Global) -> Option<Vec<u8>> {
     if !geometry.within(&Limits::largest()) {
         return None;
@@ -37,7 +37,7 @@ fn encoded(geometry: &Geometry, style: Style, alloc: Global) -> Option<Vec<u8>> 
     Some(sink.into_vec())
 }
 
-/// The blob in a style of the geometry whose rows a flat form has.
+// The blob in a style of the geometry whose rows a flat form has.
 fn encoded_flat(flat: &Flat, style: Style, alloc: Global) -> Option<Vec<u8>> {
     if flat.is_empty() {
         return None;
@@ -54,7 +54,7 @@ pub fn is_written(written: Option<Vec<u8>>, bytes: &[u8]) -> bool {
     }
 }
 
-/// Whether a geometry was made, and has this blob in a style.
+// Whether a geometry was made, and has this blob in a style.
 fn is_encoded(geometry: Option<Geometry>, style: Style, bytes: &[u8], alloc: Global) -> bool {
     match geometry {
         Some(geometry) => is_written(encoded(&geometry, style, alloc), bytes),
@@ -62,7 +62,7 @@ fn is_encoded(geometry: Option<Geometry>, style: Style, bytes: &[u8], alloc: Glo
     }
 }
 
-/// Whether a flat form was made, and it and its geometry have this blob in a style.
+// Whether a flat form was made, and it and its geometry have this blob in a style.
 fn is_blob(flat: Option<Flat>, style: Style, bytes: &[u8], alloc: Global) -> bool {
     match flat {
         Some(flat) => {

@@ -36,7 +36,7 @@ fn a_full_collection_has_one_in_each_geometry(rt: HostRuntime) {
     assert_encoded(&rt, geometry, Style::Full, bytes, rt.alloc());
 }
 
-/// A collection of precision 0 with a point of precision 5.
+// A collection of precision 0 with a point of precision 5.
 fn mixed(alloc: Global) -> Option<Geometry> {
     around(alloc, dot(5, Some((1, 1)))?)
 }
@@ -70,7 +70,7 @@ fn a_plain_collection_has_neither_size_nor_box(rt: HostRuntime) {
     assert_encoded(&rt, geometry, Style::Plain, bytes, rt.alloc());
 }
 
-/// How many bytes `encode` puts for a point and a line.
+// How many bytes `encode` puts for a point and a line.
 fn counted(alloc: Global) -> Option<u64> {
     let both = point_and_line(alloc)?;
     if !both.within(&Limits::largest()) {
@@ -89,7 +89,7 @@ fn encode_writes_full_blobs(rt: HostRuntime) {
     );
 }
 
-/// What a device took that fails after five bytes, and whether the answer was the sink's fault with five bytes sent.
+// What a device took that fails after five bytes, and whether the answer was the sink's fault with five bytes sent.
 fn refused(alloc: Global) -> Option<(Vec<u8>, bool)> {
     let both = point_and_line(alloc)?;
     if !both.within(&Limits::largest()) {
@@ -102,7 +102,7 @@ fn refused(alloc: Global) -> Option<(Vec<u8>, bool)> {
     Some((tap.into_inner().into_inner(), is_told))
 }
 
-/// Whether the fault was told, and the device took these bytes.
+// Whether the fault was told, and the device took these bytes.
 fn is_refused_behind(bytes: &[u8], alloc: Global) -> bool {
     match refused(alloc) {
         Some((written, is_told)) => is_told && written.as_slice() == bytes,
@@ -119,7 +119,7 @@ fn a_sink_that_refuses_keeps_a_front(rt: HostRuntime) {
     );
 }
 
-/// Whether a geometry's full blob is measured as so many bytes.
+// Whether a geometry's full blob is measured as so many bytes.
 fn is_long(geometry: Option<Geometry>, bytes: u64) -> bool {
     match geometry {
         Some(geometry) => geometry.within(&Limits::largest()) && measure(&geometry) == bytes,

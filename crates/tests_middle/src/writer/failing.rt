@@ -8,7 +8,7 @@ use twkb_io::{Fuse, FuseEnd, Output, Tap};
 use twkb_points::Pt;
 use twkb_writer::{Style, measure_flat, write_flat};
 
-/// What a device took that fails after some bytes, and whether the flat form was written.
+// What a device took that fails after some bytes, and whether the flat form was written.
 fn taken(
     flat: &Flat,
     style: Style,
@@ -27,7 +27,7 @@ fn taken(
     Some((tap.into_inner().into_inner(), written.is_ok()))
 }
 
-/// Whether a device with room for so many bytes takes that front of the blob, and only the whole blob is told as written.
+// Whether a device with room for so many bytes takes that front of the blob, and only the whole blob is told as written.
 fn keeps_a_front(flat: &Flat, style: Style, blob: &[u8], room: usize, alloc: Global) -> bool {
     if room > blob.len() {
         return false;
@@ -40,7 +40,7 @@ fn keeps_a_front(flat: &Flat, style: Style, blob: &[u8], room: usize, alloc: Glo
     }
 }
 
-/// Whether that is so in each room up to the blob's length.
+// Whether that is so in each room up to the blob's length.
 fn keeps_each_front(flat: Option<Flat>, style: Style, blob: &[u8], alloc: Global) -> bool {
     let Some(flat) = flat else {
         return false;
@@ -63,7 +63,7 @@ fn a_front_is_written_where_the_device_fails_at_each_byte(rt: HostRuntime) {
     );
 }
 
-/// So many points, each 100 right of the one before it and 100 below it, the first so far from the origin.
+// So many points, each 100 right of the one before it and 100 below it, the first so far from the origin.
 fn slope(count: u32, alloc: Global) -> Option<Vec<Pt>> {
     let mut points = Vec::new(alloc);
     let mut far = 0i64;
@@ -74,7 +74,7 @@ fn slope(count: u32, alloc: Global) -> Option<Vec<Pt>> {
     Some(points)
 }
 
-/// A line of 1100 points.
+// A line of 1100 points.
 fn long_line(alloc: Global) -> Option<Flat> {
     let points = slope(1100, alloc)?;
     let mut flat = Flat::new(alloc);
@@ -86,7 +86,7 @@ fn long_line(alloc: Global) -> Option<Flat> {
     Some(flat)
 }
 
-/// Its plain blob, of 4404 bytes, which is more than the writer gathers: type, metadata and count, and each step the same.
+// Its plain blob, of 4404 bytes, which is more than the writer gathers: type, metadata and count, and each step the same.
 fn long_blob(alloc: Global) -> Option<Vec<u8>> {
     let mut bytes = Vec::from_slice(alloc, b"\x02\x00\xCC\x08".as_slice()).ok()?;
     for _ in 0..1100 {
@@ -97,7 +97,7 @@ fn long_blob(alloc: Global) -> Option<Vec<u8>> {
     Some(bytes)
 }
 
-/// Whether the device keeps a front of the long blob in this room.
+// Whether the device keeps a front of the long blob in this room.
 fn keeps_a_long_front(room: usize, alloc: Global) -> bool {
     match (long_line(alloc), long_blob(alloc)) {
         (Some(flat), Some(blob)) => {

@@ -5,7 +5,7 @@ use twkb_geom::{Flat, Geometry, Limits, Work};
 use twkb_io::Count;
 use twkb_writer::{Style, laws, measure_flat, write_flat};
 
-/// The entries, the bytes that are written, and the work of both passes.
+// The entries, the bytes that are written, and the work of both passes.
 #[derive(Drop)]
 struct Counts {
     entries: usize,
@@ -13,7 +13,7 @@ struct Counts {
     work: Work,
 }
 
-/// Measures and writes a flat form.
+// Measures and writes a flat form.
 fn passes(alloc: Global, flat: &Flat) -> Option<Counts> {
     let mut work = Work::new();
     let sizes = measure_flat(alloc, flat, Style::Full, &mut work).ok()?;
@@ -26,7 +26,7 @@ fn passes(alloc: Global, flat: &Flat) -> Option<Counts> {
     })
 }
 
-/// The same of a geometry within the caps.
+// The same of a geometry within the caps.
 fn passes_of(alloc: Global, geometry: Option<Geometry>) -> Option<Counts> {
     let geometry = geometry?;
     if !geometry.within(&Limits::largest()) {
@@ -36,7 +36,7 @@ fn passes_of(alloc: Global, geometry: Option<Geometry>) -> Option<Counts> {
     passes(alloc, &flat)
 }
 
-/// Whether so many points and nodes were counted, of which each node is an entry.
+// Whether so many points and nodes were counted, of which each node is an entry.
 fn is_measured(passes: &Counts, points: u64, nodes: u64) -> bool {
     passes.work.points == points
         && passes.work.nodes == nodes
@@ -44,7 +44,7 @@ fn is_measured(passes: &Counts, points: u64, nodes: u64) -> bool {
         && passes.entries as u64 == nodes
 }
 
-/// Whether in both passes each point was read twice at most and each node three times.
+// Whether in both passes each point was read twice at most and each node three times.
 fn is_read_seldom(work: &Work) -> bool {
     work.point_reads <= work.points.saturating_mul(2)
         && work.node_reads <= work.nodes.saturating_mul(3)
@@ -58,7 +58,7 @@ fn an_empty_flat_form_has_no_work(rt: HostRuntime) {
     }
 }
 
-/// Whether a point and a line have three entries and 18 bytes.
+// Whether a point and a line have three entries and 18 bytes.
 fn has_three_entries(alloc: Global) -> bool {
     match passes_of(alloc, point_and_line(alloc)) {
         Some(both) => is_measured(&both, 1, 3) && both.bytes == 18 && is_read_seldom(&both.work),
@@ -71,7 +71,7 @@ fn a_point_and_a_line_have_three_entries(rt: HostRuntime) {
     assert!(rt; has_three_entries(rt.alloc()), "entries, bytes and work");
 }
 
-/// A line of four points in 32 collections.
+// A line of four points in 32 collections.
 fn nested_line(alloc: Global) -> Option<Geometry> {
     let mut geometry = line(alloc, &[(3, -4), (3, -4), (3, -4), (3, -4)])?;
     for _ in 0..32 {
@@ -80,7 +80,7 @@ fn nested_line(alloc: Global) -> Option<Geometry> {
     Some(geometry)
 }
 
-/// Whether each of them is measured and read as one alone.
+// Whether each of them is measured and read as one alone.
 fn costs_no_read_more(alloc: Global) -> bool {
     match passes_of(alloc, nested_line(alloc)) {
         Some(nested) => is_measured(&nested, 4, 33) && is_read_seldom(&nested.work),

@@ -6,7 +6,7 @@ use twkb_geom::{Flat, Geometry, Limits, Work};
 use twkb_io::Count;
 use twkb_writer::{EncodeFault, Style, encode, measure_flat};
 
-/// Whether a geometry of 18 bytes was put as a whole, or want of memory told and nothing put.
+// Whether a geometry of 18 bytes was put as a whole, or want of memory told and nothing put.
 fn is_put_or_refused(alloc: Global, geometry: &Geometry) -> bool {
     if !geometry.within(&Limits::largest()) {
         return false;
@@ -25,7 +25,7 @@ fn want_of_memory_puts_nothing(rt: HostRuntime) {
     }
 }
 
-/// A flat form of a line in a collection.
+// A flat form of a line in a collection.
 fn line_below(alloc: Global) -> Option<Flat> {
     let geometry = around(alloc, line(alloc, &[(3, -4), (3, -4)])?)?;
     if !geometry.within(&Limits::largest()) {

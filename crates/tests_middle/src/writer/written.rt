@@ -9,10 +9,10 @@ use twkb_geom::{Flat, Kind, Row, Work};
 use twkb_io::Count;
 use twkb_writer::{Style, measure_flat, write_flat};
 
-/// 2^62, the first number above the range of a coordinate.
+// 2^62, the first number above the range of a coordinate.
 const ABOVE: i64 = 1 << 62;
 
-/// Google's worked example.
+// Google's worked example.
 fn worked_line(alloc: Global) -> Option<Flat> {
     let places = [
         (-12020000, 3850000),
@@ -64,7 +64,7 @@ fn a_plain_member_has_its_own_header(rt: HostRuntime) {
     assert_plain(&rt, flat, bytes, rt.alloc());
 }
 
-/// `0,collection,,0,` / `1,point,,0,AA` / `1,point,,0,AA`
+// `0,collection,,0,` / `1,point,,0,AA` / `1,point,,0,AA`
 fn one_place_twice(alloc: Global) -> Option<Flat> {
     let member = point(1, None, Some(0));
     let rows: [(Row, &[(i64, i64)]); 3] = [
@@ -83,7 +83,7 @@ fn each_member_begins_at_the_origin(rt: HostRuntime) {
     assert_full(&rt, flat, bytes, rt.alloc());
 }
 
-/// `0,multilinestring,,0,` / `1,linestring,,,AA` / `1,linestring,,,CC`
+// `0,multilinestring,,0,` / `1,linestring,,,AA` / `1,linestring,,,CC`
 fn two_lines(alloc: Global) -> Option<Flat> {
     let line = part(1, Kind::Linestring);
     let rows: [(Row, &[(i64, i64)]); 3] = [
@@ -111,7 +111,7 @@ fn nine_collections_have_a_size_each(rt: HostRuntime) {
     assert_full(&rt, flat, bytes, rt.alloc());
 }
 
-/// From the greatest x to the least.
+// From the greatest x to the least.
 fn widest_line(alloc: Global) -> Option<Flat> {
     let places = [(ABOVE - 1, 0), (-ABOVE, 0)];
     one_row(Kind::Linestring, 0, &places, alloc)
@@ -126,7 +126,7 @@ fn coordinates_at_the_ends_of_their_range(rt: HostRuntime) {
     assert_full(&rt, flat, bytes, rt.alloc());
 }
 
-/// `0,collection,,0,` / `1,point,,5,AA`
+// `0,collection,,0,` / `1,point,,5,AA`
 fn two_precisions(alloc: Global) -> Option<Flat> {
     let rows: [(Row, &[(i64, i64)]); 2] = [
         (whole(0, Kind::Collection), &[]),
@@ -180,7 +180,7 @@ fn polygons_with_ids_have_their_rings_counted(rt: HostRuntime) {
     assert_full(&rt, flat, bytes, rt.alloc());
 }
 
-/// A point of this precision.
+// A point of this precision.
 fn dot(precision: i8, alloc: Global) -> Option<Flat> {
     one_row(Kind::Point, precision, &[(2, 1)], alloc)
 }
@@ -206,7 +206,7 @@ fn a_plain_point_has_no_size(rt: HostRuntime) {
     assert_plain(&rt, flat, b"\x01\x00\x04\x02", rt.alloc());
 }
 
-/// Entries and bytes of a flat form without rows.
+// Entries and bytes of a flat form without rows.
 fn of_no_rows(alloc: Global) -> Option<(usize, u64)> {
     let flat = Flat::new(alloc);
     let mut work = Work::new();

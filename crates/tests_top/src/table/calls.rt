@@ -13,18 +13,18 @@ const TWO_POINTS: &[u8] = b"depth,kind,id,precision,polyline\n0,point,,0,AC\n0,p
 const TWO_AND_A_FAULT: &[u8] =
     b"depth,kind,id,precision,polyline\n0,point,,0,AC\n0,point,,0,AA\n0,pont,,0,\n";
 
-/// The rows of the points of both.
+// The rows of the points of both.
 const FIRST_POINT: &[u8] = b"0,point,,0,AC\n";
 
 const SECOND_POINT: &[u8] = b"0,point,,0,AA\n";
 
-/// What is answered at the refused record of `TWO_AND_A_FAULT`.
+// What is answered at the refused record of `TWO_AND_A_FAULT`.
 const REFUSED: TableFault = TableFault::At {
     number: 4,
     reason: RowReason::BadKind,
 };
 
-/// Asserts that the next call gives the geometry of these rows.
+// Asserts that the next call gives the geometry of these rows.
 fn assert_gives<R: Read>(
     rt: &impl Abort,
     alloc: Global,
@@ -38,7 +38,7 @@ fn assert_gives<R: Read>(
     assert!(rt; is_given, "{rows:?}");
 }
 
-/// Whether these are the rows of the flat form.
+// Whether these are the rows of the flat form.
 fn holds_rows(alloc: Global, flat: &Flat, rows: &[u8]) -> Option<bool> {
     if flat.is_empty() {
         return Some(false);
@@ -47,7 +47,7 @@ fn holds_rows(alloc: Global, flat: &Flat, rows: &[u8]) -> Option<bool> {
     Some(has_rows(alloc, &geometry, rows))
 }
 
-/// Asserts that the next call reads these rows into the flat form.
+// Asserts that the next call reads these rows into the flat form.
 fn assert_gives_flat<R: Read>(
     rt: &impl Abort,
     alloc: Global,
@@ -60,7 +60,7 @@ fn assert_gives_flat<R: Read>(
     assert!(rt; holds(holds_rows(alloc, flat, rows)), "{rows:?}");
 }
 
-/// Asserts that the next call answers so without a geometry, and leaves the flat form empty.
+// Asserts that the next call answers so without a geometry, and leaves the flat form empty.
 fn assert_gives_no_flat<R: Read>(
     rt: &impl Abort,
     reader: &mut TableReader<'_, R>,
@@ -71,7 +71,7 @@ fn assert_gives_no_flat<R: Read>(
     assert!(rt; came == answer && flat.is_empty(), "{came:?}");
 }
 
-/// Asserts that the reader tells its end, by both calls, again and again.
+// Asserts that the reader tells its end, by both calls, again and again.
 fn assert_end<R: Read>(rt: &impl Abort, reader: &mut TableReader<'_, R>, flat: &mut Flat) {
     assert_gives_no_flat(rt, reader, flat, Ok(false));
     assert_gives_no_flat(rt, reader, flat, Ok(false));
@@ -94,11 +94,11 @@ fn each_call_gives_the_next_geometry_and_the_end_for_good(rt: HostRuntime) {
     assert_mixed(&rt, rt.alloc(), &mut tap, &mut flat);
 }
 
-/// A collection of two members that have ids.
+// A collection of two members that have ids.
 const TWO_MEMBERS: &[u8] =
     b"depth,kind,id,precision,polyline\n0,collection,,0,\n1,point,7,0,AA\n1,linestring,-1,0,\n";
 
-/// Whether the flat form is built to this geometry.
+// Whether the flat form is built to this geometry.
 fn is_built_to(alloc: Global, flat: &Flat, expected: &Geometry) -> bool {
     if flat.is_empty() {
         return false;
@@ -133,7 +133,7 @@ fn a_form_that_was_read_is_built_to_its_geometry(rt: HostRuntime) {
     assert_geometry(&rt, rt.alloc(), &mut tap, &point_and_line(rt.alloc()));
 }
 
-/// Whether the flat form may begin with a point, as a form without rows does.
+// Whether the flat form may begin with a point, as a form without rows does.
 fn may_begin(flat: &Flat) -> bool {
     let root = Row {
         depth: 0,
@@ -144,7 +144,7 @@ fn may_begin(flat: &Flat) -> bool {
     flat.admits(&root, &[])
 }
 
-/// Asserts that `next` answers this fault.
+// Asserts that `next` answers this fault.
 fn assert_fault<R: Read>(rt: &impl Abort, reader: &mut TableReader<'_, R>, fault: TableFault) {
     let came = reader.next().err();
     assert!(rt; came == Some(fault), "{came:?}");
@@ -167,8 +167,8 @@ fn a_refusal_clears_the_form_and_is_for_good(rt: HostRuntime) {
     assert_refused(&rt, rt.alloc(), &mut tap, &mut flat);
 }
 
-/// Asserts that a reader of geometries gives the first point, refuses the record behind the second, and is
-/// spent.
+// Asserts that a reader of geometries gives the first point, refuses the record behind the second, and is
+// spent.
 fn assert_one_and_refused<R: Read>(rt: &impl Abort, alloc: Global, tap: &mut Tap<R>) {
     let mut reader = TableReader::new(alloc, tap, Limits::standard());
     assert_gives(rt, alloc, &mut reader, FIRST_POINT);
@@ -185,10 +185,10 @@ fn a_refused_record_comes_behind_the_geometry_that_is_complete(rt: HostRuntime) 
 const MANY_KINDS: &[u8] =
     b"depth,kind,id,precision,polyline\n0,multipolygon,,0,\n1,polygon,3,,\n2,ring,,,AA\n2,ring,,,\n1,polygon,4,,\n0,multilinestring,,0,\n1,linestring,,,\n0,linestring,,0,AAGG\n";
 
-/// Where the rows of none, one, two and all geometries of `MANY_KINDS` end.
+// Where the rows of none, one, two and all geometries of `MANY_KINDS` end.
 const ENDS: [usize; 4] = [33, 102, 140, 161];
 
-/// Whether the rows are those of the first geometries of `MANY_KINDS`, as many as are told.
+// Whether the rows are those of the first geometries of `MANY_KINDS`, as many as are told.
 fn is_front(outcome: &Outcome) -> bool {
     match ENDS.get(outcome.count as usize) {
         Some(end) => MANY_KINDS.get(ENDS[0]..*end) == Some(outcome.rows.as_slice()),
@@ -196,8 +196,8 @@ fn is_front(outcome: &Outcome) -> bool {
     }
 }
 
-/// Whether a read that fails behind so many bytes, a byte a read, is told behind the geometries
-/// before it.
+// Whether a read that fails behind so many bytes, a byte a read, is told behind the geometries
+// before it.
 fn tells_failure(alloc: Global, given: u64) -> Option<bool> {
     let mut tap = Tap::new(Fuse::new(MANY_KINDS, given, 1, FuseEnd::Fail, false));
     let outcome = read_all(alloc, Limits::standard(), &mut tap)?;
@@ -213,7 +213,7 @@ fn a_failed_read_is_told_after_the_geometries_before_it(rt: HostRuntime) {
     }
 }
 
-/// Whether a byte a read gives all geometries.
+// Whether a byte a read gives all geometries.
 fn reads_bytes(alloc: Global) -> Option<bool> {
     let mut tap = Tap::new(Fuse::new(MANY_KINDS, u64::MAX, 1, FuseEnd::Fail, false));
     let outcome = read_all(alloc, Limits::standard(), &mut tap)?;
@@ -225,7 +225,7 @@ fn a_byte_a_read_gives_the_same_geometries(rt: HostRuntime) {
     assert!(rt; holds(reads_bytes(rt.alloc())));
 }
 
-/// Whether `MANY_KINDS` was read whole, or no memory was found before its last geometry.
+// Whether `MANY_KINDS` was read whole, or no memory was found before its last geometry.
 fn is_told(outcome: &Outcome) -> bool {
     match outcome.fault {
         None => outcome.count == 3,
@@ -244,11 +244,11 @@ fn a_refused_growth_is_told(rt: HostRuntime) {
     }
 }
 
-/// A line in nine collections, and a point behind it in one.
+// A line in nine collections, and a point behind it in one.
 const DEEP: &[u8] =
     b"depth,kind,id,precision,polyline\n0,collection,,0,\n1,collection,,0,\n2,collection,,0,\n3,collection,,0,\n4,collection,,0,\n5,collection,,0,\n6,collection,,0,\n7,collection,,0,\n8,collection,,0,\n9,linestring,,0,AAGG\n1,point,,-8,AC\n";
 
-/// Whether `DEEP` was read whole, or no memory was found before its geometry.
+// Whether `DEEP` was read whole, or no memory was found before its geometry.
 fn is_deep(outcome: &Outcome) -> bool {
     match outcome.fault {
         None => outcome.count == 1 && DEEP.get(ENDS[0]..) == Some(outcome.rows.as_slice()),

@@ -93,7 +93,7 @@ fn a_precision_may_be_left_out(rt: HostRuntime) {
     assert!(rt; parse_optional_precision(b"8").is_none(), "precision 8");
 }
 
-/// Whether a number is printed so.
+// Whether a number is printed so.
 fn prints(alloc: Global, number: i64, printed: &[u8]) -> bool {
     let mut text = Vec::new(alloc);
     push_decimal(&mut text, number).is_ok() && text.as_slice() == printed
@@ -140,7 +140,7 @@ fn the_header_is_a_line(rt: HostRuntime) {
     assert!(rt; header_text() == b"depth,kind,id,precision,polyline\n".as_slice());
 }
 
-/// Whether a reason is told so.
+// Whether a reason is told so.
 fn tells(alloc: Global, reason: RowReason, text: &str) -> bool {
     match format!(in alloc; "{reason}") {
         Ok(told) => told.as_str() == text,

@@ -31,7 +31,7 @@ pub fn line(alloc: Global, precision: i8, places: &[(i64, i64)]) -> Option<Geome
     geometry(precision, Shape::Line(points(alloc, places)?))
 }
 
-/// Two lines, one after the other.
+// Two lines, one after the other.
 fn lines(alloc: Global, first: &[(i64, i64)], second: &[(i64, i64)]) -> Option<Lines> {
     let mut lines = Vec::new(alloc);
     lines.push(points(alloc, first)?).ok()?;
@@ -39,7 +39,7 @@ fn lines(alloc: Global, first: &[(i64, i64)], second: &[(i64, i64)]) -> Option<L
     Some(Lines::from_vec(lines))
 }
 
-/// A polygon, and one without rings behind it.
+// A polygon, and one without rings behind it.
 fn areas(alloc: Global, first: Lines) -> Option<Areas> {
     let mut areas = Vec::new(alloc);
     areas.push(first).ok()?;

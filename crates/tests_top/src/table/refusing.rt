@@ -6,12 +6,12 @@ use twkb_geom::Limits;
 use twkb_polyline::PolyReason;
 use twkb_table::{RowReason, TableFault};
 
-/// The fault of the record of this number.
+// The fault of the record of this number.
 fn at(number: u64, reason: RowReason) -> Option<TableFault> {
     Some(TableFault::At { number, reason })
 }
 
-/// Whether these rows have this fault, behind so many geometries.
+// Whether these rows have this fault, behind so many geometries.
 fn ends_so(
     alloc: Global,
     limits: Limits,
@@ -25,29 +25,29 @@ fn ends_so(
     }
 }
 
-/// Whether rows are refused at the record of this number, behind so many geometries.
+// Whether rows are refused at the record of this number, behind so many geometries.
 fn refused(alloc: Global, rows: &[u8], count: u32, number: u64, reason: RowReason) -> bool {
     ends_so(alloc, Limits::standard(), rows, count, at(number, reason))
 }
 
-/// Rows, the record of them that is refused, and why.
+// Rows, the record of them that is refused, and why.
 type Refused = (&'static [u8], u64, RowReason);
 
-/// Asserts that each of these is refused at its record, behind so many geometries.
+// Asserts that each of these is refused at its record, behind so many geometries.
 fn assert_refused(rt: &impl Abort, alloc: Global, count: u32, tables: &[Refused]) {
     for (rows, number, reason) in tables {
         assert!(rt; refused(alloc, *rows, count, *number, *reason), "{rows:?}");
     }
 }
 
-/// Asserts that each of these is refused for its reason at the record of this number.
+// Asserts that each of these is refused for its reason at the record of this number.
 fn assert_refused_at(rt: &impl Abort, alloc: Global, number: u64, tables: &[(&[u8], RowReason)]) {
     for (rows, reason) in tables {
         assert!(rt; refused(alloc, *rows, 0, number, *reason), "{rows:?}");
     }
 }
 
-/// Whether a text is refused at its first record.
+// Whether a text is refused at its first record.
 fn has_no_header(alloc: Global, text: &[u8]) -> bool {
     match read_text(alloc, text) {
         Some(outcome) => outcome.fault == at(1, RowReason::BadHeader),
@@ -180,7 +180,7 @@ fn the_last_geometry_before_a_refused_row_is_not_given(rt: HostRuntime) {
     assert_refused(&rt, rt.alloc(), 1, &BEHIND_ONE);
 }
 
-/// Whether a row below a multilinestring and its first member is refused for this reason.
+// Whether a row below a multilinestring and its first member is refused for this reason.
 fn third(alloc: Global, row: &[u8], reason: RowReason) -> bool {
     let Ok(mut rows) = Vec::from_slice(alloc, b"0,multilinestring,,0,\n1,linestring,5,,AA\n") else {
         return false;
@@ -214,7 +214,7 @@ fn the_first_reason_is_told(rt: HostRuntime) {
     }
 }
 
-/// Whether rows are refused under these limits of nesting, nodes and points.
+// Whether rows are refused under these limits of nesting, nodes and points.
 fn refused_within(
     alloc: Global,
     most: (u32, u32, u32),
@@ -256,7 +256,7 @@ fn points_are_counted_in_each_geometry(rt: HostRuntime) {
     assert!(rt; refused_within(alloc, (8, 1 << 20, 2), behind, 1, 5, many));
 }
 
-/// A point in nine collections, one in another.
+// A point in nine collections, one in another.
 const TEN_LEVELS: &[u8] =
     b"0,collection,,0,\n1,collection,,0,\n2,collection,,0,\n3,collection,,0,\n4,collection,,0,\n5,collection,,0,\n6,collection,,0,\n7,collection,,0,\n8,collection,,0,\n9,point,,0,\n";
 

@@ -7,7 +7,7 @@ use twkb_points::Pt;
 use twkb_table::judge;
 use twkb_tree::OpenRow;
 
-/// Whether the record of this text was read.
+// Whether the record of this text was read.
 fn is_read(alloc: Global, text: &[u8], record: &mut ByteRecord) -> bool {
     let mut reader = ReaderBuilder::new()
         .has_headers(false)
@@ -16,18 +16,18 @@ fn is_read(alloc: Global, text: &[u8], record: &mut ByteRecord) -> bool {
     matches!(reader.read_byte_record(record), Ok(true))
 }
 
-/// Whether this is the row of a linestring of depth 1, id -1 and precision 0.
+// Whether this is the row of a linestring of depth 1, id -1 and precision 0.
 fn is_worked(row: &Row) -> bool {
     row.depth == 1 && row.kind == Kind::Linestring && row.id == Some(-1) && row.precision == Some(0)
 }
 
-/// Whether these are the places (1, 1) and (5, 5).
+// Whether these are the places (1, 1) and (5, 5).
 fn are_worked(points: &[Pt]) -> Option<bool> {
     let places = [Pt::try_new(1, 1)?, Pt::try_new(5, 5)?];
     Some(points == places.as_slice())
 }
 
-/// Whether the record is the worked row, below a collection whose children have ids.
+// Whether the record is the worked row, below a collection whose children have ids.
 fn is_judged_so(record: &ByteRecord, points: &mut Vec<Pt>) -> bool {
     let parent = OpenRow {
         kind: Kind::Collection,
@@ -39,7 +39,7 @@ fn is_judged_so(record: &ByteRecord, points: &mut Vec<Pt>) -> bool {
     }
 }
 
-/// Whether the worked row is read from this text.
+// Whether the worked row is read from this text.
 fn is_row(alloc: Global, text: &[u8]) -> bool {
     let mut record = ByteRecord::new(alloc);
     let mut points = Vec::new(alloc);

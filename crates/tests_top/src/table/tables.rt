@@ -11,7 +11,7 @@ use twkb_geom::{Areas, Flat, Geometry, Limits, Lines, Shape, Work};
 use twkb_io::Tap;
 use twkb_table::{TableReader, put_flat_rows, put_rows, rows_text};
 
-/// Whether the rows of a geometry are printed so, in a text of their own and behind a lent one.
+// Whether the rows of a geometry are printed so, in a text of their own and behind a lent one.
 fn is_printed(alloc: Global, geometry: &Geometry, rows: &[u8]) -> Option<bool> {
     if !geometry.within(&Limits::largest()) {
         return Some(false);
@@ -23,8 +23,8 @@ fn is_printed(alloc: Global, geometry: &Geometry, rows: &[u8]) -> Option<bool> {
     Some(text.as_slice() == rows && is_kept && lent.as_slice().ends_with(rows))
 }
 
-/// Whether the rows of a geometry's flat form are printed so behind a lent text, with one read of
-/// each row and each point.
+// Whether the rows of a geometry's flat form are printed so behind a lent text, with one read of
+// each row and each point.
 fn is_printed_flat(alloc: Global, geometry: &Geometry, rows: &[u8]) -> Option<bool> {
     if !geometry.within(&Limits::largest()) {
         return Some(false);
@@ -40,7 +40,7 @@ fn is_printed_flat(alloc: Global, geometry: &Geometry, rows: &[u8]) -> Option<bo
     Some(is_read_once && is_kept && lent.as_slice().ends_with(rows))
 }
 
-/// Whether the next call gives this geometry.
+// Whether the next call gives this geometry.
 fn gives<R: Read>(reader: &mut TableReader<'_, R>, wanted: &Geometry) -> bool {
     match reader.next() {
         Ok(Some(geometry)) => &geometry == wanted,
@@ -48,20 +48,20 @@ fn gives<R: Read>(reader: &mut TableReader<'_, R>, wanted: &Geometry) -> bool {
     }
 }
 
-/// Whether a table names this geometry, and no other.
+// Whether a table names this geometry, and no other.
 fn names<R: Read>(alloc: Global, tap: &mut Tap<R>, wanted: &Geometry) -> bool {
     let mut reader = TableReader::new(alloc, tap, Limits::standard());
     gives(&mut reader, wanted) && matches!(reader.next(), Ok(None))
 }
 
-/// Whether these rows are read to this geometry.
+// Whether these rows are read to this geometry.
 fn is_read(alloc: Global, geometry: &Geometry, rows: &[u8]) -> Option<bool> {
     let text = table_of(alloc, rows)?;
     let mut tap = Tap::new(text.as_slice());
     Some(names(alloc, &mut tap, geometry))
 }
 
-/// Asserts that these are the rows of the geometry that was made.
+// Asserts that these are the rows of the geometry that was made.
 fn assert_rows(rt: &impl Abort, alloc: Global, made: &Option<Geometry>, rows: &[u8]) {
     let Some(geometry) = made else {
         panic!(rt; "no geometry");
@@ -173,7 +173,7 @@ fn parts_may_be_none(rt: HostRuntime) {
     assert_rows(&rt, rt.alloc(), &empty_collection(rt.alloc()), collection);
 }
 
-/// A multipoint without points.
+// A multipoint without points.
 fn no_points(alloc: Global) -> Option<Geometry> {
     geometry(0, Shape::MultiPoint(points(alloc, &[])?, None))
 }
@@ -188,7 +188,7 @@ fn a_multipoint_may_be_without_points(rt: HostRuntime) {
     );
 }
 
-/// A member with a precision of its own.
+// A member with a precision of its own.
 fn a_member(alloc: Global) -> Option<Geometry> {
     around(alloc, dot(5, 1, 1)?)
 }
@@ -212,7 +212,7 @@ fn depths_go_on_behind_nine(rt: HostRuntime) {
     assert_rows(&rt, rt.alloc(), &nested(rt.alloc(), 12), twelve);
 }
 
-/// Whether a text is read to these rows.
+// Whether a text is read to these rows.
 fn reads(alloc: Global, text: &[u8], rows: &[u8]) -> bool {
     match read_text(alloc, text) {
         Some(outcome) => outcome.rows.as_slice() == rows && outcome.fault.is_none(),

@@ -77,5 +77,5 @@ returns-in-Err-Device-clause-next g c =
     let (bs, left, stands) = c.loop-engine.invariant.read in
     let read = rw c.in-Err-Device.field-0-is at (c.in-Err-Device.ensures.read bs stands) in
     halted_next (allowance_of c.args.engine.now) (allowance_of c.loop-engine.engine) c.in-Err-Device.fault bs c.args.input.now c.loop-engine.input c.read_piece.new.input c.read_piece.new.flat c.read_piece.new.engine
-    (offset_in c.read_piece.new.engine) c.is_between-between.result c.loop-engine.invariant.limits left c.loop-engine.invariant.spent
-    (subst (λ l. IsEnd l bs (offset_in c.read_piece.new.engine) c.is_between-between.result) c.read_piece.ensures.limits (c.is_between-between.ensures bs c.read_piece.new.flat read.1)) read
+    (offset_in c.read_piece.new.engine) c.is_between-learnt.result c.loop-engine.invariant.limits left c.loop-engine.invariant.spent
+    (subst (λ l. IsEnd l bs (offset_in c.read_piece.new.engine) c.is_between-learnt.result) c.read_piece.ensures.limits (c.is_between-learnt.ensures bs c.read_piece.new.flat read.1)) read

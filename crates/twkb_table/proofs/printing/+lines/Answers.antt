@@ -28,24 +28,24 @@ put_members-returns-clause-appended t c =
 
 pub put_geometry-returns-in-Polygon-clause-appended : goal.put_geometry-returns-in-Polygon-clause-appended
 put_geometry-returns-in-Polygon-clause-appended t c =
-    rows_told _ _ _ _ _ _ _ _ _ c.own_line.ensures (ap (ring_rows (c.args.depth + 1)) c.as_slice.ensures.items ∙ under_shape _ _ _ _ _ c.shape.ensures c.in-Polygon.is) c.in_ok-put_row.ensures.appended c.put_rings.ensures.appended
+    rows_told _ _ _ _ _ _ _ _ _ c.own_row.ensures (ap (ring_rows (c.args.depth + 1)) c.as_slice.ensures.items ∙ under_shape _ _ _ _ _ c.shape.ensures c.in-Polygon.is) c.in_ok-put_row.ensures.appended c.put_rings.ensures.appended
 
 pub put_geometry-returns-in-MultiPoint-clause-appended : goal.put_geometry-returns-in-MultiPoint-clause-appended
 put_geometry-returns-in-MultiPoint-clause-appended t c =
-    rows_told _ _ _ _ _ _ _ _ _ c.own_line.ensures
+    rows_told _ _ _ _ _ _ _ _ _ c.own_row.ensures
     (ap (rows_of_each (λ id p. plain_row (c.args.depth + 1) Kind.Point id (p ∷ []) ∷ []) c.in-MultiPoint.ids) c.as_slice-in-MultiPoint.ensures.items ∙ under_shape _ _ _ _ _ c.shape.ensures c.in-MultiPoint.is) c.in_ok-put_row.ensures.appended
     c.put_points.ensures.appended
 
 pub put_geometry-returns-in-MultiLine-clause-appended : goal.put_geometry-returns-in-MultiLine-clause-appended
 put_geometry-returns-in-MultiLine-clause-appended t c =
-    rows_told _ _ _ _ _ _ _ _ _ c.own_line.ensures
+    rows_told _ _ _ _ _ _ _ _ _ c.own_row.ensures
     (ap (rows_of_each (λ id ps. plain_row (c.args.depth + 1) Kind.Linestring id ps ∷ []) c.in-MultiLine.ids) c.as_slice-in-MultiLine.ensures.items ∙ under_shape _ _ _ _ _ c.shape.ensures c.in-MultiLine.is) c.in_ok-put_row.ensures.appended
     c.put_lines.ensures.appended
 
 pub put_geometry-returns-in-MultiPolygon-clause-appended : goal.put_geometry-returns-in-MultiPolygon-clause-appended
 put_geometry-returns-in-MultiPolygon-clause-appended t c =
-    rows_told _ _ _ _ _ _ _ _ _ c.own_line.ensures (ap (rows_of_each (polygon_rows (c.args.depth + 1)) c.in-MultiPolygon.ids) c.as_slice-in-MultiPolygon.ensures.items ∙ under_shape _ _ _ _ _ c.shape.ensures c.in-MultiPolygon.is)
+    rows_told _ _ _ _ _ _ _ _ _ c.own_row.ensures (ap (rows_of_each (polygon_rows (c.args.depth + 1)) c.in-MultiPolygon.ids) c.as_slice-in-MultiPolygon.ensures.items ∙ under_shape _ _ _ _ _ c.shape.ensures c.in-MultiPolygon.is)
     c.in_ok-put_row.ensures.appended c.put_areas.ensures.appended
 
 pub put_geometry-returns-in-Collection-clause-appended : goal.put_geometry-returns-in-Collection-clause-appended
-put_geometry-returns-in-Collection-clause-appended t c = rows_told _ _ _ _ _ _ _ _ _ c.own_line.ensures (under_shape _ _ _ _ _ c.shape.ensures c.in-Collection.is) c.in_ok-put_row.ensures.appended c.put_members.ensures.appended
+put_geometry-returns-in-Collection-clause-appended t c = rows_told _ _ _ _ _ _ _ _ _ c.own_row.ensures (under_shape _ _ _ _ _ c.shape.ensures c.in-Collection.is) c.in_ok-put_row.ensures.appended c.put_members.ensures.appended
