@@ -21,7 +21,7 @@ use Rattle.twkb_engine.specs.declared.blob_reason.BlobReason.TheVariants as reas
 use Rattle.twkb_blob.specs.Faults.{fault_of}
 use Rattle.twkb_blob.specs.Readers.{AreCutOff, Left, Makes, IsRead, IsNext, IsNextFlat, RefusedKnown, failed_by_read}
 use Rattle.twkb_blob.specs.declared.fault.BlobFault.TheVariants as fault
-use Rattle.twkb_blob.specs.declared.reading.Piece.TheVariants as piece
+use Rattle.twkb_blob.specs.declared.reading.Fed.TheVariants as piece
 use Rattle.twkb_blob.specs.declared.reading.Halt.TheVariants as halt
 
 -- what left, and then a refusal in what is left

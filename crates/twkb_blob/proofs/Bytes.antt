@@ -20,7 +20,7 @@ use Rattle.twkb_engine.specs.declared.stop.Stop.{Stop}
 use Rattle.twkb_engine.specs.declared.stop.Stop.TheVariants.{Memory, Refused}
 use Rattle.twkb_blob.specs.Readers.{Left, Makes, IsRead}
 use Rattle.twkb_blob.specs.Located.{HasSpans, IsSpanned, IsNotedFed, IsNotedRead, notes_at}
-use Rattle.twkb_blob.specs.declared.reading.Piece.TheVariants as piece
+use Rattle.twkb_blob.specs.declared.reading.Fed.TheVariants as piece
 use Rattle.twkb_blob.specs.declared.reading.Halt.TheVariants as halt
 use Rattle.twkb_blob.proofs.Pieces.{left_after, refused_known}
 use Rattle.twkb_blob.proofs.Blobs.{left_join}

@@ -26,7 +26,7 @@ use Rattle.twkb_blob.specs.Readers.{Left, IsNextFlat, PartAhead}
 use Rattle.twkb_blob.specs.Located.{IsSpanned, IsNotedRead}
 use Rattle.twkb_blob.specs.declared.fault.BlobFault.{BlobFault}
 use Rattle.twkb_blob.specs.declared.fault.BlobFault.TheVariants as fault
-use Rattle.twkb_blob.specs.declared.reading.Piece.{Piece}
+use Rattle.twkb_blob.specs.declared.reading.Fed.{Fed}
 use Rattle.twkb_blob.specs.declared.reading.Halt.{Halt}
 use Rattle.twkb_blob.specs.declared.reading.Halt.TheVariants as halt
 use Rattle.twkb_blob.proofs.Standing.{front_of}
@@ -37,7 +37,7 @@ lacks_memory told offset Memory same is = refl
 lacks_memory told offset (Refused r) same is = absurd cc
 
 -- and then a part ends in what it was fed
-pub part_fed : (limits : Allowance) (bs held : List ℕ) (stop : Stop) (rs : List Row) (d : Engine) → ◌≡◌ {A = Result Piece Halt} (Err (halt.Engine stop)) (Err (halt.Engine Memory)) → IsFed limits bs held (Err stop) rs d → PartIn limits bs held
+pub part_fed : (limits : Allowance) (bs held : List ℕ) (stop : Stop) (rs : List Row) (d : Engine) → ◌≡◌ {A = Result Fed Halt} (Err (halt.Engine stop)) (Err (halt.Engine Memory)) → IsFed limits bs held (Err stop) rs d → PartIn limits bs held
 part_fed limits bs held Memory rs d is h = h
 part_fed limits bs held (Refused r) rs d is h = absurd cc
 

@@ -21,8 +21,8 @@ use Rattle.twkb_engine.specs.declared.awaited.Awaited.{Awaited}
 use Rattle.twkb_engine.specs.declared.awaited.Awaited.TheVariants as awaited
 use Rattle.twkb_blob.specs.Readers.{Left, Makes, IsRead, IsNext, PartAhead}
 use Rattle.twkb_blob.specs.declared.fault.BlobFault.{BlobFault}
-use Rattle.twkb_blob.specs.declared.reading.Piece.{Piece}
-use Rattle.twkb_blob.specs.declared.reading.Piece.TheVariants as piece
+use Rattle.twkb_blob.specs.declared.reading.Fed.{Fed}
+use Rattle.twkb_blob.specs.declared.reading.Fed.TheVariants as piece
 use Rattle.twkb_blob.specs.declared.reading.Halt.{Halt}
 use Rattle.twkb_blob.specs.declared.reading.Halt.TheVariants as halt
 use Rattle.twkb_blob.specs.declared.spans.Located.{Located}
@@ -74,7 +74,7 @@ IsNotedFed limits start bs held (Err (Refused r)) rs d w = RefusedIn limits bs h
 -- the same, with bytes that left an input; or it gave none
 abbrev pub IsNotedRead :
     {R : Type 0} {read : Ghosts R} → Allowance → (start : ℕ) → List ℕ
-    → Input R read → Input R read → Result Piece Halt → List Row → Engine → Notes → Type 0
+    → Input R read → Input R read → Result Fed Halt → List Row → Engine → Notes → Type 0
 IsNotedRead limits start bs old new (Ok piece.More) rs d w =
     (bytes : List ℕ) × (0 < length bytes) × Left old new bytes × (s : StandsAt (bs ++ bytes) rs d)
     × (w ≡ notes_at start s) × (input_spent new ≡ false)
@@ -88,7 +88,7 @@ TakesNoted start held answer rs more d e w v = (bs : List ℕ) (s : StandsAt bs 
 
 -- the same, of an input
 abbrev pub ReadsNoted :
-    {R : Type 0} {read : Ghosts R} → (start : ℕ) → Input R read → Input R read → Result Piece Halt
+    {R : Type 0} {read : Ghosts R} → (start : ℕ) → Input R read → Input R read → Result Fed Halt
     → (rs more : List Row) (d e : Engine) (w v : Notes) → Type 0
 ReadsNoted start old new answer rs more d e w v =
     (bs : List ℕ) (s : StandsAt bs rs d) → w ≡ notes_at start s → IsNotedRead (allowance_of d) start bs old new answer more e v

@@ -22,8 +22,8 @@ use Rattle.twkb_blob.specs.declared.fault.BlobFault.TheVariants as fault
 use Rattle.twkb_blob.specs.declared.reader.Reader.{Reader}
 use Rattle.twkb_blob.specs.declared.state.State.{State}
 use Rattle.twkb_blob.specs.declared.state.State.TheVariants as state
-use Rattle.twkb_blob.specs.declared.reading.Piece.{Piece}
-use Rattle.twkb_blob.specs.declared.reading.Piece.TheVariants as piece
+use Rattle.twkb_blob.specs.declared.reading.Fed.{Fed}
+use Rattle.twkb_blob.specs.declared.reading.Fed.TheVariants as piece
 use Rattle.twkb_blob.specs.declared.reading.Halt.{Halt}
 use Rattle.twkb_blob.specs.declared.reading.Halt.TheVariants as halt
 
@@ -107,7 +107,7 @@ pub record Makes {R : Type 0} {read : Ghosts R} (limits : Allowance) (bs : List 
 
 -- Some bytes left the input, and make a blob so far, with these rows, or a blob; or there are none; or with what is known of the rest
 -- they have a first fault.
-abbrev pub IsRead : {R : Type 0} {read : Ghosts R} → Allowance → List ℕ → Input R read → Input R read → Result Piece Halt → List Row → Engine → Type 0
+abbrev pub IsRead : {R : Type 0} {read : Ghosts R} → Allowance → List ℕ → Input R read → Input R read → Result Fed Halt → List Row → Engine → Type 0
 IsRead limits bs old new (Ok piece.More) rs d = (bytes : List ℕ) × (0 < length bytes) × Left old new bytes × StandsAt (bs ++ bytes) rs d × (input_spent new ≡ false)
 IsRead limits bs old new (Ok piece.Made) rs d = (g : Tree) × Makes limits bs old new g × (rs ≡ rows 0 g)
 IsRead limits bs old new (Ok piece.End) rs d = IsAtEnd (rest_of old) × Left old new [] × StandsAt bs rs d
@@ -141,7 +141,7 @@ abbrev pub PartAhead : {R : Type 0} {read : Ghosts R} → Allowance → List ℕ
 PartAhead limits bs input = IfSome (rest_of input) (λ rest. PartIn limits bs rest)
 
 -- whether a piece was missing because the reader failed
-abbrev pub halted_by_read : Result Piece Halt → Bool
+abbrev pub halted_by_read : Result Fed Halt → Bool
 halted_by_read (Err (halt.Device stopped.Read)) = true
 halted_by_read _ = false
 

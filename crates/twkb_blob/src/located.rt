@@ -10,7 +10,7 @@ ghost use Rattle.twkb_blob.specs.Located.{IsSpanned, TakesNoted, ReadsNoted};
 
 use crate::fault::{BlobFault, fault_at};
 use crate::notes::SpanNotes;
-use crate::reading::{Halt, Piece};
+use crate::reading::{Fed, Halt};
 use crate::spans::Spans;
 use std::io::Read;
 use twkb_engine::{BlobReason, Engine, Stop};
@@ -116,7 +116,7 @@ fn read_item<R: Read>(
     flat: &mut Flat,
     notes: &mut SpanNotes,
     start: u64,
-) -> Result<Piece, Halt>
+) -> Result<Fed, Halt>
     requires few { count_of engine.old ≤ 2 ^ 62 }
     requires begin { start ≤ 2 ^ 62 }
     ensures same_tap { (input_tap input.new).ghost_name ≡ (input_tap input.old).ghost_name }
@@ -133,7 +133,7 @@ fn read_item<R: Read>(
     let held = input.held();
     let count = held.len();
     if count == 0 {
-        return Ok(Piece::End);
+        return Ok(Fed::End);
     }
     let (used, is_whole) = match take_noted(engine, flat, notes, start, held) {
         Ok(taken) => taken,
@@ -141,9 +141,9 @@ fn read_item<R: Read>(
     };
     input.advance(used);
     if is_whole {
-        Ok(Piece::Made)
+        Ok(Fed::Made)
     } else {
-        Ok(Piece::More)
+        Ok(Fed::More)
     }
 }
 
@@ -168,9 +168,9 @@ fn read_noted<R: Read>(
         // learnt: the input has given at most 2 ^ 62 bytes
         let _learnt = input.offset();
         match read_item(input, engine, flat, notes, start) {
-            Ok(Piece::More) => {}
-            Ok(Piece::Made) => return Ok(true),
-            Ok(Piece::End) => {
+            Ok(Fed::More) => {}
+            Ok(Fed::Made) => return Ok(true),
+            Ok(Fed::End) => {
                 if engine.is_between() {
                     return Ok(false);
                 }

@@ -13,7 +13,7 @@ use twkb_io::{InFault, Input};
 
 // What the held bytes of an input made.
 #[derive(Clone, Copy, Debug, PartialEq, Eq)]
-pub(crate) enum Piece {
+pub(crate) enum Fed {
     // They were used, and more have to follow.
     More,
     // A geometry ends in them, whose rows are in the form.
@@ -36,7 +36,7 @@ fn read_piece<R: Read>(
     input: &mut Input<'_, R>,
     engine: &mut Engine,
     flat: &mut Flat,
-) -> Result<Piece, Halt>
+) -> Result<Fed, Halt>
     requires { count_of engine.old ≤ 2 ^ 62 }
     ensures same_tap { (input_tap input.new).ghost_name ≡ (input_tap input.old).ghost_name }
     ensures limits { allowance_of engine.new ≡ allowance_of engine.old }
@@ -53,16 +53,16 @@ fn read_piece<R: Read>(
     let piece = input.held();
     let count = piece.len();
     if count == 0 {
-        return Ok(Piece::End);
+        return Ok(Fed::End);
     }
     match engine.feed(flat, piece) {
         Ok((used, false)) => {
             input.advance(used);
-            Ok(Piece::More)
+            Ok(Fed::More)
         }
         Ok((used, true)) => {
             input.advance(used);
-            Ok(Piece::Made)
+            Ok(Fed::Made)
         }
         Err(stop) => Err(Halt::Engine(stop)),
     }
@@ -87,9 +87,9 @@ fn read_blob<R: Read>(
         // learnt: the input has given at most 2 ^ 62 bytes
         let _learnt = input.offset();
         match read_piece(input, engine, flat) {
-            Ok(Piece::More) => {}
-            Ok(Piece::Made) => return Ok(true),
-            Ok(Piece::End) => {
+            Ok(Fed::More) => {}
+            Ok(Fed::Made) => return Ok(true),
+            Ok(Fed::End) => {
                 if engine.is_between() {
                     return Ok(false);
                 }

@@ -19,7 +19,7 @@ use Rattle.twkb_tree.proofs.RowTests.{both_true, both, below_test, within_test, 
 use Rattle.twkb_tree.proofs.RootLimits.{of_one}
 use Rattle.twkb_tree.proofs.RowPoints.{length-row_points}
 use Rattle.twkb_tree.proofs.RowsLocal.{continues_open}
-use Rattle.twkb_flat.specs.declared.entries.Entry.{Entry}
+use Rattle.twkb_flat.specs.declared.entries.KeptNode.{KeptNode}
 use Rattle.twkb_flat.specs.Admitting.{is_admitted_at}
 use Rattle.twkb_flat.specs.Entries.{IsFlat, listed, span_of}
 
@@ -111,7 +111,7 @@ fits_by_count p f r place range id precision =
     sym (seventh (has_place p r.kind) (id_in_range r.id) (id_allowed p r.kind r.id) (has_same_ids f r.id) (precision_in_range r.precision) (precision_fits p r.precision) (points_fit r.kind (is_whole p) r.points) place range ids.0 ids.1 two.0 two.1)
 
 -- the test by what is kept is the test by the rows
-pub kept_continues : (es : List Entry) (ps : List Point) (spine : List ℕ) (os : List OpenRow) (count nodes points : ℕ) (r : Row) (rows : List Row)
+pub kept_continues : (es : List KeptNode) (ps : List Point) (spine : List ℕ) (os : List OpenRow) (count nodes points : ℕ) (r : Row) (rows : List Row)
     → IsFlat es ps spine os count → listed (map span_of es) ps ≡ rows → nodes ≡ length rows → points ≡ length (row_points rows)
     → open_continues largest_limits (take count os) nodes points r ≡ continues largest_limits rows r
 kept_continues es ps spine os count nodes points r rows flat view all own =

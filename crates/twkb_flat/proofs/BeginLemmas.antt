@@ -6,7 +6,7 @@ use Rattle.twkb_tree.specs.declared.open_rows.OpenRow.{OpenRow}
 use Rattle.twkb_tree.specs.Limits.{largest_limits}
 use Rattle.twkb_tree.specs.Accepted.{Continues}
 use Rattle.twkb_flat.specs.declared.node.Row.{Row}
-use Rattle.twkb_flat.specs.declared.entries.Entry.{Entry}
+use Rattle.twkb_flat.specs.declared.entries.KeptNode.{KeptNode}
 use Rattle.twkb_flat.specs.Rows.{row_with}
 use Rattle.twkb_flat.specs.Entries.{IsFlat, listed, span_of, next_of, closed}
 use Rattle.twkb_flat.proofs.OpenRowLemmas.{entered, root_opened}
@@ -14,12 +14,12 @@ use Rattle.twkb_flat.proofs.PushLemmas.{Pushed, Opens, flat_after, view_after}
 use Rattle.twkb_flat.proofs.RowLemmas.{flat_points, some_rows}
 
 -- Nothing is kept where there are no rows.
-record Bare (es : List Entry) (ps : List Point) (count : ℕ) : Type 0 where
+record Bare (es : List KeptNode) (ps : List Point) (count : ℕ) : Type 0 where
   entries : length es ≡ 0
   points : length ps ≡ 0
   levels : count ≡ 0
 
-bare : (es : List Entry) (ps : List Point) (spine : List ℕ) (os : List OpenRow) (count : ℕ) → IsFlat es ps spine os count → listed (map span_of es) ps ≡ [] → Bare es ps count
+bare : (es : List KeptNode) (ps : List Point) (spine : List ℕ) (os : List OpenRow) (count : ℕ) → IsFlat es ps spine os count → listed (map span_of es) ps ≡ [] → Bare es ps count
 bare es ps spine os count flat none =
     let few = flat.linked.most in
     let shown = rw none at flat.opened.all in
@@ -34,13 +34,13 @@ no_items [] e = refl
 no_items (x ∷ xs) e = absurd (omega (arith, e))
 
 -- the one entry
-abbrev root_entry : Row → ℕ → Entry
+abbrev root_entry : Row → ℕ → KeptNode
 root_entry row count = record { span = record { row = row; first = 0; points = count }; next = record { 0 = 0 } }
 
 none_closed : (nexts spine : List ℕ) (d count next : ℕ) → count ≡ 0 → nexts ≡ closed nexts (take (count - d) (drop d spine)) next
 none_closed nexts spine d count next e = (let left : count - d ≡ 0 = omega (arith, e) in rw left refl)
 
-pushed : (es mid : List Entry) (ps qs : List Point) (spine : List ℕ) (count total : ℕ) (row : Row) → Bare es ps count → total ≡ length qs → mid ≡ es ++ root_entry row total ∷ []
+pushed : (es mid : List KeptNode) (ps qs : List Point) (spine : List ℕ) (count total : ℕ) (row : Row) → Bare es ps count → total ≡ length qs → mid ≡ es ++ root_entry row total ∷ []
     → Pushed es mid mid ps qs qs spine count 0 0 row
 pushed es mid ps qs spine count total row none total_is put = record {
   first_is = none.points;
@@ -52,7 +52,7 @@ pushed es mid ps qs spine count total row none total_is put = record {
 }
 
 -- what is kept of the root
-pub begun_flat : (es mid : List Entry) (ps qs : List Point) (spine : List ℕ) (os : List OpenRow) (count total : ℕ) (row : Row)
+pub begun_flat : (es mid : List KeptNode) (ps qs : List Point) (spine : List ℕ) (os : List OpenRow) (count total : ℕ) (row : Row)
     → IsFlat es ps spine os count → listed (map span_of es) ps ≡ [] → Continues largest_limits [] (row_with row qs) → total ≡ length qs → mid ≡ es ++ root_entry row total ∷ []
     → IsFlat mid qs (set spine 0 0) (set os 0 (entered (row_with row qs))) 1
 begun_flat es mid ps qs spine os count total row flat none continues total_is put =
@@ -62,12 +62,12 @@ begun_flat es mid ps qs spine os count total row flat none continues total_is pu
     subst (λ d. IsFlat mid qs (set spine d 0) (set os d (entered (row_with row qs))) (d + 1)) continues.1 made
 
 -- and the rows are the root
-pub begun_rows : (es mid : List Entry) (ps qs : List Point) (spine : List ℕ) (os : List OpenRow) (count total : ℕ) (row : Row)
+pub begun_rows : (es mid : List KeptNode) (ps qs : List Point) (spine : List ℕ) (os : List OpenRow) (count total : ℕ) (row : Row)
     → IsFlat es ps spine os count → listed (map span_of es) ps ≡ [] → total ≡ length qs → mid ≡ es ++ root_entry row total ∷ []
     → listed (map span_of mid) qs ≡ row_with row qs ∷ []
 begun_rows es mid ps qs spine os count total row flat none total_is put =
     view_after es mid mid ps qs qs spine os count 0 0 row [] flat none (pushed es mid ps qs spine count total row (bare es ps spine os count flat none) total_is put)
 
 -- the points were none
-pub no_points : (es : List Entry) (ps : List Point) (spine : List ℕ) (os : List OpenRow) (count : ℕ) → IsFlat es ps spine os count → listed (map span_of es) ps ≡ [] → ps ≡ []
+pub no_points : (es : List KeptNode) (ps : List Point) (spine : List ℕ) (os : List OpenRow) (count : ℕ) → IsFlat es ps spine os count → listed (map span_of es) ps ≡ [] → ps ≡ []
 no_points es ps spine os count flat none = no_items ps (bare es ps spine os count flat none).points

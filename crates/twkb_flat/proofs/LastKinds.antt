@@ -6,19 +6,19 @@ use Rattle.std.proofs.lemmas.List.{length-append}
 use Rattle.twkb_points.specs.Point.{Point}
 use Rattle.twkb_tree.specs.Rows.{Row as TableRow, row_points}
 use Rattle.twkb_tree.specs.RowGrowth.{EndsInLine}
-use Rattle.twkb_flat.specs.declared.entries.Entry.{Entry}
+use Rattle.twkb_flat.specs.declared.entries.KeptNode.{KeptNode}
 use Rattle.twkb_flat.specs.Rows.{row_with}
 use Rattle.twkb_flat.specs.Entries.{listed, span_of}
 use Rattle.twkb_flat.specs.Lasts.{IsLineKind, LastIsLine}
 
-pub last_of : (es : List Entry) (i : ℕ) (d : Entry) → i + 1 ≡ length es → LastIsLine es → IsLineKind (get_or es i d).span.row.kind
+pub last_of : (es : List KeptNode) (i : ℕ) (d : KeptNode) → i + 1 ≡ length es → LastIsLine es → IsLineKind (get_or es i d).span.row.kind
 last_of [] i d at h = absurd (omega arith)
 last_of (e ∷ []) zero d at h = h
 last_of (e ∷ []) (suc i) d at h = absurd (omega arith)
 last_of (e ∷ f ∷ es) zero d at h = absurd (omega arith)
 last_of (e ∷ f ∷ es) (suc i) d at h = last_of (f ∷ es) i d (omega arith) h
 
-pub last_is : (es : List Entry) (i : ℕ) (d : Entry) → i + 1 ≡ length es → IsLineKind (get_or es i d).span.row.kind → LastIsLine es
+pub last_is : (es : List KeptNode) (i : ℕ) (d : KeptNode) → i + 1 ≡ length es → IsLineKind (get_or es i d).span.row.kind → LastIsLine es
 last_is [] i d at h = absurd (omega arith)
 last_is (e ∷ []) zero d at h = h
 last_is (e ∷ []) (suc i) d at h = absurd (omega arith)
@@ -26,7 +26,7 @@ last_is (e ∷ f ∷ es) zero d at h = absurd (omega arith)
 last_is (e ∷ f ∷ es) (suc i) d at h = last_is (f ∷ es) i d (omega arith) h
 
 -- the rows end in a line
-pub rows_end : (es : List Entry) (ps : List Point) → LastIsLine es → EndsInLine (listed (map span_of es) ps)
+pub rows_end : (es : List KeptNode) (ps : List Point) → LastIsLine es → EndsInLine (listed (map span_of es) ps)
 rows_end [] ps h = absurd h
 rows_end (e ∷ []) ps h = record { front = []; last = row_with e.span.row (take e.span.points ps); line = h; whole = refl }
 rows_end (e ∷ f ∷ es) ps h =
@@ -46,7 +46,7 @@ tail_of [] = []
 tail_of (s ∷ rs) = rs
 
 -- and only then
-pub ends_rows : (es : List Entry) (ps : List Point) (front : List TableRow) (last : TableRow) → listed (map span_of es) ps ≡ front ++ last ∷ [] → IsLineKind last.kind → LastIsLine es
+pub ends_rows : (es : List KeptNode) (ps : List Point) (front : List TableRow) (last : TableRow) → listed (map span_of es) ps ≡ front ++ last ∷ [] → IsLineKind last.kind → LastIsLine es
 ends_rows [] ps front last whole line = absurd (some_behind front last whole)
 ends_rows (e ∷ []) ps [] last whole line = subst (λ (r : TableRow). IsLineKind r.kind) (sym (ap (head_or last) whole)) line
 ends_rows (e ∷ []) ps (r ∷ front) last whole line = absurd (some_behind front last (ap tail_of whole))
@@ -57,14 +57,14 @@ true_false : true ≡ false → ⊥
 true_false t = absurd (grind (arith, nat_tests))
 
 -- the test of the last entry is one of the last row
-pub both : (b : Bool) (count most : ℕ) (es : List Entry) (ps : List Point) (rows : List TableRow) → listed (map span_of es) ps ≡ rows → count ≡ length (row_points rows) → (IsTrue b ↔ LastIsLine es) → b ≡ true
+pub both : (b : Bool) (count most : ℕ) (es : List KeptNode) (ps : List Point) (rows : List TableRow) → listed (map span_of es) ps ≡ rows → count ≡ length (row_points rows) → (IsTrue b ↔ LastIsLine es) → b ≡ true
     → IsTrue (nat_lt count most) ↔ (EndsInLine rows × (length (row_points rows) < most))
 both b count most es ps rows view total (forth, back) t = (
   (λ u. (subst EndsInLine view (rows_end es ps (forth t)), let few : count < most = grind (arith, nat_tests) in omega (arith, few, total))),
   (λ h. let few : count < most = omega (arith, h.1, total) in grind (arith, nat_tests)),
 )
 
-pub neither : (b : Bool) (most : ℕ) (es : List Entry) (ps : List Point) (rows : List TableRow) → listed (map span_of es) ps ≡ rows → (IsTrue b ↔ LastIsLine es) → b ≡ false
+pub neither : (b : Bool) (most : ℕ) (es : List KeptNode) (ps : List Point) (rows : List TableRow) → listed (map span_of es) ps ≡ rows → (IsTrue b ↔ LastIsLine es) → b ≡ false
     → IsTrue false ↔ (EndsInLine rows × (length (row_points rows) < most))
 neither b most es ps rows view (forth, back) f = (
   (λ t. absurd (true_false (sym t))),

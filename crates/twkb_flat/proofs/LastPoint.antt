@@ -11,8 +11,8 @@ use Rattle.twkb_tree.specs.RowLists.{AreValidRowsOfOne}
 use Rattle.twkb_tree.specs.Open.{AreOpen}
 use Rattle.twkb_tree.proofs.PointAdded.{open_point}
 use Rattle.twkb_tree.proofs.PointMore.{line_more}
-use Rattle.twkb_flat.specs.declared.entries.Span.{Span}
-use Rattle.twkb_flat.specs.declared.entries.Entry.{Entry}
+use Rattle.twkb_flat.specs.declared.entries.PlacedRow.{PlacedRow}
+use Rattle.twkb_flat.specs.declared.entries.KeptNode.{KeptNode}
 use Rattle.twkb_flat.specs.Links.{Linked}
 use Rattle.twkb_flat.specs.Rows.{row_with}
 use Rattle.twkb_flat.specs.Entries.{IsFlat, Laid, listed, span_of, next_of, span_depth, longer, last_longer, LastHasRoom}
@@ -21,45 +21,45 @@ use Rattle.twkb_flat.proofs.RowLemmas.{flat_points, laid_within}
 
 -- ---- the last entry
 
-pub last_room : (es : List Entry) (i : ℕ) (d : Entry) → i + 1 ≡ length es → LastHasRoom es → (get_or es i d).span.points + 1 < 2 ^ 32
+pub last_room : (es : List KeptNode) (i : ℕ) (d : KeptNode) → i + 1 ≡ length es → LastHasRoom es → (get_or es i d).span.points + 1 < 2 ^ 32
 last_room [] i d at h = absurd (omega arith)
 last_room (e ∷ []) zero d at h = h
 last_room (e ∷ []) (suc i) d at h = absurd (omega arith)
 last_room (e ∷ f ∷ es) zero d at h = absurd (omega arith)
 last_room (e ∷ f ∷ es) (suc i) d at h = last_room (f ∷ es) i d (omega arith) h
 
-pub last_fits : (es : List Entry) (i : ℕ) (d : Entry) → i + 1 ≡ length es → LastHasRoom es → Fits w32 ((get_or es i d).span.points + 1)
+pub last_fits : (es : List KeptNode) (i : ℕ) (d : KeptNode) → i + 1 ≡ length es → LastHasRoom es → Fits w32 ((get_or es i d).span.points + 1)
 last_fits es i d at h = let few : (get_or es i d).span.points + 1 < 2 ^ 32 = last_room es i d at h in search rules
 
 -- the entry with a point more
-abbrev pub entry_longer : Entry → Entry
+abbrev pub entry_longer : KeptNode → KeptNode
 entry_longer e = record { span = longer e.span; next = e.next }
 
-pub longer_spans : (es : List Entry) (i : ℕ) (d : Entry) → i + 1 ≡ length es → map span_of (set es i (entry_longer (get_or es i d))) ≡ last_longer (map span_of es)
+pub longer_spans : (es : List KeptNode) (i : ℕ) (d : KeptNode) → i + 1 ≡ length es → map span_of (set es i (entry_longer (get_or es i d))) ≡ last_longer (map span_of es)
 longer_spans [] i d at = absurd (omega arith)
 longer_spans (e ∷ []) zero d at = refl
 longer_spans (e ∷ []) (suc i) d at = absurd (omega arith)
 longer_spans (e ∷ f ∷ es) zero d at = absurd (omega arith)
-longer_spans (e ∷ f ∷ es) (suc i) d at = ap (λ (ss : List Span). e.span ∷ ss) (longer_spans (f ∷ es) i d (omega arith))
+longer_spans (e ∷ f ∷ es) (suc i) d at = ap (λ (ss : List PlacedRow). e.span ∷ ss) (longer_spans (f ∷ es) i d (omega arith))
 
-pub same_nexts : (es : List Entry) (i : ℕ) (d : Entry) → map next_of (set es i (entry_longer (get_or es i d))) ≡ map next_of es
+pub same_nexts : (es : List KeptNode) (i : ℕ) (d : KeptNode) → map next_of (set es i (entry_longer (get_or es i d))) ≡ map next_of es
 same_nexts [] i d = refl
 same_nexts (e ∷ es) zero d = refl
 same_nexts (e ∷ es) (suc i) d = ap (λ (ns : List ℕ). e.next.0 ∷ ns) (same_nexts es i d)
 
 -- ---- spans and rows
 
-longer_laid : (at total : ℕ) (ss : List Span) → 0 < length ss → Laid at ss total → Laid at (last_longer ss) (total + 1)
+longer_laid : (at total : ℕ) (ss : List PlacedRow) → 0 < length ss → Laid at ss total → Laid at (last_longer ss) (total + 1)
 longer_laid at total [] some laid = absurd (omega arith)
 longer_laid at total (s ∷ []) some (first, last) = (first, omega (arith, last))
 longer_laid at total (s ∷ t ∷ ss) some (first, rest) = (first, longer_laid (at + s.points) total (t ∷ ss) (omega arith) rest)
 
-longer_depths : (ss : List Span) → map span_depth (last_longer ss) ≡ map span_depth ss
+longer_depths : (ss : List PlacedRow) → map span_depth (last_longer ss) ≡ map span_depth ss
 longer_depths [] = refl
 longer_depths (s ∷ []) = refl
 longer_depths (s ∷ t ∷ ss) = ap (λ (ds : List ℕ). span_depth s ∷ ds) (longer_depths (t ∷ ss))
 
-longer_listed : (at : ℕ) (ss : List Span) (ps : List Point) (p : Point) → Laid at ss (at + length ps) → listed (last_longer ss) (ps ++ p ∷ []) ≡ point_added p (listed ss ps)
+longer_listed : (at : ℕ) (ss : List PlacedRow) (ps : List Point) (p : Point) → Laid at ss (at + length ps) → listed (last_longer ss) (ps ++ p ∷ []) ≡ point_added p (listed ss ps)
 longer_listed at [] ps p laid = refl
 longer_listed at (s ∷ []) ps p (first, last) =
     let now : take (s.points + 1) (ps ++ p ∷ []) ≡ ps ++ p ∷ [] = take_all (s.points + 1) (ps ++ p ∷ []) (omega (arith, last, length-append ps (p ∷ []))) in
@@ -74,19 +74,19 @@ longer_listed at (s ∷ t ∷ ss) ps p (first, rest) =
     (longer_listed (at + s.points) (t ∷ ss) (drop s.points ps) p (subst (λ (k : ℕ). Laid (at + s.points) (t ∷ ss) k) total rest)))
 
 -- where there are few points the last entry has few
-laid_room : (at total : ℕ) (es : List Entry) → Laid at (map span_of es) total → total + 1 < 2 ^ 32 → LastHasRoom es
+laid_room : (at total : ℕ) (es : List KeptNode) → Laid at (map span_of es) total → total + 1 < 2 ^ 32 → LastHasRoom es
 laid_room at total [] laid few = tt
 laid_room at total (e ∷ []) (first, last) few = omega (arith, last)
 laid_room at total (e ∷ f ∷ es) (first, rest) few = laid_room (at + e.span.points) total (f ∷ es) rest few
 
 -- ---- what is kept
 
-some_spans : (ss : List Span) (ps : List Point) (rows : List TableRow) → listed ss ps ≡ rows → EndsInLine rows → 0 < length ss
+some_spans : (ss : List PlacedRow) (ps : List Point) (rows : List TableRow) → listed ss ps ≡ rows → EndsInLine rows → 0 < length ss
 some_spans [] ps rows view e = let t : [] ≡ e.front ++ e.last ∷ [] = view ∙ e.whole in absurd (omega (arith, ap (λ (rs : List TableRow). length rs) t, length-append e.front (e.last ∷ [])))
 some_spans (s ∷ ss) ps rows view e = omega arith
 
 -- there is an entry, and it has room
-pub point_fits : (es : List Entry) (ps : List Point) (spine : List ℕ) (os : List OpenRow) (count : ℕ) (rows : List TableRow)
+pub point_fits : (es : List KeptNode) (ps : List Point) (spine : List ℕ) (os : List OpenRow) (count : ℕ) (rows : List TableRow)
     → IsFlat es ps spine os count → listed (map span_of es) ps ≡ rows → EndsInLine rows → (0 < length es) × LastHasRoom es
 point_fits es ps spine os count rows flat view e = (
   omega (arith, some_spans (map span_of es) ps rows view e, length-map es span_of),
@@ -94,23 +94,23 @@ point_fits es ps spine os count rows flat view e = (
 )
 
 -- the rows with a point more
-pub point_view : (es after : List Entry) (ps : List Point) (spine : List ℕ) (os : List OpenRow) (count : ℕ) (p : Point) (rows : List TableRow)
+pub point_view : (es after : List KeptNode) (ps : List Point) (spine : List ℕ) (os : List OpenRow) (count : ℕ) (p : Point) (rows : List TableRow)
     → IsFlat es ps spine os count → listed (map span_of es) ps ≡ rows → map span_of after ≡ last_longer (map span_of es)
     → listed (map span_of after) (ps ++ p ∷ []) ≡ point_added p rows
 point_view es after ps spine os count p rows flat view spans =
-    ap (λ (ss : List Span). listed ss (ps ++ p ∷ [])) spans
+    ap (λ (ss : List PlacedRow). listed ss (ps ++ p ∷ [])) spans
     ∙ (longer_listed 0 (map span_of es) ps p (subst (λ (n : ℕ). Laid 0 (map span_of es) n) (omega arith) flat.laid)
     ∙ ap (point_added p) view)
 
 -- and what is kept of them
-pub point_flat : (es after : List Entry) (ps : List Point) (spine : List ℕ) (os : List OpenRow) (count : ℕ) (p : Point) (rows : List TableRow)
+pub point_flat : (es after : List KeptNode) (ps : List Point) (spine : List ℕ) (os : List OpenRow) (count : ℕ) (p : Point) (rows : List TableRow)
     → IsFlat es ps spine os count → listed (map span_of es) ps ≡ rows → EndsInLine rows → AreValidRowsOfOne largest_limits (point_added p rows)
     → map span_of after ≡ last_longer (map span_of es) → map next_of after ≡ map next_of es → IsFlat after (ps ++ p ∷ []) spine os count
 point_flat es after ps spine os count p rows flat view e valid spans nexts =
     let now = point_view es after ps spine os count p rows flat view spans in
     let depths : map span_depth (map span_of after) ≡ map span_depth (map span_of es) = ap (map span_depth) spans ∙ longer_depths (map span_of es) in
     let laid : Laid 0 (map span_of after) (length (ps ++ p ∷ [])) =
-    subst (λ (ss : List Span). Laid 0 ss (length (ps ++ p ∷ []))) (sym spans)
+    subst (λ (ss : List PlacedRow). Laid 0 ss (length (ps ++ p ∷ []))) (sym spans)
     (subst (λ (n : ℕ). Laid 0 (last_longer (map span_of es)) n) (omega (arith, length-append ps (p ∷ []))) (longer_laid 0 (length ps) (map span_of es) (some_spans (map span_of es) ps rows view e) flat.laid)) in
     let points : length (row_points (point_added p rows)) ≡ length (ps ++ p ∷ []) = ap (λ (rs : List TableRow). length (row_points rs)) (sym now) ∙ ap (λ (qs : List Point). length qs) (flat_points (map span_of after) (ps ++ p ∷ []) laid) in
     let total : length after ≡ length es = sym (length-map after next_of) ∙ (ap (λ (ns : List ℕ). length ns) nexts ∙ length-map es next_of) in
@@ -125,6 +125,6 @@ point_flat es after ps spine os count p rows flat view e valid spans nexts =
     }
 
 -- the rows with a point more are valid where there is room
-pub point_valid : (es : List Entry) (ps : List Point) (spine : List ℕ) (os : List OpenRow) (count : ℕ) (p : Point) (rows : List TableRow)
+pub point_valid : (es : List KeptNode) (ps : List Point) (spine : List ℕ) (os : List OpenRow) (count : ℕ) (p : Point) (rows : List TableRow)
     → IsFlat es ps spine os count → listed (map span_of es) ps ≡ rows → EndsInLine rows → length (row_points rows) < 2 ^ 24 → IsInRange p → AreValidRowsOfOne largest_limits (point_added p rows)
 point_valid es ps spine os count p rows flat view e room within = line_more largest_limits rows p e within room (subst (AreValidRowsOfOne largest_limits) view flat.valid)

@@ -3,8 +3,8 @@ use Rattle.std.proofs.Common.{◌≡◌, ℕ, ◌+◌, ◌<◌, ◌≤◌, ◌�
 use Rattle.std.proofs.lemmas.List.{length-map, get_or-map}
 use Rattle.twkb_points.specs.Point.{Point}
 use Rattle.twkb_tree.specs.Rows.{Row as TableRow}
-use Rattle.twkb_flat.specs.declared.entries.Span.{Span}
-use Rattle.twkb_flat.specs.declared.entries.Entry.{Entry}
+use Rattle.twkb_flat.specs.declared.entries.PlacedRow.{PlacedRow}
+use Rattle.twkb_flat.specs.declared.entries.KeptNode.{KeptNode}
 use Rattle.twkb_flat.specs.Links.{IsNext, IsOpen, Linked}
 use Rattle.twkb_flat.specs.Rows.{IsNode}
 use Rattle.twkb_flat.specs.Entries.{listed, Laid, span_of, next_of, span_depth}
@@ -23,14 +23,14 @@ next_is ds i kept total next h t (inr (is, within)) (inl (zero_is, e)) = let aft
 next_is ds i kept total next h t (inr (is, within)) (inr (some, e)) = subst (λ (n : ℕ). IsNext ds i n) (sym e) is
 
 -- the node of an entry
-pub node_is : (es : List Entry) (ps : List Point) (spine : List ℕ) (count i next : ℕ) (e : Entry) (rows : List TableRow)
+pub node_is : (es : List KeptNode) (ps : List Point) (spine : List ℕ) (count i next : ℕ) (e : KeptNode) (rows : List TableRow)
     → Laid 0 (map span_of es) (length ps) → Linked (map span_depth (map span_of es)) (map next_of es) spine count → listed (map span_of es) ps ≡ rows → i < length es → e ≡ get_or es i e → Answers e.next.0 (length es) next
     → IsNode rows i (record { row = e.span.row; next = record { 0 = next }; first = record { 0 = e.span.first }; points = e.span.points })
 node_is es ps spine count i next e rows all_laid linked view h is answers =
     let inside : i < length (map span_of es) = rw length-map h in
     let laid : Laid 0 (map span_of es) (0 + length ps) = subst (λ (n : ℕ). Laid 0 (map span_of es) n) (omega arith) all_laid in
     let span : get_or (map span_of es) i e.span ≡ e.span = get_or-map span_of es i e e.span h ∙ sym (ap span_of is) in
-    let at = subst (λ (s : Span). Here 0 (map span_of es) ps i s) span (row_at 0 (map span_of es) ps i e.span laid inside) in
+    let at = subst (λ (s : PlacedRow). Here 0 (map span_of es) ps i s) span (row_at 0 (map span_of es) ps i e.span laid inside) in
     let all : length (map span_depth (map span_of es)) ≡ length es = length-map _ _ ∙ length-map _ _ in
     let kept : get_or (map next_of es) i 0 ≡ e.next.0 = get_or-map next_of es i e 0 h ∙ sym (ap next_of is) in
     let link = subst (λ (k : ℕ). ((k ≡ 0) × IsOpen (map span_depth (map span_of es)) i) ⊎ (IsNext (map span_depth (map span_of es)) i k × (k < length (map span_depth (map span_of es))))) kept

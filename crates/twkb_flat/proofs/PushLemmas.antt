@@ -10,8 +10,8 @@ use Rattle.twkb_tree.specs.Accepted.{Continues}
 use Rattle.twkb_tree.specs.RowLists.{AreValidRowsOfOne}
 use Rattle.twkb_tree.specs.Open.{AreOpen, opened}
 use Rattle.twkb_flat.specs.declared.node.Row.{Row}
-use Rattle.twkb_flat.specs.declared.entries.Span.{Span}
-use Rattle.twkb_flat.specs.declared.entries.Entry.{Entry}
+use Rattle.twkb_flat.specs.declared.entries.PlacedRow.{PlacedRow}
+use Rattle.twkb_flat.specs.declared.entries.KeptNode.{KeptNode}
 use Rattle.twkb_flat.specs.Links.{Linked}
 use Rattle.twkb_flat.specs.Rows.{row_with}
 use Rattle.twkb_flat.specs.Entries.{IsFlat, Laid, listed, span_of, next_of, span_depth, closed}
@@ -20,7 +20,7 @@ use Rattle.twkb_flat.proofs.LinkLemmas.{linked_push}
 use Rattle.twkb_flat.proofs.RowLemmas.{length-listed, flat_points, laid-push, listed-push}
 
 -- the row that is pushed goes on
-pub admitted : (es : List Entry) (ps : List Point) (spine : List ℕ) (os : List OpenRow) (count : ℕ) (row : Row) (qs : List Point) (rows : List TableRow)
+pub admitted : (es : List KeptNode) (ps : List Point) (spine : List ℕ) (os : List OpenRow) (count : ℕ) (row : Row) (qs : List Point) (rows : List TableRow)
     → IsFlat es ps spine os count → listed (map span_of es) ps ≡ rows → Continues largest_limits rows (row_with row qs) → GoesOn rows os count (row_with row qs)
 admitted es ps spine os count row qs rows flat view continues =
     let limits = flat.linked.most in
@@ -28,26 +28,26 @@ admitted es ps spine os count row qs rows flat view continues =
     (subst (λ xs. AreOpen (reverse xs) (take count os)) view flat.opened) (omega (arith, flat.room, limits)) continues
 
 -- its span
-abbrev new_span : Row → List Point → List Point → Span
+abbrev new_span : Row → List Point → List Point → PlacedRow
 new_span row ps qs = record { row = row; first = length ps; points = length qs }
 
 -- and its entry
-abbrev new_entry : Row → List Point → List Point → Entry
+abbrev new_entry : Row → List Point → List Point → KeptNode
 new_entry row ps qs = record { span = new_span row ps qs; next = record { 0 = 0 } }
 
 -- the rows with one more
-pushed_view : (es after : List Entry) (ps qs : List Point) (spine : List ℕ) (os : List OpenRow) (count : ℕ) (row : Row) (rows : List TableRow)
+pushed_view : (es after : List KeptNode) (ps qs : List Point) (spine : List ℕ) (os : List OpenRow) (count : ℕ) (row : Row) (rows : List TableRow)
     → IsFlat es ps spine os count → listed (map span_of es) ps ≡ rows
     → map span_of after ≡ map span_of (es ++ new_entry row ps qs ∷ [])
     → listed (map span_of after) (ps ++ qs) ≡ rows ++ row_with row qs ∷ []
 pushed_view es after ps qs spine os count row rows flat view spans =
     let laid : Laid 0 (map span_of es) (0 + length ps) = subst (λ (n : ℕ). Laid 0 (map span_of es) n) (omega arith) flat.laid in
-    ap (λ (ss : List Span). listed ss (ps ++ qs)) (spans ∙ map_push span_of es (new_entry row ps qs))
+    ap (λ (ss : List PlacedRow). listed ss (ps ++ qs)) (spans ∙ map_push span_of es (new_entry row ps qs))
     ∙ listed-push 0 (map span_of es) ps qs (new_span row ps qs) laid refl
     ∙ ap (λ (rs : List TableRow). rs ++ row_with row qs ∷ []) view
 
 -- the links with one more
-pushed_links : (es after : List Entry) (ps qs : List Point) (spine : List ℕ) (count : ℕ) (row : Row)
+pushed_links : (es after : List KeptNode) (ps qs : List Point) (spine : List ℕ) (count : ℕ) (row : Row)
     → Linked (map span_depth (map span_of es)) (map next_of es) spine count → row.depth ≤ count → row.depth < 35
     → map span_of after ≡ map span_of (es ++ new_entry row ps qs ∷ [])
     → map next_of after ≡ closed (map next_of (es ++ new_entry row ps qs ∷ [])) (take (count - row.depth) (drop row.depth spine)) (length es)
@@ -67,7 +67,7 @@ pub record Opens (os new_open : List OpenRow) (row : Row) : Type 0 where
   pub room : length new_open ≡ length os
 
 -- what is kept with one more
-pushed_flat : (es after : List Entry) (ps qs : List Point) (spine : List ℕ) (os new_open : List OpenRow) (count : ℕ) (row : Row) (rows : List TableRow)
+pushed_flat : (es after : List KeptNode) (ps qs : List Point) (spine : List ℕ) (os new_open : List OpenRow) (count : ℕ) (row : Row) (rows : List TableRow)
     → IsFlat es ps spine os count → listed (map span_of es) ps ≡ rows → Continues largest_limits rows (row_with row qs) → Opens os new_open row
     → map span_of after ≡ map span_of (es ++ new_entry row ps qs ∷ [])
     → map next_of after ≡ closed (map next_of (es ++ new_entry row ps qs ∷ [])) (take (count - row.depth) (drop row.depth spine)) (length es)
@@ -80,7 +80,7 @@ pushed_flat es after ps qs spine os new_open count row rows flat view continues 
     let points_total = ap (λ (rs : List TableRow). length (row_points rs)) (sym view) ∙ ap length (flat_points (map span_of es) ps flat.laid) in
     let after_total = sym (length-map after span_of) ∙ ap length spans ∙ length-map (es ++ new_entry row ps qs ∷ []) span_of ∙ length_push es (new_entry row ps qs) in
     record {
-      laid = subst (λ (xs : List Span). Laid 0 xs (length (ps ++ qs))) (sym new_spans)
+      laid = subst (λ (xs : List PlacedRow). Laid 0 xs (length (ps ++ qs))) (sym new_spans)
           (subst (λ (n : ℕ). Laid 0 (map span_of es ++ new_span row ps qs ∷ []) n) (sym (length-append ps qs)) (laid-push 0 (length ps) (map span_of es) (new_span row ps qs) flat.laid refl));
       linked = pushed_links es after ps qs spine count row flat.linked goes.child goes.deep spans nexts;
       valid = subst (AreValidRowsOfOne largest_limits) (sym new_view) goes.valid;
@@ -92,7 +92,7 @@ pushed_flat es after ps qs spine os new_open count row rows flat view continues 
     }
 
 -- the entries with the new one, then closed, and the points
-pub record Pushed (es mid after : List Entry) (ps qs now : List Point) (spine : List ℕ) (count first total : ℕ) (row : Row) : Type 0 where
+pub record Pushed (es mid after : List KeptNode) (ps qs now : List Point) (spine : List ℕ) (count first total : ℕ) (row : Row) : Type 0 where
   pub first_is : length ps ≡ first
   pub total_is : length es ≡ total
   pub mid_is : mid ≡ es ++ record { span = record { row = row; first = first; points = length qs }; next = record { 0 = 0 } } ∷ []
@@ -101,13 +101,13 @@ pub record Pushed (es mid after : List Entry) (ps qs now : List Point) (spine : 
   pub now_is : now ≡ ps ++ qs
 
 -- the entries with the new one
-mid_entries : {es mid after : List Entry} {ps qs now : List Point} {spine : List ℕ} {count first total : ℕ} {row : Row}
+mid_entries : {es mid after : List KeptNode} {ps qs now : List Point} {spine : List ℕ} {count first total : ℕ} {row : Row}
     → Pushed es mid after ps qs now spine count first total row → mid ≡ es ++ new_entry row ps qs ∷ []
 mid_entries {es = es} {mid = mid} {qs = qs} {row = row} p =
     subst (λ (n : ℕ). mid ≡ es ++ record { span = record { row = row; first = n; points = length qs }; next = record { 0 = 0 } } ∷ []) (sym p.first_is) p.mid_is
 
 -- the rows after a push
-pub view_after : (es mid after : List Entry) (ps qs now : List Point) (spine : List ℕ) (os : List OpenRow) (count first total : ℕ) (row : Row) (rows : List TableRow)
+pub view_after : (es mid after : List KeptNode) (ps qs now : List Point) (spine : List ℕ) (os : List OpenRow) (count first total : ℕ) (row : Row) (rows : List TableRow)
     → IsFlat es ps spine os count → listed (map span_of es) ps ≡ rows → Pushed es mid after ps qs now spine count first total row
     → listed (map span_of after) now ≡ rows ++ row_with row qs ∷ []
 view_after es mid after ps qs now spine os count first total row rows flat view p =
@@ -115,19 +115,19 @@ view_after es mid after ps qs now spine os count first total row rows flat view 
     ∙ pushed_view es after ps qs spine os count row rows flat view (p.spans ∙ ap (map span_of) (mid_entries p))
 
 -- what is kept after a push
-pub flat_after : (es mid after : List Entry) (ps qs now : List Point) (spine : List ℕ) (os new_open : List OpenRow) (count first total : ℕ) (row : Row) (rows : List TableRow)
+pub flat_after : (es mid after : List KeptNode) (ps qs now : List Point) (spine : List ℕ) (os new_open : List OpenRow) (count first total : ℕ) (row : Row) (rows : List TableRow)
     → IsFlat es ps spine os count → listed (map span_of es) ps ≡ rows → Continues largest_limits rows (row_with row qs) → Opens os new_open row → Pushed es mid after ps qs now spine count first total row
     → IsFlat after now (set spine row.depth total) new_open (row.depth + 1)
 flat_after es mid after ps qs now spine os new_open count first total row rows flat view continues opens p =
     let mids = mid_entries p in
     let nexts = subst (λ (n : ℕ). map next_of after ≡ closed (map next_of (es ++ new_entry row ps qs ∷ [])) (take (count - row.depth) (drop row.depth spine)) n) (sym p.total_is)
-    (p.nexts ∙ ap (λ (xs : List Entry). closed (map next_of xs) (take (count - row.depth) (drop row.depth spine)) total) mids) in
+    (p.nexts ∙ ap (λ (xs : List KeptNode). closed (map next_of xs) (take (count - row.depth) (drop row.depth spine)) total) mids) in
     let made = pushed_flat es after ps qs spine os new_open count row rows flat view continues opens (p.spans ∙ ap (map span_of) mids) nexts in
     subst (λ (xs : List Point). IsFlat after xs (set spine row.depth total) new_open (row.depth + 1)) (sym p.now_is)
     (subst (λ (n : ℕ). IsFlat after (ps ++ qs) (set spine row.depth n) new_open (row.depth + 1)) p.total_is made)
 
 -- the same where the row's points are counted by what all points became
-pub pushed_as : (es put mid after : List Entry) (ps qs now : List Point) (spine : List ℕ) (count first total size : ℕ) (row : Row)
+pub pushed_as : (es put mid after : List KeptNode) (ps qs now : List Point) (spine : List ℕ) (count first total size : ℕ) (row : Row)
     → length ps ≡ first → length es ≡ total → size ≡ length now → now ≡ ps ++ qs
     → put ≡ es ++ record { span = record { row = row; first = first; points = size - first }; next = record { 0 = 0 } } ∷ [] → mid ≡ put → map span_of after ≡ map span_of mid
     → map next_of after ≡ closed (map next_of mid) (take (count - row.depth) (drop row.depth spine)) total

@@ -8,8 +8,8 @@ use Rattle.std.proofs.lemmas.Grind.{flat_map-append}
 use Rattle.twkb_points.specs.Point.{Point}
 use Rattle.twkb_tree.specs.Rows.{Row as TableRow, row_points}
 use Rattle.twkb_flat.specs.declared.node.Row.{Row}
-use Rattle.twkb_flat.specs.declared.entries.Span.{Span}
-use Rattle.twkb_flat.specs.declared.entries.Entry.{Entry}
+use Rattle.twkb_flat.specs.declared.entries.PlacedRow.{PlacedRow}
+use Rattle.twkb_flat.specs.declared.entries.KeptNode.{KeptNode}
 use Rattle.twkb_flat.specs.Rows.{row_with}
 use Rattle.twkb_flat.specs.Entries.{listed, Laid, span_of}
 use Rattle.twkb_flat.specs.Taking.{IsAt}
@@ -19,19 +19,19 @@ use Rattle.twkb_flat.proofs.FillLemmas.{no_deeper}
 use Rattle.twkb_flat.proofs.RowLemmas.{Here, row_at, flat_points, length-listed}
 
 -- the rows from a place on, by the entry there
-pub entry_here : (es : List Entry) (ps : List Point) (i : ℕ) (e : Entry) → Laid 0 (map span_of es) (length ps) → i < length es → e ≡ get_or es i e → Here 0 (map span_of es) ps i e.span
+pub entry_here : (es : List KeptNode) (ps : List Point) (i : ℕ) (e : KeptNode) → Laid 0 (map span_of es) (length ps) → i < length es → e ≡ get_or es i e → Here 0 (map span_of es) ps i e.span
 entry_here es ps i e all_laid h is =
     let inside : i < length (map span_of es) = rw length-map h in
     let laid : Laid 0 (map span_of es) (0 + length ps) = subst (λ (n : ℕ). Laid 0 (map span_of es) n) (omega arith) all_laid in
     let span : get_or (map span_of es) i e.span ≡ e.span = get_or-map span_of es i e e.span h ∙ sym (ap span_of is) in
-    subst (λ (s : Span). Here 0 (map span_of es) ps i s) span (row_at 0 (map span_of es) ps i e.span laid inside)
+    subst (λ (s : PlacedRow). Here 0 (map span_of es) ps i s) span (row_at 0 (map span_of es) ps i e.span laid inside)
 
 -- one entry for each row
-pub length-rows : (es : List Entry) (ps : List Point) (rows : List TableRow) → listed (map span_of es) ps ≡ rows → length rows ≡ length es
+pub length-rows : (es : List KeptNode) (ps : List Point) (rows : List TableRow) → listed (map span_of es) ps ≡ rows → length rows ≡ length es
 length-rows es ps rows view = ap length (sym view) ∙ length-listed (map span_of es) ps ∙ length-map es span_of
 
 -- the row at a place, from the rows there
-pub row_here : (es : List Entry) (ps : List Point) (i : ℕ) (e : Entry) (rows : List TableRow) (r : TableRow) (rest : List TableRow) → Laid 0 (map span_of es) (length ps) → listed (map span_of es) ps ≡ rows → i < length es → e ≡ get_or es i e → drop i rows ≡ r ∷ rest → row_with e.span.row r.points ≡ r
+pub row_here : (es : List KeptNode) (ps : List Point) (i : ℕ) (e : KeptNode) (rows : List TableRow) (r : TableRow) (rest : List TableRow) → Laid 0 (map span_of es) (length ps) → listed (map span_of es) ps ≡ rows → i < length es → e ≡ get_or es i e → drop i rows ≡ r ∷ rest → row_with e.span.row r.points ≡ r
 row_here es ps i e rows r rest laid view h is at =
     let here = entry_here es ps i e laid h is in
     let both : row_with e.span.row here.own ∷ here.rest ≡ r ∷ rest = sym here.here ∙ ap (drop i) view ∙ at in
@@ -39,7 +39,7 @@ row_here es ps i e rows r rest laid view h is at =
     subst (λ (q : TableRow). row_with e.span.row q.points ≡ q) same refl
 
 -- the points of the row at a place
-points_own : (es : List Entry) (ps : List Point) (i : ℕ) (e : Entry) → Laid 0 (map span_of es) (length ps) → (h : Here 0 (map span_of es) ps i e.span) → (before : List Point) × (after : List Point) × (length before ≡ e.span.first) × (before ++ (h.own ++ after) ≡ ps)
+points_own : (es : List KeptNode) (ps : List Point) (i : ℕ) (e : KeptNode) → Laid 0 (map span_of es) (length ps) → (h : Here 0 (map span_of es) ps i e.span) → (before : List Point) × (after : List Point) × (length before ≡ e.span.first) × (before ++ (h.own ++ after) ≡ ps)
 points_own es ps i e laid h =
     let rows = listed (map span_of es) ps in (
       row_points (take i rows),
@@ -52,7 +52,7 @@ points_own es ps i e laid h =
     )
 
 -- they are within all points
-pub points_inside : (es : List Entry) (ps : List Point) (i : ℕ) (e : Entry) → Laid 0 (map span_of es) (length ps) → i < length es → e ≡ get_or es i e → e.span.first + e.span.points ≤ length ps
+pub points_inside : (es : List KeptNode) (ps : List Point) (i : ℕ) (e : KeptNode) → Laid 0 (map span_of es) (length ps) → i < length es → e ≡ get_or es i e → e.span.first + e.span.points ≤ length ps
 points_inside es ps i e laid within is =
     let h = entry_here es ps i e laid within is in
     let own = points_own es ps i e laid h in
@@ -65,7 +65,7 @@ cut_out before own after ps first count f n e =
     ap (λ (qs : List Point). take count (drop first qs)) (sym e) ∙ ap (take count) (drop_at before (own ++ after) first f) ∙ take_at own after count n
 
 -- the points of the row at a place, from the rows there
-pub points_here : (es : List Entry) (ps : List Point) (i : ℕ) (e : Entry) (rows : List TableRow) (r : TableRow) (rest : List TableRow) → Laid 0 (map span_of es) (length ps) → listed (map span_of es) ps ≡ rows → i < length es → e ≡ get_or es i e → drop i rows ≡ r ∷ rest
+pub points_here : (es : List KeptNode) (ps : List Point) (i : ℕ) (e : KeptNode) (rows : List TableRow) (r : TableRow) (rest : List TableRow) → Laid 0 (map span_of es) (length ps) → listed (map span_of es) ps ≡ rows → i < length es → e ≡ get_or es i e → drop i rows ≡ r ∷ rest
     → take (e.span.first + e.span.points - e.span.first) (drop e.span.first ps) ≡ r.points
 points_here es ps i e rows r rest laid view within is at =
     let h = entry_here es ps i e laid within is in
@@ -76,7 +76,7 @@ points_here es ps i e rows r rest laid view within is at =
     cut_out own.0 h.own own.1 ps e.span.first (e.span.first + e.span.points - e.span.first) own.2 count own.3 ∙ ap (λ (q : TableRow). q.points) same
 
 -- no row is deeper than 34
-pub shallow_here : (es : List Entry) (ps : List Point) (i : ℕ) (e : Entry) (rows : List TableRow) → AreValidRowsOfOne largest_limits (listed (map span_of es) ps) → Laid 0 (map span_of es) (length ps) → i < length es → e ≡ get_or es i e → e.span.row.depth < 35
+pub shallow_here : (es : List KeptNode) (ps : List Point) (i : ℕ) (e : KeptNode) (rows : List TableRow) → AreValidRowsOfOne largest_limits (listed (map span_of es) ps) → Laid 0 (map span_of es) (length ps) → i < length es → e ≡ get_or es i e → e.span.row.depth < 35
 shallow_here es ps i e rows v laid within is =
     let h = entry_here es ps i e laid within is in
     let rows = listed (map span_of es) ps in

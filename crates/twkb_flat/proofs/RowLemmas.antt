@@ -3,27 +3,27 @@ use Rattle.std.proofs.Common.{◌≡◌, ℕ, zero, suc, ◌+◌, ◌<◌, ◌�
 use Rattle.std.proofs.lemmas.List.{length-append, length-take, length-drop, take_all, take-append-drop, take-append-le, drop-append-le}
 use Rattle.twkb_points.specs.Point.{Point}
 use Rattle.twkb_tree.specs.Rows.{Row as TableRow, row_points}
-use Rattle.twkb_flat.specs.declared.entries.Span.{Span}
+use Rattle.twkb_flat.specs.declared.entries.PlacedRow.{PlacedRow}
 use Rattle.twkb_flat.specs.Rows.{row_with, depths}
 use Rattle.twkb_flat.specs.Entries.{listed, Laid, span_depth}
 
 -- one row for each
-pub length-listed : (ss : List Span) (ps : List Point) → length (listed ss ps) ≡ length ss
+pub length-listed : (ss : List PlacedRow) (ps : List Point) → length (listed ss ps) ≡ length ss
 length-listed [] ps = refl
 length-listed (s ∷ ss) ps = ap suc (length-listed ss (drop s.points ps))
 
 -- at its depth
-pub depths-listed : (ss : List Span) (ps : List Point) → depths (listed ss ps) ≡ map span_depth ss
+pub depths-listed : (ss : List PlacedRow) (ps : List Point) → depths (listed ss ps) ≡ map span_depth ss
 depths-listed [] ps = refl
 depths-listed (s ∷ ss) ps = ap (λ (ds : List ℕ). span_depth s ∷ ds) (depths-listed ss (drop s.points ps))
 
 -- the total is not below where the first begins
-pub laid_within : (at total : ℕ) (ss : List Span) → Laid at ss total → at ≤ total
+pub laid_within : (at total : ℕ) (ss : List PlacedRow) → Laid at ss total → at ≤ total
 laid_within at total [] e = omega arith
 laid_within at total (s ∷ ss) (first, rest) = let more = laid_within (at + s.points) total ss rest in omega arith
 
 -- all points are those of the rows, from a place on
-points-listed : (at : ℕ) (ss : List Span) (ps : List Point) → Laid at ss (at + length ps) → row_points (listed ss ps) ≡ ps
+points-listed : (at : ℕ) (ss : List PlacedRow) (ps : List Point) → Laid at ss (at + length ps) → row_points (listed ss ps) ≡ ps
 points-listed at [] [] laid = refl
 points-listed at [] (p ∷ ps) laid = absurd (omega arith)
 points-listed at (s ∷ ss) ps (first, rest) =
@@ -33,11 +33,11 @@ points-listed at (s ∷ ss) ps (first, rest) =
     ∙ take-append-drop s.points ps
 
 -- all points are those of the rows
-pub flat_points : (ss : List Span) (ps : List Point) → Laid 0 ss (length ps) → row_points (listed ss ps) ≡ ps
+pub flat_points : (ss : List PlacedRow) (ps : List Point) → Laid 0 ss (length ps) → row_points (listed ss ps) ≡ ps
 flat_points ss ps laid = points-listed 0 ss ps (subst (λ (n : ℕ). Laid 0 ss n) (omega arith) laid)
 
 -- one row more
-pub listed-push : (at : ℕ) (ss : List Span) (ps qs : List Point) (s : Span) → Laid at ss (at + length ps) → s.points ≡ length qs
+pub listed-push : (at : ℕ) (ss : List PlacedRow) (ps qs : List Point) (s : PlacedRow) → Laid at ss (at + length ps) → s.points ≡ length qs
     → listed (ss ++ s ∷ []) (ps ++ qs) ≡ listed ss ps ++ row_with s.row qs ∷ []
 listed-push at [] [] qs s laid count = ap (λ (own : List Point). row_with s.row own ∷ []) (take_all s.points qs (omega arith))
 listed-push at [] (p ∷ ps) qs s laid count = absurd (omega arith)
@@ -50,12 +50,12 @@ listed-push at (t ∷ ss) ps qs s (first, rest) count =
     (listed-push (at + t.points) ss (drop t.points ps) qs s (subst (λ (k : ℕ). Laid (at + t.points) ss k) total rest) count))
 
 -- and its span laid behind the others
-pub laid-push : (at total : ℕ) (ss : List Span) (s : Span) → Laid at ss total → s.first ≡ total → Laid at (ss ++ s ∷ []) (total + s.points)
+pub laid-push : (at total : ℕ) (ss : List PlacedRow) (s : PlacedRow) → Laid at ss total → s.first ≡ total → Laid at (ss ++ s ∷ []) (total + s.points)
 laid-push at total [] s e first = (first ∙ sym e, ap (λ (k : ℕ). k + s.points) e)
 laid-push at total (t ∷ ss) s (here, rest) first = (here, laid-push (at + t.points) total ss s rest first)
 
 -- the rows from a place on
-pub record Here (at : ℕ) (ss : List Span) (ps : List Point) (i : ℕ) (s : Span) : Type 0 where
+pub record Here (at : ℕ) (ss : List PlacedRow) (ps : List Point) (i : ℕ) (s : PlacedRow) : Type 0 where
   pub own : List Point
   pub rest : List TableRow
   pub here : drop i (listed ss ps) ≡ row_with s.row own ∷ rest
@@ -63,7 +63,7 @@ pub record Here (at : ℕ) (ss : List Span) (ps : List Point) (i : ℕ) (s : Spa
   pub first : at + length (row_points (take i (listed ss ps))) ≡ s.first
 
 -- of each place
-pub row_at : (at : ℕ) (ss : List Span) (ps : List Point) (i : ℕ) (d : Span) → Laid at ss (at + length ps) → i < length ss → Here at ss ps i (get_or ss i d)
+pub row_at : (at : ℕ) (ss : List PlacedRow) (ps : List Point) (i : ℕ) (d : PlacedRow) → Laid at ss (at + length ps) → i < length ss → Here at ss ps i (get_or ss i d)
 row_at at [] ps i d laid h = absurd (omega arith)
 row_at at (s ∷ ss) ps zero d (first, rest) h =
     let within = laid_within (at + s.points) (at + length ps) ss rest in
@@ -81,11 +81,11 @@ row_at at (s ∷ ss) ps (suc i) d (first, rest) h =
     }
 
 -- no span, no row
-pub nil_rows : (ss : List Span) (ps : List Point) → length ss ≡ 0 → listed ss ps ≡ []
+pub nil_rows : (ss : List PlacedRow) (ps : List Point) → length ss ≡ 0 → listed ss ps ≡ []
 nil_rows [] ps e = refl
 nil_rows (s ∷ ss) ps e = absurd (omega arith)
 
 -- and back
-pub some_rows : (ss : List Span) (ps : List Point) → listed ss ps ≡ [] → length ss ≡ 0
+pub some_rows : (ss : List PlacedRow) (ps : List Point) → listed ss ps ≡ [] → length ss ≡ 0
 some_rows [] ps e = refl
 some_rows (s ∷ ss) ps e = cc

@@ -6,21 +6,21 @@ use Rattle.twkb_tree.specs.Limits.{largest_limits}
 use Rattle.twkb_tree.specs.Rows.{Row as TableRow}
 use Rattle.twkb_tree.specs.RowLists.{AreValidRowsOfOne}
 use Rattle.twkb_tree.specs.Open.{AreOpen}
-use Rattle.twkb_flat.specs.declared.entries.Span.{Span}
-use Rattle.twkb_flat.specs.declared.entries.Entry.{Entry}
+use Rattle.twkb_flat.specs.declared.entries.PlacedRow.{PlacedRow}
+use Rattle.twkb_flat.specs.declared.entries.KeptNode.{KeptNode}
 use Rattle.twkb_flat.specs.Rows.{row_with}
 use Rattle.twkb_flat.specs.Links.{Linked}
 
 -- its span
-abbrev pub span_of : Entry → Span
+abbrev pub span_of : KeptNode → PlacedRow
 span_of e = e.span
 
 -- its link
-abbrev pub next_of : Entry → ℕ
+abbrev pub next_of : KeptNode → ℕ
 next_of e = e.next.0
 
 -- how deep its row stands
-abbrev pub span_depth : Span → ℕ
+abbrev pub span_depth : PlacedRow → ℕ
 span_depth s = s.row.depth
 
 -- the links with each of these places set
@@ -29,17 +29,17 @@ closed nexts [] next = nexts
 closed nexts (at ∷ places) next = closed (slice_set nexts at next) places next
 
 -- the rows, each with its part of the points
-abbrev pub listed : List Span → List Point → List TableRow
+abbrev pub listed : List PlacedRow → List Point → List TableRow
 listed [] ps = []
 listed (s ∷ ss) ps = row_with s.row (take s.points ps) ∷ listed ss (drop s.points ps)
 
 -- each span begins where the one before it ends, and the last ends at `total`
-abbrev pub Laid : ℕ → List Span → ℕ → Type 0
+abbrev pub Laid : ℕ → List PlacedRow → ℕ → Type 0
 Laid at [] total = at ≡ total
 Laid at (s ∷ ss) total = (s.first ≡ at) × Laid (at + s.points) ss total
 
 -- Entries and points are kept so that they stand for the rows of one valid geometry, or for none.
-pub record IsFlat (entries : List Entry) (points : List Point) (spine : List ℕ) (open_rows : List OpenRow) (count : ℕ) : Type 0 where
+pub record IsFlat (entries : List KeptNode) (points : List Point) (spine : List ℕ) (open_rows : List OpenRow) (count : ℕ) : Type 0 where
   pub laid : Laid 0 (map span_of entries) (length points)
   pub linked : Linked (map span_depth (map span_of entries)) (map next_of entries) spine count
   pub valid : AreValidRowsOfOne largest_limits (listed (map span_of entries) points)
@@ -49,17 +49,17 @@ pub record IsFlat (entries : List Entry) (points : List Point) (spine : List ℕ
   pub most : length points ≤ 2 ^ 24
 
 -- a span of a point more
-abbrev pub longer : Span → Span
+abbrev pub longer : PlacedRow → PlacedRow
 longer s = record { row = s.row; first = s.first; points = s.points + 1 }
 
 -- the spans, the last of which has a point more
-abbrev pub last_longer : List Span → List Span
+abbrev pub last_longer : List PlacedRow → List PlacedRow
 last_longer [] = []
 last_longer (s ∷ []) = longer s ∷ []
 last_longer (s ∷ t ∷ ss) = s ∷ last_longer (t ∷ ss)
 
 -- the last entry has fewer points than can be counted
-abbrev pub LastHasRoom : List Entry → Type 0
+abbrev pub LastHasRoom : List KeptNode → Type 0
 LastHasRoom [] = ⊤
 LastHasRoom (e ∷ []) = e.span.points + 1 < 2 ^ 32
 LastHasRoom (e ∷ f ∷ es) = LastHasRoom (f ∷ es)

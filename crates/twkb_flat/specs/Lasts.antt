@@ -2,14 +2,14 @@
 use Rattle.std.specs.Prelude.{◌≡◌, ◌⊎◌, List, [], ◌∷◌}
 use Rattle.twkb_tree.specs.declared.kind.Kind.{Kind}
 use Rattle.twkb_tree.specs.declared.kind.Kind.TheVariants as kind
-use Rattle.twkb_flat.specs.declared.entries.Entry.{Entry}
+use Rattle.twkb_flat.specs.declared.entries.KeptNode.{KeptNode}
 
 -- a linestring or a ring
 abbrev pub IsLineKind : Kind → Type 0
 IsLineKind k = (k ≡ kind.Linestring) ⊎ (k ≡ kind.Ring)
 
 -- there is an entry, and the last is a linestring's or a ring's
-abbrev pub LastIsLine : List Entry → Type 0
+abbrev pub LastIsLine : List KeptNode → Type 0
 LastIsLine [] = ⊥
 LastIsLine (e ∷ []) = IsLineKind e.span.row.kind
 LastIsLine (e ∷ f ∷ es) = LastIsLine (f ∷ es)

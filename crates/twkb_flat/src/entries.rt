@@ -8,7 +8,7 @@ use twkb_tree::Kind;
 
 // A row and where its own points are.
 #[derive(Clone, Copy, Debug)]
-pub(crate) struct Span {
+pub(crate) struct PlacedRow {
     pub(crate) row: Row,
     pub(crate) first: u32,
     pub(crate) points: u32,
@@ -16,13 +16,13 @@ pub(crate) struct Span {
 
 // A span, and the node after its subtree, or 0 while all rows after it are below it.
 #[derive(Clone, Copy, Debug)]
-pub(crate) struct Entry {
-    pub(crate) span: Span,
+pub(crate) struct KeptNode {
+    pub(crate) span: PlacedRow,
     pub(crate) next: NodeId,
 }
 
 // Says where the subtree of one node ends.
-fn close(entries: &mut [Entry], at: u32, next: u32)
+fn close(entries: &mut [KeptNode], at: u32, next: u32)
     requires { at < length entries.old }
     ensures spans { map span_of entries.new ≡ map span_of entries.old }
     ensures nexts { map next_of entries.new ≡ slice_set (map next_of entries.old) at next }
@@ -32,7 +32,7 @@ fn close(entries: &mut [Entry], at: u32, next: u32)
 }
 
 // Says where the subtrees of the nodes at `spine[from..to]` end.
-pub(crate) fn close_all(entries: &mut [Entry], spine: &[u32], from: usize, to: usize, next: u32)
+pub(crate) fn close_all(entries: &mut [KeptNode], spine: &[u32], from: usize, to: usize, next: u32)
     requires range { from ≤ to }
     requires room { to ≤ length spine.now }
     requires below { (k : ℕ) → k < to → slice_index spine.now k < length entries.old }
@@ -46,7 +46,7 @@ pub(crate) fn close_all(entries: &mut [Entry], spine: &[u32], from: usize, to: u
 
 // Counts a point more of the last node's.
 #[inline(always)]
-pub(crate) fn count_point(entries: &mut [Entry])
+pub(crate) fn count_point(entries: &mut [KeptNode])
     requires some { 0 < length entries.old }
     requires room { LastHasRoom entries.old }
     ensures spans { map span_of entries.new ≡ last_longer (map span_of entries.old) }
@@ -69,7 +69,7 @@ fn is_line(kind: Kind) -> bool
 
 // Whether there is a node, and the last is a linestring or a ring.
 #[inline(always)]
-pub(crate) fn ends_in_line(entries: &[Entry]) -> bool
+pub(crate) fn ends_in_line(entries: &[KeptNode]) -> bool
     ensures { IsTrue result ↔ LastIsLine entries.now }
 {
     let count = entries.len();

@@ -10,7 +10,7 @@ ghost use Rattle.twkb_tree.specs.RowLists.{AreValidRowsOfOne};
 ghost use Rattle.twkb_flat.specs.Rows.{IsNode, row_with};
 
 use crate::admitting::{admits_under, open_row};
-use crate::entries::{Entry, Span, close_all, count_point, ends_in_line};
+use crate::entries::{KeptNode, PlacedRow, close_all, count_point, ends_in_line};
 use crate::node::{Node, NodeId, PointId, Row};
 use crate::point_source::{Copied, PointSource};
 use crate::work::Work;
@@ -32,7 +32,7 @@ const MOST_POINTS: usize = 1 << 24;
 #[derive(Drop)]
 pub struct Flat {
     // The nodes in preorder.
-    pub(crate) entries: Vec<Entry>,
+    pub(crate) entries: Vec<KeptNode>,
     // The points of all rows.
     pub(crate) points: Vec<Pt>,
     // Which row is open at each depth.
@@ -134,12 +134,12 @@ impl Flat {
         ensures same { OnErr result (points.new.items ≡ points.old.items) }
     {
         self.clear();
-        let span = Span {
+        let span = PlacedRow {
             row: root,
             first: 0,
             points: points.len() as u32,
         };
-        if let Err(refused) = self.entries.push(Entry {
+        if let Err(refused) = self.entries.push(KeptNode {
             span,
             next: NodeId(0),
         }) {
@@ -210,12 +210,12 @@ impl Flat {
         if let Err(fault) = source.append_to(&mut self.points) {
             return Err(fault);
         }
-        let span = Span {
+        let span = PlacedRow {
             row,
             first,
             points: self.points.len() as u32 - first,
         };
-        let Ok(()) = self.entries.push(Entry {
+        let Ok(()) = self.entries.push(KeptNode {
             span,
             next: NodeId(0),
         })

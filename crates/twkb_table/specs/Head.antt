@@ -2,12 +2,12 @@
 use Rattle.twkb_flat.specs.declared.node.Row.{Row}
 use Rattle.twkb_table.specs.Judged.{Verdict, JudgedByPoints}
 use Rattle.twkb_table.specs.Standing.{place_seen}
-use Rattle.twkb_table.specs.declared.head.Head.{Head}
+use Rattle.twkb_table.specs.declared.head.RowHead.{RowHead}
 
 -- its row
-abbrev pub head_row : Head → Row
+abbrev pub head_row : RowHead → Row
 head_row head = record { depth = head.standing.depth; kind = head.kind; id = head.id; precision = head.precision }
 
 -- what the text of its points makes of its record
-abbrev pub JudgedAs : Head → Verdict → Type 0
+abbrev pub JudgedAs : RowHead → Verdict → Type 0
 JudgedAs head v = JudgedByPoints head.limits (place_seen head.standing) head.kind head.id head.precision head.text.now v

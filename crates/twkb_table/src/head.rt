@@ -10,7 +10,7 @@ use twkb_tree::{Kind, Limits, Standing};
 // A row that was read but for its points: where it stands, what its fields say, and the text of
 // its points.
 #[derive(Clone, Copy)]
-pub(crate) struct Head<'a> {
+pub(crate) struct RowHead<'a> {
     pub(crate) limits: Limits,
     pub(crate) standing: Standing,
     pub(crate) kind: Kind,
@@ -19,7 +19,7 @@ pub(crate) struct Head<'a> {
     pub(crate) text: &'a [u8],
 }
 
-impl Head<'_> {
+impl RowHead<'_> {
     ghost use Rattle.std.specs.Prelude.{◌≡◌, ◌∷◌, [], IfSome};
     ghost use Rattle.twkb_flat.specs.Rows.{row_with};
     ghost use Rattle.twkb_table.specs.Judged.{Accepted};
@@ -54,7 +54,7 @@ impl Head<'_> {
     }
 }
 
-impl PointSource for Head<'_> {
+impl PointSource for RowHead<'_> {
     ghost use Rattle.twkb_flat.specs.Rows.{row_with};
     ghost use Rattle.twkb_table.specs.Judged.{Accepted, Refused};
     ghost use Rattle.twkb_table.specs.Standing.{IfRefused};

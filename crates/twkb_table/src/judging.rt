@@ -10,7 +10,7 @@ ghost use Rattle.twkb_flat.specs.Rows.{row_with};
 
 use crate::decimal::parse_depth;
 use crate::fields::{FIELD_COUNT, Fields, five_fields};
-use crate::head::Head;
+use crate::head::RowHead;
 use crate::kind_word::parse_kind;
 use crate::places::{check_place, read_id, read_precision};
 use crate::reason::RowReason;
@@ -37,7 +37,7 @@ fn judge_standing<'a>(
     id_field: &[u8],
     precision_field: &[u8],
     text: &'a [u8],
-) -> Result<Head<'a>, RowReason>
+) -> Result<RowHead<'a>, RowReason>
     ensures read { IfOk result (λ head. (v : Verdict) → JudgedAs head v → JudgedByPlace limits.now (place_seen standing.now) kind id_field.now precision_field.now text.now v) }
     ensures refused { IfErr result (λ reason. JudgedByPlace limits.now (place_seen standing.now) kind id_field.now precision_field.now text.now (Refused reason)) }
 {
@@ -52,7 +52,7 @@ fn judge_standing<'a>(
         Ok(precision) => precision,
         Err(reason) => return Err(reason),
     };
-    Ok(Head {
+    Ok(RowHead {
         limits: *limits,
         standing: *standing,
         kind,
@@ -70,7 +70,7 @@ fn judge_fields<'a>(
     nodes: u32,
     held: u32,
     fields: &Fields<'a>,
-) -> Result<Head<'a>, RowReason>
+) -> Result<RowHead<'a>, RowReason>
     ensures read { IfOk result (λ head. (v : Verdict) → JudgedAs head v → (before : List TableRow) → StandsAfter before rows.now nodes held → Judged limits.now before (record_seen fields.now) v) }
     ensures refused { IfErr result (λ reason. (before : List TableRow) → StandsAfter before rows.now nodes held → Judged limits.now before (record_seen fields.now) (Refused reason)) }
 {
@@ -103,7 +103,7 @@ pub(crate) fn judge_head<'a>(
     nodes: u32,
     held: u32,
     here: &'a ByteRecord,
-) -> Result<Head<'a>, RowReason>
+) -> Result<RowHead<'a>, RowReason>
     ensures read { IfOk result (λ head. (v : Verdict) → JudgedAs head v → (before : List TableRow) → StandsAfter before rows.now nodes held → Judged limits.now before (fields_of here.now) v) }
     ensures refused { IfErr result (λ reason. (before : List TableRow) → StandsAfter before rows.now nodes held → Judged limits.now before (fields_of here.now) (Refused reason)) }
 {

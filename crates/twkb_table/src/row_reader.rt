@@ -7,7 +7,7 @@ ghost use Rattle.twkb_table.specs.Standing.{IfRefused};
 ghost use Rattle.twkb_table.specs.Head.{JudgedAs};
 ghost use Rattle.twkb_table.specs.Waiting.{may_wait};
 
-use crate::head::Head;
+use crate::head::RowHead;
 use crate::judging::{JudgeFault, judge, judge_head};
 use crate::open_rows::open_row;
 use crate::reason::RowReason;
@@ -157,7 +157,7 @@ impl RowReader {
 
     // Judges a record after the rows of the flat form, but for its points.
     #[inline(always)]
-    fn judge_next<'a>(&self, here: &'a ByteRecord, flat: &Flat) -> Result<Head<'a>, RowReason>
+    fn judge_next<'a>(&self, here: &'a ByteRecord, flat: &Flat) -> Result<RowHead<'a>, RowReason>
         requires keeps { Keeps self.now flat.now }
         ensures read { IfOk result (λ head. (v : Verdict) → JudgedAs head v → JudgedAfter (limits_of self.now) flat.now (fields_of here.now) v) }
         ensures refused { IfErr result (λ reason. JudgedAfter (limits_of self.now) flat.now (fields_of here.now) (Refused reason)) }

@@ -7,7 +7,7 @@ use Rattle.twkb_flat.specs.declared.node.Node.{Node}
 use Rattle.twkb_grammar.specs.declared.style.Style.{Style}
 use Rattle.twkb_writer.specs.declared.job.Job.{Job}
 use Rattle.twkb_writer.specs.declared.job.Placed.{Placed}
-use Rattle.twkb_writer.specs.declared.members.Members.{Members}
+use Rattle.twkb_writer.specs.declared.members.MemberIds.{MemberIds}
 use Rattle.twkb_writer.specs.declared.sizes.Entry.{Entry}
 use Rattle.twkb_writer.specs.Bytes.{members_below, ids_bytes, counts_bytes, is_bare, header, part_lead, lead, rows_bytes}
 
@@ -24,11 +24,11 @@ abbrev pub ids_of : Bool → List Row → Placed → List ℕ
 ids_of named rows at = if named then ids_bytes (members_of rows at) else []
 
 -- the count of its members, and their ids where these are written
-abbrev pub listed_of : Members → List Row → Placed → List ℕ
+abbrev pub listed_of : MemberIds → List Row → Placed → List ℕ
 listed_of members rows at = varint_of members.count ++ ids_of members.named rows at
 
 -- its counts, and the ids of its members where these are written
-abbrev pub counts_of : Members → List Row → Placed → List ℕ
+abbrev pub counts_of : MemberIds → List Row → Placed → List ℕ
 counts_of members rows at = counts_bytes at.node.row.kind at.node.points members.count (ids_of members.named rows at)
 
 -- the header of a node that is a geometry of its own

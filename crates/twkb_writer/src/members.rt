@@ -13,7 +13,7 @@ use twkb_io::Sink;
 
 // What is written of a node's members: how many they are, and their ids where these are written.
 #[derive(Clone, Copy)]
-pub(crate) struct Members {
+pub(crate) struct MemberIds {
     pub(crate) count: u32,
     pub(crate) named: bool,
 }

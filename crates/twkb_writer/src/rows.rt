@@ -10,7 +10,7 @@ ghost use Rattle.twkb_writer.specs.Reads.{Reads};
 use crate::gatherer::Gatherer;
 use crate::header::{has_no_body, put_header};
 use crate::job::{Job, Placed};
-use crate::members::{Members, count_members, put_ids};
+use crate::members::{MemberIds, count_members, put_ids};
 use crate::points::put_points;
 use crate::sizes::Entry;
 use twkb_flat::{Flat, NodeId, Work};
@@ -22,7 +22,7 @@ use twkb_tree::Kind;
 fn put_members<S: Sink>(
     flat: &Flat,
     at: &Placed,
-    members: Members,
+    members: MemberIds,
     gatherer: &mut Gatherer<'_, S>,
     work: &mut Work,
 ) -> Result<(), S::Fault>
@@ -43,7 +43,7 @@ fn put_members<S: Sink>(
 fn put_counts<S: Sink>(
     flat: &Flat,
     at: &Placed,
-    members: Members,
+    members: MemberIds,
     gatherer: &mut Gatherer<'_, S>,
     work: &mut Work,
 ) -> Result<(), S::Fault>
@@ -80,7 +80,7 @@ fn put_own<S: Sink>(
     if has_no_body(at.node.points, entry) {
         return Ok(());
     }
-    let members = Members {
+    let members = MemberIds {
         count: entry.members,
         named: entry.named,
     };
@@ -101,7 +101,7 @@ fn put_part<S: Sink>(
     ensures reads { OnOk result (Reads work.old (length (members_of flat.now at.now)) 0 work.new) }
 {
     let count = count_members(flat, at, work);
-    let members = Members {
+    let members = MemberIds {
         count,
         named: false,
     };

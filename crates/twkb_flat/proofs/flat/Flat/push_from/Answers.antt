@@ -1,6 +1,6 @@
 use Rattle.std.proofs.Common.{◌≡◌, ◌+◌, List, length, map, set, sym, ap, ◌∙◌, subst, arith}
 use Rattle.std.proofs.lemmas.List.{with_items_is, length-map}
-use Rattle.twkb_flat.specs.declared.entries.Entry.{Entry}
+use Rattle.twkb_flat.specs.declared.entries.KeptNode.{KeptNode}
 use Rattle.twkb_flat.specs.Entries.{IsFlat, listed, span_of}
 use Rattle.twkb_flat.proofs.PushLemmas.{Opens, admitted, flat_after, pushed_as, view_after}
 use Rattle.twkb_flat.proofs.flat.Flat.push_from.Goals as goal
@@ -25,7 +25,7 @@ invariant_of-self-2 g c =
     first_is (sym (c.len-next.ensures ∙ c.self.inside.entries.ok.0)) size own.1 c.in-Ok.ensures.items c.deref_mut.ensures.value c.close_all.ensures.spans c.close_all.ensures.nexts in
     let same : length c.close_all.new.entries ≡ c.push.new.self.len = sym (length-map _ _) ∙ ap length pushed.spans ∙ length-map _ _ ∙ ap length c.deref_mut.ensures.value ∙ sym c.push.new.self.ok.0 in
     let opens : Opens c.self.inside.open_rows c.open_row.new.rows c.args.row = record { now = c.open_row.ensures.opened; room = c.open_row.ensures.room } in
-    subst (λ (es : List Entry). IsFlat es c.append_to.new.points.items (set c.self.inside.spine c.args.row.depth c.len-next.result) c.open_row.new.rows (c.args.row.depth + 1))
+    subst (λ (es : List KeptNode). IsFlat es c.append_to.new.points.items (set c.self.inside.spine c.args.row.depth c.len-next.result) c.open_row.new.rows (c.args.row.depth + 1))
     (sym (with_items_is c.push.new.self c.close_all.new.entries same))
     (flat_after _ _ _ _ own.0 _ _ _ _ _ _ _ c.args.row _ c.self.invariant c.self.view_is (c.requires own.0 own.2) opens pushed)
 
@@ -38,7 +38,7 @@ returns-clause-pushed g c =
     first_is (sym (c.len-next.ensures ∙ c.self.inside.entries.ok.0)) size own.1 c.in-Ok.ensures.items c.deref_mut.ensures.value c.close_all.ensures.spans c.close_all.ensures.nexts in
     let same : length c.close_all.new.entries ≡ c.push.new.self.len = sym (length-map _ _) ∙ ap length pushed.spans ∙ length-map _ _ ∙ ap length c.deref_mut.ensures.value ∙ sym c.push.new.self.ok.0 in (
       own.0,
-      ap (λ (es : List Entry). listed (map span_of es) c.append_to.new.points.items) (with_items_is c.push.new.self c.close_all.new.entries same)
+      ap (λ (es : List KeptNode). listed (map span_of es) c.append_to.new.points.items) (with_items_is c.push.new.self c.close_all.new.entries same)
           ∙ view_after _ _ _ _ own.0 _ _ _ _ _ _ c.args.row _ c.self.invariant c.self.view_is pushed,
       own.2,
     )
