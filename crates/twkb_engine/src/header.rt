@@ -1,13 +1,14 @@
 //! From a type byte to a body.
-ghost use Rattle.std.specs.Prelude.{◌≡◌, ◌<◌, ◌/◌, ◌%◌, length, None};
+ghost use Rattle.std.specs.Prelude.{◌≡◌, ◌<◌, ◌/◌, ◌%◌, ℕ, ℤ, List, Option, length, None, true, false};
+ghost use Rattle.twkb_points.specs.Point.{Point};
 ghost use Rattle.twkb_num.specs.Zigzag.{unzigzag_of};
 ghost use Rattle.twkb_grammar.specs.Machine as machine;
 ghost use Rattle.twkb_grammar.specs.Machine.{asked, with_option, kind_at};
 ghost use Rattle.twkb_grammar.specs.Noting.{shown};
-ghost use Rattle.twkb_outline.specs.Outline.{options, begins, OnMetadata, OnBody};
-ghost use Rattle.twkb_outline.specs.Growing.{header_change, id_in};
+ghost use Rattle.twkb_outline.specs.Outline.{Group, options, begins, outline_advanced, OnMetadata, OnBody};
+ghost use Rattle.twkb_outline.specs.Growing.{header_change, change_of, id_in, Nothing};
 ghost use Rattle.twkb_engine.specs.Body.{form_of, spot_of};
-ghost use Rattle.twkb_engine.specs.State.{kind_of, head_of, step_of, groups_of, role_of_part, roles_behind, roles_from, size_roles, box_roles, own_change, IsPlaced, IsPlacedIn, IsShallow};
+ghost use Rattle.twkb_engine.specs.State.{kind_of, head_of, step_of, groups_of, role_of_part, roles_behind, roles_from, size_roles, box_roles, goes_on, own_change, IsPlaced, IsPlacedIn, IsShallow};
 
 use crate::body::Body;
 use crate::lefts::{Lefts, Spot};
@@ -220,4 +221,23 @@ pub(crate) fn after_option(
 {
     let next = next_part(Metadata::from_byte(head.metadata), part);
     go_to(alloc, kind, head_with(head, part, bytes, number), next)
+}
+
+// Goes on to a further optional part, where one follows, in the phase as it stands; answers whether it did.
+pub(crate) fn further_part(phase: &mut Phase, bytes: u64, number: u64) -> bool
+    ensures same { (result ≡ false) → phase.new ≡ phase.old }
+    ensures going { (result ≡ true) → goes_on phase.new ≡ true }
+    ensures step { (result ≡ true) → (groups : List Group) → outline_advanced bytes number (groups, step_of phase.old) ≡ (groups, step_of phase.new) }
+    ensures row { (result ≡ true) → (p : Point) (groups : List Group) → change_of p number (groups, step_of phase.old) ≡ Nothing }
+    ensures placed { (result ≡ true) → (depth : ℕ) (id : Option ℤ) → IsPlaced depth id phase.old → IsPlaced depth id phase.new }
+{
+    let Phase::Optional { head, part, .. } = phase else {
+        return false;
+    };
+    let Some(further) = next_part(Metadata::from_byte(head.metadata), *part) else {
+        return false;
+    };
+    *head = head_with(*head, *part, bytes, number);
+    *part = further;
+    true
 }
