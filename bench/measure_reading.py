@@ -4,18 +4,18 @@ import subprocess
 import sys
 
 MEGABYTE = 1_000_000
-TABLE = 40
-RUNS = 9
-WAYS = ("rows", "reader", "whole", "bytes")
+WAYS = ("rows", "reader", "whole", "bytes", "text", "unpack", "show")
+TELLING = ("rows", "reader", "whole", "bytes", "text")
 KINDS = ("points", "lines", "multipolygons", "multipoints", "collections")
 
 
 def seconds_of(program, way, source):
-    """User seconds of one run, and how many geometries it told."""
+    """User seconds of one run, and how many geometries it told, where it tells them."""
+    tells = way in TELLING
     with open(source, "rb") as reads:
         before = resource.getrusage(resource.RUSAGE_CHILDREN).ru_utime
-        told = subprocess.run([program, way], stdin=reads, stdout=subprocess.PIPE, check=True).stdout
-    return resource.getrusage(resource.RUSAGE_CHILDREN).ru_utime - before, int(told)
+        ended = subprocess.run([program, way], stdin=reads, stdout=subprocess.PIPE if tells else subprocess.DEVNULL, check=True)
+    return resource.getrusage(resource.RUSAGE_CHILDREN).ru_utime - before, int(ended.stdout) if tells else None
 
 
 def loop_of(loop, source):
@@ -24,15 +24,15 @@ def loop_of(loop, source):
     return float(seconds), int(blobs), int(points)
 
 
-def measure(program, loop, source):
+def measure(program, loop, source, rounds):
     """The best seconds of the loop and of each way, in turn, and the points."""
     best = dict.fromkeys(("loop",) + WAYS, float("inf"))
-    for _ in range(RUNS):
+    for _ in range(rounds):
         seconds, blobs, points = loop_of(loop, source)
         best["loop"] = min(best["loop"], seconds)
         for way in WAYS:
             seconds, made = seconds_of(program, way, source)
-            if made != blobs:
+            if made not in (None, blobs):
                 sys.exit(f"{way} of {source} gave {made} geometries for {blobs}")
             best[way] = min(best[way], seconds)
     return best, points
@@ -45,11 +45,11 @@ def open_sessions(program, source):
     return int(ended.stdout), int(ended.stderr.split()[-1])
 
 
-def make_stream(kind, folder):
-    """The canonical stream of a table of this kind, as the plain program packs it."""
+def make_stream(kind, folder, megabytes):
+    """The canonical stream of a table of this kind and size, as the plain program packs it."""
     built = "bench/out/plain/release"
     table, source = f"{folder}/{kind}.csv", f"{folder}/{kind}.twkb"
-    subprocess.run([f"{built}/make_table", kind, str(TABLE * MEGABYTE), table], check=True)
+    subprocess.run([f"{built}/make_table", kind, str(megabytes * MEGABYTE), table], check=True)
     with open(table, "rb") as reads, open(source, "wb") as writes:
         subprocess.run([f"{built}/plain", "pack"], stdin=reads, stdout=writes, check=True)
     return source
@@ -57,9 +57,10 @@ def make_stream(kind, folder):
 
 def main():
     program, loop, folder = sys.argv[1:4]
+    megabytes, rounds = [int(word) for word in sys.argv[4:6] + ["40", "9"][len(sys.argv) - 4 :]]
     print("| Blobs | loop | " + " | ".join(f"{way} | times" for way in WAYS) + " |")
     for kind in KINDS:
-        best, points = measure(program, loop, make_stream(kind, folder))
+        best, points = measure(program, loop, make_stream(kind, folder, megabytes), rounds)
         cells = [f"{best['loop'] / points * 1e9:.1f}"]
         cells += [f"{best[way] / points * 1e9:.1f} | {best[way] / best['loop']:.2f}" for way in WAYS]
         print(f"| {kind} | " + " | ".join(cells) + " |")

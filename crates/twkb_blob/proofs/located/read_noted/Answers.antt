@@ -21,7 +21,7 @@ loop-engine-init g c = record {
 pub read_item-requires-clause-few : goal.read_item-requires-clause-few
 read_item-requires-clause-few g c =
     let (bs, left, stands, told) = c.loop-engine.invariant.read in
-    omega (arith, counted c.reading.ensures.offset bs c.loop-engine.flat c.loop-engine.engine stands, left.counted, c.offset-given.ensures.within, c.offset-given.ensures.offset)
+    omega (arith, counted c.reading.ensures.offset bs c.loop-engine.flat c.loop-engine.engine stands, left.counted, c.offset-learnt.ensures.within, c.offset-learnt.ensures.offset)
 
 pub loop-engine-smaller : goal.loop-engine-smaller
 loop-engine-smaller g c =

@@ -14,7 +14,7 @@ loop-engine-init g c = record { read = ([], nothing_left c.args.input.now, c.req
 pub read_piece-requires : goal.read_piece-requires
 read_piece-requires g c =
     let (bs, left, stands) = c.loop-engine.invariant.read in
-    omega (arith, counted c.reading.ensures.offset bs c.loop-engine.flat c.loop-engine.engine stands, left.counted, c.offset-given.ensures.within, c.offset-given.ensures.offset)
+    omega (arith, counted c.reading.ensures.offset bs c.loop-engine.flat c.loop-engine.engine stands, left.counted, c.offset-learnt.ensures.within, c.offset-learnt.ensures.offset)
 
 pub loop-engine-smaller : goal.loop-engine-smaller
 loop-engine-smaller g c =

@@ -7,7 +7,7 @@ pub returns-clause-open : goal.returns-clause-open
 returns-clause-open c = λ bytes gs s.
     let laws : NoteLaws = record { role = c.role.ensures; note = c.noting.ensures.note; calm = c.noting.ensures.calm; count = c.noting.ensures.count } in
     rw c.open_geometries.ensures.open
-    (frames_told laws bytes gs c.args.self.now s c.held-held.ensures.begun c.is_between-between.result (c.is_between-between.ensures s.rest (begun_rows c.args.self.now) s.begun))
+    (frames_told laws bytes gs c.args.self.now s c.held-learnt.ensures.begun c.is_between-learnt.result (c.is_between-learnt.ensures s.rest (begun_rows c.args.self.now) s.begun))
 
 pub returns-clause-few : goal.returns-clause-few
 returns-clause-few c = λ bytes gs s. c.open_geometries.ensures.few s.rest (begun_rows c.args.self.now) s.begun
