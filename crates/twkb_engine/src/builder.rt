@@ -13,7 +13,7 @@ ghost use Rattle.twkb_engine.specs.State.{kind_of, many_of, groups_of, step_of, 
 ghost use Rattle.twkb_engine.specs.Stops.{objection_of, IsPast, Passes};
 
 use crate::blob_reason::BlobReason;
-use crate::header::further_part;
+use crate::header::lead_on;
 use crate::items::{announced, announces_point};
 use crate::lefts::Spot;
 use crate::members::past_end;
@@ -224,7 +224,14 @@ impl Builder {
         ensures rows { IsPlacedIn self.old.groups.items self.old.phase → OnOk result (flat.new ≡ applied (change_of self.old.position number (outline_in self.old)) flat.old) }
         ensures placed { IsPlacedIn self.old.groups.items self.old.phase → OnOk result (IsPlacedIn self.new.groups.items self.new.phase) }
     {
-        if further_part(&mut self.phase, self.bytes, number) {
+        let led = lead_on(
+            self.alloc,
+            &self.groups,
+            &mut self.phase,
+            self.bytes,
+            number,
+        );
+        if led {
             return Ok(false);
         }
         let phase = mem::replace(&mut self.phase, Phase::Header);

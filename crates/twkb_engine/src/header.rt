@@ -1,14 +1,14 @@
 //! From a type byte to a body.
-ghost use Rattle.std.specs.Prelude.{◌≡◌, ◌<◌, ◌/◌, ◌%◌, ℕ, ℤ, List, Option, length, None, true, false};
+ghost use Rattle.std.specs.Prelude.{◌≡◌, ◌<◌, ◌⊎◌, ◌/◌, ◌%◌, length, None, true, false};
 ghost use Rattle.twkb_points.specs.Point.{Point};
 ghost use Rattle.twkb_num.specs.Zigzag.{unzigzag_of};
 ghost use Rattle.twkb_grammar.specs.Machine as machine;
 ghost use Rattle.twkb_grammar.specs.Machine.{asked, with_option, kind_at};
 ghost use Rattle.twkb_grammar.specs.Noting.{shown};
-ghost use Rattle.twkb_outline.specs.Outline.{Group, options, begins, outline_advanced, OnMetadata, OnBody};
+ghost use Rattle.twkb_outline.specs.Outline.{options, begins, outline_advanced, OnMetadata, OnBody};
 ghost use Rattle.twkb_outline.specs.Growing.{header_change, change_of, id_in, Nothing};
 ghost use Rattle.twkb_engine.specs.Body.{form_of, spot_of};
-ghost use Rattle.twkb_engine.specs.State.{kind_of, head_of, step_of, groups_of, role_of_part, roles_behind, roles_from, size_roles, box_roles, goes_on, own_change, IsPlaced, IsPlacedIn, IsShallow};
+ghost use Rattle.twkb_engine.specs.State.{kind_of, head_of, step_of, groups_of, role_of_part, roles_behind, roles_from, size_roles, box_roles, goes_on, own_change, IsPlaced, IsPlacedIn, IsShallow, IsSpelled};
 
 use crate::body::Body;
 use crate::lefts::{Lefts, Spot};
@@ -223,21 +223,44 @@ pub(crate) fn after_option(
     go_to(alloc, kind, head_with(head, part, bytes, number), next)
 }
 
-// Goes on to a further optional part, where one follows, in the phase as it stands; answers whether it did.
-pub(crate) fn further_part(phase: &mut Phase, bytes: u64, number: u64) -> bool
+// Goes on within a header, or to its body or count, in the phase as it stands; answers whether it did, which it does not where the
+// geometry ends with its header. Takes no memory.
+pub(crate) fn lead_on(
+    alloc: Global,
+    groups: &Groups,
+    phase: &mut Phase,
+    bytes: u64,
+    number: u64,
+) -> bool
+    requires few { IsShallow groups.now.items }
+    requires byte { number < 256 ⊎ IsSpelled phase.old }
     ensures same { (result ≡ false) → phase.new ≡ phase.old }
     ensures going { (result ≡ true) → goes_on phase.new ≡ true }
-    ensures step { (result ≡ true) → (groups : List Group) → outline_advanced bytes number (groups, step_of phase.old) ≡ (groups, step_of phase.new) }
-    ensures row { (result ≡ true) → (p : Point) (groups : List Group) → change_of p number (groups, step_of phase.old) ≡ Nothing }
-    ensures placed { (result ≡ true) → (depth : ℕ) (id : Option ℤ) → IsPlaced depth id phase.old → IsPlaced depth id phase.new }
+    ensures step { (result ≡ true) → outline_advanced bytes number (groups_of groups.now.items, step_of phase.old) ≡ (groups_of groups.now.items, step_of phase.new) }
+    ensures row { (result ≡ true) → (p : Point) → IsPlacedIn groups.now.items phase.old → change_of p number (groups_of groups.now.items, step_of phase.old) ≡ Nothing }
+    ensures placed { (result ≡ true) → IsPlacedIn groups.now.items phase.old → IsPlacedIn groups.now.items phase.new }
 {
-    let Phase::Optional { head, part, .. } = phase else {
-        return false;
-    };
-    let Some(further) = next_part(Metadata::from_byte(head.metadata), *part) else {
-        return false;
-    };
-    *head = head_with(*head, *part, bytes, number);
-    *part = further;
+    match phase {
+        Phase::Header => *phase = after_type(number),
+        Phase::Metadata(typed) => {
+            let reached = after_metadata(alloc, groups, *typed, bytes, number);
+            if matches!(&reached, Phase::End(_, _)) {
+                return false;
+            }
+            *phase = reached;
+        }
+        Phase::Optional { kind, head, part } => {
+            let metadata = Metadata::from_byte(head.metadata);
+            if let Some(further) = next_part(metadata, *part) {
+                *head = head_with(*head, *part, bytes, number);
+                *part = further;
+            } else if metadata.is_empty() {
+                return false;
+            } else {
+                *phase = begin_body(alloc, *kind, head_with(*head, *part, bytes, number));
+            }
+        }
+        _ => return false,
+    }
     true
 }

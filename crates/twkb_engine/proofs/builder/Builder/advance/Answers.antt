@@ -14,7 +14,7 @@ returns-in_err-push_row-clause-landed c =
     let passes = subst (λ o. Passes (outline_ends b.bytes o)) there c.in_ok-ended.ensures.passes in
     subst (λ r. IsAt (outline_ends b.bytes (outline_advanced b.bytes c.args.number (outline_in b))) (sums_of b) r c.finish.new.self) (sym (stop.1 ∙ ap Err stop.2))
     (subst (λ p. Passes (outline_ends b.bytes (outline_advanced b.bytes c.args.number (groups_of b.groups.items, step_of p))))
-    (c.replace-phase.ensures.value ∙ c.further_part.ensures.same c.if-further_part.false) passes)
+    (c.replace-phase.ensures.value ∙ c.lead_on-led.ensures.same c.if-led.false) passes)
 
-pub returns-then-further_part-clause-placed : goal.returns-then-further_part-clause-placed
-returns-then-further_part-clause-placed c at = c.further_part.ensures.placed c.if-further_part.true _ _ at
+pub returns-then-led-clause-placed : goal.returns-then-led-clause-placed
+returns-then-led-clause-placed c at = c.lead_on-led.ensures.placed c.if-led.true at
