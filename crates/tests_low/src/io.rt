@@ -8,3 +8,10 @@ mod long_texts;
 mod outputs;
 mod sinks;
 mod taps;
+
+use std::io::Read;
+
+// Whether a read answers so many bytes; where none are told, it fails.
+fn reads<R: Read>(reader: &mut R, room: &mut [u8], count: Option<usize>) -> bool {
+    reader.read(room).ok() == count
+}

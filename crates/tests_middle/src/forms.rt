@@ -3,6 +3,69 @@ use std::alloc::Global;
 use twkb_geom::{Flat, Kind, Row};
 use twkb_points::Pt;
 
+/// A row by its depth, kind, id and precision, and its points.
+pub type Entry = (u32, Kind, Option<i64>, Option<i8>, &'static [(i64, i64)]);
+
+/// `0,point,,0,AC`
+pub const ONE_POINT: &[Entry] = &[(0, Kind::Point, None, Some(0), &[(2, 1)])];
+
+/// `0,polygon,,0,` / `1,ring,,,???GGF` / `1,ring,,,AA?AA@`
+pub const TWO_RINGS: &[Entry] = &[
+    (0, Kind::Polygon, None, Some(0), &[]),
+    (1, Kind::Ring, None, None, &[(0, 0), (4, 0), (0, 4)]),
+    (1, Kind::Ring, None, None, &[(1, 1), (2, 1), (1, 2)]),
+];
+
+/// `0,multipoint,,0,` / `1,point,1,,??` / `1,point,2,,AA`
+pub const TWO_POINTS: &[Entry] = &[
+    (0, Kind::MultiPoint, None, Some(0), &[]),
+    (1, Kind::Point, Some(1), None, &[(0, 0)]),
+    (1, Kind::Point, Some(2), None, &[(1, 1)]),
+];
+
+/// `0,multilinestring,,0,` / `1,linestring,,,`
+pub const EMPTY_LINE: &[Entry] = &[
+    (0, Kind::MultiLinestring, None, Some(0), &[]),
+    (1, Kind::Linestring, None, None, &[]),
+];
+
+/// `0,collection,,0,` / `1,point,7,0,AA` / `1,linestring,-1,0,`
+pub const POINT_AND_LINE: &[Entry] = &[
+    (0, Kind::Collection, None, Some(0), &[]),
+    (1, Kind::Point, Some(7), Some(0), &[(1, 1)]),
+    (1, Kind::Linestring, Some(-1), Some(0), &[]),
+];
+
+/// `0,multipolygon,,0,` / `1,polygon,3,,` / `2,ring,,,AA` / `2,ring,,,` / `1,polygon,4,,`
+pub const TWO_POLYGONS: &[Entry] = &[
+    (0, Kind::MultiPolygon, None, Some(0), &[]),
+    (1, Kind::Polygon, Some(3), None, &[]),
+    (2, Kind::Ring, None, None, &[(1, 1)]),
+    (2, Kind::Ring, None, None, &[]),
+    (1, Kind::Polygon, Some(4), None, &[]),
+];
+
+/// `0,collection,,0,` / `1,collection,,0,` / `2,point,,5,AA` / `1,point,,-8,AC`
+pub const INNER_COLLECTION: &[Entry] = &[
+    (0, Kind::Collection, None, Some(0), &[]),
+    (1, Kind::Collection, None, Some(0), &[]),
+    (2, Kind::Point, None, Some(5), &[(1, 1)]),
+    (1, Kind::Point, None, Some(-8), &[(2, 1)]),
+];
+
+/// Nine collections in one another.
+pub const NINE_COLLECTIONS: &[Entry] = &[
+    (0, Kind::Collection, None, Some(0), &[]),
+    (1, Kind::Collection, None, Some(0), &[]),
+    (2, Kind::Collection, None, Some(0), &[]),
+    (3, Kind::Collection, None, Some(0), &[]),
+    (4, Kind::Collection, None, Some(0), &[]),
+    (5, Kind::Collection, None, Some(0), &[]),
+    (6, Kind::Collection, None, Some(0), &[]),
+    (7, Kind::Collection, None, Some(0), &[]),
+    (8, Kind::Collection, None, Some(0), &[]),
+];
+
 /// A row at this depth.
 pub fn row(depth: u32, kind: Kind, id: Option<i64>, precision: Option<i8>) -> Row {
     Row {
@@ -13,24 +76,9 @@ pub fn row(depth: u32, kind: Kind, id: Option<i64>, precision: Option<i8>) -> Ro
     }
 }
 
-/// A point's row.
-pub fn point(depth: u32, id: Option<i64>, precision: Option<i8>) -> Row {
-    row(depth, Kind::Point, id, precision)
-}
-
-/// A row without id and precision: a ring, or a member of a multi kind.
-pub fn part(depth: u32, kind: Kind) -> Row {
-    row(depth, kind, None, None)
-}
-
-/// A row of precision 0 without id.
-pub fn whole(depth: u32, kind: Kind) -> Row {
-    row(depth, kind, None, Some(0))
-}
-
-/// `0,point,,0,AC`
+/// The row of `ONE_POINT`.
 pub fn point_row() -> Row {
-    point(0, None, Some(0))
+    row(0, Kind::Point, None, Some(0))
 }
 
 /// The points at these places, `None` where one is out of range, and without memory.
@@ -51,110 +99,26 @@ pub fn push_row(alloc: Global, flat: &mut Flat, row: Row, places: &[(i64, i64)])
     flat.push(row, own.as_slice()).ok()
 }
 
-/// The form of these rows, each with its points; `None` where one is refused, and without memory.
-pub fn form(alloc: Global, rows: &[(Row, &[(i64, i64)])]) -> Option<Flat> {
+/// The form of these rows; `None` where one is refused, and without memory.
+pub fn form(alloc: Global, rows: &[Entry]) -> Option<Flat> {
     let mut flat = Flat::new(alloc);
-    for (row, places) in rows {
-        push_row(alloc, &mut flat, *row, places)?;
+    for (depth, kind, id, precision, places) in rows {
+        push_row(
+            alloc,
+            &mut flat,
+            row(*depth, *kind, *id, *precision),
+            *places,
+        )?;
     }
     Some(flat)
-}
-
-/// The form of that point.
-pub fn one_point(alloc: Global) -> Option<Flat> {
-    form(alloc, &[(point_row(), &[(2, 1)])])
-}
-
-/// `0,polygon,,0,` / `1,ring,,,???GGF` / `1,ring,,,AA?AA@`
-pub fn two_rings(alloc: Global) -> Option<Flat> {
-    let rows: [(Row, &[(i64, i64)]); 3] = [
-        (whole(0, Kind::Polygon), &[]),
-        (part(1, Kind::Ring), &[(0, 0), (4, 0), (0, 4)]),
-        (part(1, Kind::Ring), &[(1, 1), (2, 1), (1, 2)]),
-    ];
-    form(alloc, &rows)
-}
-
-/// `0,multipoint,,0,` / `1,point,1,,??` / `1,point,2,,AA`
-pub fn two_points(alloc: Global) -> Option<Flat> {
-    let rows: [(Row, &[(i64, i64)]); 3] = [
-        (whole(0, Kind::MultiPoint), &[]),
-        (point(1, Some(1), None), &[(0, 0)]),
-        (point(1, Some(2), None), &[(1, 1)]),
-    ];
-    form(alloc, &rows)
-}
-
-/// The first two of these rows.
-pub fn first_of_two_points(alloc: Global) -> Option<Flat> {
-    let rows: [(Row, &[(i64, i64)]); 2] = [
-        (whole(0, Kind::MultiPoint), &[]),
-        (point(1, Some(1), None), &[(0, 0)]),
-    ];
-    form(alloc, &rows)
-}
-
-/// `0,multilinestring,,0,` / `1,linestring,,,`
-pub fn empty_line(alloc: Global) -> Option<Flat> {
-    let rows: [(Row, &[(i64, i64)]); 2] = [
-        (whole(0, Kind::MultiLinestring), &[]),
-        (part(1, Kind::Linestring), &[]),
-    ];
-    form(alloc, &rows)
-}
-
-/// `0,collection,,0,` / `1,point,7,0,AA` / `1,linestring,-1,0,`
-pub fn point_and_line(alloc: Global) -> Option<Flat> {
-    let rows: [(Row, &[(i64, i64)]); 3] = [
-        (whole(0, Kind::Collection), &[]),
-        (point(1, Some(7), Some(0)), &[(1, 1)]),
-        (row(1, Kind::Linestring, Some(-1), Some(0)), &[]),
-    ];
-    form(alloc, &rows)
-}
-
-/// `0,multipolygon,,0,` / `1,polygon,3,,` / `2,ring,,,AA` / `2,ring,,,` / `1,polygon,4,,`
-pub fn two_polygons(alloc: Global) -> Option<Flat> {
-    let rows: [(Row, &[(i64, i64)]); 5] = [
-        (whole(0, Kind::MultiPolygon), &[]),
-        (row(1, Kind::Polygon, Some(3), None), &[]),
-        (part(2, Kind::Ring), &[(1, 1)]),
-        (part(2, Kind::Ring), &[]),
-        (row(1, Kind::Polygon, Some(4), None), &[]),
-    ];
-    form(alloc, &rows)
-}
-
-/// `0,collection,,0,` / `1,collection,,0,` / `2,point,,5,AA` / `1,point,,-8,AC`
-pub fn inner_collection(alloc: Global) -> Option<Flat> {
-    let rows: [(Row, &[(i64, i64)]); 4] = [
-        (whole(0, Kind::Collection), &[]),
-        (whole(1, Kind::Collection), &[]),
-        (point(2, None, Some(5)), &[(1, 1)]),
-        (point(1, None, Some(-8)), &[(2, 1)]),
-    ];
-    form(alloc, &rows)
 }
 
 /// So many collections in one another.
 pub fn nested_collections(alloc: Global, count: u32) -> Option<Flat> {
     let mut flat = Flat::new(alloc);
     for depth in 0..count {
-        push_row(alloc, &mut flat, whole(depth, Kind::Collection), &[])?;
-    }
-    Some(flat)
-}
-
-/// 33 collections in one another, and in the last but one a multipolygon of one ring.
-pub fn nested_polygon(alloc: Global) -> Option<Flat> {
-    let mut flat = nested_collections(alloc, 33)?;
-    let rows: [(Row, &[(i64, i64)]); 3] = [
-        (whole(32, Kind::MultiPolygon), &[]),
-        (part(33, Kind::Polygon), &[]),
-        (part(34, Kind::Ring), &[(1, 1)]),
-    ];
-    for (row, places) in rows {
-        push_row(alloc, &mut flat, row, places)?;
+        let collection = row(depth, Kind::Collection, None, Some(0));
+        push_row(alloc, &mut flat, collection, &[])?;
     }
     Some(flat)
 }

@@ -5,9 +5,7 @@ mod endings;
 mod help;
 mod memory;
 mod nesting;
-mod packing;
-mod showing;
-mod unpacking;
+mod runs;
 mod usage;
 mod words;
 

@@ -20,7 +20,6 @@ mod work;
 
 use std::alloc::Global;
 use std::io::{Read, Write};
-use std::process::Abort;
 use twkb_convert::{Cause, ConvertFault, Report, Style, pack, pack_styled, unpack};
 use twkb_geom::Limits;
 use twkb_io::{Fuse, FuseEnd, Tap};
@@ -127,14 +126,4 @@ fn are_blobs_of_rows(
     };
     let limits = Limits::standard();
     are_blobs_of(alloc, style, limits, table.as_bytes(), geometries, blobs)
-}
-
-// How many geometries, the rows of their table behind its header, and their blobs.
-type Worked = (u64, &'static str, &'static [u8]);
-
-fn assert_blobs_of_rows(rt: &impl Abort, alloc: Global, style: Style, worked: &[Worked]) {
-    for (geometries, rows, blobs) in worked {
-        let are_blobs = are_blobs_of_rows(alloc, style, *rows, *geometries, *blobs);
-        assert!(rt; are_blobs, "{rows}");
-    }
 }

@@ -1,64 +1,52 @@
-//! Rows, points, boxes, precisions and copies of worked tables.
+//! Rows, points, boxes, precisions and copies of worked tables. A geometry is handed to the helper that looks at it, and dropped there.
 use super::fixtures::{
     around, dot, empty_line, no_point, point_and_line, two_points, two_polygons, two_rings,
 };
 use std::alloc::Global;
-use std::process::Abort;
 use twkb_tree::Geometry;
-
-// Asserts that it is there, with so many rows and points.
-fn assert_counts(rt: &impl Abort, geometry: &Option<Geometry>, nodes: u64, points: u64) {
-    let Some(geometry) = geometry else {
-        panic!(rt; "no geometry");
-    };
-    let came = (geometry.nodes(), geometry.points());
-    assert!(rt; came == (nodes, points), "{came:?}");
-}
-
-#[test]
-fn rows_and_points(rt: HostRuntime) {
-    let alloc = rt.alloc();
-    assert_counts(&rt, &dot(0, 2, 1), 1, 1);
-    assert_counts(&rt, &no_point(), 1, 0);
-    assert_counts(&rt, &two_rings(alloc), 3, 6);
-    assert_counts(&rt, &two_points(alloc), 3, 2);
-    assert_counts(&rt, &empty_line(alloc), 2, 0);
-    assert_counts(&rt, &point_and_line(alloc), 3, 1);
-    assert_counts(&rt, &two_polygons(alloc), 5, 1);
-}
 
 // The numbers of its box, if it has one.
 fn box_of(geometry: &Geometry) -> Option<[i64; 4]> {
     Some(geometry.bounds()?.items())
 }
 
-// Asserts that it is there, and these numbers are its box, or that it has none.
-fn assert_box(rt: &impl Abort, geometry: &Option<Geometry>, numbers: Option<[i64; 4]>) {
-    let Some(geometry) = geometry else {
-        panic!(rt; "no geometry");
-    };
-    let came = box_of(geometry);
-    assert!(rt; came == numbers, "{came:?}");
+// Whether it is there, with so many rows and points, and these numbers are its box, or it has none.
+fn counts(geometry: Option<Geometry>, nodes: u64, points: u64, numbers: Option<[i64; 4]>) -> bool {
+    match geometry {
+        Some(geometry) => {
+            geometry.nodes() == nodes && geometry.points() == points && box_of(&geometry) == numbers
+        }
+        None => false,
+    }
 }
 
 #[test]
-fn boxes(rt: HostRuntime) {
+fn rows_points_and_boxes(rt: HostRuntime) {
     let alloc = rt.alloc();
-    assert_box(&rt, &dot(0, 2, 1), Some([2, 0, 1, 0]));
-    assert_box(&rt, &two_rings(alloc), Some([0, 4, 0, 4]));
-    assert_box(&rt, &two_points(alloc), Some([0, 1, 0, 1]));
-    assert_box(&rt, &point_and_line(alloc), Some([1, 0, 1, 0]));
-    assert_box(&rt, &two_polygons(alloc), Some([1, 0, 1, 0]));
-    assert_box(&rt, &no_point(), None);
-    assert_box(&rt, &empty_line(alloc), None);
+    assert!(rt; counts(dot(0, 2, 1), 1, 1, Some([2, 0, 1, 0])), "a point");
+    assert!(rt; counts(no_point(), 1, 0, None), "no point");
+    assert!(rt; counts(two_rings(alloc), 3, 6, Some([0, 4, 0, 4])), "rings");
+    assert!(rt;
+        counts(two_points(alloc), 3, 2, Some([0, 1, 0, 1])),
+        "points"
+    );
+    assert!(rt; counts(empty_line(alloc), 2, 0, None), "an empty line");
+    assert!(rt;
+        counts(point_and_line(alloc), 3, 1, Some([1, 0, 1, 0])),
+        "members"
+    );
+    assert!(rt;
+        counts(two_polygons(alloc), 5, 1, Some([1, 0, 1, 0])),
+        "polygons"
+    );
 }
 
-// Asserts that it is there, and whether each member of it has its precision.
-fn assert_uniform(rt: &impl Abort, geometry: &Option<Geometry>, answer: bool) {
-    let Some(geometry) = geometry else {
-        panic!(rt; "no geometry");
-    };
-    assert!(rt; geometry.uniform() == answer);
+// Whether it is there, and each member of it has its precision, or not each.
+fn is_uniform(geometry: Option<Geometry>, answer: bool) -> bool {
+    match geometry {
+        Some(geometry) => geometry.uniform() == answer,
+        None => false,
+    }
 }
 
 // A collection of precision 0 round a point of precision 5.
@@ -69,49 +57,46 @@ fn two_precisions(alloc: Global) -> Option<Geometry> {
 #[test]
 fn members_of_one_precision(rt: HostRuntime) {
     let alloc = rt.alloc();
-    assert_uniform(&rt, &two_polygons(alloc), true);
-    assert_uniform(&rt, &point_and_line(alloc), true);
-    assert_uniform(&rt, &two_precisions(alloc), false);
-    assert_uniform(&rt, &around(alloc, two_precisions(alloc)), false);
-}
-
-// Whether a copy equals its source.
-fn copies(alloc: Global, geometry: &Geometry) -> bool {
-    match geometry.copy(alloc) {
-        Ok(copy) => copy == *geometry,
-        Err(_) => false,
-    }
-}
-
-// Asserts that it is there, and a copy equals it.
-fn assert_copies(rt: &impl Abort, alloc: Global, geometry: &Option<Geometry>) {
-    let Some(geometry) = geometry else {
-        panic!(rt; "no geometry");
-    };
-    assert!(rt; copies(alloc, geometry));
-}
-
-#[test]
-fn a_copy_equals_its_source(rt: HostRuntime) {
-    assert_copies(&rt, rt.alloc(), &point_and_line(rt.alloc()));
-    assert_copies(&rt, rt.alloc(), &two_polygons(rt.alloc()));
+    assert!(rt; is_uniform(two_polygons(alloc), true), "polygons");
+    assert!(rt; is_uniform(point_and_line(alloc), true), "members");
+    assert!(rt;
+        is_uniform(two_precisions(alloc), false),
+        "a member of another"
+    );
+    assert!(rt;
+        is_uniform(around(alloc, two_precisions(alloc)), false),
+        "a level below"
+    );
 }
 
 // Whether a copy equals its source, or memory is refused on the way.
-fn copies_or_refuses(alloc: Global, geometry: &Option<Geometry>) -> bool {
+fn copies_or_refuses(alloc: Global, geometry: Option<Geometry>) -> bool {
     let Some(geometry) = geometry else {
         return true;
     };
     match geometry.copy(alloc) {
-        Ok(copy) => copy == *geometry,
+        Ok(copy) => copy == geometry,
         Err(_) => true,
     }
 }
 
-// Run with each allocation refused in turn (`rt try --test --fail-alloc N`).
+// Run with each allocation refused in turn (`rt try --test --fail-alloc N`) too.
 #[test]
-fn each_growth_of_a_copy_may_be_refused(rt: HostRuntime) {
+fn a_copy_equals_its_source(rt: HostRuntime) {
     let alloc = rt.alloc();
-    assert!(rt; copies_or_refuses(alloc, &point_and_line(alloc)));
-    assert!(rt; copies_or_refuses(alloc, &two_polygons(alloc)));
+    assert!(rt; copies_or_refuses(alloc, point_and_line(alloc)), "members");
+    assert!(rt; copies_or_refuses(alloc, two_polygons(alloc)), "polygons");
+}
+
+// Whether a point is there, and a copy of it is.
+fn is_copied(alloc: Global, point: Option<Geometry>) -> bool {
+    match point {
+        Some(point) => point.copy(alloc).is_ok(),
+        None => false,
+    }
+}
+
+#[test]
+fn a_copy_is_made(rt: HostRuntime) {
+    assert!(rt; is_copied(rt.alloc(), dot(0, 2, 1)));
 }

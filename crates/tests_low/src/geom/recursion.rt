@@ -3,7 +3,6 @@ ghost use Rattle.std.specs.Prelude.{◌≡◌};
 ghost use Rattle.twkb_tree.specs.Tree.{saturated, trees, nest, nest_all};
 
 use super::fixtures::{nested, nested_with_point, point_and_line};
-use std::process::Abort;
 use twkb_tree::{Geometry, Members, Shape};
 
 #[cycle(levels)]
@@ -28,20 +27,21 @@ fn levels_of(members: &Members) -> u64
     deepest
 }
 
-// Asserts that it is there, with so many levels.
-fn assert_levels(rt: &impl Abort, geometry: &Option<Geometry>, count: u64) {
-    let Some(geometry) = geometry else {
-        panic!(rt; "no geometry");
-    };
-    let came = levels(geometry);
-    assert!(rt; came == count, "{came}");
+// Whether it is there, with so many levels.
+fn has_levels(geometry: Option<Geometry>, count: u64) -> bool {
+    match geometry {
+        Some(geometry) => levels(&geometry) == count,
+        None => false,
+    }
 }
 
 #[test]
 fn levels_round_a_member(rt: HostRuntime) {
     let alloc = rt.alloc();
-    assert_levels(&rt, &nested(alloc, 1), 0);
-    assert_levels(&rt, &nested(alloc, 9), 8);
-    assert_levels(&rt, &nested_with_point(alloc, 9), 9);
-    assert_levels(&rt, &point_and_line(alloc), 1);
+    assert!(rt; has_levels(nested(alloc, 1), 0) && has_levels(nested(alloc, 9), 8));
+    assert!(rt;
+        has_levels(nested_with_point(alloc, 9), 9),
+        "a point in nine"
+    );
+    assert!(rt; has_levels(point_and_line(alloc), 1), "members");
 }

@@ -1,7 +1,6 @@
 //! What a row may be where it stands: the parents and children of tables, their ids and points; and a geometry's own row.
 use super::fixtures::{dot, ids, no_point, two_point_line, two_points};
 use crate::points::fixtures::are_at;
-use std::process::Abort;
 use twkb_tree::row_rules::{
     count_fits, has_place, has_points, has_same_ids, id_allowed, is_whole, may_have, nest_kept,
 };
@@ -29,48 +28,36 @@ fn after_child(has_id: bool) -> Option<OpenRow> {
     })
 }
 
-fn all_are_judged(rt: &impl Abort, pairs: &[(Kind, Kind)], answer: bool) {
-    for (parent, child) in pairs {
-        assert!(rt;
-            may_have(*parent, *child) == answer,
-            "{child:?} of {parent:?}"
-        );
-    }
-}
-
-const CHILDREN: [(Kind, Kind); 11] = [
-    (Kind::Polygon, Kind::Ring),
-    (Kind::MultiPoint, Kind::Point),
-    (Kind::MultiLinestring, Kind::Linestring),
-    (Kind::MultiPolygon, Kind::Polygon),
-    (Kind::Collection, Kind::Point),
-    (Kind::Collection, Kind::Linestring),
-    (Kind::Collection, Kind::Polygon),
-    (Kind::Collection, Kind::MultiPoint),
-    (Kind::Collection, Kind::MultiLinestring),
-    (Kind::Collection, Kind::MultiPolygon),
-    (Kind::Collection, Kind::Collection),
+const CHILDREN: [(Kind, Kind, bool); 19] = [
+    (Kind::Polygon, Kind::Ring, true),
+    (Kind::MultiPoint, Kind::Point, true),
+    (Kind::MultiLinestring, Kind::Linestring, true),
+    (Kind::MultiPolygon, Kind::Polygon, true),
+    (Kind::Collection, Kind::Point, true),
+    (Kind::Collection, Kind::Linestring, true),
+    (Kind::Collection, Kind::Polygon, true),
+    (Kind::Collection, Kind::MultiPoint, true),
+    (Kind::Collection, Kind::MultiLinestring, true),
+    (Kind::Collection, Kind::MultiPolygon, true),
+    (Kind::Collection, Kind::Collection, true),
+    (Kind::Point, Kind::Point, false),
+    (Kind::Linestring, Kind::Point, false),
+    (Kind::Ring, Kind::Point, false),
+    (Kind::Polygon, Kind::Linestring, false),
+    (Kind::MultiPoint, Kind::Linestring, false),
+    (Kind::MultiLinestring, Kind::Point, false),
+    (Kind::MultiPolygon, Kind::Ring, false),
+    (Kind::Collection, Kind::Ring, false),
 ];
 
 #[test]
 fn children_that_parents_may_have(rt: HostRuntime) {
-    all_are_judged(&rt, &CHILDREN, true);
-}
-
-const STRANGERS: [(Kind, Kind); 8] = [
-    (Kind::Point, Kind::Point),
-    (Kind::Linestring, Kind::Point),
-    (Kind::Ring, Kind::Point),
-    (Kind::Polygon, Kind::Linestring),
-    (Kind::MultiPoint, Kind::Linestring),
-    (Kind::MultiLinestring, Kind::Point),
-    (Kind::MultiPolygon, Kind::Ring),
-    (Kind::Collection, Kind::Ring),
-];
-
-#[test]
-fn children_that_parents_may_not_have(rt: HostRuntime) {
-    all_are_judged(&rt, &STRANGERS, false);
+    for (parent, child, answer) in &CHILDREN {
+        assert!(rt;
+            may_have(*parent, *child) == *answer,
+            "{child:?} of {parent:?}"
+        );
+    }
 }
 
 #[test]
@@ -159,27 +146,32 @@ fn a_row_stands_under_the_last_row_above_its_depth(rt: HostRuntime) {
     assert!(rt; Standing::at(1, &[], 0, 0).is_none() && Standing::at(0, &[], 0, 0).is_some());
 }
 
-// Asserts that the geometry is there, and its own row is of this kind, with points at these places.
-fn assert_own_row(rt: &impl Abort, geometry: &Option<Geometry>, kind: Kind, places: &[(i64, i64)]) {
+// Whether the geometry is there, and its own row is of this kind, with points at these places.
+fn has_own_row(geometry: Option<Geometry>, kind: Kind, places: &[(i64, i64)]) -> bool {
     let Some(geometry) = geometry else {
-        panic!(rt; "no geometry");
+        return false;
     };
     let (own, held) = own_parts(geometry.shape());
-    assert!(rt; own == kind && are_at(held, places), "{own:?}");
+    own == kind && are_at(held, places)
 }
 
 #[test]
 fn own_rows_of_geometries(rt: HostRuntime) {
     let alloc = rt.alloc();
-    assert_own_row(&rt, &dot(0, 1, 1), Kind::Point, &[(1, 1)]);
-    assert_own_row(&rt, &no_point(), Kind::Point, &[]);
-    assert_own_row(
-        &rt,
-        &two_point_line(alloc),
-        Kind::Linestring,
-        &[(1, 1), (5, 5)],
+    assert!(rt;
+        has_own_row(dot(0, 1, 1), Kind::Point, &[(1, 1)]),
+        "a point"
     );
-    assert_own_row(&rt, &two_points(alloc), Kind::MultiPoint, &[]);
+    assert!(rt; has_own_row(no_point(), Kind::Point, &[]), "no point");
+    let places = [(1, 1), (5, 5)];
+    assert!(rt;
+        has_own_row(two_point_line(alloc), Kind::Linestring, &places),
+        "a line"
+    );
+    assert!(rt;
+        has_own_row(two_points(alloc), Kind::MultiPoint, &[]),
+        "members"
+    );
 }
 
 // The id at a place of a list that is there.

@@ -2,69 +2,52 @@
 ghost use Rattle.std.specs.Prelude.{◌<◌};
 
 use super::devices::Asked;
+use super::reads;
 use std::alloc::Global;
 use std::io::{Read, Write};
-use std::process::Abort;
 use twkb_io::{Fuse, FuseEnd, Tap};
 
-// Asserts that a read answers so many bytes.
-fn assert_reads<R: Read>(rt: &impl Abort, reader: &mut R, room: &mut [u8], count: usize) {
-    let came = reader.read(room).ok();
-    assert!(rt; came == Some(count), "{came:?}");
+// Whether a write answers that so many bytes were taken.
+fn writes<W: Write>(writer: &mut W, bytes: &[u8], count: usize) -> bool {
+    writer.write(bytes).ok() == Some(count)
 }
 
-// Asserts that a write answers that so many bytes were taken.
-fn assert_writes<W: Write>(rt: &impl Abort, writer: &mut W, bytes: &[u8], count: usize) {
-    let came = writer.write(bytes).ok();
-    assert!(rt; came == Some(count), "{came:?}");
-}
-
-fn assert_read_fails<R: Read>(rt: &impl Abort, reader: &mut R, room: &mut [u8]) {
-    assert!(rt; reader.read(room).is_err());
-}
-
-fn assert_failures<D>(rt: &impl Abort, tap: &Tap<D>, failures: u64) {
-    let came = tap.failures();
-    assert!(rt; came == failures, "{came}");
-}
-
-// Asserts that a reader gives two bytes and fails twice, and its tap counts both failures.
-fn assert_failed_reads<R: Read>(rt: &impl Abort, tap: &mut Tap<R>) {
+// Whether a reader gives two bytes and fails twice, and its tap counts both failures.
+fn counts_failed_reads<R: Read>(tap: &mut Tap<R>) -> bool {
     let mut bytes = [0; 4];
-    assert_reads(rt, tap, &mut bytes, 2);
-    assert!(rt; bytes.as_slice() == [7, 8, 0, 0].as_slice());
-    assert_failures(rt, tap, 0);
-    assert_read_fails(rt, tap, &mut bytes);
-    assert_read_fails(rt, tap, &mut bytes);
-    assert_failures(rt, tap, 2);
+    reads(tap, &mut bytes, Some(2))
+        && bytes.as_slice() == [7, 8, 0, 0].as_slice()
+        && tap.failures() == 0
+        && reads(tap, &mut bytes, None)
+        && reads(tap, &mut bytes, None)
+        && tap.failures() == 2
 }
 
 #[test]
 fn a_tap_counts_the_reads_that_failed(rt: HostRuntime) {
     let mut tap = Tap::new(Fuse::new([7, 8, 9].as_slice(), 2, 2, FuseEnd::Fail, false));
-    assert_failed_reads(&rt, &mut tap);
-    assert!(rt; tap.into_inner().into_inner() == [9].as_slice());
+    let are_counted = counts_failed_reads(&mut tap);
+    assert!(rt; are_counted && tap.into_inner().into_inner() == [9].as_slice());
 }
 
-// Asserts that a reader of one byte gives it and its end, with room and without, and has no failure.
-fn assert_reads_to_the_end<R: Read>(rt: &impl Abort, tap: &mut Tap<R>) {
+// Whether a reader of one byte gives it and its end, with room and without, and has no failure.
+fn reads_to_the_end<R: Read>(tap: &mut Tap<R>) -> bool {
     let mut bytes = [0; 4];
-    assert_reads(rt, tap, &mut bytes, 1);
-    assert_reads(rt, tap, &mut bytes, 0);
-    assert_reads(rt, tap, &mut [], 0);
-    assert_failures(rt, tap, 0);
+    reads(tap, &mut bytes, Some(1))
+        && reads(tap, &mut bytes, Some(0))
+        && reads(tap, &mut [], Some(0))
+        && tap.failures() == 0
 }
 
 #[test]
 fn a_read_at_the_end_is_no_failure(rt: HostRuntime) {
     let mut tap = Tap::new(Fuse::new([7].as_slice(), 9, 4, FuseEnd::Fail, false));
-    assert_reads_to_the_end(&rt, &mut tap);
+    assert!(rt; reads_to_the_end(&mut tap));
 }
 
-// Asserts that writes of two bytes and of a third go through.
-fn assert_takes_three<W: Write>(rt: &impl Abort, writer: &mut W) {
-    assert_writes(rt, writer, &[1, 2, 3, 4], 2);
-    assert_writes(rt, writer, &[3, 4], 1);
+// Whether writes of two bytes and of a third go through.
+fn takes_three<W: Write>(writer: &mut W) -> bool {
+    writes(writer, &[1, 2, 3, 4], 2) && writes(writer, &[3, 4], 1)
 }
 
 // Writes a byte and nothing, and flushes.
@@ -74,109 +57,112 @@ fn ask_on<W: Write>(writer: &mut W) {
     let _flushed = writer.flush();
 }
 
-// Asserts that the tap counts so many failures after three bytes that pass, and those are kept.
-fn assert_counts(rt: &impl Abort, alloc: Global, end: FuseEnd, flush_fails: bool, failures: u64) {
+// Whether the tap counts so many failures after three bytes that pass, and those are kept.
+fn counts(alloc: Global, end: FuseEnd, flush_fails: bool, failures: u64) -> bool {
     let mut tap = Tap::new(Fuse::new(Vec::new(alloc), 3, 2, end, flush_fails));
-    assert_takes_three(rt, &mut tap);
+    let are_taken = takes_three(&mut tap);
     ask_on(&mut tap);
-    assert_failures(rt, &tap, failures);
+    let are_counted = are_taken && tap.failures() == failures;
     let kept = tap.into_inner().into_inner();
-    assert!(rt; kept.as_slice() == [1, 2, 3].as_slice());
+    are_counted && kept.as_slice() == [1, 2, 3].as_slice()
 }
 
 #[test]
 fn a_tap_counts_the_writes_and_flushes_that_failed(rt: HostRuntime) {
-    assert_counts(&rt, rt.alloc(), FuseEnd::Fail, false, 2);
-    assert_counts(&rt, rt.alloc(), FuseEnd::Zero, false, 1);
-    assert_counts(&rt, rt.alloc(), FuseEnd::Fail, true, 3);
-    assert_counts(&rt, rt.alloc(), FuseEnd::Zero, true, 2);
+    let rows = [
+        (FuseEnd::Fail, false, 2),
+        (FuseEnd::Zero, false, 1),
+        (FuseEnd::Fail, true, 3),
+        (FuseEnd::Zero, true, 2),
+    ];
+    for (end, flush_fails, failures) in rows {
+        assert!(rt;
+            counts(rt.alloc(), end, flush_fails, failures),
+            "{failures} failures"
+        );
+    }
+}
+
+// Whether a write that takes nothing is a failure where it had bytes.
+fn counts_stuck_writes<W: Write>(tap: &mut Tap<W>) -> bool {
+    writes(tap, &[], 0) && tap.failures() == 0 && writes(tap, &[1], 0) && tap.failures() == 1
 }
 
 #[test]
 fn an_empty_write_that_took_nothing_is_no_failure(rt: HostRuntime) {
     let mut tap = Tap::new(Fuse::new(Vec::new(rt.alloc()), 0, 1, FuseEnd::Zero, false));
-    assert_writes(&rt, &mut tap, &[], 0);
-    assert_failures(&rt, &tap, 0);
-    assert_writes(&rt, &mut tap, &[1], 0);
-    assert_failures(&rt, &tap, 1);
+    assert!(rt; counts_stuck_writes(&mut tap));
 }
 
-// Asserts that two reads of a fuse answer these counts.
-fn assert_passes_reads(rt: &impl Abort, bytes: u64, step: usize, first: usize, second: usize)
+// Whether two reads of a fuse answer these counts, and a write of three bytes the first.
+fn passes(alloc: Global, bytes: u64, step: usize, first: usize, second: usize) -> bool
     requires { 0 < step }
 {
     let text = [1, 2, 3, 4, 5, 6];
     let mut reader = Fuse::new(text.as_slice(), bytes, step, FuseEnd::Zero, false);
-    let mut room = [0; 6];
-    assert_reads(rt, &mut reader, &mut room, first);
-    assert_reads(rt, &mut reader, &mut room, second);
-}
-
-// Asserts that a write of three bytes answers this count.
-fn assert_passes_write(rt: &impl Abort, alloc: Global, bytes: u64, step: usize, count: usize)
-    requires { 0 < step }
-{
     let mut writer = Fuse::new(Vec::new(alloc), bytes, step, FuseEnd::Zero, false);
-    assert_writes(rt, &mut writer, &[1, 2, 3], count);
+    let mut room = [0; 6];
+    reads(&mut reader, &mut room, Some(first))
+        && reads(&mut reader, &mut room, Some(second))
+        && writes(&mut writer, &[1, 2, 3], first)
 }
 
 #[test]
-fn a_fuse_passes_reads_a_step_at_a_time(rt: HostRuntime) {
-    assert_passes_reads(&rt, 5, 1, 1, 1);
-    assert_passes_reads(&rt, 5, 2, 2, 2);
-    assert_passes_reads(&rt, 3, 2, 2, 1);
-    assert_passes_reads(&rt, 1, 4, 1, 0);
-    assert_passes_reads(&rt, 0, 4, 0, 0);
+fn a_fuse_passes_a_step_at_a_time(rt: HostRuntime) {
+    let alloc = rt.alloc();
+    assert!(rt; passes(alloc, 5, 1, 1, 1) && passes(alloc, 5, 2, 2, 2));
+    assert!(rt; passes(alloc, 3, 2, 2, 1) && passes(alloc, 1, 4, 1, 0));
+    assert!(rt; passes(alloc, 0, 4, 0, 0));
 }
 
-#[test]
-fn a_fuse_passes_writes_a_step_at_a_time(rt: HostRuntime) {
-    assert_passes_write(&rt, rt.alloc(), 5, 1, 1);
-    assert_passes_write(&rt, rt.alloc(), 5, 2, 2);
-    assert_passes_write(&rt, rt.alloc(), 3, 2, 2);
-    assert_passes_write(&rt, rt.alloc(), 1, 4, 1);
-    assert_passes_write(&rt, rt.alloc(), 0, 4, 0);
-}
-
-fn assert_unflushed<W: Write>(rt: &impl Abort, tap: &Tap<W>, has_unflushed: bool) {
-    assert!(rt; tap.has_unflushed() == has_unflushed);
+// Whether bytes are unflushed behind a write that took some, until a flush.
+fn tells_unflushed<W: Write>(tap: &mut Tap<W>) -> bool {
+    writes(tap, &[], 0)
+        && !tap.has_unflushed()
+        && writes(tap, &[1, 2], 2)
+        && tap.has_unflushed()
+        && tap.flush().is_ok()
+        && !tap.has_unflushed()
 }
 
 #[test]
 fn a_tap_tells_what_is_unflushed(rt: HostRuntime) {
     let mut tap = Tap::new(Vec::new(rt.alloc()));
-    assert_writes(&rt, &mut tap, &[], 0);
-    assert_unflushed(&rt, &tap, false);
-    assert_writes(&rt, &mut tap, &[1, 2], 2);
-    assert_unflushed(&rt, &tap, true);
-    assert!(rt; tap.flush().is_ok());
-    assert_unflushed(&rt, &tap, false);
+    assert!(rt; tells_unflushed(&mut tap));
+}
+
+// Whether they still are behind a flush that fails.
+fn stays_unflushed<W: Write>(tap: &mut Tap<W>) -> bool {
+    writes(tap, &[1, 2], 2) && tap.flush().is_err() && tap.has_unflushed()
 }
 
 #[test]
 fn a_failed_flush_leaves_all_unflushed(rt: HostRuntime) {
     let mut tap = Tap::new(Fuse::new(Vec::new(rt.alloc()), 9, 9, FuseEnd::Fail, true));
-    assert_writes(&rt, &mut tap, &[1, 2], 2);
-    assert!(rt; tap.flush().is_err());
-    assert_unflushed(&rt, &tap, true);
+    assert!(rt; stays_unflushed(&mut tap));
 }
 
-// Asserts that the tap has passed so many calls on, each of which reached its device.
-fn assert_passed<D: Drop>(rt: &impl Abort, tap: Tap<Asked<D>>, calls: u64) {
-    let came = (tap.calls(), tap.into_inner().calls());
-    assert!(rt; came == (calls, calls), "{came:?}");
+// Whether the tap has passed so many calls on, each of which reached its device.
+fn has_passed<D: Drop>(tap: Tap<Asked<D>>, calls: u64) -> bool {
+    tap.calls() == calls && tap.into_inner().calls() == calls
 }
 
 #[test]
-fn each_call_of_a_tap_reaches_its_device_once(rt: HostRuntime) {
+fn each_read_of_a_tap_reaches_its_device_once(rt: HostRuntime) {
     let mut reader = Tap::new(Asked::new([7].as_slice()));
     let mut room = [0; 4];
-    assert_reads(&rt, &mut reader, &mut room, 1);
-    assert_reads(&rt, &mut reader, &mut room, 0);
-    assert_passed(&rt, reader, 2);
+    let are_read = reads(&mut reader, &mut room, Some(1)) && reads(&mut reader, &mut room, Some(0));
+    assert!(rt; has_passed(reader, 2) && are_read);
+}
+
+// Whether a write and two flushes go through.
+fn writes_and_flushes<W: Write>(writer: &mut W) -> bool {
+    writes(writer, &[1, 2], 2) && writer.flush().is_ok() && writer.flush().is_ok()
+}
+
+#[test]
+fn each_write_and_flush_of_a_tap_reaches_its_device_once(rt: HostRuntime) {
     let mut writer = Tap::new(Asked::new(Vec::new(rt.alloc())));
-    assert_writes(&rt, &mut writer, &[1, 2], 2);
-    assert!(rt; writer.flush().is_ok());
-    assert!(rt; writer.flush().is_ok());
-    assert_passed(&rt, writer, 3);
+    let are_written = writes_and_flushes(&mut writer);
+    assert!(rt; has_passed(writer, 3) && are_written);
 }

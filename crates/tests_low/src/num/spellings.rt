@@ -1,6 +1,5 @@
 //! Numbers and their shortest spellings, both ways.
 use super::{done, gives_answer};
-use std::process::Abort;
 use twkb_num::{Five, Leb128, NumBuf, varint_len};
 
 // Whether these bytes are the varint of a number, both ways, and their count its length.
@@ -16,40 +15,14 @@ fn is_polyline_number(number: u64, characters: &[u8]) -> bool {
     is_written && gives_answer::<Five>(characters, characters.len(), done(number))
 }
 
-// A number, and its spelling.
-type Spelled = (u64, &'static [u8]);
-
-fn all_are_varints(rt: &impl Abort, rows: &[Spelled]) {
-    for (number, bytes) in rows {
-        assert!(rt; is_varint(*number, *bytes), "bytes of {number}");
-    }
-}
-
-fn all_are_polyline_numbers(rt: &impl Abort, rows: &[Spelled]) {
-    for (number, characters) in rows {
-        assert!(rt;
-            is_polyline_number(*number, *characters),
-            "characters of {number}"
-        );
-    }
-}
-
-// 150 and 300: Protocol Buffers, "Base 128 Varints". 624485: Wikipedia, "LEB128". The rest by the rule.
-const PUBLISHED_VARINTS: [Spelled; 5] = [
+// 150 and 300: Protocol Buffers, "Base 128 Varints". 624485: Wikipedia, "LEB128". The rest by the rule: the last number before each
+// boundary of 7, 14, .. 63 bits, where a byte more is needed, and the greatest number; and the first behind each boundary, a one alone.
+const VARINTS: [(u64, &[u8]); 24] = [
     (0, b"\x00"),
     (1, b"\x01"),
     (150, b"\x96\x01"),
     (300, b"\xac\x02"),
     (624485, b"\xe5\x8e\x26"),
-];
-
-#[test]
-fn published_varints(rt: HostRuntime) {
-    all_are_varints(&rt, &PUBLISHED_VARINTS);
-}
-
-// The last number before each boundary of 7, 14, .. 63 bits, where a byte more is needed, and the greatest number.
-const GREATEST_VARINTS: [Spelled; 10] = [
     (0x7f, b"\x7f"),
     (0x3fff, b"\xff\x7f"),
     (0x1fffff, b"\xff\xff\x7f"),
@@ -63,15 +36,6 @@ const GREATEST_VARINTS: [Spelled; 10] = [
         0xffffffffffffffff,
         b"\xff\xff\xff\xff\xff\xff\xff\xff\xff\x01",
     ),
-];
-
-#[test]
-fn the_greatest_number_of_each_varint_length(rt: HostRuntime) {
-    all_are_varints(&rt, &GREATEST_VARINTS);
-}
-
-// The first number behind each boundary: a one alone.
-const LEAST_VARINTS: [Spelled; 9] = [
     (0x80, b"\x80\x01"),
     (0x4000, b"\x80\x80\x01"),
     (0x200000, b"\x80\x80\x80\x01"),
@@ -87,13 +51,15 @@ const LEAST_VARINTS: [Spelled; 9] = [
 ];
 
 #[test]
-fn the_least_number_of_each_varint_length(rt: HostRuntime) {
-    all_are_varints(&rt, &LEAST_VARINTS);
+fn numbers_and_their_varints(rt: HostRuntime) {
+    for (number, bytes) in &VARINTS {
+        assert!(rt; is_varint(*number, *bytes), "bytes of {number}");
+    }
 }
 
-// 174, 35996641 (the zigzag form of -17998321) and the six numbers of the line _p~iF~ps|U_ulLnnqC_mqNvxq`@: Encoded
-// Polyline Algorithm Format. The rest by the rule.
-const PUBLISHED_NUMBERS: [Spelled; 10] = [
+// 174, 35996641 (the zigzag form of -17998321) and the six numbers of the line _p~iF~ps|U_ulLnnqC_mqNvxq`@: Encoded Polyline Algorithm
+// Format. The rest by the rule: the last number before each boundary of 5, 10, .. 60 bits, and the greatest number; and the first behind.
+const NUMBERS: [(u64, &[u8]); 35] = [
     (0, b"?"),
     (1, b"@"),
     (174, b"mD"),
@@ -104,15 +70,6 @@ const PUBLISHED_NUMBERS: [Spelled; 10] = [
     (510400, b"_mqN"),
     (1100599, b"vxq`@"),
     (35996641, b"`~oia@"),
-];
-
-#[test]
-fn published_polyline_numbers(rt: HostRuntime) {
-    all_are_polyline_numbers(&rt, &PUBLISHED_NUMBERS);
-}
-
-// The last number before each boundary of 5, 10, .. 60 bits, and the greatest number.
-const GREATEST_NUMBERS: [Spelled; 13] = [
     (0x1f, b"^"),
     (0x3ff, b"~^"),
     (0x7fff, b"~~^"),
@@ -126,15 +83,6 @@ const GREATEST_NUMBERS: [Spelled; 13] = [
     (0x7fffffffffffff, b"~~~~~~~~~~^"),
     (0xfffffffffffffff, b"~~~~~~~~~~~^"),
     (0xffffffffffffffff, b"~~~~~~~~~~~~N"),
-];
-
-#[test]
-fn the_greatest_number_of_each_count_of_characters(rt: HostRuntime) {
-    all_are_polyline_numbers(&rt, &GREATEST_NUMBERS);
-}
-
-// The first number behind each boundary.
-const LEAST_NUMBERS: [Spelled; 12] = [
     (0x20, b"_@"),
     (0x400, b"__@"),
     (0x8000, b"___@"),
@@ -150,6 +98,11 @@ const LEAST_NUMBERS: [Spelled; 12] = [
 ];
 
 #[test]
-fn the_least_number_of_each_count_of_characters(rt: HostRuntime) {
-    all_are_polyline_numbers(&rt, &LEAST_NUMBERS);
+fn numbers_and_their_characters(rt: HostRuntime) {
+    for (number, characters) in &NUMBERS {
+        assert!(rt;
+            is_polyline_number(*number, *characters),
+            "characters of {number}"
+        );
+    }
 }

@@ -1,7 +1,6 @@
-//! Asserts what single calls answer. Each geometry is looked at where it is given, and dropped there.
+//! Whether single calls answer so. Each geometry is looked at where it is given, and dropped there.
 use std::alloc::Global;
 use std::io::Read;
-use std::process::Abort;
 use twkb_blob::{BlobFault, Reader, Session, Span};
 use twkb_geom::{Geometry, Shape};
 use twkb_points::Pt;
@@ -35,109 +34,76 @@ fn is_short_line(geometry: &Geometry) -> bool {
     }
 }
 
-/// Asserts that `next` gives a point of precision 0 that stands here.
-pub fn assert_point<R: Read>(
-    rt: &impl Abort,
-    alloc: Global,
-    reader: &mut Reader<'_, R>,
-    x: i64,
-    y: i64,
-) {
-    let is_given = match reader.next(alloc) {
+/// Whether `next` gives a point of precision 0 that stands here.
+pub fn gives_point<R: Read>(alloc: Global, reader: &mut Reader<'_, R>, x: i64, y: i64) -> bool {
+    match reader.next(alloc) {
         Ok(Some(geometry)) => is_point(&geometry, x, y),
         _ => false,
-    };
-    assert!(rt; is_given, "the point ({x}, {y})");
+    }
 }
 
-/// Asserts that `next` gives the line of precision 0 from (1, 1) to (5, 5).
-pub fn assert_short_line<R: Read>(rt: &impl Abort, alloc: Global, reader: &mut Reader<'_, R>) {
-    let is_given = match reader.next(alloc) {
+/// Whether `next` gives the line of precision 0 from (1, 1) to (5, 5).
+pub fn gives_short_line<R: Read>(alloc: Global, reader: &mut Reader<'_, R>) -> bool {
+    match reader.next(alloc) {
         Ok(Some(geometry)) => is_short_line(&geometry),
         _ => false,
-    };
-    assert!(rt; is_given, "the short line");
+    }
 }
 
-/// Asserts that `next` tells the end.
-pub fn assert_end<R: Read>(rt: &impl Abort, alloc: Global, reader: &mut Reader<'_, R>) {
-    let is_end = matches!(reader.next(alloc), Ok(None));
-    assert!(rt; is_end, "the end");
+/// Whether `next` tells the end.
+pub fn ends<R: Read>(alloc: Global, reader: &mut Reader<'_, R>) -> bool {
+    matches!(reader.next(alloc), Ok(None))
 }
 
-/// Asserts that `next` answers this fault.
-pub fn assert_fault<R: Read>(
-    rt: &impl Abort,
-    alloc: Global,
-    reader: &mut Reader<'_, R>,
-    fault: BlobFault,
-) {
-    let came = reader.next(alloc).err();
-    assert!(rt; came == Some(fault), "{fault:?}, and not {came:?}");
+/// Whether `next` answers this fault.
+pub fn refuses<R: Read>(alloc: Global, reader: &mut Reader<'_, R>, fault: BlobFault) -> bool {
+    reader.next(alloc).err() == Some(fault)
 }
 
-/// Asserts that `next_located` gives a geometry with these spans.
-pub fn assert_spans<R: Read>(
-    rt: &impl Abort,
-    alloc: Global,
-    reader: &mut Reader<'_, R>,
-    spans: &[Span],
-) {
-    let is_given = match reader.next_located(alloc) {
+/// Whether `next_located` gives a geometry with these spans.
+pub fn gives_spans<R: Read>(alloc: Global, reader: &mut Reader<'_, R>, spans: &[Span]) -> bool {
+    match reader.next_located(alloc) {
         Ok(Some(located)) => located.spans.as_slice() == spans,
         _ => false,
-    };
-    assert!(rt; is_given, "{spans:?}");
+    }
 }
 
-/// Asserts that `next_located` tells the end.
-pub fn assert_located_end<R: Read>(rt: &impl Abort, alloc: Global, reader: &mut Reader<'_, R>) {
-    let is_end = matches!(reader.next_located(alloc), Ok(None));
-    assert!(rt; is_end, "the end");
+/// Whether `next_located` tells the end.
+pub fn ends_located<R: Read>(alloc: Global, reader: &mut Reader<'_, R>) -> bool {
+    matches!(reader.next_located(alloc), Ok(None))
 }
 
-/// Asserts that `next_located` answers this fault.
-pub fn assert_located_fault<R: Read>(
-    rt: &impl Abort,
+/// Whether `next_located` answers this fault.
+pub fn refuses_located<R: Read>(
     alloc: Global,
     reader: &mut Reader<'_, R>,
     fault: BlobFault,
-) {
-    let came = reader.next_located(alloc).err();
-    assert!(rt; came == Some(fault), "{fault:?}, and not {came:?}");
+) -> bool {
+    reader.next_located(alloc).err() == Some(fault)
 }
 
-/// Asserts that a session uses the whole piece, and no geometry ends in it.
-pub fn assert_goes_on(rt: &impl Abort, session: &mut Session, piece: &[u8]) {
-    let is_used = match session.feed(piece) {
+/// Whether a session uses the whole piece, and no geometry ends in it.
+pub fn goes_on(session: &mut Session, piece: &[u8]) -> bool {
+    match session.feed(piece) {
         Ok((used, None)) => used == piece.len(),
         _ => false,
-    };
-    assert!(rt; is_used, "{piece:?}");
+    }
 }
 
-/// Asserts that a session gives the line of precision 0 from (1, 1) to (5, 5) behind so many bytes of the piece.
-pub fn assert_feeds_short_line(rt: &impl Abort, session: &mut Session, piece: &[u8], count: usize) {
-    let is_given = match session.feed(piece) {
+/// Whether a session gives the line of precision 0 from (1, 1) to (5, 5) behind so many bytes of the piece.
+pub fn feeds_short_line(session: &mut Session, piece: &[u8], count: usize) -> bool {
+    match session.feed(piece) {
         Ok((used, Some(geometry))) => used == count && is_short_line(&geometry),
         _ => false,
-    };
-    assert!(rt; is_given, "the short line, of {piece:?}");
+    }
 }
 
-/// Asserts that a session refuses the piece with this fault.
-pub fn assert_piece_refused(
-    rt: &impl Abort,
-    session: &mut Session,
-    piece: &[u8],
-    fault: BlobFault,
-) {
-    let came = session.feed(piece).err();
-    assert!(rt; came == Some(fault), "{fault:?}, and not {came:?}");
+/// Whether a session refuses the piece with this fault.
+pub fn refuses_piece(session: &mut Session, piece: &[u8], fault: BlobFault) -> bool {
+    session.feed(piece).err() == Some(fault)
 }
 
-/// Asserts that a session that is finished answers this fault.
-pub fn assert_end_refused(rt: &impl Abort, session: &mut Session, fault: BlobFault) {
-    let came = session.finish().err();
-    assert!(rt; came == Some(fault), "{fault:?}, and not {came:?}");
+/// Whether a session that is finished answers this fault.
+pub fn refuses_end(session: &mut Session, fault: BlobFault) -> bool {
+    session.finish().err() == Some(fault)
 }

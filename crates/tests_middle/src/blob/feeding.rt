@@ -1,7 +1,6 @@
 //! What readers and sessions answer for whole streams: how many geometries, and which fault.
 use std::alloc::Global;
 use std::io::Read;
-use std::process::Abort;
 use twkb_blob::{BlobFault, Reader, Session};
 use twkb_geom::Limits;
 use twkb_io::{Input, Tap};
@@ -89,20 +88,12 @@ pub fn byte_by_byte(alloc: Global, limits: Limits, bytes: &[u8]) -> Outcome {
     outcome
 }
 
-/// Asserts that all ways to read the stream have this outcome: a reader, two pieces cut anywhere, and single bytes.
-pub fn assert_all_give(
-    rt: &impl Abort,
-    alloc: Global,
-    limits: Limits,
-    bytes: &[u8],
-    outcome: Outcome,
-) {
-    let came = by_reader(alloc, limits, bytes);
-    assert!(rt; came == outcome, "{bytes:?} by a reader: {came:?}");
-    let came = byte_by_byte(alloc, limits, bytes);
-    assert!(rt; came == outcome, "{bytes:?} byte by byte: {came:?}");
+/// Whether all ways to read the stream have this outcome: a reader, single bytes, and two pieces cut anywhere.
+pub fn all_give(alloc: Global, limits: Limits, bytes: &[u8], outcome: Outcome) -> bool {
     for cut in 0..bytes.len() {
-        let came = by_session(alloc, limits, &bytes[..cut], &bytes[cut..]);
-        assert!(rt; came == outcome, "{bytes:?} cut at {cut}: {came:?}");
+        if by_session(alloc, limits, &bytes[..cut], &bytes[cut..]) != outcome {
+            return false;
+        }
     }
+    by_reader(alloc, limits, bytes) == outcome && byte_by_byte(alloc, limits, bytes) == outcome
 }

@@ -1,9 +1,8 @@
 //! Want of memory. Run with each allocation refused in turn (`rt try --test --fail-alloc N`): an answer is then the right one
 //! or want of memory, for good.
-use super::answers::{assert_goes_on, assert_piece_refused};
+use super::answers::{goes_on, refuses_piece};
 use super::feeding::{Outcome, by_reader, by_session, byte_by_byte};
 use std::alloc::Global;
-use std::process::Abort;
 use twkb_blob::{BlobFault, Session};
 use twkb_geom::Limits;
 
@@ -36,28 +35,22 @@ fn each_way(alloc: Global, bytes: &[u8]) -> bool {
 }
 
 #[test]
-fn each_growth_of_members_may_be_refused(rt: HostRuntime) {
-    assert!(rt; each_way(rt.alloc(), &NAMED), "members with ids");
+fn each_growth_may_be_refused(rt: HostRuntime) {
+    assert!(rt; each_way(rt.alloc(), &NAMED) && each_way(rt.alloc(), &DEEP));
 }
 
-#[test]
-fn each_growth_of_open_collections_may_be_refused(rt: HostRuntime) {
-    assert!(rt; each_way(rt.alloc(), &DEEP), "six collections");
-}
-
-// Asserts that a session that took a piece stands between two blobs, or is spent for want of memory.
-fn assert_between_or_spent(rt: &impl Abort, session: &mut Session, piece: &[u8]) {
-    let came = session.feed(piece).err();
-    if came.is_none() {
-        assert_goes_on(rt, session, &[]);
-    } else {
-        assert!(rt; came == Some(BlobFault::Memory), "{came:?}");
-        assert_piece_refused(rt, session, &[], BlobFault::Spent);
+// Whether a session that took a piece stands between two blobs, or is spent for want of memory.
+fn is_between_or_spent(session: &mut Session, piece: &[u8]) -> bool {
+    match session.feed(piece) {
+        Ok(_) => goes_on(session, &[]),
+        Err(fault) => {
+            fault == BlobFault::Memory && refuses_piece(session, &[], BlobFault::Spent)
+        }
     }
 }
 
 #[test]
 fn a_session_that_wants_memory_is_spent(rt: HostRuntime) {
     let mut session = Session::new(rt.alloc(), Limits::standard());
-    assert_between_or_spent(&rt, &mut session, &NAMED);
+    assert!(rt; is_between_or_spent(&mut session, &NAMED));
 }

@@ -1,9 +1,8 @@
 //! Want of memory for spans. Run with each allocation refused in turn (`rt try --test --fail-alloc N`): an answer is then the right
 //! one or want of memory, and a reader that lacked it is spent.
-use super::answers::{assert_located_end, assert_located_fault};
+use super::answers::{ends_located, refuses_located};
 use std::alloc::Global;
 use std::io::Read;
-use std::process::Abort;
 use twkb_blob::{BlobFault, Reader};
 use twkb_geom::Limits;
 use twkb_io::{Input, Tap};
@@ -17,15 +16,14 @@ fn count_of_spans<R: Read>(alloc: Global, reader: &mut Reader<'_, R>) -> Result<
     }
 }
 
-// Asserts that a reader gives four spans and the end, or answers want of memory and is then spent.
-fn assert_four_or_memory<R: Read>(rt: &impl Abort, alloc: Global, tap: &mut Tap<R>) {
+// Whether a reader gives four spans and the end, or answers want of memory and is then spent.
+fn gives_four_or_memory<R: Read>(alloc: Global, tap: &mut Tap<R>) -> bool {
     let mut reader = Reader::new(Input::new(tap), Limits::standard());
-    let came = count_of_spans(alloc, &mut reader);
-    if came == Err(BlobFault::Memory) {
-        assert_located_fault(rt, alloc, &mut reader, BlobFault::Spent);
-    } else {
-        assert!(rt; came == Ok(4), "{came:?}");
-        assert_located_end(rt, alloc, &mut reader);
+    match count_of_spans(alloc, &mut reader) {
+        Ok(count) => count == 4 && ends_located(alloc, &mut reader),
+        Err(fault) => {
+            fault == BlobFault::Memory && refuses_located(alloc, &mut reader, BlobFault::Spent)
+        }
     }
 }
 
@@ -33,5 +31,5 @@ fn assert_four_or_memory<R: Read>(rt: &impl Abort, alloc: Global, tap: &mut Tap<
 fn each_growth_of_spans_may_be_refused(rt: HostRuntime) {
     let bytes = b"\x07\x00\x02\x07\x00\x01\xA1\x00\x02\x02\x02\x10";
     let mut tap = Tap::new(bytes.as_slice());
-    assert_four_or_memory(&rt, rt.alloc(), &mut tap);
+    assert!(rt; gives_four_or_memory(rt.alloc(), &mut tap));
 }

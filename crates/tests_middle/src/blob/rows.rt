@@ -1,103 +1,82 @@
 //! Rows of blobs in a flat form: by a reader and by a session, with the calls for trees between them, and what is left behind a fault,
 //! a failed read and want of memory. Run with each allocation refused in turn (`rt try --test --fail-alloc N`) too.
-use super::answers::{
-    assert_end, assert_end_refused, assert_fault, assert_feeds_short_line, assert_piece_refused,
-    assert_point,
-};
+use super::answers::{ends, feeds_short_line, gives_point, refuses, refuses_end, refuses_piece};
 use std::alloc::Global;
 use std::io::Read;
-use std::process::Abort;
 use twkb_blob::{BlobFault, BlobReason, Reader, Session, Spans};
 use twkb_geom::{Flat, Limits};
 use twkb_io::{Fuse, FuseEnd, InFault, Input, Tap};
 
-// Asserts that the form has so many rows and points.
-fn assert_has(rt: &impl Abort, flat: &Flat, rows: u32, points: u32) {
-    let came = (flat.node_count(), flat.point_count());
-    assert!(rt; came == (rows, points), "{came:?}");
+// Whether the form has so many rows and points.
+fn has(flat: &Flat, rows: u32, points: u32) -> bool {
+    flat.node_count() == rows && flat.point_count() == points
 }
 
-// Asserts that `next_flat` gives so many rows and points.
-fn assert_rows<R: Read>(
-    rt: &impl Abort,
+// Whether `next_flat` gives so many rows and points; where they are none, it tells the end.
+fn gives_rows<R: Read>(
     alloc: Global,
     reader: &mut Reader<'_, R>,
     flat: &mut Flat,
     rows: u32,
     points: u32,
-) {
-    let came = reader.next_flat(alloc, flat);
-    assert!(rt; came == Ok(true), "{came:?}");
-    assert_has(rt, flat, rows, points);
+) -> bool {
+    reader.next_flat(alloc, flat) == Ok(rows > 0) && has(flat, rows, points)
 }
 
-// Asserts that `next_flat` tells the end, and leaves no row.
-fn assert_no_rows<R: Read>(
-    rt: &impl Abort,
-    alloc: Global,
-    reader: &mut Reader<'_, R>,
-    flat: &mut Flat,
-) {
-    let came = reader.next_flat(alloc, flat);
-    assert!(rt; came == Ok(false) && flat.is_empty(), "{came:?}");
-}
-
-// Asserts that `next_flat` answers this fault, and leaves no row.
-fn assert_rows_refused<R: Read>(
-    rt: &impl Abort,
+// Whether `next_flat` answers this fault, and leaves no row.
+fn refuses_rows<R: Read>(
     alloc: Global,
     reader: &mut Reader<'_, R>,
     flat: &mut Flat,
     fault: BlobFault,
-) {
-    let came = reader.next_flat(alloc, flat);
-    assert!(rt; came == Err(fault) && flat.is_empty(), "{came:?}");
+) -> bool {
+    reader.next_flat(alloc, flat) == Err(fault) && flat.is_empty()
 }
 
-// Asserts that a reader gives a line's rows, a point, a line's rows again, and the end for good.
-fn assert_mixed<R: Read>(rt: &impl Abort, alloc: Global, tap: &mut Tap<R>) {
+// Whether a reader gives a line's rows, a point, a line's rows again, and the end for good.
+fn gives_mixed<R: Read>(alloc: Global, tap: &mut Tap<R>) -> bool {
     let mut reader = Reader::new(Input::new(tap), Limits::standard());
     let mut flat = Flat::new(alloc);
-    assert_rows(rt, alloc, &mut reader, &mut flat, 1, 2);
-    assert_point(rt, alloc, &mut reader, 2, 1);
-    assert_rows(rt, alloc, &mut reader, &mut flat, 1, 2);
-    assert_no_rows(rt, alloc, &mut reader, &mut flat);
-    assert_end(rt, alloc, &mut reader);
-    assert_no_rows(rt, alloc, &mut reader, &mut flat);
+    gives_rows(alloc, &mut reader, &mut flat, 1, 2)
+        && gives_point(alloc, &mut reader, 2, 1)
+        && gives_rows(alloc, &mut reader, &mut flat, 1, 2)
+        && gives_rows(alloc, &mut reader, &mut flat, 0, 0)
+        && ends(alloc, &mut reader)
+        && gives_rows(alloc, &mut reader, &mut flat, 0, 0)
 }
 
 #[test]
 fn rows_and_trees_may_be_asked_for_in_turn(rt: HostRuntime) {
     let bytes = b"\x02\x00\x02\x02\x02\x08\x08\x01\x00\x04\x02\x02\x00\x02\x02\x02\x08\x08";
     let mut tap = Tap::new(bytes.as_slice());
-    assert_mixed(&rt, rt.alloc(), &mut tap);
+    assert!(rt; gives_mixed(rt.alloc(), &mut tap));
 }
 
-// Asserts that a reader gives a point's row, and then refuses a cut point at offset 7, for good.
-fn assert_row_and_fault<R: Read>(rt: &impl Abort, alloc: Global, tap: &mut Tap<R>) {
+// Whether a reader gives a point's row, and then refuses a cut point at offset 7, for good.
+fn gives_row_and_fault<R: Read>(alloc: Global, tap: &mut Tap<R>) -> bool {
     let mut reader = Reader::new(Input::new(tap), Limits::standard());
     let mut flat = Flat::new(alloc);
     let reason = BlobReason::Truncated;
     let fault = BlobFault::At { offset: 7, reason };
-    assert_rows(rt, alloc, &mut reader, &mut flat, 1, 1);
-    assert_rows_refused(rt, alloc, &mut reader, &mut flat, fault);
-    assert_rows_refused(rt, alloc, &mut reader, &mut flat, BlobFault::Spent);
-    assert_fault(rt, alloc, &mut reader, BlobFault::Spent);
+    gives_rows(alloc, &mut reader, &mut flat, 1, 1)
+        && refuses_rows(alloc, &mut reader, &mut flat, fault)
+        && refuses_rows(alloc, &mut reader, &mut flat, BlobFault::Spent)
+        && refuses(alloc, &mut reader, BlobFault::Spent)
 }
 
 #[test]
 fn no_row_is_left_behind_a_fault(rt: HostRuntime) {
     let mut tap = Tap::new(b"\x01\x00\x04\x02\x01\x00\x04".as_slice());
-    assert_row_and_fault(&rt, rt.alloc(), &mut tap);
+    assert!(rt; gives_row_and_fault(rt.alloc(), &mut tap));
 }
 
-// Asserts that a reader answers a failed read without rows, and is then spent.
-fn assert_failure<R: Read>(rt: &impl Abort, alloc: Global, tap: &mut Tap<R>) {
+// Whether a reader answers a failed read without rows, and is then spent.
+fn tells_failure<R: Read>(alloc: Global, tap: &mut Tap<R>) -> bool {
     let mut reader = Reader::new(Input::new(tap), Limits::standard());
     let mut flat = Flat::new(alloc);
     let fault = BlobFault::Device(InFault::Read);
-    assert_rows_refused(rt, alloc, &mut reader, &mut flat, fault);
-    assert_rows_refused(rt, alloc, &mut reader, &mut flat, BlobFault::Spent);
+    refuses_rows(alloc, &mut reader, &mut flat, fault)
+        && refuses_rows(alloc, &mut reader, &mut flat, BlobFault::Spent)
 }
 
 #[test]
@@ -105,125 +84,123 @@ fn no_row_is_left_behind_a_read_that_fails(rt: HostRuntime) {
     for bytes in 0..7 {
         let line = b"\x02\x00\x02\x02\x02\x08\x08".as_slice();
         let mut tap = Tap::new(Fuse::new(line, bytes, 1, FuseEnd::Fail, false));
-        assert_failure(&rt, rt.alloc(), &mut tap);
+        let is_told = tells_failure(rt.alloc(), &mut tap);
+        assert!(rt; is_told, "{bytes} bytes");
     }
 }
 
-// Asserts that a session answers so for a piece, and then lends so many rows and points.
-fn assert_feeds_rows(
-    rt: &impl Abort,
+// Whether a session answers so for a piece, and then lends so many rows and points.
+fn feeds_rows(
     session: &mut Session,
     piece: &[u8],
     answer: (usize, bool),
     rows: u32,
     points: u32,
-) {
-    let came = session.feed_flat(piece);
-    assert!(rt; came == Ok(answer), "{piece:?}: {came:?}");
-    assert_has(rt, session.flat(), rows, points);
+) -> bool {
+    session.feed_flat(piece) == Ok(answer) && has(session.flat(), rows, points)
 }
 
 #[test]
 fn a_session_lends_the_rows_of_a_geometry(rt: HostRuntime) {
     let mut session = Session::new(rt.alloc(), Limits::standard());
     let is_fed = session.feed_flat(b"\x02\x00\x02\x02") == Ok((4, false));
-    assert!(rt; is_fed, "half a line");
-    assert_feeds_rows(&rt, &mut session, b"\x02\x08\x08\x01", (3, true), 1, 2);
-    assert_feeds_rows(&rt, &mut session, b"\x01\x00\x04\x02\x07", (4, true), 1, 1);
+    assert!(rt; is_fed && feeds_rows(&mut session, b"\x02\x08\x08\x01", (3, true), 1, 2));
+    assert!(rt; feeds_rows(&mut session, b"\x01\x00\x04\x02\x07", (4, true), 1, 1));
+}
+
+// Whether a session gives a line's rows, its tree, its rows again, and ends for good.
+fn feeds_mixed(session: &mut Session, line: &[u8]) -> bool {
+    feeds_rows(session, line, (7, true), 1, 2)
+        && feeds_short_line(session, line, 7)
+        && feeds_rows(session, line, (7, true), 1, 2)
+        && session.finish().is_ok()
+        && session.feed_flat(line) == Err(BlobFault::Spent)
 }
 
 #[test]
 fn a_session_gives_rows_and_trees_in_turn(rt: HostRuntime) {
     let mut session = Session::new(rt.alloc(), Limits::standard());
-    let line = b"\x02\x00\x02\x02\x02\x08\x08";
-    assert_feeds_rows(&rt, &mut session, line, (7, true), 1, 2);
-    assert_feeds_short_line(&rt, &mut session, line, 7);
-    assert_feeds_rows(&rt, &mut session, line, (7, true), 1, 2);
-    assert!(rt; session.finish().is_ok(), "the end");
-    let is_spent = session.feed_flat(line) == Err(BlobFault::Spent);
-    assert!(rt; is_spent, "a call behind the end");
+    assert!(rt; feeds_mixed(&mut session, b"\x02\x00\x02\x02\x02\x08\x08"));
 }
 
 // A collection with ids: a multipolygon with an id, and a multilinestring of two lines.
-const NAMED: [u8; 26] = [
-    0x07, 0x04, 0x02, 0x02, 0x04, 0x06, 0x04, 0x01, 0x02, 0x01, 0x03, 0x02, 0x02, 0x02, 0x02, 0x02,
-    0x02, 0x05, 0x00, 0x02, 0x01, 0x02, 0x02, 0x01, 0x02, 0x02,
-];
+const NAMED: &[u8] =
+    b"\x07\x04\x02\x02\x04\x06\x04\x01\x02\x01\x03\x02\x02\x02\x02\x02\x02\x05\x00\x02\x01\x02\x02\x01\x02\x02";
 
-// Asserts that a reader gives the rows of the collection, or lacks memory, leaves no row and is spent.
-fn assert_rows_or_memory<R: Read>(rt: &impl Abort, alloc: Global, tap: &mut Tap<R>) {
+// Whether a reader gives the rows of the collection, or lacks memory, leaves no row and is spent.
+fn gives_rows_or_memory<R: Read>(alloc: Global, tap: &mut Tap<R>) -> bool {
     let mut reader = Reader::new(Input::new(tap), Limits::standard());
     let mut flat = Flat::new(alloc);
-    let came = reader.next_flat(alloc, &mut flat);
-    if came == Err(BlobFault::Memory) {
-        assert!(rt; flat.is_empty(), "rows behind want of memory");
-        assert_rows_refused(rt, alloc, &mut reader, &mut flat, BlobFault::Spent);
-    } else {
-        assert!(rt; came == Ok(true), "{came:?}");
-        assert_has(rt, &flat, 7, 5);
+    match reader.next_flat(alloc, &mut flat) {
+        Ok(is_given) => is_given && has(&flat, 7, 5),
+        Err(fault) => {
+            fault == BlobFault::Memory
+                && flat.is_empty()
+                && refuses_rows(alloc, &mut reader, &mut flat, BlobFault::Spent)
+        }
     }
 }
 
 #[test]
 fn each_growth_of_rows_may_be_refused(rt: HostRuntime) {
-    let mut tap = Tap::new(NAMED.as_slice());
-    assert_rows_or_memory(&rt, rt.alloc(), &mut tap);
+    let mut tap = Tap::new(NAMED);
+    assert!(rt; gives_rows_or_memory(rt.alloc(), &mut tap));
 }
 
-// Asserts that a session lends the rows of the collection, or lacks memory and is spent.
-fn assert_lends_or_memory(rt: &impl Abort, session: &mut Session) {
-    let came = session.feed_flat(&NAMED);
-    if came == Err(BlobFault::Memory) {
-        assert_piece_refused(rt, session, &[], BlobFault::Spent);
-    } else {
-        assert!(rt; came == Ok((NAMED.len(), true)), "{came:?}");
-        assert_has(rt, session.flat(), 7, 5);
+// Whether a session lends the rows of the collection, or lacks memory and is spent.
+fn lends_or_memory(session: &mut Session) -> bool {
+    match session.feed_flat(NAMED) {
+        Ok(answer) => answer == (26, true) && has(session.flat(), 7, 5),
+        Err(fault) => {
+            fault == BlobFault::Memory && refuses_piece(session, &[], BlobFault::Spent)
+        }
     }
 }
 
 #[test]
 fn each_growth_of_a_sessions_rows_may_be_refused(rt: HostRuntime) {
     let mut session = Session::new(rt.alloc(), Limits::standard());
-    assert_lends_or_memory(&rt, &mut session);
+    assert!(rt; lends_or_memory(&mut session));
 }
 
-// Asserts that a form and a list have so many rows and spans.
-fn assert_count(rt: &impl Abort, flat: &Flat, spans: &Spans, count: u32) {
-    assert!(rt; flat.node_count() == count, "rows");
-    assert!(rt; spans.as_slice().len() == count as usize, "spans");
+// Whether `next_spans` gives so many rows and spans; where they are none, it tells the end.
+fn gives_count<R: Read>(
+    alloc: Global,
+    reader: &mut Reader<'_, R>,
+    flat: &mut Flat,
+    spans: &mut Spans,
+    count: u32,
+) -> Result<bool, BlobFault> {
+    let is_given = reader.next_spans(alloc, flat, spans)?;
+    let is_told = is_given == (count > 0);
+    Ok(is_told && flat.node_count() == count && spans.as_slice().len() == count as usize)
 }
 
-// Asserts that a reader gives four rows and spans, one in their place, and none at the end; or that memory was refused for the four.
-fn assert_four_and_one<R: Read>(rt: &impl Abort, alloc: Global, tap: &mut Tap<R>) {
+// Whether a reader gives four rows and spans, one in their place, and none at the end; or that memory was refused for the four.
+fn gives_four_and_one<R: Read>(alloc: Global, tap: &mut Tap<R>) -> bool {
     let mut reader = Reader::new(Input::new(tap), Limits::standard());
     let mut flat = Flat::new(alloc);
     let mut spans = Spans::new(alloc);
-    let came = reader.next_spans(alloc, &mut flat, &mut spans);
-    if came == Err(BlobFault::Memory) {
-        return assert_count(rt, &flat, &spans, 0);
+    match gives_count(alloc, &mut reader, &mut flat, &mut spans, 4) {
+        Err(fault) => fault == BlobFault::Memory && flat.is_empty() && spans.as_slice().is_empty(),
+        Ok(is_given) => {
+            is_given
+                && gives_count(alloc, &mut reader, &mut flat, &mut spans, 1) == Ok(true)
+                && gives_count(alloc, &mut reader, &mut flat, &mut spans, 0) == Ok(true)
+        }
     }
-    assert!(rt; came == Ok(true), "{came:?}");
-    assert_count(rt, &flat, &spans, 4);
-    let second = reader.next_spans(alloc, &mut flat, &mut spans);
-    assert!(rt; second == Ok(true), "{second:?}");
-    assert_count(rt, &flat, &spans, 1);
-    let end = reader.next_spans(alloc, &mut flat, &mut spans);
-    assert!(rt; end == Ok(false), "{end:?}");
-    assert_count(rt, &flat, &spans, 0);
 }
 
 #[test]
 fn the_spans_of_a_blob_take_the_place_of_those_before(rt: HostRuntime) {
     let bytes = b"\x07\x00\x02\x07\x00\x01\xA1\x00\x02\x02\x02\x10\x01\x00\x04\x02";
     let mut tap = Tap::new(bytes.as_slice());
-    assert_four_and_one(&rt, rt.alloc(), &mut tap);
+    assert!(rt; gives_four_and_one(rt.alloc(), &mut tap));
 }
 
 // A line of three points, and behind it, in 12 bytes, one that announces 2^24 points and has three.
-const ANNOUNCED: [u8; 21] = [
-    0x02, 0x00, 0x03, 0x02, 0x02, 0x02, 0x02, 0x02, 0x02, 0x02, 0x00, 0x80, 0x80, 0x80, 0x08, 0x02,
-    0x02, 0x02, 0x02, 0x02, 0x02,
-];
+const ANNOUNCED: &[u8] =
+    b"\x02\x00\x03\x02\x02\x02\x02\x02\x02\x02\x00\x80\x80\x80\x08\x02\x02\x02\x02\x02\x02";
 
 // What is answered at the end of these bytes.
 const CUT: BlobFault = BlobFault::At {
@@ -231,32 +208,34 @@ const CUT: BlobFault = BlobFault::At {
     reason: BlobReason::Truncated,
 };
 
-// Asserts that a reader refuses the second line as cut, or lacked memory for the first.
-fn assert_reads_into_grown_rows<R: Read>(rt: &impl Abort, alloc: Global, tap: &mut Tap<R>) {
+// Whether a reader refuses the second line as cut, or lacked memory for the first.
+fn reads_into_grown_rows<R: Read>(alloc: Global, tap: &mut Tap<R>) -> bool {
     let mut reader = Reader::new(Input::new(tap), Limits::standard());
     let mut flat = Flat::new(alloc);
-    let came = reader.next_flat(alloc, &mut flat);
-    if came != Err(BlobFault::Memory) {
-        assert!(rt; came == Ok(true), "{came:?}");
-        assert_has(rt, &flat, 1, 3);
-        assert_rows_refused(rt, alloc, &mut reader, &mut flat, CUT);
+    match reader.next_flat(alloc, &mut flat) {
+        Ok(is_given) => {
+            is_given && has(&flat, 1, 3) && refuses_rows(alloc, &mut reader, &mut flat, CUT)
+        }
+        Err(fault) => fault == BlobFault::Memory,
     }
 }
 
 // 2^24 points in 12 bytes.
 #[test]
 fn a_reader_reserves_nothing_for_an_announced_count(rt: HostRuntime) {
-    let mut tap = Tap::new(ANNOUNCED.as_slice());
-    assert_reads_into_grown_rows(&rt, rt.alloc(), &mut tap);
+    let mut tap = Tap::new(ANNOUNCED);
+    assert!(rt; reads_into_grown_rows(rt.alloc(), &mut tap));
 }
 
-// Asserts that a session takes the second line's bytes into grown rows, and then may not end, or lacked memory for the first.
-fn assert_feeds_into_grown_rows(rt: &impl Abort, session: &mut Session) {
-    let came = session.feed_flat(&ANNOUNCED[..9]);
-    if came != Err(BlobFault::Memory) {
-        assert!(rt; came == Ok((9, true)), "{came:?}");
-        assert_feeds_rows(rt, session, &ANNOUNCED[9..], (12, false), 1, 3);
-        assert_end_refused(rt, session, CUT);
+// Whether a session takes the second line's bytes into grown rows, and then may not end, or lacked memory for the first.
+fn feeds_into_grown_rows(session: &mut Session) -> bool {
+    match session.feed_flat(&ANNOUNCED[..9]) {
+        Ok(answer) => {
+            answer == (9, true)
+                && feeds_rows(session, &ANNOUNCED[9..], (12, false), 1, 3)
+                && refuses_end(session, CUT)
+        }
+        Err(fault) => fault == BlobFault::Memory,
     }
 }
 
@@ -264,5 +243,5 @@ fn assert_feeds_into_grown_rows(rt: &impl Abort, session: &mut Session) {
 #[test]
 fn a_session_reserves_nothing_for_an_announced_count(rt: HostRuntime) {
     let mut session = Session::new(rt.alloc(), Limits::standard());
-    assert_feeds_into_grown_rows(&rt, &mut session);
+    assert!(rt; feeds_into_grown_rows(&mut session));
 }

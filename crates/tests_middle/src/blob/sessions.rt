@@ -1,61 +1,55 @@
 //! Sessions: bytes in pieces, what is held, and the end.
-use super::answers::{
-    assert_end_refused, assert_feeds_short_line, assert_goes_on, assert_piece_refused,
-};
-use std::process::Abort;
+use super::answers::{feeds_short_line, goes_on, refuses_end, refuses_piece};
 use twkb_blob::{BlobFault, BlobReason, Session, laws};
 use twkb_geom::{Geometry, Limits, Shape};
 
-// Asserts that a session has so many geometries begun, and holds so many bytes of a number.
-fn assert_begun(rt: &impl Abort, session: &Session, frames: usize, held: usize) {
-    let came = (session.frames(), session.held());
-    assert!(rt; came == (frames, held), "{came:?}");
+// Whether a session has so many geometries begun, and holds so many bytes of a number.
+fn has_begun(session: &Session, frames: usize, held: usize) -> bool {
+    session.frames() == frames && session.held() == held
 }
 
-// Asserts that the stream may not end behind a type byte, for good.
-fn assert_cut_at_a_type_byte(rt: &impl Abort, session: &mut Session) {
+// Whether the stream may not end behind a type byte, for good.
+fn is_cut_at_a_type_byte(session: &mut Session) -> bool {
     let reason = BlobReason::Truncated;
-    assert_goes_on(rt, session, b"\x01");
-    assert_end_refused(rt, session, BlobFault::At { offset: 8, reason });
-    assert_end_refused(rt, session, BlobFault::Spent);
+    goes_on(session, b"\x01")
+        && refuses_end(session, BlobFault::At { offset: 8, reason })
+        && refuses_end(session, BlobFault::Spent)
 }
 
 #[test]
 fn a_feed_stops_behind_a_geometry(rt: HostRuntime) {
     let mut session = Session::new(rt.alloc(), Limits::standard());
-    assert_goes_on(&rt, &mut session, b"\x02\x00\x02\x02");
-    assert_begun(&rt, &session, 1, 0);
-    assert_feeds_short_line(&rt, &mut session, b"\x02\x08\x08\x01", 3);
-    assert_begun(&rt, &session, 0, 0);
-    assert_cut_at_a_type_byte(&rt, &mut session);
+    let is_begun = goes_on(&mut session, b"\x02\x00\x02\x02") && has_begun(&session, 1, 0);
+    assert!(rt; is_begun, "half a line");
+    let is_given = feeds_short_line(&mut session, b"\x02\x08\x08\x01", 3);
+    assert!(rt; is_given && has_begun(&session, 0, 0), "the other half");
+    assert!(rt; is_cut_at_a_type_byte(&mut session), "the byte behind it");
 }
 
 #[test]
 fn a_session_holds_the_first_bytes_of_a_number(rt: HostRuntime) {
     let mut session = Session::new(rt.alloc(), Limits::standard());
-    assert_goes_on(&rt, &mut session, b"\x02\x00\x82");
-    assert_begun(&rt, &session, 1, 1);
+    assert!(rt; goes_on(&mut session, b"\x02\x00\x82") && has_begun(&session, 1, 1));
 }
 
-// Asserts that a third coordinate is refused at its extended byte, for good.
-fn assert_third_coordinate_refused(rt: &impl Abort, session: &mut Session) {
+// Whether a third coordinate is refused at its extended byte, for good.
+fn refuses_third_coordinate(session: &mut Session) -> bool {
     let reason = BlobReason::ExtraDimensions;
-    assert_piece_refused(rt, session, b"\x01", BlobFault::At { offset: 2, reason });
-    assert_piece_refused(rt, session, b"\x01", BlobFault::Spent);
+    goes_on(session, b"\x01")
+        && goes_on(session, b"\x08")
+        && refuses_piece(session, b"\x01", BlobFault::At { offset: 2, reason })
+        && refuses_piece(session, b"\x01", BlobFault::Spent)
 }
 
 #[test]
 fn single_bytes_are_used_and_refused_where_they_stand(rt: HostRuntime) {
     let mut session = Session::new(rt.alloc(), Limits::standard());
-    assert_goes_on(&rt, &mut session, b"\x01");
-    assert_goes_on(&rt, &mut session, b"\x08");
-    assert_third_coordinate_refused(&rt, &mut session);
+    assert!(rt; refuses_third_coordinate(&mut session));
 }
 
-// Asserts that the stream may end here, and then takes no bytes.
-fn assert_ends_between_blobs(rt: &impl Abort, session: &mut Session, piece: &[u8]) {
-    assert!(rt; session.finish().is_ok(), "the end");
-    assert_piece_refused(rt, session, piece, BlobFault::Spent);
+// Whether the stream may end here, and then takes no bytes.
+fn ends_between_blobs(session: &mut Session, piece: &[u8]) -> bool {
+    session.finish().is_ok() && refuses_piece(session, piece, BlobFault::Spent)
 }
 
 // The member of a collection of precision 0 that has one, without ids.
@@ -92,31 +86,35 @@ fn is_nested_twice(geometry: &Geometry) -> bool {
     }
 }
 
-// Asserts that a session gives that geometry behind so many bytes of the piece.
-fn assert_nested_twice(rt: &impl Abort, session: &mut Session, piece: &[u8], count: usize) {
-    let is_given = match session.feed(piece) {
+// Whether a session gives that geometry behind so many bytes of the piece.
+fn gives_nested_twice(session: &mut Session, piece: &[u8], count: usize) -> bool {
+    match session.feed(piece) {
         Ok((used, Some(geometry))) => used == count && is_nested_twice(&geometry),
         _ => false,
-    };
-    assert!(rt; is_given, "the empty point, and with it both collections");
+    }
 }
 
 #[test]
 fn collections_are_counted_as_they_open(rt: HostRuntime) {
     let mut session = Session::new(rt.alloc(), Limits::standard());
-    assert_goes_on(&rt, &mut session, b"\x07\x00\x01\x07\x00\x01");
-    assert_begun(&rt, &session, 2, 0);
-    assert_nested_twice(&rt, &mut session, b"\x01\x10\x02", 2);
-    assert_begun(&rt, &session, 0, 0);
-    assert_goes_on(&rt, &mut session, &[]);
-    assert_begun(&rt, &session, 0, 0);
-    assert_ends_between_blobs(&rt, &mut session, &[]);
+    let is_begun = goes_on(&mut session, b"\x07\x00\x01\x07\x00\x01") && has_begun(&session, 2, 0);
+    assert!(rt; is_begun, "both collections");
+    let is_given = gives_nested_twice(&mut session, b"\x01\x10\x02", 2);
+    assert!(rt;
+        is_given && has_begun(&session, 0, 0),
+        "the empty point, and with it both"
+    );
+    let is_between = goes_on(&mut session, &[]) && has_begun(&session, 0, 0);
+    assert!(rt;
+        is_between && ends_between_blobs(&mut session, &[]),
+        "the end"
+    );
 }
 
 #[test]
 fn a_new_session_ends_between_two_blobs(rt: HostRuntime) {
     let mut session = Session::new(rt.alloc(), Limits::standard());
-    assert_ends_between_blobs(&rt, &mut session, b"\x01");
+    assert!(rt; ends_between_blobs(&mut session, b"\x01"));
 }
 
 #[test]

@@ -1,68 +1,115 @@
-//! Sizes that are wrong in each direction, in lines, in collections and in their members; and points that come at once.
-use super::refusals::{assert_given, assert_refused};
+//! Sizes that are wrong in each direction, in lines, in collections and in their members, each refused behind the last byte; and
+//! streams of right ones, with points that come at once.
+use super::feeding::{Outcome, all_give};
 use std::alloc::Global;
-use std::process::Abort;
-use twkb_blob::BlobReason;
+use twkb_blob::{BlobFault, BlobReason};
+use twkb_geom::Limits;
 
-// Asserts that a line with this size in place of 5 is refused behind its last byte.
-fn assert_line_refused(rt: &impl Abort, alloc: Global, size: u8) {
-    let bytes = [0x02, 0x02, size, 0x02, 0x02, 0x02, 0x08, 0x08];
-    assert_refused(rt, alloc, &bytes, 0, 8, BlobReason::SizeMismatch);
-}
+// What a stream is called, the stream, how many geometries it gives, and where it is refused behind them, if it is.
+type Sized = (&'static str, &'static [u8], u64, Option<u64>);
 
-// Asserts that a collection with this size in place of 6 is refused behind its last byte.
-fn assert_collection_refused(rt: &impl Abort, alloc: Global, size: u8) {
-    let bytes = [0x07, 0x02, size, 0x01, 0x01, 0x02, 0x02, 0x02, 0x02];
-    assert_refused(rt, alloc, &bytes, 0, 9, BlobReason::SizeMismatch);
-}
+const STREAMS: [Sized; 14] = [
+    (
+        "a line of size 0 for 5",
+        b"\x02\x02\x00\x02\x02\x02\x08\x08",
+        0,
+        Some(8),
+    ),
+    (
+        "a line of size 4 for 5",
+        b"\x02\x02\x04\x02\x02\x02\x08\x08",
+        0,
+        Some(8),
+    ),
+    (
+        "a line of size 6 for 5",
+        b"\x02\x02\x06\x02\x02\x02\x08\x08",
+        0,
+        Some(8),
+    ),
+    (
+        "a line of size 127 for 5",
+        b"\x02\x02\x7F\x02\x02\x02\x08\x08",
+        0,
+        Some(8),
+    ),
+    (
+        "a collection of size 2 for 6",
+        b"\x07\x02\x02\x01\x01\x02\x02\x02\x02",
+        0,
+        Some(9),
+    ),
+    (
+        "a collection of size 5 for 6",
+        b"\x07\x02\x05\x01\x01\x02\x02\x02\x02",
+        0,
+        Some(9),
+    ),
+    (
+        "a collection of size 7 for 6",
+        b"\x07\x02\x07\x01\x01\x02\x02\x02\x02",
+        0,
+        Some(9),
+    ),
+    (
+        "a member of size 1 for 2",
+        b"\x07\x00\x02\x01\x02\x01\x02\x02\x01\x00\x02\x02",
+        0,
+        Some(8),
+    ),
+    (
+        "a member of size 3 for 2",
+        b"\x07\x00\x02\x01\x02\x03\x02\x02\x01\x00\x02\x02",
+        0,
+        Some(8),
+    ),
+    (
+        "a padded point is given and the next judged",
+        b"\x01\x02\x02\x04\x02\x01\x02\x03\x84\x00\x03\x01\x02\x01\x04\x02",
+        2,
+        Some(16),
+    ),
+    (
+        "a line of its size",
+        b"\x02\x02\x05\x02\x02\x02\x08\x08",
+        1,
+        None,
+    ),
+    (
+        "a collection of its size",
+        b"\x07\x02\x06\x01\x01\x02\x02\x02\x02",
+        1,
+        None,
+    ),
+    (
+        "a collection with a box, sizes and ids",
+        b"\x07\x07\x0F\x02\x00\x02\x00\x02\x0E\x01\x01\x02\x02\x02\x02\x02\x12\x00",
+        1,
+        None,
+    ),
+    (
+        "two points, each from the origin",
+        b"\x01\x02\x02\x04\x02\x01\x02\x02\x04\x03",
+        2,
+        None,
+    ),
+];
 
-// Asserts that a member with this size in place of 2 is refused behind its last byte.
-fn assert_member_refused(rt: &impl Abort, alloc: Global, size: u8) {
-    let bytes = [
-        0x07, 0x00, 0x02, 0x01, 0x02, size, 0x02, 0x02, 0x01, 0x00, 0x02, 0x02,
-    ];
-    assert_refused(rt, alloc, &bytes, 0, 8, BlobReason::SizeMismatch);
+// Whether each way to read the stream gives so many geometries, and then its end or that refusal.
+fn gives(alloc: Global, bytes: &[u8], made: u64, offset: Option<u64>) -> bool {
+    let fault = match offset {
+        Some(offset) => Some(BlobFault::At {
+            offset,
+            reason: BlobReason::SizeMismatch,
+        }),
+        None => None,
+    };
+    all_give(alloc, Limits::standard(), bytes, Outcome { made, fault })
 }
 
 #[test]
-fn a_line_of_its_size_is_given(rt: HostRuntime) {
-    assert_given(&rt, rt.alloc(), b"\x02\x02\x05\x02\x02\x02\x08\x08", 1);
-}
-
-#[test]
-fn a_lines_size_is_that_of_its_body(rt: HostRuntime) {
-    for size in [0, 4, 6, 0x7F] {
-        assert_line_refused(&rt, rt.alloc(), size);
+fn a_size_is_judged_at_its_geometrys_end(rt: HostRuntime) {
+    for (name, bytes, made, offset) in &STREAMS {
+        assert!(rt; gives(rt.alloc(), *bytes, *made, *offset), "{name}");
     }
-}
-
-#[test]
-fn a_collection_of_its_size_is_given(rt: HostRuntime) {
-    assert_given(&rt, rt.alloc(), b"\x07\x02\x06\x01\x01\x02\x02\x02\x02", 1);
-}
-
-#[test]
-fn a_collections_size_counts_its_members_headers(rt: HostRuntime) {
-    for size in [2, 5, 7] {
-        assert_collection_refused(&rt, rt.alloc(), size);
-    }
-}
-
-#[test]
-fn a_members_size_is_judged_at_its_own_end(rt: HostRuntime) {
-    for size in [1, 3] {
-        assert_member_refused(&rt, rt.alloc(), size);
-    }
-}
-
-#[test]
-fn points_behind_a_point_begin_at_the_origin_again(rt: HostRuntime) {
-    let bytes = b"\x01\x02\x02\x04\x02\x01\x02\x02\x04\x03";
-    assert_given(&rt, rt.alloc(), bytes, 2);
-}
-
-#[test]
-fn a_padded_point_is_given_and_the_next_judged(rt: HostRuntime) {
-    let bytes = b"\x01\x02\x02\x04\x02\x01\x02\x03\x84\x00\x03\x01\x02\x01\x04\x02";
-    assert_refused(&rt, rt.alloc(), bytes, 2, 16, BlobReason::SizeMismatch);
 }

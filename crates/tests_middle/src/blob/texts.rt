@@ -1,7 +1,6 @@
 //! The texts of faults, as the profile has them.
 use std::alloc::Global;
 use std::fmt::Display;
-use std::process::Abort;
 use twkb_blob::{BlobFault, BlobReason, EncodeFault};
 use twkb_io::{InFault, OutFault};
 
@@ -10,13 +9,6 @@ fn is_told<T: Display>(alloc: Global, value: &T, text: &str) -> bool {
     match format!(in alloc; "{value}") {
         Ok(told) => told.as_str() == text,
         Err(_) => false,
-    }
-}
-
-// Asserts that each is printed as its text.
-fn assert_told<T: Display>(rt: &impl Abort, alloc: Global, rows: &[(T, &str)]) {
-    for (value, text) in rows {
-        assert!(rt; is_told(alloc, value, *text), "{text}");
     }
 }
 
@@ -35,7 +27,9 @@ const FAULTS: [(BlobFault, &str); 5] = [
 
 #[test]
 fn each_fault_has_its_text(rt: HostRuntime) {
-    assert_told(&rt, rt.alloc(), &FAULTS);
+    for (value, text) in &FAULTS {
+        assert!(rt; is_told(rt.alloc(), value, *text), "{text}");
+    }
 }
 
 const REASONS: [(BlobReason, &str); 9] = [
@@ -52,7 +46,9 @@ const REASONS: [(BlobReason, &str); 9] = [
 
 #[test]
 fn each_reason_has_its_text(rt: HostRuntime) {
-    assert_told(&rt, rt.alloc(), &REASONS);
+    for (value, text) in &REASONS {
+        assert!(rt; is_told(rt.alloc(), value, *text), "{text}");
+    }
 }
 
 const ENCODE_FAULTS: [(EncodeFault<OutFault>, &str); 2] = [
@@ -65,5 +61,7 @@ const ENCODE_FAULTS: [(EncodeFault<OutFault>, &str); 2] = [
 
 #[test]
 fn each_fault_of_encoding_has_its_text(rt: HostRuntime) {
-    assert_told(&rt, rt.alloc(), &ENCODE_FAULTS);
+    for (value, text) in &ENCODE_FAULTS {
+        assert!(rt; is_told(rt.alloc(), value, *text), "{text}");
+    }
 }

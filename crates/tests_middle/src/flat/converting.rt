@@ -1,8 +1,11 @@
 //! Geometries into flat forms, and back: the rows pushed one by one are those of the geometry that its constructors make.
-use crate::forms::{self, form, point, whole};
-use crate::geometries::{self, dot, line};
+use crate::forms::{
+    EMPTY_LINE, Entry, INNER_COLLECTION, POINT_AND_LINE, TWO_POINTS, TWO_POLYGONS, TWO_RINGS, form,
+};
+use crate::geometries::{
+    dot, empty_line, inner_collection, line, point_and_line, two_points, two_polygons, two_rings,
+};
 use std::alloc::Global;
-use std::process::Abort;
 use twkb_geom::{Flat, Geometry, Kind, Limits, NodeId, PointId, Work};
 
 // Whether two forms have the same nodes.
@@ -57,91 +60,68 @@ fn fills(alloc: Global, geometry: &Geometry, flat: &Flat) -> bool {
     }
 }
 
-// Asserts that a form and a geometry were made, and become each other.
-fn assert_converts(
-    rt: &impl Abort,
-    alloc: Global,
-    flat: &Option<Flat>,
-    geometry: &Option<Geometry>,
-) {
-    match (flat, geometry) {
+// Whether these rows are a form, the geometry was made, and they become each other.
+fn converts(alloc: Global, rows: &[Entry], geometry: Option<Geometry>) -> bool {
+    match (form(alloc, rows), geometry) {
         (Some(flat), Some(geometry)) => {
-            assert!(rt; builds(alloc, flat, geometry), "a form to its geometry");
-            assert!(rt; fills(alloc, geometry, flat), "a geometry to its form");
+            builds(alloc, &flat, &geometry) && fills(alloc, &geometry, &flat)
         }
-        _ => panic!(rt; "no form, or no geometry"),
+        _ => false,
     }
-}
-
-// Asserts that so do a point's, or those of one without coordinates.
-fn assert_converts_point(rt: &impl Abort, alloc: Global, precision: i8, place: Option<(i64, i64)>) {
-    let row = point(0, None, Some(precision));
-    let flat = match place {
-        Some(place) => form(alloc, &[(row, &[place])]),
-        None => form(alloc, &[(row, &[])]),
-    };
-    assert_converts(rt, alloc, &flat, &dot(precision, place));
 }
 
 #[test]
 fn points(rt: HostRuntime) {
-    assert_converts_point(&rt, rt.alloc(), 0, Some((2, 1)));
-    assert_converts_point(&rt, rt.alloc(), -8, Some((2, 1)));
-    assert_converts_point(&rt, rt.alloc(), 7, None);
+    let alloc = rt.alloc();
+    let least: [Entry; 1] = [(0, Kind::Point, None, Some(-8), &[(2, 1)])];
+    assert!(rt;
+        converts(alloc, &least, dot(-8, Some((2, 1)))),
+        "the least precision"
+    );
+    let empty: [Entry; 1] = [(0, Kind::Point, None, Some(7), &[])];
+    assert!(rt;
+        converts(alloc, &empty, dot(7, None)),
+        "without coordinates"
+    );
 }
 
 #[test]
-fn a_line(rt: HostRuntime) {
+fn a_line_and_a_polygon(rt: HostRuntime) {
     let alloc = rt.alloc();
-    let flat = form(alloc, &[(whole(0, Kind::Linestring), &[(1, 1), (5, 5)])]);
-    let geometry = line(alloc, &[(1, 1), (5, 5)]);
-    assert_converts(&rt, alloc, &flat, &geometry);
+    let rows: [Entry; 1] = [(0, Kind::Linestring, None, Some(0), &[(1, 1), (5, 5)])];
+    assert!(rt;
+        converts(alloc, &rows, line(alloc, &[(1, 1), (5, 5)])),
+        "a line"
+    );
+    assert!(rt; converts(alloc, TWO_RINGS, two_rings(alloc)), "two rings");
 }
 
 #[test]
-fn a_polygon(rt: HostRuntime) {
+fn members_of_one_kind(rt: HostRuntime) {
     let alloc = rt.alloc();
-    let flat = forms::two_rings(alloc);
-    let geometry = geometries::two_rings(alloc);
-    assert_converts(&rt, alloc, &flat, &geometry);
+    assert!(rt;
+        converts(alloc, TWO_POINTS, two_points(alloc)),
+        "two points with ids"
+    );
+    assert!(rt;
+        converts(alloc, EMPTY_LINE, empty_line(alloc)),
+        "an empty line"
+    );
+    assert!(rt;
+        converts(alloc, TWO_POLYGONS, two_polygons(alloc)),
+        "one without rings"
+    );
 }
 
 #[test]
-fn a_multipoint_with_ids(rt: HostRuntime) {
+fn members_of_collections(rt: HostRuntime) {
     let alloc = rt.alloc();
-    let flat = forms::two_points(alloc);
-    let geometry = geometries::two_points(alloc);
-    assert_converts(&rt, alloc, &flat, &geometry);
-}
-
-#[test]
-fn a_multilinestring_of_an_empty_line(rt: HostRuntime) {
-    let alloc = rt.alloc();
-    let flat = forms::empty_line(alloc);
-    let geometry = geometries::empty_line(alloc);
-    assert_converts(&rt, alloc, &flat, &geometry);
-}
-
-#[test]
-fn a_multipolygon_with_a_member_without_rings(rt: HostRuntime) {
-    let alloc = rt.alloc();
-    let flat = forms::two_polygons(alloc);
-    let geometry = geometries::two_polygons(alloc);
-    assert_converts(&rt, alloc, &flat, &geometry);
-}
-
-#[test]
-fn a_collection_with_ids(rt: HostRuntime) {
-    let alloc = rt.alloc();
-    let flat = forms::point_and_line(alloc);
-    let geometry = geometries::point_and_line(alloc);
-    assert_converts(&rt, alloc, &flat, &geometry);
-}
-
-#[test]
-fn a_collection_in_a_collection_of_three_precisions(rt: HostRuntime) {
-    let alloc = rt.alloc();
-    let flat = forms::inner_collection(alloc);
-    let geometry = geometries::inner_collection(alloc);
-    assert_converts(&rt, alloc, &flat, &geometry);
+    assert!(rt;
+        converts(alloc, POINT_AND_LINE, point_and_line(alloc)),
+        "two with ids"
+    );
+    assert!(rt;
+        converts(alloc, INNER_COLLECTION, inner_collection(alloc)),
+        "three precisions"
+    );
 }

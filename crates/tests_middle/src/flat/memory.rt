@@ -1,6 +1,6 @@
 //! Want of memory. Run with each growth refused in turn (`rt try --test --fail-alloc N`): a conversion gives the right form
 //! or geometry, or none, and no growth comes where rows were.
-use crate::forms::{point_and_line, point_row, points, two_polygons};
+use crate::forms::{POINT_AND_LINE, TWO_POLYGONS, form, point_row, points};
 use crate::geometries;
 use std::alloc::{AllocError, Global};
 use twkb_geom::{Flat, Geometry, Limits};
@@ -43,7 +43,7 @@ fn builds(alloc: Global, flat: &Flat, expected: &Geometry) -> bool {
 fn a_geometry_is_whole_or_refused(rt: HostRuntime) {
     let alloc = rt.alloc();
     if let (Some(flat), Some(expected)) = (
-        point_and_line(alloc),
+        form(alloc, POINT_AND_LINE),
         geometries::point_and_line(alloc),
     ) {
         assert!(rt; builds(alloc, &flat, &expected), "a point and a line");
@@ -62,7 +62,7 @@ fn takes_a_row_again(alloc: Global, flat: &mut Flat) -> bool {
 
 #[test]
 fn a_push_into_a_cleared_form_asks_for_no_growth(rt: HostRuntime) {
-    if let Some(mut flat) = two_polygons(rt.alloc()) {
+    if let Some(mut flat) = form(rt.alloc(), TWO_POLYGONS) {
         assert!(rt; takes_a_row_again(rt.alloc(), &mut flat), "a growth");
     }
 }
@@ -82,7 +82,7 @@ fn takes_a_root(alloc: Global, flat: &mut Flat) -> bool {
 
 #[test]
 fn a_root_in_place_of_rows_asks_for_no_growth(rt: HostRuntime) {
-    if let Some(mut flat) = two_polygons(rt.alloc()) {
+    if let Some(mut flat) = form(rt.alloc(), TWO_POLYGONS) {
         assert!(rt; takes_a_root(rt.alloc(), &mut flat), "a growth");
     }
 }

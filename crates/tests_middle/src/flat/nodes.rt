@@ -1,7 +1,7 @@
 //! Nodes, points and counters of worked tables.
 use crate::forms::{
-    form, one_point, part, point, point_and_line, point_row, points, push_row, row, two_polygons,
-    two_rings, whole,
+    Entry, ONE_POINT, POINT_AND_LINE, TWO_POLYGONS, TWO_RINGS, form, point_row, points, push_row,
+    row,
 };
 use std::alloc::Global;
 use twkb_geom::{Flat, Kind, Node, NodeId, PointId, Row, Work};
@@ -37,35 +37,68 @@ fn counts(flat: &Flat, nodes: u32, points: u32) -> bool {
     flat.node_count() == nodes && flat.point_count() == points
 }
 
-// Whether it has these nodes, each a row, its next node, its first point and how many points it has, and so many points.
-fn has_nodes(flat: &Flat, points: u32, nodes: &[(Row, u32, u32, u32)]) -> bool {
-    let mut id = 0u32;
-    for (row, next, first, own) in nodes {
-        if !has_node(flat, id, *row, *next, *first, *own) {
+// A node by its row's depth, kind, id and precision, its next node, its first point and how many points it has.
+type Kept = (u32, Kind, Option<i64>, Option<i8>, u32, u32, u32);
+
+// Whether it has these nodes, and so many points.
+fn has_nodes(flat: &Flat, points: u32, nodes: &[Kept]) -> bool {
+    let mut place = 0u32;
+    for (depth, kind, id, precision, next, first, own) in nodes {
+        let row = row(*depth, *kind, *id, *precision);
+        if !has_node(flat, place, row, *next, *first, *own) {
             return false;
         }
-        id = id.saturating_add(1);
+        place = place.saturating_add(1);
     }
-    counts(flat, id, points)
+    counts(flat, place, points)
 }
 
 // Whether a form was made, and has these nodes.
-fn is_made(flat: Option<Flat>, points: u32, nodes: &[(Row, u32, u32, u32)]) -> bool {
+fn is_made(flat: Option<Flat>, points: u32, nodes: &[Kept]) -> bool {
     match flat {
         Some(flat) => has_nodes(&flat, points, nodes),
         None => false,
     }
 }
 
+const FORMS: [(&[Entry], u32, &[Kept]); 3] = [
+    (
+        TWO_RINGS,
+        6,
+        &[
+            (0, Kind::Polygon, None, Some(0), 3, 0, 0),
+            (1, Kind::Ring, None, None, 2, 0, 3),
+            (1, Kind::Ring, None, None, 3, 3, 3),
+        ],
+    ),
+    (
+        POINT_AND_LINE,
+        1,
+        &[
+            (0, Kind::Collection, None, Some(0), 3, 0, 0),
+            (1, Kind::Point, Some(7), Some(0), 2, 0, 1),
+            (1, Kind::Linestring, Some(-1), Some(0), 3, 1, 0),
+        ],
+    ),
+    (
+        TWO_POLYGONS,
+        1,
+        &[
+            (0, Kind::MultiPolygon, None, Some(0), 5, 0, 0),
+            (1, Kind::Polygon, Some(3), None, 4, 0, 0),
+            (2, Kind::Ring, None, None, 3, 0, 1),
+            (2, Kind::Ring, None, None, 4, 1, 0),
+            (1, Kind::Polygon, Some(4), None, 5, 1, 0),
+        ],
+    ),
+];
+
 #[test]
-fn nodes_of_two_rings(rt: HostRuntime) {
-    let ring = part(1, Kind::Ring);
-    let nodes = [
-        (whole(0, Kind::Polygon), 3, 0, 0),
-        (ring, 2, 0, 3),
-        (ring, 3, 3, 3),
-    ];
-    assert!(rt; is_made(two_rings(rt.alloc()), 6, &nodes), "nodes");
+fn each_form_has_its_nodes(rt: HostRuntime) {
+    for (rows, points, nodes) in &FORMS {
+        let flat = form(rt.alloc(), *rows);
+        assert!(rt; is_made(flat, *points, *nodes), "{} nodes", nodes.len());
+    }
 }
 
 // Whether a form was made, and has these points at two places.
@@ -81,37 +114,13 @@ fn has_both(flat: Option<Flat>, first: (u32, i64, i64), second: (u32, i64, i64))
 
 #[test]
 fn points_of_two_rings(rt: HostRuntime) {
-    let flat = two_rings(rt.alloc());
+    let flat = form(rt.alloc(), TWO_RINGS);
     assert!(rt; has_both(flat, (1, 4, 0), (5, 1, 2)), "one of each ring");
-}
-
-#[test]
-fn nodes_of_a_point_and_a_line(rt: HostRuntime) {
-    let line = row(1, Kind::Linestring, Some(-1), Some(0));
-    let nodes = [
-        (whole(0, Kind::Collection), 3, 0, 0),
-        (point(1, Some(7), Some(0)), 2, 0, 1),
-        (line, 3, 1, 0),
-    ];
-    assert!(rt; is_made(point_and_line(rt.alloc()), 1, &nodes), "nodes");
-}
-
-#[test]
-fn nodes_of_two_polygons(rt: HostRuntime) {
-    let ring = part(2, Kind::Ring);
-    let nodes = [
-        (whole(0, Kind::MultiPolygon), 5, 0, 0),
-        (row(1, Kind::Polygon, Some(3), None), 4, 0, 0),
-        (ring, 3, 0, 1),
-        (ring, 4, 1, 0),
-        (row(1, Kind::Polygon, Some(4), None), 5, 1, 0),
-    ];
-    assert!(rt; is_made(two_polygons(rt.alloc()), 1, &nodes), "nodes");
 }
 
 // A form of five rows, cleared.
 fn cleared(alloc: Global) -> Option<Flat> {
-    let mut flat = two_polygons(alloc)?;
+    let mut flat = form(alloc, TWO_POLYGONS)?;
     flat.clear();
     Some(flat)
 }
@@ -141,7 +150,7 @@ fn is_the_point(flat: Option<Flat>) -> bool {
     match flat {
         Some(flat) => {
             !flat.is_empty()
-                && has_nodes(&flat, 1, &[(point_row(), 1, 0, 1)])
+                && has_nodes(&flat, 1, &[(0, Kind::Point, None, Some(0), 1, 0, 1)])
                 && has_point(&flat, 0, 2, 1)
         }
         None => false,
@@ -171,28 +180,20 @@ fn counters_stay(flat: Option<Flat>) -> bool {
 
 #[test]
 fn counters_stop_at_the_greatest_number(rt: HostRuntime) {
-    assert!(rt; counters_stay(one_point(rt.alloc())), "both counters");
-}
-
-// A member of a collection.
-fn member() -> Row {
-    point(1, None, Some(0))
+    assert!(rt; counters_stay(form(rt.alloc(), ONE_POINT)), "both counters");
 }
 
 // A collection of three points: four rows and three points.
-fn three_members(alloc: Global) -> Option<Flat> {
-    let rows: [(Row, &[(i64, i64)]); 4] = [
-        (whole(0, Kind::Collection), &[]),
-        (member(), &[(1, 0)]),
-        (member(), &[(2, 0)]),
-        (member(), &[(3, 0)]),
-    ];
-    form(alloc, &rows)
-}
+const THREE_MEMBERS: &[Entry] = &[
+    (0, Kind::Collection, None, Some(0), &[]),
+    (1, Kind::Point, None, Some(0), &[(1, 0)]),
+    (1, Kind::Point, None, Some(0), &[(2, 0)]),
+    (1, Kind::Point, None, Some(0), &[(3, 0)]),
+];
 
 // Whether a push of one row and six points, which needs room for both, appends them or changes nothing.
 fn appends_or_stays(alloc: Global, flat: &mut Flat) -> bool {
-    let line = whole(1, Kind::Linestring);
+    let line = row(1, Kind::Linestring, None, Some(0));
     let places = [(5, 6), (7, 8), (5, 6), (7, 8), (5, 6), (7, 8)];
     let Some(own) = points(alloc, &places) else {
         return true;
@@ -210,13 +211,13 @@ fn appends_or_stays(alloc: Global, flat: &mut Flat) -> bool {
 // Whether the rows before that push stay as they were.
 fn stays_before(alloc: Global, flat: &mut Flat) -> bool {
     appends_or_stays(alloc, flat)
-        && has_node(flat, 3, member(), 4, 2, 1)
+        && has_node(flat, 3, row(1, Kind::Point, None, Some(0)), 4, 2, 1)
         && has_point(flat, 2, 3, 0)
 }
 
 #[test]
 fn a_push_without_memory_changes_nothing(rt: HostRuntime) {
-    if let Some(mut flat) = three_members(rt.alloc()) {
+    if let Some(mut flat) = form(rt.alloc(), THREE_MEMBERS) {
         assert!(rt; stays_before(rt.alloc(), &mut flat), "rows and points");
     }
 }

@@ -1,7 +1,7 @@
 //! Sinks that refuse a put.
 ghost use Rattle.std.specs.Prelude.{◌<◌};
 
-use crate::forms::{point_and_line, whole};
+use crate::forms::{POINT_AND_LINE, form, row};
 use std::alloc::Global;
 use twkb_geom::{Flat, Kind, Work};
 use twkb_io::{Fuse, FuseEnd, Output, Tap};
@@ -56,7 +56,7 @@ fn keeps_each_front(flat: Option<Flat>, style: Style, blob: &[u8], alloc: Global
 #[test]
 fn a_front_is_written_where_the_device_fails_at_each_byte(rt: HostRuntime) {
     let blob = b"\x07\x07\x0F\x02\x00\x02\x00\x02\x0E\x01\x01\x02\x02\x02\x02\x02\x12\x00";
-    let flat = point_and_line(rt.alloc());
+    let flat = form(rt.alloc(), POINT_AND_LINE);
     assert!(rt;
         keeps_each_front(flat, Style::Full, blob.as_slice(), rt.alloc()),
         "fronts"
@@ -78,7 +78,7 @@ fn slope(count: u32, alloc: Global) -> Option<Vec<Pt>> {
 fn long_line(alloc: Global) -> Option<Flat> {
     let points = slope(1100, alloc)?;
     let mut flat = Flat::new(alloc);
-    let row = whole(0, Kind::Linestring);
+    let row = row(0, Kind::Linestring, None, Some(0));
     if !flat.admits(&row, points.as_slice()) {
         return None;
     }

@@ -1,10 +1,10 @@
 //! Room that is lent for one geometry after another: each blob is that of the geometry alone, whatever came before it.
-use super::blobs::{is_written, one_row};
+use super::blobs::is_written;
 use crate::forms::{
-    nested_collections, one_point, point_and_line, two_points, two_polygons, two_rings,
+    Entry, NINE_COLLECTIONS, ONE_POINT, POINT_AND_LINE, TWO_POINTS, TWO_POLYGONS, TWO_RINGS, form,
+    nested_collections,
 };
 use std::alloc::Global;
-use std::process::Abort;
 use twkb_geom::{Flat, Kind, Work};
 use twkb_io::{Bytes, Count, Fuse, FuseEnd, Output, Tap};
 use twkb_writer::{Depths, Piece, Sizes, Style, measure_into, write_through};
@@ -53,108 +53,132 @@ fn is_blob(flat: Option<Flat>, style: Style, bytes: &[u8], room: &mut Room, allo
     }
 }
 
-// Asserts that it has this full blob.
-fn assert_full(rt: &impl Abort, flat: Option<Flat>, bytes: &[u8], room: &mut Room, alloc: Global) {
-    assert!(rt; is_blob(flat, Style::Full, bytes, room, alloc), "{bytes:?}");
-}
+// A table, a style, and its blob.
+type Worked = (&'static [Entry], Style, &'static [u8]);
 
-// Asserts that it has this plain blob.
-fn assert_plain(rt: &impl Abort, flat: Option<Flat>, bytes: &[u8], room: &mut Room, alloc: Global) {
-    assert!(rt;
-        is_blob(flat, Style::Plain, bytes, room, alloc),
-        "{bytes:?}"
-    );
-}
+const NINE: Worked = (
+    NINE_COLLECTIONS,
+    Style::Full,
+    b"\x07\x02\x20\x01\x07\x02\x1C\x01\x07\x02\x18\x01\x07\x02\x14\x01\x07\x02\x10\x01\x07\x02\x0C\x01\x07\x02\x08\x01\x07\x02\x04\x01\x07\x12\x00",
+);
 
-// Asserts that nine collections in one another have their blob.
-fn nine_collections(rt: &impl Abort, room: &mut Room, alloc: Global) {
-    let bytes =
-        b"\x07\x02\x20\x01\x07\x02\x1C\x01\x07\x02\x18\x01\x07\x02\x14\x01\x07\x02\x10\x01\x07\x02\x0C\x01\x07\x02\x08\x01\x07\x02\x04\x01\x07\x12\x00";
-    assert_full(rt, nested_collections(alloc, 9), bytes, room, alloc);
-}
+const POLYGONS: Worked = (
+    TWO_POLYGONS,
+    Style::Full,
+    b"\x06\x07\x0D\x02\x00\x02\x00\x02\x06\x08\x02\x01\x02\x02\x00\x00",
+);
 
-// Asserts that a point has its blob in each style.
-fn a_point(rt: &impl Abort, room: &mut Room, alloc: Global) {
-    assert_full(rt, one_point(alloc), b"\x01\x02\x02\x04\x02", room, alloc);
-    assert_plain(rt, one_point(alloc), b"\x01\x00\x04\x02", room, alloc);
-}
+const MEMBERS: Worked = (
+    POINT_AND_LINE,
+    Style::Full,
+    b"\x07\x07\x0F\x02\x00\x02\x00\x02\x0E\x01\x01\x02\x02\x02\x02\x02\x12\x00",
+);
 
-// Asserts that an empty line has its blob in each style.
-fn an_empty_line(rt: &impl Abort, room: &mut Room, alloc: Global) {
-    let full = one_row(Kind::Linestring, 0, &[], alloc);
-    assert_full(rt, full, b"\x02\x12\x00", room, alloc);
-    let plain = one_row(Kind::Linestring, 0, &[], alloc);
-    assert_plain(rt, plain, b"\x02\x10", room, alloc);
-}
+const PLAIN_MEMBERS: Worked = (
+    POINT_AND_LINE,
+    Style::Plain,
+    b"\x07\x04\x02\x0E\x01\x01\x00\x02\x02\x02\x10",
+);
 
-// Asserts that a polygon of two rings has its blob in each style.
-fn rings(rt: &impl Abort, room: &mut Room, alloc: Global) {
-    let full =
-        b"\x03\x03\x13\x00\x08\x00\x08\x02\x03\x00\x00\x08\x00\x07\x08\x03\x02\x05\x02\x00\x01\x02";
-    assert_full(rt, two_rings(alloc), full, room, alloc);
-    let plain = b"\x03\x00\x02\x03\x00\x00\x08\x00\x07\x08\x03\x02\x05\x02\x00\x01\x02";
-    assert_plain(rt, two_rings(alloc), plain, room, alloc);
-}
+const RINGS: Worked = (
+    TWO_RINGS,
+    Style::Full,
+    b"\x03\x03\x13\x00\x08\x00\x08\x02\x03\x00\x00\x08\x00\x07\x08\x03\x02\x05\x02\x00\x01\x02",
+);
 
-// Asserts that a multipoint with ids has its blob in each style.
-fn named_points(rt: &impl Abort, room: &mut Room, alloc: Global) {
-    let full = b"\x04\x07\x0B\x00\x02\x00\x02\x02\x02\x04\x00\x00\x02\x02";
-    assert_full(rt, two_points(alloc), full, room, alloc);
-    let plain = b"\x04\x04\x02\x02\x04\x00\x00\x02\x02";
-    assert_plain(rt, two_points(alloc), plain, room, alloc);
-}
+const PLAIN_RINGS: Worked = (
+    TWO_RINGS,
+    Style::Plain,
+    b"\x03\x00\x02\x03\x00\x00\x08\x00\x07\x08\x03\x02\x05\x02\x00\x01\x02",
+);
 
-// Asserts that a collection with ids has its blob in each style.
-fn members(rt: &impl Abort, room: &mut Room, alloc: Global) {
-    let full = b"\x07\x07\x0F\x02\x00\x02\x00\x02\x0E\x01\x01\x02\x02\x02\x02\x02\x12\x00";
-    assert_full(rt, point_and_line(alloc), full, room, alloc);
-    let plain = b"\x07\x04\x02\x0E\x01\x01\x00\x02\x02\x02\x10";
-    assert_plain(rt, point_and_line(alloc), plain, room, alloc);
-}
+const NAMED: Worked = (
+    TWO_POINTS,
+    Style::Full,
+    b"\x04\x07\x0B\x00\x02\x00\x02\x02\x02\x04\x00\x00\x02\x02",
+);
 
-// Asserts that a multipolygon with ids has its blob.
-fn polygons(rt: &impl Abort, room: &mut Room, alloc: Global) {
-    let bytes = b"\x06\x07\x0D\x02\x00\x02\x00\x02\x06\x08\x02\x01\x02\x02\x00\x00";
-    assert_full(rt, two_polygons(alloc), bytes, room, alloc);
-}
+const PLAIN_NAMED: Worked = (
+    TWO_POINTS,
+    Style::Plain,
+    b"\x04\x04\x02\x02\x04\x00\x00\x02\x02",
+);
 
-// Asserts that a form without rows has no bytes in either style.
-fn no_rows(rt: &impl Abort, room: &mut Room, alloc: Global) {
-    assert_full(rt, Some(Flat::new(alloc)), b"", room, alloc);
-    assert_plain(rt, Some(Flat::new(alloc)), b"", room, alloc);
+const POINT: Worked = (ONE_POINT, Style::Full, b"\x01\x02\x02\x04\x02");
+
+const PLAIN_POINT: Worked = (ONE_POINT, Style::Plain, b"\x01\x00\x04\x02");
+
+const NO_POINTS: &[Entry] = &[(0, Kind::Linestring, None, Some(0), &[])];
+
+const EMPTY: Worked = (NO_POINTS, Style::Full, b"\x02\x12\x00");
+
+const PLAIN_EMPTY: Worked = (NO_POINTS, Style::Plain, b"\x02\x10");
+
+const NO_ROWS: Worked = (&[], Style::Full, b"");
+
+const PLAIN_NO_ROWS: Worked = (&[], Style::Plain, b"");
+
+// Whether each of these tables has its blob, made in lent room, behind the one before it.
+fn are_blobs(worked: &[Worked], room: &mut Room, alloc: Global) -> bool {
+    for (rows, style, bytes) in worked {
+        if !is_blob(form(alloc, *rows), *style, *bytes, room, alloc) {
+            return false;
+        }
+    }
+    true
 }
 
 // Nine, two, one and no levels below the root.
-#[test]
-fn less_nested_geometries_come_behind_more_nested_ones(rt: HostRuntime) {
-    let mut room = Room::new(rt.alloc());
-    nine_collections(&rt, &mut room, rt.alloc());
-    polygons(&rt, &mut room, rt.alloc());
-    members(&rt, &mut room, rt.alloc());
-    a_point(&rt, &mut room, rt.alloc());
-    no_rows(&rt, &mut room, rt.alloc());
-}
+const DOWN: &[Worked] = &[
+    NINE,
+    POLYGONS,
+    MEMBERS,
+    PLAIN_MEMBERS,
+    POINT,
+    PLAIN_POINT,
+    NO_ROWS,
+    PLAIN_NO_ROWS,
+];
 
 // No, one, two and nine levels below the root.
-#[test]
-fn more_nested_geometries_come_behind_less_nested_ones(rt: HostRuntime) {
-    let mut room = Room::new(rt.alloc());
-    no_rows(&rt, &mut room, rt.alloc());
-    an_empty_line(&rt, &mut room, rt.alloc());
-    rings(&rt, &mut room, rt.alloc());
-    polygons(&rt, &mut room, rt.alloc());
-    nine_collections(&rt, &mut room, rt.alloc());
-}
+const UP: &[Worked] = &[
+    NO_ROWS,
+    PLAIN_NO_ROWS,
+    EMPTY,
+    PLAIN_EMPTY,
+    RINGS,
+    PLAIN_RINGS,
+    POLYGONS,
+    NINE,
+];
 
 // One level below the root.
+const LEVEL: &[Worked] = &[
+    MEMBERS,
+    PLAIN_MEMBERS,
+    RINGS,
+    PLAIN_RINGS,
+    NAMED,
+    PLAIN_NAMED,
+    RINGS,
+    PLAIN_RINGS,
+    MEMBERS,
+    PLAIN_MEMBERS,
+];
+
+const ORDERS: [(&str, &[Worked]); 3] = [
+    ("less nested ones come behind more nested ones", DOWN),
+    ("more nested ones come behind less nested ones", UP),
+    ("ones of one nesting come behind each other", LEVEL),
+];
+
 #[test]
-fn geometries_of_one_nesting_come_behind_each_other(rt: HostRuntime) {
-    let mut room = Room::new(rt.alloc());
-    members(&rt, &mut room, rt.alloc());
-    rings(&rt, &mut room, rt.alloc());
-    named_points(&rt, &mut room, rt.alloc());
-    rings(&rt, &mut room, rt.alloc());
-    members(&rt, &mut room, rt.alloc());
+fn geometries_come_behind_others(rt: HostRuntime) {
+    for (name, worked) in &ORDERS {
+        let mut room = Room::new(rt.alloc());
+        let are_right = are_blobs(*worked, &mut room, rt.alloc());
+        assert!(rt; are_right, "{name}");
+    }
 }
 
 // Whether a device that takes no more than these bytes refuses the full blob of a flat form.
@@ -183,23 +207,21 @@ fn is_refused(flat: &Flat, bytes: u64, room: &mut Room, alloc: Global) -> bool {
     }
 }
 
-// Asserts that the blob of five levels is refused, and the blobs behind it are those of their geometries.
-fn assert_goes_on(rt: &impl Abort, bytes: u64, alloc: Global) {
+// Whether the blob of five levels is refused, and the blobs behind it are those of their geometries.
+fn goes_on(bytes: u64, alloc: Global) -> bool {
     let mut room = Room::new(alloc);
     let is_refused = match nested_collections(alloc, 5) {
         Some(nested) => is_refused(&nested, bytes, &mut room, alloc),
         None => false,
     };
-    assert!(rt; is_refused, "behind {bytes} bytes");
-    members(rt, &mut room, alloc);
-    a_point(rt, &mut room, alloc);
-    nine_collections(rt, &mut room, alloc);
+    let behind = [MEMBERS, PLAIN_MEMBERS, POINT, PLAIN_POINT, NINE];
+    is_refused && are_blobs(&behind, &mut room, alloc)
 }
 
 #[test]
 fn blobs_behind_a_refused_one_are_whole(rt: HostRuntime) {
     for bytes in [0, 1, 7, 18] {
-        assert_goes_on(&rt, bytes, rt.alloc());
+        assert!(rt; goes_on(bytes, rt.alloc()), "behind {bytes} bytes");
     }
 }
 
@@ -236,9 +258,9 @@ fn asks_for_no_growth(largest: &Flat, others: [&Flat; 2], alloc: Global) -> bool
 fn room_that_has_grown_grows_no_more(rt: HostRuntime) {
     let alloc = rt.alloc();
     if let (Some(largest), Some(other), Some(point)) = (
-        nested_collections(alloc, 9),
-        two_polygons(alloc),
-        one_point(alloc),
+        form(alloc, NINE_COLLECTIONS),
+        form(alloc, TWO_POLYGONS),
+        form(alloc, ONE_POINT),
     ) {
         assert!(rt;
             asks_for_no_growth(&largest, [&other, &point], alloc),

@@ -1,6 +1,5 @@
 //! The line and the status of each cause, as docs/FORMATS.md has them.
 use std::alloc::Global;
-use std::process::Abort;
 use twkb_convert::{BlobReason, Cause};
 use twkb_io::Tap;
 use twkb_polyline::PolyReason;
@@ -27,20 +26,6 @@ fn record(alloc: Global, reason: RowReason, text: &str) -> bool {
     is_first && is_told(alloc, last, 1, "record 4294967295: ", text)
 }
 
-fn assert_records(rt: &impl Abort, alloc: Global, rows: &[(RowReason, &str)]) {
-    for (reason, text) in rows {
-        assert!(rt; record(alloc, *reason, *text), "{text}");
-    }
-}
-
-// Asserts that a record that is refused at an offset of its polyline has this text.
-fn assert_polylines(rt: &impl Abort, alloc: Global, rows: &[(usize, PolyReason, &str)]) {
-    for (offset, reason, text) in rows {
-        let reason = RowReason::Polyline(*offset, *reason);
-        assert!(rt; record(alloc, reason, *text), "{text}");
-    }
-}
-
 // Whether an item that is refused for this reason, the first or the last, has this text.
 fn item(alloc: Global, reason: BlobReason, text: &str) -> bool {
     let first = Cause::Blob { offset: 0, reason };
@@ -50,82 +35,57 @@ fn item(alloc: Global, reason: BlobReason, text: &str) -> bool {
     is_first && is_told(alloc, last, 1, "byte 18446744073709551615: ", text)
 }
 
-const RECORDS: [(RowReason, &str); 4] = [
+const RECORDS: [(RowReason, &str); 22] = [
     (RowReason::BadHeader, "bad header"),
     (RowReason::FieldCount, "not five fields"),
     (RowReason::PolylineNotAllowed, "polyline not allowed"),
     (RowReason::PointCount, "wrong number of points"),
-];
-
-#[test]
-fn a_refused_record_has_its_line(rt: HostRuntime) {
-    assert_records(&rt, rt.alloc(), &RECORDS);
-}
-
-const PLACES: [(RowReason, &str); 5] = [
     (RowReason::BadDepth, "bad depth"),
     (RowReason::BadKind, "unknown kind"),
     (RowReason::BadPlace, "kind not allowed there"),
     (RowReason::TooDeep, "nested too deep"),
     (RowReason::TooManyNodes, "too many rows in one geometry"),
-];
-
-#[test]
-fn a_refused_place_has_its_line(rt: HostRuntime) {
-    assert_records(&rt, rt.alloc(), &PLACES);
-}
-
-const IDS: [(RowReason, &str); 3] = [
     (RowReason::BadId, "bad id"),
     (RowReason::IdNotAllowed, "id not allowed"),
     (RowReason::MixedIds, "id on some children only"),
-];
-
-#[test]
-fn a_refused_id_has_its_line(rt: HostRuntime) {
-    assert_records(&rt, rt.alloc(), &IDS);
-}
-
-const PRECISIONS: [(RowReason, &str); 3] = [
     (RowReason::BadPrecision, "bad precision"),
     (RowReason::PrecisionMissing, "precision missing"),
     (RowReason::PrecisionNotAllowed, "precision not allowed"),
-];
-
-#[test]
-fn a_refused_precision_has_its_line(rt: HostRuntime) {
-    assert_records(&rt, rt.alloc(), &PRECISIONS);
-}
-
-const NUMBERS: [(usize, PolyReason, &str); 4] = [
-    (0, PolyReason::BadChar, "polyline at 0: bad character"),
-    (1, PolyReason::Cut, "polyline at 1: number cut short"),
-    (20, PolyReason::TooLong, "polyline at 20: number too long"),
-    (3, PolyReason::Padded, "polyline at 3: padded number"),
-];
-
-#[test]
-fn a_refused_number_of_a_polyline_has_its_line(rt: HostRuntime) {
-    assert_polylines(&rt, rt.alloc(), &NUMBERS);
-}
-
-const POINTS: [(usize, PolyReason, &str); 3] = [
     (
-        4,
-        PolyReason::Half,
+        RowReason::Polyline(0, PolyReason::BadChar),
+        "polyline at 0: bad character",
+    ),
+    (
+        RowReason::Polyline(1, PolyReason::Cut),
+        "polyline at 1: number cut short",
+    ),
+    (
+        RowReason::Polyline(20, PolyReason::TooLong),
+        "polyline at 20: number too long",
+    ),
+    (
+        RowReason::Polyline(3, PolyReason::Padded),
+        "polyline at 3: padded number",
+    ),
+    (
+        RowReason::Polyline(4, PolyReason::Half),
         "polyline at 4: latitude without longitude",
     ),
     (
-        5,
-        PolyReason::Range,
+        RowReason::Polyline(5, PolyReason::Range),
         "polyline at 5: coordinate out of range",
     ),
-    (6, PolyReason::TooMany, "polyline at 6: too many points"),
+    (
+        RowReason::Polyline(6, PolyReason::TooMany),
+        "polyline at 6: too many points",
+    ),
 ];
 
 #[test]
-fn a_refused_point_of_a_polyline_has_its_line(rt: HostRuntime) {
-    assert_polylines(&rt, rt.alloc(), &POINTS);
+fn a_refused_record_has_its_line(rt: HostRuntime) {
+    for (reason, text) in &RECORDS {
+        assert!(rt; record(rt.alloc(), *reason, *text), "{text}");
+    }
 }
 
 const ITEMS: [(BlobReason, &str); 9] = [

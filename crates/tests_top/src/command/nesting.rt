@@ -54,111 +54,103 @@ fn packs(alloc: Global, line: &str, rows: &str, status: u8, blobs: &[u8], told: 
     ends(alloc, line, table.as_bytes(), status, blobs, told)
 }
 
-#[test]
-fn seventeen_collections_are_packed(rt: HostRuntime) {
-    let alloc = rt.alloc();
-    assert!(rt; packs(alloc, "polytwkb pack", "", 0, FULL, b""));
-    assert!(rt; packs(alloc, "polytwkb pack --max-nest 16", "", 0, FULL, b""));
-    assert!(rt; packs(alloc, "polytwkb pack --max-nest 32", "", 0, FULL, b""));
-}
+// The words of a line, the row behind the seventeen, the status, the blob, and what is told.
+const PACKED: [(&str, &str, u8, &[u8], &[u8]); 6] = [
+    ("polytwkb pack", "", 0, FULL, b""),
+    ("polytwkb pack --max-nest 16", "", 0, FULL, b""),
+    ("polytwkb pack --max-nest 32", "", 0, FULL, b""),
+    (
+        "polytwkb pack",
+        "17,point,,0,\n",
+        1,
+        b"",
+        b"polytwkb: record 19: nested too deep\n",
+    ),
+    (
+        "polytwkb pack --max-nest 15",
+        "",
+        1,
+        b"",
+        b"polytwkb: record 18: nested too deep\n",
+    ),
+    (
+        "polytwkb pack --max-nest 0",
+        "",
+        1,
+        b"",
+        b"polytwkb: record 3: nested too deep\n",
+    ),
+];
 
 #[test]
-fn a_row_in_too_many_collections_ends_with_1(rt: HostRuntime) {
-    let alloc = rt.alloc();
-    let point = "17,point,,0,\n";
-    let deep = b"polytwkb: record 19: nested too deep\n";
-    let last = b"polytwkb: record 18: nested too deep\n";
-    let first = b"polytwkb: record 3: nested too deep\n";
-    assert!(rt; packs(alloc, "polytwkb pack", point, 1, b"", deep));
-    assert!(rt; packs(alloc, "polytwkb pack --max-nest 15", "", 1, b"", last));
-    assert!(rt; packs(alloc, "polytwkb pack --max-nest 0", "", 1, b"", first));
+fn collections_are_packed_as_deep_as_is_said(rt: HostRuntime) {
+    for (line, rows, status, blobs, told) in &PACKED {
+        assert!(rt;
+            packs(rt.alloc(), *line, *rows, *status, *blobs, *told),
+            "{line}: {told:?}"
+        );
+    }
 }
 
-#[test]
-fn seventeen_collections_are_unpacked(rt: HostRuntime) {
-    let alloc = rt.alloc();
-    let none = b"\x07\x10";
-    assert!(rt; unpacks(alloc, "polytwkb unpack", none, 0, SEVENTEEN, b""));
-    assert!(rt;
-        unpacks(
-            alloc,
-            "polytwkb unpack --max-nest 16",
-            none,
-            0,
-            SEVENTEEN,
-            b""
-        )
-    );
-    assert!(rt;
-        unpacks(
-            alloc,
-            "polytwkb unpack --max-nest 32",
-            none,
-            0,
-            SEVENTEEN,
-            b""
-        )
-    );
-}
+// A collection without members; and one of one more.
+const NONE: &[u8] = b"\x07\x10";
+
+const ONE_MORE: &[u8] = b"\x07\x00\x01\x07\x10";
+
+// The words of a line, what stands behind the sixteen headers, the status, the rows, and what is told.
+const UNPACKED: [(&str, &[u8], u8, &str, &[u8]); 6] = [
+    ("polytwkb unpack", NONE, 0, SEVENTEEN, b""),
+    ("polytwkb unpack --max-nest 16", NONE, 0, SEVENTEEN, b""),
+    ("polytwkb unpack --max-nest 32", NONE, 0, SEVENTEEN, b""),
+    (
+        "polytwkb unpack",
+        ONE_MORE,
+        1,
+        "",
+        b"polytwkb: byte 50: nested too deep\n",
+    ),
+    (
+        "polytwkb unpack --max-nest 15",
+        NONE,
+        1,
+        "",
+        b"polytwkb: byte 47: nested too deep\n",
+    ),
+    (
+        "polytwkb unpack --max-nest 0",
+        NONE,
+        1,
+        "",
+        b"polytwkb: byte 2: nested too deep\n",
+    ),
+];
 
 #[test]
-fn a_member_in_too_many_collections_ends_with_1(rt: HostRuntime) {
-    let alloc = rt.alloc();
-    let one_more = b"\x07\x00\x01\x07\x10";
-    let deep = b"polytwkb: byte 50: nested too deep\n";
-    let last = b"polytwkb: byte 47: nested too deep\n";
-    let first = b"polytwkb: byte 2: nested too deep\n";
-    assert!(rt; unpacks(alloc, "polytwkb unpack", one_more, 1, "", deep));
-    assert!(rt;
-        unpacks(
-            alloc,
-            "polytwkb unpack --max-nest 15",
-            b"\x07\x10",
-            1,
-            "",
-            last
-        )
-    );
-    assert!(rt;
-        unpacks(
-            alloc,
-            "polytwkb unpack --max-nest 0",
-            b"\x07\x10",
-            1,
-            "",
-            first
-        )
-    );
+fn collections_are_unpacked_as_deep_as_is_said(rt: HostRuntime) {
+    for (line, more, status, rows, told) in &UNPACKED {
+        assert!(rt;
+            unpacks(rt.alloc(), *line, *more, *status, *rows, *told),
+            "{line}: {told:?}"
+        );
+    }
+}
+
+// Whether eighteen collections are unpacked where so many are allowed.
+fn unpacks_eighteen(alloc: Global) -> bool {
+    let Ok(rows) = format!(in alloc; "{SEVENTEEN}17,collection,,0,\n") else {
+        return false;
+    };
+    unpacks(
+        alloc,
+        "polytwkb unpack --max-nest 17",
+        ONE_MORE,
+        0,
+        rows.as_str(),
+        b"",
+    )
 }
 
 #[test]
 fn a_larger_nesting_takes_eighteen_collections(rt: HostRuntime) {
-    let alloc = rt.alloc();
-    let Ok(rows) = format!(in alloc; "{SEVENTEEN}17,collection,,0,\n") else {
-        return;
-    };
-    let line = "polytwkb unpack --max-nest 17";
-    assert!(rt; unpacks(alloc, line, b"\x07\x00\x01\x07\x10", 0, rows.as_str(), b""));
-}
-
-// A collection with a point in it, where a geometry may stand in none.
-#[test]
-fn no_collection_may_have_members(rt: HostRuntime) {
-    let alloc = rt.alloc();
-    let stream = b"\x07\x00\x01\x01\x00\x02\x02";
-    let header = HEADER.as_bytes();
-    let told = b"polytwkb: byte 2: nested too deep\n";
-    assert!(rt;
-        ends(
-            alloc,
-            "polytwkb unpack --max-nest 0",
-            stream,
-            1,
-            header,
-            told
-        )
-    );
-    assert!(rt; ends(alloc, "polytwkb show --max-nest 0", stream, 1, b"", told));
-    let shown = b"0 0 collection 0 00 7 1\n1 3 point 0 00 4 1\n";
-    assert!(rt; ends(alloc, "polytwkb show --max-nest 1", stream, 0, shown, b""));
+    assert!(rt; unpacks_eighteen(rt.alloc()));
 }

@@ -2,7 +2,6 @@
 use super::{POINT_TABLE, run_line};
 use std::alloc::Global;
 use std::io::ErrorKind;
-use std::process::Abort;
 use twkb_command::run;
 use twkb_io::Tap;
 use twkb_request::{lack_memory, lack_words};
@@ -22,14 +21,8 @@ fn is_refused(alloc: Global, line: &str, named: &str) -> bool {
     status == Some(2) && is_unwritten && is_named
 }
 
-// Asserts that each line is refused with a text that has its word in it.
-fn assert_refused(rt: &impl Abort, alloc: Global, rows: &[(&str, &str)]) {
-    for (line, named) in rows {
-        assert!(rt; is_refused(alloc, *line, *named), "{line}");
-    }
-}
-
-const NESTINGS: [(&str, &str); 8] = [
+// Lines, and the word that their text names: nestings and styles that are none, and words that are unknown.
+const REFUSED: [(&str, &str); 21] = [
     ("polytwkb pack --max-nest 33", "'33'"),
     ("polytwkb unpack --max-nest 33", "'33'"),
     ("polytwkb show --max-nest 33", "'33'"),
@@ -38,28 +31,12 @@ const NESTINGS: [(&str, &str); 8] = [
     ("polytwkb pack --max-nest", "--max-nest"),
     ("polytwkb pack --max-nest 1 --max-nest 2", "--max-nest"),
     ("polytwkb --max-nest 3", "--max-nest"),
-];
-
-#[test]
-fn a_nesting_that_is_none_ends_with_2(rt: HostRuntime) {
-    assert_refused(&rt, rt.alloc(), &NESTINGS);
-}
-
-const STYLES: [(&str, &str); 6] = [
     ("polytwkb pack --style thin", "'thin'"),
     ("polytwkb pack --style Plain", "'Plain'"),
     ("polytwkb pack --style", "--style"),
     ("polytwkb pack --style plain --style plain", "--style"),
     ("polytwkb unpack --style plain", "--style"),
     ("polytwkb show --style full", "--style"),
-];
-
-#[test]
-fn a_style_that_is_none_ends_with_2(rt: HostRuntime) {
-    assert_refused(&rt, rt.alloc(), &STYLES);
-}
-
-const UNKNOWN: [(&str, &str); 7] = [
     ("polytwkb", "subcommand"),
     ("polytwkb help", "'help'"),
     ("polytwkb more", "'more'"),
@@ -70,8 +47,10 @@ const UNKNOWN: [(&str, &str); 7] = [
 ];
 
 #[test]
-fn words_that_are_unknown_end_with_2(rt: HostRuntime) {
-    assert_refused(&rt, rt.alloc(), &UNKNOWN);
+fn words_that_are_refused_end_with_2(rt: HostRuntime) {
+    for (line, named) in &REFUSED {
+        assert!(rt; is_refused(rt.alloc(), *line, *named), "{line}");
+    }
 }
 
 #[test]
@@ -95,18 +74,25 @@ fn want_of_memory_ends_with_4(rt: HostRuntime) {
     assert!(rt; status == 4 && is_told);
 }
 
-#[test]
-fn words_without_memory_end_with_4(rt: HostRuntime) {
-    let mut errors = Tap::new(Vec::new(rt.alloc()));
-    let status = lack_words(&mut errors, ErrorKind::OutOfMemory);
-    let is_told = errors.into_inner().as_slice() == b"polytwkb: out of memory\n".as_slice();
-    assert!(rt; status == 4 && is_told);
+// The status of words that can't be had for this reason, where their line is this one.
+fn lacks(alloc: Global, kind: ErrorKind, line: &[u8]) -> Option<u8> {
+    let mut errors = Tap::new(Vec::new(alloc));
+    let status = lack_words(&mut errors, kind);
+    if errors.into_inner().as_slice() == line {
+        Some(status)
+    } else {
+        None
+    }
 }
 
 #[test]
-fn words_that_are_no_text_end_with_2(rt: HostRuntime) {
-    let mut errors = Tap::new(Vec::new(rt.alloc()));
-    let status = lack_words(&mut errors, ErrorKind::InvalidData);
-    let is_told = errors.into_inner().as_slice() == b"polytwkb: a word is not UTF-8\n".as_slice();
-    assert!(rt; status == 2 && is_told);
+fn words_without_memory_end_with_4_and_words_that_are_no_text_with_2(rt: HostRuntime) {
+    let short = lacks(
+        rt.alloc(),
+        ErrorKind::OutOfMemory,
+        b"polytwkb: out of memory\n",
+    );
+    assert!(rt; short == Some(4));
+    let line = b"polytwkb: a word is not UTF-8\n";
+    assert!(rt; lacks(rt.alloc(), ErrorKind::InvalidData, line) == Some(2));
 }

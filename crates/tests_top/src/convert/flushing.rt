@@ -2,7 +2,6 @@
 use super::edge_devices::{Conversion, Flushes};
 use super::{cut_writer, stopped};
 use std::alloc::Global;
-use std::process::Abort;
 use twkb_convert::Cause;
 use twkb_io::{FuseEnd, Tap};
 
@@ -24,47 +23,32 @@ fn flushes(
     (writer.into_inner().last_flushes(), answer.is_ok())
 }
 
-// Asserts that each conversion flushes once and last, and is carried through or is not.
-fn assert_flushed(
-    rt: &impl Abort,
-    alloc: Global,
-    rows: &[(Conversion, &[u8])],
-    is_carried_through: bool,
-) {
-    for (conversion, input) in rows {
-        let seen = flushes(alloc, *conversion, *input, 999);
+const REFUSED: &[u8] = b"depth,kind,id,precision,polyline\n0,point,,0,AC\n0,pont,,0,\n";
+
+// Inputs that are carried through, and inputs that are refused.
+#[test]
+fn a_conversion_flushes_once_and_last(rt: HostRuntime) {
+    let rows: [(Conversion, &[u8], bool); 12] = [
+        (Conversion::Pack, TABLE, true),
+        (Conversion::Pack, &TABLE[..33], true),
+        (Conversion::Unpack, BLOBS, true),
+        (Conversion::Unpack, b"", true),
+        (Conversion::Show, BLOBS, true),
+        (Conversion::Show, b"", true),
+        (Conversion::Pack, REFUSED, false),
+        (Conversion::Pack, b"", false),
+        (Conversion::Unpack, &BLOBS[..9], false),
+        (Conversion::Unpack, b"\x08", false),
+        (Conversion::Show, &BLOBS[..9], false),
+        (Conversion::Show, b"\x08", false),
+    ];
+    for (conversion, input, is_carried_through) in rows {
+        let seen = flushes(rt.alloc(), conversion, input, 999);
         assert!(rt;
             seen == (Some(1), is_carried_through),
             "{conversion:?} of {input:?}"
         );
     }
-}
-
-#[test]
-fn a_conversion_that_is_carried_through_flushes_once_and_last(rt: HostRuntime) {
-    let rows: [(Conversion, &[u8]); 6] = [
-        (Conversion::Pack, TABLE),
-        (Conversion::Pack, &TABLE[..33]),
-        (Conversion::Unpack, BLOBS),
-        (Conversion::Unpack, b""),
-        (Conversion::Show, BLOBS),
-        (Conversion::Show, b""),
-    ];
-    assert_flushed(&rt, rt.alloc(), &rows, true);
-}
-
-#[test]
-fn a_refused_input_flushes_once_and_last(rt: HostRuntime) {
-    let refused = b"depth,kind,id,precision,polyline\n0,point,,0,AC\n0,pont,,0,\n";
-    let rows: [(Conversion, &[u8]); 6] = [
-        (Conversion::Pack, refused),
-        (Conversion::Pack, b""),
-        (Conversion::Unpack, &BLOBS[..9]),
-        (Conversion::Unpack, b"\x08"),
-        (Conversion::Show, &BLOBS[..9]),
-        (Conversion::Show, b"\x08"),
-    ];
-    assert_flushed(&rt, rt.alloc(), &rows, false);
 }
 
 // Whether no flush follows where the writer takes so many bytes and no more.

@@ -1,7 +1,6 @@
 //! Streams that are refused, each at its byte for its reason, after the header's line.
 use super::{HEADER, stopped, unpacks_so};
 use std::alloc::Global;
-use std::process::Abort;
 use twkb_convert::{BlobReason, Cause};
 use twkb_geom::Limits;
 
@@ -22,16 +21,9 @@ fn refused(alloc: Global, blobs: &[u8], offset: u64, reason: BlobReason) -> bool
     refused_under(alloc, Limits::standard(), blobs, offset, reason)
 }
 
-// A stream, the offset at which it is refused, and why.
-type Refused = (&'static [u8], u64, BlobReason);
-
-fn assert_refused(rt: &impl Abort, alloc: Global, rows: &[Refused]) {
-    for (blobs, offset, reason) in rows {
-        assert!(rt; refused(alloc, *blobs, *offset, *reason), "{blobs:?}");
-    }
-}
-
-const ITEMS: [Refused; 6] = [
+// A stream, the offset at which it is refused, and why. First items, each at its first byte; then counts, which are looked at before
+// what follows them: they announce nodes and points; then sizes, each held against its geometry's end alone, of which an inner comes first.
+const REFUSED: [(&[u8], u64, BlobReason); 17] = [
     (b"\x08\x00", 0, BlobReason::BadType),
     (b"\x01\x08\x01", 2, BlobReason::ExtraDimensions),
     (
@@ -50,15 +42,6 @@ const ITEMS: [Refused; 6] = [
         2,
         BlobReason::Truncated,
     ),
-];
-
-#[test]
-fn a_refused_item_is_told_at_its_first_byte(rt: HostRuntime) {
-    assert_refused(&rt, rt.alloc(), &ITEMS);
-}
-
-// A count is looked at before what follows it: it announces nodes and points.
-const COUNTS: [Refused; 6] = [
     (
         b"\x02\x00\xff\xff\xff\xff\x0f",
         2,
@@ -77,15 +60,6 @@ const COUNTS: [Refused; 6] = [
         2,
         BlobReason::BadVarint,
     ),
-];
-
-#[test]
-fn a_count_is_refused_for_what_it_announces(rt: HostRuntime) {
-    assert_refused(&rt, rt.alloc(), &COUNTS);
-}
-
-// A size is held against its geometry's end alone, and an inner end comes first.
-const SIZES: [Refused; 5] = [
     (b"\x01\x02\x03\x04\x02", 5, BlobReason::SizeMismatch),
     (b"\x01\x02\x01\x04\x02", 5, BlobReason::SizeMismatch),
     (
@@ -106,8 +80,10 @@ const SIZES: [Refused; 5] = [
 ];
 
 #[test]
-fn a_size_is_refused_at_its_geometrys_end(rt: HostRuntime) {
-    assert_refused(&rt, rt.alloc(), &SIZES);
+fn each_stream_is_refused_at_its_byte(rt: HostRuntime) {
+    for (blobs, offset, reason) in &REFUSED {
+        assert!(rt; refused(rt.alloc(), *blobs, *offset, *reason), "{blobs:?}");
+    }
 }
 
 const MEMBERS: &[u8] = b"\x07\x07\x0f\x02\x00\x02\x00\x02\x0e\x01\x01\x02\x02\x02\x02\x02\x12\x00";

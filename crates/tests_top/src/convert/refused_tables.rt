@@ -1,7 +1,6 @@
 //! Tables that are refused, each at its record for its reason.
 use super::{HEADER, packs_so, stopped};
 use std::alloc::Global;
-use std::process::Abort;
 use twkb_convert::{Cause, Style};
 use twkb_geom::Limits;
 use twkb_polyline::PolyReason;
@@ -57,99 +56,117 @@ fn refused(
     is_refused(alloc, table.as_bytes(), limits, number, reason, blobs)
 }
 
-// Whether the only row is refused for this reason.
-fn only(alloc: Global, row: &str, reason: RowReason) -> bool {
-    refused(alloc, Limits::standard(), row, 2, reason, b"")
-}
-
-fn assert_only(rt: &impl Abort, alloc: Global, rows: &[(&str, RowReason)]) {
-    for (row, reason) in rows {
-        assert!(rt; only(alloc, *row, *reason), "{row}");
-    }
-}
-
-const FIRST_FIELDS: [(&str, RowReason); 9] = [
-    ("0,point,,0\n", RowReason::FieldCount),
-    ("0,point,,0,AC,\n", RowReason::FieldCount),
-    ("00,point,,0,AC\n", RowReason::BadDepth),
-    ("-1,point,,0,AC\n", RowReason::BadDepth),
-    ("1000,pont,,0,AC\n", RowReason::BadDepth),
-    ("0,pont,,0,AC\n", RowReason::BadKind),
-    ("1,point,,0,AC\n", RowReason::BadPlace),
-    ("1,point,x,,\n", RowReason::BadPlace),
-    ("0,ring,,,\n", RowReason::BadPlace),
-];
-
-#[test]
-fn the_fields_the_kind_and_the_place_come_first(rt: HostRuntime) {
-    assert_only(&rt, rt.alloc(), &FIRST_FIELDS);
-}
-
-const LAST_FIELDS: [(&str, RowReason); 8] = [
-    ("0,point,x,0,AC\n", RowReason::BadId),
-    ("0,point,07,8,AC\n", RowReason::BadId),
-    ("0,point,7,0,AC\n", RowReason::IdNotAllowed),
-    ("0,point,,8,AC\n", RowReason::BadPrecision),
-    ("0,point,,-0,AC\n", RowReason::BadPrecision),
-    ("0,point,,,AC\n", RowReason::PrecisionMissing),
-    ("0,polygon,,0,AC\n", RowReason::PolylineNotAllowed),
-    ("0,point,,0,AAAA\n", RowReason::PointCount),
-];
-
-#[test]
-fn the_id_the_precision_and_the_polyline_follow(rt: HostRuntime) {
-    assert_only(&rt, rt.alloc(), &LAST_FIELDS);
-}
-
-const POLYLINES: [(&str, usize, PolyReason); 6] = [
-    ("0,linestring,,0,A\n", 1, PolyReason::Half),
-    ("0,linestring,,0,_\n", 0, PolyReason::Cut),
-    ("0,linestring,,0,_?\n", 0, PolyReason::Padded),
-    ("0,linestring,,0,A A\n", 1, PolyReason::BadChar),
-    ("0,linestring,,0,~~~~~~~~~~~~~\n", 0, PolyReason::TooLong),
-    ("0,linestring,,0,____________G?\n", 0, PolyReason::Range),
-];
-
-#[test]
-fn a_polyline_is_refused_at_its_byte(rt: HostRuntime) {
-    for (row, offset, why) in &POLYLINES {
-        let reason = RowReason::Polyline(*offset, *why);
-        assert!(rt; only(rt.alloc(), *row, reason), "{row}");
-    }
-}
-
-const BELOW_OTHERS: [(&str, u64, RowReason); 8] = [
+// Rows, the record of them that is refused, why, and the blobs before it: the last geometry might have gone on with the refused row.
+const REFUSED: [(&str, u64, RowReason, &[u8]); 32] = [
+    ("0,point,,0\n", 2, RowReason::FieldCount, b""),
+    ("0,point,,0,AC,\n", 2, RowReason::FieldCount, b""),
+    ("00,point,,0,AC\n", 2, RowReason::BadDepth, b""),
+    ("-1,point,,0,AC\n", 2, RowReason::BadDepth, b""),
+    ("1000,pont,,0,AC\n", 2, RowReason::BadDepth, b""),
+    ("0,pont,,0,AC\n", 2, RowReason::BadKind, b""),
+    ("1,point,,0,AC\n", 2, RowReason::BadPlace, b""),
+    ("1,point,x,,\n", 2, RowReason::BadPlace, b""),
+    ("0,ring,,,\n", 2, RowReason::BadPlace, b""),
+    ("0,point,x,0,AC\n", 2, RowReason::BadId, b""),
+    ("0,point,07,8,AC\n", 2, RowReason::BadId, b""),
+    ("0,point,7,0,AC\n", 2, RowReason::IdNotAllowed, b""),
+    ("0,point,,8,AC\n", 2, RowReason::BadPrecision, b""),
+    ("0,point,,-0,AC\n", 2, RowReason::BadPrecision, b""),
+    ("0,point,,,AC\n", 2, RowReason::PrecisionMissing, b""),
+    ("0,polygon,,0,AC\n", 2, RowReason::PolylineNotAllowed, b""),
+    ("0,point,,0,AAAA\n", 2, RowReason::PointCount, b""),
+    (
+        "0,linestring,,0,A\n",
+        2,
+        RowReason::Polyline(1, PolyReason::Half),
+        b"",
+    ),
+    (
+        "0,linestring,,0,_\n",
+        2,
+        RowReason::Polyline(0, PolyReason::Cut),
+        b"",
+    ),
+    (
+        "0,linestring,,0,_?\n",
+        2,
+        RowReason::Polyline(0, PolyReason::Padded),
+        b"",
+    ),
+    (
+        "0,linestring,,0,A A\n",
+        2,
+        RowReason::Polyline(1, PolyReason::BadChar),
+        b"",
+    ),
+    (
+        "0,linestring,,0,~~~~~~~~~~~~~\n",
+        2,
+        RowReason::Polyline(0, PolyReason::TooLong),
+        b"",
+    ),
+    (
+        "0,linestring,,0,____________G?\n",
+        2,
+        RowReason::Polyline(0, PolyReason::Range),
+        b"",
+    ),
     (
         "0,multilinestring,,0,\n1,linestring,5,,AA\n1,linestring,,,AA\n",
         4,
         RowReason::MixedIds,
+        b"",
     ),
-    ("0,polygon,,0,\n2,ring,,,AA\n", 3, RowReason::BadPlace),
-    ("0,collection,,0,\n1,ring,,,AA\n", 3, RowReason::BadPlace),
-    ("0,point,,0,AC\n1,point,,0,AC\n", 3, RowReason::BadPlace),
+    ("0,polygon,,0,\n2,ring,,,AA\n", 3, RowReason::BadPlace, b""),
+    (
+        "0,collection,,0,\n1,ring,,,AA\n",
+        3,
+        RowReason::BadPlace,
+        b"",
+    ),
+    (
+        "0,point,,0,AC\n1,point,,0,AC\n",
+        3,
+        RowReason::BadPlace,
+        b"",
+    ),
     (
         "0,multipoint,,0,\n1,point,9223372036854775808,,AA\n",
         3,
         RowReason::BadId,
+        b"",
     ),
     (
         "0,collection,,0,\n1,polygon,,,\n",
         3,
         RowReason::PrecisionMissing,
+        b"",
     ),
     (
         "0,polygon,,0,\n1,ring,,0,AA\n",
         3,
         RowReason::PrecisionNotAllowed,
+        b"",
     ),
-    ("0,multipoint,,0,\n1,point,,,\n", 3, RowReason::PointCount),
+    (
+        "0,multipoint,,0,\n1,point,,,\n",
+        3,
+        RowReason::PointCount,
+        b"",
+    ),
+    (
+        "0,point,,0,AC\n0,point,,0,AA\n0,pont,,0,\n",
+        4,
+        RowReason::BadKind,
+        b"\x01\x02\x02\x04\x02",
+    ),
 ];
 
 #[test]
-fn a_row_below_others_is_refused_at_its_record(rt: HostRuntime) {
-    let standard = Limits::standard();
-    for (rows, number, reason) in &BELOW_OTHERS {
-        let is_refused = refused(rt.alloc(), standard, *rows, *number, *reason, b"");
+fn each_row_is_refused_at_its_record(rt: HostRuntime) {
+    let limits = Limits::standard();
+    for (rows, number, reason, blobs) in &REFUSED {
+        let is_refused = refused(rt.alloc(), limits, *rows, *number, *reason, *blobs);
         assert!(rt; is_refused, "{rows}");
     }
 }
@@ -201,13 +218,4 @@ fn a_row_above_a_limit_is_refused(rt: HostRuntime) {
         let is_refused = refused_within(rt.alloc(), *most, *rows, *number, *reason);
         assert!(rt; is_refused, "{rows}");
     }
-}
-
-// The last geometry before the refused row might have gone on with it.
-#[test]
-fn the_geometry_before_a_refused_row_is_not_written(rt: HostRuntime) {
-    let rows = "0,point,,0,AC\n0,point,,0,AA\n0,pont,,0,\n";
-    let first = b"\x01\x02\x02\x04\x02";
-    let limits = Limits::standard();
-    assert!(rt; refused(rt.alloc(), limits, rows, 4, RowReason::BadKind, first));
 }

@@ -3,7 +3,6 @@ use super::fixtures::{Outcome, has_rows, holds, read_all};
 use super::geometries::point_and_line;
 use std::alloc::Global;
 use std::io::Read;
-use std::process::Abort;
 use twkb_geom::{Flat, Geometry, Kind, Limits, Row};
 use twkb_io::{Fuse, FuseEnd, Tap};
 use twkb_table::{RowReason, TableFault, TableReader};
@@ -24,18 +23,12 @@ const REFUSED: TableFault = TableFault::At {
     reason: RowReason::BadKind,
 };
 
-// Asserts that the next call gives the geometry of these rows.
-fn assert_gives<R: Read>(
-    rt: &impl Abort,
-    alloc: Global,
-    reader: &mut TableReader<'_, R>,
-    rows: &[u8],
-) {
-    let is_given = match reader.next() {
+// Whether the next call gives the geometry of these rows.
+fn gives<R: Read>(alloc: Global, reader: &mut TableReader<'_, R>, rows: &[u8]) -> bool {
+    match reader.next() {
         Ok(Some(geometry)) => has_rows(alloc, &geometry, rows),
         _ => false,
-    };
-    assert!(rt; is_given, "{rows:?}");
+    }
 }
 
 // Whether these are the rows of the flat form.
@@ -47,51 +40,40 @@ fn holds_rows(alloc: Global, flat: &Flat, rows: &[u8]) -> Option<bool> {
     Some(has_rows(alloc, &geometry, rows))
 }
 
-// Asserts that the next call reads these rows into the flat form.
-fn assert_gives_flat<R: Read>(
-    rt: &impl Abort,
+// Whether the next call reads these rows into the flat form.
+fn gives_flat<R: Read>(
     alloc: Global,
     reader: &mut TableReader<'_, R>,
     flat: &mut Flat,
     rows: &[u8],
-) {
-    let came = reader.next_flat(flat);
-    assert!(rt; came == Ok(true), "{came:?}");
-    assert!(rt; holds(holds_rows(alloc, flat, rows)), "{rows:?}");
+) -> bool {
+    reader.next_flat(flat) == Ok(true) && holds(holds_rows(alloc, flat, rows))
 }
 
-// Asserts that the next call answers so without a geometry, and leaves the flat form empty.
-fn assert_gives_no_flat<R: Read>(
-    rt: &impl Abort,
+// Whether the next call answers so without a geometry, and leaves the flat form empty.
+fn gives_no_flat<R: Read>(
     reader: &mut TableReader<'_, R>,
     flat: &mut Flat,
     answer: Result<bool, TableFault>,
-) {
-    let came = reader.next_flat(flat);
-    assert!(rt; came == answer && flat.is_empty(), "{came:?}");
+) -> bool {
+    reader.next_flat(flat) == answer && flat.is_empty()
 }
 
-// Asserts that the reader tells its end, by both calls, again and again.
-fn assert_end<R: Read>(rt: &impl Abort, reader: &mut TableReader<'_, R>, flat: &mut Flat) {
-    assert_gives_no_flat(rt, reader, flat, Ok(false));
-    assert_gives_no_flat(rt, reader, flat, Ok(false));
-    let is_end = matches!(reader.next(), Ok(None));
-    assert!(rt; is_end, "the end");
-}
-
-// A geometry of each call, and then the end.
-fn assert_mixed<R: Read>(rt: &impl Abort, alloc: Global, tap: &mut Tap<R>, flat: &mut Flat) {
+// Whether a geometry comes of each call, and then the end, by both calls, again and again.
+fn gives_mixed<R: Read>(alloc: Global, tap: &mut Tap<R>, flat: &mut Flat) -> bool {
     let mut reader = TableReader::new(alloc, tap, Limits::standard());
-    assert_gives(rt, alloc, &mut reader, FIRST_POINT);
-    assert_gives_flat(rt, alloc, &mut reader, flat, SECOND_POINT);
-    assert_end(rt, &mut reader, flat);
+    gives(alloc, &mut reader, FIRST_POINT)
+        && gives_flat(alloc, &mut reader, flat, SECOND_POINT)
+        && gives_no_flat(&mut reader, flat, Ok(false))
+        && gives_no_flat(&mut reader, flat, Ok(false))
+        && matches!(reader.next(), Ok(None))
 }
 
 #[test]
 fn each_call_gives_the_next_geometry_and_the_end_for_good(rt: HostRuntime) {
     let mut flat = Flat::new(rt.alloc());
     let mut tap = Tap::new(TWO_POINTS);
-    assert_mixed(&rt, rt.alloc(), &mut tap, &mut flat);
+    assert!(rt; gives_mixed(rt.alloc(), &mut tap, &mut flat));
 }
 
 // A collection of two members that have ids.
@@ -109,28 +91,27 @@ fn is_built_to(alloc: Global, flat: &Flat, expected: &Geometry) -> bool {
     }
 }
 
-// Asserts that the geometry comes that its constructors make, and then the end.
-fn assert_geometry<R: Read>(
-    rt: &impl Abort,
-    alloc: Global,
-    tap: &mut Tap<R>,
-    expected: &Option<Geometry>,
-) {
-    let Some(expected) = expected else {
-        panic!(rt; "no geometry");
-    };
+// Whether the next call reads a form that is built to this geometry, and then comes the end.
+fn gives_form<R: Read>(alloc: Global, tap: &mut Tap<R>, expected: &Geometry) -> bool {
     let mut flat = Flat::new(alloc);
     let mut reader = TableReader::new(alloc, tap, Limits::standard());
-    let came = reader.next_flat(&mut flat);
-    assert!(rt; came == Ok(true), "{came:?}");
-    assert!(rt; is_built_to(alloc, &flat, expected), "a collection of two");
-    assert_gives_no_flat(rt, &mut reader, &mut flat, Ok(false));
+    reader.next_flat(&mut flat) == Ok(true)
+        && is_built_to(alloc, &flat, expected)
+        && gives_no_flat(&mut reader, &mut flat, Ok(false))
+}
+
+// The same of the geometry that its constructors make.
+fn gives_members(alloc: Global) -> bool {
+    let mut tap = Tap::new(TWO_MEMBERS);
+    match point_and_line(alloc) {
+        Some(expected) => gives_form(alloc, &mut tap, &expected),
+        None => false,
+    }
 }
 
 #[test]
 fn a_form_that_was_read_is_built_to_its_geometry(rt: HostRuntime) {
-    let mut tap = Tap::new(TWO_MEMBERS);
-    assert_geometry(&rt, rt.alloc(), &mut tap, &point_and_line(rt.alloc()));
+    assert!(rt; gives_members(rt.alloc()));
 }
 
 // Whether the flat form may begin with a point, as a form without rows does.
@@ -144,19 +125,19 @@ fn may_begin(flat: &Flat) -> bool {
     flat.admits(&root, &[])
 }
 
-// Asserts that `next` answers this fault.
-fn assert_fault<R: Read>(rt: &impl Abort, reader: &mut TableReader<'_, R>, fault: TableFault) {
-    let came = reader.next().err();
-    assert!(rt; came == Some(fault), "{came:?}");
+// Whether `next` answers this fault.
+fn refuses<R: Read>(reader: &mut TableReader<'_, R>, fault: TableFault) -> bool {
+    reader.next().err() == Some(fault)
 }
 
-fn assert_refused<R: Read>(rt: &impl Abort, alloc: Global, tap: &mut Tap<R>, flat: &mut Flat) {
+// Whether a point comes, the record behind the next is refused, and the reader is spent.
+fn gives_flat_and_refuses<R: Read>(alloc: Global, tap: &mut Tap<R>, flat: &mut Flat) -> bool {
     let mut reader = TableReader::new(alloc, tap, Limits::standard());
-    assert_gives_flat(rt, alloc, &mut reader, flat, FIRST_POINT);
-    assert_gives_no_flat(rt, &mut reader, flat, Err(REFUSED));
-    assert!(rt; may_begin(flat), "a form that was cleared");
-    assert_gives_no_flat(rt, &mut reader, flat, Err(TableFault::Spent));
-    assert_fault(rt, &mut reader, TableFault::Spent);
+    gives_flat(alloc, &mut reader, flat, FIRST_POINT)
+        && gives_no_flat(&mut reader, flat, Err(REFUSED))
+        && may_begin(flat)
+        && gives_no_flat(&mut reader, flat, Err(TableFault::Spent))
+        && refuses(&mut reader, TableFault::Spent)
 }
 
 // The row before the refused one is not given, and the flat form is empty.
@@ -164,22 +145,21 @@ fn assert_refused<R: Read>(rt: &impl Abort, alloc: Global, tap: &mut Tap<R>, fla
 fn a_refusal_clears_the_form_and_is_for_good(rt: HostRuntime) {
     let mut flat = Flat::new(rt.alloc());
     let mut tap = Tap::new(TWO_AND_A_FAULT);
-    assert_refused(&rt, rt.alloc(), &mut tap, &mut flat);
+    assert!(rt; gives_flat_and_refuses(rt.alloc(), &mut tap, &mut flat));
 }
 
-// Asserts that a reader of geometries gives the first point, refuses the record behind the second, and is
-// spent.
-fn assert_one_and_refused<R: Read>(rt: &impl Abort, alloc: Global, tap: &mut Tap<R>) {
+// The same of a reader of geometries.
+fn gives_and_refuses<R: Read>(alloc: Global, tap: &mut Tap<R>) -> bool {
     let mut reader = TableReader::new(alloc, tap, Limits::standard());
-    assert_gives(rt, alloc, &mut reader, FIRST_POINT);
-    assert_fault(rt, &mut reader, REFUSED);
-    assert_fault(rt, &mut reader, TableFault::Spent);
+    gives(alloc, &mut reader, FIRST_POINT)
+        && refuses(&mut reader, REFUSED)
+        && refuses(&mut reader, TableFault::Spent)
 }
 
 #[test]
 fn a_refused_record_comes_behind_the_geometry_that_is_complete(rt: HostRuntime) {
     let mut tap = Tap::new(TWO_AND_A_FAULT);
-    assert_one_and_refused(&rt, rt.alloc(), &mut tap);
+    assert!(rt; gives_and_refuses(rt.alloc(), &mut tap));
 }
 
 const MANY_KINDS: &[u8] =

@@ -1,13 +1,12 @@
 //! Worked tables: the rows are printed from their geometry, and read to it.
-use super::fixtures::{HEADER, holds, read_text, table_of};
+use super::fixtures::{HEADER, read_text, table_of};
 use super::geometries::{
     an_empty_line, around, dot, empty_collection, geometry, line, nested, point_and_line, points,
     two_lines, two_points, two_polygons, two_rings,
 };
 use std::alloc::Global;
 use std::io::Read;
-use std::process::Abort;
-use twkb_geom::{Areas, Flat, Geometry, Limits, Lines, Shape, Work};
+use twkb_geom::{Areas, Flat, Geometry, Kind, Limits, Lines, Shape, Work};
 use twkb_io::Tap;
 use twkb_table::{TableReader, put_flat_rows, put_rows, rows_text};
 
@@ -61,131 +60,123 @@ fn is_read(alloc: Global, geometry: &Geometry, rows: &[u8]) -> Option<bool> {
     Some(names(alloc, &mut tap, geometry))
 }
 
-// Asserts that these are the rows of the geometry that was made.
-fn assert_rows(rt: &impl Abort, alloc: Global, made: &Option<Geometry>, rows: &[u8]) {
-    let Some(geometry) = made else {
-        panic!(rt; "no geometry");
-    };
-    assert!(rt;
-        holds(is_printed(alloc, geometry, rows)),
-        "{rows:?} of a tree"
-    );
-    assert!(rt;
-        holds(is_printed_flat(alloc, geometry, rows)),
-        "{rows:?} of a form"
-    );
-    assert!(rt; holds(is_read(alloc, geometry, rows)), "{rows:?} read");
+// Whether these are the rows of a geometry, as they are printed of its tree and of its form, and read.
+fn are_rows(alloc: Global, geometry: &Geometry, rows: &[u8]) -> Option<bool> {
+    let is_told = is_printed(alloc, geometry, rows)? && is_printed_flat(alloc, geometry, rows)?;
+    Some(is_told && is_read(alloc, geometry, rows)?)
+}
+
+// Whether these are the rows of the geometry that was made.
+fn is_table(alloc: Global, made: Option<Geometry>, rows: &[u8]) -> bool {
+    match made {
+        Some(geometry) => are_rows(alloc, &geometry, rows) == Some(true),
+        None => false,
+    }
 }
 
 // The worked tables of one point: the ends of precisions.
 #[test]
 fn one_row_names_one_point(rt: HostRuntime) {
-    assert_rows(&rt, rt.alloc(), &dot(0, 2, 1), b"0,point,,0,AC\n");
-    assert_rows(&rt, rt.alloc(), &dot(-8, 2, 1), b"0,point,,-8,AC\n");
-    assert_rows(&rt, rt.alloc(), &dot(7, 2, 1), b"0,point,,7,AC\n");
-    assert_rows(
-        &rt,
-        rt.alloc(),
-        &geometry(0, Shape::Point(None)),
-        b"0,point,,0,\n",
-    );
+    let alloc = rt.alloc();
+    assert!(rt; is_table(alloc, dot(0, 2, 1), b"0,point,,0,AC\n"), "0");
+    assert!(rt; is_table(alloc, dot(-8, 2, 1), b"0,point,,-8,AC\n"), "-8");
+    assert!(rt; is_table(alloc, dot(7, 2, 1), b"0,point,,7,AC\n"), "7");
+    let none = geometry(0, Shape::Point(None));
+    assert!(rt; is_table(alloc, none, b"0,point,,0,\n"), "no place");
 }
 
+// Whether these are the rows of the line of these places.
+fn is_line(alloc: Global, precision: i8, places: &[(i64, i64)], rows: &[u8]) -> bool {
+    is_table(alloc, line(alloc, precision, places), rows)
+}
+
+// 2^62, the first number above the range of a coordinate.
+const EDGE: i64 = 1 << 62;
+
 // With the worked example of the Encoded Polyline Algorithm Format, and the ends of coordinates.
+const LINES: [(i8, &[(i64, i64)], &[u8]); 4] = [
+    (0, &[(1, 1), (5, 5)], b"0,linestring,,0,AAGG\n"),
+    (0, &[], b"0,linestring,,0,\n"),
+    (
+        5,
+        &[
+            (-12020000, 3850000),
+            (-12095000, 4070000),
+            (-12645300, 4325200),
+        ],
+        b"0,linestring,,5,_p~iF~ps|U_ulLnnqC_mqNvxq`@\n",
+    ),
+    (
+        0,
+        &[(EDGE - 1, 0), (-EDGE, 0)],
+        b"0,linestring,,0,?}~~~~~~~~~~~F?|~~~~~~~~~~~N\n",
+    ),
+];
+
 #[test]
 fn a_line_has_its_places_or_none(rt: HostRuntime) {
-    let two = b"0,linestring,,0,AAGG\n";
-    assert_rows(
-        &rt,
-        rt.alloc(),
-        &line(rt.alloc(), 0, &[(1, 1), (5, 5)]),
-        two,
-    );
-    assert_rows(
-        &rt,
-        rt.alloc(),
-        &line(rt.alloc(), 0, &[]),
-        b"0,linestring,,0,\n",
-    );
-    let places = [
-        (-12020000, 3850000),
-        (-12095000, 4070000),
-        (-12645300, 4325200),
-    ];
-    let worked = b"0,linestring,,5,_p~iF~ps|U_ulLnnqC_mqNvxq`@\n";
-    assert_rows(&rt, rt.alloc(), &line(rt.alloc(), 5, &places), worked);
-    let edge = 1 << 62;
-    let ends = b"0,linestring,,0,?}~~~~~~~~~~~F?|~~~~~~~~~~~N\n";
-    assert_rows(
-        &rt,
-        rt.alloc(),
-        &line(rt.alloc(), 0, &[(edge - 1, 0), (-edge, 0)]),
-        ends,
-    );
+    for (precision, places, rows) in &LINES {
+        assert!(rt; is_line(rt.alloc(), *precision, *places, *rows), "{rows:?}");
+    }
 }
 
 #[test]
 fn rings_stand_below_their_polygon(rt: HostRuntime) {
+    let alloc = rt.alloc();
     let rings = b"0,polygon,,0,\n1,ring,,,???GGF\n1,ring,,,AA?AA@\n";
-    assert_rows(&rt, rt.alloc(), &two_rings(rt.alloc()), rings);
+    assert!(rt; is_table(alloc, two_rings(alloc), rings), "rings");
     let polygons = b"0,multipolygon,,0,\n1,polygon,3,,\n2,ring,,,AA\n2,ring,,,\n1,polygon,4,,\n";
-    assert_rows(&rt, rt.alloc(), &two_polygons(rt.alloc()), polygons);
+    assert!(rt; is_table(alloc, two_polygons(alloc), polygons), "polygons");
 }
 
 // The ends of i64 as ids; no ids, and a line without places.
 #[test]
 fn members_have_their_ids_or_none(rt: HostRuntime) {
+    let alloc = rt.alloc();
     let ends =
         b"0,multipoint,,-8,\n1,point,-9223372036854775808,,??\n1,point,9223372036854775807,,AA\n";
-    assert_rows(&rt, rt.alloc(), &two_points(rt.alloc()), ends);
+    assert!(rt; is_table(alloc, two_points(alloc), ends), "points");
     let lines = b"0,multilinestring,,7,\n1,linestring,,,AAGG\n1,linestring,,,\n";
-    assert_rows(&rt, rt.alloc(), &two_lines(rt.alloc()), lines);
+    assert!(rt; is_table(alloc, two_lines(alloc), lines), "lines");
     let empty = b"0,multilinestring,,0,\n1,linestring,,,\n";
-    assert_rows(&rt, rt.alloc(), &an_empty_line(rt.alloc()), empty);
+    assert!(rt;
+        is_table(alloc, an_empty_line(alloc), empty),
+        "an empty line"
+    );
 }
+
+// A geometry of each kind that has parts, without any.
+fn without_parts(alloc: Global, kind: Kind) -> Option<Geometry> {
+    match kind {
+        Kind::Polygon => geometry(0, Shape::Polygon(Lines::from_vec(Vec::new(alloc)))),
+        Kind::MultiPoint => geometry(0, Shape::MultiPoint(points(alloc, &[])?, None)),
+        Kind::MultiLinestring => {
+            geometry(0, Shape::MultiLine(Lines::from_vec(Vec::new(alloc)), None))
+        }
+        Kind::MultiPolygon => {
+            geometry(
+                0,
+                Shape::MultiPolygon(Areas::from_vec(Vec::new(alloc)), None),
+            )
+        }
+        _ => empty_collection(alloc),
+    }
+}
+
+const WITHOUT_PARTS: [(Kind, &[u8]); 5] = [
+    (Kind::Polygon, b"0,polygon,,0,\n"),
+    (Kind::MultiPoint, b"0,multipoint,,0,\n"),
+    (Kind::MultiLinestring, b"0,multilinestring,,0,\n"),
+    (Kind::MultiPolygon, b"0,multipolygon,,0,\n"),
+    (Kind::Collection, b"0,collection,,0,\n"),
+];
 
 #[test]
 fn parts_may_be_none(rt: HostRuntime) {
-    let rings = Lines::from_vec(Vec::new(rt.alloc()));
-    assert_rows(
-        &rt,
-        rt.alloc(),
-        &geometry(0, Shape::Polygon(rings)),
-        b"0,polygon,,0,\n",
-    );
-    let lines = Lines::from_vec(Vec::new(rt.alloc()));
-    let multiline = Shape::MultiLine(lines, None);
-    assert_rows(
-        &rt,
-        rt.alloc(),
-        &geometry(0, multiline),
-        b"0,multilinestring,,0,\n",
-    );
-    let areas = Areas::from_vec(Vec::new(rt.alloc()));
-    let multipolygon = Shape::MultiPolygon(areas, None);
-    assert_rows(
-        &rt,
-        rt.alloc(),
-        &geometry(0, multipolygon),
-        b"0,multipolygon,,0,\n",
-    );
-    let collection = b"0,collection,,0,\n";
-    assert_rows(&rt, rt.alloc(), &empty_collection(rt.alloc()), collection);
-}
-
-// A multipoint without points.
-fn no_points(alloc: Global) -> Option<Geometry> {
-    geometry(0, Shape::MultiPoint(points(alloc, &[])?, None))
-}
-
-#[test]
-fn a_multipoint_may_be_without_points(rt: HostRuntime) {
-    assert_rows(
-        &rt,
-        rt.alloc(),
-        &no_points(rt.alloc()),
-        b"0,multipoint,,0,\n",
-    );
+    for (kind, rows) in &WITHOUT_PARTS {
+        let made = without_parts(rt.alloc(), *kind);
+        assert!(rt; is_table(rt.alloc(), made, *rows), "{kind:?}");
+    }
 }
 
 // A member with a precision of its own.
@@ -193,23 +184,24 @@ fn a_member(alloc: Global) -> Option<Geometry> {
     around(alloc, dot(5, 1, 1)?)
 }
 
-#[test]
-fn members_of_a_collection_are_geometries(rt: HostRuntime) {
-    let two = b"0,collection,,0,\n1,point,7,0,AA\n1,linestring,-1,0,\n";
-    assert_rows(&rt, rt.alloc(), &point_and_line(rt.alloc()), two);
-    let one = b"0,collection,,0,\n1,point,,5,AA\n";
-    assert_rows(&rt, rt.alloc(), &a_member(rt.alloc()), one);
-    let nine =
-        b"0,collection,,0,\n1,collection,,0,\n2,collection,,0,\n3,collection,,0,\n4,collection,,0,\n5,collection,,0,\n6,collection,,0,\n7,collection,,0,\n8,collection,,0,\n";
-    assert_rows(&rt, rt.alloc(), &nested(rt.alloc(), 9), nine);
-}
-
 // Depths of one digit and of two.
 #[test]
-fn depths_go_on_behind_nine(rt: HostRuntime) {
+fn members_of_a_collection_are_geometries(rt: HostRuntime) {
+    let alloc = rt.alloc();
+    let two = b"0,collection,,0,\n1,point,7,0,AA\n1,linestring,-1,0,\n";
+    assert!(rt; is_table(alloc, point_and_line(alloc), two), "two members");
+    let one = b"0,collection,,0,\n1,point,,5,AA\n";
+    assert!(rt; is_table(alloc, a_member(alloc), one), "a member");
     let twelve =
         b"0,collection,,0,\n1,collection,,0,\n2,collection,,0,\n3,collection,,0,\n4,collection,,0,\n5,collection,,0,\n6,collection,,0,\n7,collection,,0,\n8,collection,,0,\n9,collection,,0,\n10,collection,,0,\n11,collection,,0,\n";
-    assert_rows(&rt, rt.alloc(), &nested(rt.alloc(), 12), twelve);
+    assert!(rt;
+        is_table(alloc, nested(alloc, 12), twelve),
+        "twelve collections"
+    );
+    assert!(rt;
+        is_table(alloc, nested(alloc, 9), &twelve[..153]),
+        "nine collections"
+    );
 }
 
 // Whether a text is read to these rows.

@@ -1,7 +1,6 @@
 //! The texts of faults.
 use std::alloc::Global;
 use std::fmt::Display;
-use std::process::Abort;
 use twkb_polyline::PolyReason;
 use twkb_table::{RowReason, SourceFault, TableFault};
 
@@ -10,12 +9,6 @@ fn tells<D: Display>(alloc: Global, fault: &D, text: &str) -> bool {
     match format!(in alloc; "{fault}") {
         Ok(told) => told.as_str() == text,
         Err(_) => false,
-    }
-}
-
-fn assert_told<D: Display>(rt: &impl Abort, alloc: Global, rows: &[(D, &str)]) {
-    for (fault, text) in rows {
-        assert!(rt; tells(alloc, fault, *text), "{text}");
     }
 }
 
@@ -43,7 +36,9 @@ const FAULTS: [(TableFault, &str); 6] = [
 
 #[test]
 fn faults_of_tables_have_their_texts(rt: HostRuntime) {
-    assert_told(&rt, rt.alloc(), &FAULTS);
+    for (fault, text) in &FAULTS {
+        assert!(rt; tells(rt.alloc(), fault, *text), "{text}");
+    }
 }
 
 const SOURCE_FAULTS: [(SourceFault, &str); 2] = [
@@ -53,5 +48,7 @@ const SOURCE_FAULTS: [(SourceFault, &str); 2] = [
 
 #[test]
 fn faults_of_sources_have_their_texts(rt: HostRuntime) {
-    assert_told(&rt, rt.alloc(), &SOURCE_FAULTS);
+    for (fault, text) in &SOURCE_FAULTS {
+        assert!(rt; tells(rt.alloc(), fault, *text), "{text}");
+    }
 }
