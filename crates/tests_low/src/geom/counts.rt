@@ -88,15 +88,21 @@ fn a_copy_equals_its_source(rt: HostRuntime) {
     assert!(rt; copies_or_refuses(alloc, two_polygons(alloc)), "polygons");
 }
 
-// Whether a point is there, and a copy of it is.
-fn is_copied(alloc: Global, point: Option<Geometry>) -> bool {
-    match point {
-        Some(point) => point.copy(alloc).is_ok(),
-        None => false,
+// Whether a geometry is there, and a copy of it, which equals it.
+fn is_copied(alloc: Global, geometry: Option<Geometry>) -> bool {
+    let Some(geometry) = geometry else {
+        return false;
+    };
+    match geometry.copy(alloc) {
+        Ok(copy) => copy == geometry,
+        Err(_) => false,
     }
 }
 
 #[test]
 fn a_copy_is_made(rt: HostRuntime) {
-    assert!(rt; is_copied(rt.alloc(), dot(0, 2, 1)));
+    let alloc = rt.alloc();
+    assert!(rt; is_copied(alloc, dot(0, 2, 1)), "a point");
+    assert!(rt; is_copied(alloc, point_and_line(alloc)), "members");
+    assert!(rt; is_copied(alloc, two_polygons(alloc)), "polygons");
 }
