@@ -6,6 +6,7 @@ mod growths;
 mod growths_of_spans;
 mod limits;
 mod located;
+mod points;
 mod readers;
 mod refusals;
 mod rows;

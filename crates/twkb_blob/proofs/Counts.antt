@@ -103,11 +103,11 @@ part_open limits is part = open_behind limits [] is part refl
 -- ---- what an engine holds and has begun
 
 -- no bytes have no items
-no_items : (is : List Item) (st : Stack) → Runs nothing started is st → join is ≡ [] → is ≡ []
+pub no_items : (is : List Item) (st : Stack) → Runs nothing started is st → join is ≡ [] → is ≡ []
 no_items [] st r e = refl
 no_items (i ∷ is) st r e = absurd (first_item i is st r e)
 
-no_front : (a b : List ℕ) → a ++ b ≡ [] → a ≡ []
+pub no_front : (a b : List ℕ) → a ++ b ≡ [] → a ≡ []
 no_front [] b e = refl
 no_front (x ∷ a) b e = absurd cc
 

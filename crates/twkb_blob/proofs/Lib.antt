@@ -1,4 +1,5 @@
 pub mod Trees
+pub mod Judging
 pub mod Standing
 pub mod Parts
 pub mod Pieces
@@ -9,3 +10,6 @@ pub mod NotedItems
 pub mod NotedParts
 pub mod Bytes
 pub mod Counts
+pub mod PointSpans
+pub mod WholePoints
+pub mod Rooted

@@ -1,5 +1,5 @@
 -- Where memory is missing for a span: behind a type byte that was taken, and so behind a part.
-use Rattle.std.proofs.Common.{◌≡◌, inl, inr, ℕ, ◌+◌, ◌-◌, ◌<◌, ◌≤◌, List, [], ◌∷◌, ◌++◌, length, take, sym, ap, ◌∙◌, subst, append_assoc, append-nil, length-append, Bool, true, false, Ok, arith}
+use Rattle.std.proofs.Common.{◌≡◌, inl, inr, ℕ, ◌<◌, ◌≤◌, List, [], ◌∷◌, ◌++◌, length, take, sym, ap, ◌∙◌, subst, append_assoc, append-nil, length-append, Bool, true, false, Ok, arith}
 use Rattle.std.proofs.lemmas.List.{nil_from_length}
 use Rattle.twkb_num.specs.Varint.{IsOpenVarint}
 use Rattle.twkb_tree.specs.Rows.{Row}
@@ -22,7 +22,7 @@ use Rattle.twkb_engine.specs.Parts.{IsJudged, PartIn}
 use Rattle.twkb_engine.specs.Standing.{StandsAt, IsOneItem, IsTakenFrom, allowance_of, held_in, awaited_in}
 use Rattle.twkb_engine.specs.declared.awaited.Awaited.TheVariants as awaited
 use Rattle.twkb_engine.specs.declared.engine.Engine.{Engine}
-use Rattle.twkb_engine.proofs.Judging.{blob_judged}
+use Rattle.twkb_blob.proofs.Judging.{blob_judged}
 use Rattle.twkb_blob.proofs.Noted.{NoteLaws, stands_of}
 use Rattle.twkb_blob.proofs.NotedItems.{last_of, with_last, none_before, other_awaited}
 

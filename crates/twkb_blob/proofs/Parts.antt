@@ -20,7 +20,7 @@ use Rattle.twkb_engine.specs.Standing.{IsFed}
 use Rattle.twkb_engine.specs.declared.engine.Engine.{Engine}
 use Rattle.twkb_engine.specs.declared.stop.Stop.{Stop}
 use Rattle.twkb_engine.specs.declared.stop.Stop.TheVariants.{Memory, Refused}
-use Rattle.twkb_engine.proofs.Judging.{blob_judged}
+use Rattle.twkb_blob.proofs.Judging.{blob_judged}
 use Rattle.twkb_blob.specs.Faults.{fault_of}
 use Rattle.twkb_blob.specs.Readers.{Left, IsNextFlat, PartAhead}
 use Rattle.twkb_blob.specs.Located.{IsSpanned, IsNotedRead}

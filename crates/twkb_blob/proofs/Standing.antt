@@ -9,7 +9,7 @@ use Rattle.twkb_grammar.specs.Blob.{Blob, Stream}
 use Rattle.twkb_grammar.specs.Fault.{FirstFault, StreamFault, Truncated}
 use Rattle.twkb_grammar.specs.Machine.{Sums}
 use Rattle.twkb_grammar.proofs.Streams.{behind_stream}
-use Rattle.twkb_engine.proofs.Judging.{blob_judged}
+use Rattle.twkb_blob.proofs.Judging.{blob_judged}
 use Rattle.twkb_outline.specs.Outline.{Outline}
 use Rattle.twkb_outline.specs.Reading.{Outlined}
 use Rattle.twkb_engine.specs.Building.{sums_of, outline_in}

@@ -2,12 +2,15 @@
 #![tactic(auto)]
 
 mod fault;
-mod kept;
+mod feeding;
 pub mod laws;
 mod located;
+mod made;
 mod notes;
+mod point;
 mod reader;
 mod reading;
+mod root;
 mod session;
 mod spans;
 mod state;

@@ -1,5 +1,5 @@
 //! The spans of a blob that is read: its points as many at once as there are, all else item by item.
-ghost use Rattle.std.specs.Prelude.{◌≡◌, ◌≤◌, ◌<◌, ◌+◌, ◌^◌, ◌⊎◌, [], true, false, Ok, Err, length, IfOk};
+ghost use Rattle.std.specs.Prelude.{◌≡◌, ◌≤◌, ◌<◌, ◌+◌, ◌^◌, ◌⊎◌, [], true, false, Ok, Err, length, IfOk, OnErr};
 ghost use Rattle.twkb_io.specs.Taps.{count_failure};
 ghost use Rattle.twkb_io.specs.Inputs.{input_failures, input_tap};
 ghost use Rattle.twkb_tree.specs.Rows.{row_points};
@@ -10,12 +10,15 @@ ghost use Rattle.twkb_blob.specs.Located.{IsSpanned, TakesNoted, ReadsNoted};
 
 use crate::fault::{BlobFault, fault_at};
 use crate::notes::SpanNotes;
+use crate::point::read_point;
 use crate::reading::{Fed, Halt};
 use crate::spans::Spans;
+use std::alloc::{AllocError, Global};
 use std::io::Read;
 use twkb_engine::{BlobReason, Engine, Stop};
 use twkb_flat::Flat;
 use twkb_io::Input;
+use twkb_tree::Limits;
 
 // Notes which geometries end behind an item: all of them, where the root does, at this offset; else those that the engine has ended.
 fn note_ends(
@@ -188,27 +191,75 @@ fn read_noted<R: Read>(
     }
 }
 
-// Reads a blob from an input into a form without rows and a list of spans, in place of what that holds, with an engine that forgets what
-// it has read. Form and list are empty where none is read.
-pub(crate) fn read_spans<R: Read>(
+// The same, with a new engine, into notes: a frame of its own, which a blob that is read at once has no part in.
+#[inline(never)]
+fn read_with_engine<R: Read>(
     input: &mut Input<'_, R>,
-    engine: &mut Engine,
+    alloc: Global,
+    limits: Limits,
     flat: &mut Flat,
-    spans: &mut Spans,
+    notes: &mut SpanNotes,
 ) -> Result<bool, BlobFault>
     requires empty { flat.old ≡ [] }
     ensures same_tap { (input_tap input.new).ghost_name ≡ (input_tap input.old).ghost_name }
-    ensures limits { allowance_of engine.new ≡ allowance_of engine.old }
-    ensures next { IsSpanned (allowance_of engine.old) input.old input.new result flat.new spans.new }
-    ensures memory { result ≡ Err BlobFault.Memory → PartAhead (allowance_of engine.old) [] input.old }
+    ensures next { IsSpanned limits input.old input.new result flat.new notes.new.spans }
+    ensures memory { result ≡ Err BlobFault.Memory → PartAhead limits [] input.old }
+    ensures failures { input_failures input.new ≡ count_failure (failed_by_read result) (input_failures input.old) }
+{
+    notes.restart();
+    let mut engine = Engine::new(alloc, limits);
+    read_noted(input, &mut engine, flat, notes)
+}
+
+// Reads a blob that is a single point, where it stands whole in what an input holds, and notes its span; answers whether one does. It
+// takes memory for a row and a span.
+fn read_spanned_point<R: Read>(
+    input: &mut Input<'_, R>,
+    limits: Limits,
+    flat: &mut Flat,
+    spans: &mut Spans,
+) -> Result<bool, AllocError>
+    ensures same_tap { (input_tap input.new).ghost_name ≡ (input_tap input.old).ghost_name }
+    ensures made { result ≡ Ok true → IsSpanned limits input.old input.new (Ok true) flat.new spans.new }
+    ensures none { result ≡ Ok false → input.new ≡ input.old }
+    ensures memory { OnErr result (PartAhead limits [] input.old) }
+    ensures failures { input_failures input.new ≡ input_failures input.old }
+{
+    let Some(span) = read_point(input, limits, flat)? else {
+        return Ok(false);
+    };
+    spans.put(span)?;
+    Ok(true)
+}
+
+// Reads a blob from an input into a form and a list of spans, in place of what these hold: a single point at once, all else with an
+// engine. Form and list are empty where none is read.
+pub(crate) fn read_spans<R: Read>(
+    input: &mut Input<'_, R>,
+    alloc: Global,
+    limits: Limits,
+    flat: &mut Flat,
+    spans: &mut Spans,
+) -> Result<bool, BlobFault>
+    ensures same_tap { (input_tap input.new).ghost_name ≡ (input_tap input.old).ghost_name }
+    ensures next { IsSpanned limits input.old input.new result flat.new spans.new }
+    ensures memory { result ≡ Err BlobFault.Memory → PartAhead limits [] input.old }
     ensures cleared { (result ≡ Ok true) ⊎ ((flat.new ≡ []) × (spans.new ≡ [])) }
     ensures some { result ≡ Ok true → 0 < length flat.new }
     ensures failures { input_failures input.new ≡ count_failure (failed_by_read result) (input_failures input.old) }
 {
     twkb_tree::laws::nodes_are_rows();
-    engine.restart();
-    spans.notes.restart();
-    match read_noted(input, engine, flat, &mut spans.notes) {
+    match read_spanned_point(input, limits, flat, spans) {
+        Ok(true) => return Ok(true),
+        Ok(false) => {}
+        Err(_) => {
+            flat.clear();
+            spans.clear();
+            return Err(BlobFault::Memory);
+        }
+    }
+    flat.clear();
+    match read_with_engine(input, alloc, limits, flat, &mut spans.notes) {
         Ok(true) => Ok(true),
         Ok(false) => {
             flat.clear();

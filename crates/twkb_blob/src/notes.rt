@@ -1,5 +1,5 @@
 //! The spans of a blob that is read, as far as they are known.
-ghost use Rattle.std.specs.Prelude.{◌≡◌, ◌<◌, ◌^◌, OnOk, OnErr, length as length_of};
+ghost use Rattle.std.specs.Prelude.{◌≡◌, ◌<◌, ◌^◌, ◌∷◌, [], OnOk, OnErr, length as length_of};
 ghost use Rattle.twkb_grammar.specs.Noting.{no_notes, note_header as header_noted, note_metadata as metadata_noted, note_end, note_ends_to, changed_at};
 ghost use Rattle.twkb_blob.specs.Located.{note_awaited, measured};
 
@@ -70,6 +70,15 @@ impl SpanNotes {
     {
         self.spans.clear();
         self.begun.clear();
+    }
+
+    /// The span of a geometry that has ended, in place of all. It takes memory where there is no room.
+    pub fn put(&mut self, span: Span) -> Result<(), AllocError>
+        ensures { OnOk result (self.new.spans ≡ span ∷ []) }
+    {
+        self.restart();
+        self.spans.push(span)?;
+        Ok(())
     }
 
     /// The spans. Takes no memory.

@@ -4,14 +4,13 @@ ghost use Rattle.twkb_io.specs.Taps.{count_failure};
 ghost use Rattle.twkb_io.specs.Inputs.{input_failures, input_tap};
 
 use crate::fault::BlobFault;
-use crate::kept::{Kept, read_located, read_tree};
 use crate::located::read_spans;
+use crate::made::{read_located, read_tree};
 use crate::reading::read_into;
 use crate::spans::{Located, Spans};
 use crate::state::{State, state_behind, state_past};
 use std::alloc::Global;
 use std::io::Read;
-use twkb_engine::Engine;
 use twkb_flat::Flat;
 use twkb_io::Input;
 use twkb_tree::{Geometry, Limits};
@@ -64,8 +63,7 @@ impl<'a, R: Read> Reader<'a, R> {
             State::Ended => return Ok(None),
             State::Spent => return Err(BlobFault::Spent),
         }
-        let mut kept = Kept::new(alloc, self.limits);
-        let found = read_tree(&mut self.input, alloc, &mut kept);
+        let found = read_tree(&mut self.input, alloc, self.limits);
         self.state = state_behind(&found);
         found
     }
@@ -100,8 +98,7 @@ impl<'a, R: Read> Reader<'a, R> {
                 return Err(BlobFault::Spent);
             }
         }
-        let mut engine = Engine::new(alloc, self.limits);
-        let found = read_into(&mut self.input, &mut engine, flat);
+        let found = read_into(&mut self.input, alloc, self.limits, flat);
         self.state = state_past(found);
         found
     }
@@ -137,8 +134,7 @@ impl<'a, R: Read> Reader<'a, R> {
             State::Ended => return Ok(false),
             State::Spent => return Err(BlobFault::Spent),
         }
-        let mut engine = Engine::new(alloc, self.limits);
-        let found = read_spans(&mut self.input, &mut engine, flat, spans);
+        let found = read_spans(&mut self.input, alloc, self.limits, flat, spans);
         self.state = state_past(found);
         found
     }
@@ -164,8 +160,7 @@ impl<'a, R: Read> Reader<'a, R> {
             State::Ended => return Ok(None),
             State::Spent => return Err(BlobFault::Spent),
         }
-        let mut kept = Kept::new(alloc, self.limits);
-        let found = read_located(&mut self.input, alloc, &mut kept);
+        let found = read_located(&mut self.input, alloc, self.limits);
         self.state = state_behind(&found);
         found
     }

@@ -6,10 +6,13 @@ ghost use Rattle.twkb_engine.specs.Standing.{StandsAt, allowance_of, count_of, o
 ghost use Rattle.twkb_blob.specs.Readers.{IsRead, IsNextFlat, PartAhead, halted_by_read, failed_by_read};
 
 use crate::fault::{BlobFault, fault_at};
+use crate::point::read_point;
+use std::alloc::Global;
 use std::io::Read;
 use twkb_engine::{BlobReason, Engine, Stop};
 use twkb_flat::Flat;
 use twkb_io::{InFault, Input};
+use twkb_tree::Limits;
 
 // What the held bytes of an input made.
 #[derive(Clone, Copy, Debug, PartialEq, Eq)]
@@ -107,25 +110,49 @@ fn read_blob<R: Read>(
     }
 }
 
-// Reads a blob from an input into a form, in place of what that holds, with an engine that forgets what it has read. The form has no rows
-// where none is read.
+// The same, with a new engine: a frame of its own, which a blob that is read at once has no part in.
+#[inline(never)]
+fn read_with_engine<R: Read>(
+    input: &mut Input<'_, R>,
+    alloc: Global,
+    limits: Limits,
+    flat: &mut Flat,
+) -> Result<bool, BlobFault>
+    requires { flat.old ≡ [] }
+    ensures same_tap { (input_tap input.new).ghost_name ≡ (input_tap input.old).ghost_name }
+    ensures next { IsNextFlat limits input.old input.new result flat.new }
+    ensures memory { result ≡ Err BlobFault.Memory → PartAhead limits [] input.old }
+    ensures failures { input_failures input.new ≡ count_failure (failed_by_read result) (input_failures input.old) }
+{
+    let mut engine = Engine::new(alloc, limits);
+    read_blob(input, &mut engine, flat)
+}
+
+// Reads a blob from an input into a form, in place of what that holds: a single point at once, all else with an engine. The form has no
+// rows where none is read.
 pub(crate) fn read_into<R: Read>(
     input: &mut Input<'_, R>,
-    engine: &mut Engine,
+    alloc: Global,
+    limits: Limits,
     flat: &mut Flat,
 ) -> Result<bool, BlobFault>
     ensures same_tap { (input_tap input.new).ghost_name ≡ (input_tap input.old).ghost_name }
-    ensures limits { allowance_of engine.new ≡ allowance_of engine.old }
-    ensures next { IsNextFlat (allowance_of engine.old) input.old input.new result flat.new }
-    ensures memory { result ≡ Err BlobFault.Memory → PartAhead (allowance_of engine.old) [] input.old }
+    ensures next { IsNextFlat limits input.old input.new result flat.new }
+    ensures memory { result ≡ Err BlobFault.Memory → PartAhead limits [] input.old }
     ensures cleared { (result ≡ Ok true) ⊎ (flat.new ≡ []) }
     ensures some { result ≡ Ok true → 0 < length flat.new }
     ensures failures { input_failures input.new ≡ count_failure (failed_by_read result) (input_failures input.old) }
 {
     twkb_tree::laws::nodes_are_rows();
-    engine.restart();
-    flat.clear();
-    match read_blob(input, engine, flat) {
+    match read_point(input, limits, flat) {
+        Ok(Some(_)) => return Ok(true),
+        Ok(None) => flat.clear(),
+        Err(_) => {
+            flat.clear();
+            return Err(BlobFault::Memory);
+        }
+    }
+    match read_with_engine(input, alloc, limits, flat) {
         Ok(true) => Ok(true),
         Ok(false) => {
             flat.clear();

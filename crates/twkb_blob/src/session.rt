@@ -6,6 +6,7 @@ ghost use Rattle.twkb_tree.specs.Limits.{IsValid, largest_limits};
 ghost use Rattle.twkb_engine.specs.Standing.{count_of, held_in, open_in};
 
 use crate::fault::{BlobFault, fault_at};
+use crate::feeding::feed;
 use std::alloc::{AllocError, Global};
 use twkb_engine::{BlobReason, Engine};
 use twkb_flat::Flat;
@@ -116,7 +117,7 @@ impl Session {
             return Err(BlobFault::Device(InFault::TooLong));
         };
         let count = room.min(piece.len() as u64) as usize;
-        match self.engine.feed(&mut self.flat, &piece[..count]) {
+        match feed(&mut self.engine, &mut self.flat, &piece[..count]) {
             Ok((used, true)) => {
                 self.is_whole = true;
                 self.start = taken + used as u64;

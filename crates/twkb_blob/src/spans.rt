@@ -1,8 +1,8 @@
 //! Geometries with the place and the header of each.
-ghost use Rattle.std.specs.Prelude.{◌≡◌, []};
+ghost use Rattle.std.specs.Prelude.{◌≡◌, ◌∷◌, [], OnOk};
 
 use crate::notes::SpanNotes;
-use std::alloc::Global;
+use std::alloc::{AllocError, Global};
 use std::marker::Model;
 use twkb_grammar::Span;
 use twkb_tree::Geometry;
@@ -37,6 +37,13 @@ impl Spans {
         ensures { self.new ≡ [] }
     {
         self.notes.restart();
+    }
+
+    // The list of this span alone. It takes memory where there is no room.
+    pub(crate) fn put(&mut self, span: Span) -> Result<(), AllocError>
+        ensures { OnOk result (self.new ≡ span ∷ []) }
+    {
+        self.notes.put(span)
     }
 
     /// The list of these spans. Takes no memory.

@@ -1,5 +1,8 @@
 -- Members that begin, and the ends of geometries in collections.
-use Rattle.std.proofs.Common.{◌≡◌, ℕ, zero, suc, ◌+◌, ◌-◌, ◌<◌, List, [], ◌∷◌, ◌++◌, length, get_or, Bool, true, false, refl, sym, subst, arith}
+use Rattle.std.proofs.Common.{◌≡◌, ℕ, zero, suc, ◌+◌, ◌-◌, ◌<◌, List, [], ◌∷◌, ◌++◌, length, take, drop, set, get_or, Bool, true, false, refl, sym, ap, ◌∙◌, subst, arith}
+use Rattle.std.proofs.Math.Seq.{take-append_seam}
+use Rattle.std.proofs.lemmas.List.{set_split, set-get_or, length-set, length-drop, nil_from_length}
+use Rattle.std.specs.List.{refill}
 use Rattle.std.specs.Prelude.{Result, Ok}
 use Rattle.twkb_tree.specs.Rows.{first_id, other_ids}
 use Rattle.twkb_grammar.specs.Fault.{Reason}
@@ -23,6 +26,20 @@ pub groups_length : (below : List outline.Group) (gs : List Group) → length (g
 groups_length below [] = omega arith
 groups_length below (g ∷ gs) = omega (arith, groups_length (group_of g ∷ below) gs)
 
+-- another element stands last
+last_set : {X : Type 0} (xs : List X) (i : ℕ) (y : X) → i + 1 ≡ length xs → set xs i y ≡ take i xs ++ y ∷ []
+last_set xs i y at = set_split xs i y (omega (arith, at)) ∙ ap (λ l. take i xs ++ y ∷ l) (nil_from_length (drop (suc i) xs) (omega (arith, length-drop (suc i) xs, at)))
+
+-- the last element behind the others, where they are lent as a slice
+pub last_split : {X : Type 0} (xs ws : List X) (i : ℕ) (d : X) → i + 1 ≡ length xs → ws ≡ xs → xs ≡ take i xs ++ get_or ws i d ∷ []
+last_split xs ws i d at lent = sym (set-get_or xs i d) ∙ (last_set xs i (get_or xs i d) at ∙ ap (λ l. take i xs ++ get_or l i d ∷ []) (sym lent))
+
+-- and where that shows another element last
+pub last_lent : {X : Type 0} (xs ws : List X) (i : ℕ) (y : X) → i + 1 ≡ length xs → ws ≡ xs → refill (length xs) xs (set ws i y) ≡ take i xs ++ y ∷ []
+last_lent xs ws i y at lent =
+    let there : List _ = set xs i y in
+    ap (λ l. refill (length xs) xs (set l i y)) lent ∙ (ap (λ n. take n (there ++ drop (length there) xs)) (sym (length-set xs i y)) ∙ (take-append_seam there (drop (length there) xs) ∙ last_set xs i y at))
+
 -- the first member of a collection begins
 pub collection_begun : (items gs : List Group) (g : Group) → items ≡ gs ++ g ∷ [] → (groups_of items, OnHeader) ≡ members_open ManyGeometries (head_of g.head) (groups_of gs) (ids_of g.names) (suc g.left)
 collection_begun items gs g e = rw (e, groups_pushed [] gs g) refl
@@ -34,13 +51,6 @@ pub going_on : (bytes : ℕ) (h : machine.Head) (old rest items : List Group) (f
 going_on bytes h old rest items f k x o i z l hd ids =
     let one : f.left ≡ suc k.left = omega (arith, z, l) in
     rw (x, o, i, groups_pushed [] rest f, groups_pushed [] rest k, one, hd, ids) refl
-
--- such a member's end passes
-pub going_passes : (bytes : ℕ) (h : machine.Head) (old rest : List Group) (f : Group) → exact h.size (bytes - h.from) ≡ true → old ≡ rest ++ f ∷ [] → 0 < f.left
-    → Passes (outline_past_end (exact h.size (bytes - h.from)) bytes (groups_of old))
-going_passes bytes h old rest f x o z =
-    let one : f.left ≡ suc (f.left - 1) = omega (arith, z) in
-    rw (x, o, groups_pushed [] rest f, one) tt
 
 -- where they were passed, they pass
 pub past_passes : (way : Result outline.Outline Reason) (left : List Group) (whole : Bool) → IsPast way left (Ok whole) → Passes way

@@ -1,15 +1,11 @@
 -- Where the ends behind an item are passed, or none comes, the bytes were judged.
-use Rattle.std.proofs.Common.{◌≡◌, ℕ, zero, suc, List, ◌++◌, length, refl, Result, Some, Ok, Err}
-use Rattle.twkb_tree.specs.Tree.{Tree}
+use Rattle.std.proofs.Common.{◌≡◌, ℕ, zero, suc, List, length, Result, Some, Ok, Err}
 use Rattle.twkb_tree.specs.Limits.{Allowance}
 use Rattle.twkb_tree.specs.Rows.{Row}
 use Rattle.twkb_grammar.specs.Roles.{Role}
-use Rattle.twkb_grammar.specs.Blob.{Blob}
-use Rattle.twkb_grammar.specs.Fault.{Reason, SizeMismatch}
+use Rattle.twkb_grammar.specs.Fault.{Reason}
 use Rattle.twkb_grammar.specs.Machine.{Sums}
 use Rattle.twkb_grammar.proofs.ExactEnds.{NoEnd}
-use Rattle.twkb_grammar.proofs.PartBytes.{blob_is_part}
-use Rattle.twkb_grammar.proofs.OneFault.{no_fault}
 use Rattle.twkb_outline.specs.Outline.{Outline, Step, OnHeader, OnId, OnBody, OnFinished, Wanted, WantedY, Full, step_role}
 use Rattle.twkb_outline.specs.Reading.{Outlined, OutlineLanded}
 use Rattle.twkb_outline.proofs.Outlined.{outlined_part}
@@ -37,10 +33,3 @@ outlined_judged limits bytes e o rs r past = record {
 pub landed_judged : (limits : Allowance) (bytes : List ℕ) (e : Sums) (rs : List Row) (way : Result Outline Reason) → OutlineLanded limits bytes e rs way → Passes way → IsJudged limits bytes
 landed_judged limits bytes e rs (Ok o) l past = outlined_judged limits bytes e o rs l past
 landed_judged limits bytes e rs (Err x) l past = absurd past
-
--- a blob was judged whole
-pub blob_judged : (limits : Allowance) (bytes : List ℕ) (g : Tree) → Blob limits bytes g → IsJudged limits bytes
-blob_judged limits bytes g b = record {
-  part = blob_is_part limits bytes g b;
-  exact = λ more f. no_fault limits (bytes ++ more) more g (length bytes) SizeMismatch (record { front = bytes; whole = refl; blob = b }) f.fault;
-}

@@ -6,5 +6,3 @@ pub mod Judging
 pub mod Taking
 pub mod Stepping
 pub mod Ahead
-pub mod Adding
-pub mod WholePoints

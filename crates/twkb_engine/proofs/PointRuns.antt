@@ -1,13 +1,13 @@
--- Points that stand whole in front lead a list on, and a body; and the bytes up to one for which there is no memory are a part.
-use Rattle.std.proofs.Common.{◌≡◌, ℕ, zero, suc, ◌+◌, ◌-◌, ◌<◌, ◌≤◌, List, [], ◌∷◌, ◌++◌, length, take, drop, Bool, false, refl, sym, ap, ◌∙◌, subst, arith}
-use Rattle.std.specs.Prelude.{Option, ℤ}
+-- Points that stand whole in front lead a body on; and the bytes up to one for which there is no memory are a part.
+use Rattle.std.proofs.Common.{Result, Ok, Err, ◌≡◌, ℕ, zero, suc, ◌+◌, ◌-◌, ◌<◌, List, [], ◌∷◌, ◌++◌, length, take, drop, false, refl, sym, ap, ◌∙◌, subst, arith}
+use Rattle.std.specs.Prelude.{Option, ℤ, IsErrAnd}
 use Rattle.twkb_points.specs.Point.{Point}
 use Rattle.twkb_tree.specs.Tree.{Ids}
-use Rattle.twkb_tree.specs.Rows.{Row, first_id}
+use Rattle.twkb_tree.specs.declared.kind.Kind.{Kind}
+use Rattle.twkb_tree.specs.Rows.{Row, plain_row, first_id, other_ids}
 use Rattle.twkb_tree.specs.RowGrowth.{point_added}
 use Rattle.twkb_grammar.specs.Machine.{Head, Form, PointForm, LineForm, PolygonForm, MultiPointForm, MultiLineForm, MultiPolygonForm}
-use Rattle.twkb_outline.specs.Outline as outline
-use Rattle.twkb_outline.specs.Outline.{Group, Outline, Step, OnBody, Wanted, shut, next_ids}
+use Rattle.twkb_outline.specs.Outline.{Group, Step, OnBody, Wanted, shut, next_ids}
 use Rattle.twkb_outline.specs.Growing.{applied, NewPoint, point_change, id_in}
 use Rattle.twkb_outline.specs.Reading.{Pair, sums_past, point_after}
 use Rattle.twkb_outline.specs.Noting.{NotedOutline}
@@ -15,132 +15,80 @@ use Rattle.twkb_outline.proofs.NotedPairs.{noted_point}
 use Rattle.twkb_outline.proofs.NotedJoins.{noted_still, noted_join}
 use Rattle.twkb_front.proofs.Pieces.{used_join, one_within}
 use Rattle.twkb_front.specs.Front.{PointInFront}
-use Rattle.twkb_engine.specs.Body.{form_of, spot_of, after_of}
+use Rattle.twkb_engine.specs.Body.{form_of, spot_of, lefts_of}
 use Rattle.twkb_engine.specs.Names.{ids_of}
 use Rattle.twkb_engine.specs.Stops.{IsPastEnds}
 use Rattle.twkb_engine.specs.Steps.{body_at}
-use Rattle.twkb_engine.specs.Running.{RunsTo, HasLists, ListPlace, ListRuns, ListStops, PhaseRuns, PhaseStops, StopsWith}
+use Rattle.twkb_engine.specs.Running.{RunsTo, HasLists, PhaseRuns, StopsWith, Leads, TakesPoints, left_in, at_spot, outer}
 use Rattle.twkb_engine.specs.State.{head_of, step_of, IsHeadAt}
 use Rattle.twkb_engine.specs.declared.place.Head as place
 use Rattle.twkb_engine.specs.declared.phase.Phase.{Phase}
-use Rattle.twkb_engine.specs.declared.lefts.After.{After}
-use Rattle.twkb_engine.specs.declared.lefts.Spot.{Spot}
+use Rattle.twkb_engine.specs.declared.phase.Phase.TheVariants as phase
+use Rattle.twkb_engine.specs.declared.runs.Taken.{Taken}
+use Rattle.twkb_engine.specs.declared.names.Names.{Names}
+use Rattle.twkb_engine.specs.declared.lefts.Lefts.{Lefts}
+use Rattle.twkb_engine.specs.declared.lefts.Lefts.TheVariants.{Empty, One, Two, Three}
+use Rattle.twkb_engine.specs.declared.site.Form.TheVariants.{MultiPoint}
+use Rattle.twkb_engine.specs.declared.lefts.Spot.TheVariants.{X}
 use Rattle.twkb_engine.specs.declared.body.Body.{Body}
 use Rattle.twkb_engine.proofs.Judging.{outlined_judged}
 use Rattle.twkb_engine.proofs.Feeding.{part_further}
 
--- ---- a list of points
+-- ---- points that are taken
 
--- a point comes to the last row
-comes : (f : Form) (to : Point) (d : ℕ) (id : Option ℤ) (precision : ℤ) (member : Option ℤ) → HasLists f → point_change to d id precision f member ≡ NewPoint to
-comes PointForm to d id precision member h = absurd h
-comes LineForm to d id precision member h = refl
-comes PolygonForm to d id precision member h = refl
-comes MultiPointForm to d id precision member h = absurd h
-comes MultiLineForm to d id precision member h = refl
-comes MultiPolygonForm to d id precision member h = refl
-
-pub list_none : (rs : List Row) (left : ℕ) (from : Point) → ListRuns rs left from [] rs left from
-list_none rs left from = λ p front e i. record {
-  outlined = noted_still p.limits front e (p.groups, OnBody p.head p.form p.ids (Wanted 0 (left ∷ p.lefts))) rs p.told from i.position i.outlined;
-  position = refl;
-}
-
-list_join : (rs mid more : List Row) (left less after : ℕ) (from at to : Point) (xs ys : List ℕ) → ListRuns rs left from xs mid less at → ListRuns mid less at ys more after to → ListRuns rs left from (xs ++ ys) more after to
-list_join rs mid more left less after from at to xs ys first second = λ p front e i. record {
-  outlined = noted_join p.limits front e (p.groups, OnBody p.head p.form p.ids (Wanted 0 (after ∷ p.lefts))) more p.told xs ys at to (second p (front ++ xs) (sums_past e xs at) (first p front e i)).outlined;
-  position = refl;
-}
-
--- a point with others behind it
-list_point : (rs : List Row) (left : ℕ) (from to : Point) (bytes : List ℕ) → Pair from bytes to → ListRuns rs (suc left) from bytes (point_added to rs) left to
-list_point rs left from to bytes pair = λ p front e i.
-    let here : Pair e.position bytes to = subst (λ q. Pair q bytes to) (sym i.position) pair in
-    let next = noted_point p.limits front e p.groups p.head p.form p.ids (suc left ∷ p.lefts) rs p.told bytes to i.outlined here in
-    let change = comes p.form to (length p.groups) (id_in p.groups) p.head.precision (first_id p.ids) p.has_lists in
-    record {
-      outlined = subst (λ c. NotedOutline p.limits (front ++ bytes) (sums_past e bytes to) (p.groups, OnBody p.head p.form p.ids (Wanted 0 (left ∷ p.lefts))) (applied c rs) p.told) change
-          (subst (λ ids. NotedOutline p.limits (front ++ bytes) (sums_past e bytes to) (p.groups, OnBody p.head p.form ids (Wanted 0 (left ∷ p.lefts))) (applied (point_after to p.groups p.head p.form p.ids) rs) p.told) p.same_ids next);
-      position = refl;
-    }
-
--- a point more in the piece
-pub list_more : (rs mid more : List Row) (all left used count : ℕ) (from at to : Point) (bytes : List ℕ) → 0 < left → more ≡ point_added to mid
-    → PointInFront at (take (length bytes - used) (drop used bytes)) to count → ListRuns rs all from (take used bytes) mid left at → ListRuns rs all from (take (used + count) bytes) more (left - 1) to
-list_more rs mid more all zero used count from at to bytes some added cut run = absurd (omega (arith, some))
-list_more rs mid more all (suc left) used count from at to bytes some added cut run =
-    let less : suc left - 1 ≡ left = omega arith in
-    rw (added, less, used_join bytes used count)
-    (list_join rs mid (point_added to mid) all (suc left) left from at to (take used bytes) (take count (take (length bytes - used) (drop used bytes))) run
-    (list_point mid left at to (take count (take (length bytes - used) (drop used bytes))) cut.pair))
-
--- there is no memory for a point more in the piece
-pub list_stops : (rs mid : List Row) (all left used count : ℕ) (from at to : Point) (bytes : List ℕ) → 0 < left → used ≤ length bytes → PointInFront at (take (length bytes - used) (drop used bytes)) to count
-    → ListRuns rs all from (take used bytes) mid left at → ListStops rs all from bytes
-list_stops rs mid all left used count from at to bytes some within cut run = λ p front e i.
-    let there = list_more rs mid (point_added to mid) all left used count from at to bytes some refl cut run p front e i in
-    record {
-      used = used + count;
-      some = (let one = cut.some in omega (arith, one));
-      within = one_within bytes used count within cut.within;
-      part = outlined_judged p.limits (front ++ take (used + count) bytes) (sums_past e (take (used + count) bytes) to) (p.groups, OnBody p.head p.form p.ids (Wanted 0 ((left - 1) ∷ p.lefts))) (point_added to mid) there.outlined.outlined tt;
-    }
-
--- ---- what comes next
-
+-- nothing comes next that did not
 pub phase_none : (p : Phase) (rs : List Row) (from : Point) → PhaseRuns p rs from [] p rs from
 phase_none p rs from = λ limits front e gs told i. record { outlined = noted_still limits front e (gs, step_of p) rs told from i.position i.outlined; placed = i.placed; position = refl }
 
--- some bytes of a piece, and then others
-pub phase_more : (p q r : Phase) (rs mid more : List Row) (from at to : Point) (bytes : List ℕ) (used count : ℕ)
-    → PhaseRuns p rs from (take used bytes) q mid at → PhaseRuns q mid at (take count (take (length bytes - used) (drop used bytes))) r more to → PhaseRuns p rs from (take (used + count) bytes) r more to
-phase_more p q r rs mid more from at to bytes used count first second =
-    let xs = take used bytes in
-    let ys = take count (take (length bytes - used) (drop used bytes)) in
-    subst (λ l. PhaseRuns p rs from l r more to) (sym (used_join bytes used count)) (λ limits front e gs told i.
-    let two = second limits (front ++ xs) (sums_past e xs at) gs told (first limits front e gs told i) in
-    record { outlined = noted_join limits front e (gs, step_of r) more told xs ys at to two.outlined; placed = two.placed; position = refl })
+-- none were taken
+pub takes_none : (h : place.Head) (b : Body) (rs : List Row) (from : Point) (bytes : List ℕ) (t : Taken) → t ≡ record { used = 0; position = from } → Leads h b rs from bytes t b rs
+takes_none h b rs from bytes t e = subst (λ u. Leads h b rs from bytes u b rs) (sym e) (record { within = omega arith; run = phase_none (phase.Body h b) rs from })
 
--- some bytes of a piece, and then there is no memory for others
-pub phase_stops_behind : (p q : Phase) (rs mid : List Row) (from at : Point) (bytes : List ℕ) (used : ℕ) → used ≤ length bytes
-    → PhaseRuns p rs from (take used bytes) q mid at → PhaseStops q mid at (take (length bytes - used) (drop used bytes)) → PhaseStops p rs from bytes
-phase_stops_behind p q rs mid from at bytes used within first second = λ limits front e gs told i.
-    part_further limits front bytes used within (second limits (front ++ take used bytes) (sums_past e (take used bytes) at) gs told (first limits front e gs told i))
+-- some, and then others
+pub takes_more : (h : place.Head) (b c d : Body) (rs mid more : List Row) (from : Point) (bytes : List ℕ) (t u : Taken) → Leads h b rs from bytes t c mid → Leads h c mid t.position (take (length bytes - t.used) (drop t.used bytes)) u d more
+    → Leads h b rs from bytes (record { used = t.used + u.used; position = u.position }) d more
+takes_more h b c d rs mid more from bytes t u first second =
+    let xs = take t.used bytes in
+    let ys = take u.used (take (length bytes - t.used) (drop t.used bytes)) in
+    record {
+      within = one_within bytes t.used u.used first.within second.within;
+      run = subst (λ l. RunsTo h b rs from l d more u.position) (sym (used_join bytes t.used u.used)) (λ limits front e gs told i.
+          let two = second.run limits (front ++ xs) (sums_past e xs t.position) gs told (first.run limits front e gs told i) in
+          record { outlined = noted_join limits front e (gs, step_of (phase.Body h d)) more told xs ys t.position u.position two.outlined; placed = two.placed; position = refl });
+    }
 
--- a list of a body
-pub list_in_body : (h : place.Head) (b : Body) (s : Spot) (rs more : List Row) (left after : ℕ) (lefts : List ℕ) (from to : Point) (bytes : List ℕ) → ListRuns rs left from bytes more after to
-    → spot_of b.spot ≡ Wanted 0 (left ∷ lefts) → spot_of s ≡ Wanted 0 (after ∷ lefts) → HasLists (form_of b.form) → next_ids lefts (ids_of b.names) ≡ ids_of b.names
-    → RunsTo h b rs from bytes (record { form = b.form; names = b.names; spot = s }) more to
-list_in_body h b s rs more left after lefts from to bytes run begins ends lists same = λ limits front e gs told i.
-    let At : outline.Spot → Outline = λ k. (gs, OnBody (head_of h) (form_of b.form) (ids_of b.names) k) in
-    let place : ListPlace = record { limits = limits; groups = gs; head = head_of h; form = form_of b.form; ids = ids_of b.names; lefts = lefts; told = told; has_lists = lists; same_ids = same } in
-    let there = run place front e (record { outlined = subst (λ k. NotedOutline limits front e (At k) rs told) begins i.outlined; position = i.position }) in
-    record { outlined = subst (λ k. NotedOutline limits (front ++ bytes) (sums_past e bytes to) (At k) more told) (sym ends) there.outlined; placed = i.placed; position = refl }
+-- some, and then there is no memory
+pub takes_stop : (h : place.Head) (b c : Body) (rs mid : List Row) (from : Point) (bytes : List ℕ) (t : Taken) → Leads h b rs from bytes t c mid → StopsWith h c mid t.position (take (length bytes - t.used) (drop t.used bytes)) → StopsWith h b rs from bytes
+takes_stop h b c rs mid from bytes t first stops = λ limits front e gs told i.
+    part_further limits front bytes t.used first.within (stops limits (front ++ take t.used bytes) (sums_past e (take t.used bytes) t.position) gs told (first.run limits front e gs told i))
+
+-- what was answered then
+pub takes_err : {E : Type 0} (Q : E → Type 0) (h : place.Head) (b c : Body) (rs more : List Row) (from : Point) (bytes : List ℕ) (r : Result Taken E) → IsErrAnd r Q → StopsWith h b rs from bytes → TakesPoints h b rs from bytes r c more
+takes_err Q h b c rs more from bytes (Ok t) is stops = absurd is
+takes_err Q h b c rs more from bytes (Err e) is stops = stops
+
+-- ---- a point
 
 -- what a point changes where a body stands
 same_change : (to : Point) (gs : List Group) (h : place.Head) (f : Form) (ids : Ids) → IsHeadAt (length gs) (id_in gs) h → point_change to h.depth h.id h.precision f (first_id ids) ≡ point_after to gs (head_of h) f ids
 same_change to gs h f ids at = ap (λ d. point_change to d h.id h.precision f (first_id ids)) at.depth_is ∙ ap (λ i. point_change to (length gs) i h.precision f (first_id ids)) at.id_is
 
 -- a point behind which the body goes on
-pub point_runs : (h : place.Head) (b c : Body) (rs more : List Row) (from to : Point) (bytes lefts : List ℕ) (member : Option ℤ) (a : After) (done : Bool) → spot_of b.spot ≡ Wanted 0 lefts → Pair from bytes to
-    → member ≡ first_id (ids_of b.names) → more ≡ applied (point_change to h.depth h.id h.precision (form_of b.form) member) rs → ((k : Head) (f : Form) (ids : Ids) → after_of k f ids a ≡ shut k f ids 0 lefts)
-    → ((k : Head) → after_of k (form_of b.form) (ids_of b.names) a ≡ body_at k c done) → done ≡ false → RunsTo h b rs from bytes c more to
-point_runs h b c rs more from to bytes lefts member a done spot pair same put shuts goes on = λ limits front e gs told i.
-    let f = form_of b.form in
-    let ids = ids_of b.names in
-    let Behind : Step → List Row → Type 0 = λ s l. NotedOutline limits (front ++ bytes) (sums_past e bytes to) (gs, s) l told in
-    let here = subst (λ s. NotedOutline limits front e (gs, OnBody (head_of h) f ids s) rs told) spot i.outlined in
-    let next = noted_point limits front e gs (head_of h) f ids lefts rs told bytes to here (subst (λ q. Pair q bytes to) (sym i.position) pair) in
-    let rows : applied (point_after to gs (head_of h) f ids) rs ≡ more = sym (put ∙ ap (λ m. applied (point_change to h.depth h.id h.precision f m) rs) same ∙ ap (λ k. applied k rs) (same_change to gs h f ids i.placed)) in
-    let step : shut (head_of h) f ids 0 lefts ≡ body_at (head_of h) c false = sym (shuts (head_of h) f ids) ∙ (goes (head_of h) ∙ ap (λ d. body_at (head_of h) c d) on) in
-    record { outlined = subst (λ l. Behind (body_at (head_of h) c false) l) rows (subst (λ s. Behind s (applied (point_after to gs (head_of h) f ids) rs)) step next); placed = i.placed; position = refl }
-
--- there is no memory for a point of a list of a body
-pub list_stops_in_body : (h : place.Head) (b : Body) (rs : List Row) (left : ℕ) (lefts : List ℕ) (from : Point) (bytes : List ℕ) → ListStops rs left from bytes → spot_of b.spot ≡ Wanted 0 (left ∷ lefts)
-    → HasLists (form_of b.form) → next_ids lefts (ids_of b.names) ≡ ids_of b.names → StopsWith h b rs from bytes
-list_stops_in_body h b rs left lefts from bytes stops begins lists same = λ limits front e gs told i.
-    let place : ListPlace = record { limits = limits; groups = gs; head = head_of h; form = form_of b.form; ids = ids_of b.names; lefts = lefts; told = told; has_lists = lists; same_ids = same } in
-    stops place front e (record { outlined = subst (λ k. NotedOutline limits front e (gs, OnBody (head_of h) (form_of b.form) (ids_of b.names) k) rs told) begins i.outlined; position = i.position })
+pub point_leads : (h : place.Head) (b c : Body) (rs more : List Row) (from to : Point) (bytes lefts : List ℕ) (used : ℕ) (member : Option ℤ) → spot_of b.spot ≡ Wanted 0 lefts → PointInFront from bytes to used
+    → member ≡ first_id (ids_of b.names) → more ≡ applied (point_change to h.depth h.id h.precision (form_of b.form) member) rs
+    → ((k : Head) → shut k (form_of b.form) (ids_of b.names) 0 lefts ≡ body_at k c false) → Leads h b rs from bytes (record { used = used; position = to }) c more
+point_leads h b c rs more from to bytes lefts used member spot cut same put goes = record {
+  within = cut.within;
+  run = λ limits front e gs told i.
+      let f = form_of b.form in
+      let ids = ids_of b.names in
+      let xs = take used bytes in
+      let Behind : Step → List Row → Type 0 = λ s l. NotedOutline limits (front ++ xs) (sums_past e xs to) (gs, s) l told in
+      let here = subst (λ s. NotedOutline limits front e (gs, OnBody (head_of h) f ids s) rs told) spot i.outlined in
+      let next = noted_point limits front e gs (head_of h) f ids lefts rs told xs to here (subst (λ q. Pair q xs to) (sym i.position) cut.pair) in
+      let rows : applied (point_after to gs (head_of h) f ids) rs ≡ more = sym (put ∙ ap (λ m. applied (point_change to h.depth h.id h.precision f m) rs) same ∙ ap (λ k. applied k rs) (same_change to gs h f ids i.placed)) in
+      record { outlined = subst (λ l. Behind (body_at (head_of h) c false) l) rows (subst (λ s. Behind s (applied (point_after to gs (head_of h) f ids) rs)) (goes (head_of h)) next); placed = i.placed; position = refl };
+}
 
 -- there is no memory for a point
 pub point_stops : (h : place.Head) (b : Body) (rs : List Row) (from to : Point) (bytes lefts : List ℕ) (used : ℕ) → spot_of b.spot ≡ Wanted 0 lefts → PointInFront from bytes to used
@@ -156,3 +104,57 @@ point_stops h b rs from to bytes lefts used spot cut goes = λ limits front e gs
       within = cut.within;
       part = outlined_judged limits (front ++ take used bytes) (sums_past e (take used bytes) to) (gs, shut (head_of h) f ids 0 lefts) (applied (point_after to gs (head_of h) f ids) rs) next.outlined (goes (head_of h) f ids);
     }
+
+-- nor for one with others behind it
+pub one_stops : (h : place.Head) (b : Body) (rs : List Row) (from to : Point) (bytes lefts : List ℕ) (left used : ℕ) → spot_of b.spot ≡ Wanted 0 (left ∷ lefts) → 0 < left → PointInFront from bytes to used → StopsWith h b rs from bytes
+one_stops h b rs from to bytes lefts zero used spot some cut = absurd (omega (arith, some))
+one_stops h b rs from to bytes lefts (suc left) used spot some cut = point_stops h b rs from to bytes (suc left ∷ lefts) used spot cut (λ k f ids. tt)
+
+-- a member of a multipoint, with others behind it
+pub member_leads : (h : place.Head) (b : Body) (next : Names) (rs more : List Row) (left used : ℕ) (from to : Point) (bytes : List ℕ) (member : Option ℤ) → b.form ≡ MultiPoint → 0 < left → PointInFront from bytes to used → member ≡ first_id (ids_of b.names)
+    → ids_of next ≡ other_ids (ids_of b.names) → more ≡ rs ++ plain_row (h.depth + 1) Kind.Point member (to ∷ []) ∷ []
+    → Leads h (at_spot b (X (One left))) rs from bytes (record { used = used; position = to }) (record { form = b.form; names = next; spot = X (One (left - 1)) }) more
+member_leads h b next rs more zero used from to bytes member form some cut same ids put = absurd (omega (arith, some))
+member_leads h b next rs more (suc left) used from to bytes member form some cut same ids put =
+    let less : suc left - 1 ≡ left = omega arith in
+    let deep : h.depth + 1 ≡ suc h.depth = omega arith in
+    rw less (point_leads h (at_spot b (X (One (suc left)))) (record { form = b.form; names = next; spot = X (One left) }) rs more from to bytes (suc left ∷ []) used member refl cut same
+    (put ∙ (ap (λ d. rs ++ plain_row d Kind.Point member (to ∷ []) ∷ []) deep ∙ ap (λ f. applied (point_change to h.depth h.id h.precision (form_of f) member) rs) (sym form)))
+    (λ k. ap (λ l. OnBody k (form_of b.form) l (Wanted 0 (left ∷ []))) (sym ids)))
+
+-- ---- a point of a list
+
+-- a point comes to the last row
+comes : (f : Form) (to : Point) (d : ℕ) (id : Option ℤ) (precision : ℤ) (member : Option ℤ) → HasLists f → point_change to d id precision f member ≡ NewPoint to
+comes PointForm to d id precision member h = absurd h
+comes LineForm to d id precision member h = refl
+comes PolygonForm to d id precision member h = refl
+comes MultiPointForm to d id precision member h = absurd h
+comes MultiLineForm to d id precision member h = refl
+comes MultiPolygonForm to d id precision member h = refl
+
+-- the lists with another count
+pub lefts_left : (lefts : Lefts) (left n : ℕ) → lefts_of lefts ≡ left ∷ outer (lefts_of lefts) → lefts_of (left_in lefts n) ≡ n ∷ outer (lefts_of lefts)
+lefts_left Empty left n e = cc e
+lefts_left (One a) left n e = refl
+lefts_left (Two a b) left n e = refl
+lefts_left (Three a b c) left n e = refl
+
+-- the lists with their own
+pub left_there : (lefts : Lefts) (left : ℕ) → lefts_of lefts ≡ left ∷ outer (lefts_of lefts) → left_in lefts left ≡ lefts
+left_there Empty left e = refl
+left_there (One a) left e = cc e
+left_there (Two a b) left e = cc e
+left_there (Three a b c) left e = cc e
+
+-- a point of a list, with others behind it
+pub list_leads : (h : place.Head) (b : Body) (lefts : Lefts) (rs more : List Row) (most left used : ℕ) (from to : Point) (bytes : List ℕ) → lefts_of lefts ≡ most ∷ outer (lefts_of lefts) → HasLists (form_of b.form) → next_ids (outer (lefts_of lefts)) (ids_of b.names) ≡ ids_of b.names
+    → 0 < left → PointInFront from bytes to used → more ≡ point_added to rs → Leads h (at_spot b (X (left_in lefts left))) rs from bytes (record { used = used; position = to }) (at_spot b (X (left_in lefts (left - 1)))) more
+list_leads h b lefts rs more most zero used from to bytes begun lists same some cut added = absurd (omega (arith, some))
+list_leads h b lefts rs more most (suc left) used from to bytes begun lists same some cut added =
+    let less : suc left - 1 ≡ left = omega arith in
+    let f = form_of b.form in
+    let member = first_id (ids_of b.names) in
+    rw less (point_leads h (at_spot b (X (left_in lefts (suc left)))) (at_spot b (X (left_in lefts left))) rs more from to bytes (suc left ∷ outer (lefts_of lefts)) used member (ap (Wanted 0) (lefts_left lefts most (suc left) begun)) cut refl
+    (added ∙ ap (λ c. applied c rs) (sym (comes f to h.depth h.id h.precision member lists)))
+    (λ k. ap (λ l. OnBody k f l (Wanted 0 (left ∷ outer (lefts_of lefts)))) same ∙ ap (λ l. OnBody k f (ids_of b.names) (Wanted 0 l)) (sym (lefts_left lefts most left begun))))

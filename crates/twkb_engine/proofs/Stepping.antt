@@ -14,7 +14,7 @@ use Rattle.twkb_front.proofs.OpenNumbers.{number_begun}
 use Rattle.twkb_engine.specs.State.{groups_of, IsSpelled, IsByte}
 use Rattle.twkb_engine.specs.Parts.{PartIn}
 use Rattle.twkb_engine.specs.Building.{sums_of, outline_in, StandsBehind, IsTaken, Takes}
-use Rattle.twkb_engine.specs.Ahead.{RunsBehind, StopsBehind}
+use Rattle.twkb_engine.specs.Ahead.{RunsBehind, StopsBehind, IsLedBy}
 use Rattle.twkb_engine.specs.Standing.{StandsAt, LeadsOn, StopsIn, IsStep, ItemInFront, IsOneItem, allowance_of, held_in, offset_in}
 use Rattle.twkb_engine.specs.declared.builder.Builder.{Builder}
 use Rattle.twkb_engine.specs.declared.engine.Engine.{Engine}
@@ -60,12 +60,11 @@ stepped limits bytes (Ok true) rs d none t = (t.0, t.1, t.2, behind_items [] [] 
 stepped limits bytes (Err Memory) rs d none t = t
 stepped limits bytes (Err (Refused x)) rs d none t = t
 
--- whole items that stood in front
-pub whole_stepped : (bs bytes : List ℕ) (rs more : List Row) (d : Engine) (c : Builder) (r : Result Bool Stop) → held_in d ≡ [] → ((front : List ℕ) → StandsBehind front rs d.builder → IsTaken (allowance_of d) (front ++ bytes) r more c) → StandsAt bs rs d
-    → IsStep (allowance_of d) (bs ++ bytes) r more (record { builder = c; partial = d.partial })
-whole_stepped bs bytes rs more d c r none taken s =
+-- items of a header that stood in front
+pub led_ahead : (bs rest : List ℕ) (count : ℕ) (rs : List Row) (d : Engine) (c : Builder) → held_in d ≡ [] → IsLedBy d.builder rest count c → StandsAt bs rs d → StandsAt (bs ++ take count rest) rs (record { builder = c; partial = d.partial })
+led_ahead bs rest count rs d c none led s =
     let e : Engine = record { builder = c; partial = d.partial } in
-    subst (λ l. IsStep (allowance_of d) (l ++ bytes) r more e) (sym (all_whole bs rs d none s)) (stepped (allowance_of d) (s.front ++ bytes) r more e none (taken s.front (before_item bs rs d s)))
+    subst (λ l. StandsAt (l ++ take count rest) rs e) (sym (all_whole bs rs d none s)) (behind_items (s.front ++ take count rest) rs e none (led.led s.front rs (before_item bs rs d s)))
 
 -- an item behind whole items
 item_led : (bs all bytes : List ℕ) (n len : ℕ) (rs more : List Row) (d e : Engine) (r : Result Bool Stop) (s : StandsAt bs rs d) → s.front ++ bytes ≡ all → length bytes ≡ len → held_in e ≡ [] → Takes d.builder n len rs r more e.builder
@@ -82,8 +81,8 @@ pub item_stepped : (bs rest : List ℕ) (n count : ℕ) (rs more : List Row) (d 
 item_stepped bs rest n count rs more d c r f takes s =
     let b = d.builder in
     let role = has_role (length (groups_of b.groups.items)) b.bytes b.phase b.waits in
-    let size : length (take count rest) ≡ count = let within = f.within in omega (arith, length-take count rest, within) in
-    item_led bs (bs ++ take count rest) (take count rest) n count rs more d (record { builder = c; partial = d.partial }) r s (ap (λ l. l ++ take count rest) (sym (all_whole bs rs d f.alone s))) size f.alone takes (f.gives role.0 role.1)
+    let size : length (take count rest) ≡ count = let within = f.item.within in omega (arith, length-take count rest, within) in
+    item_led bs (bs ++ take count rest) (take count rest) n count rs more d (record { builder = c; partial = d.partial }) r s (ap (λ l. l ++ take count rest) (sym (all_whole bs rs d f.alone s))) size f.alone takes (f.item.gives role.0 role.1)
 
 -- a byte at a byte's place
 pub byte_stepped : (bs : List ℕ) (u : ℕ) (rs more : List Row) (d e : Engine) (r : Result Bool Stop) → StandsAt bs rs d → IsByte d.builder.phase → u < 256 → held_in e ≡ held_in d

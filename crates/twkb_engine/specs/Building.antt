@@ -1,22 +1,20 @@
 -- A builder as an outline with sums, and why it refuses an item.
-use Rattle.std.specs.Prelude.{◌≡◌, ℕ, Result, Ok, Err, Bool, true, false, List, [], ◌++◌, length, take, get_or, Option, Some, None}
+use Rattle.std.specs.Prelude.{◌≡◌, ◌+◌, ◌<◌, ◌≤◌, ◌⊎◌, ℕ, Result, Ok, Err, Bool, true, false, List, [], ◌++◌, length, take, Option, Some, None}
+use Rattle.twkb_points.specs.Point.{Point}
 use Rattle.twkb_tree.specs.Limits.{Allowance}
 use Rattle.twkb_grammar.specs.Fault as fault
 use Rattle.twkb_grammar.specs.PlainReader.{objection}
 use Rattle.twkb_grammar.specs.Roles.{Role, Item}
 use Rattle.twkb_grammar.specs.Reading.{Gives}
-use Rattle.twkb_grammar.specs.Machine.{Sums}
+use Rattle.twkb_grammar.specs.Machine.{Sums, added}
 use Rattle.twkb_outline.specs.Outline.{Outline, OnFinished, outline_role}
 use Rattle.twkb_outline.specs.Reading.{Outlined}
-use Rattle.twkb_engine.specs.State.{groups_of, step_of, IsPlacedIn}
+use Rattle.twkb_engine.specs.State.{groups_of, step_of, IsPlacedIn, IsSpelled}
 use Rattle.twkb_engine.specs.Parts.{IsJudged}
 use Rattle.twkb_engine.specs.Stops.{reason_of, Passes}
 use Rattle.twkb_engine.specs.declared.stop.Stop.{Stop}
 use Rattle.twkb_engine.specs.declared.stop.Stop.TheVariants.{Memory, Refused}
-use Rattle.twkb_engine.specs.Front.{WholePoint}
 use Rattle.twkb_engine.specs.declared.builder.Builder.{Builder}
-use Rattle.twkb_engine.specs.declared.phase.Phase.TheVariants.{Header}
-use Rattle.twkb_engine.specs.declared.whole.Whole.{Whole}
 use Rattle.twkb_tree.specs.Tree.{Tree}
 use Rattle.twkb_tree.specs.Rows.{Row, rows}
 use Rattle.twkb_grammar.specs.Blob.{Blob}
@@ -44,6 +42,13 @@ objection_at limits e n (Some r) = objection limits e r n
 abbrev pub refusal : Allowance → Sums → Outline → ℕ → Option fault.Reason
 refusal limits e o n = objection_at limits e n (outline_role e o)
 
+-- so many of the bytes say this number in the role of the next item
+pub record SaysNext (b : Builder) (bytes : List ℕ) (n count : ℕ) : Type 0 where
+  pub some : 0 < count
+  pub within : count ≤ length bytes
+  pub fits : (n < 256) ⊎ IsSpelled b.phase
+  pub gives : (r : Role) → outline_role (sums_of b) (outline_in b) ≡ Some r → Gives r n (take count bytes)
+
 -- the ends behind an item were taken, with these sums
 abbrev pub IsAt : Result Outline fault.Reason → Sums → Result Bool Stop → Builder → Type 0
 IsAt way e (Ok false) b = (way ≡ Ok (outline_in b)) × (sums_of b ≡ e)
@@ -63,7 +68,6 @@ abbrev pub Takes : Builder → (n count : ℕ) → List Row → Result Bool Stop
 Takes b n count rs r more new =
     (front : List ℕ) (i : Item) → StandsBehind front rs b → outline_role (sums_of b) (outline_in b) ≡ Some i.role → Gives i.role i.number i.bytes → i.number ≡ n → length i.bytes ≡ count → IsTaken b.limits (front ++ i.bytes) r more new
 
--- and with such a point that stands whole in front with its header and has this type byte, where a type byte comes next
-abbrev pub TakesPoint : Builder → (first : ℕ) → Whole → List Row → Result Bool Stop → List Row → Builder → Type 0
-TakesPoint b first p rs r more new =
-    (front bytes : List ℕ) → StandsBehind front rs b → b.phase ≡ Header → WholePoint bytes p.to p.used p.size → first ≡ get_or bytes 0 0 → IsTaken b.limits (front ++ take p.used bytes) r more new
+-- the place and the counts behind an item of this number, whichever comes next
+abbrev pub AreBehind : Builder → ℕ → Point → (nodes points : ℕ) → Type 0
+AreBehind b n at nodes points = (i : Item) → outline_role (sums_of b) (outline_in b) ≡ Some i.role → i.number ≡ n → record { bytes = b.bytes + length i.bytes; position = at; nodes = nodes; points = points } ≡ added (sums_of b) i

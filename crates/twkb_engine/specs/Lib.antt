@@ -1,7 +1,7 @@
 pub mod Body
 pub mod Names
+pub mod Leads
 pub mod Steps
-pub mod Front
 pub mod Running
 pub mod State
 pub mod Stops

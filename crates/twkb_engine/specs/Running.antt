@@ -1,13 +1,12 @@
--- Lists of points, bodies, and what comes next, that are read on in front of bytes, or for which there is no memory.
-use Rattle.std.specs.Prelude.{◌≡◌, ⊤, ℕ, List, [], ◌∷◌, ◌++◌, length}
+-- Bodies, and what comes next, that are read on in front of bytes, or for which there is no memory.
+use Rattle.std.specs.Prelude.{◌≡◌, ◌≤◌, ⊤, ℕ, List, [], ◌∷◌, ◌++◌, length, take, Result, Ok, Err}
 use Rattle.twkb_points.specs.Point.{Point}
-use Rattle.twkb_tree.specs.Tree.{Ids}
 use Rattle.twkb_tree.specs.Limits.{Allowance}
 use Rattle.twkb_tree.specs.Rows.{Row}
 use Rattle.twkb_grammar.specs.Machine as machine
 use Rattle.twkb_grammar.specs.Machine.{Head, Sums, PointForm, MultiPointForm}
 use Rattle.twkb_grammar.specs.Noting.{Notes}
-use Rattle.twkb_outline.specs.Outline.{Group, Wanted, OnBody, next_ids}
+use Rattle.twkb_outline.specs.Outline.{Group}
 use Rattle.twkb_outline.specs.Growing.{id_in}
 use Rattle.twkb_outline.specs.Reading.{sums_past}
 use Rattle.twkb_outline.specs.Noting.{NotedOutline}
@@ -17,6 +16,10 @@ use Rattle.twkb_engine.specs.declared.place.Head as place
 use Rattle.twkb_engine.specs.declared.phase.Phase.{Phase}
 use Rattle.twkb_engine.specs.declared.phase.Phase.TheVariants as phase
 use Rattle.twkb_engine.specs.declared.body.Body.{Body}
+use Rattle.twkb_engine.specs.declared.lefts.Lefts.{Lefts}
+use Rattle.twkb_engine.specs.declared.lefts.Lefts.TheVariants.{Empty, One, Two, Three}
+use Rattle.twkb_engine.specs.declared.lefts.Spot.{Spot}
+use Rattle.twkb_engine.specs.declared.runs.Taken.{Taken}
 
 -- a form that has its points in lists, and each list in a row
 abbrev pub HasLists : machine.Form → Type 0
@@ -28,31 +31,6 @@ HasLists f = ⊤
 abbrev pub outer : List ℕ → List ℕ
 outer [] = []
 outer (left ∷ lefts) = lefts
-
--- where a list of points stands open: what stays the same while its points are read
-pub record ListPlace : Type 0 where
-  pub limits : Allowance
-  pub groups : List Group
-  pub head : Head
-  pub form : machine.Form
-  pub ids : Ids
-  pub lefts : List ℕ
-  pub told : ℕ → Notes
-  pub has_lists : HasLists form
-  pub same_ids : next_ids lefts ids ≡ ids
-
--- behind these bytes a point of that list is wanted, with so many behind it
-pub record InList (p : ListPlace) (front : List ℕ) (e : Sums) (left : ℕ) (rs : List Row) (at : Point) : Type 0 where
-  pub outlined : NotedOutline p.limits front e (p.groups, OnBody p.head p.form p.ids (Wanted 0 (left ∷ p.lefts))) rs p.told
-  pub position : e.position ≡ at
-
--- wherever it stands, the bytes lead on in the list
-abbrev pub ListRuns : List Row → ℕ → Point → List ℕ → List Row → ℕ → Point → Type 0
-ListRuns rs left from bytes more after to = (p : ListPlace) (front : List ℕ) (e : Sums) → InList p front e left rs from → InList p (front ++ bytes) (sums_past e bytes to) after more to
-
--- wherever it stands, a front of the bytes ends a part that was judged
-abbrev pub ListStops : List Row → ℕ → Point → List ℕ → Type 0
-ListStops rs left from bytes = (p : ListPlace) (front : List ℕ) (e : Sums) → InList p front e left rs from → PartIn p.limits front bytes
 
 -- behind these bytes and inside these collections this comes next, and this is noted of spans
 pub record InPhase (limits : Allowance) (front : List ℕ) (e : Sums) (gs : List Group) (told : ℕ → Notes) (p : Phase) (rs : List Row) (at : Point) : Type 0 where
@@ -75,3 +53,24 @@ RunsTo h b rs from bytes c more to = PhaseRuns (phase.Body h b) rs from bytes (p
 
 abbrev pub StopsWith : place.Head → Body → List Row → Point → List ℕ → Type 0
 StopsWith h b rs from bytes = PhaseStops (phase.Body h b) rs from bytes
+
+-- these points that were taken lead a body on
+pub record Leads (h : place.Head) (b : Body) (rs : List Row) (from : Point) (bytes : List ℕ) (t : Taken) (c : Body) (more : List Row) : Type 0 where
+  pub within : t.used ≤ length bytes
+  pub run : RunsTo h b rs from (take t.used bytes) c more t.position
+
+-- what a call answers that takes points of a body
+abbrev pub TakesPoints : {E : Type 0} → place.Head → Body → List Row → Point → List ℕ → Result Taken E → Body → List Row → Type 0
+TakesPoints h b rs from bytes (Ok t) c more = Leads h b rs from bytes t c more
+TakesPoints h b rs from bytes (Err e) c more = StopsWith h b rs from bytes
+
+-- the lists with so many values left in the innermost
+abbrev pub left_in : Lefts → ℕ → Lefts
+left_in Empty left = Empty
+left_in (One a) left = One left
+left_in (Two a b) left = Two left b
+left_in (Three a b c) left = Three left b c
+
+-- the body where it wants this next
+abbrev pub at_spot : Body → Spot → Body
+at_spot b s = record { form = b.form; names = b.names; spot = s }

@@ -1,21 +1,18 @@
 -- What an engine stands for.
-use Rattle.std.specs.Prelude.{◌≡◌, ◌⊎◌, ℕ, ◌+◌, ◌-◌, ◌<◌, ◌≤◌, List, [], ◌++◌, length, take, Bool, true, false, Result, Ok, Err, Some}
+use Rattle.std.specs.Prelude.{◌≡◌, ◌⊎◌, ℕ, ◌+◌, ◌-◌, ◌<◌, ◌≤◌, List, [], ◌++◌, length, take, Bool, true, false, Result, Ok, Err}
 use Rattle.twkb_num.specs.Varint.{IsOpenVarint}
 use Rattle.twkb_tree.specs.Tree.{Tree}
 use Rattle.twkb_tree.specs.Limits.{Allowance}
 use Rattle.twkb_tree.specs.Rows.{Row, rows}
 use Rattle.twkb_grammar.specs.Blob.{Blob}
 use Rattle.twkb_grammar.specs.Fault.{FirstFault, Reason, Truncated}
-use Rattle.twkb_grammar.specs.Roles.{Role}
-use Rattle.twkb_grammar.specs.Reading.{Gives}
-use Rattle.twkb_outline.specs.Outline.{outline_role}
 use Rattle.twkb_outline.specs.Reading.{Outlined, open_count}
 use Rattle.twkb_outline.specs.Noting.{notes_in}
 use Rattle.twkb_engine.specs.State.{IsSpelled, IsPlacedIn, step_of}
 use Rattle.twkb_engine.specs.Open.{awaited_at}
 use Rattle.twkb_engine.specs.Parts.{IsJudged, PartIn}
 use Rattle.twkb_engine.specs.Stops.{reason_of}
-use Rattle.twkb_engine.specs.Building.{sums_of, outline_in}
+use Rattle.twkb_engine.specs.Building.{sums_of, outline_in, SaysNext}
 use Rattle.twkb_engine.specs.declared.awaited.Awaited.{Awaited}
 use Rattle.twkb_engine.specs.declared.engine.Engine.{Engine}
 use Rattle.twkb_engine.specs.declared.stop.Stop.{Stop}
@@ -68,10 +65,7 @@ StopsIn rs d bytes = (front : List ℕ) → StandsAt front rs d → PartIn (allo
 -- no byte is held, and so many of the bytes say this number in the role of the next item
 pub record ItemInFront (d : Engine) (bytes : List ℕ) (n count : ℕ) : Type 0 where
   pub alone : held_in d ≡ []
-  pub some : 0 < count
-  pub within : count ≤ length bytes
-  pub fits : (n < 256) ⊎ IsSpelled d.builder.phase
-  pub gives : (r : Role) → outline_role (sums_of d.builder) (outline_in d.builder) ≡ Some r → Gives r n (take count bytes)
+  pub item : SaysNext d.builder bytes n count
 
 -- no byte is held, a number comes next, and so many of the bytes but the last begin it
 pub record NumberTaken (d : Engine) (bytes : List ℕ) (count : ℕ) : Type 0 where

@@ -11,8 +11,8 @@ use Rattle.twkb_outline.specs.Growing.{Change, Nothing, NewRow, own_of, id_in}
 use Rattle.twkb_engine.specs.Body.{form_of, spot_of}
 use Rattle.twkb_engine.specs.Names.{ids_of}
 use Rattle.twkb_engine.specs.declared.place.Head.{Head}
-use Rattle.twkb_engine.specs.declared.phase.Kind.{Kind}
-use Rattle.twkb_engine.specs.declared.phase.Kind.TheVariants as kind
+use Rattle.twkb_engine.specs.declared.phase.GeometryType.{GeometryType}
+use Rattle.twkb_engine.specs.declared.phase.GeometryType.TheVariants as kind
 use Rattle.twkb_engine.specs.declared.phase.Many.{Many}
 use Rattle.twkb_engine.specs.declared.phase.Many.TheVariants as many
 use Rattle.twkb_engine.specs.declared.phase.Optional.{Optional}
@@ -26,7 +26,7 @@ abbrev pub head_of : Head → machine.Head
 head_of h = record { precision = h.precision; meta = h.metadata; size = h.size; from = h.from }
 
 -- the type
-abbrev pub kind_of : Kind → machine.Kind
+abbrev pub kind_of : GeometryType → machine.Kind
 kind_of (kind.Simple form) = SimpleKind (form_of form)
 kind_of kind.Collection = CollectionKind
 
@@ -110,6 +110,12 @@ abbrev pub stands_apart : Phase → Bool
 stands_apart (phase.Body head body) = false
 stands_apart (phase.End head kind) = false
 stands_apart _ = true
+
+-- the next item is a count of members or an id
+abbrev pub IsMembered : Phase → Type 0
+IsMembered (phase.Count many head) = ⊤
+IsMembered (phase.Id many head others ids left) = ⊤
+IsMembered _ = ⊥
 
 -- the next item is a number
 abbrev pub IsSpelled : Phase → Type 0

@@ -1,30 +1,29 @@
 //! A geometry that is read item by item into a flat form.
-ghost use Rattle.std.specs.Prelude.{◌≡◌, ◌≤◌, ◌+◌, ◌-◌, ◌^◌, ◌%◌, ◌||◌, [], nat_eq, nat_lt, IfSome, IsSome, None, Some, true, length, length as length_of, false, ◌<◌, ◌⊎◌, OnOk, OnErr, IfOk, Result, Ok, take};
+ghost use Rattle.std.specs.Prelude.{◌≡◌, ◌≤◌, ◌+◌, ◌-◌, ◌^◌, [], nat_lt, IfSome, IsSome, None, Some, true, length, length as length_of, ◌<◌, ◌⊎◌, OnOk, OnErr, IfOk, Result, Ok, take};
 ghost use Rattle.twkb_grammar.specs.PlainReader.{unless, objection as objection_in, is_exact as exact};
 ghost use Rattle.twkb_grammar.specs.Fault as fault;
 ghost use Rattle.twkb_grammar.specs.Fault.{moved as moved_by};
-ghost use Rattle.twkb_grammar.specs.Roles.{Role, Metadata, Count, Item};
-ghost use Rattle.twkb_grammar.specs.Machine.{kind_number, first_count, added};
+ghost use Rattle.twkb_grammar.specs.Roles.{Role, Count, Item};
+ghost use Rattle.twkb_grammar.specs.Machine.{first_count};
 ghost use Rattle.twkb_outline.specs.Outline.{Outline, spot_role, outline_role, outline_advanced, outline_ends, outline_past_end};
 ghost use Rattle.twkb_outline.specs.Growing.{applied, change_of};
 ghost use Rattle.twkb_outline.specs.Reading.{StepFits};
 ghost use Rattle.twkb_engine.specs.Body.{spot_of};
-ghost use Rattle.twkb_engine.specs.State.{kind_of, many_of, groups_of, step_of, goes_on, stands_apart, IsPlacedIn, IsShallow, IsSpelled};
+ghost use Rattle.twkb_engine.specs.State.{many_of, groups_of, step_of, goes_on, stands_apart, own_change, IsPlacedIn, IsShallow, IsSpelled};
+ghost use Rattle.twkb_engine.specs.declared.phase.Phase.TheVariants.{End};
 ghost use Rattle.twkb_engine.specs.Stops.{objection_of, IsPast, Passes};
 
 use crate::blob_reason::BlobReason;
-use crate::header::lead_on;
+use crate::header::{Led, lead_on};
 use crate::items::{announced, announces_point};
 use crate::lefts::Spot;
-use crate::members::past_end;
-use crate::phase::{Groups, Kind, Many, Optional, Phase};
+use crate::members::{next, past_end};
+use crate::phase::{GeometryType, Groups, Many, Optional, Phase};
 use crate::place::Head;
 use crate::site::{push_row, whole_row};
-use crate::steps::next;
 use crate::stop::Stop;
 use smallvec::SmallVec;
 use std::alloc::{AllocError, Global};
-use std::mem;
 use twkb_flat::Flat;
 use twkb_front::{moved_x, moved_y, origin};
 use twkb_header::TypeByte;
@@ -35,11 +34,11 @@ use twkb_tree::Limits;
 // A geometry that is read item by item: the sums of its items, the collections that are open, and what comes next.
 #[derive(Drop)]
 pub(crate) struct Builder {
-    alloc: Global,
+    pub(crate) alloc: Global,
     pub(crate) limits: Limits,
     pub(crate) bytes: u64,
     pub(crate) position: Pt,
-    nodes: u64,
+    pub(crate) nodes: u64,
     pub(crate) points: u64,
     pub(crate) groups: Groups,
     pub(crate) phase: Phase,
@@ -49,19 +48,8 @@ pub(crate) struct Builder {
     ghost groups_few: { IsShallow groups.items },
 }
 
-// Why this number is no type byte.
-fn bad_type(number: u64) -> Option<BlobReason>
-    ensures { objection_of result ≡ unless (nat_eq (number % 16) 0 || nat_lt 7 (number % 16)) fault.BadType None }
-{
-    if TypeByte::from_number(number).names_type() {
-        None
-    } else {
-        Some(BlobReason::BadType)
-    }
-}
-
 impl Builder {
-    ghost use Rattle.twkb_engine.specs.Building.{sums_of, outline_in, refusal, objection_at, StandsBehind, IsAt, Takes};
+    ghost use Rattle.twkb_engine.specs.Building.{sums_of, outline_in, refusal, AreBehind, objection_at, StandsBehind, IsAt, Takes};
     ghost use Rattle.twkb_engine.specs.Ahead.{RunsBehind, StopsBehind};
 
     // One that has read nothing. Takes no memory.
@@ -92,17 +80,6 @@ impl Builder {
         if nodes > u64::from(self.limits.nodes()) - self.nodes {
             Some(BlobReason::TooManyNodes)
         } else if points > u64::from(self.limits.points()) - self.points {
-            Some(BlobReason::TooManyPoints)
-        } else {
-            None
-        }
-    }
-
-    // Why a geometry of this type may not have this metadata byte.
-    fn objection_to_metadata(&self, kind: Kind, number: u64) -> Option<BlobReason>
-        ensures { objection_of result ≡ objection_in self.now.limits (sums_of self.now) (Metadata (kind_number (kind_of kind))) number }
-    {
-        if announces_point(kind, number) && u64::from(self.limits.points()) <= self.points {
             Some(BlobReason::TooManyPoints)
         } else {
             None
@@ -151,12 +128,27 @@ impl Builder {
     }
 
     // Why the next item may not have this number.
-    fn objection(&self, number: u64) -> Option<BlobReason>
+    #[inline(always)]
+    pub(crate) fn objection(&self, number: u64) -> Option<BlobReason>
         ensures { objection_of result ≡ refusal self.now.limits (sums_of self.now) (outline_in self.now) number }
     {
         match &self.phase {
-            Phase::Header => bad_type(number),
-            Phase::Metadata(typed) => self.objection_to_metadata(typed.kind, number),
+            Phase::Header => {
+                if TypeByte::from_number(number).names_type() {
+                    None
+                } else {
+                    Some(BlobReason::BadType)
+                }
+            }
+            Phase::Metadata(typed) => {
+                if announces_point(typed.kind, number)
+                    && u64::from(self.limits.points()) <= self.points
+                {
+                    Some(BlobReason::TooManyPoints)
+                } else {
+                    None
+                }
+            }
             Phase::Optional { part, .. } => {
                 if *part == Optional::Extended && number % 4 != 0 {
                     Some(BlobReason::ExtraDimensions)
@@ -202,7 +194,7 @@ impl Builder {
     }
 
     // A geometry ends; answers whether the outermost one does.
-    pub(crate) fn finish(&mut self, head: Head) -> Result<bool, Stop>
+    fn finish(&mut self, head: Head) -> Result<bool, Stop>
         ensures limits { self.new.limits ≡ self.old.limits }
         ensures bytes { self.new.bytes ≤ self.old.bytes }
         ensures landed { IsAt (outline_past_end (exact head.size (self.old.bytes - head.from)) self.old.bytes (groups_of self.old.groups.items)) (sums_of self.old) result self.new }
@@ -213,8 +205,22 @@ impl Builder {
         Ok(self.settle(whole))
     }
 
-    // Goes to what the item of this number leads to that was added last and is in no body, and past the ends behind it, whose sizes are
-    // judged before a row is kept; answers whether a geometry is whole. A row, an id and a group take memory.
+    // A geometry ends whose row is still to come: it is kept once the sizes were judged; answers whether the outermost one ends. Takes
+    // memory.
+    fn end(&mut self, flat: &mut Flat, head: Head, kind: GeometryType) -> Result<bool, Stop>
+        ensures limits { self.new.limits ≡ self.old.limits }
+        ensures bytes { self.new.bytes ≤ self.old.bytes }
+        ensures landed { IsAt (outline_past_end (exact head.size (self.old.bytes - head.from)) self.old.bytes (groups_of self.old.groups.items)) (sums_of self.old) result self.new }
+        ensures rows { OnOk result (flat.new ≡ applied (own_change (End head kind)) flat.old) }
+        ensures placed { OnOk result (IsPlacedIn self.new.groups.items self.new.phase) }
+    {
+        let ended = self.finish(head)?;
+        push_row(flat, whole_row(head, kind), &[])?;
+        Ok(ended)
+    }
+
+    // Goes to what the item of this number leads to that was added last and is in no body, and past the ends behind it; answers whether a
+    // geometry is whole. A row, an id and a group take memory.
     fn advance(&mut self, flat: &mut Flat, number: u64) -> Result<bool, Stop>
         requires byte { number < 256 ⊎ IsSpelled self.old.phase }
         requires apart { stands_apart self.old.phase ≡ true }
@@ -231,25 +237,16 @@ impl Builder {
             self.bytes,
             number,
         );
-        if led {
+        match led {
+            Led::On => return Ok(false),
+            Led::Ends(head, kind) => return self.end(flat, head, kind),
+            Led::Apart => {}
+        }
+        let ended = next(flat, self.alloc, &mut self.groups, &mut self.phase, number)?;
+        let Some((head, kind)) = ended else {
             return Ok(false);
-        }
-        let phase = mem::replace(&mut self.phase, Phase::Header);
-        let reached = next(
-            flat,
-            self.alloc,
-            &mut self.groups,
-            phase,
-            self.bytes,
-            number,
-        )?;
-        if let Phase::End(head, kind) = reached {
-            let ended = self.finish(head)?;
-            push_row(flat, whole_row(head, kind), &[])?;
-            return Ok(ended);
-        }
-        self.phase = reached;
-        Ok(false)
+        };
+        self.end(flat, head, kind)
     }
 
     // Goes to what the item of this number leads to that was added last, and past the ends behind it; answers whether a geometry is
@@ -295,24 +292,19 @@ impl Builder {
         }
     }
 
-    // Adds the next item to the sums.
-    fn add(&mut self, number: u64, length: u64)
-        requires room { self.old.bytes + length < 2 ^ 64 }
-        requires allowed { refusal self.old.limits (sums_of self.old) (outline_in self.old) number ≡ None }
-        ensures limits { self.new.limits ≡ self.old.limits }
-        ensures bytes { self.new.bytes ≡ self.old.bytes + length }
-        ensures groups { self.new.groups ≡ self.old.groups }
-        ensures phase { self.new.phase ≡ self.old.phase }
-        ensures added { (i : Item) → outline_role (sums_of self.old) (outline_in self.old) ≡ Some i.role → i.number ≡ number → length_of i.bytes ≡ length → sums_of self.new ≡ added (sums_of self.old) i }
+    // Where the next item leads, and how many nodes and points are announced behind it.
+    #[inline]
+    pub(crate) fn behind(&self, number: u64) -> (Pt, u64, u64)
+        requires allowed { refusal self.now.limits (sums_of self.now) (outline_in self.now) number ≡ None }
+        ensures nodes { result.1 ≤ self.now.limits.nodes }
+        ensures points { result.2 ≤ self.now.limits.points }
+        ensures added { AreBehind self.now number result.0 result.1 result.2 }
     {
         // learnt: how many nodes and points are allowed
         let _learnt = (self.limits.nodes(), self.limits.points());
         let (nodes, points) = announced(&self.phase, number);
         let position = self.moved(number).unwrap();
-        self.bytes += length;
-        self.nodes += nodes;
-        self.points += points;
-        self.position = position;
+        (position, self.nodes + nodes, self.points + points)
     }
 
     // Takes an item with this number, which has so many bytes, and the ends behind it; answers whether a geometry is whole. A row, a
@@ -327,7 +319,11 @@ impl Builder {
         if let Some(reason) = self.objection(number) {
             return Err(Stop::Refused(reason));
         }
-        self.add(number, length);
+        let (position, nodes, points) = self.behind(number);
+        self.bytes += length;
+        self.position = position;
+        self.nodes = nodes;
+        self.points = points;
         self.go_on(flat, number)
     }
 

@@ -1,8 +1,9 @@
 //! A blob that is read byte by byte into a flat form.
-ghost use Rattle.std.specs.Prelude.{◌≡◌, IfOk, OnErr, ◌+◌, ◌<◌, ◌≤◌, ◌^◌, ◌++◌, ◌∷◌, [], List, ℕ, take, IfSome, length as length_of};
+ghost use Rattle.std.specs.Prelude.{◌≡◌, IfOk, OnErr, Ok, None, ◌+◌, ◌<◌, ◌≤◌, ◌^◌, ◌++◌, ◌∷◌, [], List, ℕ, take, IfSome, length as length_of};
 ghost use Rattle.twkb_num.specs.Varint.{IsOpenVarint};
 ghost use Rattle.twkb_tree.specs.Rows.{Row};
-ghost use Rattle.twkb_engine.specs.Standing.{StandsAt, LeadsOn, StopsIn, IsStep, IsTakenFrom, IsOneItem, ItemInFront, IsFed, IsEnd, count_of, offset_in, points_in, awaited_in, held_in, open_in, allowance_of};
+ghost use Rattle.twkb_engine.specs.Parts.{PartIn};
+ghost use Rattle.twkb_engine.specs.Standing.{StandsAt, LeadsOn, StopsIn, IsStep, IsTakenFrom, IsOneItem, ItemInFront, IsFed, MadeIn, IsEnd, count_of, offset_in, points_in, awaited_in, held_in, open_in, allowance_of};
 
 use crate::awaited::Awaited;
 use crate::blob_reason::BlobReason;
@@ -116,6 +117,18 @@ impl Engine {
                 Err(stop) => Err(stop),
             };
         }
+        self.take_byte(flat, rest)
+    }
+
+    // Takes a byte, and answers as `take_item` does.
+    fn take_byte(&mut self, flat: &mut Flat, rest: &[u8]) -> Result<(usize, bool), Stop>
+        requires some { 0 < length_of rest.now }
+        requires room { count_of self.old < 2 ^ 63 }
+        ensures limits { allowance_of self.new ≡ allowance_of self.old }
+        ensures count { count_of self.new ≤ count_of self.old + 1 }
+        ensures one { IfOk result (λ taken. taken.0 ≡ 1) }
+        ensures taken { (bs : List ℕ) → StandsAt bs flat.old self.old → IsTakenFrom (allowance_of self.old) bs rest.now result flat.new self.new }
+    {
         match self.step(flat, rest[0]) {
             Ok(ended) => Ok((1, ended)),
             Err(stop) => Err(stop),
@@ -133,21 +146,22 @@ impl Engine {
         ensures within { IfOk result (λ taken. taken.0 ≤ length_of rest.now) }
         ensures taken { (bs : List ℕ) → StandsAt bs flat.old self.old → IsTakenFrom (allowance_of self.old) bs rest.now result flat.new self.new }
     {
+        if self.partial.len() > 0 {
+            return self.take_byte(flat, rest);
+        }
+        if rest.len() < SHORTEST {
+            return self.take_byte(flat, rest);
+        }
+        let led = self.builder.lead_ahead(rest);
+        if led > 0 {
+            return Ok((led, false));
+        }
         let used = match self.take_points(flat, rest) {
             Ok(used) => used,
             Err(_) => return Err(Stop::Memory),
         };
         if used > 0 {
             return Ok((used, false));
-        }
-        if self.partial.len() == 0 {
-            if let Some(point) = self.builder.point_in_front(rest) {
-                let count = point.used;
-                return match self.builder.take_point(flat, rest[0], point) {
-                    Ok(ended) => Ok((count, ended)),
-                    Err(stop) => Err(stop),
-                };
-            }
         }
         self.take_item(flat, rest)
     }
@@ -174,16 +188,6 @@ impl Engine {
             }
         }
         Ok((used, false))
-    }
-
-    /// Forgets what it has read, and keeps its room. Takes no memory.
-    pub fn restart(&mut self)
-        ensures stands { StandsAt [] [] self.new }
-        ensures limits { allowance_of self.new ≡ allowance_of self.old }
-        ensures count { count_of self.new ≡ 0 }
-    {
-        self.builder.restart();
-        self.partial = Partial::new();
     }
 
     /// Whether no byte was taken since the last blob's end. Takes no memory.

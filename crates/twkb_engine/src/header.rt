@@ -1,45 +1,60 @@
 //! From a type byte to a body.
-ghost use Rattle.std.specs.Prelude.{◌≡◌, ◌<◌, ◌⊎◌, ◌/◌, ◌%◌, length, None, true, false};
+ghost use Rattle.std.specs.Prelude.{◌≡◌, ◌+◌, ◌<◌, ◌^◌, ◌⊎◌, ◌/◌, ◌%◌, length, IfSome, None, true, false};
 ghost use Rattle.twkb_points.specs.Point.{Point};
 ghost use Rattle.twkb_num.specs.Zigzag.{unzigzag_of};
 ghost use Rattle.twkb_grammar.specs.Machine as machine;
 ghost use Rattle.twkb_grammar.specs.Machine.{asked, with_option, kind_at};
 ghost use Rattle.twkb_grammar.specs.Noting.{shown};
-ghost use Rattle.twkb_outline.specs.Outline.{options, begins, outline_advanced, OnMetadata, OnBody};
-ghost use Rattle.twkb_outline.specs.Growing.{header_change, change_of, id_in, Nothing};
+ghost use Rattle.twkb_outline.specs.Outline.{begins, outline_advanced, OnMetadata, OnBody, OnEnd};
+ghost use Rattle.twkb_outline.specs.Growing.{change_of, id_in, Nothing};
 ghost use Rattle.twkb_engine.specs.Body.{form_of, spot_of};
-ghost use Rattle.twkb_engine.specs.State.{kind_of, head_of, step_of, groups_of, role_of_part, roles_behind, roles_from, size_roles, box_roles, goes_on, own_change, IsPlaced, IsPlacedIn, IsShallow, IsSpelled};
+ghost use Rattle.twkb_engine.specs.State.{kind_of, head_of, step_of, groups_of, role_of_part, roles_behind, roles_from, size_roles, box_roles, goes_on, stands_apart, own_change, IsMembered, IsPlaced, IsPlacedIn, IsShallow, IsSpelled};
+ghost use Rattle.twkb_engine.specs.Leads.{IfOn, IfOff, IfEnds, IfApart};
+ghost use Rattle.twkb_engine.specs.declared.phase.Phase.TheVariants.{End};
 
 use crate::body::Body;
+use crate::builder::Builder;
 use crate::lefts::{Lefts, Spot};
 use crate::names::Names;
-use crate::phase::{Groups, Kind, Many, Optional, Phase};
+use crate::phase::{GeometryType, Groups, Many, Optional, Phase, wants_byte};
 use crate::place::{Head, Typed};
 use crate::site::Form;
 use std::alloc::Global;
+use twkb_front::front_number;
 use twkb_header::{Metadata, TypeByte};
-use twkb_tree::Kind as RowKind;
+use twkb_tree::Kind;
+
+// Where an item of a header leads.
+#[derive(Drop)]
+pub(crate) enum Led {
+    // To the next item.
+    On,
+    // To the end of its geometry, which has this type and no body.
+    Ends(Head, GeometryType),
+    // Nowhere: it is in no header.
+    Apart,
+}
 
 // Numbers of a box behind the first.
 const BOX_REST: u8 = 3;
 
 // The type whose rows are of this kind; no type has rings.
-fn typed_as(kind: RowKind) -> Kind
+fn typed_as(kind: Kind) -> GeometryType
     ensures { (k : machine.Kind) → shown k ≡ kind → kind_of result ≡ k }
 {
     match kind {
-        RowKind::Point => Kind::Simple(Form::Point),
-        RowKind::Linestring => Kind::Simple(Form::Line),
-        RowKind::Polygon => Kind::Simple(Form::Polygon),
-        RowKind::MultiPoint => Kind::Simple(Form::MultiPoint),
-        RowKind::MultiLinestring => Kind::Simple(Form::MultiLine),
-        RowKind::MultiPolygon => Kind::Simple(Form::MultiPolygon),
-        RowKind::Ring | RowKind::Collection => Kind::Collection,
+        Kind::Point => GeometryType::Simple(Form::Point),
+        Kind::Linestring => GeometryType::Simple(Form::Line),
+        Kind::Polygon => GeometryType::Simple(Form::Polygon),
+        Kind::MultiPoint => GeometryType::Simple(Form::MultiPoint),
+        Kind::MultiLinestring => GeometryType::Simple(Form::MultiLine),
+        Kind::MultiPolygon => GeometryType::Simple(Form::MultiPolygon),
+        Kind::Ring | Kind::Collection => GeometryType::Collection,
     }
 }
 
 // What follows a type byte.
-pub(crate) fn after_type(number: u64) -> Phase
+fn after_type(number: u64) -> Phase
     requires { number < 256 }
     ensures step { step_of result ≡ OnMetadata (kind_at (number % 16)) (unzigzag_of (number / 16)) }
 {
@@ -62,7 +77,7 @@ fn id_within(groups: &Groups) -> Option<i64>
 }
 
 // The header behind a metadata byte, before its optional parts.
-pub(crate) fn head_within(groups: &Groups, typed: Typed, bytes: u64, metadata: Metadata) -> Head
+fn head_within(groups: &Groups, typed: Typed, bytes: u64, metadata: Metadata) -> Head
     requires { IsShallow groups.now.items }
     ensures head { head_of result ≡ record { precision = typed.precision; meta = metadata; size = None; from = bytes } }
     ensures metadata { result.metadata ≡ metadata }
@@ -122,7 +137,7 @@ fn next_part(metadata: Metadata, part: Optional) -> Option<Optional>
 }
 
 // The header with an optional part of this number, behind so many bytes.
-pub(crate) fn head_with(mut head: Head, part: Optional, bytes: u64, number: u64) -> Head
+fn head_with(mut head: Head, part: Optional, bytes: u64, number: u64) -> Head
     ensures head { head_of result ≡ with_option (head_of head) (role_of_part part) number bytes }
     ensures precision { result.precision ≡ head.precision }
     ensures metadata { result.metadata ≡ head.metadata }
@@ -150,117 +165,145 @@ fn simple_body(alloc: Global, head: Head, form: Form, spot: Spot) -> Phase
 }
 
 // The body begins. Takes no memory.
-fn begin_body(alloc: Global, kind: Kind, head: Head) -> Phase
+#[inline(always)]
+fn begin_body(alloc: Global, kind: GeometryType, head: Head) -> Phase
     ensures step { step_of result ≡ begins (kind_of kind) (head_of head) }
     ensures placed { IsPlaced head.depth head.id result }
 {
     let many = match kind {
-        Kind::Simple(Form::Point) => {
+        GeometryType::Simple(Form::Point) => {
             return simple_body(alloc, head, Form::Point, Spot::X(Lefts::Empty));
         }
-        Kind::Simple(Form::Line) => {
+        GeometryType::Simple(Form::Line) => {
             return simple_body(alloc, head, Form::Line, Spot::LineCount(Lefts::Empty));
         }
-        Kind::Simple(Form::Polygon) => {
+        GeometryType::Simple(Form::Polygon) => {
             return simple_body(alloc, head, Form::Polygon, Spot::AreaCount(Lefts::Empty));
         }
-        Kind::Simple(Form::MultiPoint) => Many::Points,
-        Kind::Simple(Form::MultiLine) => Many::Lines,
-        Kind::Simple(Form::MultiPolygon) => Many::Areas,
-        Kind::Collection => Many::Geometries,
+        GeometryType::Simple(Form::MultiPoint) => Many::Points,
+        GeometryType::Simple(Form::MultiLine) => Many::Lines,
+        GeometryType::Simple(Form::MultiPolygon) => Many::Areas,
+        GeometryType::Collection => Many::Geometries,
     };
     Phase::Count { many, head }
 }
 
-// Goes to a part of a header, or else behind it. Takes no memory.
-fn go_to(alloc: Global, kind: Kind, head: Head, part: Option<Optional>) -> Phase
-    ensures step { step_of result ≡ options (kind_of kind) (head_of head) (roles_from head.metadata part) }
-    ensures placed { IsPlaced head.depth head.id result }
-    ensures row { own_change result ≡ header_change head.depth head.id (kind_of kind) head.precision head.metadata (roles_from head.metadata part) }
-{
-    if let Some(part) = part {
-        return Phase::Optional { kind, head, part };
-    }
-    if Metadata::from_byte(head.metadata).is_empty() {
-        return Phase::End(head, kind);
-    }
-    begin_body(alloc, kind, head)
-}
-
-// What follows a metadata byte. Takes no memory.
-pub(crate) fn after_metadata(
-    alloc: Global,
-    groups: &Groups,
-    typed: Typed,
-    bytes: u64,
-    number: u64,
-) -> Phase
-    requires few { IsShallow groups.now.items }
-    requires byte { number < 256 }
-    ensures step { step_of result ≡ options (kind_of typed.kind) (record { precision = typed.precision; meta = number; size = None; from = bytes }) (asked number) }
-    ensures placed { IsPlacedIn groups.now.items result }
-    ensures row { own_change result ≡ header_change (length (groups_of groups.now.items)) (id_in (groups_of groups.now.items)) (kind_of typed.kind) typed.precision number (asked number) }
-{
-    let metadata = Metadata::from_number(number);
-    let head = head_within(groups, typed, bytes, metadata);
-    go_to(alloc, typed.kind, head, first_part(metadata))
-}
-
-// What follows an optional part. Takes no memory.
-pub(crate) fn after_option(
-    alloc: Global,
-    kind: Kind,
-    head: Head,
-    part: Optional,
-    bytes: u64,
-    number: u64,
-) -> Phase
-    ensures step { step_of result ≡ options (kind_of kind) (with_option (head_of head) (role_of_part part) number bytes) (roles_behind head.metadata part) }
-    ensures placed { IsPlaced head.depth head.id result }
-    ensures row { own_change result ≡ header_change head.depth head.id (kind_of kind) head.precision head.metadata (roles_behind head.metadata part) }
-{
-    let next = next_part(Metadata::from_byte(head.metadata), part);
-    go_to(alloc, kind, head_with(head, part, bytes, number), next)
-}
-
-// Goes on within a header, or to its body or count, in the phase as it stands; answers whether it did, which it does not where the
-// geometry ends with its header. Takes no memory.
+// Goes on within a header, or to its body or count, in the phase as it stands, and else changes nothing. Takes no memory.
+#[inline(always)]
 pub(crate) fn lead_on(
     alloc: Global,
     groups: &Groups,
     phase: &mut Phase,
     bytes: u64,
     number: u64,
-) -> bool
+) -> Led
     requires few { IsShallow groups.now.items }
     requires byte { number < 256 ⊎ IsSpelled phase.old }
-    ensures same { (result ≡ false) → phase.new ≡ phase.old }
-    ensures going { (result ≡ true) → goes_on phase.new ≡ true }
-    ensures step { (result ≡ true) → outline_advanced bytes number (groups_of groups.now.items, step_of phase.old) ≡ (groups_of groups.now.items, step_of phase.new) }
-    ensures row { (result ≡ true) → (p : Point) → IsPlacedIn groups.now.items phase.old → change_of p number (groups_of groups.now.items, step_of phase.old) ≡ Nothing }
-    ensures placed { (result ≡ true) → IsPlacedIn groups.now.items phase.old → IsPlacedIn groups.now.items phase.new }
+    ensures going { IfOn result (goes_on phase.new ≡ true) }
+    ensures step { IfOn result (outline_advanced bytes number (groups_of groups.now.items, step_of phase.old) ≡ (groups_of groups.now.items, step_of phase.new)) }
+    ensures row { IfOn result ((p : Point) → IsPlacedIn groups.now.items phase.old → change_of p number (groups_of groups.now.items, step_of phase.old) ≡ Nothing) }
+    ensures placed { IfOn result (IsPlacedIn groups.now.items phase.old → IsPlacedIn groups.now.items phase.new) }
+    ensures same { IfOff result (phase.new ≡ phase.old) }
+    ensures ends { IfEnds result (λ head kind. outline_advanced bytes number (groups_of groups.now.items, step_of phase.old) ≡ (groups_of groups.now.items, OnEnd (head_of head))) }
+    ensures own { IfEnds result (λ head kind. (p : Point) → IsPlacedIn groups.now.items phase.old → change_of p number (groups_of groups.now.items, step_of phase.old) ≡ own_change (End head kind)) }
+    ensures apart { IfApart result (stands_apart phase.old ≡ true → IsMembered phase.old) }
 {
     match phase {
         Phase::Header => *phase = after_type(number),
         Phase::Metadata(typed) => {
-            let reached = after_metadata(alloc, groups, *typed, bytes, number);
-            if matches!(&reached, Phase::End(_, _)) {
-                return false;
+            let kind = typed.kind;
+            let metadata = Metadata::from_number(number);
+            let head = head_within(groups, *typed, bytes, metadata);
+            if let Some(part) = first_part(metadata) {
+                *phase = Phase::Optional { kind, head, part };
+            } else if metadata.is_empty() {
+                return Led::Ends(head, kind);
+            } else {
+                *phase = begin_body(alloc, kind, head);
             }
-            *phase = reached;
         }
+        Phase::Optional {
+            part: Optional::Box { left },
+            ..
+        } if *left > 0 => *left -= 1,
         Phase::Optional { kind, head, part } => {
+            let kind = *kind;
             let metadata = Metadata::from_byte(head.metadata);
+            let with = head_with(*head, *part, bytes, number);
             if let Some(further) = next_part(metadata, *part) {
-                *head = head_with(*head, *part, bytes, number);
+                *head = with;
                 *part = further;
             } else if metadata.is_empty() {
-                return false;
+                return Led::Ends(with, kind);
             } else {
-                *phase = begin_body(alloc, *kind, head_with(*head, *part, bytes, number));
+                *phase = begin_body(alloc, kind, with);
             }
         }
-        _ => return false,
+        _ => return Led::Apart,
     }
-    true
+    Led::On
+}
+
+impl Builder {
+    ghost use Rattle.twkb_engine.specs.Building.{SaysNext};
+    ghost use Rattle.twkb_engine.specs.Ahead.{IsLedBy};
+
+    // The number of the next item of a header and how many bytes it has, where it stands whole in front.
+    #[inline]
+    fn part_in_front(&self, rest: &[u8]) -> Option<(u64, usize)>
+        requires some { 0 < length rest.now }
+        ensures { IfSome result (λ item. SaysNext self.now rest.now item.0 item.1) }
+    {
+        if wants_byte(&self.phase) {
+            return Some((u64::from(rest[0]), 1));
+        }
+        if !matches!(&self.phase, Phase::Optional { .. }) {
+            return None;
+        }
+        front_number(rest)
+    }
+
+    // Takes the next item of a header, where it stands whole in front and leads on within the header, or to a body or count; answers
+    // how many bytes it had, or 0.
+    #[inline]
+    fn lead_by_one(&mut self, rest: &[u8]) -> usize
+        requires some { 0 < length rest.now }
+        requires room { self.old.bytes + length rest.now < 2 ^ 64 }
+        ensures { IsLedBy self.old rest.now result self.new }
+    {
+        let Some((number, count)) = self.part_in_front(rest) else {
+            return 0;
+        };
+        if let Some(_) = self.objection(number) {
+            return 0;
+        }
+        let bytes = self.bytes + count as u64;
+        let (position, nodes, points) = self.behind(number);
+        let led = lead_on(self.alloc, &self.groups, &mut self.phase, bytes, number);
+        let Led::On = led else {
+            return 0;
+        };
+        self.bytes = bytes;
+        self.position = position;
+        self.nodes = nodes;
+        self.points = points;
+        count
+    }
+
+    // Takes items of a header as far as they stand whole in front and lead on so, and answers how many bytes they had; 0 says nothing.
+    // Takes no memory.
+    pub(crate) fn lead_ahead(&mut self, rest: &[u8]) -> usize
+        requires room { self.old.bytes + length rest.now < 2 ^ 64 }
+        ensures { IsLedBy self.old rest.now result self.new }
+    {
+        let mut used = 0;
+        while used < rest.len() {
+            let count = self.lead_by_one(&rest[used..]);
+            used += count;
+            if count == 0 {
+                return used;
+            }
+        }
+        used
+    }
 }

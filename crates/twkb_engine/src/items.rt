@@ -7,15 +7,15 @@ ghost use Rattle.twkb_outline.specs.Outline.{step_role};
 ghost use Rattle.twkb_engine.specs.State.{kind_of, step_of};
 
 use crate::lefts::Spot;
-use crate::phase::{Kind, Many, Phase};
+use crate::phase::{GeometryType, Many, Phase};
 use crate::site::Form;
 use twkb_header::Metadata;
 
 // Whether a geometry of this type and with this metadata byte is a point that its header announces.
-pub(crate) fn announces_point(kind: Kind, number: u64) -> bool
+pub(crate) fn announces_point(kind: GeometryType, number: u64) -> bool
     ensures { result ≡ announces (kind_number (kind_of kind)) number }
 {
-    kind == Kind::Simple(Form::Point) && !Metadata::from_number(number).is_empty()
+    kind == GeometryType::Simple(Form::Point) && !Metadata::from_number(number).is_empty()
 }
 
 // The nodes and the points that the item announces which has this number.

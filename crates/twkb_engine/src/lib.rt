@@ -15,9 +15,7 @@ mod phase;
 mod place;
 mod runs;
 mod site;
-mod steps;
 mod stop;
-mod whole;
 
 pub use awaited::Awaited;
 pub use blob_reason::BlobReason;

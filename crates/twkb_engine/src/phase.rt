@@ -12,7 +12,7 @@ use std::default::MadeWith;
 
 // The seven types (TWKB, geometry types).
 #[derive(Clone, Copy, Debug, PartialEq, Eq)]
-pub(crate) enum Kind {
+pub(crate) enum GeometryType {
     Simple(Form),
     Collection,
 }
@@ -81,7 +81,7 @@ pub(crate) enum Phase {
     Metadata(Typed),
     // A part that a metadata byte asked for.
     Optional {
-        kind: Kind,
+        kind: GeometryType,
         head: Head,
         part: Optional,
     },
@@ -101,7 +101,7 @@ pub(crate) enum Phase {
     // A number of a body.
     Body(Head, Body),
     // The end of a geometry of this type that has no body, or no members: its own row is still to come.
-    End(Head, Kind),
+    End(Head, GeometryType),
 }
 
 // Whether the item that comes next is a byte, and no number.

@@ -2,12 +2,12 @@
 ghost use Rattle.std.specs.Prelude.{◌+◌, ◌<◌, ◌^◌};
 ghost use Rattle.twkb_tree.specs.Tree.{IsPrecision};
 
-use crate::phase::Kind;
+use crate::phase::GeometryType;
 
 // What a type byte says.
 #[derive(Clone, Copy, Debug)]
 pub(crate) struct Typed {
-    pub(crate) kind: Kind,
+    pub(crate) kind: GeometryType,
     pub(crate) precision: i8,
     ghost fits: { IsPrecision precision },
 }

@@ -1,16 +1,13 @@
 //! Points that stand whole in front of the bytes, taken many at a time.
-ghost use Rattle.std.specs.Prelude.{◌≡◌, ℕ, ◌∷◌, ◌<◌, ◌≤◌, ◌+◌, ◌^◌, IfOk, OnErr, IfSome, None, true, take, length};
-ghost use Rattle.twkb_tree.specs.Rows.{row_points};
-ghost use Rattle.twkb_tree.specs.RowGrowth.{EndsInLine};
+ghost use Rattle.std.specs.Prelude.{◌≡◌, ℕ, List, ◌∷◌, ◌≤◌, ◌+◌, ◌^◌, IfOk, OnErr, IfSome, true, take, length};
+ghost use Rattle.twkb_tree.specs.Rows.{Row};
 ghost use Rattle.twkb_outline.specs.Outline.{next_ids};
 ghost use Rattle.twkb_engine.specs.Body.{form_of, lefts_of};
 ghost use Rattle.twkb_engine.specs.Names.{ids_of};
-ghost use Rattle.twkb_engine.specs.Running.{ListRuns, ListStops, HasLists, outer};
-ghost use Rattle.twkb_engine.specs.declared.place.Head.{Head};
+ghost use Rattle.twkb_engine.specs.Running.{Leads, HasLists, outer, left_in};
 
 use crate::body::Body;
 use crate::lefts::{Lefts, Spot, shut_point};
-use crate::names::Names;
 use crate::place::Head;
 use crate::site::{Form, put_point};
 use std::alloc::AllocError;
@@ -27,42 +24,14 @@ pub(crate) struct Taken {
     pub(crate) position: Pt,
 }
 
-// The points of the largest geometry.
-const MOST_POINTS: u64 = 1 << 24;
-
-// Whether so many points may come to the last row: wherever a list of points is read they may.
-fn takes_points(flat: &Flat, count: u64) -> bool
-    ensures line { result ≡ true → EndsInLine flat.now }
-    ensures room { result ≡ true → length (row_points flat.now) + count ≤ 2 ^ 24 }
+// No points, behind which all stands as before.
+fn none(from: Pt) -> Taken
+    ensures { (h : Head) (b : Body) (rs : List Row) (bytes : List ℕ) → Leads h b rs from bytes result b rs }
 {
-    if !flat.takes_point() {
-        return false;
+    Taken {
+        used: 0,
+        position: from,
     }
-    count <= MOST_POINTS - u64::from(flat.point_count())
-}
-
-// Takes points of a list that stand whole in front, while others have to follow them, and answers how many values are left behind the
-// one that is wanted then. Takes memory.
-fn take_list(flat: &mut Flat, most: u64, from: Pt, bytes: &[u8]) -> Result<(Taken, u64), AllocError>
-    requires line { EndsInLine flat.old }
-    requires room { length (row_points flat.old) + most ≤ 2 ^ 24 }
-    ensures run { IfOk result (λ taken. ListRuns flat.old most from (take taken.0.used bytes.now) flat.new taken.1 taken.0.position) }
-    ensures within { IfOk result (λ taken. taken.0.used ≤ length bytes.now) }
-    ensures memory { OnErr result (ListStops flat.old most from bytes.now) }
-{
-    let mut used = 0;
-    let mut position = from;
-    let mut left = most;
-    while left > 0 {
-        let Some((to, count)) = front_point(position, &bytes[used..]) else {
-            break;
-        };
-        flat.add_point(to)?;
-        left -= 1;
-        position = to;
-        used += count;
-    }
-    Ok((Taken { used, position }, left))
 }
 
 // How many values are left in the innermost list, if there are any.
@@ -71,15 +40,13 @@ fn first_left(lefts: Lefts) -> Option<u64>
 {
     match lefts {
         Lefts::Empty => None,
-        Lefts::One(left) | Lefts::Two(left, _) | Lefts::Three(left, _, _) => {
-            if left > 0 { Some(left) } else { None }
-        }
+        Lefts::One(left) | Lefts::Two(left, _) | Lefts::Three(left, _, _) => { Some(left) }
     }
 }
 
 // The same lists, with so many values left in the innermost.
 fn with_left(lefts: Lefts, left: u64) -> Lefts
-    ensures { (n : ℕ) → lefts_of lefts ≡ n ∷ outer (lefts_of lefts) → lefts_of result ≡ left ∷ outer (lefts_of lefts) }
+    ensures { result ≡ left_in lefts left }
 {
     match lefts {
         Lefts::Empty => Lefts::Empty,
@@ -89,113 +56,126 @@ fn with_left(lefts: Lefts, left: u64) -> Lefts
     }
 }
 
-// Whether the ids stay where the next point of the innermost list begins.
-fn keeps_ids(names: &Names, lefts: Lefts) -> bool
-    ensures { result ≡ true → next_ids (outer (lefts_of lefts)) (ids_of names.now) ≡ ids_of names.now }
+// Whether the next point of the innermost list comes to the last row: each list is in a row, and the ids stay where it begins.
+fn keeps_row(body: &Body, lefts: Lefts) -> bool
+    ensures lists { result ≡ true → HasLists (form_of body.now.form) }
+    ensures ids { result ≡ true → next_ids (outer (lefts_of lefts)) (ids_of body.now.names) ≡ ids_of body.now.names }
 {
-    match lefts {
-        Lefts::Empty => false,
-        Lefts::One(_) => !names.named,
-        Lefts::Two(_, _) | Lefts::Three(_, _, _) => true,
-    }
-}
-
-// Whether bodies of this form have their points in lists, each list in a row.
-fn has_lists(form: Form) -> bool
-    ensures { result ≡ true → HasLists (form_of form) }
-{
-    match form {
+    match body.form {
         Form::Point | Form::MultiPoint => false,
-        Form::Line | Form::Polygon | Form::MultiLine | Form::MultiPolygon => true,
+        Form::Line | Form::Polygon | Form::MultiLine | Form::MultiPolygon => match lefts {
+            Lefts::Empty => false,
+            Lefts::One(_) => !body.names.named,
+            Lefts::Two(_, _) | Lefts::Three(_, _, _) => true,
+        },
     }
 }
 
 impl Body {
-    ghost use Rattle.twkb_engine.specs.Running.{RunsTo, StopsWith};
+    ghost use Rattle.twkb_engine.specs.Running.{RunsTo, StopsWith, TakesPoints};
+    ghost use Rattle.twkb_engine.specs.declared.site.Form.TheVariants.{MultiPoint};
 
-    // Takes a point that stands whole in front, where one is wanted with which the body is not done; `None` changes nothing. Takes
-    // memory.
+    // Takes a point that stands whole in front, where one is wanted with which the body is not done. Takes memory.
     fn take_point(
         &mut self,
         flat: &mut Flat,
         head: Head,
         from: Pt,
         bytes: &[u8],
-    ) -> Result<Option<Taken>, AllocError>
-        ensures run { IfOk result (λ found. IfSome found (λ taken. RunsTo head self.old flat.old from (take taken.used bytes.now) self.new flat.new taken.position)) }
-        ensures some { IfOk result (λ found. IfSome found (λ taken. (0 < taken.used) × (taken.used ≤ length bytes.now))) }
-        ensures left { IfOk result (λ found. found ≡ None → (self.new ≡ self.old) × (flat.new ≡ flat.old)) }
-        ensures memory { OnErr result (StopsWith head self.old flat.old from bytes.now) }
+    ) -> Result<Taken, AllocError>
+        ensures { TakesPoints head self.old flat.old from bytes.now result self.new flat.new }
     {
         let Spot::X(lefts) = self.spot else {
-            return Ok(None);
+            return Ok(none(from));
         };
         let after = shut_point(lefts);
         let Some(_) = after.spot else {
-            return Ok(None);
+            return Ok(none(from));
         };
         let Some((position, used)) = front_point(from, bytes) else {
-            return Ok(None);
+            return Ok(none(from));
         };
         let member = self.names.next();
         put_point(flat, head, self.form, member, position)?;
         self.go_behind(after);
-        Ok(Some(Taken { used, position }))
+        Ok(Taken { used, position })
     }
 
-    // Takes points as far as they stand whole in front and the body is not done with them. Takes memory.
-    fn take_each(
+    // Takes members of a multipoint behind the first, but not its last, as far as they stand whole in front. Takes memory.
+    fn take_members(
         &mut self,
         flat: &mut Flat,
         head: Head,
         from: Pt,
         bytes: &[u8],
     ) -> Result<Taken, AllocError>
-        ensures run { IfOk result (λ taken. RunsTo head self.old flat.old from (take taken.used bytes.now) self.new flat.new taken.position) }
-        ensures within { IfOk result (λ taken. taken.used ≤ length bytes.now) }
-        ensures memory { OnErr result (StopsWith head self.old flat.old from bytes.now) }
+        requires { self.old.form ≡ MultiPoint }
+        ensures { TakesPoints head self.old flat.old from bytes.now result self.new flat.new }
     {
+        let Spot::X(Lefts::One(most)) = self.spot else {
+            return Ok(none(from));
+        };
+        let named = self.names.named;
+        if !flat.takes_members(head.depth + 1, named, most) {
+            return Ok(none(from));
+        }
         let mut used = 0;
         let mut position = from;
-        while used < bytes.len() {
-            let Some(taken) = self.take_point(flat, head, position, &bytes[used..])? else {
-                return Ok(Taken { used, position });
+        let mut left = most;
+        while left > 0 {
+            let Some((to, count)) = front_point(position, &bytes[used..]) else {
+                break;
             };
-            used += taken.used;
-            position = taken.position;
+            let member = self.names.next();
+            if member.is_some() != named {
+                break;
+            }
+            flat.add_member(head.depth + 1, member, to)?;
+            self.names.go_on();
+            left -= 1;
+            position = to;
+            used += count;
         }
+        self.spot = Spot::X(Lefts::One(left));
         Ok(Taken { used, position })
     }
 
-    // Takes points of the list that stands open, but not its last, as far as they stand whole in front; none where each is a row of its
-    // own. Takes memory.
-    fn take_in_list(&mut self, flat: &mut Flat, from: Pt, bytes: &[u8]) -> Result<Taken, AllocError>
-        ensures run { (h : Head) → IfOk result (λ taken. RunsTo h self.old flat.old from (take taken.used bytes.now) self.new flat.new taken.position) }
-        ensures within { IfOk result (λ taken. taken.used ≤ length bytes.now) }
-        ensures memory { (h : Head) → OnErr result (StopsWith h self.old flat.old from bytes.now) }
+    // Takes points of the list or multipoint that stands open, but not its last, as far as they stand whole in front. Takes memory.
+    fn take_run(
+        &mut self,
+        flat: &mut Flat,
+        head: Head,
+        from: Pt,
+        bytes: &[u8],
+    ) -> Result<Taken, AllocError>
+        ensures { TakesPoints head self.old flat.old from bytes.now result self.new flat.new }
     {
-        let none = Taken {
-            used: 0,
-            position: from,
-        };
-        if !has_lists(self.form) {
-            return Ok(none);
+        if self.form == Form::MultiPoint {
+            return self.take_members(flat, head, from, bytes);
         }
         let Spot::X(lefts) = self.spot else {
-            return Ok(none);
+            return Ok(none(from));
         };
         let Some(most) = first_left(lefts) else {
-            return Ok(none);
+            return Ok(none(from));
         };
-        if !keeps_ids(&self.names, lefts) {
-            return Ok(none);
+        if !keeps_row(self, lefts) || !flat.takes_points(most) {
+            return Ok(none(from));
         }
-        if !takes_points(flat, most) {
-            return Ok(none);
+        let mut used = 0;
+        let mut position = from;
+        let mut left = most;
+        while left > 0 {
+            let Some((to, count)) = front_point(position, &bytes[used..]) else {
+                break;
+            };
+            flat.add_point(to)?;
+            left -= 1;
+            position = to;
+            used += count;
         }
-        let (taken, left) = take_list(flat, most, from, bytes)?;
         self.spot = Spot::X(with_left(lefts, left));
-        Ok(taken)
+        Ok(Taken { used, position })
     }
 
     // Takes points as far as they stand whole in front and the body is not done with them. Takes memory.
@@ -210,11 +190,18 @@ impl Body {
         ensures within { IfOk result (λ taken. taken.used ≤ length bytes.now) }
         ensures memory { OnErr result (StopsWith head self.old flat.old from bytes.now) }
     {
-        let first = self.take_in_list(flat, from, bytes)?;
-        let rest = self.take_each(flat, head, first.position, &bytes[first.used..])?;
-        Ok(Taken {
-            used: first.used + rest.used,
-            position: rest.position,
-        })
+        let mut used = 0;
+        let mut position = from;
+        while used < bytes.len() {
+            let many = self.take_run(flat, head, position, &bytes[used..])?;
+            used += many.used;
+            let one = self.take_point(flat, head, many.position, &bytes[used..])?;
+            used += one.used;
+            position = one.position;
+            if one.used == 0 {
+                return Ok(Taken { used, position });
+            }
+        }
+        Ok(Taken { used, position })
     }
 }

@@ -6,12 +6,12 @@ ghost use Rattle.twkb_outline.specs.Growing.{applied, point_change, list_row, ow
 ghost use Rattle.twkb_engine.specs.Body.{form_of};
 ghost use Rattle.twkb_engine.specs.State.{kind_of};
 
-use crate::phase::Kind;
+use crate::phase::GeometryType;
 use crate::place::Head;
 use std::alloc::AllocError;
 use twkb_flat::{Flat, Row};
 use twkb_points::Pt;
-use twkb_tree::Kind as RowKind;
+use twkb_tree::Kind;
 
 // The six simple types.
 #[derive(Clone, Copy, Debug, PartialEq, Eq)]
@@ -52,7 +52,7 @@ pub(crate) fn put_point(
         Form::Point => {
             let row = Row {
                 depth: head.depth,
-                kind: RowKind::Point,
+                kind: Kind::Point,
                 id: head.id,
                 precision: Some(head.precision),
             };
@@ -61,7 +61,7 @@ pub(crate) fn put_point(
         Form::MultiPoint => {
             let row = Row {
                 depth: head.depth + 1,
-                kind: RowKind::Point,
+                kind: Kind::Point,
                 id: member,
                 precision: None,
             };
@@ -77,22 +77,22 @@ pub(crate) fn put_point(
 }
 
 // The kind of the row of a type.
-fn row_kind(kind: Kind) -> RowKind
+fn row_kind(kind: GeometryType) -> Kind
     ensures { result ≡ row_kind (kind_of kind) }
 {
     match kind {
-        Kind::Simple(Form::Point) => RowKind::Point,
-        Kind::Simple(Form::Line) => RowKind::Linestring,
-        Kind::Simple(Form::Polygon) => RowKind::Polygon,
-        Kind::Simple(Form::MultiPoint) => RowKind::MultiPoint,
-        Kind::Simple(Form::MultiLine) => RowKind::MultiLinestring,
-        Kind::Simple(Form::MultiPolygon) => RowKind::MultiPolygon,
-        Kind::Collection => RowKind::Collection,
+        GeometryType::Simple(Form::Point) => Kind::Point,
+        GeometryType::Simple(Form::Line) => Kind::Linestring,
+        GeometryType::Simple(Form::Polygon) => Kind::Polygon,
+        GeometryType::Simple(Form::MultiPoint) => Kind::MultiPoint,
+        GeometryType::Simple(Form::MultiLine) => Kind::MultiLinestring,
+        GeometryType::Simple(Form::MultiPolygon) => Kind::MultiPolygon,
+        GeometryType::Collection => Kind::Collection,
     }
 }
 
 // A geometry's own row.
-pub(crate) fn whole_row(head: Head, kind: Kind) -> Row
+pub(crate) fn whole_row(head: Head, kind: GeometryType) -> Row
     ensures { row_with result [] ≡ own_of head.depth head.id (kind_of kind) head.precision }
 {
     Row {
@@ -104,7 +104,7 @@ pub(crate) fn whole_row(head: Head, kind: Kind) -> Row
 }
 
 // A row of a geometry's part.
-fn part_row(depth: u32, kind: RowKind, id: Option<i64>) -> Row
+fn part_row(depth: u32, kind: Kind, id: Option<i64>) -> Row
     ensures { row_with result [] ≡ plain_row depth kind id [] }
 {
     Row {
@@ -120,10 +120,10 @@ pub(crate) fn line_row(head: Head, form: Form, member: Option<i64>) -> Row
     ensures { row_with result [] ≡ list_row head.depth head.id head.precision (form_of form) member 0 }
 {
     match form {
-        Form::Polygon => part_row(head.depth + 1, RowKind::Ring, None),
-        Form::MultiLine => part_row(head.depth + 1, RowKind::Linestring, member),
-        Form::MultiPolygon => part_row(head.depth + 2, RowKind::Ring, None),
-        _ => whole_row(head, Kind::Simple(form)),
+        Form::Polygon => part_row(head.depth + 1, Kind::Ring, None),
+        Form::MultiLine => part_row(head.depth + 1, Kind::Linestring, member),
+        Form::MultiPolygon => part_row(head.depth + 2, Kind::Ring, None),
+        _ => whole_row(head, GeometryType::Simple(form)),
     }
 }
 
@@ -132,7 +132,7 @@ pub(crate) fn area_row(head: Head, form: Form, member: Option<i64>) -> Row
     ensures { row_with result [] ≡ list_row head.depth head.id head.precision (form_of form) member 1 }
 {
     match form {
-        Form::MultiPolygon => part_row(head.depth + 1, RowKind::Polygon, member),
-        _ => whole_row(head, Kind::Simple(form)),
+        Form::MultiPolygon => part_row(head.depth + 1, Kind::Polygon, member),
+        _ => whole_row(head, GeometryType::Simple(form)),
     }
 }

@@ -1,10 +1,14 @@
 -- What a root leaves that is put in place of all rows.
-use Rattle.std.proofs.Common.{◌≡◌, ℕ, ◌+◌, ◌-◌, List, [], ◌∷◌, ◌++◌, map, length, take, drop, set, refl, sym, ap, ◌∙◌, subst, arith}
+use Rattle.std.proofs.Common.{◌≡◌, ℕ, ◌+◌, ◌-◌, ℤ, List, [], ◌∷◌, ◌++◌, map, length, take, drop, set, None, refl, sym, ap, ◌∙◌, subst, arith}
 use Rattle.std.proofs.lemmas.List.{length-map, length-set, length-take}
-use Rattle.twkb_points.specs.Point.{Point}
+use Rattle.twkb_points.specs.Point.{Point, IsInRange}
+use Rattle.twkb_tree.specs.declared.kind.Kind.{Kind}
 use Rattle.twkb_tree.specs.declared.open_rows.OpenRow.{OpenRow}
 use Rattle.twkb_tree.specs.Limits.{largest_limits}
+use Rattle.twkb_tree.specs.Tree.{IsPrecision}
+use Rattle.twkb_tree.specs.Rows.{whole_row}
 use Rattle.twkb_tree.specs.Accepted.{Continues}
+use Rattle.twkb_tree.proofs.RowRanges.{is_precision-true}
 use Rattle.twkb_flat.specs.declared.node.Row.{Row}
 use Rattle.twkb_flat.specs.declared.entries.KeptNode.{KeptNode}
 use Rattle.twkb_flat.specs.Rows.{row_with}
@@ -71,3 +75,8 @@ begun_rows es mid ps qs spine os count total row flat none total_is put =
 -- the points were none
 pub no_points : (es : List KeptNode) (ps : List Point) (spine : List ℕ) (os : List OpenRow) (count : ℕ) → IsFlat es ps spine os count → listed (map span_of es) ps ≡ [] → ps ≡ []
 no_points es ps spine os count flat none = no_items ps (bare es ps spine os count flat none).points
+
+-- a point that stands alone may begin a geometry
+pub point_begins : (precision : ℤ) (p : Point) → IsPrecision precision → IsInRange p → Continues largest_limits [] (whole_row 0 Kind.Point None precision (p ∷ []))
+point_begins precision p fits in_range =
+    (record { admitted = rw (is_precision-true precision fits) refl; nest = refl; nodes = omega arith; in_range = (in_range, tt); points = omega arith }, refl)

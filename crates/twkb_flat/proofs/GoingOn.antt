@@ -28,7 +28,7 @@ pub record GoesOn (rows : List Row) (os : List OpenRow) (count : ℕ) (r : Row) 
   pub now_open : AreOpen (reverse (rows ++ r ∷ [])) (opened r.depth os r)
 
 -- only the rows above it are looked at
-opened-take : (d count : ℕ) (os : List OpenRow) (r : Row) → d ≤ count → opened d (take count os) r ≡ opened d os r
+pub opened-take : (d count : ℕ) (os : List OpenRow) (r : Row) → d ≤ count → opened d (take count os) r ≡ opened d os r
 opened-take zero count os r le = refl
 opened-take (suc d) zero os r le = absurd (omega arith)
 opened-take (suc d) (suc count) [] r le = refl

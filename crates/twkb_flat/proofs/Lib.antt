@@ -6,6 +6,7 @@ pub mod GoingOn
 pub mod LastPoint
 mod LastKinds
 pub mod LinkLemmas
+pub mod MemberLemmas
 pub mod NodeLemmas
 pub mod OpenRowLemmas
 pub mod PushLemmas

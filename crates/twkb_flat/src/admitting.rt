@@ -1,11 +1,12 @@
 //! The test of a row by the open rows, and the open rows after it.
-ghost use Rattle.std.specs.Prelude.{◌≡◌, ◌<◌, ◌≤◌, ◌+◌, ◌&&◌, true, List, length, take, nat_lt, nat_le};
+ghost use Rattle.std.specs.Prelude.{◌≡◌, ◌<◌, ◌≤◌, ◌+◌, ◌^◌, ◌&&◌, true, List, length, take, nat_lt, nat_le};
 ghost use Rattle.twkb_points.specs.Point.{Point, AreInRange};
 ghost use Rattle.twkb_tree.specs.Limits.{largest_limits};
 ghost use Rattle.twkb_tree.specs.Admits.{id_in_range, id_allowed, has_same_ids, precision_in_range, precision_fits, fits};
 ghost use Rattle.twkb_tree.specs.Rows.{Row as TableRow};
 ghost use Rattle.twkb_tree.specs.Open.{open_continues, opened, is_next, row_of, child_of};
 ghost use Rattle.twkb_flat.specs.Admitting.{is_admitted_at};
+ghost use Rattle.twkb_flat.specs.Members.{OpenInMember};
 ghost use Rattle.twkb_flat.specs.Rows.{row_with};
 
 use crate::node::Row;
@@ -18,8 +19,14 @@ const LEAST_PRECISION: i8 = -8;
 // The greatest precision.
 const GREATEST_PRECISION: i8 = 7;
 
+// The rows of the largest geometry.
+const MOST_NODES: u64 = 1 << 20;
+
+// The points of the largest geometry.
+const MOST_POINTS: u64 = 1 << 24;
+
 // Tells a proof that an id is in range. It changes nothing.
-fn look_at_id(id: Option<i64>)
+pub(crate) fn look_at_id(id: Option<i64>)
     ensures { id_in_range id ≡ true }
 {
     if let Some(number) = id {
@@ -143,4 +150,33 @@ pub(crate) fn open_row(rows: &mut [OpenRow], row: &Row)
         kind: row.kind,
         child_ids: None,
     };
+}
+
+// Whether the open rows end in a multipoint, whose members have ids or have none, and a member of it at this depth.
+pub(crate) fn open_in_member(rows: &[OpenRow], depth: u32, named: bool) -> bool
+    ensures { result ≡ true → OpenInMember depth named rows.now }
+{
+    let depth = depth as usize;
+    if depth == 0 || rows.len() != depth + 1 {
+        return false;
+    }
+    let parent = OpenRow {
+        kind: Kind::MultiPoint,
+        child_ids: Some(named),
+    };
+    let member = OpenRow {
+        kind: Kind::Point,
+        child_ids: None,
+    };
+    rows[depth - 1] == parent && rows[depth] == member
+}
+
+// Whether so many rows of a point each may come to so many rows and points.
+pub(crate) fn leaves_room(nodes: u32, points: u32, count: u64) -> bool
+    ensures nodes { result ≡ true → nodes + count ≤ 2 ^ 20 }
+    ensures points { result ≡ true → points + count ≤ 2 ^ 24 }
+{
+    count <= MOST_NODES
+        && u64::from(nodes) <= MOST_NODES - count
+        && u64::from(points) <= MOST_POINTS - count
 }

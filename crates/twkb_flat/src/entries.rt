@@ -22,7 +22,8 @@ pub(crate) struct KeptNode {
 }
 
 // Says where the subtree of one node ends.
-fn close(entries: &mut [KeptNode], at: u32, next: u32)
+#[inline(always)]
+pub(crate) fn close(entries: &mut [KeptNode], at: u32, next: u32)
     requires { at < length entries.old }
     ensures spans { map span_of entries.new ≡ map span_of entries.old }
     ensures nexts { map next_of entries.new ≡ slice_set (map next_of entries.old) at next }

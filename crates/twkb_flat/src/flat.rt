@@ -1,16 +1,17 @@
 //! The flat form of one geometry.
-ghost use Rattle.std.specs.Prelude.{◌≡◌, ◌↔◌, ◌+◌, ◌<◌, ◌≤◌, ◌^◌, ◌++◌, ◌∷◌, [], List, length, slice_get, Some, OnOk, OnErr, IfErr, IsTrue};
+ghost use Rattle.std.specs.Prelude.{◌≡◌, ◌↔◌, ◌+◌, ◌<◌, ◌≤◌, ◌^◌, ◌++◌, ◌∷◌, [], List, length, slice_get, Some, None, OnOk, OnErr, IfErr, IsTrue, true, is_some};
 ghost use Rattle.twkb_points.specs.Point.{Point};
-ghost use Rattle.twkb_tree.specs.Tree.{saturated};
+ghost use Rattle.twkb_tree.specs.Tree.{saturated, IsPrecision};
 ghost use Rattle.twkb_tree.specs.Limits.{largest_limits};
-ghost use Rattle.twkb_tree.specs.Rows.{row_points};
+ghost use Rattle.twkb_tree.specs.Rows.{row_points, plain_row, whole_row};
 ghost use Rattle.twkb_tree.specs.RowGrowth.{EndsInLine, point_added};
 ghost use Rattle.twkb_tree.specs.Accepted.{Continues};
 ghost use Rattle.twkb_tree.specs.RowLists.{AreValidRowsOfOne};
+ghost use Rattle.twkb_flat.specs.Members.{EndsInMember};
 ghost use Rattle.twkb_flat.specs.Rows.{IsNode, row_with};
 
-use crate::admitting::{admits_under, open_row};
-use crate::entries::{KeptNode, PlacedRow, close_all, count_point, ends_in_line};
+use crate::admitting::{admits_under, leaves_room, look_at_id, open_in_member, open_row};
+use crate::entries::{KeptNode, PlacedRow, close, close_all, count_point, ends_in_line};
 use crate::node::{Node, NodeId, PointId, Row};
 use crate::point_source::{Copied, PointSource};
 use crate::work::Work;
@@ -155,6 +156,47 @@ impl Flat {
         Ok(())
     }
 
+    /// Makes the row of a point that stands alone, with no id, the root in place of all rows. Takes
+    /// memory; after an `Err` there are no rows.
+    #[inline(always)]
+    pub fn begin_point(&mut self, precision: i8, point: Pt) -> Result<(), AllocError>
+        requires { IsPrecision precision }
+        ensures begun { OnOk result (self.new ≡ whole_row 0 Kind.Point None precision (point ∷ []) ∷ []) }
+        ensures none { OnErr result (self.new ≡ []) }
+    {
+        // learnt: the point is in range
+        let _learnt = point.x();
+        self.clear();
+        if let Err(refused) = self.points.push(point) {
+            return Err(refused.into());
+        }
+        let root = Row {
+            depth: 0,
+            kind: Kind::Point,
+            id: None,
+            precision: Some(precision),
+        };
+        let span = PlacedRow {
+            row: root,
+            first: 0,
+            points: 1,
+        };
+        if let Err(refused) = self.entries.push(KeptNode {
+            span,
+            next: NodeId(0),
+        }) {
+            self.points.clear();
+            return Err(refused.into());
+        }
+        self.spine[0] = 0;
+        self.open_rows[0] = OpenRow {
+            kind: Kind::Point,
+            child_ids: None,
+        };
+        self.levels = 1;
+        Ok(())
+    }
+
     /// Appends a row with these points of its own, which `admits` admits. Takes memory; an `Err`
     /// changes nothing.
     #[inline(always)]
@@ -177,6 +219,15 @@ impl Flat {
         self.points.len() < MOST_POINTS
     }
 
+    /// Whether so many points may be added to the last row, a linestring's or ring's; `false` says
+    /// nothing. Takes no memory.
+    pub fn takes_points(&self, count: u64) -> bool
+        ensures line { result ≡ true → EndsInLine self.now }
+        ensures room { result ≡ true → length (row_points self.now) + count ≤ 2 ^ 24 }
+    {
+        self.takes_point() && count <= MOST_POINTS as u64 - u64::from(self.point_count())
+    }
+
     /// Appends a point to those of the last row, which is a linestring's or ring's, while there is room. Takes memory; an `Err`
     /// changes nothing.
     #[inline(always)]
@@ -192,6 +243,61 @@ impl Flat {
             return Err(refused.into());
         }
         count_point(&mut self.entries);
+        Ok(())
+    }
+
+    /// Whether so many members may be added to the multipoint that the last row is a member of, at
+    /// this depth, each with an id or each without; `false` says nothing. Takes no memory.
+    pub fn takes_members(&self, depth: u32, named: bool, count: u64) -> bool
+        ensures ends { result ≡ true → EndsInMember depth named self.now }
+        ensures nodes { result ≡ true → length self.now + count ≤ 2 ^ 20 }
+        ensures points { result ≡ true → length (row_points self.now) + count ≤ 2 ^ 24 }
+    {
+        if !leaves_room(self.node_count(), self.point_count(), count) {
+            return false;
+        }
+        open_in_member(&self.open_rows[..self.levels as usize], depth, named)
+    }
+
+    /// Appends a point as one more member of the multipoint that the last row is a member of, while
+    /// there is room. Takes memory; an `Err` changes nothing.
+    #[inline(always)]
+    pub fn add_member(&mut self, depth: u32, id: Option<i64>, point: Pt) -> Result<(), AllocError>
+        requires member { EndsInMember depth (is_some id) self.old }
+        requires nodes { length self.old < 2 ^ 20 }
+        requires points { length (row_points self.old) < 2 ^ 24 }
+        ensures added { OnOk result (self.new ≡ self.old ++ plain_row depth Kind.Point id (point ∷ []) ∷ []) }
+        ensures same { OnErr result (self.new ≡ self.old) }
+    {
+        look_at_id(id);
+        // learnt: the point is in range
+        let _learnt = point.x();
+        let next = self.entries.len() as u32;
+        let before = self.points.len();
+        if let Err(refused) = self.points.push(point) {
+            return Err(refused.into());
+        }
+        let row = Row {
+            depth,
+            kind: Kind::Point,
+            id,
+            precision: None,
+        };
+        let span = PlacedRow {
+            row,
+            first: before as u32,
+            points: 1,
+        };
+        if let Err(refused) = self.entries.push(KeptNode {
+            span,
+            next: NodeId(0),
+        }) {
+            self.points.truncate(before);
+            return Err(refused.into());
+        }
+        let at = depth as usize;
+        close(&mut self.entries, self.spine[at], next);
+        self.spine[at] = next;
         Ok(())
     }
 

@@ -3,3 +3,4 @@ pub mod Steps
 pub mod InFront
 pub mod Pieces
 pub mod OpenNumbers
+pub mod WholePoints

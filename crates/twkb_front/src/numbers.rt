@@ -8,6 +8,15 @@ use twkb_num::{Leb128, Partial, Step};
 /// A byte with this bit set goes on (TWKB, varints).
 pub const GOES_ON: u8 = 0x80;
 
+// What the seven bits of a second byte weigh, a third, a fourth and a fifth one.
+const SECOND: u64 = 1 << 7;
+
+const THIRD: u64 = 1 << 14;
+
+const FOURTH: u64 = 1 << 21;
+
+const FIFTH: u64 = 1 << 28;
+
 // The number that stands in front in one byte.
 #[inline(always)]
 pub(crate) fn byte_number(bytes: &[u8]) -> Option<u64>
@@ -34,7 +43,35 @@ pub(crate) fn short_number(bytes: &[u8]) -> Option<(u64, usize)>
     }
     let second = *bytes.get(1)?;
     if second < GOES_ON {
-        return Some((u64::from(first - GOES_ON) + u64::from(second) * 128, 2));
+        return Some((u64::from(first - GOES_ON) + u64::from(second) * SECOND, 2));
+    }
+    None
+}
+
+// The number that stands in front in three to five bytes, and how many those are.
+#[inline(always)]
+fn middle_number(bytes: &[u8]) -> Option<(u64, usize)>
+    ensures { IfSome result (λ front. NumberInFront bytes.now front.0 front.1) }
+{
+    let first = *bytes.first()?;
+    let second = *bytes.get(1)?;
+    let third = *bytes.get(2)?;
+    if first < GOES_ON || second < GOES_ON {
+        return None;
+    }
+    let low = u64::from(first - GOES_ON) + u64::from(second - GOES_ON) * SECOND;
+    if third < GOES_ON {
+        return Some((low + u64::from(third) * THIRD, 3));
+    }
+    let low = low + u64::from(third - GOES_ON) * THIRD;
+    let fourth = *bytes.get(3)?;
+    if fourth < GOES_ON {
+        return Some((low + u64::from(fourth) * FOURTH, 4));
+    }
+    let low = low + u64::from(fourth - GOES_ON) * FOURTH;
+    let fifth = *bytes.get(4)?;
+    if fifth < GOES_ON {
+        return Some((low + u64::from(fifth) * FIFTH, 5));
     }
     None
 }
@@ -45,6 +82,9 @@ pub fn front_number(bytes: &[u8]) -> Option<(u64, usize)>
 {
     twkb_num::laws::varints();
     if let Some(front) = short_number(bytes) {
+        return Some(front);
+    }
+    if let Some(front) = middle_number(bytes) {
         return Some(front);
     }
     let mut partial = Partial::<Leb128>::new();

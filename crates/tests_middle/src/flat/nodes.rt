@@ -1,10 +1,11 @@
 //! Nodes, points and counters of worked tables.
 use crate::forms::{
-    Entry, ONE_POINT, POINT_AND_LINE, TWO_POLYGONS, TWO_RINGS, form, point_row, points, push_row,
-    row,
+    Entry, ONE_POINT, POINT_AND_LINE, TWO_POINTS, TWO_POLYGONS, TWO_RINGS, form, point_row, points,
+    push_row, row,
 };
 use std::alloc::Global;
 use twkb_geom::{Flat, Kind, Node, NodeId, PointId, Row, Work};
+use twkb_points::Pt;
 
 // Whether the node at a place has this row, this next node, and these points of its own.
 fn has_node(flat: &Flat, id: u32, row: Row, next: u32, first: u32, points: u32) -> bool {
@@ -160,6 +161,42 @@ fn is_the_point(flat: Option<Flat>) -> bool {
 #[test]
 fn a_cleared_form_takes_another_geometry(rt: HostRuntime) {
     assert!(rt; is_the_point(point_behind_polygons(rt.alloc())), "a point");
+}
+
+// A form of three rows, and a point in place of them.
+fn point_over_rings(alloc: Global) -> Option<Flat> {
+    let mut flat = form(alloc, TWO_RINGS)?;
+    flat.begin_point(0, Pt::try_new(2, 1)?).ok()?;
+    Some(flat)
+}
+
+#[test]
+fn a_point_stands_in_place_of_all_rows(rt: HostRuntime) {
+    assert!(rt; is_the_point(point_over_rings(rt.alloc())), "a point");
+}
+
+// A multipoint of one member, and a second one that is added.
+fn added_member(alloc: Global) -> Option<Flat> {
+    let mut flat = form(alloc, &TWO_POINTS[..2])?;
+    if !flat.takes_members(1, true, 1) {
+        return None;
+    }
+    flat.add_member(1, Some(2), Pt::try_new(1, 1)?).ok()?;
+    Some(flat)
+}
+
+const MEMBERS: [Kept; 3] = [
+    (0, Kind::MultiPoint, None, Some(0), 3, 0, 0),
+    (1, Kind::Point, Some(1), None, 2, 0, 1),
+    (1, Kind::Point, Some(2), None, 3, 1, 1),
+];
+
+#[test]
+fn a_member_is_added_behind_another(rt: HostRuntime) {
+    assert!(rt;
+        is_made(added_member(rt.alloc()), 2, &MEMBERS),
+        "two members"
+    );
 }
 
 // Whether counters of the greatest number stay there when the first node and point are read.

@@ -1,7 +1,12 @@
 use Rattle.twkb_blob.proofs.Trees.{some_row}
 use Rattle.twkb_blob.proofs.reading.read_into.Goals as goal
 
+pub returns-in-Ok-Some-clause-some : goal.returns-in-Ok-Some-clause-some
+returns-in-Ok-Some-clause-some g c = λ e.
+    let (t, has, is) = rw c.in-Ok-Some.field-0-is at c.in-Ok-Some.ensures.made in
+    some_row c.read_point.new.flat t is
+
 pub returns-in-Ok-true-clause-some : goal.returns-in-Ok-true-clause-some
 returns-in-Ok-true-clause-some g c = λ e.
     let (t, made, is) = rw c.in-Ok-true.field-0-test at c.in-Ok-true.ensures.next in
-    some_row c.read_blob.new.flat t is
+    some_row c.read_with_engine.new.flat t is

@@ -36,10 +36,10 @@ returns-then-count-piece-clause-fed c = λ bytes gs s.
     let cut = take c.min-count.result piece in
     let many = so_many c.reading.ensures.offset bytes gs c.begin.new.self t in
     let fed = rw c.in-Ok-default-false.field-0-1-test at (c.in-Ok-default-false.ensures.fed t.rest (begun_at bytes gs c.begin.new.self t c.begin.ensures.open)) in
-    let end = subst (λ l. IsEnd l (t.rest ++ cut) (offset_in c.feed.new.self) c.is_between-learnt.result) c.feed.ensures.limits (c.is_between-learnt.ensures (t.rest ++ cut) c.feed.new.flat fed.1) in (
+    let end = subst (λ l. IsEnd l (t.rest ++ cut) (offset_in c.feed.new.engine) c.is_between-learnt.result) c.feed.ensures.limits (c.is_between-learnt.ensures (t.rest ++ cut) c.feed.new.flat fed.1) in (
       refl,
       subst (λ l. IsTooLong l bytes gs piece) (sym c.feed.ensures.limits)
-          (too_long bytes gs piece cut c.begin.new.self c.min-count.result (offset_in c.feed.new.self) c.is_between-learnt.result t refl
+          (too_long bytes gs piece cut c.begin.new.self c.min-count.result (offset_in c.feed.new.engine) c.is_between-learnt.result t refl
           (omega (arith, many, c.min-count.ensures, c.in-Some.ensures, c.if-count-piece.true, c.offset.ensures, c.held.ensures.held)) c.if-count-piece.true end),
     )
 

@@ -1,40 +1,31 @@
-use Rattle.std.proofs.Common.{◌≡◌, Ok, Err, take, refl, arith}
+use Rattle.std.proofs.Common.{Ok, Err, false, arith}
 use Rattle.std.proofs.lemmas.List.{nil_from_length}
+use Rattle.twkb_engine.specs.declared.stop.Stop.TheVariants.{Memory}
 use Rattle.twkb_engine.specs.Standing.{allowance_of}
 use Rattle.twkb_engine.proofs.Feeding.{part_taken, taken_first}
-use Rattle.twkb_engine.proofs.Stepping.{whole_stepped}
+use Rattle.twkb_engine.proofs.Stepping.{led_ahead}
 use Rattle.twkb_engine.proofs.engine.Engine.take_some.Goals as goal
 
+pub returns-then-led-gt0-clause-taken : goal.returns-then-led-gt0-clause-taken
+returns-then-led-gt0-clause-taken c = λ bs s.
+    led_ahead bs c.args.rest.now c.lead_ahead-led.result c.args.flat.now c.args.self.now c.lead_ahead-led.new.self (nil_from_length c.args.self.now.partial (omega (arith, c.len.ensures.count, c.if-len-gt0.false))) c.lead_ahead-led.ensures s
+
 pub returns-in-Err-clause-taken : goal.returns-in-Err-clause-taken
-returns-in-Err-clause-taken c = λ bs s. part_taken (allowance_of c.args.self.now) bs c.args.rest.now c.take_points.new.flat c.take_points.new.self (c.in-Err.ensures.memory bs s)
+returns-in-Err-clause-taken c = λ bs s.
+    let there = led_ahead bs c.args.rest.now c.lead_ahead-led.result c.args.flat.now c.args.self.now c.lead_ahead-led.new.self (nil_from_length c.args.self.now.partial (omega (arith, c.len.ensures.count, c.if-len-gt0.false))) c.lead_ahead-led.ensures s in
+    taken_first (allowance_of c.args.self.now) c.lead_ahead-led.new.self.limits bs c.args.rest.now c.lead_ahead-led.result (Err Memory) c.take_points.new.flat c.take_points.new.self c.lead_ahead-led.ensures.limits (omega (arith, c.if-led-gt0.false))
+    (part_taken c.lead_ahead-led.new.self.limits _ c.args.rest.now c.take_points.new.flat c.take_points.new.self (c.in-Err.ensures.memory _ there))
 
 pub returns-then-used-gt0-clause-taken : goal.returns-then-used-gt0-clause-taken
-returns-then-used-gt0-clause-taken c = λ bs s. (c.in-Ok.ensures.ahead bs s).0
+returns-then-used-gt0-clause-taken c = λ bs s.
+    let there = led_ahead bs c.args.rest.now c.lead_ahead-led.result c.args.flat.now c.args.self.now c.lead_ahead-led.new.self (nil_from_length c.args.self.now.partial (omega (arith, c.len.ensures.count, c.if-len-gt0.false))) c.lead_ahead-led.ensures s in
+    taken_first (allowance_of c.args.self.now) c.lead_ahead-led.new.self.limits bs c.args.rest.now c.lead_ahead-led.result (Ok (c.in-Ok.used, false)) c.take_points.new.flat c.take_points.new.self c.lead_ahead-led.ensures.limits (omega (arith, c.if-led-gt0.false))
+    (c.in-Ok.ensures.ahead _ there).0
 
 pub returns-clause-taken : goal.returns-clause-taken
 returns-clause-taken c = λ bs s.
-    let none : c.in-Ok.used ≡ 0 = omega (arith, c.if-used-gt0.false) in
-    taken_first (allowance_of c.args.self.now) (allowance_of c.take_points.new.self) bs c.args.rest.now c.in-Ok.used c.take_item.result c.take_item.new.flat c.take_item.new.self c.in-Ok.ensures.limits none
-    (c.take_item.ensures.taken _ (c.in-Ok.ensures.ahead bs s).0)
-
-pub returns-in-Ok-take_point-clause-taken : goal.returns-in-Ok-take_point-clause-taken
-returns-in-Ok-take_point-clause-taken c = λ bs s.
-    let none : c.in-Ok.used ≡ 0 = omega (arith, c.if-used-gt0.false) in
-    let found = c.in-Some.ensures in
-    let d = c.take_points.new.self in
-    taken_first (allowance_of c.args.self.now) (allowance_of d) bs c.args.rest.now c.in-Ok.used (Ok (_, c.in-Ok-take_point.ended)) c.take_point.new.flat (record { builder = c.take_point.new.self; partial = d.partial }) c.in-Ok.ensures.limits none
-    (whole_stepped _ (take _ c.args.rest.now) c.take_points.new.flat c.take_point.new.flat d c.take_point.new.self (Ok c.in-Ok-take_point.ended) (nil_from_length d.partial (omega (arith, c.len.ensures.count, c.if-len-eq0.true)))
-    (λ front here. c.in-Ok-take_point.ensures.taken front c.args.rest.now here found.header found.point refl) (c.in-Ok.ensures.ahead bs s).0)
-
-pub returns-in-Err-take_point-clause-taken : goal.returns-in-Err-take_point-clause-taken
-returns-in-Err-take_point-clause-taken c = λ bs s.
-    let none : c.in-Ok.used ≡ 0 = omega (arith, c.if-used-gt0.false) in
-    let found = c.in-Some.ensures in
-    let d = c.take_points.new.self in
-    taken_first (allowance_of c.args.self.now) (allowance_of d) bs c.args.rest.now c.in-Ok.used (Err c.in-Err-take_point.stop) c.take_point.new.flat (record { builder = c.take_point.new.self; partial = d.partial }) c.in-Ok.ensures.limits none (
-      _,
-      found.point.some,
-      found.point.within,
-      whole_stepped _ (take _ c.args.rest.now) c.take_points.new.flat c.take_point.new.flat d c.take_point.new.self (Err c.in-Err-take_point.stop) (nil_from_length d.partial (omega (arith, c.len.ensures.count, c.if-len-eq0.true)))
-          (λ front here. c.in-Err-take_point.ensures.taken front c.args.rest.now here found.header found.point refl) (c.in-Ok.ensures.ahead bs s).0,
-    )
+    let there = led_ahead bs c.args.rest.now c.lead_ahead-led.result c.args.flat.now c.args.self.now c.lead_ahead-led.new.self (nil_from_length c.args.self.now.partial (omega (arith, c.len.ensures.count, c.if-len-gt0.false))) c.lead_ahead-led.ensures s in
+    let last = c.take_item in
+    taken_first (allowance_of c.args.self.now) c.lead_ahead-led.new.self.limits bs c.args.rest.now c.lead_ahead-led.result last.result last.new.flat last.new.self c.lead_ahead-led.ensures.limits (omega (arith, c.if-led-gt0.false))
+    (taken_first c.lead_ahead-led.new.self.limits (allowance_of c.take_points.new.self) _ c.args.rest.now c.in-Ok.used last.result last.new.flat last.new.self c.in-Ok.ensures.limits (omega (arith, c.if-used-gt0.false))
+    (last.ensures.taken _ (c.in-Ok.ensures.ahead _ there).0))

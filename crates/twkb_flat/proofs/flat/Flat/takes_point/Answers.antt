@@ -1,4 +1,4 @@
-use Rattle.std.proofs.Common.{sym, ap, subst, ◌∙◌, ◌≡◌, length, map, List, true, false}
+use Rattle.std.proofs.Common.{sym, ap, subst, ◌∙◌, length, List}
 use Rattle.std.specs.Prelude.{◌↔◌, IsTrue}
 use Rattle.twkb_tree.specs.Rows.{row_points}
 use Rattle.twkb_flat.specs.declared.entries.KeptNode.{KeptNode}

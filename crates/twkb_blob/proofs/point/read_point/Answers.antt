@@ -1,0 +1,16 @@
+use Rattle.std.proofs.Common.{rules, ◌≡◌, ◌≢◌, ◌/◌, ◌∙◌, [], get_or, refl, w8, to_z, of_z}
+use Rattle.twkb_num.specs.Zigzag.{unzigzag_of}
+use Rattle.twkb_io.specs.Inputs.{held_of}
+use Rattle.twkb_blob.proofs.PointSpans.{point_left}
+use Rattle.twkb_blob.proofs.point.read_point.Goals as goal
+
+pub returns-clause-made : goal.returns-clause-made
+returns-clause-made g c =
+    let held = c.held-held.result.now in
+    let some : held_of c.args.input.now ≢ [] = search rules in
+    let exact : to_z w8 (of_z w8 c.precision.result) ≡ unzigzag_of (get_or held 0 0 / 16) = search rules in
+    let made = rw c.in-Some.is at c.in_ok-used.ensures.made in
+    let (to, row) = rw c.in-Some.is at c.in_ok-used.ensures.row in
+    let long = rw c.in-Some.is at c.in_ok-used.ensures.long in
+    point_left c.args.limits c.args.input.now c.fill.new.self c.advance.new.self held c.in-Some.used c.offset-offset.result _ c.take_root_point.new.flat _ _ _ (c.fill.ensures.unread some) c.held-held.ensures.held c.advance.ensures.gives c.advance.ensures.given
+    (c.advance.ensures.stays ∙ c.in_default.ensures.stays) made (row, refl, refl, refl) long c.offset-offset.ensures.offset exact refl
