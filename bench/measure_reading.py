@@ -5,6 +5,7 @@ import sys
 
 MEGABYTE = 1_000_000
 WAYS = ("rows", "reader", "whole", "bytes", "text", "unpack", "show")
+LOOPS = ("read", "keep")
 TELLING = ("rows", "reader", "whole", "bytes", "text")
 KINDS = ("points", "lines", "multipolygons", "multipoints", "collections")
 
@@ -18,18 +19,19 @@ def seconds_of(program, way, source):
     return resource.getrusage(resource.RUSAGE_CHILDREN).ru_utime - before, int(ended.stdout) if tells else None
 
 
-def loop_of(loop, source):
-    """The loop's best seconds, blobs and points."""
-    blobs, points, _, seconds = subprocess.run([loop, "read", source], stdout=subprocess.PIPE, check=True).stdout.split()
+def loop_of(loop, word, source):
+    """The best seconds of the loop that keeps nothing (read) or rows (keep), blobs and points."""
+    blobs, points, _, seconds = subprocess.run([loop, word, source], stdout=subprocess.PIPE, check=True).stdout.split()
     return float(seconds), int(blobs), int(points)
 
 
 def measure(program, loop, source, rounds):
-    """The best seconds of the loop and of each way, in turn, and the points."""
-    best = dict.fromkeys(("loop",) + WAYS, float("inf"))
+    """The best seconds of the loops and of each way, in turn, and the points."""
+    best = dict.fromkeys(LOOPS + WAYS, float("inf"))
     for _ in range(rounds):
-        seconds, blobs, points = loop_of(loop, source)
-        best["loop"] = min(best["loop"], seconds)
+        for word in LOOPS:
+            seconds, blobs, points = loop_of(loop, word, source)
+            best[word] = min(best[word], seconds)
         for way in WAYS:
             seconds, made = seconds_of(program, way, source)
             if made not in (None, blobs):
@@ -58,11 +60,11 @@ def make_stream(kind, folder, megabytes):
 def main():
     program, loop, folder = sys.argv[1:4]
     megabytes, rounds = [int(word) for word in sys.argv[4:6] + ["40", "9"][len(sys.argv) - 4 :]]
-    print("| Blobs | loop | " + " | ".join(f"{way} | times" for way in WAYS) + " |")
+    print("| Blobs | loop | keeping rows | times | " + " | ".join(f"{way} | times" for way in WAYS) + " |")
     for kind in KINDS:
         best, points = measure(program, loop, make_stream(kind, folder, megabytes), rounds)
-        cells = [f"{best['loop'] / points * 1e9:.1f}"]
-        cells += [f"{best[way] / points * 1e9:.1f} | {best[way] / best['loop']:.2f}" for way in WAYS]
+        cells = [f"{best['read'] / points * 1e9:.1f}"]
+        cells += [f"{best[way] / points * 1e9:.1f} | {best[way] / best['read']:.2f}" for way in ("keep",) + WAYS]
         print(f"| {kind} | " + " | ".join(cells) + " |")
     for size in (8, 2000):
         source = f"{folder}/front.twkb"

@@ -1,9 +1,11 @@
 //! What the reader is measured against: one plain loop over a slice of canonical TWKB blobs that decodes their varints, adds the
-//! differences and checks the range and the sizes; and a fixed generator of blobs of points and lines. Plain Rust, std alone:
+//! differences and checks the range and the sizes, and keeps nothing; the same loop, which keeps the rows and points of each blob in
+//! two lists; and a fixed generator of blobs of points and lines. Plain Rust, std alone:
 //!
 //!     rustc -O read_loop.rs
 //!     ./read_loop make lines|points BYTES FILE      writes blobs of at least so many bytes
 //!     ./read_loop read FILE                         blobs, points, and the best seconds of the runs
+//!     ./read_loop keep FILE                         the same, by the loop that keeps rows
 mod numbers;
 
 use numbers::Numbers;
@@ -95,11 +97,96 @@ fn stepped(bytes: &[u8], at: usize, from: i64) -> Option<(i64, usize)> {
     if LEAST <= to && to <= GREATEST { Some((to, at)) } else { None }
 }
 
-/// What the loop found: how many points, and a sum of the coordinates, so that none is left out.
+/// What is done with what the loop reads.
+trait Keeps {
+    /// Whether ids are looked at again where their members stand.
+    const IDS: bool;
+    /// A blob begins.
+    fn begin(&mut self);
+    /// A row of this depth, type, id and precision, whose points follow.
+    fn row(&mut self, depth: u32, kind: u8, id: Option<i64>, precision: Option<i8>);
+    /// A point of the last row.
+    fn point(&mut self, x: i64, y: i64);
+    /// How many points there were, and a sum of their coordinates, so that none is left out.
+    fn found(&self) -> (u64, i64);
+}
+
+/// Keeps nothing.
 #[derive(Default)]
-struct Found {
+struct Counted {
     points: u64,
     sum: i64,
+}
+
+impl Keeps for Counted {
+    const IDS: bool = false;
+
+    #[inline(always)]
+    fn begin(&mut self) {}
+
+    #[inline(always)]
+    fn row(&mut self, _: u32, _: u8, _: Option<i64>, _: Option<i8>) {}
+
+    #[inline(always)]
+    fn point(&mut self, x: i64, y: i64) {
+        self.points += 1;
+        self.sum = self.sum.wrapping_add(x).wrapping_add(y);
+    }
+
+    fn found(&self) -> (u64, i64) {
+        (self.points, self.sum)
+    }
+}
+
+/// A row, and where its points are.
+struct Row {
+    depth: u32,
+    kind: u8,
+    id: Option<i64>,
+    precision: Option<i8>,
+    first: u32,
+    points: u32,
+}
+
+/// Keeps the rows of a blob, in room that the blobs before it left.
+#[derive(Default)]
+struct Kept {
+    rows: Vec<Row>,
+    points: Vec<(i64, i64)>,
+    all: u64,
+    sum: i64,
+}
+
+impl Keeps for Kept {
+    const IDS: bool = true;
+
+    fn begin(&mut self) {
+        self.all += self.points.len() as u64;
+        for row in self.rows.iter().rev().take(1) {
+            let from = i64::from(row.depth) + i64::from(row.kind) + i64::from(row.first) + i64::from(row.points);
+            self.sum = self.sum.wrapping_add(from + row.id.unwrap_or(0) + i64::from(row.precision.unwrap_or(0)));
+        }
+        self.rows.clear();
+        self.points.clear();
+    }
+
+    #[inline(always)]
+    fn row(&mut self, depth: u32, kind: u8, id: Option<i64>, precision: Option<i8>) {
+        let first = self.points.len() as u32;
+        self.rows.push(Row { depth, kind, id, precision, first, points: 0 });
+    }
+
+    #[inline(always)]
+    fn point(&mut self, x: i64, y: i64) {
+        self.points.push((x, y));
+        if let Some(row) = self.rows.last_mut() {
+            row.points += 1;
+        }
+    }
+
+    fn found(&self) -> (u64, i64) {
+        (self.all + self.points.len() as u64, self.sum)
+    }
 }
 
 /// Where a geometry's positions stand.
@@ -109,51 +196,83 @@ struct Position {
     y: i64,
 }
 
+/// Which rows a list has, and how deep they stand.
+#[derive(Clone, Copy)]
+struct Place {
+    depth: u32,
+    kind: u8,
+    id: Option<i64>,
+    precision: Option<i8>,
+}
+
+impl Place {
+    fn below(self, kind: u8, id: Option<i64>) -> Place {
+        Place { depth: self.depth + 1, kind, id, precision: None }
+    }
+}
+
+/// The kind of a ring, beside the types.
+const RING: u8 = 8;
+
 /// Reads so many points; the place behind them.
 #[inline(always)]
-fn points(bytes: &[u8], mut at: usize, count: u64, position: &mut Position, found: &mut Found) -> Option<usize> {
+fn points<K: Keeps>(bytes: &[u8], mut at: usize, count: u64, position: &mut Position, kept: &mut K) -> Option<usize> {
     for _ in 0..count {
         (position.x, at) = stepped(bytes, at, position.x)?;
         (position.y, at) = stepped(bytes, at, position.y)?;
-        found.sum = found.sum.wrapping_add(position.x).wrapping_add(position.y);
+        kept.point(position.x, position.y);
     }
-    found.points += count;
     Some(at)
 }
 
-/// Reads lists below so many counts: 1 of points, 2 of lines or rings, 3 of polygons.
-fn lists(bytes: &[u8], at: usize, depth: u32, position: &mut Position, found: &mut Found) -> Option<usize> {
+/// Reads a line, a ring or a polygon, by the kind of its row.
+fn lists<K: Keeps>(bytes: &[u8], at: usize, place: Place, position: &mut Position, kept: &mut K) -> Option<usize> {
+    kept.row(place.depth, place.kind, place.id, place.precision);
     let (count, mut at) = number(bytes, at)?;
-    if depth == 1 {
-        return points(bytes, at, count, position, found);
+    if place.kind != 3 {
+        return points(bytes, at, count, position, kept);
     }
     for _ in 0..count {
-        at = lists(bytes, at, depth - 1, position, found)?;
+        at = lists(bytes, at, place.below(RING, None), position, kept)?;
     }
     Some(at)
 }
 
 /// Reads what a count of members stands before: ids, and then the members.
-fn members(bytes: &[u8], at: usize, kind: u8, has_ids: bool, found: &mut Found) -> Option<usize> {
+fn members<K: Keeps>(bytes: &[u8], at: usize, place: Place, has_ids: bool, kept: &mut K) -> Option<usize> {
+    kept.row(place.depth, place.kind, place.id, place.precision);
     let (count, mut at) = number(bytes, at)?;
+    let mut id_at = at;
     if has_ids {
         for _ in 0..count {
             (_, at) = number(bytes, at)?;
         }
     }
     let mut position = Position::default();
-    if kind == 4 {
-        return points(bytes, at, count, &mut position, found);
-    }
     for _ in 0..count {
-        at = if kind == 7 { geometry(bytes, at, found)? } else { lists(bytes, at, u32::from(kind) - 4, &mut position, found)? };
+        let mut id = None;
+        if K::IDS && has_ids {
+            let (form, behind) = number(bytes, id_at)?;
+            (id, id_at) = (Some((form >> 1) as i64 ^ -((form & 1) as i64)), behind);
+        }
+        let member = place.below(place.kind - 3, id);
+        at = match place.kind {
+            4 => {
+                kept.row(member.depth, member.kind, member.id, None);
+                points(bytes, at, 1, &mut position, kept)?
+            }
+            7 => geometry(bytes, at, member.depth, id, kept)?,
+            _ => lists(bytes, at, member, &mut position, kept)?,
+        };
     }
     Some(at)
 }
 
 /// Reads a geometry; the place behind it.
-fn geometry(bytes: &[u8], at: usize, found: &mut Found) -> Option<usize> {
-    let kind = bytes.get(at)? & 0x0F;
+fn geometry<K: Keeps>(bytes: &[u8], at: usize, depth: u32, id: Option<i64>, kept: &mut K) -> Option<usize> {
+    let form = bytes.get(at)? >> 4;
+    let precision = Some((form >> 1) as i8 ^ -((form & 1) as i8));
+    let place = Place { depth, kind: bytes.get(at)? & 0x0F, id, precision };
     let metadata = *bytes.get(at + 1)?;
     let (size, from) = number(bytes, at + 2)?;
     let mut next = from;
@@ -162,12 +281,17 @@ fn geometry(bytes: &[u8], at: usize, found: &mut Found) -> Option<usize> {
             (_, next) = number(bytes, next)?;
         }
     }
-    if metadata & 0x10 == 0 {
+    if metadata & 0x10 != 0 {
+        kept.row(depth, place.kind, id, precision);
+    } else {
         let mut position = Position::default();
-        next = match kind {
-            1 => points(bytes, next, 1, &mut position, found)?,
-            2 | 3 => lists(bytes, next, u32::from(kind) - 1, &mut position, found)?,
-            4..=7 => members(bytes, next, kind, metadata & 0x04 != 0, found)?,
+        next = match place.kind {
+            1 => {
+                kept.row(depth, 1, id, precision);
+                points(bytes, next, 1, &mut position, kept)?
+            }
+            2 | 3 => lists(bytes, next, place, &mut position, kept)?,
+            4..=7 => members(bytes, next, place, metadata & 0x04 != 0, kept)?,
             _ => return None,
         };
     }
@@ -175,13 +299,29 @@ fn geometry(bytes: &[u8], at: usize, found: &mut Found) -> Option<usize> {
 }
 
 /// How many blobs the bytes have, and what is found in them.
-fn read(bytes: &[u8]) -> Option<(u64, u64, i64)> {
-    let (mut at, mut blobs, mut found) = (0, 0, Found::default());
+fn read<K: Keeps>(bytes: &[u8], mut kept: K) -> Option<(u64, u64, i64)> {
+    let (mut at, mut blobs) = (0, 0);
     while at < bytes.len() {
-        at = geometry(bytes, at, &mut found)?;
+        kept.begin();
+        at = geometry(bytes, at, 0, None, &mut kept)?;
         blobs += 1;
     }
-    Some((blobs, found.points, found.sum))
+    let (points, sum) = kept.found();
+    Some((blobs, points, sum))
+}
+
+/// Times the loop over the file's blobs.
+fn time<K: Keeps + Default>(path: &str) {
+    let bytes = fs::read(path).expect("a file");
+    let mut best = f64::MAX;
+    let mut found = None;
+    for _ in 0..RUNS {
+        let begin = Instant::now();
+        found = read(&bytes, K::default());
+        best = best.min(begin.elapsed().as_secs_f64());
+    }
+    let (blobs, points, sum) = found.expect("canonical blobs");
+    println!("{blobs} {points} {sum} {best:.6}");
 }
 
 fn main() {
@@ -189,18 +329,8 @@ fn main() {
     let words: Vec<&str> = words.iter().map(String::as_str).collect();
     match words[..] {
         ["make", kind, size, path] => make(kind == "lines", size.parse().expect("a size"), path),
-        ["read", path] => {
-            let bytes = fs::read(path).expect("a file");
-            let mut best = f64::MAX;
-            let mut found = None;
-            for _ in 0..RUNS {
-                let begin = Instant::now();
-                found = read(&bytes);
-                best = best.min(begin.elapsed().as_secs_f64());
-            }
-            let (blobs, points, sum) = found.expect("canonical blobs");
-            println!("{blobs} {points} {sum} {best:.6}");
-        }
-        _ => panic!("make lines|points BYTES FILE, or read FILE"),
+        ["read", path] => time::<Counted>(path),
+        ["keep", path] => time::<Kept>(path),
+        _ => panic!("make lines|points BYTES FILE, read FILE, or keep FILE"),
     }
 }

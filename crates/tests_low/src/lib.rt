@@ -1,8 +1,6 @@
-//! Tests of the five lowest crates, by their public items alone.
+//! Tests of the four lowest crates, by their public items alone.
 #![tactic(auto)]
 
-#[cfg(test)]
-mod geom;
 #[cfg(test)]
 mod io;
 #[cfg(test)]

@@ -122,3 +122,16 @@ pub fn nested_collections(alloc: Global, count: u32) -> Option<Flat> {
     }
     Some(flat)
 }
+
+/// Whether these are points with these coordinates, x first.
+pub fn are_at(points: &[Pt], places: &[(i64, i64)]) -> bool {
+    if points.len() != places.len() {
+        return false;
+    }
+    for index in 0..points.len() {
+        if (points[index].x(), points[index].y()) != places[index] {
+            return false;
+        }
+    }
+    true
+}

@@ -1,4 +1,4 @@
-//! Tests of the flat form, the grammar, the writer and the reader of blobs, through what these crates make public.
+//! Tests of geometries, the flat form, the grammar, the writer and the reader of blobs, through what these crates make public.
 #![tactic(auto)]
 
 #[cfg(test)]
@@ -8,8 +8,12 @@ mod flat;
 #[cfg(test)]
 mod forms;
 #[cfg(test)]
+mod geom;
+#[cfg(test)]
 mod geometries;
 #[cfg(test)]
 mod grammar;
+#[cfg(test)]
+mod printed;
 #[cfg(test)]
 mod writer;

@@ -1,26 +1,22 @@
 //! What no clause says: that calls succeed, and worked tables and streams.
 mod both_ways;
-mod edge_devices;
+pub mod edge_devices;
 mod endings;
 mod failing_in_turn;
 mod flushing;
 mod laws;
-mod memory;
 mod nesting;
 mod order;
-mod pack_devices;
 mod packing;
 mod refused_streams;
 mod refused_tables;
 mod showing;
 mod texts;
-mod unpack_devices;
 mod unpacking;
 mod work;
 
 use std::alloc::Global;
-use std::io::{Read, Write};
-use twkb_convert::{Cause, ConvertFault, Report, Style, pack, pack_styled, unpack};
+use twkb_convert::{Cause, ConvertFault, Report, Style, pack_styled, unpack};
 use twkb_geom::Limits;
 use twkb_io::{Fuse, FuseEnd, Tap};
 
@@ -44,28 +40,6 @@ fn cut_reader(bytes: &[u8], given: u64) -> Tap<Fuse<&[u8]>> {
 // A writer that takes so many bytes, one a write, and then ends so.
 fn cut_writer(alloc: Global, taken: u64, end: FuseEnd, flush_fails: bool) -> Tap<Fuse<Vec<u8>>> {
     Tap::new(Fuse::new(Vec::new(alloc), taken, 1, end, flush_fails))
-}
-
-// Whether the packing of what a reader gives has this answer.
-fn pack_answers<R: Read + Drop, W: Write>(
-    alloc: Global,
-    mut reader: Tap<R>,
-    writer: &mut Tap<W>,
-    limits: Limits,
-    answer: Result<Report, ConvertFault>,
-) -> bool {
-    pack(alloc, &mut reader, writer, limits) == answer
-}
-
-// Whether the unpacking of what a reader gives has this answer.
-fn unpack_answers<R: Read + Drop, W: Write>(
-    alloc: Global,
-    mut reader: Tap<R>,
-    writer: &mut Tap<W>,
-    limits: Limits,
-    answer: Result<Report, ConvertFault>,
-) -> bool {
-    unpack(alloc, &mut reader, writer, limits) == answer
 }
 
 // Whether a table has this answer in a style, and these blobs were written.

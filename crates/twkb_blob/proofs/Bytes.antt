@@ -1,19 +1,23 @@
 -- Items of an input, one after another, make a geometry with its spans, or a fault.
-use Rattle.std.proofs.Common.{◌≡◌, ℕ, ◌+◌, ◌<◌, ◌≤◌, List, ◌++◌, length, take, sym, ap, ◌∙◌, subst, Ok, Err, true, false, arith}
+use Rattle.std.proofs.Common.{◌≡◌, ℕ, ◌+◌, ◌-◌, ◌<◌, ◌≤◌, List, ◌++◌, length, take, drop, sym, ap, ◌∙◌, subst, Bool, Ok, Err, true, false, arith}
 use Rattle.std.proofs.lemmas.List.{append-nil, length-take-le}
 use Rattle.std.specs.Prelude.{IfSome}
 use Rattle.std.specs.Io.{StartsWith}
 use Rattle.std.specs.Io.KnownBytes.{Consumes, Keeps}
 use Rattle.std.specs.declared.io.traits.Read.{Ghosts}
 use Rattle.twkb_tree.specs.Tree.{Tree}
-use Rattle.twkb_tree.specs.Rows.{Row}
+use Rattle.twkb_tree.specs.Rows.{Row, rows}
 use Rattle.twkb_tree.specs.Limits.{Allowance}
+use Rattle.twkb_grammar.specs.Blob.{Blob}
 use Rattle.twkb_grammar.specs.Spans.{spans_of_blob}
 use Rattle.twkb_grammar.specs.Noting.{Notes}
 use Rattle.twkb_grammar.specs.declared.span.Span.{Span}
 use Rattle.twkb_io.specs.declared.input.Input.{Input}
 use Rattle.twkb_io.specs.Inputs.{given, rest_of, held_of, is_spent}
-use Rattle.twkb_engine.specs.Standing.{LeadsOn, IsTakenFrom, StandsAt, offset_in}
+use Rattle.twkb_front.proofs.Pieces.{one_front}
+use Rattle.twkb_engine.specs.Parts.{PartIn}
+use Rattle.twkb_engine.proofs.Feeding.{part_further, refused}
+use Rattle.twkb_engine.specs.Standing.{IsTakenFrom, StandsAt, offset_in}
 use Rattle.twkb_engine.specs.Stops.{reason_of}
 use Rattle.twkb_engine.specs.declared.engine.Engine.{Engine}
 use Rattle.twkb_engine.specs.declared.stop.Stop.{Stop}
@@ -26,18 +30,35 @@ use Rattle.twkb_blob.proofs.Pieces.{left_after, refused_known}
 use Rattle.twkb_blob.proofs.Blobs.{left_join}
 use Rattle.twkb_blob.proofs.Parts.{part_known}
 
--- no bytes lead an engine nowhere
-pub stands_still : (bs held : List ℕ) (used : ℕ) (rs more : List Row) (d e : Engine) → used ≡ 0 → LeadsOn rs d (take used held) more e → (s : StandsAt bs rs d)
-    → (t : StandsAt bs more e) × ((start : ℕ) → notes_at start t ≡ notes_at start s)
-stands_still bs held used rs more d e none run s =
-    let on = run bs s in
-    let same : bs ++ take used held ≡ bs = ap (λ n. bs ++ take n held) none ∙ append-nil bs in
-    (record { front = on.0.front; whole = sym same ∙ on.0.whole; outlined = on.0.outlined; placed = on.0.placed; spelled = on.0.spelled }, on.1)
-
 -- an item that is refused in bytes, or for which there is no memory
 pub item_refused : (limits : Allowance) (start : ℕ) (bs held : List ℕ) (stop : Stop) (rs : List Row) (d : Engine) (w : Notes) → IsTakenFrom limits bs held (Err stop) rs d → IsNotedFed limits start bs held (Err stop) rs d w
 item_refused limits start bs held Memory rs d w (used, some, within, part) = record { used = used; some = some; within = within; part = part }
 item_refused limits start bs held (Refused r) rs d w (used, some, within, fault) = record { used = used; some = some; within = within; fault = fault }
+
+-- no bytes were taken yet
+pub stands_behind : (start : ℕ) (bs held : List ℕ) (rs : List Row) (d : Engine) (w : Notes) (s : StandsAt bs rs d) → w ≡ notes_at start s → (t : StandsAt (bs ++ take 0 held) rs d) × (w ≡ notes_at start t)
+stands_behind start bs held rs d w s told = (record { front = s.front; whole = append-nil bs ∙ s.whole; outlined = s.outlined; placed = s.placed; spelled = s.spelled }, told)
+
+-- bytes were taken, and then some of those that are left
+pub went_on : (own : Allowance) (start : ℕ) (bs held : List ℕ) (used : ℕ) (taken : ℕ × Bool) (rs : List Row) (d : Engine) (w : Notes) → taken.1 ≡ false
+    → IsNotedFed own start (bs ++ take used held) (take (length held - used) (drop used held)) (Ok taken) rs d w → (t : StandsAt (bs ++ take (used + taken.0) held) rs d) × (w ≡ notes_at start t)
+went_on own start bs held used (count, true) rs d w off h = absurd cc
+went_on own start bs held used (count, false) rs d w off h = subst (λ l. (t : StandsAt l rs d) × (w ≡ notes_at start t)) (one_front bs held used count) h
+
+-- a blob ends in them
+pub made_behind : (limits own : Allowance) (start : ℕ) (bs held : List ℕ) (used : ℕ) (taken : ℕ × Bool) (rs : List Row) (d : Engine) (w : Notes) → own ≡ limits → taken.1 ≡ true
+    → IsNotedFed own start (bs ++ take used held) (take (length held - used) (drop used held)) (Ok taken) rs d w → IsNotedFed limits start bs held (Ok (used + taken.0, true)) rs d w
+made_behind limits own start bs held used (count, false) rs d w same on h = absurd cc
+made_behind limits own start bs held used (count, true) rs d w same on h =
+    subst (λ l. (g : Tree) × (b : Blob l (bs ++ take (used + count) held) g) × (w.spans ≡ spans_of_blob start b) × (rs ≡ rows 0 g)) same
+    (subst (λ l. (g : Tree) × (b : Blob own l g) × (w.spans ≡ spans_of_blob start b) × (rs ≡ rows 0 g)) (one_front bs held used count) h)
+
+-- the engine stopped in them
+pub stopped_behind : (limits own : Allowance) (start : ℕ) (bs held : List ℕ) (used : ℕ) (stop : Stop) (rs : List Row) (d : Engine) (w : Notes) → own ≡ limits → used ≤ length held
+    → IsNotedFed own start (bs ++ take used held) (take (length held - used) (drop used held)) (Err stop) rs d w → IsNotedFed limits start bs held (Err stop) rs d w
+stopped_behind limits own start bs held used Memory rs d w same within h = subst (λ l. PartIn l bs held) same (part_further own bs held used within h)
+stopped_behind limits own start bs held used (Refused r) rs d w same within h =
+    refused limits own bs held used (Refused r) rs d same within (h.used, h.some, h.within, h.fault)
 
 module _ {R : Type 0} {read : Ghosts R} where
   -- held bytes leave

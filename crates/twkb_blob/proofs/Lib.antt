@@ -7,6 +7,7 @@ pub mod Blobs
 pub mod Changing
 pub mod Noted
 pub mod NotedItems
+pub mod NotedHeaders
 pub mod NotedParts
 pub mod Bytes
 pub mod Counts

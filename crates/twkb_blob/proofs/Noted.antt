@@ -50,7 +50,7 @@ calm_step (phase.Id many head members ids left) = tt
 calm_step (phase.Body head body) = tt
 calm_step (phase.End head kind) = tt
 
-awaited_notes : (t : outline.Step) (offset points byte : ℕ) (w : Notes) → note_awaited (awaited_at t) offset points byte w ≡ note_step t offset points byte w
+pub awaited_notes : (t : outline.Step) (offset points byte : ℕ) (w : Notes) → note_awaited (awaited_at t) offset points byte w ≡ note_step t offset points byte w
 awaited_notes OnHeader offset points byte w = refl
 awaited_notes (OnMetadata k p) offset points byte w = refl
 awaited_notes (OnOption k h r rs) offset points byte w = refl
@@ -59,6 +59,12 @@ awaited_notes (OnId m h members ids left) offset points byte w = refl
 awaited_notes (OnBody h f ids s) offset points byte w = refl
 awaited_notes (OnEnd h) offset points byte w = refl
 awaited_notes OnFinished offset points byte w = refl
+
+-- what the code noted, by what the engine was
+pub by_engine : (start byte : ℕ) (d : Engine) (a : Awaited) (o p : ℕ) (w v told : Notes) → a ≡ awaited_in d → o ≡ offset_in d → p ≡ points_in d → w ≡ told → v ≡ note_awaited a (start + o) p byte w
+    → v ≡ note_awaited (awaited_in d) (start + offset_in d) (points_in d) byte told
+by_engine start byte d a o p w v told awaits at many old first = first ∙ (ap (λ x. note_awaited x (start + o) p byte w) awaits ∙ (ap (λ x. note_awaited (awaited_in d) (start + x) p byte w) at
+    ∙ (ap (λ x. note_awaited (awaited_in d) (start + offset_in d) x byte w) many ∙ ap (λ x. note_awaited (awaited_in d) (start + offset_in d) (points_in d) byte x) old)))
 
 -- where an engine stands, a reader of a stream of one blob does
 abbrev pub stands_of : NoteLaws → (bs : List ℕ) (rs : List Row) (d : Engine) → IsOpenVarint (held_in d) → (s : StandsAt bs rs d) → Stands (allowance_of d) bs [] (sums_of d.builder) s.outlined.stack (held_in d)
@@ -127,9 +133,7 @@ module _ (laws : NoteLaws) (start byte : ℕ) (bs : List ℕ) (ps : List Row) (d
   -- by the code
   module _ (a : Awaited) (o p : ℕ) (w v : Notes) (awaits : a ≡ awaited_in d) (at : o ≡ offset_in d) (many : p ≡ points_in d) (old : w ≡ notes_at start s) (first : v ≡ note_awaited a (start + o) p byte w) where
     noted_first : v ≡ before
-    noted_first = first ∙ (ap (λ x. note_awaited x (start + o) p byte w) awaits ∙ (ap (λ x. note_awaited (awaited_in d) (start + x) p byte w) at
-        ∙ (ap (λ x. note_awaited (awaited_in d) (start + offset_in d) x byte w) many ∙ (ap (λ x. note_awaited (awaited_in d) (start + offset_in d) (points_in d) byte x) old
-        ∙ by_step))))
+    noted_first = by_engine start byte d a o p w v (notes_at start s) awaits at many old first ∙ by_step
 
     -- a blob goes on
     pub fed_on : (rs : List Row) (after : Engine) (left q r : ℕ) (u : Notes) → IsOpenVarint (held_in after) → allowance_of after ≡ allowance_of d → left ≡ open_in after → q ≡ offset_in after → r ≡ points_in after

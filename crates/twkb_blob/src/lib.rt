@@ -7,6 +7,7 @@ pub mod laws;
 mod located;
 mod made;
 mod notes;
+mod noting;
 mod point;
 mod reader;
 mod reading;

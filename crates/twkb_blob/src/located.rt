@@ -1,119 +1,27 @@
-//! The spans of a blob that is read: its points as many at once as there are, all else item by item.
-ghost use Rattle.std.specs.Prelude.{◌≡◌, ◌≤◌, ◌<◌, ◌+◌, ◌^◌, ◌⊎◌, [], true, false, Ok, Err, length, IfOk, OnErr};
+//! The spans of a blob that is read.
+ghost use Rattle.std.specs.Prelude.{◌≡◌, ◌≤◌, ◌<◌, ◌^◌, ◌⊎◌, [], true, false, Ok, Err, length, OnErr};
 ghost use Rattle.twkb_io.specs.Taps.{count_failure};
 ghost use Rattle.twkb_io.specs.Inputs.{input_failures, input_tap};
-ghost use Rattle.twkb_tree.specs.Rows.{row_points};
-ghost use Rattle.twkb_grammar.specs.Noting.{no_notes, note_ends_to};
-ghost use Rattle.twkb_engine.specs.Standing.{StandsAt, allowance_of, count_of, offset_in, open_in, points_in};
+ghost use Rattle.twkb_grammar.specs.Noting.{no_notes};
+ghost use Rattle.twkb_engine.specs.Standing.{StandsAt, allowance_of, count_of, offset_in};
 ghost use Rattle.twkb_blob.specs.Readers.{PartAhead, halted_by_read, failed_by_read};
-ghost use Rattle.twkb_blob.specs.Located.{IsSpanned, TakesNoted, ReadsNoted};
+ghost use Rattle.twkb_blob.specs.Located.{IsSpanned, ReadsNoted};
 
 use crate::fault::{BlobFault, fault_at};
 use crate::notes::SpanNotes;
+use crate::noting::feed_noted;
 use crate::point::read_point;
 use crate::reading::{Fed, Halt};
 use crate::spans::Spans;
 use std::alloc::{AllocError, Global};
 use std::io::Read;
-use twkb_engine::{BlobReason, Engine, Stop};
+use twkb_engine::{BlobReason, Engine};
 use twkb_flat::Flat;
 use twkb_io::Input;
 use twkb_tree::Limits;
 
-// Notes which geometries end behind an item: all of them, where the root does, at this offset; else those that the engine has ended.
-fn note_ends(
-    engine: &Engine,
-    flat: &Flat,
-    notes: &mut SpanNotes,
-    start: u64,
-    end: u64,
-    is_whole: bool,
-)
-    requires few { offset_in engine.now ≤ 2 ^ 63 }
-    requires begin { start ≤ 2 ^ 62 }
-    ensures whole { is_whole ≡ true → notes.new ≡ note_ends_to 0 end (length (row_points flat.now)) notes.old }
-    ensures going_on { is_whole ≡ false → notes.new ≡ note_ends_to (open_in engine.now) (start + offset_in engine.now) (points_in engine.now) notes.old }
-{
-    if is_whole {
-        notes.end_to(0, end, u64::from(flat.point_count()));
-    } else {
-        let left = engine.open_geometries();
-        notes.end_to(left, start + engine.offset(), engine.points());
-    }
-}
-
-// Gives the item that comes next of these bytes to an engine, or a byte of it where it does not stand whole in front, and notes what
-// it tells; answers how many bytes were taken, and whether a geometry ends behind them. The blob begins at `start`.
-fn feed_item(
-    engine: &mut Engine,
-    flat: &mut Flat,
-    notes: &mut SpanNotes,
-    start: u64,
-    held: &[u8],
-) -> Result<(usize, bool), Stop>
-    requires some { 0 < length held.now }
-    requires few { count_of engine.old ≤ 2 ^ 62 }
-    requires room { length held.now ≤ 2 ^ 62 }
-    requires begin { start ≤ 2 ^ 62 }
-    ensures limits { allowance_of engine.new ≡ allowance_of engine.old }
-    ensures count { count_of engine.new ≤ count_of engine.old + length held.now }
-    ensures within { IfOk result (λ taken. (0 < taken.0) × (taken.0 ≤ length held.now)) }
-    ensures fed { TakesNoted start held.now result flat.old flat.new engine.old engine.new notes.old notes.new }
-{
-    twkb_tree::laws::nodes_are_rows();
-    twkb_outline::laws::reading();
-    twkb_outline::laws::role();
-    twkb_outline::laws::noting();
-    // learnt: how few geometries may be begun
-    let _learnt = engine.limits().nest();
-    let awaited = engine.awaited();
-    let offset = start + engine.offset();
-    let points = engine.points();
-    let before = offset + engine.held() as u64;
-    let (used, is_whole) = match engine.take_item(flat, held) {
-        Ok(taken) => taken,
-        Err(stop) => return Err(stop),
-    };
-    // learnt: what it holds begins a number
-    let _learnt = engine.held();
-    if let Err(_) = notes.note(awaited, offset, points, held[0]) {
-        return Err(Stop::Memory);
-    }
-    let end = before + used as u64;
-    note_ends(engine, flat, notes, start, end, is_whole);
-    Ok((used, is_whole))
-}
-
-// Gives points that stand whole in front of the held bytes to an engine, as many as there are: they note nothing. Else gives it the next
-// item, and notes what it tells.
-fn take_noted(
-    engine: &mut Engine,
-    flat: &mut Flat,
-    notes: &mut SpanNotes,
-    start: u64,
-    held: &[u8],
-) -> Result<(usize, bool), Stop>
-    requires some { 0 < length held.now }
-    requires few { count_of engine.old ≤ 2 ^ 62 }
-    requires room { length held.now ≤ 2 ^ 62 }
-    requires begin { start ≤ 2 ^ 62 }
-    ensures limits { allowance_of engine.new ≡ allowance_of engine.old }
-    ensures count { count_of engine.new ≤ count_of engine.old + length held.now }
-    ensures within { IfOk result (λ taken. (0 < taken.0) × (taken.0 ≤ length held.now)) }
-    ensures fed { TakesNoted start held.now result flat.old flat.new engine.old engine.new notes.old notes.new }
-{
-    let points = match engine.take_points(flat, held) {
-        Ok(points) => points,
-        Err(_) => return Err(Stop::Memory),
-    };
-    if points > 0 {
-        return Ok((points, false));
-    }
-    feed_item(engine, flat, notes, start, held)
-}
-
-// Gives the next of the held bytes of an input to an engine, and notes what they tell.
-fn read_item<R: Read>(
+// Gives the held bytes of an input to an engine, up to the end of a blob, and notes what they tell.
+fn read_piece<R: Read>(
     input: &mut Input<'_, R>,
     engine: &mut Engine,
     flat: &mut Flat,
@@ -138,7 +46,7 @@ fn read_item<R: Read>(
     if count == 0 {
         return Ok(Fed::End);
     }
-    let (used, is_whole) = match take_noted(engine, flat, notes, start, held) {
+    let (used, is_whole) = match feed_noted(engine, flat, notes, start, held) {
         Ok(taken) => taken,
         Err(stop) => return Err(Halt::Engine(stop)),
     };
@@ -170,7 +78,7 @@ fn read_noted<R: Read>(
     loop {
         // learnt: the input has given at most 2 ^ 62 bytes
         let _learnt = input.offset();
-        match read_item(input, engine, flat, notes, start) {
+        match read_piece(input, engine, flat, notes, start) {
             Ok(Fed::More) => {}
             Ok(Fed::Made) => return Ok(true),
             Ok(Fed::End) => {

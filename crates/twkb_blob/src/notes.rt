@@ -126,6 +126,7 @@ impl SpanNotes {
     }
 
     /// A byte that is awaited so, at this offset and behind so many points. Only a type byte takes memory.
+    #[inline(always)]
     pub fn note(
         &mut self,
         awaited: Awaited,

@@ -139,8 +139,8 @@ impl<'a, R: Read> Reader<'a, R> {
         found
     }
 
-    /// The next geometry, as `next` gives it, with the spans of its headers, whose offsets count from where the input began. It takes all
-    /// bytes but those of points one by one, and memory for a span a header besides.
+    /// The next geometry, as `next` gives it, with the spans of its headers, whose offsets count from where the input began. It takes memory
+    /// for a span a header besides.
     pub fn next_located(&mut self, alloc: Global) -> Result<Option<Located>, BlobFault>
         ensures same_tap { (input_tap (reader_input self.new)).ghost_name ≡ (input_tap (reader_input self.old)).ghost_name }
         ensures limits { reader_limits self.new ≡ reader_limits self.old }

@@ -1,7 +1,6 @@
 -- An engine takes the bytes of a piece, and comes to the end of the bytes.
-use Rattle.std.proofs.Common.{◌≡◌, ◌⊎◌, inl, inr, ℕ, ◌+◌, ◌-◌, ◌<◌, ◌≤◌, List, [], ◌∷◌, ◌++◌, length, take, drop, get_or, sym, ap, ◌∙◌, subst, true, false, Bool, Result, Ok, Err, OnErr, arith}
+use Rattle.std.proofs.Common.{◌≡◌, ◌⊎◌, inl, inr, ℕ, ◌+◌, ◌-◌, ◌<◌, ◌≤◌, List, [], ◌∷◌, ◌++◌, length, take, drop, get_or, sym, ap, subst, true, false, Bool, Result, Ok, Err, OnErr, arith}
 use Rattle.std.proofs.Math.Seq.{take-suc}
-use Rattle.std.proofs.lemmas.List.{append-nil}
 use Rattle.twkb_tree.specs.Limits.{Allowance}
 use Rattle.twkb_tree.specs.Rows.{Row}
 use Rattle.twkb_grammar.specs.Blob.{Blob}
@@ -20,11 +19,14 @@ use Rattle.twkb_engine.specs.declared.stop.Stop.TheVariants.{Memory, Refused}
 pub part_taken : (limits : Allowance) (bs rest : List ℕ) (rs : List Row) (d : Engine) → PartIn limits bs rest → IsTakenFrom limits bs rest (Err Memory) rs d
 part_taken limits bs rest rs d p = (p.used, p.some, p.within, p.part)
 
--- no bytes were taken, and then some
-pub taken_first : (limits own : Allowance) (bs rest : List ℕ) (used : ℕ) (r : Result (ℕ × Bool) Stop) (rs : List Row) (d : Engine) → own ≡ limits → used ≡ 0 → IsTakenFrom own (bs ++ take used rest) rest r rs d → IsTakenFrom limits bs rest r rs d
-taken_first limits own bs rest used r rs d same none h =
-    let a : bs ++ take used rest ≡ bs = ap (λ n. bs ++ take n rest) none ∙ append-nil bs in
-    subst (λ l. IsTakenFrom l bs rest r rs d) same (subst (λ l. IsTakenFrom own l rest r rs d) a h)
+-- some bytes were taken, and then others
+pub taken_further : (limits own : Allowance) (bs rest : List ℕ) (used count : ℕ) (ended : Bool) (rs : List Row) (d : Engine) → own ≡ limits → IsTakenFrom own (bs ++ take used rest) (take (length rest - used) (drop used rest)) (Ok (count, ended)) rs d → IsTakenFrom limits bs rest (Ok (used + count, ended)) rs d
+taken_further limits own bs rest used count ended rs d same h = subst (λ l. IsStep l (bs ++ take (used + count) rest) (Ok ended) rs d) same (subst (λ l. IsStep own l (Ok ended) rs d) (one_front bs rest used count) h)
+
+-- or one was not
+pub stopped_further : (limits own : Allowance) (bs rest : List ℕ) (used : ℕ) (stop : Stop) (rs : List Row) (d : Engine) → own ≡ limits → used ≤ length rest → IsTakenFrom own (bs ++ take used rest) (take (length rest - used) (drop used rest)) (Err stop) rs d → IsTakenFrom limits bs rest (Err stop) rs d
+stopped_further limits own bs rest used stop rs d same within (count, some, few, h) =
+    (used + count, omega (arith, some), one_within rest used count within few, subst (λ l. IsStep l (bs ++ take (used + count) rest) (Err stop) rs d) same (subst (λ l. IsStep own l (Err stop) rs d) (one_front bs rest used count) h))
 
 -- the first byte was taken
 pub stepped_first : (limits : Allowance) (bs rest : List ℕ) (r : Result Bool Stop) (rs : List Row) (d : Engine) → 0 < length rest → IsStep limits (bs ++ get_or rest 0 0 ∷ []) r rs d → IsStep limits (bs ++ take 1 rest) r rs d

@@ -2,13 +2,12 @@
 use Rattle.std.proofs.Common.{Result, Ok, Err, ◌≡◌, ℕ, zero, suc, ◌+◌, ◌-◌, ◌<◌, List, [], ◌∷◌, ◌++◌, length, take, drop, false, refl, sym, ap, ◌∙◌, subst, arith}
 use Rattle.std.specs.Prelude.{Option, ℤ, IsErrAnd}
 use Rattle.twkb_points.specs.Point.{Point}
-use Rattle.twkb_tree.specs.Tree.{Ids}
 use Rattle.twkb_tree.specs.declared.kind.Kind.{Kind}
 use Rattle.twkb_tree.specs.Rows.{Row, plain_row, first_id, other_ids}
 use Rattle.twkb_tree.specs.RowGrowth.{point_added}
 use Rattle.twkb_grammar.specs.Machine.{Head, Form, PointForm, LineForm, PolygonForm, MultiPointForm, MultiLineForm, MultiPolygonForm}
-use Rattle.twkb_outline.specs.Outline.{Group, Step, OnBody, Wanted, shut, next_ids}
-use Rattle.twkb_outline.specs.Growing.{applied, NewPoint, point_change, id_in}
+use Rattle.twkb_outline.specs.Outline.{Group, Spot, Step, OnBody, Wanted, WantedY, shut, next_ids}
+use Rattle.twkb_outline.specs.Growing.{applied, NewPoint, point_change, spot_change, id_in}
 use Rattle.twkb_outline.specs.Reading.{Pair, sums_past, point_after}
 use Rattle.twkb_outline.specs.Noting.{NotedOutline}
 use Rattle.twkb_outline.proofs.NotedPairs.{noted_point}
@@ -17,9 +16,8 @@ use Rattle.twkb_front.proofs.Pieces.{used_join, one_within}
 use Rattle.twkb_front.specs.Front.{PointInFront}
 use Rattle.twkb_engine.specs.Body.{form_of, spot_of, lefts_of}
 use Rattle.twkb_engine.specs.Names.{ids_of}
-use Rattle.twkb_engine.specs.Stops.{IsPastEnds}
 use Rattle.twkb_engine.specs.Steps.{body_at}
-use Rattle.twkb_engine.specs.Running.{RunsTo, HasLists, PhaseRuns, StopsWith, Leads, TakesPoints, left_in, at_spot, outer}
+use Rattle.twkb_engine.specs.Running.{HasLists, PhaseRuns, StopsWith, Leads, TakesPoints, left_in, at_spot, outer}
 use Rattle.twkb_engine.specs.State.{head_of, step_of, IsHeadAt}
 use Rattle.twkb_engine.specs.declared.place.Head as place
 use Rattle.twkb_engine.specs.declared.phase.Phase.{Phase}
@@ -38,29 +36,34 @@ use Rattle.twkb_engine.proofs.Feeding.{part_further}
 
 -- nothing comes next that did not
 pub phase_none : (p : Phase) (rs : List Row) (from : Point) → PhaseRuns p rs from [] p rs from
-phase_none p rs from = λ limits front e gs told i. record { outlined = noted_still limits front e (gs, step_of p) rs told from i.position i.outlined; placed = i.placed; position = refl }
+phase_none p rs from = λ limits e at front gs told i. record { outlined = noted_still limits front e (gs, step_of p) rs told from at i.outlined; placed = i.placed }
 
 -- none were taken
 pub takes_none : (h : place.Head) (b : Body) (rs : List Row) (from : Point) (bytes : List ℕ) (t : Taken) → t ≡ record { used = 0; position = from } → Leads h b rs from bytes t b rs
 takes_none h b rs from bytes t e = subst (λ u. Leads h b rs from bytes u b rs) (sym e) (record { within = omega arith; run = phase_none (phase.Body h b) rs from })
 
--- some, and then others
+-- some bytes, and then others
+pub phase_more : (p q r : Phase) (rs mid more : List Row) (from at to : Point) (bytes : List ℕ) (used count : ℕ) → PhaseRuns p rs from (take used bytes) q mid at → PhaseRuns q mid at (take count (take (length bytes - used) (drop used bytes))) r more to
+    → PhaseRuns p rs from (take (used + count) bytes) r more to
+phase_more p q r rs mid more from at to bytes used count first second =
+    let xs = take used bytes in
+    let ys = take count (take (length bytes - used) (drop used bytes)) in
+    subst (λ l. PhaseRuns p rs from l r more to) (sym (used_join bytes used count)) (λ limits e there front gs told i.
+    let two = second limits (sums_past e xs at) refl (front ++ xs) gs told (first limits e there front gs told i) in
+    record { outlined = noted_join limits front e (gs, step_of r) more told xs ys at to two.outlined; placed = two.placed })
+
+-- some points, and then others
 pub takes_more : (h : place.Head) (b c d : Body) (rs mid more : List Row) (from : Point) (bytes : List ℕ) (t u : Taken) → Leads h b rs from bytes t c mid → Leads h c mid t.position (take (length bytes - t.used) (drop t.used bytes)) u d more
     → Leads h b rs from bytes (record { used = t.used + u.used; position = u.position }) d more
-takes_more h b c d rs mid more from bytes t u first second =
-    let xs = take t.used bytes in
-    let ys = take u.used (take (length bytes - t.used) (drop t.used bytes)) in
-    record {
-      within = one_within bytes t.used u.used first.within second.within;
-      run = subst (λ l. RunsTo h b rs from l d more u.position) (sym (used_join bytes t.used u.used)) (λ limits front e gs told i.
-          let two = second.run limits (front ++ xs) (sums_past e xs t.position) gs told (first.run limits front e gs told i) in
-          record { outlined = noted_join limits front e (gs, step_of (phase.Body h d)) more told xs ys t.position u.position two.outlined; placed = two.placed; position = refl });
-    }
+takes_more h b c d rs mid more from bytes t u first second = record {
+  within = one_within bytes t.used u.used first.within second.within;
+  run = phase_more (phase.Body h b) (phase.Body h c) (phase.Body h d) rs mid more from t.position u.position bytes t.used u.used first.run second.run;
+}
 
 -- some, and then there is no memory
 pub takes_stop : (h : place.Head) (b c : Body) (rs mid : List Row) (from : Point) (bytes : List ℕ) (t : Taken) → Leads h b rs from bytes t c mid → StopsWith h c mid t.position (take (length bytes - t.used) (drop t.used bytes)) → StopsWith h b rs from bytes
-takes_stop h b c rs mid from bytes t first stops = λ limits front e gs told i.
-    part_further limits front bytes t.used first.within (stops limits (front ++ take t.used bytes) (sums_past e (take t.used bytes) t.position) gs told (first.run limits front e gs told i))
+takes_stop h b c rs mid from bytes t first stops = λ limits e at front gs told i.
+    part_further limits front bytes t.used first.within (stops limits (sums_past e (take t.used bytes) t.position) refl (front ++ take t.used bytes) gs told (first.run limits e at front gs told i))
 
 -- what was answered then
 pub takes_err : {E : Type 0} (Q : E → Type 0) (h : place.Head) (b c : Body) (rs more : List Row) (from : Point) (bytes : List ℕ) (r : Result Taken E) → IsErrAnd r Q → StopsWith h b rs from bytes → TakesPoints h b rs from bytes r c more
@@ -69,9 +72,9 @@ takes_err Q h b c rs more from bytes (Err e) is stops = stops
 
 -- ---- a point
 
--- what a point changes where a body stands
-same_change : (to : Point) (gs : List Group) (h : place.Head) (f : Form) (ids : Ids) → IsHeadAt (length gs) (id_in gs) h → point_change to h.depth h.id h.precision f (first_id ids) ≡ point_after to gs (head_of h) f ids
-same_change to gs h f ids at = ap (λ d. point_change to d h.id h.precision f (first_id ids)) at.depth_is ∙ ap (λ i. point_change to (length gs) i h.precision f (first_id ids)) at.id_is
+-- what a number changes where a body stands
+pub same_change : (to : Point) (gs : List Group) (h : place.Head) (f : Form) (member : Option ℤ) (spot : Spot) → IsHeadAt (length gs) (id_in gs) h → spot_change to h.depth h.id h.precision f member spot ≡ spot_change to (length gs) (id_in gs) h.precision f member spot
+same_change to gs h f member spot at = ap (λ d. spot_change to d h.id h.precision f member spot) at.depth_is ∙ ap (λ i. spot_change to (length gs) i h.precision f member spot) at.id_is
 
 -- a point behind which the body goes on
 pub point_leads : (h : place.Head) (b c : Body) (rs more : List Row) (from to : Point) (bytes lefts : List ℕ) (used : ℕ) (member : Option ℤ) → spot_of b.spot ≡ Wanted 0 lefts → PointInFront from bytes to used
@@ -79,36 +82,24 @@ pub point_leads : (h : place.Head) (b c : Body) (rs more : List Row) (from to : 
     → ((k : Head) → shut k (form_of b.form) (ids_of b.names) 0 lefts ≡ body_at k c false) → Leads h b rs from bytes (record { used = used; position = to }) c more
 point_leads h b c rs more from to bytes lefts used member spot cut same put goes = record {
   within = cut.within;
-  run = λ limits front e gs told i.
+  run = λ limits e at front gs told i.
       let f = form_of b.form in
       let ids = ids_of b.names in
       let xs = take used bytes in
       let Behind : Step → List Row → Type 0 = λ s l. NotedOutline limits (front ++ xs) (sums_past e xs to) (gs, s) l told in
       let here = subst (λ s. NotedOutline limits front e (gs, OnBody (head_of h) f ids s) rs told) spot i.outlined in
-      let next = noted_point limits front e gs (head_of h) f ids lefts rs told xs to here (subst (λ q. Pair q xs to) (sym i.position) cut.pair) in
-      let rows : applied (point_after to gs (head_of h) f ids) rs ≡ more = sym (put ∙ ap (λ m. applied (point_change to h.depth h.id h.precision f m) rs) same ∙ ap (λ k. applied k rs) (same_change to gs h f ids i.placed)) in
-      record { outlined = subst (λ l. Behind (body_at (head_of h) c false) l) rows (subst (λ s. Behind s (applied (point_after to gs (head_of h) f ids) rs)) (goes (head_of h)) next); placed = i.placed; position = refl };
+      let next = noted_point limits front e gs (head_of h) f ids lefts rs told xs to here (subst (λ q. Pair q xs to) (sym at) cut.pair) in
+      let rows : applied (point_after to gs (head_of h) f ids) rs ≡ more = sym (put ∙ ap (λ m. applied (point_change to h.depth h.id h.precision f m) rs) same ∙ ap (λ k. applied k rs) (same_change to gs h f (first_id ids) (WantedY []) i.placed)) in
+      record { outlined = subst (λ l. Behind (body_at (head_of h) c false) l) rows (subst (λ s. Behind s (applied (point_after to gs (head_of h) f ids) rs)) (goes (head_of h)) next); placed = i.placed };
 }
 
--- there is no memory for a point
-pub point_stops : (h : place.Head) (b : Body) (rs : List Row) (from to : Point) (bytes lefts : List ℕ) (used : ℕ) → spot_of b.spot ≡ Wanted 0 lefts → PointInFront from bytes to used
-    → ((k : Head) (f : Form) (ids : Ids) → IsPastEnds (shut k f ids 0 lefts)) → StopsWith h b rs from bytes
-point_stops h b rs from to bytes lefts used spot cut goes = λ limits front e gs told i.
-    let f = form_of b.form in
-    let ids = ids_of b.names in
-    let here = subst (λ s. NotedOutline limits front e (gs, OnBody (head_of h) f ids s) rs told) spot i.outlined in
-    let next = noted_point limits front e gs (head_of h) f ids lefts rs told (take used bytes) to here (subst (λ q. Pair q (take used bytes) to) (sym i.position) cut.pair) in
-    record {
-      used = used;
-      some = cut.some;
-      within = cut.within;
-      part = outlined_judged limits (front ++ take used bytes) (sums_past e (take used bytes) to) (gs, shut (head_of h) f ids 0 lefts) (applied (point_after to gs (head_of h) f ids) rs) next.outlined (goes (head_of h) f ids);
-    }
-
--- nor for one with others behind it
+-- there is no memory for one with others behind it
 pub one_stops : (h : place.Head) (b : Body) (rs : List Row) (from to : Point) (bytes lefts : List ℕ) (left used : ℕ) → spot_of b.spot ≡ Wanted 0 (left ∷ lefts) → 0 < left → PointInFront from bytes to used → StopsWith h b rs from bytes
 one_stops h b rs from to bytes lefts zero used spot some cut = absurd (omega (arith, some))
-one_stops h b rs from to bytes lefts (suc left) used spot some cut = point_stops h b rs from to bytes (suc left ∷ lefts) used spot cut (λ k f ids. tt)
+one_stops h b rs from to bytes lefts (suc left) used spot some cut = λ limits e at front gs told i.
+    let here = subst (λ s. NotedOutline limits front e (gs, OnBody (head_of h) (form_of b.form) (ids_of b.names) s) rs told) spot i.outlined in
+    let next = noted_point limits front e gs (head_of h) (form_of b.form) (ids_of b.names) (suc left ∷ lefts) rs told (take used bytes) to here (subst (λ q. Pair q (take used bytes) to) (sym at) cut.pair) in
+    record { used = used; some = cut.some; within = cut.within; part = outlined_judged limits (front ++ take used bytes) _ _ _ next.outlined tt }
 
 -- a member of a multipoint, with others behind it
 pub member_leads : (h : place.Head) (b : Body) (next : Names) (rs more : List Row) (left used : ℕ) (from to : Point) (bytes : List ℕ) (member : Option ℤ) → b.form ≡ MultiPoint → 0 < left → PointInFront from bytes to used → member ≡ first_id (ids_of b.names)

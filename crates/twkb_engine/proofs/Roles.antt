@@ -18,7 +18,7 @@ use Rattle.twkb_engine.specs.declared.lefts.Spot.{Spot}
 use Rattle.twkb_engine.specs.declared.lefts.Spot.TheVariants as spot
 
 -- a body's next item is a number
-spot_item : (s : Spot) → (r : Role) × (spot_role (spot_of s) ≡ Some r) × IsNumber r
+abbrev pub spot_item : (s : Spot) → (r : Role) × (spot_role (spot_of s) ≡ Some r) × IsNumber r
 spot_item (spot.X lefts) = (X, refl, tt)
 spot_item (spot.Y lefts) = (Y, refl, tt)
 spot_item (spot.LineCount lefts) = (Count (listed 0), refl, tt)

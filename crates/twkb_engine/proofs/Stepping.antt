@@ -1,26 +1,30 @@
 -- An engine takes a byte.
-use Rattle.std.proofs.Common.{◌≡◌, inl, inr, ℕ, ◌+◌, ◌<◌, ◌≤◌, List, [], ◌∷◌, ◌++◌, length, refl, sym, ap, ◌∙◌, subst, append_assoc, length-append, take, IfOk, OnErr, true, false, Bool, Result, Option, Some, None, Ok, Err, arith}
+use Rattle.std.proofs.Common.{◌≡◌, inl, inr, ℕ, ◌+◌, ◌-◌, ◌<◌, ◌≤◌, List, [], ◌∷◌, ◌++◌, length, refl, sym, ap, ◌∙◌, subst, append_assoc, length-append, take, drop, IfOk, OnErr, true, false, Bool, Result, Option, Some, None, Ok, Err, arith}
 use Rattle.std.specs.Prelude.{IfSome}
 use Rattle.std.proofs.lemmas.List.{append-nil, length-take}
 use Rattle.twkb_num.specs.Varint.{IsVarint, IsOpenVarint}
 use Rattle.twkb_tree.specs.Limits.{Allowance}
 use Rattle.twkb_tree.specs.Rows.{Row}
 use Rattle.twkb_grammar.specs.Fault.{FirstFault, BadVarint}
-use Rattle.twkb_grammar.specs.Roles.{Item}
 use Rattle.twkb_grammar.specs.Reading.{Gives}
-use Rattle.twkb_outline.proofs.Outlined.{outlined_long}
+use Rattle.twkb_grammar.proofs.BodiesBack.{some_role}
+use Rattle.twkb_grammar.proofs.ExactEnds.{NoEnd}
+use Rattle.twkb_outline.proofs.Outlined.{outlined_long, outlined_part}
+use Rattle.twkb_outline.proofs.ExactOutlines.{outlined_exact}
 use Rattle.twkb_front.specs.Front.{NumberInFront}
 use Rattle.twkb_front.proofs.OpenNumbers.{number_begun}
+use Rattle.twkb_front.proofs.Pieces.{one_front}
 use Rattle.twkb_engine.specs.State.{groups_of, IsSpelled, IsByte}
-use Rattle.twkb_engine.specs.Parts.{PartIn}
+use Rattle.twkb_engine.specs.Parts.{IsJudged, PartIn}
 use Rattle.twkb_engine.specs.Building.{sums_of, outline_in, StandsBehind, IsTaken, Takes}
-use Rattle.twkb_engine.specs.Ahead.{RunsBehind, StopsBehind, IsLedBy}
-use Rattle.twkb_engine.specs.Standing.{StandsAt, LeadsOn, StopsIn, IsStep, ItemInFront, IsOneItem, allowance_of, held_in, offset_in}
+use Rattle.twkb_grammar.specs.Noting.{Notes}
+use Rattle.twkb_engine.specs.Ahead.{RunsNoting, RunsBy, StopsBehind, IsLedBy}
+use Rattle.twkb_engine.specs.Standing.{StandsAt, LeadsOn, LeadsNoting, StopsIn, IsStep, ItemInFront, IsOneItem, allowance_of, held_in, offset_in}
 use Rattle.twkb_engine.specs.declared.builder.Builder.{Builder}
 use Rattle.twkb_engine.specs.declared.engine.Engine.{Engine}
 use Rattle.twkb_engine.specs.declared.stop.Stop.{Stop}
 use Rattle.twkb_engine.specs.declared.stop.Stop.TheVariants.{Memory, Refused}
-use Rattle.twkb_engine.proofs.Roles.{has_role, is_number, byte_written, byte_alone, number_written}
+use Rattle.twkb_engine.proofs.Roles.{has_role, is_number, no_end, byte_written, byte_alone, number_written}
 
 -- a builder behind whole items, and an engine that holds nothing
 pub behind_items : (bytes : List ℕ) (rs : List Row) (d : Engine) → held_in d ≡ [] → StandsBehind bytes rs d.builder → StandsAt bytes rs d
@@ -34,18 +38,34 @@ before_item bytes rs d s = record { outlined = s.outlined; placed = s.placed }
 all_whole : (bytes : List ℕ) (rs : List Row) (d : Engine) → held_in d ≡ [] → (s : StandsAt bytes rs d) → bytes ≡ s.front
 all_whole bytes rs d none s = s.whole ∙ (ap (λ l. s.front ++ l) none ∙ append-nil s.front)
 
+-- and they were judged: no geometry's end comes next
+pub standing_judged : (bytes : List ℕ) (rs : List Row) (d : Engine) → held_in d ≡ [] → StandsAt bytes rs d → IsJudged (allowance_of d) bytes
+standing_judged bytes rs d none s =
+    let b = d.builder in
+    let level = length (groups_of b.groups.items) in
+    let r = has_role level b.bytes b.phase b.waits in
+    subst (IsJudged b.limits) (sym (all_whole bytes rs d none s)) (record {
+      part = outlined_part b.limits s.front (sums_of b) (outline_in b) rs s.outlined;
+      exact = λ more.
+          outlined_exact b.limits s.front more (sums_of b) (outline_in b) rs s.outlined (λ role says. subst NoEnd (sym (some_role r.0 role (sym r.1 ∙ says))) (no_end level b.bytes b.phase b.waits));
+    })
+
 -- no bytes lead an engine nowhere
 pub stays_put : (rs : List Row) (d : Engine) → LeadsOn rs d [] rs d
 stays_put rs d = λ front s. (record { front = s.front; whole = append-nil front ∙ s.whole; outlined = s.outlined; placed = s.placed; spelled = s.spelled }, λ start. refl)
 
--- points that stood whole in front lead an engine on that holds no byte
-pub runs_ahead : {E : Type 0} (rest : List ℕ) (d : Engine) (c : Builder) (rs more : List Row) (r : Result ℕ E) → held_in d ≡ [] → IfOk r (λ used. RunsBehind d.builder rs (take used rest) c more)
+-- what leads a builder on leads an engine on that holds no byte
+pub builder_leads : (told : ℕ → Notes → Notes) (d : Engine) (c : Builder) (bytes : List ℕ) (rs more : List Row) → held_in d ≡ [] → RunsNoting told d.builder rs bytes c more → LeadsNoting told rs d bytes more (record { builder = c; partial = d.partial })
+builder_leads told d c bytes rs more none run = λ bs s.
+    let (t, says) = run s.front (record { outlined = s.outlined; placed = s.placed }) in
+    let items : List ℕ = s.front ++ bytes in
+    let whole : bs ++ bytes ≡ items ++ held_in d = ap (λ l. l ++ bytes) (all_whole bs rs d none s) ∙ sym (ap (λ l. items ++ l) none ∙ append-nil items) in
+    (record { front = items; whole = whole; outlined = t.outlined; placed = t.placed; spelled = inr none }, says)
+
+-- points that stood whole in front
+pub runs_ahead : {E : Type 0} (rest : List ℕ) (d : Engine) (c : Builder) (rs more : List Row) (r : Result ℕ E) → held_in d ≡ [] → IfOk r (λ used. RunsBy d.builder rs rest used c more)
     → IfOk r (λ used. LeadsOn rs d (take used rest) more (record { builder = c; partial = d.partial }))
-runs_ahead rest d c rs more (Ok used) none run = λ bs s.
-    let (t, same) = run s.front (record { outlined = s.outlined; placed = s.placed }) in
-    let items : List ℕ = s.front ++ take used rest in
-    let whole : bs ++ take used rest ≡ items ++ held_in d = ap (λ l. l ++ take used rest) (all_whole bs rs d none s) ∙ sym (ap (λ l. items ++ l) none ∙ append-nil items) in
-    (record { front = items; whole = whole; outlined = t.outlined; placed = t.placed; spelled = inr none }, same)
+runs_ahead rest d c rs more (Ok used) none run = builder_leads (λ start w. w) d c (take used rest) rs more none run.run
 runs_ahead rest d c rs more (Err e) none run = tt
 
 -- there was no memory for one of them
@@ -66,14 +86,18 @@ led_ahead bs rest count rs d c none led s =
     let e : Engine = record { builder = c; partial = d.partial } in
     subst (λ l. StandsAt (l ++ take count rest) rs e) (sym (all_whole bs rs d none s)) (behind_items (s.front ++ take count rest) rs e none (led.led s.front rs (before_item bs rs d s)))
 
+-- and then numbers of a body
+pub led_and_run : (bs rest : List ℕ) (led used : ℕ) (rs more : List Row) (d e : Engine) (c : Builder) → held_in d ≡ [] → IsLedBy d.builder rest led c
+    → LeadsOn rs (record { builder = c; partial = d.partial }) (take used (take (length rest - led) (drop led rest))) more e → StandsAt bs rs d → StandsAt (bs ++ take (led + used) rest) more e
+led_and_run bs rest led used rs more d e c none by run s = subst (λ l. StandsAt l more e) (one_front bs rest led used) (run (bs ++ take led rest) (led_ahead bs rest led rs d c none by s)).0
+
 -- an item behind whole items
 item_led : (bs all bytes : List ℕ) (n len : ℕ) (rs more : List Row) (d e : Engine) (r : Result Bool Stop) (s : StandsAt bs rs d) → s.front ++ bytes ≡ all → length bytes ≡ len → held_in e ≡ [] → Takes d.builder n len rs r more e.builder
     → (let b = d.builder in Gives (has_role (length (groups_of b.groups.items)) b.bytes b.phase b.waits).0 n bytes) → IsStep (allowance_of d) all r more e
 item_led bs all bytes n len rs more d e r s at size none takes gives =
     let b = d.builder in
     let role = has_role (length (groups_of b.groups.items)) b.bytes b.phase b.waits in
-    let i : Item = record { role = role.0; number = n; bytes = bytes } in
-    subst (λ l. IsStep (allowance_of d) l r more e) at (stepped (allowance_of d) (s.front ++ bytes) r more e none (takes s.front i (before_item bs rs d s) role.1 gives refl size))
+    subst (λ l. IsStep (allowance_of d) l r more e) at (stepped (allowance_of d) (s.front ++ bytes) r more e none (takes s.front bytes role.0 (before_item bs rs d s) role.1 gives size))
 
 -- an item that stands whole in front
 pub item_stepped : (bs rest : List ℕ) (n count : ℕ) (rs more : List Row) (d : Engine) (c : Builder) (r : Result Bool Stop) → ItemInFront d rest n count → Takes d.builder n count rs r more c → StandsAt bs rs d

@@ -1,27 +1,40 @@
 -- A builder takes an item.
-use Rattle.std.proofs.Common.{◌≡◌, ℕ, ◌+◌, ◌≤◌, List, [], ◌++◌, length, refl, sym, ◌∙◌, subst, append_assoc, true, false, Bool, Result, Some, None, Ok, Err, OnOk}
+use Rattle.std.proofs.Common.{◌≡◌, ℕ, ◌+◌, ◌≤◌, List, [], ◌++◌, length, refl, sym, ap, ◌∙◌, subst, append_assoc, true, false, Bool, Result, Some, None, Ok, Err, OnOk}
 use Rattle.twkb_points.specs.Point.{Point}
+use Rattle.twkb_tree.specs.Tree.{Ids}
 use Rattle.twkb_tree.specs.Limits.{Allowance}
 use Rattle.twkb_tree.specs.Rows.{Row}
 use Rattle.twkb_grammar.specs.Fault as fault
 use Rattle.twkb_grammar.specs.Fault.{FirstFault, nodes_by, points_by, moved}
+use Rattle.twkb_grammar.specs.Noting.{Notes, noted_by}
 use Rattle.twkb_grammar.specs.Roles.{Item, Role}
+use Rattle.twkb_grammar.specs.Roles as role
 use Rattle.twkb_grammar.specs.PlainReader.{objection}
-use Rattle.twkb_grammar.specs.Machine.{Sums, added}
+use Rattle.twkb_grammar.specs.Machine.{Form, Head, Sums, added, listed}
 use Rattle.twkb_grammar.specs.Reading.{Gives}
-use Rattle.twkb_outline.specs.Outline.{Outline, OnFinished, step_role, outline_role, outline_advanced, outline_ends}
+use Rattle.twkb_outline.specs.Outline.{Group, Outline, Step, OnBody, OnFinished, spot_after, step_role, outline_role, outline_advanced, outline_ends}
 use Rattle.twkb_outline.specs.Growing.{applied, change_of, Nothing}
-use Rattle.twkb_outline.specs.Reading.{Outlined, OutlineLanded, outline_after, change_after}
-use Rattle.twkb_outline.proofs.Outlined.{outlined_item, outlined_refused, outlined_ends, outlined_whole}
-use Rattle.twkb_engine.specs.State.{groups_of, step_of, IsPlacedIn}
-use Rattle.twkb_engine.specs.Stops.{reason_of}
-use Rattle.twkb_engine.specs.Building.{sums_of, outline_in, refusal, objection_at, StandsBehind, IsAt, IsTaken}
+use Rattle.twkb_outline.specs.Reading.{Outlined, OutlineLanded, StepFits, outline_after, change_after}
+use Rattle.twkb_outline.specs.Noting.{NotedOutline, notes_in}
+use Rattle.twkb_outline.proofs.Outlined.{noted_item, outlined_item, outlined_fits, outlined_refused, outlined_ends, outlined_whole}
+use Rattle.twkb_engine.specs.Ahead.{RunsBehind}
+use Rattle.twkb_engine.specs.Body.{form_of, spot_of}
+use Rattle.twkb_engine.specs.Names.{ids_of}
+use Rattle.twkb_engine.specs.Parts.{IsJudged}
+use Rattle.twkb_engine.specs.State.{head_of, groups_of, step_of, IsPlacedIn}
+use Rattle.twkb_engine.specs.Stops.{reason_of, IsPastEnds}
+use Rattle.twkb_engine.specs.Building.{sums_of, outline_in, refusal, objection_at, StandsBehind, IsAt, IsTaken, Says}
+use Rattle.twkb_engine.specs.declared.place.Head as place
+use Rattle.twkb_engine.specs.declared.phase.Phase.TheVariants as phase
+use Rattle.twkb_engine.specs.declared.lefts.Spot as spot
+use Rattle.twkb_engine.specs.declared.lefts.Spot.TheVariants as spots
+use Rattle.twkb_engine.specs.declared.body.Body.{Body}
 use Rattle.twkb_engine.specs.declared.builder.Builder.{Builder}
 use Rattle.twkb_engine.specs.declared.blob_reason.BlobReason.{BlobReason}
 use Rattle.twkb_engine.specs.declared.stop.Stop.{Stop}
 use Rattle.twkb_engine.specs.declared.stop.Stop.TheVariants.{Memory, Refused}
-use Rattle.twkb_engine.proofs.Judging.{landed_judged}
-use Rattle.twkb_engine.proofs.Roles.{has_role}
+use Rattle.twkb_engine.proofs.Judging.{landed_judged, outlined_judged}
+use Rattle.twkb_engine.proofs.Roles.{has_role, spot_item}
 use Rattle.twkb_grammar.proofs.Objections.{kept}
 
 -- what the next item announces stays within the limits, where it is not refused
@@ -54,44 +67,96 @@ landed limits bytes e rs more way (Err Memory) b same l at grown placed = landed
 landed limits bytes e rs more way (Err (Refused x)) b same l at grown placed = λ rest.
     subst (λ n. FirstFault limits (bytes ++ rest) n (reason_of x)) (sym at.1) ((subst (λ w. OutlineLanded limits bytes e rs w) at.0 l) rest)
 
+-- an item that comes next and may stand there leads to the sums behind it
+item_reached : (limits : Allowance) (front bytes : List ℕ) (e mid : Sums) (o : Outline) (rs : List Row) (role : Role) (n : ℕ) → Outlined limits front e o rs → outline_role e o ≡ Some role → Gives role n bytes → objection_at limits e n (outline_role e o) ≡ None
+    → mid ≡ added e (record { role = role; number = n; bytes = bytes }) → Outlined limits (front ++ bytes) mid (outline_advanced mid.bytes n o) (applied (change_of mid.position n o) rs)
+item_reached limits front bytes e mid o rs role n s says gives free same =
+    subst (λ (m : Sums). Outlined limits (front ++ bytes) m (outline_advanced m.bytes n o) (applied (change_of m.position n o) rs)) (sym same)
+    (outlined_item limits front e o rs (record { role = role; number = n; bytes = bytes }) s says gives (subst (λ a. objection_at limits e n a ≡ None) says free))
+
 -- where there was no objection to an item
-pub item_taken : (front : List ℕ) (rs more : List Row) (b new : Builder) (mid : Sums) (i : Item) (n : ℕ) (r : Result Bool Stop) → StandsBehind front rs b
-    → outline_role (sums_of b) (outline_in b) ≡ Some i.role → Gives i.role i.number i.bytes → i.number ≡ n → refusal b.limits (sums_of b) (outline_in b) n ≡ None → mid ≡ added (sums_of b) i
+pub item_taken : (front bytes : List ℕ) (rs more : List Row) (b new : Builder) (mid : Sums) (role : Role) (n : ℕ) (r : Result Bool Stop) → StandsBehind front rs b
+    → outline_role (sums_of b) (outline_in b) ≡ Some role → Gives role n bytes → refusal b.limits (sums_of b) (outline_in b) n ≡ None → mid ≡ added (sums_of b) (record { role = role; number = n; bytes = bytes })
     → new.limits ≡ b.limits → IsAt (outline_ends mid.bytes (outline_advanced mid.bytes n (outline_in b))) mid r new
-    → OnOk r (more ≡ applied (change_of mid.position n (outline_in b)) rs) → OnOk r (IsPlacedIn new.groups.items new.phase) → IsTaken b.limits (front ++ i.bytes) r more new
-item_taken front rs more b new mid i n r s says gives en free es limits at grown placed =
-    let e = sums_of b in
+    → OnOk r (more ≡ applied (change_of mid.position n (outline_in b)) rs) → OnOk r (IsPlacedIn new.groups.items new.phase) → IsTaken b.limits (front ++ bytes) r more new
+item_taken front bytes rs more b new mid role n r s says gives free same limits at grown placed =
     let o = outline_in b in
-    let none : objection b.limits e i.role i.number ≡ None = subst (λ k. objection b.limits e i.role k ≡ None) (sym en) (subst (λ a. objection_at b.limits e n a ≡ None) says free) in
-    let next = outlined_item b.limits front e o rs i s.outlined says gives none in
-    let ends = outlined_ends b.limits (front ++ i.bytes) (added e i) (outline_after e i o) (applied (change_after e i o) rs) next in
-    let Way : Sums → ℕ → Type 0 = λ m k. IsAt (outline_ends m.bytes (outline_advanced m.bytes k o)) m r new in
-    let there : Way (added e i) i.number = subst (λ k. Way (added e i) k) (sym en) (subst (λ m. Way m n) es at) in
-    let Grown : Sums → ℕ → Type 0 = λ m k. OnOk r (more ≡ applied (change_of m.position k o) rs) in
-    let put : Grown (added e i) i.number = subst (λ k. Grown (added e i) k) (sym en) (subst (λ m. Grown m n) es grown) in
-    landed b.limits (front ++ i.bytes) (added e i) (applied (change_after e i o) rs) more (outline_ends (added e i).bytes (outline_after e i o)) r new limits ends there put placed
+    let next = item_reached b.limits front bytes (sums_of b) mid o rs role n s.outlined says gives free same in
+    let behind : List Row = applied (change_of mid.position n o) rs in
+    landed b.limits (front ++ bytes) mid behind more (outline_ends mid.bytes (outline_advanced mid.bytes n o)) r new limits (outlined_ends b.limits (front ++ bytes) mid (outline_advanced mid.bytes n o) behind next) at grown placed
+
+-- where it leads on, with its notes
+led_on : (front bytes : List ℕ) (rs more : List Row) (b c : Builder) (role : Role) (n : ℕ) (told : ℕ → Notes) → (let i : Item = record { role = role; number = n; bytes = bytes } in NotedOutline b.limits (front ++ bytes) (added (sums_of b) i) (outline_after (sums_of b) i (outline_in b)) (applied (change_after (sums_of b) i (outline_in b)) rs) told)
+    → c.limits ≡ b.limits → sums_of c ≡ added (sums_of b) (record { role = role; number = n; bytes = bytes }) → outline_advanced c.bytes n (outline_in b) ≡ outline_in c → more ≡ applied (change_of c.position n (outline_in b)) rs → IsPlacedIn c.groups.items c.phase
+    → (t : StandsBehind (front ++ bytes) more c) × ((start : ℕ) → notes_in start t.outlined ≡ told start)
+led_on front bytes rs more b c role n told next limits sums step grown placed =
+    let o = outline_in b in
+    let summed = subst (λ (m : Sums). NotedOutline b.limits (front ++ bytes) m (outline_advanced m.bytes n o) (applied (change_of m.position n o) rs) told) (sym sums) next in
+    let there = subst (λ q. NotedOutline b.limits (front ++ bytes) (sums_of c) q (applied (change_of c.position n o) rs) told) step summed in
+    let with_rows = subst (λ l. NotedOutline b.limits (front ++ bytes) (sums_of c) (outline_in c) l told) (sym grown) there in
+    let moved = subst (λ l. NotedOutline l (front ++ bytes) (sums_of c) (outline_in c) more told) (sym limits) with_rows in
+    (record { outlined = moved.outlined; placed = placed }, moved.notes)
 
 -- where there was none, and the item brings no row and ends nothing
-pub item_led : (front : List ℕ) (rs : List Row) (b c : Builder) (i : Item) → StandsBehind front rs b
+pub item_led : (front : List ℕ) (rs : List Row) (b c : Builder) (i : Item) (s : StandsBehind front rs b)
     → outline_role (sums_of b) (outline_in b) ≡ Some i.role → Gives i.role i.number i.bytes → refusal b.limits (sums_of b) (outline_in b) i.number ≡ None
     → c.limits ≡ b.limits → sums_of c ≡ added (sums_of b) i → outline_advanced c.bytes i.number (outline_in b) ≡ outline_in c
-    → change_of c.position i.number (outline_in b) ≡ Nothing → IsPlacedIn c.groups.items c.phase → StandsBehind (front ++ i.bytes) rs c
+    → change_of c.position i.number (outline_in b) ≡ Nothing → IsPlacedIn c.groups.items c.phase
+    → (t : StandsBehind (front ++ i.bytes) rs c) × ((start : ℕ) → notes_in start t.outlined ≡ noted_by start (sums_of b) i.role i.number (notes_in start s.outlined))
 item_led front rs b c i s says gives free limits sums step none placed =
-    let o = outline_in b in
-    let bytes : List ℕ = front ++ i.bytes in
-    let next = outlined_item b.limits front (sums_of b) o rs i s.outlined says gives (subst (λ a. objection_at b.limits (sums_of b) i.number a ≡ None) says free) in
-    let summed = subst (λ (m : Sums). Outlined b.limits bytes m (outline_advanced m.bytes i.number o) (applied (change_of m.position i.number o) rs)) (sym sums) next in
-    let there = subst (λ q. Outlined b.limits bytes (sums_of c) q (applied (change_of c.position i.number o) rs)) step summed in
-    let same = subst (λ change. Outlined b.limits bytes (sums_of c) (outline_in c) (applied change rs)) none there in
-    record { outlined = subst (λ l. Outlined l bytes (sums_of c) (outline_in c) rs) (sym limits) same; placed = placed }
+    let free_here = subst (λ a. objection_at b.limits (sums_of b) i.number a ≡ None) says free in
+    let next = noted_item b.limits front (sums_of b) (outline_in b) rs (λ start. notes_in start s.outlined) i (record { outlined = s.outlined; notes = λ start. refl }) says gives free_here in
+    led_on front i.bytes rs rs b c i.role i.number (λ start. noted_by start (sums_of b) i.role i.number (notes_in start s.outlined)) next limits sums step (sym (ap (λ change. applied change rs) none)) placed
+
+-- ---- a number of a body
+
+-- it leads on, and notes nothing
+module _ (limits : Allowance) (front : List ℕ) (e : Sums) (gs : List Group) (rs : List Row) (told : ℕ → Notes) (bytes : List ℕ) (n : ℕ) where
+  abbrev Quiet : Step → Role → Type 0
+  Quiet s r = NotedOutline limits front e (gs, s) rs told → Gives r n bytes → objection limits e r n ≡ None
+      → (let i : Item = record { role = r; number = n; bytes = bytes } in NotedOutline limits (front ++ bytes) (added e i) (outline_after e i (gs, s)) (applied (change_after e i (gs, s)) rs) told)
+
+  spot_quiet : (h : Head) (f : Form) (ids : Ids) (s : spot.Spot) → Quiet (OnBody h f ids (spot_of s)) (spot_item s).0
+  spot_quiet h f ids (spots.X lefts) = λ noted gives free. noted_item limits front e (gs, OnBody h f ids (spot_of (spots.X lefts))) rs told (record { role = role.X; number = n; bytes = bytes }) noted refl gives free
+  spot_quiet h f ids (spots.Y lefts) = λ noted gives free. noted_item limits front e (gs, OnBody h f ids (spot_of (spots.Y lefts))) rs told (record { role = role.Y; number = n; bytes = bytes }) noted refl gives free
+  spot_quiet h f ids (spots.LineCount lefts) = λ noted gives free. noted_item limits front e (gs, OnBody h f ids (spot_of (spots.LineCount lefts))) rs told (record { role = role.Count (listed 0); number = n; bytes = bytes }) noted refl gives free
+  spot_quiet h f ids (spots.AreaCount lefts) = λ noted gives free. noted_item limits front e (gs, OnBody h f ids (spot_of (spots.AreaCount lefts))) rs told (record { role = role.Count (listed 1); number = n; bytes = bytes }) noted refl gives free
+
+module _ (b : Builder) (h : place.Head) (d : Body) (rs : List Row) (n : ℕ) (bytes : List ℕ) (is : b.phase ≡ phase.Body h d) (free : refusal b.limits (sums_of b) (outline_in b) n ≡ None) (says : Says b bytes n) where
+  abbrev role_here : Role
+  role_here = (spot_item d.spot).0
+
+  wanted : outline_role (sums_of b) (outline_in b) ≡ Some role_here
+  wanted = ap (λ q. step_role (length (groups_of b.groups.items)) b.bytes (step_of q)) is ∙ (spot_item d.spot).1
+
+  reached : (front : List ℕ) (s : StandsBehind front rs b) → (let i : Item = record { role = role_here; number = n; bytes = bytes } in NotedOutline b.limits (front ++ bytes) (added (sums_of b) i) (outline_after (sums_of b) i (outline_in b)) (applied (change_after (sums_of b) i (outline_in b)) rs) (λ start. notes_in start s.outlined))
+  reached front s =
+      let told : ℕ → Notes = λ start. notes_in start s.outlined in
+      subst (λ q. Quiet b.limits front (sums_of b) (groups_of b.groups.items) rs told bytes n (step_of q) role_here) (sym is) (spot_quiet b.limits front (sums_of b) (groups_of b.groups.items) rs told bytes n (head_of h) (form_of d.form) (ids_of d.names) d.spot)
+      (record { outlined = s.outlined; notes = λ start. refl }) (says role_here wanted) (subst (λ a. objection_at b.limits (sums_of b) n a ≡ None) wanted free)
+
+  pub number_led : (c : Builder) (more : List Row) → c.limits ≡ b.limits → ((role : Role) → outline_role (sums_of b) (outline_in b) ≡ Some role → sums_of c ≡ added (sums_of b) (record { role = role; number = n; bytes = bytes }))
+      → (StepFits (step_of b.phase) → outline_advanced c.bytes n (outline_in b) ≡ outline_in c) → (IsPlacedIn b.groups.items b.phase → (more ≡ applied (change_of c.position n (outline_in b)) rs) × IsPlacedIn c.groups.items c.phase) → RunsBehind b rs bytes c more
+  number_led c more limits sums step placed = λ front s.
+      let there = placed s.placed in
+      led_on front bytes rs more b c role_here n (λ start. notes_in start s.outlined) (reached front s) limits (sums role_here wanted) (step (outlined_fits b.limits front (sums_of b) (outline_in b) rs s.outlined)) there.0 there.1
+
+  -- there is no memory for what it brings
+  pub number_judged : (StepFits (step_of (phase.Body h d)) → IsPastEnds (spot_after (head_of h) (form_of d.form) (ids_of d.names) n (spot_of d.spot))) → (front : List ℕ) → StandsBehind front rs b → IsJudged b.limits (front ++ bytes)
+  number_judged past front s =
+      let fits = subst (λ q. StepFits (step_of q)) is (outlined_fits b.limits front (sums_of b) (outline_in b) rs s.outlined) in
+      outlined_judged b.limits (front ++ bytes) _ _ _ (reached front s).outlined (subst (λ q. IsPastEnds (outline_advanced (b.bytes + length bytes) n (groups_of b.groups.items, step_of q)).1) (sym is) (past fits))
 
 -- where there was one
-pub item_refused : (front : List ℕ) (rs more : List Row) (b new : Builder) (i : Item) (n : ℕ) (x : BlobReason) → StandsBehind front rs b
-    → outline_role (sums_of b) (outline_in b) ≡ Some i.role → Gives i.role i.number i.bytes → i.number ≡ n → Some (reason_of x) ≡ refusal b.limits (sums_of b) (outline_in b) n
-    → new.bytes ≡ b.bytes → IsTaken b.limits (front ++ i.bytes) (Err (Refused x)) more new
-item_refused front rs more b new i n x s says gives en objects same = λ rest.
+pub item_refused : (front bytes : List ℕ) (rs more : List Row) (b new : Builder) (role : Role) (n : ℕ) (x : BlobReason) → StandsBehind front rs b
+    → outline_role (sums_of b) (outline_in b) ≡ Some role → Gives role n bytes → Some (reason_of x) ≡ refusal b.limits (sums_of b) (outline_in b) n
+    → new.bytes ≡ b.bytes → IsTaken b.limits (front ++ bytes) (Err (Refused x)) more new
+item_refused front bytes rs more b new role n x s says gives objects same = λ rest.
     let e = sums_of b in
-    let o = outline_in b in
-    let some : objection b.limits e i.role i.number ≡ Some (reason_of x) = subst (λ k. objection b.limits e i.role k ≡ Some (reason_of x)) (sym en) (subst (λ a. objection_at b.limits e n a ≡ Some (reason_of x)) says (sym objects)) in
-    let first = outlined_refused b.limits front e o rs i (reason_of x) s.outlined says gives some rest in
-    subst (λ l. FirstFault b.limits l new.bytes (reason_of x)) (sym (append_assoc front i.bytes rest)) (subst (λ k. FirstFault b.limits (front ++ (i.bytes ++ rest)) k (reason_of x)) (sym same) first)
+    let some = subst (λ a. objection_at b.limits e n a ≡ Some (reason_of x)) says (sym objects) in
+    let first = outlined_refused b.limits front e (outline_in b) rs (record { role = role; number = n; bytes = bytes }) (reason_of x) s.outlined says gives some rest in
+    subst (λ l. FirstFault b.limits l new.bytes (reason_of x)) (sym (append_assoc front bytes rest)) (subst (λ k. FirstFault b.limits (front ++ (bytes ++ rest)) k (reason_of x)) (sym same) first)
+
+-- the bytes of an item say its number in its role, whichever that is
+pub says_in : (b : Builder) (bytes : List ℕ) (role : Role) (n : ℕ) → outline_role (sums_of b) (outline_in b) ≡ Some role → Gives role n bytes → Says b bytes n
+says_in b bytes role n says gives = λ r wanted. let same : Some role ≡ Some r = sym says ∙ wanted in subst (λ q. Gives q n bytes) (cc same) gives

@@ -1,14 +1,34 @@
 -- A builder behind items that stood whole in front, or that has no memory for one of them.
-use Rattle.std.specs.Prelude.{◌≡◌, ◌+◌, ◌≤◌, ℕ, List, ◌++◌, length, take}
+use Rattle.std.specs.Prelude.{◌≡◌, ◌+◌, ◌≤◌, ℕ, List, [], ◌∷◌, ◌++◌, length, take, Bool, true, false, Result, Ok, Err}
 use Rattle.twkb_tree.specs.Rows.{Row}
-use Rattle.twkb_outline.specs.Noting.{notes_in}
-use Rattle.twkb_engine.specs.Parts.{PartIn}
-use Rattle.twkb_engine.specs.Building.{StandsBehind}
+use Rattle.twkb_grammar.specs.Noting.{Notes}
+use Rattle.twkb_outline.specs.Outline.{Step}
+use Rattle.twkb_outline.specs.Noting.{note_step, notes_in}
+use Rattle.twkb_engine.specs.State.{step_of}
+use Rattle.twkb_engine.specs.Parts.{IsJudged, PartIn}
+use Rattle.twkb_engine.specs.Building.{StandsBehind, Says}
 use Rattle.twkb_engine.specs.declared.builder.Builder.{Builder}
 
--- wherever it stands, the bytes lead it on, and note nothing
+-- wherever it stands, the bytes lead it on, and make this of what was noted
+abbrev pub RunsNoting : (ℕ → Notes → Notes) → Builder → List Row → List ℕ → Builder → List Row → Type 0
+RunsNoting told b rs bytes c more = (front : List ℕ) (s : StandsBehind front rs b) → (t : StandsBehind (front ++ bytes) more c) × ((start : ℕ) → notes_in start t.outlined ≡ told start (notes_in start s.outlined))
+
+-- they note nothing
 abbrev pub RunsBehind : Builder → List Row → List ℕ → Builder → List Row → Type 0
-RunsBehind b rs bytes c more = (front : List ℕ) (s : StandsBehind front rs b) → (t : StandsBehind (front ++ bytes) more c) × ((start : ℕ) → notes_in start t.outlined ≡ notes_in start s.outlined)
+RunsBehind = RunsNoting (λ start w. w)
+
+-- what items with these bytes note of which the first alone notes something: their first byte does, where that is a header's
+abbrev pub note_first : Step → (offset points : ℕ) → List ℕ → Notes → Notes
+note_first t offset points [] w = w
+note_first t offset points (byte ∷ bytes) w = note_step t offset points byte w
+
+-- the same where it stands
+abbrev pub note_next : Builder → List ℕ → (start : ℕ) → Notes → Notes
+note_next b bytes start w = note_first (step_of b.phase) (start + b.bytes) b.points bytes w
+
+-- so the bytes lead it on, and the same rows stay
+abbrev pub RunsHeader : Builder → List Row → List ℕ → Builder → Type 0
+RunsHeader b rs bytes c = RunsNoting (note_next b bytes) b rs bytes c rs
 
 -- wherever it stands, a front of the bytes ends a part that was judged
 abbrev pub StopsBehind : Builder → List Row → List ℕ → Type 0
@@ -20,3 +40,16 @@ pub record IsLedBy (b : Builder) (rest : List ℕ) (count : ℕ) (c : Builder) :
   pub within : count ≤ length rest
   pub bytes : c.bytes ≡ b.bytes + count
   pub led : (front : List ℕ) (rs : List Row) → StandsBehind front rs b → StandsBehind (front ++ take count rest) rs c
+
+-- so many bytes in front led it on, and noted nothing
+pub record RunsBy (b : Builder) (rs : List Row) (rest : List ℕ) (count : ℕ) (c : Builder) (more : List Row) : Type 0 where
+  pub limits : c.limits ≡ b.limits
+  pub within : count ≤ length rest
+  pub bytes : c.bytes ≡ b.bytes + count
+  pub run : RunsBehind b rs (take count rest) c more
+
+-- whatever bytes say this number, as many as these, it goes on with them and notes nothing, or leaves all as it was, or has no memory though they were judged
+abbrev pub StepsOn : {E : Type 0} → Builder → (n count : ℕ) → List Row → Result Bool E → List Row → Builder → Type 0
+StepsOn b n count rs (Ok true) more c = (bytes : List ℕ) → Says b bytes n → length bytes ≡ count → RunsBehind b rs bytes c more
+StepsOn b n count rs (Ok false) more c = (c ≡ b) × (more ≡ rs)
+StepsOn b n count rs (Err e) more c = (bytes front : List ℕ) → Says b bytes n → StandsBehind front rs b → IsJudged b.limits (front ++ bytes)

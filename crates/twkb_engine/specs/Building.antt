@@ -4,7 +4,7 @@ use Rattle.twkb_points.specs.Point.{Point}
 use Rattle.twkb_tree.specs.Limits.{Allowance}
 use Rattle.twkb_grammar.specs.Fault as fault
 use Rattle.twkb_grammar.specs.PlainReader.{objection}
-use Rattle.twkb_grammar.specs.Roles.{Role, Item}
+use Rattle.twkb_grammar.specs.Roles.{Role}
 use Rattle.twkb_grammar.specs.Reading.{Gives}
 use Rattle.twkb_grammar.specs.Machine.{Sums, added}
 use Rattle.twkb_outline.specs.Outline.{Outline, OnFinished, outline_role}
@@ -42,12 +42,16 @@ objection_at limits e n (Some r) = objection limits e r n
 abbrev pub refusal : Allowance → Sums → Outline → ℕ → Option fault.Reason
 refusal limits e o n = objection_at limits e n (outline_role e o)
 
--- so many of the bytes say this number in the role of the next item
+-- the bytes say this number in the role of the next item
+abbrev pub Says : Builder → List ℕ → ℕ → Type 0
+Says b bytes n = (r : Role) → outline_role (sums_of b) (outline_in b) ≡ Some r → Gives r n bytes
+
+-- so many of them do
 pub record SaysNext (b : Builder) (bytes : List ℕ) (n count : ℕ) : Type 0 where
   pub some : 0 < count
   pub within : count ≤ length bytes
   pub fits : (n < 256) ⊎ IsSpelled b.phase
-  pub gives : (r : Role) → outline_role (sums_of b) (outline_in b) ≡ Some r → Gives r n (take count bytes)
+  pub gives : Says b (take count bytes) n
 
 -- the ends behind an item were taken, with these sums
 abbrev pub IsAt : Result Outline fault.Reason → Sums → Result Bool Stop → Builder → Type 0
@@ -66,8 +70,10 @@ IsTaken limits bytes (Err (Refused r)) rs b = (more : List ℕ) → FirstFault l
 -- what a builder does with each item of this number and so many bytes that may come next
 abbrev pub Takes : Builder → (n count : ℕ) → List Row → Result Bool Stop → List Row → Builder → Type 0
 Takes b n count rs r more new =
-    (front : List ℕ) (i : Item) → StandsBehind front rs b → outline_role (sums_of b) (outline_in b) ≡ Some i.role → Gives i.role i.number i.bytes → i.number ≡ n → length i.bytes ≡ count → IsTaken b.limits (front ++ i.bytes) r more new
+    (front bytes : List ℕ) (role : Role) → StandsBehind front rs b → outline_role (sums_of b) (outline_in b) ≡ Some role → Gives role n bytes → length bytes ≡ count → IsTaken b.limits (front ++ bytes) r more new
 
 -- the place and the counts behind an item of this number, whichever comes next
 abbrev pub AreBehind : Builder → ℕ → Point → (nodes points : ℕ) → Type 0
-AreBehind b n at nodes points = (i : Item) → outline_role (sums_of b) (outline_in b) ≡ Some i.role → i.number ≡ n → record { bytes = b.bytes + length i.bytes; position = at; nodes = nodes; points = points } ≡ added (sums_of b) i
+AreBehind b n at nodes points =
+    (role : Role) (bytes : List ℕ) → outline_role (sums_of b) (outline_in b) ≡ Some role
+    → record { bytes = b.bytes + length bytes; position = at; nodes = nodes; points = points } ≡ added (sums_of b) (record { role = role; number = n; bytes = bytes })

@@ -6,11 +6,13 @@ use Rattle.twkb_tree.specs.Limits.{Allowance}
 use Rattle.twkb_tree.specs.Rows.{Row, rows}
 use Rattle.twkb_grammar.specs.Blob.{Blob}
 use Rattle.twkb_grammar.specs.Fault.{FirstFault, Reason, Truncated}
+use Rattle.twkb_grammar.specs.Noting.{Notes}
 use Rattle.twkb_outline.specs.Reading.{Outlined, open_count}
 use Rattle.twkb_outline.specs.Noting.{notes_in}
 use Rattle.twkb_engine.specs.State.{IsSpelled, IsPlacedIn, step_of}
 use Rattle.twkb_engine.specs.Open.{awaited_at}
 use Rattle.twkb_engine.specs.Parts.{IsJudged, PartIn}
+use Rattle.twkb_engine.specs.Ahead.{note_next}
 use Rattle.twkb_engine.specs.Stops.{reason_of}
 use Rattle.twkb_engine.specs.Building.{sums_of, outline_in, SaysNext}
 use Rattle.twkb_engine.specs.declared.awaited.Awaited.{Awaited}
@@ -54,9 +56,17 @@ pub record StandsAt (bytes : List ℕ) (rs : List Row) (d : Engine) : Type 0 whe
   pub placed : IsPlacedIn d.builder.groups.items d.builder.phase
   pub spelled : IsSpelled d.builder.phase ⊎ (held_in d ≡ [])
 
--- wherever the engine stands, these bytes lead it on, and note nothing of spans
+-- wherever the engine stands, these bytes lead it on, and make this of what was noted of spans
+abbrev pub LeadsNoting : (ℕ → Notes → Notes) → List Row → Engine → List ℕ → List Row → Engine → Type 0
+LeadsNoting told rs d bytes more e = (front : List ℕ) (s : StandsAt front rs d) → (t : StandsAt (front ++ bytes) more e) × ((start : ℕ) → notes_in start t.outlined ≡ told start (notes_in start s.outlined))
+
+-- they note nothing
 abbrev pub LeadsOn : List Row → Engine → List ℕ → List Row → Engine → Type 0
-LeadsOn rs d bytes more e = (front : List ℕ) (s : StandsAt front rs d) → (t : StandsAt (front ++ bytes) more e) × ((start : ℕ) → notes_in start t.outlined ≡ notes_in start s.outlined)
+LeadsOn = LeadsNoting (λ start w. w)
+
+-- their first byte notes what it does by itself, if there is one, those behind it nothing, and the same rows stay
+abbrev pub LeadsHeader : List Row → Engine → List ℕ → Engine → Type 0
+LeadsHeader rs d bytes e = LeadsNoting (note_next d.builder bytes) rs d bytes rs e
 
 -- wherever the engine stands, a front of these bytes ends a part that was judged
 abbrev pub StopsIn : List Row → Engine → List ℕ → Type 0

@@ -32,7 +32,7 @@ impl Body {
     ghost use Rattle.twkb_engine.specs.Steps.{body_at, change_by, TakesNumber};
 
     // Goes to what follows a value; answers whether the body is done.
-    pub(crate) fn go_behind(&mut self, after: After) -> bool
+    fn go_behind(&mut self, after: After) -> bool
         ensures step { (h : machine.Head) → after_of h (form_of self.old.form) (ids_of self.old.names) after ≡ body_at h self.new result }
         ensures on { IsSome after.spot → result ≡ false }
         ensures form { self.new.form ≡ self.old.form }
@@ -50,7 +50,8 @@ impl Body {
     }
 
     // What stands behind the next number, if it is this one.
-    fn after(&self, number: u64) -> After
+    #[inline(always)]
+    pub(crate) fn after(&self, number: u64) -> After
         ensures { SpotFits (depth_of (form_of self.now.form)) (spot_of self.now.spot) → (h : machine.Head) (ids : Ids) → after_of h (form_of self.now.form) ids result ≡ spot_after h (form_of self.now.form) ids number (spot_of self.now.spot) }
     {
         match self.spot {
@@ -62,7 +63,8 @@ impl Body {
     }
 
     // Keeps the row or the point that the next number brings, which leads to this position. Takes memory.
-    fn keep(&self, flat: &mut Flat, head: Head, position: Pt) -> Result<(), AllocError>
+    #[inline(always)]
+    pub(crate) fn keep(&self, flat: &mut Flat, head: Head, position: Pt) -> Result<(), AllocError>
         ensures { OnOk result (flat.new ≡ applied (change_by position head self.now) flat.old) }
     {
         let member = self.names.next();

@@ -1,5 +1,5 @@
 //! A geometry that is read item by item into a flat form.
-ghost use Rattle.std.specs.Prelude.{◌≡◌, ◌≤◌, ◌+◌, ◌-◌, ◌^◌, [], nat_lt, IfSome, IsSome, None, Some, true, length, length as length_of, ◌<◌, ◌⊎◌, OnOk, OnErr, IfOk, Result, Ok, take};
+ghost use Rattle.std.specs.Prelude.{◌≡◌, ◌≤◌, ◌+◌, ◌-◌, ◌^◌, [], nat_lt, IfSome, IsSome, None, Some, true, length, ◌<◌, ◌⊎◌, OnOk, Result, Ok};
 ghost use Rattle.twkb_grammar.specs.PlainReader.{unless, objection as objection_in, is_exact as exact};
 ghost use Rattle.twkb_grammar.specs.Fault as fault;
 ghost use Rattle.twkb_grammar.specs.Fault.{moved as moved_by};
@@ -23,7 +23,7 @@ use crate::place::Head;
 use crate::site::{push_row, whole_row};
 use crate::stop::Stop;
 use smallvec::SmallVec;
-use std::alloc::{AllocError, Global};
+use std::alloc::Global;
 use twkb_flat::Flat;
 use twkb_front::{moved_x, moved_y, origin};
 use twkb_header::TypeByte;
@@ -50,7 +50,6 @@ pub(crate) struct Builder {
 
 impl Builder {
     ghost use Rattle.twkb_engine.specs.Building.{sums_of, outline_in, refusal, AreBehind, objection_at, StandsBehind, IsAt, Takes};
-    ghost use Rattle.twkb_engine.specs.Ahead.{RunsBehind, StopsBehind};
 
     // One that has read nothing. Takes no memory.
     pub(crate) fn new(alloc: Global, limits: Limits) -> Builder
@@ -307,9 +306,8 @@ impl Builder {
         (position, self.nodes + nodes, self.points + points)
     }
 
-    // Takes an item with this number, which has so many bytes, and the ends behind it; answers whether a geometry is whole. A row, a
-    // point, an id and a group take memory.
-    pub(crate) fn take(&mut self, flat: &mut Flat, number: u64, length: u64) -> Result<bool, Stop>
+    // Takes an item with this number, which has so many bytes, and the ends behind it, by all its steps; answers as `take` does.
+    fn take_any(&mut self, flat: &mut Flat, number: u64, length: u64) -> Result<bool, Stop>
         requires byte { number < 256 ⊎ IsSpelled self.old.phase }
         requires room { self.old.bytes + length < 2 ^ 64 }
         ensures limits { self.new.limits ≡ self.old.limits }
@@ -327,23 +325,19 @@ impl Builder {
         self.go_on(flat, number)
     }
 
-    // Takes points of a body as far as they stand whole in front and it is not done with them, and answers how many bytes they had. They
-    // take memory.
-    pub(crate) fn take_points(&mut self, flat: &mut Flat, rest: &[u8]) -> Result<usize, AllocError>
-        requires room { self.old.bytes + length_of rest.now < 2 ^ 64 }
+    // Takes an item with this number, which has so many bytes, and the ends behind it; answers whether a geometry is whole. A row, a
+    // point, an id and a group take memory.
+    pub(crate) fn take(&mut self, flat: &mut Flat, number: u64, length: u64) -> Result<bool, Stop>
+        requires byte { number < 256 ⊎ IsSpelled self.old.phase }
+        requires room { self.old.bytes + length < 2 ^ 64 }
         ensures limits { self.new.limits ≡ self.old.limits }
-        ensures within { IfOk result (λ used. used ≤ length_of rest.now) }
-        ensures bytes { IfOk result (λ used. self.new.bytes ≡ self.old.bytes + used) }
-        ensures few { self.new.bytes ≤ self.old.bytes + length_of rest.now }
-        ensures run { IfOk result (λ used. RunsBehind self.old flat.old (take used rest.now) self.new flat.new) }
-        ensures memory { OnErr result (StopsBehind self.old flat.old rest.now) }
+        ensures bytes { self.new.bytes ≤ self.old.bytes + length }
+        ensures taken { Takes self.old number length flat.old result flat.new self.new }
     {
-        let Phase::Body(head, body) = &mut self.phase else {
-            return Ok(0);
-        };
-        let taken = body.take_points(flat, *head, self.position, rest)?;
-        self.bytes += taken.used as u64;
-        self.position = taken.position;
-        Ok(taken.used)
+        match self.take_number(flat, number, length) {
+            Ok(true) => Ok(false),
+            Ok(false) => self.take_any(flat, number, length),
+            Err(_) => Err(Stop::Memory),
+        }
     }
 }

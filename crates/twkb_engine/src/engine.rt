@@ -1,9 +1,9 @@
 //! A blob that is read byte by byte into a flat form.
-ghost use Rattle.std.specs.Prelude.{◌≡◌, IfOk, OnErr, Ok, None, ◌+◌, ◌<◌, ◌≤◌, ◌^◌, ◌++◌, ◌∷◌, [], List, ℕ, take, IfSome, length as length_of};
+ghost use Rattle.std.specs.Prelude.{◌≡◌, IfOk, OnErr, Ok, None, true, false, ◌+◌, ◌<◌, ◌≤◌, ◌^◌, ◌++◌, ◌∷◌, [], List, ℕ, take, IfSome, length as length_of};
 ghost use Rattle.twkb_num.specs.Varint.{IsOpenVarint};
 ghost use Rattle.twkb_tree.specs.Rows.{Row};
 ghost use Rattle.twkb_engine.specs.Parts.{PartIn};
-ghost use Rattle.twkb_engine.specs.Standing.{StandsAt, LeadsOn, StopsIn, IsStep, IsTakenFrom, IsOneItem, ItemInFront, IsFed, MadeIn, IsEnd, count_of, offset_in, points_in, awaited_in, held_in, open_in, allowance_of};
+ghost use Rattle.twkb_engine.specs.Standing.{StandsAt, LeadsOn, LeadsHeader, StopsIn, IsStep, IsTakenFrom, IsOneItem, ItemInFront, IsFed, MadeIn, IsEnd, count_of, offset_in, points_in, awaited_in, held_in, open_in, allowance_of};
 
 use crate::awaited::Awaited;
 use crate::blob_reason::BlobReason;
@@ -16,7 +16,7 @@ use twkb_front::front_number;
 use twkb_num::{Leb128, Partial, Step};
 use twkb_tree::Limits;
 
-// Points have two numbers, and so as many bytes: shorter pieces are not looked at for them.
+// Shorter pieces are not looked at for items that stand whole in front.
 const SHORTEST: usize = 2;
 
 /// A blob that is read byte by byte into a flat form, which is lent to each call: what stands open, and the bytes of a number that is
@@ -61,8 +61,9 @@ impl Engine {
         }
     }
 
-    /// Takes points of a body as far as they stand whole in front, where no byte of a number is held, and answers how many bytes they
-    /// had, up to all of the piece. The last point of a body is left, so no geometry begins or ends in them. Points take memory.
+    /// Takes points and other numbers of a body as far as they stand whole in front, where no byte of a number is held, and answers how
+    /// many bytes they had, up to all of the piece. A body's last number is left, so no geometry begins or ends in them. Rows and points
+    /// take memory.
     #[tactic(auto, using(crate::proofs::Stepping::stays_put))]
     pub fn take_points(&mut self, flat: &mut Flat, rest: &[u8]) -> Result<usize, AllocError>
         requires room { count_of self.old + length_of rest.now ≤ 2 ^ 63 }
@@ -73,13 +74,27 @@ impl Engine {
         ensures ahead { IfOk result (λ used. LeadsOn flat.old self.old (take used rest.now) flat.new self.new) }
         ensures memory { OnErr result (StopsIn flat.old self.old rest.now) }
     {
-        if rest.len() < SHORTEST {
-            return Ok(0);
-        }
         if self.partial.len() > 0 {
             return Ok(0);
         }
         self.builder.take_points(flat, rest)
+    }
+
+    /// Takes the next item of a header, and the optional parts behind it, as far as they stand whole in front and lead on within the
+    /// header, or to a body or count, where no byte of a number is held; answers how many bytes they had, or 0. Takes no memory.
+    pub fn lead_header(&mut self, rest: &[u8]) -> usize
+        requires some { 0 < length_of rest.now }
+        requires room { count_of self.old + length_of rest.now ≤ 2 ^ 63 }
+        ensures limits { allowance_of self.new ≡ allowance_of self.old }
+        ensures count { count_of self.new ≡ count_of self.old + result }
+        ensures within { result ≤ length_of rest.now }
+        ensures alone { 0 < result → held_in self.new ≡ [] }
+        ensures led { (rs : List Row) → LeadsHeader rs self.old (take result rest.now) self.new }
+    {
+        if self.partial.len() > 0 {
+            return 0;
+        }
+        self.builder.lead_header(rest)
     }
 
     // The number of the next item and how many bytes it has, where no byte of it is held and it stands whole in front.
@@ -153,17 +168,18 @@ impl Engine {
             return self.take_byte(flat, rest);
         }
         let led = self.builder.lead_ahead(rest);
-        if led > 0 {
-            return Ok((led, false));
-        }
-        let used = match self.take_points(flat, rest) {
+        let used = match self.take_points(flat, &rest[led..]) {
             Ok(used) => used,
             Err(_) => return Err(Stop::Memory),
         };
-        if used > 0 {
-            return Ok((used, false));
+        let ahead = led + used;
+        if ahead == rest.len() {
+            return Ok((ahead, false));
         }
-        self.take_item(flat, rest)
+        match self.take_item(flat, &rest[ahead..]) {
+            Ok((count, ended)) => Ok((ahead + count, ended)),
+            Err(stop) => Err(stop),
+        }
     }
 
     /// Takes bytes up to the end of a geometry, else all of them, and answers how many, and whether a geometry ends behind them. The

@@ -1,7 +1,8 @@
 //! From a type byte to a body.
-ghost use Rattle.std.specs.Prelude.{◌≡◌, ◌+◌, ◌<◌, ◌^◌, ◌⊎◌, ◌/◌, ◌%◌, length, IfSome, None, true, false};
+ghost use Rattle.std.specs.Prelude.{◌≡◌, ◌+◌, ◌<◌, ◌^◌, ◌⊎◌, ◌/◌, ◌%◌, List, length, take, IfSome, None, true, false};
 ghost use Rattle.twkb_points.specs.Point.{Point};
 ghost use Rattle.twkb_num.specs.Zigzag.{unzigzag_of};
+ghost use Rattle.twkb_tree.specs.Rows.{Row};
 ghost use Rattle.twkb_grammar.specs.Machine as machine;
 ghost use Rattle.twkb_grammar.specs.Machine.{asked, with_option, kind_at};
 ghost use Rattle.twkb_grammar.specs.Noting.{shown};
@@ -16,7 +17,7 @@ use crate::body::Body;
 use crate::builder::Builder;
 use crate::lefts::{Lefts, Spot};
 use crate::names::Names;
-use crate::phase::{GeometryType, Groups, Many, Optional, Phase, wants_byte};
+use crate::phase::{GeometryType, Groups, Many, Optional, Phase, wants_byte, wants_part};
 use crate::place::{Head, Typed};
 use crate::site::Form;
 use std::alloc::Global;
@@ -246,7 +247,7 @@ pub(crate) fn lead_on(
 
 impl Builder {
     ghost use Rattle.twkb_engine.specs.Building.{SaysNext};
-    ghost use Rattle.twkb_engine.specs.Ahead.{IsLedBy};
+    ghost use Rattle.twkb_engine.specs.Ahead.{IsLedBy, RunsHeader};
 
     // The number of the next item of a header and how many bytes it has, where it stands whole in front.
     #[inline]
@@ -257,19 +258,20 @@ impl Builder {
         if wants_byte(&self.phase) {
             return Some((u64::from(rest[0]), 1));
         }
-        if !matches!(&self.phase, Phase::Optional { .. }) {
+        if !wants_part(&self.phase) {
             return None;
         }
         front_number(rest)
     }
 
     // Takes the next item of a header, where it stands whole in front and leads on within the header, or to a body or count; answers
-    // how many bytes it had, or 0.
-    #[inline]
+    // how many bytes it had, or 0. Takes no memory.
+    #[inline(always)]
     fn lead_by_one(&mut self, rest: &[u8]) -> usize
         requires some { 0 < length rest.now }
         requires room { self.old.bytes + length rest.now < 2 ^ 64 }
-        ensures { IsLedBy self.old rest.now result self.new }
+        ensures led { IsLedBy self.old rest.now result self.new }
+        ensures noted { (rs : List Row) → RunsHeader self.old rs (take result rest.now) self.new }
     {
         let Some((number, count)) = self.part_in_front(rest) else {
             return 0;
@@ -298,6 +300,32 @@ impl Builder {
     {
         let mut used = 0;
         while used < rest.len() {
+            let count = self.lead_by_one(&rest[used..]);
+            used += count;
+            if count == 0 {
+                return used;
+            }
+        }
+        used
+    }
+
+    // Takes the next item of a header, and the optional parts behind it, as far as they stand whole in front and lead on so; answers how
+    // many bytes they had, or 0. Takes no memory. A frame of its own, for the sake of its callers' registers.
+    #[inline(never)]
+    pub(crate) fn lead_header(&mut self, rest: &[u8]) -> usize
+        requires some { 0 < length rest.now }
+        requires room { self.old.bytes + length rest.now < 2 ^ 64 }
+        ensures led { IsLedBy self.old rest.now result self.new }
+        ensures noted { (rs : List Row) → RunsHeader self.old rs (take result rest.now) self.new }
+    {
+        let mut used = self.lead_by_one(rest);
+        if used == 0 {
+            return used;
+        }
+        while used < rest.len() {
+            if !wants_part(&self.phase) {
+                return used;
+            }
             let count = self.lead_by_one(&rest[used..]);
             used += count;
             if count == 0 {

@@ -95,6 +95,7 @@ fn shut_line(lefts: Lefts) -> After
 }
 
 // A point is done.
+#[inline]
 pub(crate) fn shut_point(lefts: Lefts) -> After
     ensures { (h : Head) (f : Form) (ids : Ids) → after_of h f ids result ≡ shut h f ids 0 (lefts_of lefts) }
 {
@@ -122,6 +123,7 @@ pub(crate) fn shut_point(lefts: Lefts) -> After
 }
 
 // A list of so many points begins.
+#[inline]
 pub(crate) fn open_line(lefts: Lefts, count: u64) -> After
     ensures { length (lefts_of lefts) ≤ 2 → (h : Head) (f : Form) (ids : Ids) → after_of h f ids result ≡ listing h f ids 0 count (lefts_of lefts) }
 {

@@ -1,6 +1,6 @@
 //! What comes next.
 ghost use Rattle.std.specs.Prelude.{◌≡◌, true, false};
-ghost use Rattle.twkb_engine.specs.State.{IsSpelled, IsByte};
+ghost use Rattle.twkb_engine.specs.State.{IsSpelled, IsByte, IsPart};
 
 use crate::body::Body;
 use crate::names::Names;
@@ -114,4 +114,11 @@ pub(crate) fn wants_byte(phase: &Phase) -> bool
         Phase::Optional { part, .. } => *part == Optional::Extended,
         _ => false,
     }
+}
+
+// Whether a part comes next that a metadata byte asked for.
+pub(crate) fn wants_part(phase: &Phase) -> bool
+    ensures { (result ≡ true) → IsPart phase.now }
+{
+    matches!(phase, Phase::Optional { .. })
 }

@@ -1,5 +1,5 @@
 //! Points that stand whole in front of the bytes, taken many at a time.
-ghost use Rattle.std.specs.Prelude.{◌≡◌, ℕ, List, ◌∷◌, ◌≤◌, ◌+◌, ◌^◌, IfOk, OnErr, IfSome, true, take, length};
+ghost use Rattle.std.specs.Prelude.{◌≡◌, ℕ, List, ◌∷◌, ◌≤◌, ◌+◌, ◌^◌, IfSome, true, length};
 ghost use Rattle.twkb_tree.specs.Rows.{Row};
 ghost use Rattle.twkb_outline.specs.Outline.{next_ids};
 ghost use Rattle.twkb_engine.specs.Body.{form_of, lefts_of};
@@ -7,9 +7,9 @@ ghost use Rattle.twkb_engine.specs.Names.{ids_of};
 ghost use Rattle.twkb_engine.specs.Running.{Leads, HasLists, outer, left_in};
 
 use crate::body::Body;
-use crate::lefts::{Lefts, Spot, shut_point};
+use crate::lefts::{Lefts, Spot};
 use crate::place::Head;
-use crate::site::{Form, put_point};
+use crate::site::Form;
 use std::alloc::AllocError;
 use twkb_flat::Flat;
 use twkb_front::front_point;
@@ -35,7 +35,7 @@ fn none(from: Pt) -> Taken
 }
 
 // How many values are left in the innermost list, if there are any.
-fn first_left(lefts: Lefts) -> Option<u64>
+pub(crate) fn first_left(lefts: Lefts) -> Option<u64>
     ensures { IfSome result (λ left. lefts_of lefts ≡ left ∷ outer (lefts_of lefts)) }
 {
     match lefts {
@@ -72,34 +72,8 @@ fn keeps_row(body: &Body, lefts: Lefts) -> bool
 }
 
 impl Body {
-    ghost use Rattle.twkb_engine.specs.Running.{RunsTo, StopsWith, TakesPoints};
+    ghost use Rattle.twkb_engine.specs.Running.{TakesPoints};
     ghost use Rattle.twkb_engine.specs.declared.site.Form.TheVariants.{MultiPoint};
-
-    // Takes a point that stands whole in front, where one is wanted with which the body is not done. Takes memory.
-    fn take_point(
-        &mut self,
-        flat: &mut Flat,
-        head: Head,
-        from: Pt,
-        bytes: &[u8],
-    ) -> Result<Taken, AllocError>
-        ensures { TakesPoints head self.old flat.old from bytes.now result self.new flat.new }
-    {
-        let Spot::X(lefts) = self.spot else {
-            return Ok(none(from));
-        };
-        let after = shut_point(lefts);
-        let Some(_) = after.spot else {
-            return Ok(none(from));
-        };
-        let Some((position, used)) = front_point(from, bytes) else {
-            return Ok(none(from));
-        };
-        let member = self.names.next();
-        put_point(flat, head, self.form, member, position)?;
-        self.go_behind(after);
-        Ok(Taken { used, position })
-    }
 
     // Takes members of a multipoint behind the first, but not its last, as far as they stand whole in front. Takes memory.
     fn take_members(
@@ -141,7 +115,7 @@ impl Body {
     }
 
     // Takes points of the list or multipoint that stands open, but not its last, as far as they stand whole in front. Takes memory.
-    fn take_run(
+    pub(crate) fn take_points(
         &mut self,
         flat: &mut Flat,
         head: Head,
@@ -175,33 +149,6 @@ impl Body {
             used += count;
         }
         self.spot = Spot::X(with_left(lefts, left));
-        Ok(Taken { used, position })
-    }
-
-    // Takes points as far as they stand whole in front and the body is not done with them. Takes memory.
-    pub(crate) fn take_points(
-        &mut self,
-        flat: &mut Flat,
-        head: Head,
-        from: Pt,
-        bytes: &[u8],
-    ) -> Result<Taken, AllocError>
-        ensures run { IfOk result (λ taken. RunsTo head self.old flat.old from (take taken.used bytes.now) self.new flat.new taken.position) }
-        ensures within { IfOk result (λ taken. taken.used ≤ length bytes.now) }
-        ensures memory { OnErr result (StopsWith head self.old flat.old from bytes.now) }
-    {
-        let mut used = 0;
-        let mut position = from;
-        while used < bytes.len() {
-            let many = self.take_run(flat, head, position, &bytes[used..])?;
-            used += many.used;
-            let one = self.take_point(flat, head, many.position, &bytes[used..])?;
-            used += one.used;
-            position = one.position;
-            if one.used == 0 {
-                return Ok(Taken { used, position });
-            }
-        }
         Ok(Taken { used, position })
     }
 }

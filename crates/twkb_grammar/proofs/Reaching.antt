@@ -196,10 +196,11 @@ leads limits bytes e st i r says gives = go (objection limits e i.role i.number)
         (reached_item limits bytes e st i r says (is_item i.role i.number i.bytes gives may.1) may.0 may.2)
     go (Some reason) h = λ more. reached_fault limits bytes e st (i.bytes ++ more) i.role reason r says (h more)
 
--- a number against which there is no objection leads to a further place, whether or not the sizes behind it are right
-pub reached_on : (limits : Allowance) (bytes : List ℕ) (e : Sums) (st : Stack) (i : Item) → Reached limits bytes e st → role_at e st ≡ Some i.role → Gives i.role i.number i.bytes
-    → objection limits e i.role i.number ≡ None → Reached limits (bytes ++ i.bytes) (added e i) (stack_after e i st)
+-- a number against which there is no objection leads to a further place, behind one item more, whether or not the sizes behind it are right
+pub reached_on : (limits : Allowance) (bytes : List ℕ) (e : Sums) (st : Stack) (i : Item) (r : Reached limits bytes e st) → role_at e st ≡ Some i.role → Gives i.role i.number i.bytes
+    → objection limits e i.role i.number ≡ None → (t : Reached limits (bytes ++ i.bytes) (added e i) (stack_after e i st)) × (t.items ≡ r.items ++ i ∷ [])
+unfolding reached_item
 reached_on limits bytes e st i r says gives free =
     let agree : Agree e r.items = subst (λ s. Agree s r.items) r.sums (agrees r.items) in
     let may = subst (λ o. Objects limits r.items (i.bytes ++ []) i.role i.number o) free (objects limits r.items e i.role i.number i.bytes [] agree gives) in
-    reached_item limits bytes e st i r says (is_item i.role i.number i.bytes gives may.1) may.0 may.2
+    (reached_item limits bytes e st i r says (is_item i.role i.number i.bytes gives may.1) may.0 may.2, refl)

@@ -15,11 +15,14 @@ use Rattle.twkb_grammar.specs.Fault.{Reason, Truncated, BadVarint, FirstFault, I
 use Rattle.twkb_grammar.specs.PlainReader.{objection}
 use Rattle.twkb_grammar.specs.Machine.{first_count, Around, top, within, Want, WantY, Done, Frame, Phase, AtHeader, AtMetadata, AtOption, AtCount, AtId, AtBody, AtEnd, Finished, Sums, nothing, added, Stack, started, role_at, stack_after}
 use Rattle.twkb_grammar.specs.Reading.{Reached, Gives, Landed, Leads, ends}
+use Rattle.twkb_grammar.specs.Noting.{Notes, no_notes, noted, noted_by}
+use Rattle.twkb_grammar.proofs.NotedSpans.{noted-append}
 use Rattle.twkb_grammar.proofs.Reaching.{reached_nothing, reached_bytes, reached_on, landed, leads, reached_blob, reached_cut, reached_long, reached_end}
 use Rattle.twkb_grammar.proofs.PartBytes.{reached_part}
 use Rattle.twkb_grammar.proofs.Depths.{reached_depth}
 use Rattle.twkb_outline.specs.Outline.{OnHeader, OnFinished, Outline, group_of, lefts_of, step_of, outline_of, outline_role, outline_in, outline_ends}
 use Rattle.twkb_outline.specs.Growing.{rows_so_far, Takes, applied, change_of}
+use Rattle.twkb_outline.specs.Noting.{NotedOutline, notes_in}
 use Rattle.twkb_outline.specs.Reading.{Outlined, outline_after, change_after, OutlineLanded, StepFits}
 use Rattle.twkb_outline.proofs.Outlines.{outline_steps, outline_at_ends}
 use Rattle.twkb_outline.proofs.Growths.{stack_grows, rows_at_ends}
@@ -65,15 +68,28 @@ module _ (limits : Allowance) where
   pub outlined_start : IsAllowance limits → Outlined limits [] nothing ([], OnHeader) []
   outlined_start allowed = record { stack = started; reached = reached_nothing limits allowed; outline = refl; rows = refl }
 
+  -- behind an item, which notes what it does of what was noted
+  pub noted_item : (bytes : List ℕ) (e : Sums) (o : Outline) (rs : List Row) (told : ℕ → Notes) (i : Item) → NotedOutline limits bytes e o rs told → outline_role e o ≡ Some i.role → Gives i.role i.number i.bytes
+      → objection limits e i.role i.number ≡ None → NotedOutline limits (bytes ++ i.bytes) (added e i) (outline_after e i o) (applied (change_after e i o) rs) (λ start. noted_by start e i.role i.number (told start))
+  noted_item bytes e o rs told i n says gives free =
+      let r = n.outlined in
+      let next = reached_on limits bytes e r.stack i r.reached (role_of bytes e o rs i.role r says) gives free in
+      record {
+        outlined = record {
+          stack = stack_after e i r.stack;
+          reached = next.0;
+          outline = outline_steps (moved e.position i.role i.number) (e.bytes + length i.bytes) i.number r.stack.0 r.stack.1 ∙ ap (outline_after e i) r.outline;
+          rows = stack_grows (moved e.position i.role i.number) (e.bytes + length i.bytes) i.number r.stack.0 r.stack.1
+              ∙ (ap (λ q. applied (change_after e i q) (rows_so_far r.stack)) r.outline ∙ ap (applied (change_after e i o)) r.rows);
+        };
+        notes = λ start. ap (noted start nothing no_notes) next.1
+            ∙ (noted-append start r.reached.items (i ∷ []) nothing no_notes
+            ∙ (ap (λ s. noted_by start s i.role i.number (notes_in start r)) r.reached.sums ∙ ap (noted_by start e i.role i.number) (n.notes start)));
+      }
+
   pub outlined_item : (bytes : List ℕ) (e : Sums) (o : Outline) (rs : List Row) (i : Item) → Outlined limits bytes e o rs → outline_role e o ≡ Some i.role → Gives i.role i.number i.bytes
       → objection limits e i.role i.number ≡ None → Outlined limits (bytes ++ i.bytes) (added e i) (outline_after e i o) (applied (change_after e i o) rs)
-  outlined_item bytes e o rs i r says gives free = record {
-    stack = stack_after e i r.stack;
-    reached = reached_on limits bytes e r.stack i r.reached (role_of bytes e o rs i.role r says) gives free;
-    outline = outline_steps (moved e.position i.role i.number) (e.bytes + length i.bytes) i.number r.stack.0 r.stack.1 ∙ ap (outline_after e i) r.outline;
-    rows = stack_grows (moved e.position i.role i.number) (e.bytes + length i.bytes) i.number r.stack.0 r.stack.1
-        ∙ (ap (λ q. applied (change_after e i q) (rows_so_far r.stack)) r.outline ∙ ap (applied (change_after e i o)) r.rows);
-  }
+  outlined_item bytes e o rs i r says gives free = (noted_item bytes e o rs (λ start. notes_in start r) i (record { outlined = r; notes = λ start. refl }) says gives free).outlined
 
   pub outlined_refused : (bytes : List ℕ) (e : Sums) (o : Outline) (rs : List Row) (i : Item) (reason : Reason) → Outlined limits bytes e o rs → outline_role e o ≡ Some i.role → Gives i.role i.number i.bytes
       → objection limits e i.role i.number ≡ Some reason → (more : List ℕ) → FirstFault limits (bytes ++ (i.bytes ++ more)) e.bytes reason

@@ -1,16 +1,7 @@
 //! The texts of faults, as the profile has them.
-use std::alloc::Global;
-use std::fmt::Display;
+use crate::printed::is_told;
 use twkb_blob::{BlobFault, BlobReason, EncodeFault};
 use twkb_io::{InFault, OutFault};
-
-// Whether this is printed so.
-fn is_told<T: Display>(alloc: Global, value: &T, text: &str) -> bool {
-    match format!(in alloc; "{value}") {
-        Ok(told) => told.as_str() == text,
-        Err(_) => false,
-    }
-}
 
 const MISMATCH: BlobFault = BlobFault::At {
     offset: 5,

@@ -1,7 +1,7 @@
 //! Runs over devices that fail.
 use super::{
-    COLLECTION_BLOB, COLLECTION_LINES, COLLECTION_TABLE, HEADER, POINT_BLOBS, POINT_TABLE,
-    cut_writer, run_line,
+    COLLECTION_BLOB, COLLECTION_LINES, COLLECTION_TABLE, POINT_BLOBS, POINT_TABLE, cut_writer,
+    run_line,
 };
 use std::alloc::Global;
 use twkb_io::{Fuse, FuseEnd, Tap};
@@ -39,52 +39,73 @@ fn fails_wherever_cut(
     is_right
 }
 
+// The header line; a table of one point, and its blob.
+const HEADER_LINE: &[u8] = b"depth,kind,id,precision,polyline\n";
+
+const POINT: &[u8] = b"depth,kind,id,precision,polyline\n0,point,,0,AC\n";
+
+const POINT_BLOB: &[u8] = b"\x01\x02\x02\x04\x02";
+
+// The words of a line, an input, the whole output, and how a writer ends that takes less of it.
+const CUT: [(&str, &[u8], &[u8], FuseEnd); 5] = [
+    ("polytwkb pack", POINT_TABLE, POINT_BLOBS, FuseEnd::Fail),
+    (
+        "polytwkb pack",
+        COLLECTION_TABLE,
+        COLLECTION_BLOB,
+        FuseEnd::Fail,
+    ),
+    (
+        "polytwkb unpack",
+        COLLECTION_BLOB,
+        COLLECTION_TABLE,
+        FuseEnd::Fail,
+    ),
+    (
+        "polytwkb show",
+        COLLECTION_BLOB,
+        COLLECTION_LINES,
+        FuseEnd::Fail,
+    ),
+    ("polytwkb pack", POINT_TABLE, POINT_BLOBS, FuseEnd::Zero),
+];
+
 #[test]
-fn a_writer_that_fails_ends_with_3(rt: HostRuntime) {
-    let alloc = rt.alloc();
-    let rows: [(&str, &[u8], &[u8]); 4] = [
-        ("polytwkb pack", POINT_TABLE, POINT_BLOBS),
-        ("polytwkb pack", COLLECTION_TABLE, COLLECTION_BLOB),
-        ("polytwkb unpack", COLLECTION_BLOB, COLLECTION_TABLE),
-        ("polytwkb show", COLLECTION_BLOB, COLLECTION_LINES),
-    ];
-    for (line, input, output) in rows {
+fn a_writer_that_fails_or_takes_no_more_ends_with_3(rt: HostRuntime) {
+    for (line, input, output, end) in &CUT {
         assert!(rt;
-            fails_wherever_cut(alloc, line, input, output, FuseEnd::Fail),
+            fails_wherever_cut(rt.alloc(), *line, *input, *output, *end),
             "{line}"
         );
     }
 }
 
-#[test]
-fn a_writer_that_takes_no_more_ends_with_3(rt: HostRuntime) {
-    let alloc = rt.alloc();
-    let end = FuseEnd::Zero;
-    assert!(rt; fails_wherever_cut(alloc, "polytwkb pack", POINT_TABLE, POINT_BLOBS, end));
-}
-
-#[test]
-fn a_flush_that_fails_ends_with_3(rt: HostRuntime) {
-    let alloc = rt.alloc();
-    let rows: [(&str, &[u8], &[u8]); 3] = [
-        ("polytwkb pack", POINT_TABLE, POINT_BLOBS),
-        ("polytwkb unpack", COLLECTION_BLOB, COLLECTION_TABLE),
-        ("polytwkb show", COLLECTION_BLOB, COLLECTION_LINES),
-    ];
-    for (line, input, output) in rows {
-        let writer = cut_writer(alloc, 999, FuseEnd::Fail, true);
-        assert!(rt; write_fails(alloc, line, input, writer, output), "{line}");
-    }
-}
-
-// A table that is refused at its last row, and whose writer can't be flushed.
-#[test]
-fn a_flush_that_fails_is_told_before_a_refused_row(rt: HostRuntime) {
-    let alloc = rt.alloc();
-    let table = b"depth,kind,id,precision,polyline\n0,point,,0,AC\n0,point,,0,AA\n0,pont,,0,\n";
+// Whether a writer that takes all but can't be flushed ends a run with 3.
+fn flush_fails(alloc: Global, line: &str, input: &[u8], output: &[u8]) -> bool {
     let writer = cut_writer(alloc, 999, FuseEnd::Fail, true);
-    let blob = b"\x01\x02\x02\x04\x02";
-    assert!(rt; write_fails(alloc, "polytwkb pack", table, writer, blob));
+    write_fails(alloc, line, input, writer, output)
+}
+
+// The last is a table that is refused at its last row.
+const FLUSHED: [(&str, &[u8], &[u8]); 7] = [
+    ("polytwkb pack", POINT_TABLE, POINT_BLOBS),
+    ("polytwkb unpack", COLLECTION_BLOB, COLLECTION_TABLE),
+    ("polytwkb show", COLLECTION_BLOB, COLLECTION_LINES),
+    ("polytwkb pack", POINT, POINT_BLOB),
+    ("polytwkb unpack", POINT_BLOB, POINT),
+    ("polytwkb show", POINT_BLOB, b"0 0 point 0 02 5 1\n"),
+    (
+        "polytwkb pack",
+        b"depth,kind,id,precision,polyline\n0,point,,0,AC\n0,point,,0,AA\n0,pont,,0,\n",
+        POINT_BLOB,
+    ),
+];
+
+#[test]
+fn a_flush_that_fails_ends_with_3_and_is_told_before_a_refused_row(rt: HostRuntime) {
+    for (line, input, output) in &FLUSHED {
+        assert!(rt; flush_fails(rt.alloc(), *line, *input, *output), "{line}");
+    }
 }
 
 // What a run writes, where a read fails after so many bytes and it ends with 3 and is told.
@@ -127,23 +148,27 @@ fn writes(alloc: Global, line: &str, input: &[u8], given: u64, output: &[u8]) ->
     }
 }
 
+// How many bytes a reader gives, the table that is written of them, and the lines.
+const GIVEN: [(u64, &[u8], &[u8]); 6] = [
+    (0, HEADER_LINE, b""),
+    (1, HEADER_LINE, b""),
+    (4, HEADER_LINE, b""),
+    (5, POINT, b"0 0 point 0 02 5 1\n"),
+    (9, POINT, b"0 0 point 0 02 5 1\n"),
+    (10, POINT_TABLE, b"0 0 point 0 02 5 1\n0 5 point 0 02 5 1\n"),
+];
+
+// Whether unpacking and showing write this, where a read fails after so many bytes.
+fn writes_both(alloc: Global, given: u64, table: &[u8], lines: &[u8]) -> bool {
+    writes(alloc, "polytwkb unpack", POINT_BLOBS, given, table)
+        && writes(alloc, "polytwkb show", POINT_BLOBS, given, lines)
+}
+
 #[test]
 fn a_failed_read_of_a_stream_comes_after_its_whole_blobs(rt: HostRuntime) {
-    let alloc = rt.alloc();
-    let header = HEADER.as_bytes();
-    let first = b"depth,kind,id,precision,polyline\n0,point,,0,AC\n";
-    let rows: [(u64, &[u8], &[u8]); 6] = [
-        (0, header, b""),
-        (1, header, b""),
-        (4, header, b""),
-        (5, first, b"0 0 point 0 02 5 1\n"),
-        (9, first, b"0 0 point 0 02 5 1\n"),
-        (10, POINT_TABLE, b"0 0 point 0 02 5 1\n0 5 point 0 02 5 1\n"),
-    ];
-    for (given, table, lines) in rows {
-        let is_unpacked = writes(alloc, "polytwkb unpack", POINT_BLOBS, given, table);
-        let is_shown = writes(alloc, "polytwkb show", POINT_BLOBS, given, lines);
-        assert!(rt; is_unpacked && is_shown, "a reader that gives {given}");
+    for (given, table, lines) in &GIVEN {
+        let are_written = writes_both(rt.alloc(), *given, *table, *lines);
+        assert!(rt; are_written, "a reader that gives {given}");
     }
 }
 
@@ -155,21 +180,37 @@ fn untold(alloc: Global, line: &str, input: &[u8]) -> Option<u8> {
     run_line(alloc, line, &mut reader, &mut writer, &mut errors)
 }
 
+const UNTOLD: [(&str, &[u8], u8); 3] = [
+    ("polytwkb pack", b"", 1),
+    ("polytwkb", b"", 2),
+    ("polytwkb pack", POINT_TABLE, 0),
+];
+
 #[test]
 fn a_failure_of_standard_error_changes_no_status(rt: HostRuntime) {
-    let alloc = rt.alloc();
-    assert!(rt; untold(alloc, "polytwkb pack", b"") == Some(1));
-    assert!(rt; untold(alloc, "polytwkb", b"") == Some(2));
-    assert!(rt; untold(alloc, "polytwkb pack", POINT_TABLE) == Some(0));
+    for (line, input, status) in &UNTOLD {
+        assert!(rt;
+            untold(rt.alloc(), *line, *input) == Some(*status),
+            "{line}"
+        );
+    }
+}
+
+// The status of a run for help whose standard output takes three bytes.
+fn unprinted(alloc: Global) -> Option<u8> {
+    let mut reader = Tap::new(b"".as_slice());
+    let mut writer = cut_writer(alloc, 3, FuseEnd::Fail, true);
+    let mut errors = Tap::new(Vec::new(alloc));
+    run_line(
+        alloc,
+        "polytwkb --help",
+        &mut reader,
+        &mut writer,
+        &mut errors,
+    )
 }
 
 #[test]
 fn a_failure_to_print_help_changes_no_status(rt: HostRuntime) {
-    let alloc = rt.alloc();
-    let mut reader = Tap::new(b"".as_slice());
-    let mut writer = cut_writer(alloc, 3, FuseEnd::Fail, true);
-    let mut errors = Tap::new(Vec::new(alloc));
-    let line = "polytwkb --help";
-    let status = run_line(alloc, line, &mut reader, &mut writer, &mut errors);
-    assert!(rt; status == Some(0));
+    assert!(rt; unprinted(rt.alloc()) == Some(0));
 }

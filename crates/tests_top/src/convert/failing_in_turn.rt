@@ -6,11 +6,15 @@ use std::alloc::Global;
 use twkb_convert::{BlobReason, Cause, ConvertFault, Report, RowReason};
 use twkb_io::{FuseEnd, Tap};
 
-// A point; a collection of a point with an id and an empty line with one; polygons with ids, of two
-// rings and of none; two points before a row of no kind; a blob before one that is cut.
+// A point, and two; a collection of a point with an id and an empty line with one; polygons with ids,
+// of two rings and of none; two points before a row of no kind; a blob before one that is cut.
 const POINT: &[u8] = b"depth,kind,id,precision,polyline\n0,point,,0,AC\n";
 
 const POINT_BLOB: &[u8] = b"\x01\x02\x02\x04\x02";
+
+const TWO_POINTS: &[u8] = b"depth,kind,id,precision,polyline\n0,point,,0,AC\n0,point,,0,AA\n";
+
+const TWO_BLOBS: &[u8] = b"\x01\x02\x02\x04\x02\x01\x02\x02\x02\x02";
 
 const MEMBERS: &[u8] =
     b"depth,kind,id,precision,polyline\n0,collection,,0,\n1,point,7,0,AA\n1,linestring,-1,0,\n";
@@ -29,17 +33,20 @@ const POLYGONS_BLOB: &[u8] = b"\x06\x07\x0d\x02\x00\x02\x00\x02\x06\x08\x02\x01\
 const REFUSED: &[u8] =
     b"depth,kind,id,precision,polyline\n0,point,,0,AC\n0,point,,0,AA\n0,pont,,0,\n";
 
+const LOOSE: &[u8] = b"\x01\x00\x04\x02";
+
 const CUT: &[u8] = b"\x01\x00\x04\x02\x01\x00\x04";
 
 const CUT_LINE: &[u8] = b"0 0 point 0 00 4 1\n";
 
-// A conversion, its input, and the whole of its output, which is that of one geometry; behind how
-// many bytes of the input that is written, or for a table how many reads it has; and why the
-// conversion stops behind it, if it does.
+// A conversion, its input, and the whole of its output, which is that of one geometry, or for a table
+// of one or two; where the first of them ends in it; behind how many bytes of the input that is
+// written, or for a table how many reads it has; and why the conversion stops behind it, if it does.
 type Worked = (
     Conversion,
     &'static [u8],
     &'static [u8],
+    usize,
     usize,
     Option<Cause>,
 );
@@ -55,24 +62,37 @@ const CUT_BLOB: Cause = Cause::Blob {
 };
 
 // A table is read to its end, but for one that is refused: that is not read behind its last row.
-const WORKED: [Worked; 8] = [
-    (Conversion::Pack, POINT, POINT_BLOB, 48, None),
-    (Conversion::Pack, MEMBERS, MEMBERS_BLOB, 85, None),
-    (Conversion::Pack, POLYGONS, POLYGONS_BLOB, 103, None),
-    (Conversion::Pack, REFUSED, POINT_BLOB, 72, Some(BAD_KIND)),
-    (Conversion::Unpack, MEMBERS_BLOB, MEMBERS, 18, None),
-    (Conversion::Unpack, CUT, POINT, 4, Some(CUT_BLOB)),
-    (Conversion::Show, MEMBERS_BLOB, MEMBERS_LINES, 18, None),
-    (Conversion::Show, CUT, CUT_LINE, 4, Some(CUT_BLOB)),
+const WORKED: [Worked; 10] = [
+    (Conversion::Pack, POINT, POINT_BLOB, 5, 48, None),
+    (Conversion::Pack, TWO_POINTS, TWO_BLOBS, 5, 62, None),
+    (Conversion::Pack, MEMBERS, MEMBERS_BLOB, 18, 85, None),
+    (Conversion::Pack, POLYGONS, POLYGONS_BLOB, 16, 103, None),
+    (Conversion::Pack, REFUSED, POINT_BLOB, 5, 72, Some(BAD_KIND)),
+    (Conversion::Unpack, MEMBERS_BLOB, MEMBERS, 84, 18, None),
+    (Conversion::Unpack, LOOSE, POINT, 47, 4, None),
+    (Conversion::Unpack, CUT, POINT, 47, 4, Some(CUT_BLOB)),
+    (Conversion::Show, MEMBERS_BLOB, MEMBERS_LINES, 70, 18, None),
+    (Conversion::Show, CUT, CUT_LINE, 19, 4, Some(CUT_BLOB)),
 ];
 
+// How many geometries are done where so many bytes of the output are written.
+fn done_with(worked: Worked, sent: usize) -> u64 {
+    if sent < worked.3 {
+        0
+    } else if worked.3 < sent && sent == worked.2.len() {
+        2
+    } else {
+        1
+    }
+}
+
 // Whether a writer that takes so many bytes of the output, less than all, and then ends so, is told
-// with these, and with no geometry.
+// with these, and with the geometries in them.
 fn write_is_told(alloc: Global, worked: Worked, taken: usize, end: FuseEnd) -> bool {
     let mut reader = cut_reader(worked.1, u64::MAX);
     let mut writer = cut_writer(alloc, taken as u64, end, false);
     let answer = worked.0.carry_out(alloc, &mut reader, &mut writer);
-    let is_told = answer == stopped(0, taken as u64, Cause::WriteDevice);
+    let is_told = answer == stopped(done_with(worked, taken), taken as u64, Cause::WriteDevice);
     let written = writer.into_inner().into_inner();
     is_told && written.len() == taken && worked.2.starts_with(&written)
 }
@@ -102,63 +122,46 @@ fn each_write_that_takes_nothing_is_told_behind_the_bytes_before_it(rt: HostRunt
     }
 }
 
-// Whether a flush that fails is told behind the whole output, whatever the input has behind that.
-fn flush_is_told(alloc: Global, worked: Worked) -> bool {
-    let length = worked.2.len() as u64;
-    let mut reader = cut_reader(worked.1, u64::MAX);
-    let mut writer = cut_writer(alloc, length, FuseEnd::Fail, true);
-    let answer = worked.0.carry_out(alloc, &mut reader, &mut writer);
-    let is_told = answer == stopped(1, length, Cause::WriteDevice);
-    is_told && writer.into_inner().into_inner().as_slice() == worked.2
-}
-
-#[test]
-fn a_flush_that_fails_is_told_behind_all_output(rt: HostRuntime) {
-    for worked in &WORKED {
-        let is_told = flush_is_told(rt.alloc(), *worked);
-        assert!(rt; is_told, "{:?} of {:?}", worked.0, worked.1);
-    }
-}
-
-// The answer behind so many bytes of input and a read that fails, and what was written.
-fn behind_a_failed_read(
-    alloc: Global,
-    worked: Worked,
-    given: usize,
-) -> (Result<Report, ConvertFault>, Vec<u8>) {
+// Whether a failed read of a table is told behind a front of the blobs.
+fn read_of_a_table_is_told(alloc: Global, worked: Worked, given: usize) -> bool {
     let mut reader = cut_reader(worked.1, given as u64);
     let mut writer = Tap::new(Vec::new(alloc));
     let answer = worked.0.carry_out(alloc, &mut reader, &mut writer);
-    (answer, writer.into_inner())
+    let blobs = writer.into_inner();
+    let done = done_with(worked, blobs.len());
+    worked.2.starts_with(&blobs) && answer == stopped(done, blobs.len() as u64, Cause::ReadDevice)
 }
 
-// Whether a failed read of a table is told behind a front of the blob, which is done where it is whole.
-fn read_of_a_table_is_told(alloc: Global, worked: Worked, given: usize) -> bool {
-    let (answer, blob) = behind_a_failed_read(alloc, worked, given);
-    let done = if blob.len() == worked.2.len() { 1 } else { 0 };
-    let is_told = answer == stopped(done, blob.len() as u64, Cause::ReadDevice);
-    is_told && worked.2.starts_with(&blob)
+// How many bytes are written of a stream before its first blob.
+fn sent_before(conversion: Conversion) -> usize {
+    if conversion == Conversion::Unpack {
+        HEADER.len()
+    } else {
+        0
+    }
 }
 
 // Whether a failed read of a stream is told: behind what is written in front of a blob, and behind
 // all output once the blob is whole.
 fn read_of_a_stream_is_told(alloc: Global, worked: Worked, given: usize) -> bool {
-    let (answer, text) = behind_a_failed_read(alloc, worked, given);
-    let (done, sent) = if given >= worked.3 {
-        (1, worked.2.len())
-    } else if worked.0 == Conversion::Unpack {
-        (0, HEADER.len())
+    let is_done = given >= worked.4;
+    let sent = if is_done {
+        worked.2.len()
     } else {
-        (0, 0)
+        sent_before(worked.0)
     };
-    let is_told = answer == stopped(done, sent as u64, Cause::ReadDevice);
+    let mut reader = cut_reader(worked.1, given as u64);
+    let mut writer = Tap::new(Vec::new(alloc));
+    let answer = worked.0.carry_out(alloc, &mut reader, &mut writer);
+    let text = writer.into_inner();
+    let is_told = answer == stopped(u64::from(is_done), sent as u64, Cause::ReadDevice);
     is_told && text.len() == sent && worked.2.starts_with(&text)
 }
 
 // Whether each read of a table is told where it fails.
 fn each_read_of_a_table_is_told(alloc: Global, worked: Worked) -> bool {
     let mut are_told = true;
-    for given in 0..worked.3 {
+    for given in 0..worked.4 {
         are_told = are_told && read_of_a_table_is_told(alloc, worked, given);
     }
     are_told
@@ -192,34 +195,84 @@ fn each_read_that_fails_is_told_behind_the_whole_blobs(rt: HostRuntime) {
 
 // The answer of a conversion that nothing fails.
 fn known_answer(worked: Worked) -> Result<Report, ConvertFault> {
-    let length = worked.2.len() as u64;
-    match worked.4 {
-        None => report(1, length),
-        Some(cause) => stopped(1, length, cause),
+    let length = worked.2.len();
+    let done = done_with(worked, length);
+    match worked.5 {
+        None => report(done, length as u64),
+        Some(cause) => stopped(done, length as u64, cause),
     }
 }
 
-// Whether a conversion has the answer that is known, or is told to want memory behind a front of the
-// output. Its writer has room for the whole, so that no growth of its own is refused.
-fn is_whole_or_wants_memory(alloc: Global, worked: Worked) -> bool {
-    let Ok(room) = Vec::with_capacity(alloc, worked.2.len()) else {
-        return true;
-    };
+// Whether a writer of single bytes gets the whole output where its flush goes through or fails, and
+// this is then the answer.
+fn gets_all(
+    alloc: Global,
+    worked: Worked,
+    flush_fails: bool,
+    answer: Result<Report, ConvertFault>,
+) -> bool {
+    let mut reader = cut_reader(worked.1, u64::MAX);
+    let mut writer = cut_writer(alloc, 999, FuseEnd::Fail, flush_fails);
+    let given = worked.0.carry_out(alloc, &mut reader, &mut writer);
+    given == answer && writer.into_inner().into_inner().as_slice() == worked.2
+}
+
+// Whether it gets all, and a flush that fails is told behind that, whatever the input has behind it.
+fn flush_is_told(alloc: Global, worked: Worked) -> bool {
+    let length = worked.2.len();
+    let told = stopped(done_with(worked, length), length as u64, Cause::WriteDevice);
+    gets_all(alloc, worked, false, known_answer(worked)) && gets_all(alloc, worked, true, told)
+}
+
+#[test]
+fn a_flush_that_fails_is_told_behind_all_output(rt: HostRuntime) {
+    for worked in &WORKED {
+        let is_told = flush_is_told(rt.alloc(), *worked);
+        assert!(rt; is_told, "{:?} of {:?}", worked.0, worked.1);
+    }
+}
+
+// Whether want of memory may be told behind so many bytes: of a stream, in front of the blob or behind
+// all output.
+fn may_want(worked: Worked, sent: usize) -> bool {
+    worked.0 == Conversion::Pack || sent == worked.2.len() || sent == sent_before(worked.0)
+}
+
+// Whether a conversion has the answer that is known, or is told behind a front of the output to want
+// memory, or, where the writer in memory may have to grow, a failed write.
+fn is_whole_or_stops(alloc: Global, worked: Worked, room: Vec<u8>, may_grow: bool) -> bool {
     let mut reader = Tap::new(worked.1);
     let mut writer = Tap::new(room);
     let answer = worked.0.carry_out(alloc, &mut reader, &mut writer);
     let written = writer.into_inner();
-    let is_whole = written.len() == worked.2.len();
-    let done = if is_whole { 1 } else { 0 };
-    let wants = stopped(done, written.len() as u64, Cause::Memory);
-    let is_known = is_whole && answer == known_answer(worked);
-    worked.2.starts_with(&written) && (is_known || answer == wants)
+    let sent = written.len();
+    let done = done_with(worked, sent);
+    let is_known = sent == worked.2.len() && answer == known_answer(worked);
+    let wants = may_want(worked, sent) && answer == stopped(done, sent as u64, Cause::Memory);
+    let fails = may_grow && answer == stopped(done, sent as u64, Cause::WriteDevice);
+    worked.2.starts_with(&written) && (is_known || wants || fails)
+}
+
+// The same of a writer that has room for the whole output.
+fn is_whole_or_wants_memory(alloc: Global, worked: Worked) -> bool {
+    match Vec::with_capacity(alloc, worked.2.len()) {
+        Ok(room) => is_whole_or_stops(alloc, worked, room, false),
+        Err(_) => true,
+    }
 }
 
 #[test]
 fn a_refused_growth_is_want_of_memory_behind_a_front_of_the_output(rt: HostRuntime) {
     for worked in &WORKED {
         let is_told = is_whole_or_wants_memory(rt.alloc(), *worked);
+        assert!(rt; is_told, "{:?} of {:?}", worked.0, worked.1);
+    }
+}
+
+#[test]
+fn a_refused_growth_of_the_writer_is_a_failed_write(rt: HostRuntime) {
+    for worked in &WORKED {
+        let is_told = is_whole_or_stops(rt.alloc(), *worked, Vec::new(rt.alloc()), true);
         assert!(rt; is_told, "{:?} of {:?}", worked.0, worked.1);
     }
 }

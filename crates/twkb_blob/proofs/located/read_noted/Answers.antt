@@ -18,8 +18,8 @@ loop-engine-init g c = record {
   failures = refl;
 }
 
-pub read_item-requires-clause-few : goal.read_item-requires-clause-few
-read_item-requires-clause-few g c =
+pub read_piece-requires-clause-few : goal.read_piece-requires-clause-few
+read_piece-requires-clause-few g c =
     let (bs, left, stands, told) = c.loop-engine.invariant.read in
     omega (arith, counted c.reading.ensures.offset bs c.loop-engine.flat c.loop-engine.engine stands, left.counted, c.offset-learnt.ensures.within, c.offset-learnt.ensures.offset)
 
@@ -27,55 +27,55 @@ pub loop-engine-smaller : goal.loop-engine-smaller
 loop-engine-smaller g c =
     let (bs, left, stands, told) = c.loop-engine.invariant.read in
     let (bytes, some, more, after, says, live) = rw c.in-Ok-More.field-0-is at (c.in-Ok-More.ensures.read bs stands told) in
-    omega (arith, more.counted, some, c.read_item.new.input.within)
+    omega (arith, more.counted, some, c.read_piece.new.input.within)
 
 pub loop-engine-preserved : goal.loop-engine-preserved
 loop-engine-preserved g c =
     let (bs, left, stands, told) = c.loop-engine.invariant.read in
     let (bytes, some, more, after, says, live) = rw c.in-Ok-More.field-0-is at (c.in-Ok-More.ensures.read bs stands told) in
     record {
-      read = (bs ++ bytes, left_join c.args.input.now c.loop-engine.input c.read_item.new.input bs bytes left more, after, says);
+      read = (bs ++ bytes, left_join c.args.input.now c.loop-engine.input c.read_piece.new.input bs bytes left more, after, says);
       spent = λ e. absurd (cc (e, live));
-      limits = c.read_item.ensures.limits ∙ c.loop-engine.invariant.limits;
-      same_tap = c.read_item.ensures.same_tap ∙ c.loop-engine.invariant.same_tap;
+      limits = c.read_piece.ensures.limits ∙ c.loop-engine.invariant.limits;
+      same_tap = c.read_piece.ensures.same_tap ∙ c.loop-engine.invariant.same_tap;
       failures = c.in-Ok-More.ensures.failures ∙ c.loop-engine.invariant.failures;
     }
 
 pub returns-in-Ok-Made-clause-next : goal.returns-in-Ok-Made-clause-next
 returns-in-Ok-Made-clause-next g c =
     let (bs, left, stands, told) = c.loop-engine.invariant.read in
-    spans_made (allowance_of c.args.engine.now) (allowance_of c.loop-engine.engine) c.offset-start.result bs c.args.input.now c.loop-engine.input c.read_item.new.input c.read_item.new.flat c.read_item.new.engine c.read_item.new.notes
+    spans_made (allowance_of c.args.engine.now) (allowance_of c.loop-engine.engine) c.offset-start.result bs c.args.input.now c.loop-engine.input c.read_piece.new.input c.read_piece.new.flat c.read_piece.new.engine c.read_piece.new.notes
     c.loop-engine.invariant.limits c.offset-start.ensures.offset left (rw c.in-Ok-Made.field-0-is at (c.in-Ok-Made.ensures.read bs stands told))
 
 pub returns-then-is_between-clause-next : goal.returns-then-is_between-clause-next
 returns-then-is_between-clause-next g c =
     let (bs, left, stands, told) = c.loop-engine.invariant.read in
     let read = rw c.in-Ok-End.field-0-is at (c.in-Ok-End.ensures.read bs stands told) in
-    end_next (allowance_of c.args.engine.now) (allowance_of c.loop-engine.engine) bs c.args.input.now c.loop-engine.input c.read_item.new.input c.read_item.new.flat c.read_item.new.engine left read (c.if-is_between.ensures bs c.read_item.new.flat read.2)
+    end_next (allowance_of c.args.engine.now) (allowance_of c.loop-engine.engine) bs c.args.input.now c.loop-engine.input c.read_piece.new.input c.read_piece.new.flat c.read_piece.new.engine left read (c.if-is_between.ensures bs c.read_piece.new.flat read.2)
 
 pub returns-in-Ok-End-clause-next : goal.returns-in-Ok-End-clause-next
 returns-in-Ok-End-clause-next g c =
     let (bs, left, stands, told) = c.loop-engine.invariant.read in
     let read = rw c.in-Ok-End.field-0-is at (c.in-Ok-End.ensures.read bs stands told) in
-    let d = c.read_item.new.engine in
-    let first = subst (λ l. FirstFault l bs (offset_in d) Truncated) c.read_item.ensures.limits (c.if-is_between.ensures bs c.read_item.new.flat read.2) in
-    rw c.offset.ensures (cut_next (allowance_of c.args.engine.now) (allowance_of c.loop-engine.engine) bs c.args.input.now c.loop-engine.input c.read_item.new.input c.offset-start.result (offset_in d) c.read_item.new.flat d c.loop-engine.invariant.limits
+    let d = c.read_piece.new.engine in
+    let first = subst (λ l. FirstFault l bs (offset_in d) Truncated) c.read_piece.ensures.limits (c.if-is_between.ensures bs c.read_piece.new.flat read.2) in
+    rw c.offset.ensures (cut_next (allowance_of c.args.engine.now) (allowance_of c.loop-engine.engine) bs c.args.input.now c.loop-engine.input c.read_piece.new.input c.offset-start.result (offset_in d) c.read_piece.new.flat d c.loop-engine.invariant.limits
     c.offset-start.ensures.offset left read first)
 
 pub returns-in-Err-Engine-clause-next : goal.returns-in-Err-Engine-clause-next
 returns-in-Err-Engine-clause-next g c =
     let (bs, left, stands, told) = c.loop-engine.invariant.read in
-    let read = stopped_read (allowance_of c.loop-engine.engine) c.offset-start.result bs c.loop-engine.input c.read_item.new.input c.in-Err-Engine.stop c.read_item.new.flat c.read_item.new.engine c.read_item.new.notes
+    let read = stopped_read (allowance_of c.loop-engine.engine) c.offset-start.result bs c.loop-engine.input c.read_piece.new.input c.in-Err-Engine.stop c.read_piece.new.flat c.read_piece.new.engine c.read_piece.new.notes
     (rw c.in-Err-Engine.field-0-is at (c.in-Err-Engine.ensures.read bs stands told)) in
-    rw c.fault_at.ensures (stopped_next (allowance_of c.args.engine.now) (allowance_of c.loop-engine.engine) bs c.args.input.now c.loop-engine.input c.read_item.new.input c.offset-start.result c.offset-in-Err-Engine.result
-    c.in-Err-Engine.stop c.read_item.new.flat c.read_item.new.engine c.loop-engine.invariant.limits c.offset-start.ensures.offset c.offset-in-Err-Engine.ensures left read)
+    rw c.fault_at.ensures (stopped_next (allowance_of c.args.engine.now) (allowance_of c.loop-engine.engine) bs c.args.input.now c.loop-engine.input c.read_piece.new.input c.offset-start.result c.offset-in-Err-Engine.result
+    c.in-Err-Engine.stop c.read_piece.new.flat c.read_piece.new.engine c.loop-engine.invariant.limits c.offset-start.ensures.offset c.offset-in-Err-Engine.ensures left read)
 
 pub returns-in-Err-Engine-clause-memory : goal.returns-in-Err-Engine-clause-memory
 returns-in-Err-Engine-clause-memory g c = λ is.
     let (bs, left, stands, told) = c.loop-engine.invariant.read in
     let stop = lacks_memory c.fault_at.result _ c.in-Err-Engine.stop c.fault_at.ensures is in
     ahead_after (allowance_of c.args.engine.now) (allowance_of c.loop-engine.engine) bs c.args.input.now c.loop-engine.input c.loop-engine.invariant.limits left
-    (noted_ahead (allowance_of c.loop-engine.engine) c.offset-start.result bs c.loop-engine.input c.read_item.new.input c.in-Err-Engine.stop c.read_item.new.flat c.read_item.new.engine c.read_item.new.notes stop
+    (noted_ahead (allowance_of c.loop-engine.engine) c.offset-start.result bs c.loop-engine.input c.read_piece.new.input c.in-Err-Engine.stop c.read_piece.new.flat c.read_piece.new.engine c.read_piece.new.notes stop
     (rw c.in-Err-Engine.field-0-is at (c.in-Err-Engine.ensures.read bs stands told)))
 
 pub returns-in-Err-Engine-clause-failures : goal.returns-in-Err-Engine-clause-failures
@@ -85,6 +85,6 @@ pub returns-in-Err-Device-clause-next : goal.returns-in-Err-Device-clause-next
 returns-in-Err-Device-clause-next g c =
     let (bs, left, stands, told) = c.loop-engine.invariant.read in
     let read = rw c.in-Err-Device.field-0-is at (c.in-Err-Device.ensures.read bs stands told) in
-    halted_next (allowance_of c.args.engine.now) (allowance_of c.loop-engine.engine) c.in-Err-Device.fault bs c.args.input.now c.loop-engine.input c.read_item.new.input c.read_item.new.flat c.read_item.new.engine
-    (offset_in c.read_item.new.engine) c.is_between-learnt.result c.loop-engine.invariant.limits left c.loop-engine.invariant.spent
-    (subst (λ l. IsEnd l bs (offset_in c.read_item.new.engine) c.is_between-learnt.result) c.read_item.ensures.limits (c.is_between-learnt.ensures bs c.read_item.new.flat read.1)) read
+    halted_next (allowance_of c.args.engine.now) (allowance_of c.loop-engine.engine) c.in-Err-Device.fault bs c.args.input.now c.loop-engine.input c.read_piece.new.input c.read_piece.new.flat c.read_piece.new.engine
+    (offset_in c.read_piece.new.engine) c.is_between-learnt.result c.loop-engine.invariant.limits left c.loop-engine.invariant.spent
+    (subst (λ l. IsEnd l bs (offset_in c.read_piece.new.engine) c.is_between-learnt.result) c.read_piece.ensures.limits (c.is_between-learnt.ensures bs c.read_piece.new.flat read.1)) read

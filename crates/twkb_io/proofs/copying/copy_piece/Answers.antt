@@ -34,3 +34,6 @@ returns-clause-ok g c =
         counted = omega arith;
       },
     )
+
+pub returns-clause-more : goal.returns-clause-more
+returns-clause-more g c = search rules

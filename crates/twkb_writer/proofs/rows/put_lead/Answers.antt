@@ -32,3 +32,6 @@ returns-in_ok-put_own-in-Some-clause-ok g c =
     let first = simp to_z-of_z at c.in_ok-put_header-in-Some.ensures.ok in
     rw (own_at c.args.job.now.style _ _ c.args.job.now.sizes.now c.args.place.entry c.index.result.now c.args.at.now.node.row.kind c.args.at.now.node.row.depth c.args.at.now.node.points _ c.in-Some.is here (c.index.ensures ∙ ap (λ (es : List Entry). get_or es c.args.place.entry c.index.result.now) c.sizes.view_is))
     (moved_join g.S.Sink.took g.S.Sink.refused g.met.S.Sink.takes_join g.met.S.Sink.refuses_join _ _ _ _ _ first c.in_ok-put_own-in-Some.ensures.ok)
+
+pub returns-in_ok-put_part-in-None-clause-at : goal.returns-in_ok-put_part-in-None-clause-at
+returns-in_ok-put_part-in-None-clause-at g c = search rules

@@ -1,4 +1,5 @@
-use Rattle.std.proofs.Common.{rules, ◌≡◌, refl, ◌∙◌, ◌++◌, ◌∷◌, [], arith}
+use Rattle.std.proofs.Common.{rules, ◌≡◌, refl, sym, subst, ◌∙◌, ◌++◌, ◌∷◌, [], arith}
+use Rattle.twkb_engine.specs.Building.{Takes}
 use Rattle.twkb_engine.specs.Standing.{held_in}
 use Rattle.twkb_engine.proofs.Stepping.{byte_stepped, number_stepped, long_refused}
 use Rattle.twkb_engine.proofs.engine.Engine.step.Goals as goal
@@ -6,14 +7,14 @@ use Rattle.twkb_engine.proofs.engine.Engine.step.Goals as goal
 pub returns-then-wants_byte-clause-step : goal.returns-then-wants_byte-clause-step
 returns-then-wants_byte-clause-step c = λ bs s.
     let same : c.args.byte ≡ c.from.result = search rules in
-    byte_stepped bs c.args.byte c.args.flat.now c.take.new.flat c.args.self.now (record { builder = c.take.new.self; partial = c.args.self.now.partial }) c.take.result s (c.wants_byte.ensures.byte c.if-wants_byte.true) c.ranges.byte.fits refl (λ front i b says gives at len. c.take.ensures.taken front i b says gives (at ∙ same) len)
+    byte_stepped bs c.args.byte c.args.flat.now c.take.new.flat c.args.self.now (record { builder = c.take.new.self; partial = c.args.self.now.partial }) c.take.result s (c.wants_byte.ensures.byte c.if-wants_byte.true) c.ranges.byte.fits refl (subst (λ n. Takes c.args.self.now.builder n 1 c.args.flat.now c.take.result c.take.new.flat c.take.new.self) (sym same) c.take.ensures.taken)
 
 pub returns-in-Done-clause-step : goal.returns-in-Done-clause-step
 returns-in-Done-clause-step c = λ bs s.
     let d = c.args.self.now in
     let whole = (c.varints.ensures.whole (held_in d ++ c.args.byte ∷ []) c.in-Done.value).1 c.in-Done.ensures.answer.0 in
     number_stepped bs c.args.byte c.in-Done.value c.args.flat.now c.take-in-Done.new.flat d (record { builder = c.take-in-Done.new.self; partial = c.step.new.self }) c.take-in-Done.result s (c.wants_byte.ensures.spelled c.if-wants_byte.false) whole c.in-Done.ensures.held
-    (λ front i b says gives at len. c.take-in-Done.ensures.taken front i b says gives at (len ∙ omega (arith, c.len.ensures.count)))
+    (λ front bytes role b says gives len. c.take-in-Done.ensures.taken front bytes role b says gives (len ∙ omega (arith, c.len.ensures.count)))
 
 pub returns-in-TooLong-clause-step : goal.returns-in-TooLong-clause-step
 returns-in-TooLong-clause-step c = λ bs s more.

@@ -11,3 +11,6 @@ returns c =
       λ few_points. valid_within c.args.limits.now c.args.self.now c.precision-learnt.ensures.sound c.precision-learnt.ensures.in_range few_levels few_nodes (search rules),
       λ (valid : IsValid c.args.limits.now c.args.self.now). let few_points : length (flat c.args.self.now) ≤ c.args.limits.now.points = valid.points_kept in search rules,
     )
+
+pub returns-then-count_nodes-from : goal.returns-then-count_nodes-from
+returns-then-count_nodes-from c = search rules

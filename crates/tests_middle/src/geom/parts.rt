@@ -1,0 +1,147 @@
+//! Words of kinds, lists, and what a geometry shows.
+use super::fixtures::{ids, no_members};
+use crate::forms::are_at;
+use crate::geometries::{dot, line_of, lines_of, point_and_line, two_points};
+use std::alloc::Global;
+use twkb_tree::{Areas, Geometry, IdList, Kind, Members, Pts, Shape};
+
+const WORDS: [(Kind, &str); 8] = [
+    (Kind::Point, "point"),
+    (Kind::Linestring, "linestring"),
+    (Kind::Polygon, "polygon"),
+    (Kind::Ring, "ring"),
+    (Kind::MultiPoint, "multipoint"),
+    (Kind::MultiLinestring, "multilinestring"),
+    (Kind::MultiPolygon, "multipolygon"),
+    (Kind::Collection, "collection"),
+];
+
+#[test]
+fn words_of_kinds(rt: HostRuntime) {
+    for (kind, word) in &WORDS {
+        assert!(rt; kind.name() == *word, "{word}");
+    }
+}
+
+// Two places, of two points.
+const TWO: [(i64, i64); 2] = [(2, 1), (4, 3)];
+
+// Whether the list is there and holds the two points, as it shows them and as it hands them out.
+fn holds_two(points: Option<Pts>) -> bool {
+    match points {
+        Some(points) => {
+            are_at(points.as_slice(), &TWO) && are_at(points.into_vec().as_slice(), &TWO)
+        }
+        None => false,
+    }
+}
+
+#[test]
+fn points_keep_their_items(rt: HostRuntime) {
+    assert!(rt; holds_two(line_of(rt.alloc(), &TWO)));
+}
+
+// A list of one polygon of one ring of the two points.
+fn area(alloc: Global) -> Option<Areas> {
+    let rows: [&[(i64, i64)]; 1] = [&TWO];
+    let mut areas = Vec::new(alloc);
+    areas.push(lines_of(alloc, &rows)?).ok()?;
+    Some(Areas::from_vec(areas))
+}
+
+// The ring of that polygon.
+fn ring(alloc: Global) -> Option<Pts> {
+    let lines = area(alloc)?.into_vec().pop()?;
+    lines.into_vec().pop()
+}
+
+#[test]
+fn lines_and_polygons_keep_their_items(rt: HostRuntime) {
+    assert!(rt; holds_two(ring(rt.alloc())));
+}
+
+// Whether the list is there, with the least and the greatest number, in this order.
+fn has_both_ends(numbers: Option<IdList>) -> bool {
+    let ends = [i64::MIN, i64::MAX];
+    match numbers {
+        Some(numbers) => {
+            let is_shown = numbers.as_slice() == ends.as_slice();
+            is_shown && numbers.into_vec().as_slice() == ends.as_slice()
+        }
+        None => false,
+    }
+}
+
+#[test]
+fn ids_keep_their_items(rt: HostRuntime) {
+    assert!(rt; has_both_ends(ids(rt.alloc(), &[i64::MIN, i64::MAX])));
+}
+
+// The precision of the one member of a list, which holds it as it shows it.
+fn precision_of_one(alloc: Global, member: Option<Geometry>) -> Option<i8> {
+    let mut items = Vec::new(alloc);
+    items.push(member?).ok()?;
+    let members = Members::from_vec(items);
+    if members.as_slice().len() != 1 {
+        return None;
+    }
+    Some(members.into_vec().pop()?.precision())
+}
+
+#[test]
+fn members_keep_their_items(rt: HostRuntime) {
+    assert!(rt; precision_of_one(rt.alloc(), dot(-8, Some((2, 1)))) == Some(-8));
+}
+
+// Whether the geometry is there, and shows a multipoint of two points with the ids 1 and 2.
+fn shows_two_points(geometry: Option<Geometry>) -> bool {
+    let Some(geometry) = geometry else {
+        return false;
+    };
+    match geometry.shape() {
+        Shape::MultiPoint(points, Some(ids)) => {
+            are_at(points.as_slice(), &[(0, 0), (1, 1)]) && ids.as_slice() == [1, 2].as_slice()
+        }
+        _ => false,
+    }
+}
+
+#[test]
+fn a_geometry_shows_its_shape(rt: HostRuntime) {
+    assert!(rt; shows_two_points(two_points(rt.alloc())));
+}
+
+// Whether both are there, and `==` and `!=` give this answer and its opposite.
+fn compares(first: Option<Geometry>, second: Option<Geometry>, is_one: bool) -> bool {
+    match (first, second) {
+        (Some(first), Some(second)) => {
+            (first == second) == is_one && (first != second) != is_one
+        }
+        _ => false,
+    }
+}
+
+#[test]
+fn geometries_are_equal_where_their_trees_are(rt: HostRuntime) {
+    let alloc = rt.alloc();
+    assert!(rt;
+        compares(point_and_line(alloc), point_and_line(alloc), true),
+        "members"
+    );
+    assert!(rt;
+        compares(point_and_line(alloc), two_points(alloc), false),
+        "kinds"
+    );
+    assert!(rt;
+        compares(no_members(alloc), dot(0, None), false),
+        "nothing of each kind"
+    );
+    assert!(rt;
+        compares(dot(0, Some((2, 1))), dot(1, Some((2, 1))), false),
+        "precisions"
+    );
+    assert!(rt;
+        compares(dot(0, Some((2, 1))), dot(0, Some((1, 2))), false),
+        "places"
+    );
+}
