@@ -7,8 +7,6 @@ mod joining;
 mod points;
 mod stops;
 mod tables;
-#[cfg(test)]
-mod tests;
 
 pub use accounts::{Account, pack_table};
 pub use arrivals::{Arrived, count_arrivals};

@@ -1,11 +1,8 @@
-//! What no clause says of inputs, outputs, sinks and devices: that calls succeed, which fault is answered, and how often a
-//! device is asked.
+//! What no clause says of taps, endings and sinks: that calls succeed, and how often a device is asked. Inputs, outputs and copies
+//! are tried by the program `vectors`.
 mod callers;
 mod devices;
 mod endings;
-mod inputs;
-mod long_texts;
-mod outputs;
 mod sinks;
 mod taps;
 

@@ -1,6 +1,3 @@
-//! Outside vectors of points, differences and boxes, and each public call once.
-mod boxes;
-mod cursors;
-mod differences;
+//! Each public call of points once; their vectors are those of the program `vectors`.
+mod calls;
 pub mod fixtures;
-mod ranges;

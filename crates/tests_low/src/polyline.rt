@@ -1,10 +1,6 @@
-//! Outside vectors of polylines, and each public call once.
+//! Each public call of polylines once; their vectors are those of the program `vectors`.
 mod fixtures;
 mod laws;
-mod lengths;
 mod lent;
 mod memory;
-mod places;
-mod refusals;
 mod texts;
-mod vectors;

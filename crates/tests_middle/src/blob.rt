@@ -1,16 +1,10 @@
-//! Readers and sessions of blobs: worked rows, faults, limits, spans, texts, and want of memory. Bytes, offsets and reasons are
-//! those of the worked rows of the documents, and no output of these crates.
+//! Readers and sessions of blobs: single calls, devices that fail, texts, and want of memory. Their vectors are those of the program
+//! `vectors`.
 mod answers;
-mod feeding;
 mod growths;
 mod growths_of_spans;
-mod limits;
 mod located;
-mod points;
 mod readers;
-mod refusals;
 mod rows;
 mod sessions;
-mod sizes;
 mod texts;
-mod worked;

@@ -1,5 +1,4 @@
-//! The flat form: vectors of single calls. The rows and their places are those of worked tables.
-mod admitting;
+//! The flat form: single calls, and want of memory. Nodes and admitted rows of worked tables are those of the program `vectors`.
 mod converting;
 mod laws;
 mod memory;

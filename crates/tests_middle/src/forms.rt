@@ -3,8 +3,8 @@ use std::alloc::Global;
 use twkb_geom::{Flat, Kind, Row};
 use twkb_points::Pt;
 
-/// A row by its depth, kind, id and precision, and its points.
-pub type Entry = (u32, Kind, Option<i64>, Option<i8>, &'static [(i64, i64)]);
+// A row by its depth, kind, id and precision, and its points.
+type Entry = (u32, Kind, Option<i64>, Option<i8>, &'static [(i64, i64)]);
 
 /// `0,point,,0,AC`
 pub const ONE_POINT: &[Entry] = &[(0, Kind::Point, None, Some(0), &[(2, 1)])];
@@ -23,12 +23,6 @@ pub const TWO_POINTS: &[Entry] = &[
     (1, Kind::Point, Some(2), None, &[(1, 1)]),
 ];
 
-/// `0,multilinestring,,0,` / `1,linestring,,,`
-pub const EMPTY_LINE: &[Entry] = &[
-    (0, Kind::MultiLinestring, None, Some(0), &[]),
-    (1, Kind::Linestring, None, None, &[]),
-];
-
 /// `0,collection,,0,` / `1,point,7,0,AA` / `1,linestring,-1,0,`
 pub const POINT_AND_LINE: &[Entry] = &[
     (0, Kind::Collection, None, Some(0), &[]),
@@ -43,14 +37,6 @@ pub const TWO_POLYGONS: &[Entry] = &[
     (2, Kind::Ring, None, None, &[(1, 1)]),
     (2, Kind::Ring, None, None, &[]),
     (1, Kind::Polygon, Some(4), None, &[]),
-];
-
-/// `0,collection,,0,` / `1,collection,,0,` / `2,point,,5,AA` / `1,point,,-8,AC`
-pub const INNER_COLLECTION: &[Entry] = &[
-    (0, Kind::Collection, None, Some(0), &[]),
-    (1, Kind::Collection, None, Some(0), &[]),
-    (2, Kind::Point, None, Some(5), &[(1, 1)]),
-    (1, Kind::Point, None, Some(-8), &[(2, 1)]),
 ];
 
 /// Nine collections in one another.
@@ -90,8 +76,8 @@ pub fn points(alloc: Global, places: &[(i64, i64)]) -> Option<Vec<Pt>> {
     Some(points)
 }
 
-/// Pushes a row with these points, where it is admitted.
-pub fn push_row(alloc: Global, flat: &mut Flat, row: Row, places: &[(i64, i64)]) -> Option<()> {
+// Pushes a row with these points, where it is admitted.
+fn push_row(alloc: Global, flat: &mut Flat, row: Row, places: &[(i64, i64)]) -> Option<()> {
     let own = points(alloc, places)?;
     if !flat.admits(&row, own.as_slice()) {
         return None;
@@ -109,16 +95,6 @@ pub fn form(alloc: Global, rows: &[Entry]) -> Option<Flat> {
             row(*depth, *kind, *id, *precision),
             *places,
         )?;
-    }
-    Some(flat)
-}
-
-/// So many collections in one another.
-pub fn nested_collections(alloc: Global, count: u32) -> Option<Flat> {
-    let mut flat = Flat::new(alloc);
-    for depth in 0..count {
-        let collection = row(depth, Kind::Collection, None, Some(0));
-        push_row(alloc, &mut flat, collection, &[])?;
     }
     Some(flat)
 }

@@ -66,21 +66,10 @@ fn pair(alloc: Global, first: Geometry, second: Geometry, ids: Ids) -> Option<Ge
     geometry(0, Shape::Collection(Members::from_vec(members), ids))
 }
 
-/// `0,polygon,,0,` / `1,ring,,,???GGF` / `1,ring,,,AA?AA@`
-pub fn two_rings(alloc: Global) -> Option<Geometry> {
-    let rings: [&[(i64, i64)]; 2] = [&[(0, 0), (4, 0), (0, 4)], &[(1, 1), (2, 1), (1, 2)]];
-    geometry(0, Shape::Polygon(lines_of(alloc, &rings)?))
-}
-
 /// `0,multipoint,,0,` / `1,point,1,,??` / `1,point,2,,AA`
 pub fn two_points(alloc: Global) -> Option<Geometry> {
     let places = line_of(alloc, &[(0, 0), (1, 1)])?;
     geometry(0, Shape::MultiPoint(places, ids(alloc, &[1, 2])?))
-}
-
-/// `0,multilinestring,,0,` / `1,linestring,,,`
-pub fn empty_line(alloc: Global) -> Option<Geometry> {
-    geometry(0, Shape::MultiLine(lines_of(alloc, &[&[]])?, None))
 }
 
 /// `0,multipolygon,,0,` / `1,polygon,3,,` / `2,ring,,,AA` / `2,ring,,,` / `1,polygon,4,,`

@@ -1,9 +1,6 @@
-//! Canonical blobs of geometries and of flat forms, the counted work, and sinks that fail. The bytes are worked out by hand from
-//! the TWKB specification.
-mod blobs;
+//! The calls of the writer, the counted work, and sinks that fail. Blobs of tables are those of the program `vectors`.
 mod encoding;
 mod failing;
 mod lending;
 mod measuring;
 mod memory;
-mod written;

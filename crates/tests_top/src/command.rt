@@ -1,20 +1,13 @@
 //! Runs of the command, and its texts. A run is given a line of words, an input and its devices.
 mod causes;
 mod devices;
-mod endings;
-mod help;
 mod memory;
-mod nesting;
-mod runs;
 mod usage;
-mod words;
 
 use std::alloc::Global;
 use std::io::{Read, Write};
 use twkb_command::run;
 use twkb_io::{Fuse, FuseEnd, Tap};
-
-const HEADER: &str = "depth,kind,id,precision,polyline\n";
 
 // Two points, (2, 1) and (1, 1), as a table and as blobs.
 const POINT_TABLE: &[u8] = b"depth,kind,id,precision,polyline\n0,point,,0,AC\n0,point,,0,AA\n";
@@ -58,17 +51,6 @@ fn run_line<R: Read, W: Write, E: Write>(
         return None;
     };
     Some(run(alloc, &words, reader, writer, errors))
-}
-
-// Whether a run over an input in memory has this status, and writes this output and these errors.
-fn ends(alloc: Global, line: &str, input: &[u8], status: u8, output: &[u8], errors: &[u8]) -> bool {
-    let mut reader = Tap::new(input);
-    let mut writer = Tap::new(Vec::new(alloc));
-    let mut told = Tap::new(Vec::new(alloc));
-    let found = run_line(alloc, line, &mut reader, &mut writer, &mut told);
-    let is_written = writer.into_inner().as_slice() == output;
-    let is_told = told.into_inner().as_slice() == errors;
-    found == Some(status) && is_written && is_told
 }
 
 // A device that takes so many bytes, one a write, and then ends so.

@@ -1,6 +1,8 @@
-//! Tests of tables, of whole conversions and of the command, through what their crates make public.
+//! Tests of tables, of whole conversions, of the command and of the callers in `examples`, through what their crates make public.
 #![tactic(auto)]
 
+#[cfg(test)]
+mod callers;
 #[cfg(test)]
 mod command;
 #[cfg(test)]

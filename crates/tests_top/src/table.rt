@@ -2,9 +2,7 @@
 mod calls;
 mod fields;
 mod fixtures;
-mod geometries;
 mod laws;
-mod refusing;
 mod rows;
 mod tables;
 mod texts;

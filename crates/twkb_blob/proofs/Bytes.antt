@@ -14,9 +14,10 @@ use Rattle.twkb_grammar.specs.Noting.{Notes}
 use Rattle.twkb_grammar.specs.declared.span.Span.{Span}
 use Rattle.twkb_io.specs.declared.input.Input.{Input}
 use Rattle.twkb_io.specs.Inputs.{given, rest_of, held_of, is_spent}
-use Rattle.twkb_front.proofs.Pieces.{one_front}
-use Rattle.twkb_engine.specs.Parts.{PartIn}
-use Rattle.twkb_engine.proofs.Feeding.{part_further, refused}
+use Rattle.twkb_outline.proofs.Pieces.{one_front}
+use Rattle.twkb_outline.specs.Parts.{PartIn}
+use Rattle.twkb_outline.proofs.Judging.{part_further}
+use Rattle.twkb_engine.proofs.Feeding.{refused}
 use Rattle.twkb_engine.specs.Standing.{IsTakenFrom, StandsAt, offset_in}
 use Rattle.twkb_engine.specs.Stops.{reason_of}
 use Rattle.twkb_engine.specs.declared.engine.Engine.{Engine}

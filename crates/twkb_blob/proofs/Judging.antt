@@ -6,7 +6,7 @@ use Rattle.twkb_grammar.specs.Blob.{Blob}
 use Rattle.twkb_grammar.specs.Fault.{SizeMismatch}
 use Rattle.twkb_grammar.proofs.PartBytes.{blob_is_part}
 use Rattle.twkb_grammar.proofs.OneFault.{no_fault}
-use Rattle.twkb_engine.specs.Parts.{IsJudged}
+use Rattle.twkb_outline.specs.Parts.{IsJudged}
 
 -- a blob was judged whole
 pub blob_judged : (limits : Allowance) (bytes : List ℕ) (g : Tree) → Blob limits bytes g → IsJudged limits bytes

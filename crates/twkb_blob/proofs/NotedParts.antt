@@ -18,7 +18,7 @@ use Rattle.twkb_outline.specs.Outline.{Outline, outline_of}
 use Rattle.twkb_engine.specs.State.{IsSpelled}
 use Rattle.twkb_engine.specs.Open.{awaited_at}
 use Rattle.twkb_engine.specs.Building.{sums_of}
-use Rattle.twkb_engine.specs.Parts.{IsJudged, PartIn}
+use Rattle.twkb_outline.specs.Parts.{IsJudged, PartIn}
 use Rattle.twkb_engine.specs.Standing.{StandsAt, IsOneItem, IsTakenFrom, allowance_of, held_in, awaited_in}
 use Rattle.twkb_engine.specs.declared.awaited.Awaited.TheVariants as awaited
 use Rattle.twkb_engine.specs.declared.engine.Engine.{Engine}

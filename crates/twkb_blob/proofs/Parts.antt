@@ -15,7 +15,7 @@ use Rattle.twkb_grammar.specs.declared.span.Span.{Span}
 use Rattle.twkb_grammar.proofs.Streams.{blob_long}
 use Rattle.twkb_io.specs.declared.input.Input.{Input}
 use Rattle.twkb_io.specs.Inputs.{rest_of}
-use Rattle.twkb_engine.specs.Parts.{IsJudged, PartIn}
+use Rattle.twkb_outline.specs.Parts.{IsJudged, PartIn}
 use Rattle.twkb_engine.specs.Standing.{IsFed}
 use Rattle.twkb_engine.specs.declared.engine.Engine.{Engine}
 use Rattle.twkb_engine.specs.declared.stop.Stop.{Stop}

@@ -16,7 +16,7 @@ use Rattle.twkb_engine.specs.Building.{sums_of, outline_in}
 use Rattle.twkb_engine.specs.Stops.{reason_of}
 use Rattle.twkb_engine.specs.declared.stop.Stop.{Stop}
 use Rattle.twkb_engine.specs.declared.stop.Stop.TheVariants.{Memory, Refused}
-use Rattle.twkb_engine.specs.Parts.{IsJudged}
+use Rattle.twkb_outline.specs.Parts.{IsJudged}
 use Rattle.twkb_engine.specs.Standing.{StandsAt, IsFed, IsEnd, MadeIn, RefusedIn, allowance_of, count_of, held_in, offset_in}
 use Rattle.twkb_engine.specs.declared.engine.Engine.{Engine}
 use Rattle.twkb_engine.specs.declared.blob_reason.BlobReason.{BlobReason}

@@ -13,7 +13,7 @@ use Rattle.twkb_outline.specs.Reading.{Outlined, OutlineLanded}
 use Rattle.twkb_outline.proofs.Outlined.{outlined_start, outlined_ends, outlined_whole}
 use Rattle.twkb_outline.proofs.PointHeaders.{HeaderRead, sums_behind, bare_header_read, sized_header_read, header_point_read}
 use Rattle.twkb_front.specs.Whole.{WholePoint, metadata_with, header_bytes}
-use Rattle.twkb_engine.specs.Parts.{PartIn}
+use Rattle.twkb_outline.specs.Parts.{PartIn}
 use Rattle.twkb_engine.specs.Standing.{MadeIn}
 use Rattle.twkb_blob.proofs.Judging.{blob_judged}
 

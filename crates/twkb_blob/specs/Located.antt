@@ -11,7 +11,7 @@ use Rattle.twkb_grammar.specs.Noting.{Notes, no_notes, noted, note_header, note_
 use Rattle.twkb_grammar.specs.declared.span.Span.{Span}
 use Rattle.twkb_io.specs.declared.input.Input.{Input}
 use Rattle.twkb_io.specs.Inputs.{given, is_spent as input_spent}
-use Rattle.twkb_engine.specs.Parts.{PartIn}
+use Rattle.twkb_outline.specs.Parts.{PartIn}
 use Rattle.twkb_engine.specs.Standing.{StandsAt, RefusedIn, allowance_of, offset_in}
 use Rattle.twkb_engine.specs.Stops.{reason_of}
 use Rattle.twkb_engine.specs.declared.stop.Stop.TheVariants.{Memory, Refused}

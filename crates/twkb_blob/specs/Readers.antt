@@ -14,7 +14,7 @@ use Rattle.twkb_io.specs.declared.input.InFault.{InFault}
 use Rattle.twkb_io.specs.Inputs.{given, input_tap, rest_of, is_spent as input_spent}
 use Rattle.twkb_engine.specs.Standing.{StandsAt, offset_in}
 use Rattle.twkb_engine.specs.Stops.{reason_of}
-use Rattle.twkb_engine.specs.Parts.{PartIn}
+use Rattle.twkb_outline.specs.Parts.{PartIn}
 use Rattle.twkb_engine.specs.declared.engine.Engine.{Engine}
 use Rattle.twkb_engine.specs.declared.stop.Stop.TheVariants.{Memory, Refused}
 use Rattle.twkb_blob.specs.declared.fault.BlobFault.{BlobFault}

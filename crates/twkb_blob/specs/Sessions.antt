@@ -8,7 +8,7 @@ use Rattle.twkb_grammar.specs.Blob.{Stream}
 use Rattle.twkb_grammar.specs.Fault.{StreamFault, Truncated}
 use Rattle.twkb_engine.specs.Standing.{StandsAt, allowance_of, held_in, open_in}
 use Rattle.twkb_engine.specs.Stops.{reason_of}
-use Rattle.twkb_engine.specs.Parts.{PartIn}
+use Rattle.twkb_outline.specs.Parts.{PartIn}
 use Rattle.twkb_io.specs.declared.input.InFault.TheVariants.{TooLong}
 use Rattle.twkb_blob.specs.Faults.{RefusedAt}
 use Rattle.twkb_blob.specs.declared.session.Session.{Session}

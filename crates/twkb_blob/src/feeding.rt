@@ -1,6 +1,6 @@
 //! An engine that is fed, but for blobs that are single points.
 ghost use Rattle.std.specs.Prelude.{◌≡◌, ◌+◌, ◌≤◌, ◌^◌, [], List, ℕ, Ok, None, IfOk, IfSome, OnErr, length};
-ghost use Rattle.twkb_engine.specs.Parts.{PartIn};
+ghost use Rattle.twkb_outline.specs.Parts.{PartIn};
 ghost use Rattle.twkb_engine.specs.Standing.{StandsAt, MadeIn, IsFed, allowance_of, count_of};
 
 use crate::root::take_root_point;

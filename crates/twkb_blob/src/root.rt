@@ -6,7 +6,7 @@ ghost use Rattle.twkb_tree.specs.Rows.{whole_row};
 ghost use Rattle.twkb_tree.specs.declared.kind.Kind.TheVariants as kind;
 ghost use Rattle.twkb_grammar.specs.PlainReader.{is_exact};
 ghost use Rattle.twkb_front.specs.Whole.{WholePoint};
-ghost use Rattle.twkb_engine.specs.Parts.{PartIn};
+ghost use Rattle.twkb_outline.specs.Parts.{PartIn};
 ghost use Rattle.twkb_engine.specs.Standing.{MadeIn};
 
 use std::alloc::AllocError;

@@ -1,14 +1,15 @@
 -- An engine takes the bytes of a piece, and comes to the end of the bytes.
-use Rattle.std.proofs.Common.{◌≡◌, ◌⊎◌, inl, inr, ℕ, ◌+◌, ◌-◌, ◌<◌, ◌≤◌, List, [], ◌∷◌, ◌++◌, length, take, drop, get_or, sym, ap, subst, true, false, Bool, Result, Ok, Err, OnErr, arith}
+use Rattle.std.proofs.Common.{◌≡◌, ◌⊎◌, inl, inr, ℕ, ◌+◌, ◌-◌, ◌<◌, ◌≤◌, List, [], ◌∷◌, ◌++◌, length, take, drop, get_or, sym, ap, subst, true, false, Bool, Result, Ok, Err, arith}
 use Rattle.std.proofs.Math.Seq.{take-suc}
 use Rattle.twkb_tree.specs.Limits.{Allowance}
 use Rattle.twkb_tree.specs.Rows.{Row}
 use Rattle.twkb_grammar.specs.Blob.{Blob}
 use Rattle.twkb_grammar.specs.Fault.{FirstFault}
-use Rattle.twkb_front.proofs.Pieces.{one_front, one_within}
+use Rattle.twkb_outline.proofs.Judging.{part_further}
+use Rattle.twkb_outline.proofs.Pieces.{one_front, one_within}
 use Rattle.twkb_engine.specs.State.{IsSpelled}
 use Rattle.twkb_engine.specs.Stops.{reason_of}
-use Rattle.twkb_engine.specs.Parts.{IsJudged, PartIn}
+use Rattle.twkb_outline.specs.Parts.{PartIn}
 use Rattle.twkb_engine.specs.Standing.{StandsAt, IsStep, IsTakenFrom, IsFed, offset_in}
 use Rattle.twkb_engine.specs.declared.engine.Engine.{Engine}
 use Rattle.twkb_engine.specs.declared.phase.Phase.{Phase}
@@ -52,20 +53,6 @@ made limits own bs piece used (count, true) rs d same on some within h = (
   },
   h.3,
 )
-
--- what holds in any case holds where an error is answered
-pub on_err : {A E P : Type 0} (r : Result A E) → P → OnErr r P
-on_err (Ok x) p = tt
-on_err (Err e) p = p
-
--- a part that ends in what is left ends in the piece
-pub part_further : (limits : Allowance) (bs piece : List ℕ) (used : ℕ) → used ≤ length piece → PartIn limits (bs ++ take used piece) (take (length piece - used) (drop used piece)) → PartIn limits bs piece
-part_further limits bs piece used within p = record {
-  used = used + p.used;
-  some = (let some = p.some in omega (arith, some));
-  within = one_within piece used p.used within p.within;
-  part = subst (IsJudged limits) (one_front bs piece used p.used) p.part;
-}
 
 -- an item that is refused in what is left is refused in the piece
 pub refused : (limits own : Allowance) (bs piece : List ℕ) (used : ℕ) (stop : Stop) (rs : List Row) (d : Engine) → own ≡ limits → used ≤ length piece

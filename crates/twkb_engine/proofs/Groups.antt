@@ -12,9 +12,11 @@ use Rattle.twkb_grammar.specs.PlainReader.{is_exact as exact}
 use Rattle.twkb_outline.specs.Outline as outline
 use Rattle.twkb_outline.specs.Outline.{OnHeader, members_open, outline_past_end}
 use Rattle.twkb_outline.specs.Growing.{id_in}
-use Rattle.twkb_engine.specs.Names.{ids_of}
-use Rattle.twkb_engine.specs.State.{head_of, group_of, groups_from, groups_of}
-use Rattle.twkb_engine.specs.Stops.{IsPast, Passes}
+use Rattle.twkb_body.specs.Names.{ids_of}
+use Rattle.twkb_outline.specs.Parts.{Passes}
+use Rattle.twkb_body.specs.Body.{head_of}
+use Rattle.twkb_engine.specs.State.{group_of, groups_from, groups_of}
+use Rattle.twkb_engine.specs.Stops.{IsPast}
 use Rattle.twkb_engine.specs.declared.phase.Group.{Group}
 
 -- the last group is the innermost

@@ -1,10 +1,7 @@
-pub mod PointRuns
-pub mod IdRuns
 pub mod Groups
 pub mod Roles
 pub mod Noting
 pub mod Feeding
-pub mod Judging
 pub mod Taking
 pub mod Stepping
 pub mod Ahead

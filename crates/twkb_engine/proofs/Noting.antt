@@ -1,21 +1,20 @@
 -- What the item notes that comes next.
 use Rattle.std.proofs.Common.{◌≡◌, ℕ, ◌+◌, ◌<◌, List, [], ◌∷◌, ◌++◌, length, refl, sym, ap, ◌∙◌, subst, true, Some, arith}
-use Rattle.twkb_grammar.specs.Roles.{Role, Header, Metadata, Extended, Size, Box, Count, Id, X, Y, Item}
-use Rattle.twkb_grammar.specs.Machine.{Sums, kind_number, first_count, listed}
+use Rattle.twkb_grammar.specs.Roles.{Role, Header, Metadata, Extended, End, IsNumber, Item}
+use Rattle.twkb_grammar.specs.Machine.{Sums, kind_number}
 use Rattle.twkb_grammar.specs.Noting.{Notes, noted_by, IsQuiet}
 use Rattle.twkb_grammar.specs.Reading.{Gives}
 use Rattle.twkb_grammar.proofs.BodiesBack.{some_role}
 use Rattle.twkb_grammar.proofs.NotedSpans.{quiet}
-use Rattle.twkb_outline.specs.Outline.{Step, OnHeader, OnMetadata, spot_role, step_role}
+use Rattle.twkb_outline.specs.Outline.{Step, OnHeader, OnMetadata, step_role}
 use Rattle.twkb_outline.specs.Noting.{note_step}
 use Rattle.twkb_engine.specs.Ahead.{note_first}
-use Rattle.twkb_engine.specs.Body.{spot_of}
-use Rattle.twkb_engine.specs.State.{step_of, kind_of, many_of, goes_on, IsPart}
+use Rattle.twkb_body.specs.Body.{kind_of}
+use Rattle.twkb_engine.specs.State.{step_of, goes_on, IsPart}
 use Rattle.twkb_engine.specs.declared.phase.Phase.{Phase}
 use Rattle.twkb_engine.specs.declared.phase.Phase.TheVariants as phase
 use Rattle.twkb_engine.specs.declared.phase.Optional.TheVariants as part
-use Rattle.twkb_engine.specs.declared.lefts.Spot.{Spot}
-use Rattle.twkb_engine.specs.declared.lefts.Spot.TheVariants as spot
+use Rattle.twkb_engine.proofs.Roles.{has_role, is_number}
 
 -- nothing, where no byte does
 silent : (t : Step) (offset points : ℕ) (bytes : List ℕ) (w : Notes) → ((byte : ℕ) → note_step t offset points byte w ≡ w) → note_first t offset points bytes w ≡ w
@@ -32,12 +31,12 @@ pub part_silent : (p : Phase) (offset points : ℕ) (bytes : List ℕ) (w : Note
 part_silent (phase.Optional kind head part) offset points bytes w is = silent (step_of (phase.Optional kind head part)) offset points bytes w (λ byte. refl)
 part_silent _ offset points bytes w is = absurd is
 
--- nor does a number of a body
-spot_quiet : (s : Spot) (r : Role) → spot_role (spot_of s) ≡ Some r → IsQuiet r
-spot_quiet (spot.X lefts) r says = subst IsQuiet (sym (some_role X r says)) tt
-spot_quiet (spot.Y lefts) r says = subst IsQuiet (sym (some_role Y r says)) tt
-spot_quiet (spot.LineCount lefts) r says = subst IsQuiet (sym (some_role (Count (listed 0)) r says)) tt
-spot_quiet (spot.AreaCount lefts) r says = subst IsQuiet (sym (some_role (Count (listed 1)) r says)) tt
+-- nor does a number
+pub number_quiet : (r : Role) → IsNumber r → IsQuiet r
+number_quiet Header number = number
+number_quiet (Metadata kind) number = number
+number_quiet (End declared came) number = number
+number_quiet _ number = tt
 
 module _ (start level : ℕ) (e : Sums) (i : Item) (w : Notes) where
   -- so that an item notes nothing
@@ -56,9 +55,6 @@ module _ (start level : ℕ) (e : Sums) (i : Item) (w : Notes) where
       let one : Gives role i.number i.bytes = subst (λ r. Gives r i.number i.bytes) is gives in
       ap (λ r. noted_by start e r i.number w) is ∙ sym (ap (λ l. note_first (OnMetadata (kind_of typed.kind) typed.precision) (start + e.bytes) e.points l w) one.1)
   first_noted (phase.Optional kind head part.Extended) on says gives = quiet_first (phase.Optional kind head part.Extended) (subst IsQuiet (sym (some_role Extended i.role says)) tt) (λ byte. refl)
-  first_noted (phase.Optional kind head part.Size) on says gives = quiet_first (phase.Optional kind head part.Size) (subst IsQuiet (sym (some_role Size i.role says)) tt) (λ byte. refl)
-  first_noted (phase.Optional kind head (part.Box left)) on says gives = quiet_first (phase.Optional kind head (part.Box left)) (subst IsQuiet (sym (some_role Box i.role says)) tt) (λ byte. refl)
-  first_noted (phase.Count many head) on says gives = quiet_first (phase.Count many head) (subst IsQuiet (sym (some_role (Count (first_count (many_of many) level)) i.role says)) tt) (λ byte. refl)
-  first_noted (phase.Id many head others ids left) on says gives = quiet_first (phase.Id many head others ids left) (subst IsQuiet (sym (some_role Id i.role says)) tt) (λ byte. refl)
-  first_noted (phase.Body head body) on says gives = quiet_first (phase.Body head body) (spot_quiet body.spot i.role says) (λ byte. refl)
-  first_noted (phase.End head kind) on says gives = absurd cc
+  first_noted p on says gives =
+      let r = has_role level e.bytes p on in
+      quiet_first p (number_quiet i.role (subst IsNumber (sym (some_role r.0 i.role (sym r.1 ∙ says))) (is_number level e.bytes p on tt))) (λ byte. refl)

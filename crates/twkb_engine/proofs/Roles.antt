@@ -9,13 +9,13 @@ use Rattle.twkb_grammar.proofs.RoleBytes.{IsByteRole, byte_gives, number_gives, 
 use Rattle.twkb_outline.specs.Outline as outline
 use Rattle.twkb_outline.specs.Outline.{spot_role, step_role}
 use Rattle.twkb_outline.specs.Reading.{open_count}
-use Rattle.twkb_engine.specs.Body.{spot_of}
-use Rattle.twkb_engine.specs.State.{step_of, kind_of, many_of, goes_on, IsSpelled, IsByte}
+use Rattle.twkb_body.specs.Body.{spot_of, kind_of}
+use Rattle.twkb_engine.specs.State.{step_of, many_of, goes_on, IsSpelled, IsByte}
 use Rattle.twkb_engine.specs.declared.phase.Phase.{Phase}
 use Rattle.twkb_engine.specs.declared.phase.Phase.TheVariants as phase
 use Rattle.twkb_engine.specs.declared.phase.Optional.TheVariants as part
-use Rattle.twkb_engine.specs.declared.lefts.Spot.{Spot}
-use Rattle.twkb_engine.specs.declared.lefts.Spot.TheVariants as spot
+use Rattle.twkb_body.specs.declared.lefts.Spot.{Spot}
+use Rattle.twkb_body.specs.declared.lefts.Spot.TheVariants as spot
 
 -- a body's next item is a number
 abbrev pub spot_item : (s : Spot) → (r : Role) × (spot_role (spot_of s) ≡ Some r) × IsNumber r

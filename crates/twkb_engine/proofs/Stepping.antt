@@ -13,12 +13,12 @@ use Rattle.twkb_outline.proofs.Outlined.{outlined_long, outlined_part}
 use Rattle.twkb_outline.proofs.ExactOutlines.{outlined_exact}
 use Rattle.twkb_front.specs.Front.{NumberInFront}
 use Rattle.twkb_front.proofs.OpenNumbers.{number_begun}
-use Rattle.twkb_front.proofs.Pieces.{one_front}
+use Rattle.twkb_outline.proofs.Pieces.{one_front}
 use Rattle.twkb_engine.specs.State.{groups_of, IsSpelled, IsByte}
-use Rattle.twkb_engine.specs.Parts.{IsJudged, PartIn}
+use Rattle.twkb_outline.specs.Parts.{IsJudged, PartIn}
 use Rattle.twkb_engine.specs.Building.{sums_of, outline_in, StandsBehind, IsTaken, Takes}
 use Rattle.twkb_grammar.specs.Noting.{Notes}
-use Rattle.twkb_engine.specs.Ahead.{RunsNoting, RunsBy, StopsBehind, IsLedBy}
+use Rattle.twkb_engine.specs.Ahead.{RunsNoting, RunsBy, StopsBehind, HeadersLead}
 use Rattle.twkb_engine.specs.Standing.{StandsAt, LeadsOn, LeadsNoting, StopsIn, IsStep, ItemInFront, IsOneItem, allowance_of, held_in, offset_in}
 use Rattle.twkb_engine.specs.declared.builder.Builder.{Builder}
 use Rattle.twkb_engine.specs.declared.engine.Engine.{Engine}
@@ -65,7 +65,7 @@ builder_leads told d c bytes rs more none run = λ bs s.
 -- points that stood whole in front
 pub runs_ahead : {E : Type 0} (rest : List ℕ) (d : Engine) (c : Builder) (rs more : List Row) (r : Result ℕ E) → held_in d ≡ [] → IfOk r (λ used. RunsBy d.builder rs rest used c more)
     → IfOk r (λ used. LeadsOn rs d (take used rest) more (record { builder = c; partial = d.partial }))
-runs_ahead rest d c rs more (Ok used) none run = builder_leads (λ start w. w) d c (take used rest) rs more none run.run
+runs_ahead rest d c rs more (Ok used) none run = builder_leads (λ start w. w) d c (take used rest) rs more none run.led
 runs_ahead rest d c rs more (Err e) none run = tt
 
 -- there was no memory for one of them
@@ -81,13 +81,13 @@ stepped limits bytes (Err Memory) rs d none t = t
 stepped limits bytes (Err (Refused x)) rs d none t = t
 
 -- items of a header that stood in front
-pub led_ahead : (bs rest : List ℕ) (count : ℕ) (rs : List Row) (d : Engine) (c : Builder) → held_in d ≡ [] → IsLedBy d.builder rest count c → StandsAt bs rs d → StandsAt (bs ++ take count rest) rs (record { builder = c; partial = d.partial })
-led_ahead bs rest count rs d c none led s =
+pub led_ahead : (bs rest : List ℕ) (count : ℕ) (rs : List Row) (d : Engine) (c : Builder) → held_in d ≡ [] → HeadersLead d.builder rest count c → StandsAt bs rs d → StandsAt (bs ++ take count rest) rs (record { builder = c; partial = d.partial })
+led_ahead bs rest count rs d c none by s =
     let e : Engine = record { builder = c; partial = d.partial } in
-    subst (λ l. StandsAt (l ++ take count rest) rs e) (sym (all_whole bs rs d none s)) (behind_items (s.front ++ take count rest) rs e none (led.led s.front rs (before_item bs rs d s)))
+    subst (λ l. StandsAt (l ++ take count rest) rs e) (sym (all_whole bs rs d none s)) (behind_items (s.front ++ take count rest) rs e none (by.led s.front rs (before_item bs rs d s)))
 
 -- and then numbers of a body
-pub led_and_run : (bs rest : List ℕ) (led used : ℕ) (rs more : List Row) (d e : Engine) (c : Builder) → held_in d ≡ [] → IsLedBy d.builder rest led c
+pub led_and_run : (bs rest : List ℕ) (led used : ℕ) (rs more : List Row) (d e : Engine) (c : Builder) → held_in d ≡ [] → HeadersLead d.builder rest led c
     → LeadsOn rs (record { builder = c; partial = d.partial }) (take used (take (length rest - led) (drop led rest))) more e → StandsAt bs rs d → StandsAt (bs ++ take (led + used) rest) more e
 led_and_run bs rest led used rs more d e c none by run s = subst (λ l. StandsAt l more e) (one_front bs rest led used) (run (bs ++ take led rest) (led_ahead bs rest led rs d c none by s)).0
 

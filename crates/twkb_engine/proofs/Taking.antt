@@ -1,40 +1,37 @@
 -- A builder takes an item.
 use Rattle.std.proofs.Common.{◌≡◌, ℕ, ◌+◌, ◌≤◌, List, [], ◌++◌, length, refl, sym, ap, ◌∙◌, subst, append_assoc, true, false, Bool, Result, Some, None, Ok, Err, OnOk}
 use Rattle.twkb_points.specs.Point.{Point}
-use Rattle.twkb_tree.specs.Tree.{Ids}
 use Rattle.twkb_tree.specs.Limits.{Allowance}
 use Rattle.twkb_tree.specs.Rows.{Row}
 use Rattle.twkb_grammar.specs.Fault as fault
 use Rattle.twkb_grammar.specs.Fault.{FirstFault, nodes_by, points_by, moved}
 use Rattle.twkb_grammar.specs.Noting.{Notes, noted_by}
 use Rattle.twkb_grammar.specs.Roles.{Item, Role}
-use Rattle.twkb_grammar.specs.Roles as role
-use Rattle.twkb_grammar.specs.PlainReader.{objection}
-use Rattle.twkb_grammar.specs.Machine.{Form, Head, Sums, added, listed}
+use Rattle.twkb_grammar.specs.Machine.{Sums, added}
 use Rattle.twkb_grammar.specs.Reading.{Gives}
-use Rattle.twkb_outline.specs.Outline.{Group, Outline, Step, OnBody, OnFinished, spot_after, step_role, outline_role, outline_advanced, outline_ends}
+use Rattle.twkb_outline.specs.Outline.{Outline, OnFinished, step_role, outline_role, outline_advanced, outline_ends}
 use Rattle.twkb_outline.specs.Growing.{applied, change_of, Nothing}
 use Rattle.twkb_outline.specs.Reading.{Outlined, OutlineLanded, StepFits, outline_after, change_after}
 use Rattle.twkb_outline.specs.Noting.{NotedOutline, notes_in}
 use Rattle.twkb_outline.proofs.Outlined.{noted_item, outlined_item, outlined_fits, outlined_refused, outlined_ends, outlined_whole}
 use Rattle.twkb_engine.specs.Ahead.{RunsBehind}
-use Rattle.twkb_engine.specs.Body.{form_of, spot_of}
-use Rattle.twkb_engine.specs.Names.{ids_of}
-use Rattle.twkb_engine.specs.Parts.{IsJudged}
-use Rattle.twkb_engine.specs.State.{head_of, groups_of, step_of, IsPlacedIn}
-use Rattle.twkb_engine.specs.Stops.{reason_of, IsPastEnds}
+use Rattle.twkb_outline.specs.Parts.{IsJudged, IsPastEnds}
+use Rattle.twkb_body.specs.Steps.{BodyFits, step_behind}
+use Rattle.twkb_engine.specs.State.{groups_of, step_of, IsPlacedIn}
+use Rattle.twkb_engine.specs.Stops.{reason_of}
 use Rattle.twkb_engine.specs.Building.{sums_of, outline_in, refusal, objection_at, StandsBehind, IsAt, IsTaken, Says}
-use Rattle.twkb_engine.specs.declared.place.Head as place
+use Rattle.twkb_body.specs.declared.head.Head as place
 use Rattle.twkb_engine.specs.declared.phase.Phase.TheVariants as phase
-use Rattle.twkb_engine.specs.declared.lefts.Spot as spot
-use Rattle.twkb_engine.specs.declared.lefts.Spot.TheVariants as spots
-use Rattle.twkb_engine.specs.declared.body.Body.{Body}
+use Rattle.twkb_body.specs.declared.body.Body.{Body}
 use Rattle.twkb_engine.specs.declared.builder.Builder.{Builder}
 use Rattle.twkb_engine.specs.declared.blob_reason.BlobReason.{BlobReason}
 use Rattle.twkb_engine.specs.declared.stop.Stop.{Stop}
 use Rattle.twkb_engine.specs.declared.stop.Stop.TheVariants.{Memory, Refused}
-use Rattle.twkb_engine.proofs.Judging.{landed_judged, outlined_judged}
+use Rattle.twkb_outline.proofs.Judging.{landed_judged, outlined_judged}
+use Rattle.twkb_engine.proofs.Ahead.{stands_there}
+use Rattle.twkb_engine.proofs.Noting.{number_quiet}
 use Rattle.twkb_engine.proofs.Roles.{has_role, spot_item}
+use Rattle.twkb_grammar.proofs.NotedSpans.{quiet}
 use Rattle.twkb_grammar.proofs.Objections.{kept}
 
 -- what the next item announces stays within the limits, where it is not refused
@@ -92,10 +89,7 @@ led_on : (front bytes : List ℕ) (rs more : List Row) (b c : Builder) (role : R
 led_on front bytes rs more b c role n told next limits sums step grown placed =
     let o = outline_in b in
     let summed = subst (λ (m : Sums). NotedOutline b.limits (front ++ bytes) m (outline_advanced m.bytes n o) (applied (change_of m.position n o) rs) told) (sym sums) next in
-    let there = subst (λ q. NotedOutline b.limits (front ++ bytes) (sums_of c) q (applied (change_of c.position n o) rs) told) step summed in
-    let with_rows = subst (λ l. NotedOutline b.limits (front ++ bytes) (sums_of c) (outline_in c) l told) (sym grown) there in
-    let moved = subst (λ l. NotedOutline l (front ++ bytes) (sums_of c) (outline_in c) more told) (sym limits) with_rows in
-    (record { outlined = moved.outlined; placed = placed }, moved.notes)
+    stands_there c b.limits (front ++ bytes) (sums_of c) (outline_advanced c.bytes n o) (applied (change_of c.position n o) rs) more told summed limits refl (sym step) grown placed
 
 -- where there was none, and the item brings no row and ends nothing
 pub item_led : (front : List ℕ) (rs : List Row) (b c : Builder) (i : Item) (s : StandsBehind front rs b)
@@ -110,18 +104,6 @@ item_led front rs b c i s says gives free limits sums step none placed =
 
 -- ---- a number of a body
 
--- it leads on, and notes nothing
-module _ (limits : Allowance) (front : List ℕ) (e : Sums) (gs : List Group) (rs : List Row) (told : ℕ → Notes) (bytes : List ℕ) (n : ℕ) where
-  abbrev Quiet : Step → Role → Type 0
-  Quiet s r = NotedOutline limits front e (gs, s) rs told → Gives r n bytes → objection limits e r n ≡ None
-      → (let i : Item = record { role = r; number = n; bytes = bytes } in NotedOutline limits (front ++ bytes) (added e i) (outline_after e i (gs, s)) (applied (change_after e i (gs, s)) rs) told)
-
-  spot_quiet : (h : Head) (f : Form) (ids : Ids) (s : spot.Spot) → Quiet (OnBody h f ids (spot_of s)) (spot_item s).0
-  spot_quiet h f ids (spots.X lefts) = λ noted gives free. noted_item limits front e (gs, OnBody h f ids (spot_of (spots.X lefts))) rs told (record { role = role.X; number = n; bytes = bytes }) noted refl gives free
-  spot_quiet h f ids (spots.Y lefts) = λ noted gives free. noted_item limits front e (gs, OnBody h f ids (spot_of (spots.Y lefts))) rs told (record { role = role.Y; number = n; bytes = bytes }) noted refl gives free
-  spot_quiet h f ids (spots.LineCount lefts) = λ noted gives free. noted_item limits front e (gs, OnBody h f ids (spot_of (spots.LineCount lefts))) rs told (record { role = role.Count (listed 0); number = n; bytes = bytes }) noted refl gives free
-  spot_quiet h f ids (spots.AreaCount lefts) = λ noted gives free. noted_item limits front e (gs, OnBody h f ids (spot_of (spots.AreaCount lefts))) rs told (record { role = role.Count (listed 1); number = n; bytes = bytes }) noted refl gives free
-
 module _ (b : Builder) (h : place.Head) (d : Body) (rs : List Row) (n : ℕ) (bytes : List ℕ) (is : b.phase ≡ phase.Body h d) (free : refusal b.limits (sums_of b) (outline_in b) n ≡ None) (says : Says b bytes n) where
   abbrev role_here : Role
   role_here = (spot_item d.spot).0
@@ -129,11 +111,12 @@ module _ (b : Builder) (h : place.Head) (d : Body) (rs : List Row) (n : ℕ) (by
   wanted : outline_role (sums_of b) (outline_in b) ≡ Some role_here
   wanted = ap (λ q. step_role (length (groups_of b.groups.items)) b.bytes (step_of q)) is ∙ (spot_item d.spot).1
 
+  -- it leads on, and notes nothing
   reached : (front : List ℕ) (s : StandsBehind front rs b) → (let i : Item = record { role = role_here; number = n; bytes = bytes } in NotedOutline b.limits (front ++ bytes) (added (sums_of b) i) (outline_after (sums_of b) i (outline_in b)) (applied (change_after (sums_of b) i (outline_in b)) rs) (λ start. notes_in start s.outlined))
   reached front s =
       let told : ℕ → Notes = λ start. notes_in start s.outlined in
-      subst (λ q. Quiet b.limits front (sums_of b) (groups_of b.groups.items) rs told bytes n (step_of q) role_here) (sym is) (spot_quiet b.limits front (sums_of b) (groups_of b.groups.items) rs told bytes n (head_of h) (form_of d.form) (ids_of d.names) d.spot)
-      (record { outlined = s.outlined; notes = λ start. refl }) (says role_here wanted) (subst (λ a. objection_at b.limits (sums_of b) n a ≡ None) wanted free)
+      let next = noted_item b.limits front (sums_of b) (outline_in b) rs told (record { role = role_here; number = n; bytes = bytes }) (record { outlined = s.outlined; notes = λ start. refl }) wanted (says role_here wanted) (subst (λ a. objection_at b.limits (sums_of b) n a ≡ None) wanted free) in
+      record { outlined = next.outlined; notes = λ start. next.notes start ∙ quiet start (sums_of b) role_here n (told start) (number_quiet role_here (spot_item d.spot).2) }
 
   pub number_led : (c : Builder) (more : List Row) → c.limits ≡ b.limits → ((role : Role) → outline_role (sums_of b) (outline_in b) ≡ Some role → sums_of c ≡ added (sums_of b) (record { role = role; number = n; bytes = bytes }))
       → (StepFits (step_of b.phase) → outline_advanced c.bytes n (outline_in b) ≡ outline_in c) → (IsPlacedIn b.groups.items b.phase → (more ≡ applied (change_of c.position n (outline_in b)) rs) × IsPlacedIn c.groups.items c.phase) → RunsBehind b rs bytes c more
@@ -142,7 +125,7 @@ module _ (b : Builder) (h : place.Head) (d : Body) (rs : List Row) (n : ℕ) (by
       led_on front bytes rs more b c role_here n (λ start. notes_in start s.outlined) (reached front s) limits (sums role_here wanted) (step (outlined_fits b.limits front (sums_of b) (outline_in b) rs s.outlined)) there.0 there.1
 
   -- there is no memory for what it brings
-  pub number_judged : (StepFits (step_of (phase.Body h d)) → IsPastEnds (spot_after (head_of h) (form_of d.form) (ids_of d.names) n (spot_of d.spot))) → (front : List ℕ) → StandsBehind front rs b → IsJudged b.limits (front ++ bytes)
+  pub number_judged : (BodyFits d → IsPastEnds (step_behind h n d)) → (front : List ℕ) → StandsBehind front rs b → IsJudged b.limits (front ++ bytes)
   number_judged past front s =
       let fits = subst (λ q. StepFits (step_of q)) is (outlined_fits b.limits front (sums_of b) (outline_in b) rs s.outlined) in
       outlined_judged b.limits (front ++ bytes) _ _ _ (reached front s).outlined (subst (λ q. IsPastEnds (outline_advanced (b.bytes + length bytes) n (groups_of b.groups.items, step_of q)).1) (sym is) (past fits))

@@ -1,11 +1,11 @@
 -- A builder behind items that stood whole in front, or that has no memory for one of them.
-use Rattle.std.specs.Prelude.{◌≡◌, ◌+◌, ◌≤◌, ℕ, List, [], ◌∷◌, ◌++◌, length, take, Bool, true, false, Result, Ok, Err}
+use Rattle.std.specs.Prelude.{◌≡◌, ◌+◌, ◌≤◌, ℕ, List, [], ◌∷◌, ◌++◌, length, take, Bool, true, false, Result, Ok, Err, IfOk, OnErr}
 use Rattle.twkb_tree.specs.Rows.{Row}
 use Rattle.twkb_grammar.specs.Noting.{Notes}
 use Rattle.twkb_outline.specs.Outline.{Step}
 use Rattle.twkb_outline.specs.Noting.{note_step, notes_in}
+use Rattle.twkb_outline.specs.Parts.{IsJudged, PartIn}
 use Rattle.twkb_engine.specs.State.{step_of}
-use Rattle.twkb_engine.specs.Parts.{IsJudged, PartIn}
 use Rattle.twkb_engine.specs.Building.{StandsBehind, Says}
 use Rattle.twkb_engine.specs.declared.builder.Builder.{Builder}
 
@@ -26,27 +26,35 @@ note_first t offset points (byte ∷ bytes) w = note_step t offset points byte w
 abbrev pub note_next : Builder → List ℕ → (start : ℕ) → Notes → Notes
 note_next b bytes start w = note_first (step_of b.phase) (start + b.bytes) b.points bytes w
 
--- so the bytes lead it on, and the same rows stay
-abbrev pub RunsHeader : Builder → List Row → List ℕ → Builder → Type 0
-RunsHeader b rs bytes c = RunsNoting (note_next b bytes) b rs bytes c rs
-
 -- wherever it stands, a front of the bytes ends a part that was judged
 abbrev pub StopsBehind : Builder → List Row → List ℕ → Type 0
 StopsBehind b rs bytes = (front : List ℕ) → StandsBehind front rs b → PartIn b.limits front bytes
 
--- so many bytes in front led it on, wherever it stood, and brought no row
-pub record IsLedBy (b : Builder) (rest : List ℕ) (count : ℕ) (c : Builder) : Type 0 where
+-- so many bytes in front led it on, as it is said of them
+pub record IsLedBy (Led : List ℕ → Type 0) (b : Builder) (rest : List ℕ) (count : ℕ) (c : Builder) : Type 0 where
   pub limits : c.limits ≡ b.limits
   pub within : count ≤ length rest
   pub bytes : c.bytes ≡ b.bytes + count
-  pub led : (front : List ℕ) (rs : List Row) → StandsBehind front rs b → StandsBehind (front ++ take count rest) rs c
+  pub led : Led (take count rest)
 
--- so many bytes in front led it on, and noted nothing
-pub record RunsBy (b : Builder) (rs : List Row) (rest : List ℕ) (count : ℕ) (c : Builder) (more : List Row) : Type 0 where
+-- they noted nothing
+abbrev pub RunsBy : Builder → List Row → List ℕ → ℕ → Builder → List Row → Type 0
+RunsBy b rs rest count c more = IsLedBy (λ bytes. RunsBehind b rs bytes c more) b rest count c
+
+-- an item of a header, and the parts behind it: wherever it stood, they noted what their first byte notes, and the same rows stay
+abbrev pub HeaderLeads : Builder → List ℕ → ℕ → Builder → Type 0
+HeaderLeads b rest count c = IsLedBy (λ bytes. (rs : List Row) → RunsNoting (note_next b bytes) b rs bytes c rs) b rest count c
+
+-- items of headers: wherever it stood, it stands behind them with the same rows
+abbrev pub HeadersLead : Builder → List ℕ → ℕ → Builder → Type 0
+HeadersLead b rest count c = IsLedBy (λ bytes. (front : List ℕ) (rs : List Row) → StandsBehind front rs b → StandsBehind (front ++ bytes) rs c) b rest count c
+
+-- what a call answers that takes what stands whole in front: how many bytes that had, or that there is no memory for it
+pub record TakesAhead {E : Type 0} (b : Builder) (rs : List Row) (rest : List ℕ) (r : Result ℕ E) (c : Builder) (more : List Row) : Type 0 where
   pub limits : c.limits ≡ b.limits
-  pub within : count ≤ length rest
-  pub bytes : c.bytes ≡ b.bytes + count
-  pub run : RunsBehind b rs (take count rest) c more
+  pub few : c.bytes ≤ b.bytes + length rest
+  pub run : IfOk r (λ used. RunsBy b rs rest used c more)
+  pub memory : OnErr r (StopsBehind b rs rest)
 
 -- whatever bytes say this number, as many as these, it goes on with them and notes nothing, or leaves all as it was, or has no memory though they were judged
 abbrev pub StepsOn : {E : Type 0} → Builder → (n count : ℕ) → List Row → Result Bool E → List Row → Builder → Type 0

@@ -10,8 +10,8 @@ use Rattle.twkb_grammar.specs.Machine.{Sums, added}
 use Rattle.twkb_outline.specs.Outline.{Outline, OnFinished, outline_role}
 use Rattle.twkb_outline.specs.Reading.{Outlined}
 use Rattle.twkb_engine.specs.State.{groups_of, step_of, IsPlacedIn, IsSpelled}
-use Rattle.twkb_engine.specs.Parts.{IsJudged}
-use Rattle.twkb_engine.specs.Stops.{reason_of, Passes}
+use Rattle.twkb_outline.specs.Parts.{IsJudged, Passes}
+use Rattle.twkb_engine.specs.Stops.{reason_of}
 use Rattle.twkb_engine.specs.declared.stop.Stop.{Stop}
 use Rattle.twkb_engine.specs.declared.stop.Stop.TheVariants.{Memory, Refused}
 use Rattle.twkb_engine.specs.declared.builder.Builder.{Builder}

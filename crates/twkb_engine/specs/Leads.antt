@@ -1,7 +1,7 @@
 -- Where an item of a header leads.
 use Rattle.std.specs.Prelude.{⊤, Option, Some, None}
-use Rattle.twkb_engine.specs.declared.place.Head.{Head}
-use Rattle.twkb_engine.specs.declared.phase.GeometryType.{GeometryType}
+use Rattle.twkb_body.specs.declared.head.Head.{Head}
+use Rattle.twkb_body.specs.declared.form.GeometryType.{GeometryType}
 use Rattle.twkb_engine.specs.declared.phase.Phase.{Phase}
 use Rattle.twkb_engine.specs.declared.phase.Phase.TheVariants.{End}
 use Rattle.twkb_engine.specs.declared.header.Led.{Led}

@@ -1,12 +1,7 @@
-pub mod Body
-pub mod Names
 pub mod Leads
-pub mod Steps
-pub mod Running
 pub mod State
 pub mod Stops
 pub mod Open
-pub mod Parts
 pub mod Building
 pub mod Ahead
 pub mod Standing

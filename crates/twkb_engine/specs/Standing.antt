@@ -11,7 +11,7 @@ use Rattle.twkb_outline.specs.Reading.{Outlined, open_count}
 use Rattle.twkb_outline.specs.Noting.{notes_in}
 use Rattle.twkb_engine.specs.State.{IsSpelled, IsPlacedIn, step_of}
 use Rattle.twkb_engine.specs.Open.{awaited_at}
-use Rattle.twkb_engine.specs.Parts.{IsJudged, PartIn}
+use Rattle.twkb_outline.specs.Parts.{IsJudged, PartIn}
 use Rattle.twkb_engine.specs.Ahead.{note_next}
 use Rattle.twkb_engine.specs.Stops.{reason_of}
 use Rattle.twkb_engine.specs.Building.{sums_of, outline_in, SaysNext}

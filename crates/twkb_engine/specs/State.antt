@@ -1,18 +1,16 @@
 -- The fields as an outline.
-use Rattle.std.specs.Prelude.{◌≡◌, ◌≤◌, Bool, true, false, ℕ, zero, suc, List, [], ◌∷◌, ◌++◌, length, ℤ, Option, Some, None, ⊤}
+use Rattle.std.specs.Prelude.{◌≤◌, Bool, true, false, ℕ, zero, suc, List, [], ◌∷◌, ◌++◌, length, ℤ, Option, Some, None, ⊤}
 use Rattle.twkb_grammar.specs.Bits.{bit}
 use Rattle.twkb_grammar.specs.Roles as role
 use Rattle.twkb_grammar.specs.Roles.{Role, where_set}
 use Rattle.twkb_grammar.specs.Machine as machine
-use Rattle.twkb_grammar.specs.Machine.{SimpleKind, CollectionKind, ManyPoints, ManyLines, ManyPolygons, ManyGeometries}
+use Rattle.twkb_grammar.specs.Machine.{ManyPoints, ManyLines, ManyPolygons, ManyGeometries}
 use Rattle.twkb_outline.specs.Outline as outline
-use Rattle.twkb_outline.specs.Outline.{OnHeader, OnMetadata, OnOption, OnCount, OnId, OnBody, OnEnd}
+use Rattle.twkb_outline.specs.Outline.{OnHeader, OnMetadata, OnOption, OnCount, OnId, OnEnd}
 use Rattle.twkb_outline.specs.Growing.{Change, Nothing, NewRow, own_of, id_in}
-use Rattle.twkb_engine.specs.Body.{form_of, spot_of}
-use Rattle.twkb_engine.specs.Names.{ids_of}
-use Rattle.twkb_engine.specs.declared.place.Head.{Head}
-use Rattle.twkb_engine.specs.declared.phase.GeometryType.{GeometryType}
-use Rattle.twkb_engine.specs.declared.phase.GeometryType.TheVariants as kind
+use Rattle.twkb_body.specs.Body.{head_of, kind_of, IsHeadAt}
+use Rattle.twkb_body.specs.Names.{ids_of}
+use Rattle.twkb_body.specs.Steps.{step_in}
 use Rattle.twkb_engine.specs.declared.phase.Many.{Many}
 use Rattle.twkb_engine.specs.declared.phase.Many.TheVariants as many
 use Rattle.twkb_engine.specs.declared.phase.Optional.{Optional}
@@ -20,15 +18,6 @@ use Rattle.twkb_engine.specs.declared.phase.Optional.TheVariants as part
 use Rattle.twkb_engine.specs.declared.phase.Phase.{Phase}
 use Rattle.twkb_engine.specs.declared.phase.Phase.TheVariants as phase
 use Rattle.twkb_engine.specs.declared.phase.Group.{Group}
-
--- the header that was read
-abbrev pub head_of : Head → machine.Head
-head_of h = record { precision = h.precision; meta = h.metadata; size = h.size; from = h.from }
-
--- the type
-abbrev pub kind_of : GeometryType → machine.Kind
-kind_of (kind.Simple form) = SimpleKind (form_of form)
-kind_of kind.Collection = CollectionKind
 
 -- what a count of members counts
 abbrev pub many_of : Many → machine.Many
@@ -74,13 +63,8 @@ step_of (phase.Metadata typed) = OnMetadata (kind_of typed.kind) typed.precision
 step_of (phase.Optional kind head part) = OnOption (kind_of kind) (head_of head) (role_of_part part) (roles_behind head.metadata part)
 step_of (phase.Count many head) = OnCount (many_of many) (head_of head)
 step_of (phase.Id many head others ids left) = OnId (many_of many) (head_of head) (suc others) ids.items left
-step_of (phase.Body head body) = OnBody (head_of head) (form_of body.form) (ids_of body.names) (spot_of body.spot)
+step_of (phase.Body head body) = step_in head body
 step_of (phase.End head kind) = OnEnd (head_of head)
-
--- the header's geometry stands at this depth and has this id
-pub record IsHeadAt (depth : ℕ) (id : Option ℤ) (h : Head) : Type 0 where
-  pub depth_is : h.depth ≡ depth
-  pub id_is : h.id ≡ id
 
 -- the geometry that is read stands at this depth and has this id
 abbrev pub IsPlaced : ℕ → Option ℤ → Phase → Type 0

@@ -1,7 +1,8 @@
 -- Why a reader stops, and what ends answer.
-use Rattle.std.specs.Prelude.{◌≡◌, Bool, true, false, List, [], Option, Some, None, Result, Ok, Err, ⊤}
+use Rattle.std.specs.Prelude.{◌≡◌, Bool, true, false, List, [], Option, Some, None, Result, Ok, Err}
 use Rattle.twkb_grammar.specs.Fault as fault
-use Rattle.twkb_outline.specs.Outline.{Outline, Step, OnHeader, OnId, OnBody, OnFinished}
+use Rattle.twkb_outline.specs.Outline.{Outline, OnHeader, OnFinished}
+use Rattle.twkb_outline.specs.Parts.{Passes}
 use Rattle.twkb_engine.specs.State.{groups_of}
 use Rattle.twkb_engine.specs.declared.phase.Group.{Group}
 use Rattle.twkb_engine.specs.declared.blob_reason.BlobReason.{BlobReason}
@@ -25,19 +26,6 @@ reason_of reason.SizeMismatch = fault.SizeMismatch
 abbrev pub objection_of : Option BlobReason → Option fault.Reason
 objection_of None = None
 objection_of (Some r) = Some (reason_of r)
-
--- an item comes next, inside its geometry or at its front; or nothing does
-abbrev pub IsPastEnds : Step → Type 0
-IsPastEnds OnHeader = ⊤
-IsPastEnds (OnId m h members ids left) = ⊤
-IsPastEnds (OnBody h f ids s) = ⊤
-IsPastEnds OnFinished = ⊤
-IsPastEnds _ = ⊥
-
--- the ends behind an item are passed: each size is exact
-abbrev pub Passes : Result Outline fault.Reason → Type 0
-Passes (Ok o) = IsPastEnds o.1
-Passes (Err reason) = ⊥
 
 -- what the ends of geometries answer, with the collections that are left
 abbrev pub IsPast : Result Outline fault.Reason → List Group → Result Bool Stop → Type 0

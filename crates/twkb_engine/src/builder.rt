@@ -7,23 +7,22 @@ ghost use Rattle.twkb_grammar.specs.Roles.{Role, Count, Item};
 ghost use Rattle.twkb_grammar.specs.Machine.{first_count};
 ghost use Rattle.twkb_outline.specs.Outline.{Outline, spot_role, outline_role, outline_advanced, outline_ends, outline_past_end};
 ghost use Rattle.twkb_outline.specs.Growing.{applied, change_of};
+ghost use Rattle.twkb_outline.specs.Parts.{Passes};
 ghost use Rattle.twkb_outline.specs.Reading.{StepFits};
-ghost use Rattle.twkb_engine.specs.Body.{spot_of};
+ghost use Rattle.twkb_body.specs.Body.{spot_of};
 ghost use Rattle.twkb_engine.specs.State.{many_of, groups_of, step_of, goes_on, stands_apart, own_change, IsPlacedIn, IsShallow, IsSpelled};
 ghost use Rattle.twkb_engine.specs.declared.phase.Phase.TheVariants.{End};
-ghost use Rattle.twkb_engine.specs.Stops.{objection_of, IsPast, Passes};
+ghost use Rattle.twkb_engine.specs.Stops.{objection_of, IsPast};
 
 use crate::blob_reason::BlobReason;
 use crate::header::{Led, lead_on};
 use crate::items::{announced, announces_point};
-use crate::lefts::Spot;
 use crate::members::{next, past_end};
-use crate::phase::{GeometryType, Groups, Many, Optional, Phase};
-use crate::place::Head;
-use crate::site::{push_row, whole_row};
+use crate::phase::{Groups, Many, Optional, Phase};
 use crate::stop::Stop;
 use smallvec::SmallVec;
 use std::alloc::Global;
+use twkb_body::{GeometryType, Head, Spot, push_row, whole_row};
 use twkb_flat::Flat;
 use twkb_front::{moved_x, moved_y, origin};
 use twkb_header::TypeByte;
@@ -214,7 +213,7 @@ impl Builder {
         ensures placed { OnOk result (IsPlacedIn self.new.groups.items self.new.phase) }
     {
         let ended = self.finish(head)?;
-        push_row(flat, whole_row(head, kind), &[])?;
+        push_row(flat, whole_row(head, kind))?;
         Ok(ended)
     }
 
@@ -261,17 +260,12 @@ impl Builder {
         let Phase::Body(head, body) = &mut self.phase else {
             return self.advance(flat, number);
         };
-        let ended = body.take(
-            flat,
-            &mut self.groups,
-            *head,
-            number,
-            self.position,
-            self.bytes,
-        )?;
-        let Some(whole) = ended else {
+        let head = *head;
+        if body.go_on(flat, head, number, self.position)? {
             return Ok(false);
-        };
+        }
+        let whole = past_end(&mut self.groups, self.bytes, head)?;
+        body.keep(flat, head, self.position)?;
         Ok(self.settle(whole))
     }
 

@@ -2,7 +2,7 @@
 ghost use Rattle.std.specs.Prelude.{◌≡◌, IfOk, OnErr, Ok, None, true, false, ◌+◌, ◌<◌, ◌≤◌, ◌^◌, ◌++◌, ◌∷◌, [], List, ℕ, take, IfSome, length as length_of};
 ghost use Rattle.twkb_num.specs.Varint.{IsOpenVarint};
 ghost use Rattle.twkb_tree.specs.Rows.{Row};
-ghost use Rattle.twkb_engine.specs.Parts.{PartIn};
+ghost use Rattle.twkb_outline.specs.Parts.{PartIn};
 ghost use Rattle.twkb_engine.specs.Standing.{StandsAt, LeadsOn, LeadsHeader, StopsIn, IsStep, IsTakenFrom, IsOneItem, ItemInFront, IsFed, MadeIn, IsEnd, count_of, offset_in, points_in, awaited_in, held_in, open_in, allowance_of};
 
 use crate::awaited::Awaited;
@@ -61,6 +61,14 @@ impl Engine {
         }
     }
 
+    // Whether it holds bytes of a number that is not whole.
+    #[inline]
+    fn holds_some(&self) -> bool
+        ensures { result ≡ false → held_in self.now ≡ [] }
+    {
+        self.partial.len() > 0
+    }
+
     /// Takes points and other numbers of a body as far as they stand whole in front, where no byte of a number is held, and answers how
     /// many bytes they had, up to all of the piece. A body's last number is left, so no geometry begins or ends in them. Rows and points
     /// take memory.
@@ -74,7 +82,7 @@ impl Engine {
         ensures ahead { IfOk result (λ used. LeadsOn flat.old self.old (take used rest.now) flat.new self.new) }
         ensures memory { OnErr result (StopsIn flat.old self.old rest.now) }
     {
-        if self.partial.len() > 0 {
+        if self.holds_some() {
             return Ok(0);
         }
         self.builder.take_points(flat, rest)
@@ -91,7 +99,7 @@ impl Engine {
         ensures alone { 0 < result → held_in self.new ≡ [] }
         ensures led { (rs : List Row) → LeadsHeader rs self.old (take result rest.now) self.new }
     {
-        if self.partial.len() > 0 {
+        if self.holds_some() {
             return 0;
         }
         self.builder.lead_header(rest)
@@ -104,7 +112,7 @@ impl Engine {
         ensures front { IfSome result (λ item. ItemInFront self.now rest.now item.0 item.1) }
         ensures one { IfSome result (λ item. IsOneItem self.now rest.now item.1) }
     {
-        if self.partial.len() > 0 {
+        if self.holds_some() {
             return None;
         }
         if wants_byte(&self.builder.phase) {
@@ -161,7 +169,7 @@ impl Engine {
         ensures within { IfOk result (λ taken. taken.0 ≤ length_of rest.now) }
         ensures taken { (bs : List ℕ) → StandsAt bs flat.old self.old → IsTakenFrom (allowance_of self.old) bs rest.now result flat.new self.new }
     {
-        if self.partial.len() > 0 {
+        if self.holds_some() {
             return self.take_byte(flat, rest);
         }
         if rest.len() < SHORTEST {

@@ -1,26 +1,22 @@
 //! From a type byte to a body.
-ghost use Rattle.std.specs.Prelude.{◌≡◌, ◌+◌, ◌<◌, ◌^◌, ◌⊎◌, ◌/◌, ◌%◌, List, length, take, IfSome, None, true, false};
+ghost use Rattle.std.specs.Prelude.{◌≡◌, ◌+◌, ◌<◌, ◌^◌, ◌⊎◌, ◌/◌, ◌%◌, length, IfSome, None, true, false};
 ghost use Rattle.twkb_points.specs.Point.{Point};
 ghost use Rattle.twkb_num.specs.Zigzag.{unzigzag_of};
-ghost use Rattle.twkb_tree.specs.Rows.{Row};
 ghost use Rattle.twkb_grammar.specs.Machine as machine;
 ghost use Rattle.twkb_grammar.specs.Machine.{asked, with_option, kind_at};
 ghost use Rattle.twkb_grammar.specs.Noting.{shown};
 ghost use Rattle.twkb_outline.specs.Outline.{begins, outline_advanced, OnMetadata, OnBody, OnEnd};
 ghost use Rattle.twkb_outline.specs.Growing.{change_of, id_in, Nothing};
-ghost use Rattle.twkb_engine.specs.Body.{form_of, spot_of};
-ghost use Rattle.twkb_engine.specs.State.{kind_of, head_of, step_of, groups_of, role_of_part, roles_behind, roles_from, size_roles, box_roles, goes_on, stands_apart, own_change, IsMembered, IsPlaced, IsPlacedIn, IsShallow, IsSpelled};
+ghost use Rattle.twkb_body.specs.Body.{form_of, spot_of, kind_of, head_of};
+ghost use Rattle.twkb_engine.specs.State.{step_of, groups_of, role_of_part, roles_behind, roles_from, size_roles, box_roles, goes_on, stands_apart, own_change, IsMembered, IsPlaced, IsPlacedIn, IsShallow, IsSpelled};
 ghost use Rattle.twkb_engine.specs.Leads.{IfOn, IfOff, IfEnds, IfApart};
 ghost use Rattle.twkb_engine.specs.declared.phase.Phase.TheVariants.{End};
 
-use crate::body::Body;
 use crate::builder::Builder;
-use crate::lefts::{Lefts, Spot};
-use crate::names::Names;
-use crate::phase::{GeometryType, Groups, Many, Optional, Phase, wants_byte, wants_part};
-use crate::place::{Head, Typed};
-use crate::site::Form;
+use crate::phase::{Groups, Many, Optional, Phase, wants_byte, wants_part};
+use crate::typed::Typed;
 use std::alloc::Global;
+use twkb_body::{Body, Form, GeometryType, Head, Lefts, Names, Spot};
 use twkb_front::front_number;
 use twkb_header::{Metadata, TypeByte};
 use twkb_tree::Kind;
@@ -247,7 +243,7 @@ pub(crate) fn lead_on(
 
 impl Builder {
     ghost use Rattle.twkb_engine.specs.Building.{SaysNext};
-    ghost use Rattle.twkb_engine.specs.Ahead.{IsLedBy, RunsHeader};
+    ghost use Rattle.twkb_engine.specs.Ahead.{HeadersLead, HeaderLeads};
 
     // The number of the next item of a header and how many bytes it has, where it stands whole in front.
     #[inline]
@@ -270,8 +266,7 @@ impl Builder {
     fn lead_by_one(&mut self, rest: &[u8]) -> usize
         requires some { 0 < length rest.now }
         requires room { self.old.bytes + length rest.now < 2 ^ 64 }
-        ensures led { IsLedBy self.old rest.now result self.new }
-        ensures noted { (rs : List Row) → RunsHeader self.old rs (take result rest.now) self.new }
+        ensures { HeaderLeads self.old rest.now result self.new }
     {
         let Some((number, count)) = self.part_in_front(rest) else {
             return 0;
@@ -296,7 +291,7 @@ impl Builder {
     // Takes no memory.
     pub(crate) fn lead_ahead(&mut self, rest: &[u8]) -> usize
         requires room { self.old.bytes + length rest.now < 2 ^ 64 }
-        ensures { IsLedBy self.old rest.now result self.new }
+        ensures { HeadersLead self.old rest.now result self.new }
     {
         let mut used = 0;
         while used < rest.len() {
@@ -315,8 +310,7 @@ impl Builder {
     pub(crate) fn lead_header(&mut self, rest: &[u8]) -> usize
         requires some { 0 < length rest.now }
         requires room { self.old.bytes + length rest.now < 2 ^ 64 }
-        ensures led { IsLedBy self.old rest.now result self.new }
-        ensures noted { (rs : List Row) → RunsHeader self.old rs (take result rest.now) self.new }
+        ensures { HeaderLeads self.old rest.now result self.new }
     {
         let mut used = self.lead_by_one(rest);
         if used == 0 {

@@ -4,11 +4,11 @@ ghost use Rattle.twkb_grammar.specs.Fault.{announces_point as announces, nodes_b
 ghost use Rattle.twkb_grammar.specs.Roles.{Role};
 ghost use Rattle.twkb_grammar.specs.Machine.{kind_number};
 ghost use Rattle.twkb_outline.specs.Outline.{step_role};
-ghost use Rattle.twkb_engine.specs.State.{kind_of, step_of};
+ghost use Rattle.twkb_body.specs.Body.{kind_of};
+ghost use Rattle.twkb_engine.specs.State.{step_of};
 
-use crate::lefts::Spot;
-use crate::phase::{GeometryType, Many, Phase};
-use crate::site::Form;
+use crate::phase::{Many, Phase};
+use twkb_body::{Form, GeometryType, Spot};
 use twkb_header::Metadata;
 
 // Whether a geometry of this type and with this metadata byte is a point that its header announces.

@@ -3,21 +3,15 @@
 
 mod awaited;
 mod blob_reason;
-mod body;
 mod builder;
 mod engine;
 mod header;
-mod ids;
 mod items;
-mod lefts;
 mod members;
-mod names;
 mod numbers;
 mod phase;
-mod place;
-mod runs;
-mod site;
 mod stop;
+mod typed;
 
 pub use awaited::Awaited;
 pub use blob_reason::BlobReason;

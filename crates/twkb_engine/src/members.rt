@@ -4,21 +4,19 @@ ghost use Rattle.twkb_points.specs.Point.{Point};
 ghost use Rattle.twkb_grammar.specs.PlainReader.{is_exact as exact};
 ghost use Rattle.twkb_outline.specs.Outline.{members_open, outline_advanced, outline_ends, outline_past_end};
 ghost use Rattle.twkb_outline.specs.Growing.{applied, change_of, kind_with, own_of, NewRow};
-ghost use Rattle.twkb_engine.specs.Names.{ids_of};
-ghost use Rattle.twkb_engine.specs.State.{kind_of, many_of, head_of, step_of, groups_of, goes_on, own_change, IsMembered, IsPlaced, IsPlacedIn, HasHead, IsShallow};
+ghost use Rattle.twkb_outline.specs.Parts.{Passes};
+ghost use Rattle.twkb_body.specs.Body.{kind_of, head_of};
+ghost use Rattle.twkb_body.specs.Names.{ids_of};
+ghost use Rattle.twkb_engine.specs.State.{many_of, step_of, groups_of, goes_on, own_change, IsMembered, IsPlaced, IsPlacedIn, HasHead, IsShallow};
 ghost use Rattle.twkb_engine.specs.Leads.{reached};
-ghost use Rattle.twkb_engine.specs.Stops.{IsPast, Passes};
+ghost use Rattle.twkb_engine.specs.Stops.{IsPast};
 
 use crate::blob_reason::BlobReason;
-use crate::body::Body;
-use crate::lefts::{Lefts, Spot};
-use crate::names::Names;
-use crate::phase::{DEEPEST, GeometryType, Group, Groups, Many, Phase};
-use crate::place::Head;
-use crate::site::{Form, push_row, whole_row};
+use crate::phase::{DEEPEST, Group, Groups, Many, Phase};
 use crate::stop::Stop;
 use std::alloc::{AllocError, Global};
 use std::mem;
+use twkb_body::{Body, Form, GeometryType, Head, Lefts, Names, Spot, push_row, whole_row};
 use twkb_flat::Flat;
 use twkb_header::Metadata;
 use twkb_num::unzigzag;
@@ -53,7 +51,7 @@ fn begin_members(
     ensures kept { OnOk result (HasHead phase.new → groups_of groups.new.items ≡ groups_of groups.old.items) }
     ensures few { IsShallow groups.old.items → IsShallow groups.new.items }
 {
-    push_row(flat, whole_row(head, many_kind(many)), &[])?;
+    push_row(flat, whole_row(head, many_kind(many)))?;
     let (form, spot) = match many {
         Many::Points => (Form::MultiPoint, Spot::X(Lefts::One(others))),
         Many::Lines => (Form::MultiLine, Spot::LineCount(Lefts::One(others))),

@@ -1,80 +1,27 @@
-//! Numbers of a body, where it goes on with them: one by one, and many at a time where they stand whole in front.
-ghost use Rattle.std.specs.Prelude.{◌≡◌, ◌+◌, ◌≤◌, ◌<◌, ◌^◌, IfSome, IfOk, OnErr, Ok, None, true, length as length_of};
+//! Numbers of a body, where it goes on with them, and ids: one by one, and many at a time where they stand whole in front.
+ghost use Rattle.std.specs.Prelude.{◌≡◌, ◌+◌, ◌≤◌, ◌<◌, ◌^◌, List, IfSome, Ok, None, true, length as length_of};
+ghost use Rattle.twkb_tree.specs.Rows.{Row};
 
-use crate::body::Body;
 use crate::builder::Builder;
-use crate::lefts::{After, Lefts, Spot};
 use crate::phase::Phase;
-use crate::place::Head;
-use crate::runs::first_left;
 use std::alloc::AllocError;
+use twkb_body::{Spot, take_ids};
 use twkb_flat::Flat;
 use twkb_front::{front_number, moved_x, moved_y};
 use twkb_num::unzigzag;
 use twkb_points::Pt;
 
-// Whether points come next, with others of their list or multipoint behind them.
+// Whether a point of a body comes next, with others of its list or multipoint behind it.
 fn in_run(phase: &Phase) -> bool {
     match phase {
-        Phase::Body(_, body) => match body.spot {
-            Spot::X(lefts) => !matches!(first_left(lefts), None | Some(0)),
-            _ => false,
-        },
+        Phase::Body(_, body) => body.is_in_run(),
         _ => false,
-    }
-}
-
-impl Body {
-    ghost use Rattle.twkb_engine.specs.Body.{ids_at};
-    ghost use Rattle.twkb_engine.specs.Names.{ids_of};
-    ghost use Rattle.twkb_engine.specs.Steps.{GoesOn};
-
-    // Whether it ends with its next number.
-    #[inline]
-    fn is_last(&self) -> bool {
-        matches!(
-            self.spot,
-            Spot::Y(Lefts::Empty | Lefts::One(0) | Lefts::Two(0, 0) | Lefts::Three(0, 0, 0))
-        )
-    }
-
-    // Whether the ids are behind a value as they were before it.
-    #[inline]
-    fn keeps_ids(&self, after: After) -> bool
-        ensures { result ≡ true → ids_at after.next_member (ids_of self.now.names) ≡ ids_of self.now.names }
-    {
-        !after.next_member || !self.names.named
-    }
-
-    // Keeps what a number brings that leads to this position, where the body goes on with it, and no id is done with; answers what comes
-    // next. Takes memory.
-    #[inline]
-    fn pass(
-        &self,
-        flat: &mut Flat,
-        head: Head,
-        number: u64,
-        position: Pt,
-    ) -> Result<Option<Spot>, AllocError>
-        ensures { GoesOn head number position self.now flat.old result flat.new }
-    {
-        let after = self.after(number);
-        let Some(spot) = after.spot else {
-            return Ok(None);
-        };
-        if !self.keeps_ids(after) {
-            return Ok(None);
-        }
-        if let Err(refused) = self.keep(flat, head, position) {
-            return Err(refused);
-        }
-        Ok(Some(spot))
     }
 }
 
 impl Builder {
     ghost use Rattle.twkb_engine.specs.Building.{sums_of, outline_in, refusal, AreBehind, SaysNext};
-    ghost use Rattle.twkb_engine.specs.Ahead.{RunsBy, StopsBehind, StepsOn};
+    ghost use Rattle.twkb_engine.specs.Ahead.{StepsOn, TakesAhead};
 
     // Where the next number of a body leads, and how many points are announced behind it, where nothing objects to it; none of a count of
     // rings.
@@ -124,15 +71,14 @@ impl Builder {
         let Phase::Body(head, body) = &mut self.phase else {
             return Ok(false);
         };
-        match body.pass(flat, *head, number, position) {
-            Ok(Some(spot)) => {
-                body.spot = spot;
+        match body.go_on(flat, *head, number, position) {
+            Ok(true) => {
                 self.bytes += length;
                 self.position = position;
                 self.points = points;
                 Ok(true)
             }
-            Ok(None) => Ok(false),
+            Ok(false) => Ok(false),
             Err(refused) => Err(refused),
         }
     }
@@ -152,10 +98,7 @@ impl Builder {
     // and a point take memory.
     fn take_whole_number(&mut self, flat: &mut Flat, rest: &[u8]) -> Result<usize, AllocError>
         requires room { self.old.bytes + length_of rest.now < 2 ^ 64 }
-        ensures limits { self.new.limits ≡ self.old.limits }
-        ensures few { self.new.bytes ≤ self.old.bytes + length_of rest.now }
-        ensures run { IfOk result (λ used. RunsBy self.old flat.old rest.now used self.new flat.new) }
-        ensures memory { OnErr result (StopsBehind self.old flat.old rest.now) }
+        ensures { TakesAhead self.old flat.old rest.now result self.new flat.new }
     {
         let Some((number, count)) = self.number_in_front(rest) else {
             return Ok(0);
@@ -167,14 +110,27 @@ impl Builder {
         }
     }
 
+    // Takes ids that stand whole in front, but the last, and answers how many bytes they had. They take memory.
+    fn take_whole_ids(&mut self, rest: &[u8]) -> Result<usize, AllocError>
+        requires room { self.old.bytes + length_of rest.now < 2 ^ 64 }
+        ensures { (rs : List Row) → TakesAhead self.old rs rest.now result self.new rs }
+    {
+        let Phase::Id { ids, left, .. } = &mut self.phase else {
+            return Ok(0);
+        };
+        let used = match take_ids(ids, left, rest) {
+            Ok(used) => used,
+            Err(refused) => return Err(refused),
+        };
+        self.bytes += used as u64;
+        Ok(used)
+    }
+
     // Takes points of a list or multipoint that stand whole in front, but its last, or another number of a body, or ids, whatever comes
     // next; answers how many bytes they had, or 0. They take memory.
     fn take_some(&mut self, flat: &mut Flat, rest: &[u8]) -> Result<usize, AllocError>
         requires room { self.old.bytes + length_of rest.now < 2 ^ 64 }
-        ensures limits { self.new.limits ≡ self.old.limits }
-        ensures few { self.new.bytes ≤ self.old.bytes + length_of rest.now }
-        ensures run { IfOk result (λ used. RunsBy self.old flat.old rest.now used self.new flat.new) }
-        ensures memory { OnErr result (StopsBehind self.old flat.old rest.now) }
+        ensures { TakesAhead self.old flat.old rest.now result self.new flat.new }
     {
         if let Phase::Id { .. } = &self.phase {
             return self.take_whole_ids(rest);
@@ -198,10 +154,7 @@ impl Builder {
     // how many bytes they had. They take memory.
     pub(crate) fn take_points(&mut self, flat: &mut Flat, rest: &[u8]) -> Result<usize, AllocError>
         requires room { self.old.bytes + length_of rest.now < 2 ^ 64 }
-        ensures limits { self.new.limits ≡ self.old.limits }
-        ensures few { self.new.bytes ≤ self.old.bytes + length_of rest.now }
-        ensures run { IfOk result (λ used. RunsBy self.old flat.old rest.now used self.new flat.new) }
-        ensures memory { OnErr result (StopsBehind self.old flat.old rest.now) }
+        ensures { TakesAhead self.old flat.old rest.now result self.new flat.new }
     {
         let mut used = 0;
         while used < rest.len() {

@@ -2,20 +2,11 @@
 ghost use Rattle.std.specs.Prelude.{◌≡◌, true, false};
 ghost use Rattle.twkb_engine.specs.State.{IsSpelled, IsByte, IsPart};
 
-use crate::body::Body;
-use crate::names::Names;
-use crate::place::{Head, Typed};
-use crate::site::Form;
+use crate::typed::Typed;
 use smallvec::SmallVec;
 use std::alloc::Global;
 use std::default::MadeWith;
-
-// The seven types (TWKB, geometry types).
-#[derive(Clone, Copy, Debug, PartialEq, Eq)]
-pub(crate) enum GeometryType {
-    Simple(Form),
-    Collection,
-}
+use twkb_body::{Body, GeometryType, Head, Names};
 
 // What the count of a geometry with members counts.
 #[derive(Clone, Copy, Debug, PartialEq, Eq)]

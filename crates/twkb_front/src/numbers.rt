@@ -76,8 +76,9 @@ fn middle_number(bytes: &[u8]) -> Option<(u64, usize)>
     None
 }
 
-/// The number that stands in front, and how many bytes it has; `None` where its varint is not whole, or is none.
-pub fn front_number(bytes: &[u8]) -> Option<(u64, usize)>
+// The same, by numbers of any length: a call where `front_number` is none.
+#[inline(never)]
+pub(crate) fn any_number(bytes: &[u8]) -> Option<(u64, usize)>
     ensures { IfSome result (λ front. NumberInFront bytes.now front.0 front.1) }
 {
     twkb_num::laws::varints();
@@ -96,4 +97,15 @@ pub fn front_number(bytes: &[u8]) -> Option<(u64, usize)>
         }
     }
     None
+}
+
+/// The number that stands in front, and how many bytes it has; `None` where its varint is not whole, or is none.
+#[inline(always)]
+pub fn front_number(bytes: &[u8]) -> Option<(u64, usize)>
+    ensures { IfSome result (λ front. NumberInFront bytes.now front.0 front.1) }
+{
+    if let Some(front) = short_number(bytes) {
+        return Some(front);
+    }
+    any_number(bytes)
 }

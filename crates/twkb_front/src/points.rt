@@ -5,7 +5,7 @@ ghost use Rattle.twkb_points.specs.Point.{IsCoordinate};
 ghost use Rattle.twkb_front.specs.Front.{PointInFront, StepsTo};
 
 use crate::motion::{moved_x, moved_y};
-use crate::numbers::{byte_number, front_number, short_number};
+use crate::numbers::{any_number, byte_number, short_number};
 use twkb_num::unzigzag;
 use twkb_points::Pt;
 
@@ -78,8 +78,8 @@ fn short_point(from: Pt, bytes: &[u8]) -> Option<(Pt, usize)>
 fn long_point(from: Pt, bytes: &[u8]) -> Option<(Pt, usize)>
     ensures { IfSome result (λ front. PointInFront from bytes.now front.0 front.1) }
 {
-    let (x, width) = front_number(bytes)?;
-    let (y, height) = front_number(&bytes[width..])?;
+    let (x, width) = any_number(bytes)?;
+    let (y, height) = any_number(&bytes[width..])?;
     let beside = moved_x(from, unzigzag(x))?;
     let to = moved_y(beside, unzigzag(y))?;
     Some((to, width + height))

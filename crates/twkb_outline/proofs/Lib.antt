@@ -12,3 +12,5 @@ pub mod PointPairs
 pub mod Notings
 pub mod NotedPairs
 pub mod NotedJoins
+pub mod Pieces
+pub mod Judging

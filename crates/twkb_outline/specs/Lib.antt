@@ -2,3 +2,4 @@ pub mod Outline
 pub mod Growing
 pub mod Reading
 pub mod Noting
+pub mod Parts

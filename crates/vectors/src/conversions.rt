@@ -1,78 +1,85 @@
-//! What the conversions make of one blob, as lines of text.
+//! What the conversions make of blobs and tables, as lines of text.
+use super::text::{put, put_hex, put_lines, put_shown};
 use std::alloc::Global;
-use std::io;
-use std::io::Write;
 use twkb_convert::{ConvertFault, Report, Style, pack_styled, show, unpack};
 use twkb_geom::Limits;
 use twkb_io::Tap;
 
-// What a conversion wrote, where it was carried through.
-fn written(answer: Result<Report, ConvertFault>, writer: Tap<Vec<u8>>) -> Option<Vec<u8>> {
-    match answer {
-        Ok(_) => Some(writer.into_inner()),
-        Err(_) => None,
-    }
+/// What a conversion answered, and what it wrote.
+#[derive(Drop)]
+pub struct Converted {
+    pub answer: Result<Report, ConvertFault>,
+    pub written: Vec<u8>,
 }
 
-fn table_of(alloc: Global, blob: &[u8]) -> Option<Vec<u8>> {
+/// A stream's table.
+pub fn unpacked(alloc: Global, limits: Limits, blobs: &[u8]) -> Converted {
     let mut writer = Tap::new(Vec::new(alloc));
-    let answer = unpack(alloc, &mut Tap::new(blob), &mut writer, Limits::standard());
-    written(answer, writer)
+    let answer = unpack(alloc, &mut Tap::new(blobs), &mut writer, limits);
+    let written = writer.into_inner();
+    Converted { answer, written }
 }
 
-fn headers_of(alloc: Global, blob: &[u8]) -> Option<Vec<u8>> {
+/// The lines of a stream's headers.
+pub fn shown(alloc: Global, limits: Limits, blobs: &[u8]) -> Converted {
     let mut writer = Tap::new(Vec::new(alloc));
-    let answer = show(alloc, &mut Tap::new(blob), &mut writer, Limits::standard());
-    written(answer, writer)
+    let answer = show(alloc, &mut Tap::new(blobs), &mut writer, limits);
+    let written = writer.into_inner();
+    Converted { answer, written }
 }
 
-fn blob_of(alloc: Global, style: Style, table: &[u8]) -> Option<Vec<u8>> {
-    let mut reader = Tap::new(table);
+/// A table's blobs in a style.
+pub fn packed(alloc: Global, style: Style, limits: Limits, table: &[u8]) -> Converted {
     let mut writer = Tap::new(Vec::new(alloc));
-    let answer = pack_styled(alloc, &mut reader, &mut writer, Limits::standard(), style);
-    written(answer, writer)
+    let answer = pack_styled(alloc, &mut Tap::new(table), &mut writer, limits, style);
+    let written = writer.into_inner();
+    Converted { answer, written }
 }
 
-// Prints a word and the lines of a text, each ended by a slash; the word alone where there is no text.
-fn print_lines<W: Write>(output: &mut W, word: &str, text: Option<Vec<u8>>) -> io::Result<()> {
-    output.write_all(word.as_bytes())?;
-    if let Some(mut text) = text {
-        for byte in text.iter_mut() {
-            if *byte == b'\n' {
-                *byte = b'/';
-            }
-        }
-        output.write_all(&text)?;
-    }
-    output.write_all(b"\n")
-}
-
-// Prints a word and the hexadecimal digits of a blob; the word alone where there is no blob.
-fn print_blob<W: Write>(
-    alloc: Global,
-    output: &mut W,
-    word: &str,
-    blob: Option<Vec<u8>>,
-) -> io::Result<()> {
-    output.write_all(word.as_bytes())?;
-    if let Some(blob) = blob {
-        output.write_all(hex::encode(alloc, blob.as_slice())?.as_bytes())?;
-    }
-    output.write_all(b"\n")
-}
-
-/// Prints what each conversion makes of a blob: its table, its headers, and that table's blobs.
-pub fn print_all<W: Write>(alloc: Global, output: &mut W, blob: &[u8]) -> io::Result<()> {
-    print_lines(output, "show ", headers_of(alloc, blob))?;
-    let Some(table) = table_of(alloc, blob) else {
-        return output.write_all(b"refused\n");
+// Prints how many geometries were converted and how many bytes written, or these and why no more were.
+fn put_answer(alloc: Global, answer: Result<Report, ConvertFault>, text: &mut Vec<u8>) {
+    let (geometries, bytes) = match answer {
+        Ok(report) => (report.geometries, report.bytes),
+        Err(fault) => (fault.done, fault.sent),
     };
-    print_blob(alloc, output, "full ", blob_of(alloc, Style::Full, &table))?;
-    print_blob(
-        alloc,
-        output,
-        "plain ",
-        blob_of(alloc, Style::Plain, &table),
-    )?;
-    print_lines(output, "unpack ", Some(table))
+    put(text, b" ");
+    put_shown(alloc, text, &geometries);
+    put(text, b" ");
+    put_shown(alloc, text, &bytes);
+}
+
+// Prints the cause, and ends the line.
+fn put_cause(alloc: Global, answer: Result<Report, ConvertFault>, text: &mut Vec<u8>) {
+    if let Err(fault) = answer {
+        put(text, b"; ");
+        put_shown(alloc, text, &fault);
+    }
+    put(text, b"\n");
+}
+
+/// Prints a word, the numbers of a conversion, the lines that it wrote, and why it stopped.
+pub fn put_text_of(alloc: Global, word: &[u8], converted: Converted, text: &mut Vec<u8>) {
+    put(text, word);
+    put_answer(alloc, converted.answer, text);
+    put_lines(text, &converted.written);
+    put_cause(alloc, converted.answer, text);
+}
+
+/// The same of blobs.
+pub fn put_blobs_of(alloc: Global, word: &[u8], converted: Converted, text: &mut Vec<u8>) {
+    put(text, word);
+    put_answer(alloc, converted.answer, text);
+    put_hex(alloc, text, &converted.written);
+    put_cause(alloc, converted.answer, text);
+}
+
+/// Prints what each conversion makes of a blob: its headers, its table's blobs in both styles, and the table.
+pub fn put_all(alloc: Global, limits: Limits, blob: &[u8], text: &mut Vec<u8>) {
+    put_text_of(alloc, b"  show", shown(alloc, limits, blob), text);
+    let table = unpacked(alloc, limits, blob);
+    let full = packed(alloc, Style::Full, limits, &table.written);
+    put_blobs_of(alloc, b"  full", full, text);
+    let plain = packed(alloc, Style::Plain, limits, &table.written);
+    put_blobs_of(alloc, b"  plain", plain, text);
+    put_text_of(alloc, b"  unpack", table, text);
 }

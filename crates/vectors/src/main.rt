@@ -1,19 +1,36 @@
-//! Reads blobs, one a line in hexadecimal, and prints what each conversion makes of them.
+//! Reads lines, prints each, and behind it what is made of it.
 #![tactic(auto)]
 
 mod conversions;
+mod devices;
+mod fields;
+mod forms;
+mod lines;
+mod numbers;
+mod points;
+mod polylines;
+mod runs;
+mod spans;
+mod streams;
+mod tables;
+mod text;
+mod trees;
 
 use std::io;
 use std::io::{BufWriter, Write};
+use twkb_geom::Limits;
 
-// Four lines a blob: its table, its headers, and the blobs of its table with sizes and boxes and without.
 fn main(rt: HostRuntime) -> io::Result<()> {
-    let mut output = BufWriter::new(rt.alloc(), rt.stdout())?;
-    for line in rt.lines(rt.alloc()) {
-        let Ok(blob) = hex::decode(rt.alloc(), line?.as_str()) else {
-            return Err(io::Error::from(io::ErrorKind::InvalidData));
-        };
-        conversions::print_all(rt.alloc(), &mut output, &blob)?;
+    let alloc = rt.alloc();
+    let mut output = BufWriter::new(alloc, rt.stdout())?;
+    let mut limits = Limits::standard();
+    for line in rt.lines(alloc) {
+        let line = line?;
+        let mut text = Vec::new(alloc);
+        text::put(&mut text, line.as_bytes());
+        text::put(&mut text, b"\n");
+        limits = lines::answer(alloc, limits, line.as_str(), &mut text);
+        output.write_all(&text)?;
     }
     output.flush()
 }

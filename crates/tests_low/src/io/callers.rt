@@ -5,9 +5,8 @@ ghost use Rattle.twkb_io.specs.Taps.{count_failure, device_of, failures_of};
 ghost use Rattle.twkb_io.specs.Sinks.{TookFront};
 ghost use Rattle.twkb_io.specs.Copies.{is_read_stop, is_write_stop};
 
-use std::alloc::Global;
 use std::io::{Read, Write};
-use twkb_io::{Bytes, CopyFault, Fuse, FuseEnd, Input, OutFault, Output, Sink, Tap, copy};
+use twkb_io::{Bytes, CopyFault, Input, OutFault, Output, Sink, Tap, copy};
 
 // Two puts into any sink are one of the join.
 fn put_twice<S: Sink>(sink: &mut S, first: &[u8], second: &[u8]) -> Result<(), S::Fault>
@@ -44,21 +43,6 @@ fn a_copy_between_devices_leaves_both_as_said(rt: HostRuntime) {
     let is_read = reader.into_inner().is_empty();
     let written = writer.into_inner();
     assert!(rt; is_copied && is_read && written.as_slice() == [1, 2, 3].as_slice());
-}
-
-// Whether a copy to a writer that takes so many bytes, and no more, stops there.
-fn stops_at(alloc: Global, bytes: u64) -> bool {
-    let mut reader = Tap::new([1, 2, 3].as_slice());
-    let mut writer = Tap::new(Fuse::new(Vec::new(alloc), bytes, 2, FuseEnd::Zero, false));
-    let is_stuck = copy_device(&mut reader, &mut writer) == Err(CopyFault::Sink(OutFault::Stuck));
-    is_stuck && writer.failures() == 1 && writer.into_inner().into_inner().len() as u64 == bytes
-}
-
-#[test]
-fn a_copy_between_devices_stops_where_one_fails(rt: HostRuntime) {
-    for bytes in 0..3 {
-        assert!(rt; stops_at(rt.alloc(), bytes), "{bytes} bytes");
-    }
 }
 
 #[test]

@@ -2,7 +2,7 @@
 use super::devices::{Asked, Terminal};
 use super::reads;
 use std::io::Read;
-use twkb_io::{Ending, Fuse, FuseEnd, Tap};
+use twkb_io::{Ending, Tap};
 
 // Whether a reader of two bytes gives them, and then its end, however often it is asked.
 fn ends_for_good<R: Read>(ending: &mut Ending<R>) -> bool {
@@ -25,30 +25,6 @@ fn behind_its_end_a_reader_is_asked_no_more(rt: HostRuntime) {
     let mut ending = Ending::new(Asked::new(Terminal::new(b"ab", b"cd")));
     let has_ended = ends_for_good(&mut ending);
     assert!(rt; was_asked_twice(ending.into_inner()) && has_ended);
-}
-
-// Whether a read without room answers nothing, and the end has not come.
-fn goes_on_without_room<R: Read>(ending: &mut Ending<R>) -> bool {
-    reads(ending, &mut [], Some(0)) && !ending.has_ended() && reads(ending, &mut [0; 4], Some(2))
-}
-
-#[test]
-fn a_read_without_room_is_no_end(rt: HostRuntime) {
-    let mut ending = Ending::new(b"ab".as_slice());
-    assert!(rt; goes_on_without_room(&mut ending));
-}
-
-// Whether reads fail, and the end has not come.
-fn fails_without_end<R: Read>(ending: &mut Ending<R>) -> bool {
-    let mut room = [0; 4];
-    reads(ending, &mut room, None) && reads(ending, &mut room, None) && !ending.has_ended()
-}
-
-#[test]
-fn a_failed_read_is_no_end(rt: HostRuntime) {
-    let cut = Fuse::new(b"ab".as_slice(), 0, 1, FuseEnd::Fail, false);
-    let mut ending = Ending::new(cut);
-    assert!(rt; fails_without_end(&mut ending));
 }
 
 // Whether a reader of two bytes and, behind an end, of three is counted as it gives them.

@@ -1,36 +1,7 @@
 //! Sinks in memory, and the texts of the faults.
 use crate::printed::all_have_texts;
 use std::alloc::Global;
-use twkb_io::{Bytes, Count, CountFull, InFault, OutFault, Output, Sink, Tap};
-
-// Whether a sink takes two puts, of two numbers and of a third.
-fn takes_two<S: Sink>(sink: &mut S) -> bool
-where
-    S::Fault: Drop,
-{
-    sink.put(&[1, 2]).is_ok() && sink.put(&[3]).is_ok()
-}
-
-#[test]
-fn two_puts_are_kept_in_order(rt: HostRuntime) {
-    let mut bytes = Bytes::new(rt.alloc());
-    let is_taken = takes_two(&mut bytes);
-    assert!(rt; is_taken && bytes.into_vec().as_slice() == [1, 2, 3].as_slice());
-}
-
-#[test]
-fn two_puts_are_counted(rt: HostRuntime) {
-    let mut count = Count::new();
-    assert!(rt; takes_two(&mut count) && count.total() == 3);
-}
-
-#[test]
-fn two_puts_are_sent_in_order(rt: HostRuntime) {
-    let mut tap = Tap::new(Vec::new(rt.alloc()));
-    let mut output = Output::new(&mut tap);
-    let is_sent = takes_two(&mut output) && output.sent() == 3;
-    assert!(rt; is_sent && tap.into_inner().as_slice() == [1, 2, 3].as_slice());
-}
+use twkb_io::{Bytes, Count, CountFull, InFault, OutFault, Sink};
 
 // Whether the bytes are taken, at the second put where the first is refused, and then counted.
 fn takes(bytes: &mut Bytes, count: &mut Count, part: &[u8]) -> bool {

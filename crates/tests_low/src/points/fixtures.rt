@@ -1,5 +1,5 @@
 //! Points of the tests.
-use twkb_points::{Bounds, Pt};
+use twkb_points::Pt;
 
 /// 2^62, the first number above the range of a coordinate.
 pub const ABOVE: i64 = 1 << 62;
@@ -11,12 +11,14 @@ pub const EXAMPLE: [(i64, i64); 3] = [
     (-12645300, 4325200),
 ];
 
-/// Whether the point is there, with these coordinates.
-pub fn is_at(point: Option<Pt>, x: i64, y: i64) -> bool {
-    match point {
-        Some(point) => point.x() == x && point.y() == y,
-        None => false,
-    }
+/// The points with these coordinates, x first.
+pub fn points_of(pairs: [(i64, i64); 3]) -> Option<[Pt; 3]> {
+    let [(x, y), (x2, y2), (x3, y3)] = pairs;
+    Some([
+        Pt::try_new(x, y)?,
+        Pt::try_new(x2, y2)?,
+        Pt::try_new(x3, y3)?,
+    ])
 }
 
 /// Whether these are points with these coordinates, x first.
@@ -30,17 +32,4 @@ pub fn are_at(points: &[Pt], places: &[(i64, i64)]) -> bool {
         }
     }
     true
-}
-
-/// Whether the box is there, with these numbers.
-pub fn has_items(bounds: Option<Bounds>, items: [i64; 4]) -> bool {
-    match bounds {
-        Some(bounds) => bounds.items() == items,
-        None => false,
-    }
-}
-
-/// The bounds of the point with these coordinates.
-pub fn bounds_at(x: i64, y: i64) -> Option<Bounds> {
-    Some(Bounds::of(Pt::try_new(x, y)?))
 }

@@ -1,10 +1,11 @@
 //! Want of memory. Run with each allocation refused in turn (`rt try --test --fail-alloc N`): an answer is then the right one
 //! or want of memory, for good.
 use super::answers::{goes_on, refuses_piece};
-use super::feeding::{Outcome, by_reader, by_session, byte_by_byte};
 use std::alloc::Global;
-use twkb_blob::{BlobFault, Session};
+use std::io::Read;
+use twkb_blob::{BlobFault, Reader, Session};
 use twkb_geom::Limits;
+use twkb_io::{Input, Tap};
 
 // A collection with ids: a multipolygon with an id, and a multilinestring of two lines.
 const NAMED: [u8; 26] = [
@@ -18,20 +19,39 @@ const DEEP: [u8; 20] = [
     0x00, 0x01, 0x01, 0x10,
 ];
 
-// Whether this is one geometry, or none for want of memory.
-fn made_or_memory(outcome: Outcome) -> bool {
-    match outcome.fault {
-        None => outcome.made == 1,
-        Some(fault) => outcome.made == 0 && fault == BlobFault::Memory,
+// Whether a reader gives a geometry, or lacks memory.
+fn gives_or_lacks<R: Read>(alloc: Global, tap: &mut Tap<R>) -> bool {
+    let mut reader = Reader::new(Input::new(tap), Limits::standard());
+    match reader.next(alloc) {
+        Ok(geometry) => geometry.is_some(),
+        Err(fault) => fault == BlobFault::Memory,
     }
+}
+
+// Whether a session gives a geometry for the whole piece, or lacks memory.
+fn feeds_or_lacks(session: &mut Session, piece: &[u8]) -> bool {
+    match session.feed(piece) {
+        Ok((used, geometry)) => used == piece.len() && geometry.is_some(),
+        Err(fault) => fault == BlobFault::Memory,
+    }
+}
+
+// Whether a session takes the bytes one by one and then has no geometry begun, or lacks memory.
+fn takes_or_lacks(session: &mut Session, bytes: &[u8]) -> bool {
+    for byte in bytes {
+        if let Err(fault) = session.feed(&[*byte]) {
+            return fault == BlobFault::Memory;
+        }
+    }
+    session.frames() == 0
 }
 
 // Whether each way to read the blob gives its geometry, or answers want of memory.
 fn each_way(alloc: Global, bytes: &[u8]) -> bool {
     let limits = Limits::standard();
-    made_or_memory(by_reader(alloc, limits, bytes))
-        && made_or_memory(byte_by_byte(alloc, limits, bytes))
-        && made_or_memory(by_session(alloc, limits, bytes, &[]))
+    gives_or_lacks(alloc, &mut Tap::new(bytes))
+        && feeds_or_lacks(&mut Session::new(alloc, limits), bytes)
+        && takes_or_lacks(&mut Session::new(alloc, limits), bytes)
 }
 
 #[test]

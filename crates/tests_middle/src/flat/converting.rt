@@ -1,45 +1,10 @@
-//! Geometries into flat forms, and back: the rows pushed one by one are those of the geometry that its constructors make.
-use crate::forms::{
-    EMPTY_LINE, Entry, INNER_COLLECTION, POINT_AND_LINE, TWO_POINTS, TWO_POLYGONS, TWO_RINGS, form,
-};
-use crate::geometries::{
-    dot, empty_line, inner_collection, line, point_and_line, two_points, two_polygons, two_rings,
-};
+//! Geometries into flat forms, and back.
+use crate::geometries::{inner_collection, point_and_line, two_points, two_polygons};
 use std::alloc::Global;
-use twkb_geom::{Flat, Geometry, Kind, Limits, NodeId, PointId, Work};
+use twkb_geom::{Flat, Geometry, Limits};
 
-// Whether two forms have the same nodes.
-fn same_nodes(found: &Flat, expected: &Flat) -> bool {
-    let mut work = Work::new();
-    let nodes = expected.node_count();
-    if found.node_count() != nodes {
-        return false;
-    }
-    for id in 0..nodes {
-        if found.node(NodeId(id), &mut work) != expected.node(NodeId(id), &mut work) {
-            return false;
-        }
-    }
-    true
-}
-
-// Whether two forms have the same points.
-fn same_points(found: &Flat, expected: &Flat) -> bool {
-    let mut work = Work::new();
-    let points = expected.point_count();
-    if found.point_count() != points {
-        return false;
-    }
-    for id in 0..points {
-        if found.point(PointId(id), &mut work) != expected.point(PointId(id), &mut work) {
-            return false;
-        }
-    }
-    true
-}
-
-// Whether the form has rows, and they are built to the geometry.
-fn builds(alloc: Global, flat: &Flat, geometry: &Geometry) -> bool {
+// Whether the form has rows, and is built to the geometry.
+fn is_built_to(alloc: Global, flat: &Flat, geometry: &Geometry) -> bool {
     if flat.is_empty() {
         return false;
     }
@@ -49,79 +14,33 @@ fn builds(alloc: Global, flat: &Flat, geometry: &Geometry) -> bool {
     }
 }
 
-// Whether the geometry is within the largest limits, and made the form.
-fn fills(alloc: Global, geometry: &Geometry, flat: &Flat) -> bool {
+// Whether a geometry within the largest limits comes back from its form.
+fn is_kept(alloc: Global, geometry: &Geometry) -> bool {
     if !geometry.within(&Limits::largest()) {
         return false;
     }
     match Flat::from_geometry(alloc, geometry) {
-        Ok(filled) => same_nodes(&filled, flat) && same_points(&filled, flat),
+        Ok(flat) => is_built_to(alloc, &flat, geometry),
         Err(_) => false,
     }
 }
 
-// Whether these rows are a form, the geometry was made, and they become each other.
-fn converts(alloc: Global, rows: &[Entry], geometry: Option<Geometry>) -> bool {
-    match (form(alloc, rows), geometry) {
-        (Some(flat), Some(geometry)) => {
-            builds(alloc, &flat, &geometry) && fills(alloc, &geometry, &flat)
-        }
-        _ => false,
+// The same of a geometry that was made.
+fn comes_back(alloc: Global, geometry: Option<Geometry>) -> bool {
+    match geometry {
+        Some(geometry) => is_kept(alloc, &geometry),
+        None => false,
     }
 }
 
 #[test]
-fn points(rt: HostRuntime) {
+fn geometries_come_back_from_their_forms(rt: HostRuntime) {
     let alloc = rt.alloc();
-    let least: [Entry; 1] = [(0, Kind::Point, None, Some(-8), &[(2, 1)])];
+    assert!(rt; comes_back(alloc, two_points(alloc)), "two points with ids");
+    assert!(rt; comes_back(alloc, two_polygons(alloc)), "one without rings");
+    assert!(rt; comes_back(alloc, point_and_line(alloc)), "two with ids");
     assert!(rt;
-        converts(alloc, &least, dot(-8, Some((2, 1)))),
-        "the least precision"
-    );
-    let empty: [Entry; 1] = [(0, Kind::Point, None, Some(7), &[])];
-    assert!(rt;
-        converts(alloc, &empty, dot(7, None)),
-        "without coordinates"
-    );
-}
-
-#[test]
-fn a_line_and_a_polygon(rt: HostRuntime) {
-    let alloc = rt.alloc();
-    let rows: [Entry; 1] = [(0, Kind::Linestring, None, Some(0), &[(1, 1), (5, 5)])];
-    assert!(rt;
-        converts(alloc, &rows, line(alloc, &[(1, 1), (5, 5)])),
-        "a line"
-    );
-    assert!(rt; converts(alloc, TWO_RINGS, two_rings(alloc)), "two rings");
-}
-
-#[test]
-fn members_of_one_kind(rt: HostRuntime) {
-    let alloc = rt.alloc();
-    assert!(rt;
-        converts(alloc, TWO_POINTS, two_points(alloc)),
-        "two points with ids"
-    );
-    assert!(rt;
-        converts(alloc, EMPTY_LINE, empty_line(alloc)),
-        "an empty line"
-    );
-    assert!(rt;
-        converts(alloc, TWO_POLYGONS, two_polygons(alloc)),
-        "one without rings"
-    );
-}
-
-#[test]
-fn members_of_collections(rt: HostRuntime) {
-    let alloc = rt.alloc();
-    assert!(rt;
-        converts(alloc, POINT_AND_LINE, point_and_line(alloc)),
-        "two with ids"
-    );
-    assert!(rt;
-        converts(alloc, INNER_COLLECTION, inner_collection(alloc)),
+        comes_back(alloc, inner_collection(alloc)),
         "three precisions"
     );
 }

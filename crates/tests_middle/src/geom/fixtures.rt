@@ -12,8 +12,8 @@ pub fn two_point_line(alloc: Global) -> Option<Geometry> {
     line(alloc, &[(1, 1), (5, 5)])
 }
 
-/// A collection of precision 0 without members.
-pub fn no_members(alloc: Global) -> Option<Geometry> {
+// A collection of precision 0 without members.
+fn no_members(alloc: Global) -> Option<Geometry> {
     geometry(
         0,
         Shape::Collection(Members::from_vec(Vec::new(alloc)), None),

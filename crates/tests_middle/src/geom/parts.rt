@@ -1,7 +1,7 @@
 //! Words of kinds, lists, and what a geometry shows.
-use super::fixtures::{ids, no_members};
+use super::fixtures::ids;
 use crate::forms::are_at;
-use crate::geometries::{dot, line_of, lines_of, point_and_line, two_points};
+use crate::geometries::{dot, line_of, lines_of, two_points};
 use std::alloc::Global;
 use twkb_tree::{Areas, Geometry, IdList, Kind, Members, Pts, Shape};
 
@@ -109,39 +109,4 @@ fn shows_two_points(geometry: Option<Geometry>) -> bool {
 #[test]
 fn a_geometry_shows_its_shape(rt: HostRuntime) {
     assert!(rt; shows_two_points(two_points(rt.alloc())));
-}
-
-// Whether both are there, and `==` and `!=` give this answer and its opposite.
-fn compares(first: Option<Geometry>, second: Option<Geometry>, is_one: bool) -> bool {
-    match (first, second) {
-        (Some(first), Some(second)) => {
-            (first == second) == is_one && (first != second) != is_one
-        }
-        _ => false,
-    }
-}
-
-#[test]
-fn geometries_are_equal_where_their_trees_are(rt: HostRuntime) {
-    let alloc = rt.alloc();
-    assert!(rt;
-        compares(point_and_line(alloc), point_and_line(alloc), true),
-        "members"
-    );
-    assert!(rt;
-        compares(point_and_line(alloc), two_points(alloc), false),
-        "kinds"
-    );
-    assert!(rt;
-        compares(no_members(alloc), dot(0, None), false),
-        "nothing of each kind"
-    );
-    assert!(rt;
-        compares(dot(0, Some((2, 1))), dot(1, Some((2, 1))), false),
-        "precisions"
-    );
-    assert!(rt;
-        compares(dot(0, Some((2, 1))), dot(0, Some((1, 2))), false),
-        "places"
-    );
 }

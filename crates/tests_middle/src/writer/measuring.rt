@@ -27,13 +27,22 @@ fn passes(alloc: Global, flat: &Flat) -> Option<Counts> {
 }
 
 // The same of a geometry within the caps.
-fn passes_of(alloc: Global, geometry: Option<Geometry>) -> Option<Counts> {
-    let geometry = geometry?;
+fn passes_within(alloc: Global, geometry: &Geometry) -> Option<Counts> {
     if !geometry.within(&Limits::largest()) {
         return None;
     }
-    let flat = Flat::from_geometry(alloc, &geometry).ok()?;
-    passes(alloc, &flat)
+    match Flat::from_geometry(alloc, geometry) {
+        Ok(flat) => passes(alloc, &flat),
+        Err(_) => None,
+    }
+}
+
+// The same of a geometry that was made.
+fn passes_of(alloc: Global, geometry: Option<Geometry>) -> Option<Counts> {
+    match geometry {
+        Some(geometry) => passes_within(alloc, &geometry),
+        None => None,
+    }
 }
 
 // Whether so many points and nodes were counted, of which each node is an entry.
@@ -50,12 +59,17 @@ fn is_read_seldom(work: &Work) -> bool {
         && work.node_reads <= work.nodes.saturating_mul(3)
 }
 
+// Whether a flat form without rows has no entries, no bytes and no work.
+fn has_nothing(alloc: Global) -> bool {
+    match passes(alloc, &Flat::new(alloc)) {
+        Some(none) => none.entries == 0 && none.bytes == 0 && none.work == Work::new(),
+        None => false,
+    }
+}
+
 #[test]
 fn an_empty_flat_form_has_no_work(rt: HostRuntime) {
-    match passes(rt.alloc(), &Flat::new(rt.alloc())) {
-        Some(none) => assert!(rt; none.entries == 0 && none.work == Work::new(), "no work"),
-        None => assert!(rt; false, "memory"),
-    }
+    assert!(rt; has_nothing(rt.alloc()), "entries, bytes and work");
 }
 
 // Whether a point and a line have three entries and 18 bytes.

@@ -1,7 +1,8 @@
 //! Want of memory. Run with each allocation refused in turn (`rt try --test --fail-alloc N`): an answer is then the right
 //! one or want of memory, and a sink took nothing.
-use crate::geometries::{around, line, point_and_line};
-use std::alloc::Global;
+use crate::forms::{POINT_AND_LINE, form};
+use crate::geometries::point_and_line;
+use std::alloc::{AllocError, Global};
 use twkb_geom::{Flat, Geometry, Limits, Work};
 use twkb_io::Count;
 use twkb_writer::{EncodeFault, Style, encode, measure_flat};
@@ -25,21 +26,18 @@ fn want_of_memory_puts_nothing(rt: HostRuntime) {
     }
 }
 
-// A flat form of a line in a collection.
-fn line_below(alloc: Global) -> Option<Flat> {
-    let geometry = around(alloc, line(alloc, &[(3, -4), (3, -4)])?)?;
-    if !geometry.within(&Limits::largest()) {
-        return None;
+// Whether the entries of a form of three rows are measured, or memory is refused.
+fn has_entries(alloc: Global, flat: &Flat) -> bool {
+    let mut work = Work::new();
+    match measure_flat(alloc, flat, Style::Full, &mut work) {
+        Ok(sizes) => sizes.len() == 3,
+        Err(AllocError) => true,
     }
-    Flat::from_geometry(alloc, &geometry).ok()
 }
 
 #[test]
 fn room_for_the_entries_may_be_refused(rt: HostRuntime) {
-    if let Some(flat) = line_below(rt.alloc()) {
-        let mut work = Work::new();
-        if let Ok(sizes) = measure_flat(rt.alloc(), &flat, Style::Full, &mut work) {
-            assert!(rt; sizes.len() == 2, "entries");
-        }
+    if let Some(flat) = form(rt.alloc(), POINT_AND_LINE) {
+        assert!(rt; has_entries(rt.alloc(), &flat), "entries");
     }
 }

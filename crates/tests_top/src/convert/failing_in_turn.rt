@@ -3,6 +3,7 @@
 use super::edge_devices::Conversion;
 use super::{HEADER, cut_reader, cut_writer, report, stopped};
 use std::alloc::Global;
+use std::process::Abort;
 use twkb_convert::{BlobReason, Cause, ConvertFault, Report, RowReason};
 use twkb_io::{FuseEnd, Tap};
 
@@ -106,22 +107,6 @@ fn each_write_is_told(alloc: Global, worked: Worked, end: FuseEnd) -> bool {
     are_told
 }
 
-#[test]
-fn each_write_that_fails_is_told_behind_the_bytes_before_it(rt: HostRuntime) {
-    for worked in &WORKED {
-        let are_told = each_write_is_told(rt.alloc(), *worked, FuseEnd::Fail);
-        assert!(rt; are_told, "{:?} of {:?}", worked.0, worked.1);
-    }
-}
-
-#[test]
-fn each_write_that_takes_nothing_is_told_behind_the_bytes_before_it(rt: HostRuntime) {
-    for worked in &WORKED {
-        let are_told = each_write_is_told(rt.alloc(), *worked, FuseEnd::Zero);
-        assert!(rt; are_told, "{:?} of {:?}", worked.0, worked.1);
-    }
-}
-
 // Whether a failed read of a table is told behind a front of the blobs.
 fn read_of_a_table_is_told(alloc: Global, worked: Worked, given: usize) -> bool {
     let mut reader = cut_reader(worked.1, given as u64);
@@ -185,14 +170,6 @@ fn each_read_is_told(alloc: Global, worked: Worked) -> bool {
     }
 }
 
-#[test]
-fn each_read_that_fails_is_told_behind_the_whole_blobs(rt: HostRuntime) {
-    for worked in &WORKED {
-        let are_told = each_read_is_told(rt.alloc(), *worked);
-        assert!(rt; are_told, "{:?} of {:?}", worked.0, worked.1);
-    }
-}
-
 // The answer of a conversion that nothing fails.
 fn known_answer(worked: Worked) -> Result<Report, ConvertFault> {
     let length = worked.2.len();
@@ -224,14 +201,6 @@ fn flush_is_told(alloc: Global, worked: Worked) -> bool {
     gets_all(alloc, worked, false, known_answer(worked)) && gets_all(alloc, worked, true, told)
 }
 
-#[test]
-fn a_flush_that_fails_is_told_behind_all_output(rt: HostRuntime) {
-    for worked in &WORKED {
-        let is_told = flush_is_told(rt.alloc(), *worked);
-        assert!(rt; is_told, "{:?} of {:?}", worked.0, worked.1);
-    }
-}
-
 // Whether want of memory may be told behind so many bytes: of a stream, in front of the blob or behind
 // all output.
 fn may_want(worked: Worked, sent: usize) -> bool {
@@ -261,18 +230,59 @@ fn is_whole_or_wants_memory(alloc: Global, worked: Worked) -> bool {
     }
 }
 
-#[test]
-fn a_refused_growth_is_want_of_memory_behind_a_front_of_the_output(rt: HostRuntime) {
+// What is tried of each conversion: each write that ends so, each read that fails, the flush, and growths that are refused.
+#[derive(Clone, Copy)]
+enum Trial {
+    Writes(FuseEnd),
+    Reads,
+    Flush,
+    Growths,
+    WriterGrowths,
+}
+
+fn is_told(alloc: Global, worked: Worked, trial: Trial) -> bool {
+    match trial {
+        Trial::Writes(end) => each_write_is_told(alloc, worked, end),
+        Trial::Reads => each_read_is_told(alloc, worked),
+        Trial::Flush => flush_is_told(alloc, worked),
+        Trial::Growths => is_whole_or_wants_memory(alloc, worked),
+        Trial::WriterGrowths => is_whole_or_stops(alloc, worked, Vec::new(alloc), true),
+    }
+}
+
+fn all_are_told(rt: &impl Abort, alloc: Global, trial: Trial) {
     for worked in &WORKED {
-        let is_told = is_whole_or_wants_memory(rt.alloc(), *worked);
+        let is_told = is_told(alloc, *worked, trial);
         assert!(rt; is_told, "{:?} of {:?}", worked.0, worked.1);
     }
 }
 
 #[test]
+fn each_write_that_fails_is_told_behind_the_bytes_before_it(rt: HostRuntime) {
+    all_are_told(&rt, rt.alloc(), Trial::Writes(FuseEnd::Fail));
+}
+
+#[test]
+fn each_write_that_takes_nothing_is_told_behind_the_bytes_before_it(rt: HostRuntime) {
+    all_are_told(&rt, rt.alloc(), Trial::Writes(FuseEnd::Zero));
+}
+
+#[test]
+fn each_read_that_fails_is_told_behind_the_whole_blobs(rt: HostRuntime) {
+    all_are_told(&rt, rt.alloc(), Trial::Reads);
+}
+
+#[test]
+fn a_flush_that_fails_is_told_behind_all_output(rt: HostRuntime) {
+    all_are_told(&rt, rt.alloc(), Trial::Flush);
+}
+
+#[test]
+fn a_refused_growth_is_want_of_memory_behind_a_front_of_the_output(rt: HostRuntime) {
+    all_are_told(&rt, rt.alloc(), Trial::Growths);
+}
+
+#[test]
 fn a_refused_growth_of_the_writer_is_a_failed_write(rt: HostRuntime) {
-    for worked in &WORKED {
-        let is_told = is_whole_or_stops(rt.alloc(), *worked, Vec::new(rt.alloc()), true);
-        assert!(rt; is_told, "{:?} of {:?}", worked.0, worked.1);
-    }
+    all_are_told(&rt, rt.alloc(), Trial::WriterGrowths);
 }

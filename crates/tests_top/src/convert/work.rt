@@ -1,10 +1,10 @@
 //! The counted work of packing.
 use super::HEADER;
-use super::nesting::put_collections;
 use std::alloc::Global;
 use twkb_convert::{Style, Work, pack_counted};
 use twkb_geom::Limits;
 use twkb_io::Tap;
+use twkb_table::push_decimal;
 
 // The work of packing a table.
 fn work_of(alloc: Global, table: &[u8]) -> Option<Work> {
@@ -38,6 +38,18 @@ fn the_work_is_that_of_all_geometries(rt: HostRuntime) {
     let alloc = rt.alloc();
     assert!(rt; works_so(alloc, MEMBERS, 1, 3), "a collection of two");
     assert!(rt; works_so(alloc, TWO_ROOTS, 4, 4), "two roots");
+}
+
+// Appends the rows of so many collections, each in the one before.
+fn put_collections(text: &mut Vec<u8>, count: i64) -> bool {
+    for depth in 0..count {
+        if push_decimal(text, depth).is_err()
+            || text.extend_from_slice(b",collection,,0,\n").is_err()
+        {
+            return false;
+        }
+    }
+    true
 }
 
 // Appends a line of 100 points, below 32 collections.

@@ -5,9 +5,6 @@ use twkb_geom::{Geometry, Limits};
 use twkb_io::Tap;
 use twkb_table::{TableFault, TableReader, put_rows};
 
-/// The line that every table begins with.
-pub const HEADER: &[u8] = b"depth,kind,id,precision,polyline\n";
-
 /// What came of a table: the rows of its geometries, how many there were, and why it was not read
 /// on.
 #[derive(Drop)]
@@ -22,18 +19,12 @@ pub fn holds(answer: Option<bool>) -> bool {
     answer == Some(true)
 }
 
-/// Appends the rows of a geometry.
-pub fn put(geometry: &Geometry, rows: &mut Vec<u8>) -> Option<()> {
+// Appends the rows of a geometry.
+fn put(geometry: &Geometry, rows: &mut Vec<u8>) -> Option<()> {
     if !geometry.within(&Limits::largest()) {
         return None;
     }
     put_rows(geometry, rows).ok()
-}
-
-/// Whether these are the rows of a geometry.
-pub fn has_rows(alloc: Global, geometry: &Geometry, rows: &[u8]) -> bool {
-    let mut told = Vec::new(alloc);
-    put(geometry, &mut told).is_some() && told.as_slice() == rows
 }
 
 /// Reads a table of few geometries to its end or its fault.
@@ -67,24 +58,4 @@ fn read_on<R: Read>(
         }
     }
     None
-}
-
-/// The table of these rows.
-pub fn table_of(alloc: Global, rows: &[u8]) -> Option<Vec<u8>> {
-    let mut text = Vec::from_slice(alloc, HEADER).ok()?;
-    text.extend_from_slice(rows).ok()?;
-    Some(text)
-}
-
-/// Reads the header and these rows.
-pub fn read_rows(alloc: Global, limits: Limits, rows: &[u8]) -> Option<Outcome> {
-    let text = table_of(alloc, rows)?;
-    let mut tap = Tap::new(text.as_slice());
-    read_all(alloc, limits, &mut tap)
-}
-
-/// Reads a text.
-pub fn read_text(alloc: Global, text: &[u8]) -> Option<Outcome> {
-    let mut tap = Tap::new(text);
-    read_all(alloc, Limits::standard(), &mut tap)
 }

@@ -1,5 +1,5 @@
 use Rattle.std.proofs.Common.{[], sym, subst, OnErr}
-use Rattle.twkb_engine.specs.Parts.{PartIn}
+use Rattle.twkb_outline.specs.Parts.{PartIn}
 use Rattle.twkb_engine.specs.Standing.{allowance_of}
 use Rattle.twkb_blob.proofs.Rooted.{root_taken}
 use Rattle.twkb_blob.proofs.feeding.take_root.Goals as goal

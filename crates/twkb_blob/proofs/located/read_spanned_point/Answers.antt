@@ -1,5 +1,5 @@
 use Rattle.std.proofs.Common.{◌∷◌, []}
-use Rattle.twkb_engine.proofs.Feeding.{on_err}
+use Rattle.twkb_outline.proofs.Judging.{on_err}
 use Rattle.twkb_blob.proofs.Parts.{spanned_ahead}
 use Rattle.twkb_blob.proofs.located.read_spanned_point.Goals as goal
 

@@ -1,5 +1,5 @@
 use Rattle.std.proofs.Common.{◌∙◌, ◌++◌, take, refl, arith}
-use Rattle.twkb_front.proofs.Pieces.{one_within}
+use Rattle.twkb_outline.proofs.Pieces.{one_within}
 use Rattle.twkb_engine.specs.Standing.{allowance_of}
 use Rattle.twkb_blob.proofs.Bytes.{stands_behind, went_on, made_behind, stopped_behind}
 use Rattle.twkb_blob.proofs.noting.feed_noted.Goals as goal

@@ -1,7 +1,7 @@
 use Rattle.std.proofs.Common.{◌<◌, subst, arith}
 use Rattle.twkb_tree.specs.Limits.{IsAllowance}
 use Rattle.twkb_engine.specs.Standing.{allowance_of}
-use Rattle.twkb_engine.proofs.Feeding.{on_err}
+use Rattle.twkb_outline.proofs.Judging.{on_err}
 use Rattle.twkb_blob.proofs.NotedHeaders.{item_led, none_led, led_lacking}
 use Rattle.twkb_blob.proofs.noting.lead_noted.Goals as goal
 

@@ -3,7 +3,7 @@ use Rattle.twkb_num.specs.Zigzag.{unzigzag_of}
 use Rattle.twkb_tree.specs.Rows.{whole_row}
 use Rattle.twkb_tree.specs.declared.kind.Kind.TheVariants as kind
 use Rattle.twkb_engine.specs.Standing.{MadeIn}
-use Rattle.twkb_engine.proofs.Feeding.{on_err}
+use Rattle.twkb_outline.proofs.Judging.{on_err}
 use Rattle.twkb_blob.proofs.WholePoints.{point_blob, made_part}
 use Rattle.twkb_blob.proofs.root.take_root_point.Goals as goal
 

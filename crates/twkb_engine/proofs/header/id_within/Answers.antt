@@ -1,6 +1,6 @@
 use Rattle.std.proofs.Common.{◌-◌, ◌∙◌, sym, ap, get_or, List, [], arith}
 use Rattle.twkb_tree.specs.Rows.{first_id}
-use Rattle.twkb_engine.specs.Names.{ids_of}
+use Rattle.twkb_body.specs.Names.{ids_of}
 use Rattle.twkb_engine.specs.declared.phase.Group.{Group}
 use Rattle.twkb_engine.proofs.Groups.{last_id}
 use Rattle.twkb_engine.proofs.header.id_within.Goals as goal

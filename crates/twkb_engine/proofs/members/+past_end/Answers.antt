@@ -1,6 +1,6 @@
 use Rattle.std.proofs.Common.{◌≡◌, ◌≢◌, ◌+◌, ◌<◌, ◌++◌, ◌∷◌, [], List, length, take, get_or, refl, sym, subst, ◌∙◌, ap, arith}
 use Rattle.std.proofs.lemmas.List.{get_or_default}
-use Rattle.twkb_engine.specs.State.{head_of}
+use Rattle.twkb_body.specs.Body.{head_of}
 use Rattle.twkb_engine.specs.Stops.{IsPast}
 use Rattle.twkb_engine.specs.declared.phase.Group.{Group}
 use Rattle.twkb_engine.proofs.Groups.{last_split, last_lent, going_on, going_up}

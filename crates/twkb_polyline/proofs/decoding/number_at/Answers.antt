@@ -1,4 +1,5 @@
 use Rattle.std.proofs.Common.{◌∷◌, [], ◌+◌, drop, get_or, length-append, sym, ◌∙◌, refl, arith, rules, FitsSigned, w64}
+use Rattle.std.proofs.lemmas.Grind.{common_steps}
 use Rattle.std.proofs.lemmas.Bool.{false≢true}
 use Rattle.std.proofs.lemmas.Int.{to_z-of_z}
 use Rattle.twkb_polyline.proofs.CharacterLemmas.{goes_on, GoesOn-push}
@@ -45,3 +46,6 @@ returns-in-TooLong-clause-refused c =
     let u = get_or c.args.text.now c.loop-at.at 0 in
     let next = next_at c.args.text.now c.args.start c.loop-at.at us inv.held inv.go_on inv.within c.loop-at-test.true in
     rw c.at-in-TooLong.ensures (0, omega arith, (too_long (drop c.args.start c.args.text.now) us u (drop (c.loop-at.at + 1) c.args.text.now) next c.in-TooLong.ensures.answer, refl))
+
+pub returns-clause-refused : goal.returns-clause-refused
+returns-clause-refused c = grind (arith, common_steps)

@@ -35,3 +35,6 @@ returns-in_ok-put_own-in-Some-clause-ok g c =
 
 pub returns-in_ok-put_part-in-None-clause-at : goal.returns-in_ok-put_part-in-None-clause-at
 returns-in_ok-put_part-in-None-clause-at g c = search rules
+
+pub returns-in_ok-put_own-in-Some-clause-at : goal.returns-in_ok-put_own-in-Some-clause-at
+returns-in_ok-put_own-in-Some-clause-at g c = search rules

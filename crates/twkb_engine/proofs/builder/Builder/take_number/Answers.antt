@@ -6,9 +6,9 @@ pub returns-in-Err-clause-steps : goal.returns-in-Err-clause-steps
 returns-in-Err-clause-steps c = λ bytes front says s.
     number_judged c.args.self.now c.in-Body.head c.in-Body.body c.args.flat.now c.args.number bytes c.in-Body.is c.in-Some.ensures.free says c.in-Err.ensures front s
 
-pub returns-in-Ok-Some-clause-steps : goal.returns-in-Ok-Some-clause-steps
-returns-in-Ok-Some-clause-steps c = λ bytes says len.
+pub returns-in-Ok-true-clause-steps : goal.returns-in-Ok-true-clause-steps
+returns-in-Ok-true-clause-steps c = λ bytes says len.
     let b = c.args.self.now in
-    let went = rw c.in-Ok-Some.field-0-is at c.in-Ok-Some.ensures in
+    let went = rw c.in-Ok-true.field-0-test at c.in-Ok-true.ensures in
     number_led b c.in-Body.head c.in-Body.body c.args.flat.now c.args.number bytes c.in-Body.is c.in-Some.ensures.free says _ _ refl
     (λ role wanted. let added = c.in-Some.ensures.added role bytes wanted in search rules) (λ fits. let step = went.1 (rw c.in-Body.is at fits) in search rules) (λ placed. let rows = went.0 in search rules)

@@ -1,18 +1,21 @@
-use Rattle.std.proofs.Common.{refl}
-use Rattle.twkb_engine.proofs.Ahead.{runs_none, body_runs, body_stops}
+use Rattle.std.proofs.Common.{refl, arith}
+use Rattle.twkb_engine.specs.declared.phase.Phase.TheVariants as phase
+use Rattle.twkb_engine.proofs.Ahead.{runs_none, step_runs, step_stops, took, took_none}
 use Rattle.twkb_engine.proofs.builder.Builder.take_some.Goals as goal
 
-pub returns-in_default-phase-clause-run : goal.returns-in_default-phase-clause-run
-returns-in_default-phase-clause-run c = runs_none c.args.self.now _ c.args.flat.now c.args.rest.now refl refl refl refl
+pub returns-in-Id : goal.returns-in-Id
+returns-in-Id c = c.take_whole_ids.ensures c.args.flat.now
 
-pub returns-in-Err-clause-memory : goal.returns-in-Err-clause-memory
-returns-in-Err-clause-memory c = body_stops c.args.self.now c.in-Body.head c.in-Body.body c.args.flat.now c.args.rest.now c.in-Body.is c.in-Err.ensures
+pub returns-in_default-phase : goal.returns-in_default-phase
+returns-in_default-phase c = took c.args.self.now c.args.flat.now c.args.rest.now _ _ 0 (runs_none c.args.self.now c.args.flat.now c.args.rest.now _ refl refl refl refl)
 
-pub returns-clause-run : goal.returns-clause-run
-returns-clause-run c = body_runs c.args.self.now _ c.in-Body.head c.in-Body.body _ c.args.flat.now _ c.args.rest.now c.in-Ok.taken c.in-Body.is c.in-Ok.ensures refl refl refl refl
+pub returns-in-Err : goal.returns-in-Err
+returns-in-Err c =
+    took_none c.args.self.now c.args.flat.now c.args.rest.now _ _ _ refl (omega arith)
+    (step_stops c.args.self.now c.args.flat.now c.args.rest.now (phase.Body c.in-Body.head c.in-Body.body) c.in-Body.head c.in-Body.is (λ gs at. at) c.in-Err.ensures)
 
-pub returns-in-Id-clause-run : goal.returns-in-Id-clause-run
-returns-in-Id-clause-run c = c.take_whole_ids.ensures.run c.args.flat.now
-
-pub returns-in-Id-clause-memory : goal.returns-in-Id-clause-memory
-returns-in-Id-clause-memory c = c.take_whole_ids.ensures.memory c.args.flat.now
+pub returns : goal.returns
+returns c =
+    let h = c.in-Body.head in
+    took c.args.self.now c.args.flat.now c.args.rest.now _ _ c.in-Ok.taken.used
+    (step_runs c.args.self.now c.args.flat.now c.args.rest.now (phase.Body h c.in-Body.body) h c.in-Body.is (λ gs at. at) _ (phase.Body h c.take_points.new.self) _ c.in-Ok.taken.used c.in-Ok.taken.position c.in-Ok.ensures.within c.in-Ok.ensures.run refl (λ gs at. at) refl refl refl)

@@ -1,21 +1,22 @@
-use Rattle.std.proofs.Common.{refl, sym, subst, take}
-use Rattle.twkb_engine.specs.Running.{PhaseRuns, PhaseStops}
+use Rattle.std.proofs.Common.{suc, refl, arith}
+use Rattle.twkb_engine.specs.State.{many_of}
 use Rattle.twkb_engine.specs.declared.phase.Phase.TheVariants as phase
-use Rattle.twkb_engine.proofs.Feeding.{on_err}
-use Rattle.twkb_engine.proofs.Ahead.{runs_by, runs_none, phase_stops}
+use Rattle.twkb_engine.proofs.Ahead.{runs_none, step_runs, step_stops, took, took_none}
 use Rattle.twkb_engine.proofs.builder.Builder.take_whole_ids.Goals as goal
 
-pub returns-in_default-clause-run : goal.returns-in_default-clause-run
-returns-in_default-clause-run c = λ rs. runs_none c.args.self.now _ rs c.args.rest.now refl refl refl refl
+pub returns-in_default : goal.returns-in_default
+returns-in_default c = λ rs. took c.args.self.now rs c.args.rest.now _ rs 0 (runs_none c.args.self.now rs c.args.rest.now _ refl refl refl refl)
 
-pub returns-in_err-used-clause-memory : goal.returns-in_err-used-clause-memory
-returns-in_err-used-clause-memory c = λ rs.
-    let b = c.args.self.now in
-    on_err c.from_residual.result (phase_stops b rs c.args.rest.now (subst (λ p. PhaseStops p rs b.position c.args.rest.now) (sym c.in-Id.is) (c.in_err-used.ensures.memory c.in-Id.many c.in-Id.head c.in-Id.others rs b.position)))
+pub returns-in-Err : goal.returns-in-Err
+returns-in-Err c = λ rs.
+    let i = c.in-Id in
+    took_none c.args.self.now rs c.args.rest.now _ rs _ refl (omega arith)
+    (step_stops c.args.self.now rs c.args.rest.now (phase.Id i.many i.head i.others i.ids i.left) i.head i.is (λ gs at. at) (c.in-Err.ensures.memory i.head (many_of i.many) (suc i.others) rs c.args.self.now.position))
 
-pub returns-clause-run : goal.returns-clause-run
-returns-clause-run c = λ rs.
+pub returns : goal.returns
+returns c = λ rs.
+    let i = c.in-Id in
     let b = c.args.self.now in
-    let ids = c.in_ok-used.ensures.run c.in-Id.many c.in-Id.head c.in-Id.others rs b.position in
-    let run = subst (λ p. PhaseRuns p rs b.position (take c.in_ok-used.used c.args.rest.now) (phase.Id c.in-Id.many c.in-Id.head c.in-Id.others c.take_ids.new.ids c.take_ids.new.left) rs b.position) (sym c.in-Id.is) ids in
-    runs_by b _ rs rs c.args.rest.now (record { used = c.in_ok-used.used; position = b.position }) run c.in_ok-used.ensures.within refl refl refl
+    took b rs c.args.rest.now _ rs c.in-Ok.used
+    (step_runs b rs c.args.rest.now (phase.Id i.many i.head i.others i.ids i.left) i.head i.is (λ gs at. at) _ (phase.Id i.many i.head i.others c.take_ids.new.ids c.take_ids.new.left) rs c.in-Ok.used b.position c.in-Ok.ensures.within
+    (c.in-Ok.ensures.run i.head (many_of i.many) (suc i.others) rs b.position) refl (λ gs at. at) refl refl refl)

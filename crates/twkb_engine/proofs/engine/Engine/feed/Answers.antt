@@ -1,5 +1,5 @@
 use Rattle.std.proofs.Common.{◌∙◌, ◌++◌, take, arith}
-use Rattle.twkb_front.proofs.Pieces.{one_within}
+use Rattle.twkb_outline.proofs.Pieces.{one_within}
 use Rattle.twkb_engine.specs.Standing.{allowance_of}
 use Rattle.twkb_engine.proofs.Feeding.{went_on, made, refused}
 use Rattle.twkb_engine.proofs.engine.Engine.feed.Goals as goal

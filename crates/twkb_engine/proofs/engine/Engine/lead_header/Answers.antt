@@ -1,14 +1,13 @@
-use Rattle.std.proofs.Common.{take, arith}
-use Rattle.std.proofs.lemmas.List.{nil_from_length}
+use Rattle.std.proofs.Common.{take}
 use Rattle.twkb_engine.specs.Ahead.{note_next}
 use Rattle.twkb_engine.proofs.Stepping.{builder_leads, stays_put}
 use Rattle.twkb_engine.proofs.engine.Engine.lead_header.Goals as goal
 
-pub returns-then-len-gt0-clause-led : goal.returns-then-len-gt0-clause-led
-returns-then-len-gt0-clause-led c = λ rs. stays_put rs c.args.self.now
+pub returns-then-holds_some-clause-led : goal.returns-then-holds_some-clause-led
+returns-then-holds_some-clause-led c = λ rs. stays_put rs c.args.self.now
 
 pub returns-clause-led : goal.returns-clause-led
 returns-clause-led c = λ rs.
     let d = c.args.self.now in
     let bytes = take c.lead_header.result c.args.rest.now in
-    builder_leads (note_next d.builder bytes) d c.lead_header.new.self bytes rs rs (nil_from_length d.partial (omega (arith, c.len.ensures.count, c.if-len-gt0.false))) (c.lead_header.ensures.noted rs)
+    builder_leads (note_next d.builder bytes) d c.lead_header.new.self bytes rs rs (c.holds_some.ensures c.if-holds_some.false) (c.lead_header.ensures.led rs)

@@ -1,32 +1,28 @@
-use Rattle.std.proofs.Common.{◌+◌, ◌∙◌, arith}
-use Rattle.std.proofs.lemmas.List.{nil_from_length}
-use Rattle.twkb_front.proofs.Pieces.{one_within}
+use Rattle.std.proofs.Common.{◌+◌, ◌∙◌}
+use Rattle.twkb_outline.proofs.Pieces.{one_within}
 use Rattle.twkb_engine.specs.Standing.{allowance_of}
-use Rattle.twkb_engine.proofs.Feeding.{part_further, part_taken, taken_further, stopped_further}
+use Rattle.twkb_outline.proofs.Judging.{part_further}
+use Rattle.twkb_engine.proofs.Feeding.{part_taken, taken_further, stopped_further}
 use Rattle.twkb_engine.proofs.Stepping.{led_ahead, led_and_run}
 use Rattle.twkb_engine.proofs.engine.Engine.take_some.Goals as goal
 
 pub returns-in-Err-clause-taken : goal.returns-in-Err-clause-taken
 returns-in-Err-clause-taken c = λ bs s.
-    let none = nil_from_length c.args.self.now.partial (omega (arith, c.len.ensures.count, c.if-len-gt0.false)) in
     let by = c.lead_ahead-led in
-    let there = led_ahead bs c.args.rest.now by.result c.args.flat.now c.args.self.now by.new.self none by.ensures s in
+    let there = led_ahead bs c.args.rest.now by.result c.args.flat.now c.args.self.now by.new.self (c.holds_some.ensures c.if-holds_some.false) by.ensures s in
     part_taken (allowance_of c.args.self.now) bs c.args.rest.now c.take_points.new.flat c.take_points.new.self (part_further (allowance_of c.args.self.now) bs c.args.rest.now by.result by.ensures.within (rw by.ensures.limits at (c.in-Err.ensures.memory _ there)))
 
 pub returns-then-ahead-rest-clause-taken : goal.returns-then-ahead-rest-clause-taken
 returns-then-ahead-rest-clause-taken c = λ bs s.
-    let none = nil_from_length c.args.self.now.partial (omega (arith, c.len.ensures.count, c.if-len-gt0.false)) in
-    led_and_run bs c.args.rest.now c.lead_ahead-led.result c.in-Ok.used c.args.flat.now c.take_points.new.flat c.args.self.now c.take_points.new.self c.lead_ahead-led.new.self none c.lead_ahead-led.ensures c.in-Ok.ensures.ahead s
+    led_and_run bs c.args.rest.now c.lead_ahead-led.result c.in-Ok.used c.args.flat.now c.take_points.new.flat c.args.self.now c.take_points.new.self c.lead_ahead-led.new.self (c.holds_some.ensures c.if-holds_some.false) c.lead_ahead-led.ensures c.in-Ok.ensures.ahead s
 
 pub returns-in-Ok-take_item-clause-taken : goal.returns-in-Ok-take_item-clause-taken
 returns-in-Ok-take_item-clause-taken c = λ bs s.
-    let none = nil_from_length c.args.self.now.partial (omega (arith, c.len.ensures.count, c.if-len-gt0.false)) in
-    let there = led_and_run bs c.args.rest.now c.lead_ahead-led.result c.in-Ok.used c.args.flat.now c.take_points.new.flat c.args.self.now c.take_points.new.self c.lead_ahead-led.new.self none c.lead_ahead-led.ensures c.in-Ok.ensures.ahead s in
+    let there = led_and_run bs c.args.rest.now c.lead_ahead-led.result c.in-Ok.used c.args.flat.now c.take_points.new.flat c.args.self.now c.take_points.new.self c.lead_ahead-led.new.self (c.holds_some.ensures c.if-holds_some.false) c.lead_ahead-led.ensures c.in-Ok.ensures.ahead s in
     taken_further (allowance_of c.args.self.now) (allowance_of c.take_points.new.self) bs c.args.rest.now (c.lead_ahead-led.result + c.in-Ok.used) c.in-Ok-take_item.count c.in-Ok-take_item.ended c.take_item.new.flat c.take_item.new.self (c.in-Ok.ensures.limits ∙ c.lead_ahead-led.ensures.limits) (c.in-Ok-take_item.ensures.taken _ there)
 
 pub returns-in-Err-take_item-clause-taken : goal.returns-in-Err-take_item-clause-taken
 returns-in-Err-take_item-clause-taken c = λ bs s.
-    let none = nil_from_length c.args.self.now.partial (omega (arith, c.len.ensures.count, c.if-len-gt0.false)) in
-    let there = led_and_run bs c.args.rest.now c.lead_ahead-led.result c.in-Ok.used c.args.flat.now c.take_points.new.flat c.args.self.now c.take_points.new.self c.lead_ahead-led.new.self none c.lead_ahead-led.ensures c.in-Ok.ensures.ahead s in
+    let there = led_and_run bs c.args.rest.now c.lead_ahead-led.result c.in-Ok.used c.args.flat.now c.take_points.new.flat c.args.self.now c.take_points.new.self c.lead_ahead-led.new.self (c.holds_some.ensures c.if-holds_some.false) c.lead_ahead-led.ensures c.in-Ok.ensures.ahead s in
     stopped_further (allowance_of c.args.self.now) (allowance_of c.take_points.new.self) bs c.args.rest.now (c.lead_ahead-led.result + c.in-Ok.used) c.in-Err-take_item.stop c.take_item.new.flat c.take_item.new.self (c.in-Ok.ensures.limits ∙ c.lead_ahead-led.ensures.limits)
     (one_within c.args.rest.now c.lead_ahead-led.result c.in-Ok.used c.lead_ahead-led.ensures.within c.in-Ok.ensures.within) (c.in-Err-take_item.ensures.taken _ there)

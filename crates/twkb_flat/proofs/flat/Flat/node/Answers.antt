@@ -1,4 +1,4 @@
-use Rattle.std.proofs.Common.{◌∙◌, ap, inl, inr, length, arith}
+use Rattle.std.proofs.Common.{rules, ◌∙◌, ap, inl, inr, length, arith}
 use Rattle.std.proofs.lemmas.List.{length-map}
 use Rattle.twkb_flat.proofs.RowLemmas.{length-listed}
 use Rattle.twkb_flat.proofs.NodeLemmas.{Answers, node_is}
@@ -19,3 +19,6 @@ returns-clause-node c =
       | else-entry-eq0 w ↦ inr (w.if-entry-eq0.false, w.next-is)
     ] in
     node_is _ _ _ _ c.args.id.0 _ c.index-entry.result.now _ c.self.invariant.laid c.self.invariant.linked c.self.view_is (omega (arith, c.requires, same)) c.index-entry.ensures answers
+
+pub returns-clause-counted : goal.returns-clause-counted
+returns-clause-counted c = search rules

@@ -1,4 +1,5 @@
 use Rattle.std.proofs.Common.{◌≡◌, ◌+◌, List, length, map, set, sym, ap, ◌∙◌, subst, arith}
+use Rattle.std.proofs.lemmas.Grind.{common_steps}
 use Rattle.std.proofs.lemmas.List.{with_items_is, length-map}
 use Rattle.twkb_flat.specs.declared.entries.KeptNode.{KeptNode}
 use Rattle.twkb_flat.specs.Entries.{IsFlat, listed, span_of}
@@ -42,3 +43,9 @@ returns-clause-pushed g c =
           ∙ view_after _ _ _ _ own.0 _ _ _ _ _ _ c.args.row _ c.self.invariant c.self.view_is pushed,
       own.2,
     )
+
+pub invariant_of-self-in_default-push : goal.invariant_of-self-in_default-push
+invariant_of-self-in_default-push g c = grind (arith, common_steps)
+
+pub returns-in_default-push-clause-same : goal.returns-in_default-push-clause-same
+returns-in_default-push-clause-same g c = grind (arith, common_steps)

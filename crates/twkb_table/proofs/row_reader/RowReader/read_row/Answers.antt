@@ -1,4 +1,4 @@
-use Rattle.std.proofs.Common.{◌<◌, [], ◌∷◌, refl, sym, ap, arith}
+use Rattle.std.proofs.Common.{rules, ◌<◌, [], ◌∷◌, refl, sym, ap, arith}
 use Rattle.std.specs.Prelude.{reverse}
 use Rattle.csv.specs.Records.{fields_of}
 use Rattle.twkb_tree.specs.Rows.{Row}
@@ -69,3 +69,6 @@ returns-clause-more c more =
       judged = next.judged;
       keeps = record { of_one = kept.of_one; some = kept.some; open_rows = kept.open_rows; none = refl };
     }
+
+pub returns-in-Err-clause-root : goal.returns-in-Err-clause-root
+returns-in-Err-clause-root c = search rules

@@ -1,0 +1,2 @@
+pub mod PointRuns
+pub mod IdRuns

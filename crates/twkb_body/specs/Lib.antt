@@ -1,0 +1,4 @@
+pub mod Body
+pub mod Names
+pub mod Steps
+pub mod Running

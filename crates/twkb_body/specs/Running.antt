@@ -1,0 +1,81 @@
+-- Bodies and ids that are read on in front of bytes, or for which there is no memory.
+use Rattle.std.specs.Prelude.{◌≡◌, ◌≤◌, ⊤, ℕ, ℤ, List, [], ◌∷◌, ◌++◌, length, take, Result, Ok, Err}
+use Rattle.twkb_points.specs.Point.{Point}
+use Rattle.twkb_tree.specs.Limits.{Allowance}
+use Rattle.twkb_tree.specs.Rows.{Row}
+use Rattle.twkb_grammar.specs.Machine.{Form, PointForm, MultiPointForm, Many, Sums}
+use Rattle.twkb_grammar.specs.Noting.{Notes}
+use Rattle.twkb_outline.specs.Outline.{Group, Step, OnId}
+use Rattle.twkb_outline.specs.Growing.{id_in}
+use Rattle.twkb_outline.specs.Reading.{sums_past}
+use Rattle.twkb_outline.specs.Noting.{NotedOutline}
+use Rattle.twkb_outline.specs.Parts.{PartIn}
+use Rattle.twkb_body.specs.Body.{head_of, IsHeadAt}
+use Rattle.twkb_body.specs.Steps.{step_in}
+use Rattle.twkb_body.specs.declared.head.Head.{Head}
+use Rattle.twkb_body.specs.declared.body.Body.{Body}
+use Rattle.twkb_body.specs.declared.lefts.Lefts.{Lefts}
+use Rattle.twkb_body.specs.declared.lefts.Lefts.TheVariants.{Empty, One, Two, Three}
+use Rattle.twkb_body.specs.declared.lefts.Spot.{Spot}
+use Rattle.twkb_body.specs.declared.runs.Taken.{Taken}
+
+-- a form that has its points in lists, and each list in a row
+abbrev pub HasLists : Form → Type 0
+HasLists PointForm = ⊥
+HasLists MultiPointForm = ⊥
+HasLists f = ⊤
+
+-- the lists round the innermost
+abbrev pub outer : List ℕ → List ℕ
+outer [] = []
+outer (left ∷ lefts) = lefts
+
+-- behind these bytes and inside these collections this is wanted, in a geometry of this header, and this is noted of spans
+pub record WantedIn (limits : Allowance) (front : List ℕ) (e : Sums) (gs : List Group) (told : ℕ → Notes) (h : Head) (s : Step) (rs : List Row) : Type 0 where
+  pub outlined : NotedOutline limits front e (gs, s) rs told
+  pub placed : IsHeadAt (length gs) (id_in gs) h
+
+-- wherever the first step is wanted, the bytes lead on to the other, from one position to another; they announce and note nothing
+abbrev pub StepRuns : Head → Step → List Row → Point → List ℕ → Step → List Row → Point → Type 0
+StepRuns h s rs from bytes next more to =
+    (limits : Allowance) (e : Sums) (front : List ℕ) (gs : List Group) (told : ℕ → Notes) → e.position ≡ from → WantedIn limits front e gs told h s rs → NotedOutline limits (front ++ bytes) (sums_past e bytes to) (gs, next) more told
+
+-- wherever the step is wanted, a front of the bytes ends a part that was judged
+abbrev pub StepStops : Head → Step → List Row → Point → List ℕ → Type 0
+StepStops h s rs from bytes = (limits : Allowance) (e : Sums) (front : List ℕ) (gs : List Group) (told : ℕ → Notes) → e.position ≡ from → WantedIn limits front e gs told h s rs → PartIn limits front bytes
+
+-- wherever ids are read, these and then so many behind the next, the bytes are further ones, with so many left behind them
+abbrev pub IdsRun : List ℤ → ℕ → List ℕ → List ℤ → ℕ → Type 0
+IdsRun ids left bytes more further = (h : Head) (m : Many) (members : ℕ) (rs : List Row) (at : Point) → StepRuns h (OnId m (head_of h) members ids left) rs at bytes (OnId m (head_of h) members more further) rs at
+
+-- wherever these are read, a front of the bytes ends a part that was judged
+abbrev pub IdsStop : List ℤ → ℕ → List ℕ → Type 0
+IdsStop ids left bytes = (h : Head) (m : Many) (members : ℕ) (rs : List Row) (at : Point) → StepStops h (OnId m (head_of h) members ids left) rs at bytes
+
+-- a body with this header is led on
+abbrev pub RunsTo : Head → Body → List Row → Point → List ℕ → Body → List Row → Point → Type 0
+RunsTo h b rs from bytes c more to = StepRuns h (step_in h b) rs from bytes (step_in h c) more to
+
+abbrev pub StopsWith : Head → Body → List Row → Point → List ℕ → Type 0
+StopsWith h b rs from bytes = StepStops h (step_in h b) rs from bytes
+
+-- these points that were taken lead a body on
+pub record Leads (h : Head) (b : Body) (rs : List Row) (from : Point) (bytes : List ℕ) (t : Taken) (c : Body) (more : List Row) : Type 0 where
+  pub within : t.used ≤ length bytes
+  pub run : RunsTo h b rs from (take t.used bytes) c more t.position
+
+-- what a call answers that takes points of a body
+abbrev pub TakesPoints : {E : Type 0} → Head → Body → List Row → Point → List ℕ → Result Taken E → Body → List Row → Type 0
+TakesPoints h b rs from bytes (Ok t) c more = Leads h b rs from bytes t c more
+TakesPoints h b rs from bytes (Err e) c more = StopsWith h b rs from bytes
+
+-- the lists with so many values left in the innermost
+abbrev pub left_in : Lefts → ℕ → Lefts
+left_in Empty left = Empty
+left_in (One a) left = One left
+left_in (Two a b) left = Two left b
+left_in (Three a b c) left = Three left b c
+
+-- the body where it wants this next
+abbrev pub at_spot : Body → Spot → Body
+at_spot b s = record { form = b.form; names = b.names; spot = s }

@@ -1,0 +1,108 @@
+//! A body that is read into a flat form.
+ghost use Rattle.std.specs.Prelude.{◌≡◌, ℕ, OnOk, true};
+ghost use Rattle.twkb_tree.specs.Tree.{Ids};
+ghost use Rattle.twkb_grammar.specs.Machine as machine;
+ghost use Rattle.twkb_grammar.specs.Machine.{depth_of};
+ghost use Rattle.twkb_outline.specs.Outline.{spot_after, OnEnd};
+ghost use Rattle.twkb_outline.specs.Growing.{applied};
+ghost use Rattle.twkb_outline.specs.Reading.{SpotFits};
+ghost use Rattle.twkb_body.specs.Body.{form_of, spot_of, after_of, ids_at};
+ghost use Rattle.twkb_body.specs.Names.{ids_of};
+
+use crate::form::Form;
+use crate::head::Head;
+use crate::lefts::{After, Lefts, Spot, open_area, open_line, part, shut_point};
+use crate::names::Names;
+use crate::site::{area_row, line_row, push_row, put_point};
+use std::alloc::AllocError;
+use twkb_flat::Flat;
+use twkb_points::Pt;
+
+/// A body that is being read: its form, the ids of its members, and what it wants next.
+#[derive(Debug, Drop)]
+pub struct Body {
+    /// The type of its geometry.
+    pub form: Form,
+    /// The ids of its members.
+    pub names: Names,
+    /// What it wants next.
+    pub spot: Spot,
+}
+
+impl Body {
+    ghost use Rattle.twkb_body.specs.Steps.{change_by, TakesNumber};
+
+    /// Whether it ends with its next number. Takes no memory.
+    #[inline]
+    pub fn is_last(&self) -> bool
+        ensures { result ≡ true → (h : machine.Head) (ids : Ids) (n : ℕ) → spot_after h (form_of self.now.form) ids n (spot_of self.now.spot) ≡ OnEnd h }
+    {
+        matches!(
+            self.spot,
+            Spot::Y(Lefts::Empty | Lefts::One(0) | Lefts::Two(0, 0) | Lefts::Three(0, 0, 0))
+        )
+    }
+
+    // Goes to what is wanted next, where the next member begins or the same goes on.
+    #[inline(always)]
+    pub(crate) fn go_to(&mut self, spot: Spot, next_member: bool)
+        ensures ids { ids_of self.new.names ≡ ids_at next_member (ids_of self.old.names) }
+        ensures spot { self.new.spot ≡ spot }
+        ensures form { self.new.form ≡ self.old.form }
+    {
+        if next_member {
+            self.names.go_on();
+        }
+        self.spot = spot;
+    }
+
+    // What stands behind the next number, if it is this one.
+    #[inline(always)]
+    fn after(&self, number: u64) -> After
+        ensures { SpotFits (depth_of (form_of self.now.form)) (spot_of self.now.spot) → (h : machine.Head) (ids : Ids) → after_of h (form_of self.now.form) ids result ≡ spot_after h (form_of self.now.form) ids number (spot_of self.now.spot) }
+    {
+        match self.spot {
+            Spot::X(lefts) => part(Spot::Y(lefts)),
+            Spot::Y(lefts) => shut_point(lefts),
+            Spot::LineCount(lefts) => open_line(lefts, number),
+            Spot::AreaCount(lefts) => open_area(lefts, number),
+        }
+    }
+
+    /// Keeps the row or the point that the next number brings, which leads to this position, in a geometry of this header. Takes memory.
+    #[inline(always)]
+    pub fn keep(&self, flat: &mut Flat, head: Head, position: Pt) -> Result<(), AllocError>
+        ensures { OnOk result (flat.new ≡ applied (change_by position head self.now) flat.old) }
+    {
+        let member = self.names.next();
+        match self.spot {
+            Spot::X(_) => Ok(()),
+            Spot::Y(_) => put_point(flat, head, self.form, member, position),
+            Spot::LineCount(_) => push_row(flat, line_row(head, self.form, member)),
+            Spot::AreaCount(_) => push_row(flat, area_row(head, self.form, member)),
+        }
+    }
+
+    /// Takes the next number, which is this one and leads to this position, where the body goes on behind it; answers whether it does, and
+    /// else changes nothing. A row and a point take memory.
+    #[inline(always)]
+    pub fn go_on(
+        &mut self,
+        flat: &mut Flat,
+        head: Head,
+        number: u64,
+        position: Pt,
+    ) -> Result<bool, AllocError>
+        ensures { TakesNumber head number position self.old flat.old result self.new flat.new }
+    {
+        let after = self.after(number);
+        let Some(spot) = after.spot else {
+            return Ok(false);
+        };
+        if let Err(refused) = self.keep(flat, head, position) {
+            return Err(refused);
+        }
+        self.go_to(spot, after.next_member);
+        Ok(true)
+    }
+}

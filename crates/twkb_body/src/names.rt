@@ -1,0 +1,49 @@
+//! The ids of the members of a body.
+ghost use Rattle.std.specs.Prelude.{◌≡◌, if◌then◌else◌, Some, None};
+ghost use Rattle.twkb_tree.specs.Rows.{first_id, other_ids};
+
+/// The ids of the members, if they have any, and how many of them were given.
+#[derive(Debug, Drop)]
+pub struct Names {
+    pub(crate) named: bool,
+    pub(crate) ids: Vec<i64>,
+    pub(crate) given: usize,
+}
+
+impl Names {
+    ghost use Rattle.twkb_body.specs.Names.{ids_of};
+
+    /// No ids, or these. Takes no memory.
+    pub fn new(named: bool, ids: Vec<i64>) -> Names
+        ensures { ids_of result ≡ (if named then Some ids.items else None) }
+    {
+        Names {
+            named,
+            ids,
+            given: 0,
+        }
+    }
+
+    /// The id of the member that stands open. Takes no memory.
+    pub fn next(&self) -> Option<i64>
+        ensures { result ≡ first_id (ids_of self.now) }
+    {
+        if !self.named {
+            return None;
+        }
+        if self.given < self.ids.len() {
+            Some(self.ids[self.given])
+        } else {
+            None
+        }
+    }
+
+    /// The next member begins. Takes no memory.
+    pub fn go_on(&mut self)
+        ensures { ids_of self.new ≡ other_ids (ids_of self.old) }
+    {
+        if self.given < self.ids.len() {
+            self.given += 1;
+        }
+    }
+}

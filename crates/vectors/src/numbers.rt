@@ -1,0 +1,49 @@
+//! Numbers and their spellings in both alphabets.
+use super::text::{put, put_hex, put_shown};
+use std::alloc::Global;
+use twkb_num::{Five, Groups, Leb128, NumBuf, Partial, Step, unzigzag, varint_len, zigzag};
+
+// Prints what a reader answers to a unit: nothing where it goes on.
+fn put_step(alloc: Global, step: Step, text: &mut Vec<u8>) {
+    match step {
+        Step::More => put(text, b"."),
+        Step::BadUnit => put(text, b" bad unit"),
+        Step::TooLong => put(text, b" too long"),
+        Step::Done { value, shortest } => {
+            put(text, if shortest { b" " } else { b" padded " });
+            put_shown(alloc, text, &value);
+        }
+    }
+}
+
+/// Prints what one reader answers to these units, and how many it holds at the end: a dot where it goes on.
+pub fn put_units<G: Groups>(alloc: Global, units: &[u8], text: &mut Vec<u8>) {
+    let mut partial = Partial::<G>::new();
+    put(text, b"  units");
+    for unit in units {
+        put_step(alloc, partial.step(*unit), text);
+    }
+    put(text, b"; ");
+    put_shown(alloc, text, &partial.len());
+    put(text, b"\n");
+}
+
+/// Prints a number's varint, its length, and its characters in a polyline.
+pub fn put_number(alloc: Global, number: u64, text: &mut Vec<u8>) {
+    put(text, b"  varint ");
+    put_shown(alloc, text, &varint_len(number));
+    put_hex(alloc, text, NumBuf::put::<Leb128>(number).as_slice());
+    put(text, b"\n  characters ");
+    put(text, NumBuf::put::<Five>(number).as_slice());
+    put(text, b"\n");
+}
+
+/// Prints the zigzag form of a number, and the number of that form.
+pub fn put_zigzag(alloc: Global, number: i64, text: &mut Vec<u8>) {
+    let form = zigzag(number);
+    put(text, b"  zigzag ");
+    put_shown(alloc, text, &form);
+    put(text, b" ");
+    put_shown(alloc, text, &unzigzag(form));
+    put(text, b"\n");
+}
