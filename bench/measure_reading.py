@@ -74,4 +74,5 @@ def main():
         print(f"{opened} geometries open in sessions, {size} bytes of each blob read: {kilobytes} kB")
 
 
-main()
+if __name__ == "__main__":
+    main()
