@@ -5,7 +5,7 @@ use Rattle.twkb_tree.specs.Rows.{Row}
 use Rattle.twkb_grammar.specs.Noting.{Notes}
 use Rattle.twkb_outline.specs.Outline.{Step}
 use Rattle.twkb_outline.specs.Noting.{note_step}
-use Rattle.twkb_engine.specs.Ahead.{note_first}
+use Rattle.twkb_outline.specs.Noting.{note_first}
 use Rattle.twkb_outline.specs.Parts.{IsJudged}
 use Rattle.twkb_engine.specs.State.{step_of}
 use Rattle.twkb_engine.specs.Standing.{StandsAt, LeadsOn, LeadsHeader, allowance_of, awaited_in, held_in, offset_in, points_in}

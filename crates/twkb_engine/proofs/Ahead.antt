@@ -24,7 +24,8 @@ use Rattle.twkb_engine.specs.declared.phase.Group.{Group}
 use Rattle.twkb_engine.specs.declared.builder.Builder.{Builder}
 use Rattle.twkb_engine.specs.declared.header.Led.{Led}
 use Rattle.twkb_engine.specs.declared.header.Led.TheVariants.{On, Ends, Apart}
-use Rattle.twkb_engine.proofs.Noting.{part_silent, same_first}
+use Rattle.twkb_outline.proofs.Notings.{same_first}
+use Rattle.twkb_engine.proofs.Noting.{part_silent}
 
 -- where a reader stands the builder does whose fields say so
 pub stands_there : (c : Builder) (limits : Allowance) (bytes : List ℕ) (e : Sums) (o : Outline) (rs more : List Row) (told : ℕ → Notes) → NotedOutline limits bytes e o rs told → c.limits ≡ limits → sums_of c ≡ e → outline_in c ≡ o → more ≡ rs → IsPlacedIn c.groups.items c.phase

@@ -1,30 +1,20 @@
 -- What the item notes that comes next.
-use Rattle.std.proofs.Common.{◌≡◌, ℕ, ◌+◌, ◌<◌, List, [], ◌∷◌, ◌++◌, length, refl, sym, ap, ◌∙◌, subst, true, Some, arith}
+use Rattle.std.proofs.Common.{◌≡◌, ℕ, ◌+◌, List, refl, sym, ap, ◌∙◌, subst, true, Some}
 use Rattle.twkb_grammar.specs.Roles.{Role, Header, Metadata, Extended, End, IsNumber, Item}
 use Rattle.twkb_grammar.specs.Machine.{Sums, kind_number}
 use Rattle.twkb_grammar.specs.Noting.{Notes, noted_by, IsQuiet}
 use Rattle.twkb_grammar.specs.Reading.{Gives}
 use Rattle.twkb_grammar.proofs.BodiesBack.{some_role}
 use Rattle.twkb_grammar.proofs.NotedSpans.{quiet}
-use Rattle.twkb_outline.specs.Outline.{Step, OnHeader, OnMetadata, step_role}
-use Rattle.twkb_outline.specs.Noting.{note_step}
-use Rattle.twkb_engine.specs.Ahead.{note_first}
+use Rattle.twkb_outline.specs.Outline.{OnHeader, OnMetadata, step_role}
+use Rattle.twkb_outline.specs.Noting.{note_step, note_first}
+use Rattle.twkb_outline.proofs.Notings.{silent}
 use Rattle.twkb_body.specs.Body.{kind_of}
 use Rattle.twkb_engine.specs.State.{step_of, goes_on, IsPart}
 use Rattle.twkb_engine.specs.declared.phase.Phase.{Phase}
 use Rattle.twkb_engine.specs.declared.phase.Phase.TheVariants as phase
 use Rattle.twkb_engine.specs.declared.phase.Optional.TheVariants as part
 use Rattle.twkb_engine.proofs.Roles.{has_role, is_number}
-
--- nothing, where no byte does
-silent : (t : Step) (offset points : ℕ) (bytes : List ℕ) (w : Notes) → ((byte : ℕ) → note_step t offset points byte w ≡ w) → note_first t offset points bytes w ≡ w
-silent t offset points [] w h = refl
-silent t offset points (byte ∷ bytes) w h = h byte
-
--- what comes behind some bytes does not matter
-pub same_first : (t : Step) (offset points : ℕ) (xs ys : List ℕ) (w : Notes) → 0 < length xs → note_first t offset points xs w ≡ note_first t offset points (xs ++ ys) w
-same_first t offset points [] ys w some = absurd (omega (arith, some))
-same_first t offset points (x ∷ xs) ys w some = refl
 
 -- an optional part does not
 pub part_silent : (p : Phase) (offset points : ℕ) (bytes : List ℕ) (w : Notes) → IsPart p → note_first (step_of p) offset points bytes w ≡ w

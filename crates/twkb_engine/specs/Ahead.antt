@@ -1,11 +1,15 @@
 -- A builder behind items that stood whole in front, or that has no memory for one of them.
-use Rattle.std.specs.Prelude.{◌≡◌, ◌+◌, ◌≤◌, ℕ, List, [], ◌∷◌, ◌++◌, length, take, Bool, true, false, Result, Ok, Err, IfOk, OnErr}
+use Rattle.std.specs.Prelude.{◌≡◌, ◌+◌, ◌<◌, ◌≤◌, ℕ, List, ◌++◌, length, take, Bool, true, false, Result, Ok, Err, IfOk, OnErr}
 use Rattle.twkb_tree.specs.Rows.{Row}
 use Rattle.twkb_grammar.specs.Noting.{Notes}
-use Rattle.twkb_outline.specs.Outline.{Step}
-use Rattle.twkb_outline.specs.Noting.{note_step, notes_in}
+use Rattle.twkb_outline.specs.Outline.{begins}
+use Rattle.twkb_outline.specs.Growing.{id_in}
+use Rattle.twkb_outline.specs.Noting.{NotedOutline, note_first, notes_in}
 use Rattle.twkb_outline.specs.Parts.{IsJudged, PartIn}
-use Rattle.twkb_engine.specs.State.{step_of}
+use Rattle.twkb_body.specs.Body.{head_of, kind_of, IsHeadAt}
+use Rattle.twkb_body.specs.declared.head.Head.{Head}
+use Rattle.twkb_body.specs.declared.form.GeometryType.{GeometryType}
+use Rattle.twkb_engine.specs.State.{groups_of, step_of}
 use Rattle.twkb_engine.specs.Building.{StandsBehind, Says}
 use Rattle.twkb_engine.specs.declared.builder.Builder.{Builder}
 
@@ -17,12 +21,7 @@ RunsNoting told b rs bytes c more = (front : List ℕ) (s : StandsBehind front r
 abbrev pub RunsBehind : Builder → List Row → List ℕ → Builder → List Row → Type 0
 RunsBehind = RunsNoting (λ start w. w)
 
--- what items with these bytes note of which the first alone notes something: their first byte does, where that is a header's
-abbrev pub note_first : Step → (offset points : ℕ) → List ℕ → Notes → Notes
-note_first t offset points [] w = w
-note_first t offset points (byte ∷ bytes) w = note_step t offset points byte w
-
--- the same where it stands
+-- what items with these bytes note of which the first alone notes something, where it stands
 abbrev pub note_next : Builder → List ℕ → (start : ℕ) → Notes → Notes
 note_next b bytes start w = note_first (step_of b.phase) (start + b.bytes) b.points bytes w
 
@@ -44,6 +43,15 @@ RunsBy b rs rest count c more = IsLedBy (λ bytes. RunsBehind b rs bytes c more)
 -- an item of a header, and the parts behind it: wherever it stood, they noted what their first byte notes, and the same rows stay
 abbrev pub HeaderLeads : Builder → List ℕ → ℕ → Builder → Type 0
 HeaderLeads b rest count c = IsLedBy (λ bytes. (rs : List Row) → RunsNoting (note_next b bytes) b rs bytes c rs) b rest count c
+
+-- so many of the bytes are a metadata byte and all optional parts that it asks for: wherever it stood, they lead to the body of this header, with so many points, and the byte alone notes something
+pub record HasHeader (b : Builder) (rest : List ℕ) (kind : GeometryType) (head : Head) (count points : ℕ) : Type 0 where
+  pub some : 0 < count
+  pub within : count ≤ length rest
+  pub few : points ≤ b.limits.points
+  pub placed : IsHeadAt (length (groups_of b.groups.items)) (id_in (groups_of b.groups.items)) head
+  pub led : (front : List ℕ) (rs : List Row) (s : StandsBehind front rs b)
+      → NotedOutline b.limits (front ++ take count rest) (record { bytes = b.bytes + count; position = b.position; nodes = b.nodes; points = points }) (groups_of b.groups.items, begins (kind_of kind) (head_of head)) rs (λ start. note_next b (take count rest) start (notes_in start s.outlined))
 
 -- items of headers: wherever it stood, it stands behind them with the same rows
 abbrev pub HeadersLead : Builder → List ℕ → ℕ → Builder → Type 0

@@ -74,7 +74,7 @@ fn id_within(groups: &Groups) -> Option<i64>
 }
 
 // The header behind a metadata byte, before its optional parts.
-fn head_within(groups: &Groups, typed: Typed, bytes: u64, metadata: Metadata) -> Head
+pub(crate) fn head_within(groups: &Groups, typed: Typed, bytes: u64, metadata: Metadata) -> Head
     requires { IsShallow groups.now.items }
     ensures head { head_of result ≡ record { precision = typed.precision; meta = metadata; size = None; from = bytes } }
     ensures metadata { result.metadata ≡ metadata }
@@ -163,7 +163,8 @@ fn simple_body(alloc: Global, head: Head, form: Form, spot: Spot) -> Phase
 
 // The body begins. Takes no memory.
 #[inline(always)]
-fn begin_body(alloc: Global, kind: GeometryType, head: Head) -> Phase
+pub(crate) fn begin_body(alloc: Global, kind: GeometryType, head: Head) -> Phase
+    ensures going { goes_on result ≡ true }
     ensures step { step_of result ≡ begins (kind_of kind) (head_of head) }
     ensures placed { IsPlaced head.depth head.id result }
 {
@@ -287,6 +288,20 @@ impl Builder {
         count
     }
 
+    // Takes the next item of a header as `lead_by_one` does, or a metadata byte with the optional parts behind it.
+    #[inline(always)]
+    fn lead_next(&mut self, rest: &[u8]) -> usize
+        requires some { 0 < length rest.now }
+        requires room { self.old.bytes + length rest.now < 2 ^ 64 }
+        ensures { HeaderLeads self.old rest.now result self.new }
+    {
+        let count = self.lead_metadata(rest);
+        if count > 0 {
+            return count;
+        }
+        self.lead_by_one(rest)
+    }
+
     // Takes items of a header as far as they stand whole in front and lead on so, and answers how many bytes they had; 0 says nothing.
     // Takes no memory.
     pub(crate) fn lead_ahead(&mut self, rest: &[u8]) -> usize
@@ -295,7 +310,7 @@ impl Builder {
     {
         let mut used = 0;
         while used < rest.len() {
-            let count = self.lead_by_one(&rest[used..]);
+            let count = self.lead_next(&rest[used..]);
             used += count;
             if count == 0 {
                 return used;
@@ -312,7 +327,7 @@ impl Builder {
         requires room { self.old.bytes + length rest.now < 2 ^ 64 }
         ensures { HeaderLeads self.old rest.now result self.new }
     {
-        let mut used = self.lead_by_one(rest);
+        let mut used = self.lead_next(rest);
         if used == 0 {
             return used;
         }

@@ -8,6 +8,7 @@ mod engine;
 mod header;
 mod items;
 mod members;
+mod metadata;
 mod numbers;
 mod phase;
 mod stop;

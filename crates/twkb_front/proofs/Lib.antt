@@ -3,3 +3,4 @@ pub mod Steps
 pub mod InFront
 pub mod OpenNumbers
 pub mod WholePoints
+pub mod HeaderParts

@@ -2,6 +2,7 @@
 ghost use Rattle.std.specs.Prelude.{◌≡◌, ◌<◌, ◌^◌, ◌++◌, ◌∷◌, [], IfSome, take};
 ghost use Rattle.twkb_num.specs.Varint.{IsVarint};
 ghost use Rattle.twkb_front.specs.Front.{NumberInFront};
+ghost use Rattle.twkb_front.specs.Parts.{WidthInFront};
 
 use twkb_num::{Leb128, Partial, Step};
 
@@ -16,6 +17,9 @@ const THIRD: u64 = 1 << 14;
 const FOURTH: u64 = 1 << 21;
 
 const FIFTH: u64 = 1 << 28;
+
+// So many bytes at most spell a number of 64 bits, whatever they are.
+const NARROW: usize = 9;
 
 // The number that stands in front in one byte.
 #[inline(always)]
@@ -108,4 +112,20 @@ pub fn front_number(bytes: &[u8]) -> Option<(u64, usize)>
         return Some(front);
     }
     any_number(bytes)
+}
+
+// How many bytes the number has that stands in front, where they are nine at most.
+#[inline(always)]
+pub(crate) fn front_width(bytes: &[u8]) -> Option<usize>
+    ensures { IfSome result (λ width. WidthInFront bytes.now width) }
+{
+    let most = bytes.len().min(NARROW);
+    let mut width = 0;
+    while width < most {
+        if bytes[width] < GOES_ON {
+            return Some(width + 1);
+        }
+        width += 1;
+    }
+    None
 }

@@ -14,3 +14,5 @@ pub mod NotedPairs
 pub mod NotedJoins
 pub mod Pieces
 pub mod Judging
+pub mod HeaderParts
+pub mod LastItems

@@ -1,13 +1,13 @@
 -- What is noted of spans is told by the outline.
-use Rattle.std.proofs.Common.{◌≡◌, ℕ, suc, refl, sym, ap}
+use Rattle.std.proofs.Common.{◌≡◌, ℕ, zero, suc, ◌<◌, [], ◌∷◌, ◌++◌, length, take, get_or, refl, sym, ap, arith}
 use Rattle.std.proofs.lemmas.List.{length-map}
 use Rattle.std.specs.Prelude.{List}
 use Rattle.twkb_grammar.specs.Noting.{Notes, note_byte, IsCalm}
 use Rattle.twkb_grammar.specs.Machine.{Frame, Phase, AtHeader, AtMetadata, AtOption, AtCount, AtId, AtBody, AtEnd, Finished, Want, WantY, Done}
 use Rattle.twkb_grammar.specs.Reading.{frame_count}
-use Rattle.twkb_outline.specs.Outline.{group_of, step_of, outline_of}
+use Rattle.twkb_outline.specs.Outline.{Step, group_of, step_of, outline_of}
 use Rattle.twkb_outline.specs.Reading.{open_count}
-use Rattle.twkb_outline.specs.Noting.{note_step, IsCalmStep}
+use Rattle.twkb_outline.specs.Noting.{note_step, note_first, IsCalmStep}
 
 pub same_note : (ph : Phase) (offset points byte : ℕ) (w : Notes) → note_byte ph offset points byte w ≡ note_step (step_of ph) offset points byte w
 same_note AtHeader offset points byte w = refl
@@ -42,3 +42,22 @@ same_count fs (AtBody h f ids (Want d a)) = ap suc (sym (length-map fs group_of)
 same_count fs (AtBody h f ids (WantY a)) = ap suc (sym (length-map fs group_of))
 same_count fs (AtBody h f ids (Done v)) = ap suc (sym (length-map fs group_of))
 same_count fs (AtEnd h g) = ap suc (sym (length-map fs group_of))
+
+-- ---- the first of some bytes
+
+module _ (t : Step) (offset points : ℕ) where
+  -- nothing is noted, where no byte does
+  pub silent : (bytes : List ℕ) (w : Notes) → ((byte : ℕ) → note_step t offset points byte w ≡ w) → note_first t offset points bytes w ≡ w
+  silent [] w h = refl
+  silent (byte ∷ bytes) w h = h byte
+
+  -- what comes behind some bytes does not matter
+  pub same_first : (xs ys : List ℕ) (w : Notes) → 0 < length xs → note_first t offset points xs w ≡ note_first t offset points (xs ++ ys) w
+  same_first [] ys w some = absurd (omega (arith, some))
+  same_first (x ∷ xs) ys w some = refl
+
+  -- a front of some bytes
+  pub first_in_front : (count : ℕ) (rest : List ℕ) (w : Notes) → 0 < count → 0 < length rest → note_step t offset points (get_or rest 0 0) w ≡ note_first t offset points (take count rest) w
+  first_in_front zero rest w some more = absurd (omega (arith, some))
+  first_in_front (suc count) [] w some more = absurd (omega (arith, more))
+  first_in_front (suc count) (x ∷ xs) w some more = refl

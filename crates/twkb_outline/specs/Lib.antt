@@ -3,3 +3,4 @@ pub mod Growing
 pub mod Reading
 pub mod Noting
 pub mod Parts
+pub mod HeaderParts

@@ -1,5 +1,5 @@
 -- What a reader notes of spans that keeps an outline.
-use Rattle.std.specs.Prelude.{⊤, ◌≡◌, ℕ, List}
+use Rattle.std.specs.Prelude.{⊤, ◌≡◌, ℕ, List, [], ◌∷◌}
 use Rattle.twkb_tree.specs.Limits.{Allowance}
 use Rattle.twkb_tree.specs.Rows.{Row}
 use Rattle.twkb_grammar.specs.Machine.{Sums, nothing}
@@ -12,6 +12,11 @@ abbrev pub note_step : Step → (offset points byte : ℕ) → Notes → Notes
 note_step OnHeader offset points byte w = note_header offset points byte w
 note_step (OnMetadata k p) offset points byte w = note_metadata byte w
 note_step _ offset points byte w = w
+
+-- What items with these bytes note of which the first alone notes something: their first byte does, where that is a header's.
+abbrev pub note_first : Step → (offset points : ℕ) → List ℕ → Notes → Notes
+note_first t offset points [] w = w
+note_first t offset points (byte ∷ bytes) w = note_step t offset points byte w
 
 -- A part that is asked for by a metadata byte is no header and no end.
 abbrev pub IsCalmStep : Step → Type 0

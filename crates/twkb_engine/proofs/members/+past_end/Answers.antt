@@ -3,7 +3,8 @@ use Rattle.std.proofs.lemmas.List.{get_or_default}
 use Rattle.twkb_body.specs.Body.{head_of}
 use Rattle.twkb_engine.specs.Stops.{IsPast}
 use Rattle.twkb_engine.specs.declared.phase.Group.{Group}
-use Rattle.twkb_engine.proofs.Groups.{last_split, last_lent, going_on, going_up}
+use Rattle.twkb_outline.proofs.LastItems.{last_split, last_lent}
+use Rattle.twkb_engine.proofs.Groups.{going_on, going_up}
 use Rattle.twkb_engine.proofs.members.+past_end.Goals as goal
 
 pub returns-then-innermost-eq0-clause-landed : goal.returns-then-innermost-eq0-clause-landed

@@ -1,0 +1,170 @@
+-- Optional parts of a header stand in front of bytes.
+use Rattle.std.proofs.Common.{◌≡◌, ℕ, zero, suc, ◌+◌, ◌-◌, ◌%◌, ◌<◌, ◌≤◌, ◌^◌, List, [], ◌∷◌, ◌++◌, length, take, drop, true, false, ℤ, Option, Some, None, refl, sym, ◌∙◌, ap, subst, arith}
+use Rattle.std.proofs.Math.Seq.{take-suc}
+use Rattle.std.proofs.lemmas.List.{length-take-le, length-drop, take_rest}
+use Rattle.std.specs.Prelude.{get_or}
+use Rattle.twkb_num.specs.Varint.{HasMarks, seven_bit_sum, IsVarint}
+use Rattle.twkb_grammar.specs.Bits.{bit}
+use Rattle.twkb_tree.specs.Limits.{Allowance}
+use Rattle.twkb_tree.specs.Rows.{Row}
+use Rattle.twkb_grammar.specs.Roles.{Role, Metadata, Extended, Size, Box, where_set}
+use Rattle.twkb_grammar.specs.Fault.{points_by}
+use Rattle.twkb_grammar.specs.PlainReader.{objection}
+use Rattle.twkb_grammar.specs.Noting.{Notes, note_metadata}
+use Rattle.twkb_grammar.specs.Machine.{Head, Kind, Sums, kind_number, asked}
+use Rattle.twkb_outline.specs.Outline.{Group, Outline, Step, OnMetadata, begins}
+use Rattle.twkb_outline.specs.Noting.{NotedOutline, note_first}
+use Rattle.twkb_outline.proofs.Notings.{first_in_front}
+use Rattle.twkb_outline.specs.HeaderParts.{bare_head, AreNumberParts}
+use Rattle.twkb_outline.proofs.HeaderParts.{one_part, parts_join, sums_behind_header, header_read}
+use Rattle.twkb_outline.proofs.Pieces.{used_join}
+use Rattle.twkb_front.specs.Front.{NumberInFront}
+use Rattle.twkb_front.specs.Parts.{WidthInFront, sides, sized_head, SidesInFront, BoxInFront, SizeInFront, PartsInFront}
+
+-- ---- the bytes of a number
+
+-- each byte goes on
+abbrev pub AllHigh : List ℕ → Type 0
+AllHigh [] = Rattle.std.specs.Prelude.⊤
+AllHigh (b ∷ bs) = (128 ≤ b) × (b < 256) × AllHigh bs
+
+-- one more does
+pub high_more : (bs : List ℕ) (b : ℕ) → AllHigh bs → 128 ≤ b → b < 256 → AllHigh (bs ++ b ∷ [])
+high_more [] b high above low = (above, low, tt)
+high_more (c ∷ bs) b high above low = (high.0, high.1, high_more bs b high.2 above low)
+
+-- bytes that go on, and one that does not
+marks_closed : (bs : List ℕ) (b : ℕ) → AllHigh bs → b < 128 → HasMarks (bs ++ b ∷ [])
+marks_closed [] b high low = low
+marks_closed (c ∷ []) b high low = (high.0, high.1, low)
+marks_closed (c ∷ d ∷ bs) b high low = (high.0, high.1, marks_closed (d ∷ bs) b high.2 low)
+
+-- few bytes spell no large number
+sum_small : (k : ℕ) (bs : List ℕ) → length bs ≤ k → seven_bit_sum bs < 128 ^ k
+sum_small zero [] few = omega arith
+sum_small zero (b ∷ bs) few = absurd (omega (arith, few))
+sum_small (suc k) [] few = let one = sum_small k [] (omega arith) in omega (arith, one)
+sum_small (suc k) (b ∷ bs) few = let rest = sum_small k bs (omega (arith, few)) in let low : b % 128 < 128 = omega arith in omega (arith, rest, low)
+
+-- so nine at most spell a number of 64 bits
+number_closed : (bs : List ℕ) (b : ℕ) → AllHigh bs → b < 128 → length (bs ++ b ∷ []) ≤ 9 → IsVarint (bs ++ b ∷ []) (seven_bit_sum (bs ++ b ∷ []))
+number_closed bs b high low few =
+    let small : seven_bit_sum (bs ++ b ∷ []) < 128 ^ 9 = sum_small 9 (bs ++ b ∷ []) few in
+    record { marked = marks_closed bs b high low; within = omega (arith, few); sum = refl; fits = omega (arith, small) }
+
+-- a byte that ends a number behind others that go on
+pub width_closed : (bytes : List ℕ) (width : ℕ) → AllHigh (take width bytes) → width < 9 → width < length bytes → get_or bytes width 0 < 128 → WidthInFront bytes (width + 1)
+width_closed bytes width high few within low =
+    let whole : take (suc width) bytes ≡ take width bytes ++ get_or bytes width 0 ∷ [] = take-suc bytes width 0 within in
+    let size : length (take (suc width) bytes) ≡ suc width = length-take-le (suc width) bytes (omega (arith, within)) in
+    let number = number_closed (take width bytes) (get_or bytes width 0) high low (omega (arith, ap length whole, size, few)) in
+    let next : suc width ≡ width + 1 = omega arith in (
+      seven_bit_sum (take width bytes ++ get_or bytes width 0 ∷ []),
+      record {
+        some = omega arith;
+        within = omega (arith, within);
+        spelled = subst (λ l. IsVarint l (seven_bit_sum (take width bytes ++ get_or bytes width 0 ∷ []))) (sym whole ∙ ap (λ w. take w bytes) next) number;
+      },
+    )
+
+-- ---- the sides of a box
+
+-- one more behind some
+sides_push : (count : ℕ) → sides count ++ Box ∷ [] ≡ sides (suc count)
+sides_push zero = refl
+sides_push (suc count) = ap (λ rs. Box ∷ rs) (sides_push count)
+
+pub sides_none : (bytes : List ℕ) → SidesInFront 0 bytes 0
+sides_none bytes = record { within = omega arith; parts = λ h at. (refl, refl) }
+
+pub sides_more : (count : ℕ) (bytes : List ℕ) (used width : ℕ) → SidesInFront count bytes used → WidthInFront (take (length bytes - used) (drop used bytes)) width → SidesInFront (count + 1) bytes (used + width)
+sides_more count bytes used width first next =
+    let left : List ℕ = take (length bytes - used) (drop used bytes) in
+    let number = next.1 in
+    let more : sides count ++ Box ∷ [] ≡ sides (count + 1) = let one : suc count ≡ count + 1 = omega arith in sides_push count ∙ ap sides one in
+    record {
+      within = (let so_far = first.within in let few = number.within in omega (arith, so_far, subst (λ l. width ≤ length l) (take_rest bytes used) few, length-drop used bytes));
+      parts = λ h at.
+          subst (λ l. AreNumberParts h at (sides (count + 1)) l h) (sym (used_join bytes used width))
+          (subst (λ rs. AreNumberParts h at rs (take used bytes ++ take width left) h) more
+          (parts_join h h h at (sides count) (Box ∷ []) (take used bytes) (take width left) (first.parts h at) (one_part h (at + length (take used bytes)) next.0 Box (take width left) tt number.spelled)));
+    }
+
+pub box_whole : (meta : ℕ) (bytes : List ℕ) (used : ℕ) → bit meta 0 ≡ true → SidesInFront 4 bytes used → BoxInFront meta bytes used
+box_whole meta bytes used has s = record { within = s.within; parts = λ h at. subst (λ b. AreNumberParts h at (where_set b (sides 4)) (take used bytes) h) (sym has) (s.parts h at) }
+
+pub no_box : (meta : ℕ) (bytes : List ℕ) → bit meta 0 ≡ false → BoxInFront meta bytes 0
+no_box meta bytes none = record { within = omega arith; parts = λ h at. subst (λ b. AreNumberParts h at (where_set b (sides 4)) [] h) (sym none) (refl, refl) }
+
+-- ---- the size
+
+pub size_whole : (meta : ℕ) (bytes : List ℕ) (n width : ℕ) → bit meta 1 ≡ true → NumberInFront bytes n width → SizeInFront meta bytes (Some n) width
+size_whole meta bytes n width has f = record {
+  within = f.within;
+  parts = λ precision at.
+      let long : length (take width bytes) ≡ width = length-take-le width bytes f.within in
+      let part = one_part (bare_head precision meta at) at n Size (take width bytes) tt f.spelled in
+      subst (λ b. AreNumberParts (bare_head precision meta at) at (where_set b (Size ∷ [])) (take width bytes) (sized_head precision meta (Some n) (at + width))) (sym has)
+      (subst (λ w. AreNumberParts (bare_head precision meta at) at (Size ∷ []) (take width bytes) (sized_head precision meta (Some n) (at + w))) long part);
+}
+
+pub no_size : (meta : ℕ) (bytes : List ℕ) → bit meta 1 ≡ false → SizeInFront meta bytes None 0
+no_size meta bytes none = record {
+  within = omega arith;
+  parts = λ precision at.
+      let here : at + 0 ≡ at = omega arith in
+      subst (λ b. AreNumberParts (bare_head precision meta at) at (where_set b (Size ∷ [])) [] (sized_head precision meta None (at + 0))) (sym none) (refl, ap (sized_head precision meta None) here);
+}
+
+-- ---- all parts
+
+pub parts_whole : (meta : ℕ) (bytes : List ℕ) (size : Option ℕ) (from used : ℕ) → bit meta 3 ≡ false → SizeInFront meta bytes size from → BoxInFront meta (take (length bytes - from) (drop from bytes)) used → PartsInFront meta bytes size from (from + used)
+parts_whole meta bytes size from used none first next =
+    let left : List ℕ = take (length bytes - from) (drop from bytes) in
+    record {
+      within = (let so_far = first.within in let few = next.within in omega (arith, so_far, subst (λ l. used ≤ length l) (take_rest bytes from) few, length-drop from bytes));
+      ordered = omega arith;
+      parts = λ precision at.
+          let h = bare_head precision meta at in
+          let to = sized_head precision meta size (at + from) in
+          let rest : List Role = where_set (bit meta 1) (Size ∷ []) ++ where_set (bit meta 0) (sides 4) in
+          let both = parts_join h to to at (where_set (bit meta 1) (Size ∷ [])) (where_set (bit meta 0) (sides 4)) (take from bytes) (take used left) (first.parts precision at) (next.parts to (at + length (take from bytes))) in
+          subst (λ l. AreNumberParts h at (asked meta) l to) (sym (used_join bytes from used))
+          (subst (λ b. AreNumberParts h at (where_set b (Extended ∷ []) ++ rest) (take from bytes ++ take used left) to) (sym none) both);
+    }
+
+-- ---- a reader behind a metadata byte
+
+-- a metadata byte in front, and all parts that it asks for
+read_ahead : (limits : Allowance) (front : List ℕ) (e : Sums) (gs : List Group) (k : Kind) (precision : ℤ) (rows : List Row) (told : ℕ → Notes) (rest : List ℕ) (size : Option ℕ) (from used points : ℕ) → (let meta : ℕ = get_or rest 0 0 in 0 < length rest → meta < 256 → bit meta 4 ≡ false
+    → objection limits e (Metadata (kind_number k)) meta ≡ None → points ≡ e.points + points_by (Metadata (kind_number k)) meta → PartsInFront meta (take (length rest - 1) (drop 1 rest)) size from used → NotedOutline limits front e (gs, OnMetadata k precision) rows told
+    → NotedOutline limits (front ++ take (1 + used) rest) (record { bytes = e.bytes + (1 + used); position = e.position; nodes = e.nodes; points = points }) (gs, begins k (sized_head precision meta size ((e.bytes + 1) + from))) rows (λ start. note_metadata meta (told start)))
+read_ahead limits front e gs k precision rows told rest size from used points some low full free announced p there =
+    let meta : ℕ = get_or rest 0 0 in
+    let left : List ℕ = take (length rest - 1) (drop 1 rest) in
+    let parts : List ℕ = take used left in
+    let whole : meta ∷ parts ≡ take (1 + used) rest = ap (λ l. l ++ parts) (sym (take-suc rest 0 0 some)) ∙ sym (used_join rest 1 used) in
+    let long : length parts ≡ used = length-take-le used left p.within in
+    let bytes : e.bytes + suc (length parts) ≡ e.bytes + (1 + used) = omega (arith, long) in
+    let sums : sums_behind_header e k meta parts ≡ record { bytes = e.bytes + (1 + used); position = e.position; nodes = e.nodes; points = points } = λ t. record { bytes = bytes t; position = e.position; nodes = e.nodes; points = sym announced t } in
+    let o : Outline = (gs, begins k (sized_head precision meta size ((e.bytes + 1) + from))) in
+    let noted : ℕ → Notes = λ start. note_metadata meta (told start) in
+    let read = header_read limits front e gs k precision rows told meta parts size ((e.bytes + 1) + from) low full free (p.parts precision (e.bytes + 1)) there in
+    subst (λ l. NotedOutline limits (front ++ l) (record { bytes = e.bytes + (1 + used); position = e.position; nodes = e.nodes; points = points }) o rows noted) whole
+    (subst (λ s. NotedOutline limits (front ++ meta ∷ parts) s o rows noted) sums read)
+
+-- the same where the code keeps the byte and a header of its own
+pub header_ahead : (limits : Allowance) (front : List ℕ) (e : Sums) (gs : List Group) (k : Kind) (t : Step) (precision : ℤ) (rows : List Row) (told : ℕ → Notes) (rest : List ℕ) (meta : ℕ) (own : Head) (size : Option ℕ) (from used points : ℕ) → 0 < length rest → get_or rest 0 0 < 256 → meta ≡ get_or rest 0 0
+    → bit meta 4 ≡ false → objection limits e (Metadata (kind_number k)) meta ≡ None → points ≡ e.points + points_by (Metadata (kind_number k)) meta → PartsInFront meta (take (length rest - 1) (drop 1 rest)) size from used
+    → own ≡ bare_head precision meta (e.bytes + 1) → t ≡ OnMetadata k precision → NotedOutline limits front e (gs, t) rows told
+    → NotedOutline limits (front ++ take (1 + used) rest) (record { bytes = e.bytes + (1 + used); position = e.position; nodes = e.nodes; points = points }) (gs, begins k (sized_head own.precision own.meta size ((e.bytes + 1) + from))) rows (λ start. note_first t (start + e.bytes) e.points (take (1 + used) rest) (told start))
+header_ahead limits front e gs k t precision rows told rest meta own size from used points some low byte full free announced p head step there =
+    let bytes : List ℕ = take (1 + used) rest in
+    let summed : Sums = record { bytes = e.bytes + (1 + used); position = e.position; nodes = e.nodes; points = points } in
+    let first : ℕ = get_or rest 0 0 in
+    let at = subst (λ q. NotedOutline limits front e (gs, q) rows told) step there in
+    let read = read_ahead limits front e gs k precision rows told rest size from used points some low (rw byte at full) (rw byte at free) (rw byte at announced) (rw byte at p) at in
+    let same : sized_head precision first size ((e.bytes + 1) + from) ≡ sized_head own.precision own.meta size ((e.bytes + 1) + from) = λ i. sized_head (sym (ap (λ (h : Head). h.precision) head) i) ((sym byte ∙ sym (ap (λ (h : Head). h.meta) head)) i) size ((e.bytes + 1) + from) in
+    let goes = subst (λ h. NotedOutline limits (front ++ bytes) summed (gs, begins k h) rows (λ start. note_metadata first (told start))) same read in
+    let noted = λ (start : ℕ). first_in_front (OnMetadata k precision) (start + e.bytes) e.points (1 + used) rest (told start) (omega arith) some ∙ ap (λ q. note_first q (start + e.bytes) e.points bytes (told start)) (sym step) in
+    record { outlined = goes.outlined; notes = λ start. goes.notes start ∙ noted start }
