@@ -11,6 +11,7 @@ use Rattle.twkb_grammar.specs.Fault.{FirstFault, Reason, Truncated}
 use Rattle.twkb_io.specs.declared.input.Input.{Input}
 use Rattle.twkb_io.specs.declared.input.InFault.{InFault}
 use Rattle.twkb_io.specs.declared.input.InFault.TheVariants.{Read, TooLong, Spent}
+use Rattle.twkb_io.specs.Taps.{count_failure}
 use Rattle.twkb_io.specs.Inputs.{given, rest_of, is_spent}
 use Rattle.twkb_engine.specs.Standing.{IsEnd, offset_in}
 use Rattle.twkb_engine.specs.Stops.{reason_of}
@@ -19,7 +20,7 @@ use Rattle.twkb_engine.specs.declared.stop.Stop.{Stop}
 use Rattle.twkb_engine.specs.declared.stop.Stop.TheVariants.{Memory, Refused}
 use Rattle.twkb_engine.specs.declared.blob_reason.BlobReason.TheVariants as reason
 use Rattle.twkb_blob.specs.Faults.{fault_of}
-use Rattle.twkb_blob.specs.Readers.{AreCutOff, Left, Makes, IsRead, IsNext, IsNextFlat, RefusedKnown, failed_by_read}
+use Rattle.twkb_blob.specs.Readers.{AreCutOff, Left, Makes, IsRead, IsNext, IsNextFlat, RefusedKnown, failed_by_read, halted_by_read}
 use Rattle.twkb_blob.specs.declared.fault.BlobFault.TheVariants as fault
 use Rattle.twkb_blob.specs.declared.reading.Fed.TheVariants as piece
 use Rattle.twkb_blob.specs.declared.reading.Halt.TheVariants as halt
@@ -124,3 +125,9 @@ module _ {R : Type 0} {read : Ghosts R} where
 pub no_device : (A : Type 0) (offset : ℕ) (stop : Stop) → failed_by_read {A = A} (Err (fault_of offset stop)) ≡ false
 no_device A offset Memory = refl
 no_device A offset (Refused r) = refl
+
+-- a failed read under a piece is one under a blob
+pub read_failed : (A : Type 0) (why : InFault) (now mid old : ℕ) → now ≡ count_failure (halted_by_read (Err (halt.Device why))) mid → mid ≡ old → now ≡ count_failure (failed_by_read {A = A} (Err (fault.Device why))) old
+read_failed A Read now mid old is same = is ∙ ap (λ n. count_failure true n) same
+read_failed A TooLong now mid old is same = is ∙ same
+read_failed A Spent now mid old is same = is ∙ same

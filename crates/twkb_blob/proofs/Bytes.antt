@@ -23,8 +23,9 @@ use Rattle.twkb_engine.specs.Stops.{reason_of}
 use Rattle.twkb_engine.specs.declared.engine.Engine.{Engine}
 use Rattle.twkb_engine.specs.declared.stop.Stop.{Stop}
 use Rattle.twkb_engine.specs.declared.stop.Stop.TheVariants.{Memory, Refused}
-use Rattle.twkb_blob.specs.Readers.{Left, Makes, IsRead}
+use Rattle.twkb_blob.specs.Readers.{Left, Makes, fed_as}
 use Rattle.twkb_blob.specs.Located.{HasSpans, IsSpanned, IsNotedFed, IsNotedRead, notes_at}
+use Rattle.twkb_blob.specs.declared.reading.Fed.{Fed}
 use Rattle.twkb_blob.specs.declared.reading.Fed.TheVariants as piece
 use Rattle.twkb_blob.specs.declared.reading.Halt.TheVariants as halt
 use Rattle.twkb_blob.proofs.Pieces.{left_after, refused_known}
@@ -69,27 +70,31 @@ module _ {R : Type 0} {read : Ghosts R} where
       left_after a b c (take used held) keeps same (subst (λ l. Consumes (rest_of b) (rest_of c) (take used l)) (sym is) loses) (omega (arith, counted, length-take-le used held within))
 
   -- the blob goes on
-  pub item_more : (limits : Allowance) (start : ℕ) (bs held : List ℕ) (a b c : Input R read) (used : ℕ) (rs : List Row) (d : Engine) (w : Notes) → Keeps (rest_of a) (rest_of b) → given b ≡ given a → held ≡ held_of b → 0 < used → used ≤ length held
+  item_more : (limits : Allowance) (start : ℕ) (bs held : List ℕ) (a b c : Input R read) (used : ℕ) (rs : List Row) (d : Engine) (w : Notes) → Keeps (rest_of a) (rest_of b) → given b ≡ given a → held ≡ held_of b → 0 < used → used ≤ length held
       → Consumes (rest_of b) (rest_of c) (take used (held_of b)) → given c ≡ given b + used → is_spent c ≡ false → IsNotedFed limits start bs held (Ok (used, false)) rs d w → IsNotedRead limits start bs a c (Ok piece.More) rs d w
   item_more limits start bs held a b c used rs d w keeps same is some within loses counted live h =
       (take used held, omega (arith, some, length-take-le used held within), held_left a b c held used keeps same is within loses counted, h.0, h.1, live)
 
   -- the blob ends
-  pub item_made : (limits : Allowance) (start : ℕ) (bs held : List ℕ) (a b c : Input R read) (used : ℕ) (rs : List Row) (d : Engine) (w : Notes) → Keeps (rest_of a) (rest_of b) → given b ≡ given a → held ≡ held_of b → used ≤ length held
+  item_made : (limits : Allowance) (start : ℕ) (bs held : List ℕ) (a b c : Input R read) (used : ℕ) (rs : List Row) (d : Engine) (w : Notes) → Keeps (rest_of a) (rest_of b) → given b ≡ given a → held ≡ held_of b → used ≤ length held
       → Consumes (rest_of b) (rest_of c) (take used (held_of b)) → given c ≡ given b + used → is_spent c ≡ false → IsNotedFed limits start bs held (Ok (used, true)) rs d w → IsNotedRead limits start bs a c (Ok piece.Made) rs d w
   item_made limits start bs held a b c used rs d w keeps same is within loses counted live (g, blob, told, made) =
       (g, record { bytes = take used held; left = held_left a b c held used keeps same is within loses counted; blob = blob; unspent = live }, told, made)
+
+  -- bytes were used
+  pub item_taken : (limits : Allowance) (start : ℕ) (bs held : List ℕ) (a b c : Input R read) (taken : ℕ × Bool) (answer : Fed) (rs : List Row) (d : Engine) (w : Notes) → Keeps (rest_of a) (rest_of b) → given b ≡ given a → held ≡ held_of b → 0 < taken.0
+      → taken.0 ≤ length held → Consumes (rest_of b) (rest_of c) (take taken.0 (held_of b)) → given c ≡ given b + taken.0 → is_spent c ≡ false → answer ≡ fed_as taken.1 → IsNotedFed limits start bs held (Ok taken) rs d w
+      → IsNotedRead limits start bs a c (Ok answer) rs d w
+  item_taken limits start bs held a b c (used, false) answer rs d w keeps same is some within loses counted live told h =
+      subst (λ m. IsNotedRead limits start bs a c (Ok m) rs d w) (sym told) (item_more limits start bs held a b c used rs d w keeps same is some within loses counted live h)
+  item_taken limits start bs held a b c (used, true) answer rs d w keeps same is some within loses counted live told h =
+      subst (λ m. IsNotedRead limits start bs a c (Ok m) rs d w) (sym told) (item_made limits start bs held a b c used rs d w keeps same is within loses counted live h)
 
   -- the engine stopped in the held bytes
   pub item_stopped : (limits : Allowance) (start : ℕ) (bs held : List ℕ) (a b : Input R read) (stop : Stop) (rs : List Row) (d : Engine) (w : Notes) → Keeps (rest_of a) (rest_of b) → IfSome (rest_of b) (λ rest. StartsWith rest held)
       → IsNotedFed limits start bs held (Err stop) rs d w → IsNotedRead limits start bs a b (Err (halt.Engine stop)) rs d w
   item_stopped limits start bs held a b Memory rs d w keeps starts h = part_known limits (rest_of a) (rest_of b) bs held keeps starts h
   item_stopped limits start bs held a b (Refused r) rs d w keeps starts h = refused_known limits (rest_of a) (rest_of b) bs held (offset_in d) (reason_of r) keeps starts h
-
-  -- and that is an answer without the notes
-  pub stopped_read : (limits : Allowance) (start : ℕ) (bs : List ℕ) (a b : Input R read) (stop : Stop) (rs : List Row) (d : Engine) (w : Notes) → IsNotedRead limits start bs a b (Err (halt.Engine stop)) rs d w → IsRead limits bs a b (Err (halt.Engine stop)) rs d
-  stopped_read limits start bs a b Memory rs d w h = tt
-  stopped_read limits start bs a b (Refused r) rs d w h = h
 
   -- a blob left the input, with these spans
   made_spans : (limits own : Allowance) (start : ℕ) (bs : List ℕ) (a b c : Input R read) (g : Tree) (spans : List Span) → own ≡ limits → start ≡ given a → Left a b bs

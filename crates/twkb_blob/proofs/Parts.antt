@@ -10,24 +10,20 @@ use Rattle.twkb_tree.specs.Tree.{Tree}
 use Rattle.twkb_tree.specs.Rows.{Row}
 use Rattle.twkb_tree.specs.Limits.{Allowance}
 use Rattle.twkb_grammar.specs.Blob.{Blob}
-use Rattle.twkb_grammar.specs.Noting.{Notes}
 use Rattle.twkb_grammar.specs.declared.span.Span.{Span}
 use Rattle.twkb_grammar.proofs.Streams.{blob_long}
 use Rattle.twkb_io.specs.declared.input.Input.{Input}
 use Rattle.twkb_io.specs.Inputs.{rest_of}
 use Rattle.twkb_outline.specs.Parts.{IsJudged, PartIn}
-use Rattle.twkb_engine.specs.Standing.{IsFed}
 use Rattle.twkb_engine.specs.declared.engine.Engine.{Engine}
 use Rattle.twkb_engine.specs.declared.stop.Stop.{Stop}
 use Rattle.twkb_engine.specs.declared.stop.Stop.TheVariants.{Memory, Refused}
 use Rattle.twkb_blob.proofs.Judging.{blob_judged}
 use Rattle.twkb_blob.specs.Faults.{fault_of}
-use Rattle.twkb_blob.specs.Readers.{Left, IsNextFlat, PartAhead}
-use Rattle.twkb_blob.specs.Located.{IsSpanned, IsNotedRead}
+use Rattle.twkb_blob.specs.Readers.{Left, IsRead, IsNextFlat, PartAhead}
+use Rattle.twkb_blob.specs.Located.{IsSpanned}
 use Rattle.twkb_blob.specs.declared.fault.BlobFault.{BlobFault}
 use Rattle.twkb_blob.specs.declared.fault.BlobFault.TheVariants as fault
-use Rattle.twkb_blob.specs.declared.reading.Fed.{Fed}
-use Rattle.twkb_blob.specs.declared.reading.Halt.{Halt}
 use Rattle.twkb_blob.specs.declared.reading.Halt.TheVariants as halt
 use Rattle.twkb_blob.proofs.Standing.{front_of}
 
@@ -35,11 +31,6 @@ use Rattle.twkb_blob.proofs.Standing.{front_of}
 pub lacks_memory : {A : Type 0} (told : BlobFault) (offset : ℕ) (stop : Stop) → told ≡ fault_of offset stop → ◌≡◌ {A = Result A BlobFault} (Err told) (Err fault.Memory) → stop ≡ Memory
 lacks_memory told offset Memory same is = refl
 lacks_memory told offset (Refused r) same is = absurd cc
-
--- and then a part ends in what it was fed
-pub part_fed : (limits : Allowance) (bs held : List ℕ) (stop : Stop) (rs : List Row) (d : Engine) → ◌≡◌ {A = Result Fed Halt} (Err (halt.Engine stop)) (Err (halt.Engine Memory)) → IsFed limits bs held (Err stop) rs d → PartIn limits bs held
-part_fed limits bs held Memory rs d is h = h
-part_fed limits bs held (Refused r) rs d is h = absurd cc
 
 -- a part that ends in the held bytes ends in all that is known
 pub part_known : (limits : Allowance) (a b : Option (List ℕ)) (bs held : List ℕ) → Keeps a b → IfSome b (λ rest. StartsWith rest held) → PartIn limits bs held → IfSome a (λ rest. PartIn limits bs rest)
@@ -88,7 +79,7 @@ module _ {R : Type 0} {read : Ghosts R} where
   pub spanned_ahead : (limits : Allowance) (a c : Input R read) (rs : List Row) (spans : List Span) → IsSpanned limits a c (Ok true) rs spans → PartAhead limits [] a
   spanned_ahead limits a c rs spans (g, has, is) = blob_known limits (rest_of a) (rest_of c) has.made.bytes g has.made.left.consumed has.made.blob
 
-  -- memory that was missing, of an engine whose items are noted
-  pub noted_ahead : (limits : Allowance) (start : ℕ) (bs : List ℕ) (a b : Input R read) (stop : Stop) (rs : List Row) (d : Engine) (w : Notes) → stop ≡ Memory → IsNotedRead limits start bs a b (Err (halt.Engine stop)) rs d w → PartAhead limits bs a
-  noted_ahead limits start bs a b Memory rs d w is h = h
-  noted_ahead limits start bs a b (Refused r) rs d w is h = absurd cc
+  -- memory that was missing
+  pub read_ahead : (limits : Allowance) (bs : List ℕ) (a b : Input R read) (stop : Stop) (rs : List Row) (d : Engine) → stop ≡ Memory → IsRead limits bs a b (Err (halt.Engine stop)) rs d → PartAhead limits bs a
+  read_ahead limits bs a b Memory rs d is h = h
+  read_ahead limits bs a b (Refused r) rs d is h = absurd cc

@@ -19,12 +19,11 @@ use Rattle.twkb_engine.specs.declared.engine.Engine.{Engine}
 use Rattle.twkb_engine.specs.declared.stop.Stop.{Stop}
 use Rattle.twkb_engine.specs.declared.awaited.Awaited.{Awaited}
 use Rattle.twkb_engine.specs.declared.awaited.Awaited.TheVariants as awaited
-use Rattle.twkb_blob.specs.Readers.{Left, Makes, IsRead, IsNext, PartAhead}
+use Rattle.twkb_blob.specs.Readers.{Left, Makes, IsRead, IsNext}
 use Rattle.twkb_blob.specs.declared.fault.BlobFault.{BlobFault}
 use Rattle.twkb_blob.specs.declared.reading.Fed.{Fed}
 use Rattle.twkb_blob.specs.declared.reading.Fed.TheVariants as piece
 use Rattle.twkb_blob.specs.declared.reading.Halt.{Halt}
-use Rattle.twkb_blob.specs.declared.reading.Halt.TheVariants as halt
 use Rattle.twkb_blob.specs.declared.spans.Located.{Located}
 
 -- the blob of this geometry left the input, and these are its spans at the place where it stood
@@ -79,7 +78,6 @@ IsNotedRead limits start bs old new (Ok piece.More) rs d w =
     (bytes : List ℕ) × (0 < length bytes) × Left old new bytes × (s : StandsAt (bs ++ bytes) rs d)
     × (w ≡ notes_at start s) × (input_spent new ≡ false)
 IsNotedRead limits start bs old new (Ok piece.Made) rs d w = (g : Tree) × (made : Makes limits bs old new g) × (w.spans ≡ spans_of_blob start made.blob) × (rs ≡ rows 0 g)
-IsNotedRead limits start bs old new (Err (halt.Engine Memory)) rs d w = PartAhead limits bs old
 IsNotedRead limits start bs old new answer rs d w = IsRead limits bs old new answer rs d
 
 -- wherever the engine stands with the notes of its items, that is the answer to the held bytes

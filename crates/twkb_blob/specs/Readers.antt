@@ -105,14 +105,23 @@ pub record Makes {R : Type 0} {read : Ghosts R} (limits : Allowance) (bs : List 
   pub blob : Blob limits (bs ++ bytes) g
   pub unspent : input_spent new ≡ false
 
--- Some bytes left the input, and make a blob so far, with these rows, or a blob; or there are none; or with what is known of the rest
--- they have a first fault.
+-- Of the known bytes that an input has left a front, one byte at least, ends a part behind these.
+abbrev pub PartAhead : {R : Type 0} {read : Ghosts R} → Allowance → List ℕ → Input R read → Type 0
+PartAhead limits bs input = IfSome (rest_of input) (λ rest. PartIn limits bs rest)
+
+-- what the held bytes made that an engine took, by whether a geometry ends in them
+abbrev pub fed_as : Bool → Fed
+fed_as true = piece.Made
+fed_as false = piece.More
+
+-- Some bytes left the input, and make a blob so far, with these rows, or a blob; or there are none; or there was no memory behind a part
+-- that ends in what is known of the rest; or with that they have a first fault.
 abbrev pub IsRead : {R : Type 0} {read : Ghosts R} → Allowance → List ℕ → Input R read → Input R read → Result Fed Halt → List Row → Engine → Type 0
 IsRead limits bs old new (Ok piece.More) rs d = (bytes : List ℕ) × (0 < length bytes) × Left old new bytes × StandsAt (bs ++ bytes) rs d × (input_spent new ≡ false)
 IsRead limits bs old new (Ok piece.Made) rs d = (g : Tree) × Makes limits bs old new g × (rs ≡ rows 0 g)
 IsRead limits bs old new (Ok piece.End) rs d = IsAtEnd (rest_of old) × Left old new [] × StandsAt bs rs d
 IsRead limits bs old new (Err (halt.Device why)) rs d = Stops why old new × StandsAt bs rs d
-IsRead limits bs old new (Err (halt.Engine Memory)) rs d = ⊤
+IsRead limits bs old new (Err (halt.Engine Memory)) rs d = PartAhead limits bs old
 IsRead limits bs old new (Err (halt.Engine (Refused r))) rs d = IfSome (rest_of old) (λ rest. FirstFault limits (bs ++ rest) (offset_in d) (reason_of r))
 
 -- The known bytes have this first fault; the offset counts from where the input began to give out bytes.
@@ -135,10 +144,6 @@ abbrev pub IsNextFlat : {R : Type 0} {read : Ghosts R} → Allowance → Input R
 IsNextFlat limits old new (Ok true) rs = (g : Tree) × Makes limits [] old new g × (rs ≡ rows 0 g)
 IsNextFlat limits old new (Ok false) rs = IsNext limits old new (Ok None)
 IsNextFlat limits old new (Err why) rs = IsNext limits old new (Err why)
-
--- Of the known bytes that an input has left a front, one byte at least, ends a part behind these.
-abbrev pub PartAhead : {R : Type 0} {read : Ghosts R} → Allowance → List ℕ → Input R read → Type 0
-PartAhead limits bs input = IfSome (rest_of input) (λ rest. PartIn limits bs rest)
 
 -- whether a piece was missing because the reader failed
 abbrev pub halted_by_read : Result Fed Halt → Bool

@@ -11,7 +11,7 @@ use crate::fault::{BlobFault, fault_at};
 use crate::notes::SpanNotes;
 use crate::noting::feed_noted;
 use crate::point::read_point;
-use crate::reading::{Fed, Halt};
+use crate::reading::{Fed, Halt, made_of};
 use crate::spans::Spans;
 use std::alloc::{AllocError, Global};
 use std::io::Read;
@@ -51,11 +51,7 @@ fn read_piece<R: Read>(
         Err(stop) => return Err(Halt::Engine(stop)),
     };
     input.advance(used);
-    if is_whole {
-        Ok(Fed::Made)
-    } else {
-        Ok(Fed::More)
-    }
+    Ok(made_of(is_whole))
 }
 
 // Reads a blob from an input into a form without rows, with an engine that has read nothing and notes of nothing.

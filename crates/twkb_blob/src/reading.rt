@@ -3,7 +3,7 @@ ghost use Rattle.std.specs.Prelude.{◌≡◌, ◌≤◌, ◌<◌, ◌^◌, ◌�
 ghost use Rattle.twkb_io.specs.Taps.{count_failure};
 ghost use Rattle.twkb_io.specs.Inputs.{input_failures, input_tap};
 ghost use Rattle.twkb_engine.specs.Standing.{StandsAt, allowance_of, count_of, offset_in};
-ghost use Rattle.twkb_blob.specs.Readers.{IsRead, IsNextFlat, PartAhead, halted_by_read, failed_by_read};
+ghost use Rattle.twkb_blob.specs.Readers.{IsRead, IsNextFlat, PartAhead, fed_as, halted_by_read, failed_by_read};
 
 use crate::fault::{BlobFault, fault_at};
 use crate::point::read_point;
@@ -34,6 +34,13 @@ pub(crate) enum Halt {
     Engine(Stop),
 }
 
+// What the held bytes made that an engine took.
+pub(crate) fn made_of(is_whole: bool) -> Fed
+    ensures { result ≡ fed_as is_whole }
+{
+    if is_whole { Fed::Made } else { Fed::More }
+}
+
 // Gives the held bytes of an input to an engine, up to the end of a geometry.
 fn read_piece<R: Read>(
     input: &mut Input<'_, R>,
@@ -45,7 +52,6 @@ fn read_piece<R: Read>(
     ensures limits { allowance_of engine.new ≡ allowance_of engine.old }
     ensures offset { offset_in engine.new ≤ 2 ^ 63 }
     ensures read { (bs : List ℕ) → StandsAt bs flat.old engine.old → IsRead (allowance_of engine.old) bs input.old input.new result flat.new engine.new }
-    ensures memory { (bs : List ℕ) → StandsAt bs flat.old engine.old → result ≡ Err (Halt.Engine Stop.Memory) → PartAhead (allowance_of engine.old) bs input.old }
     ensures failures { input_failures input.new ≡ count_failure (halted_by_read result) (input_failures input.old) }
 {
     if let Err(fault) = input.fill() {
@@ -58,17 +64,12 @@ fn read_piece<R: Read>(
     if count == 0 {
         return Ok(Fed::End);
     }
-    match engine.feed(flat, piece) {
-        Ok((used, false)) => {
-            input.advance(used);
-            Ok(Fed::More)
-        }
-        Ok((used, true)) => {
-            input.advance(used);
-            Ok(Fed::Made)
-        }
-        Err(stop) => Err(Halt::Engine(stop)),
-    }
+    let (used, is_whole) = match engine.feed(flat, piece) {
+        Ok(fed) => fed,
+        Err(stop) => return Err(Halt::Engine(stop)),
+    };
+    input.advance(used);
+    Ok(made_of(is_whole))
 }
 
 // Reads a blob from an input into a form without rows, with an engine that has read nothing.

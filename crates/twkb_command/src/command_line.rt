@@ -1,6 +1,6 @@
 //! The command line, as `clap` is told of it.
 ghost use Rattle.std.specs.Prelude.{◌≡◌, false, codes, IfOk};
-ghost use Rattle.clap.specs.Words.{app_of, new_app, rule_of, shape_of};
+ghost use Rattle.clap.specs.Words.{app_of, new_app, rule_of, shape_of, with_subcommand};
 ghost use Rattle.clap.specs.declared.builder.command.Command.TheViews.{out-Command};
 ghost use Rattle.twkb_command.specs.CommandLine.{bare_app, command_line, conversion_shape, max_nest, pack_shape, style_option};
 
@@ -93,13 +93,33 @@ fn bare_command<'a>(alloc: Global) -> Command<'a>
         .disable_help_subcommand(true)
 }
 
+// The program's command with the subcommand `pack`.
+fn packing_command<'a>(alloc: Global, styles: &'a [&'a str]) -> Result<Command<'a>, AllocError>
+    ensures { IfOk result (λ command. app_of command ≡ with_subcommand bare_app (pack_shape styles.entry)) }
+{
+    let pack = pack_command(alloc, styles)?;
+    bare_command(alloc).subcommand(pack)
+}
+
+// A command with a subcommand more, which has the option `--max-nest`.
+fn with_conversion<'a>(
+    alloc: Global,
+    program: Command<'a>,
+    name: &'a str,
+    about: &'a str,
+) -> Result<Command<'a>, AllocError>
+    ensures { IfOk result (λ command. app_of command ≡ with_subcommand (app_of program.entry) (conversion_shape name.entry.now)) }
+{
+    let conversion = conversion_command(alloc, name, about)?;
+    program.subcommand(conversion)
+}
+
 // The command line: one of the subcommands.
 #[tactic(auto, unfolding(crate::specs::CommandLine::command_line))]
 pub(crate) fn command<'a>(alloc: Global, styles: &'a [&'a str]) -> Result<Command<'a>, AllocError>
     ensures { IfOk result (λ command. app_of command ≡ command_line styles.entry) }
 {
-    bare_command(alloc)
-        .subcommand(pack_command(alloc, styles)?)?
-        .subcommand(conversion_command(alloc, "unpack", help::UNPACK)?)?
-        .subcommand(conversion_command(alloc, "show", help::SHOW)?)
+    let packing = packing_command(alloc, styles)?;
+    let unpacking = with_conversion(alloc, packing, "unpack", help::UNPACK)?;
+    with_conversion(alloc, unpacking, "show", help::SHOW)
 }

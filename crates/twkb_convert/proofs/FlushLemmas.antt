@@ -1,8 +1,12 @@
 -- What is flushed where a conversion stops.
 use Rattle.std.proofs.Common.{◌≡◌, ◌⊎◌, refl, inl, inr, true}
 use Rattle.std.specs.Prelude.{◌≢◌}
+use Rattle.std.specs.declared.io.traits.Read.{Ghosts}
+use Rattle.twkb_io.specs.Outputs.{is_device}
+use Rattle.twkb_io.specs.declared.output.OutFault.{OutFault}
 use Rattle.twkb_io.specs.declared.output.OutFault.TheVariants as out
-use Rattle.twkb_convert.specs.BlobSending.{UnlessOutput}
+use Rattle.twkb_blob.specs.declared.reader.Reader.{Reader}
+use Rattle.twkb_convert.specs.BlobSending.{StopsRead, UnlessOutput}
 use Rattle.twkb_convert.specs.Listed.{cause_of_obstacle}
 use Rattle.twkb_convert.specs.declared.obstacle.StreamObstacle.{StreamObstacle}
 use Rattle.twkb_convert.specs.declared.obstacle.StreamObstacle.TheVariants as stream
@@ -17,6 +21,17 @@ use Rattle.twkb_convert.specs.declared.report.Cause.TheVariants as cause
 pub unless_output : (why : StreamObstacle) (Fact : Type 0) → Fact → UnlessOutput why Fact
 unless_output (stream.Stream f) Fact fact = fact
 unless_output (stream.Output f) Fact fact = tt
+
+-- a flush that failed is a failed write
+flush_written : (f : OutFault) → (f ≡ out.TooLong → ⊥) → (f ≡ out.Spent → ⊥) → is_device f ≡ true
+flush_written out.Write short unspent = refl
+flush_written out.Stuck short unspent = refl
+flush_written out.TooLong short unspent = absurd (short refl)
+flush_written out.Spent short unspent = absurd (unspent refl)
+
+-- and the reader is as the stop before it tells
+pub stops_flush : {R : Type 0} {read : Ghosts R} (from to : Reader R read) (why : StreamObstacle) (f : OutFault) → StopsRead from why to → (f ≡ out.TooLong → ⊥) → (f ≡ out.Spent → ⊥) → StopsRead from (stream.Output f) to
+stops_flush from to why f stops short unspent = record { has_failed = stops.has_failed; follows = stops.follows; told = inr (flush_written f short unspent) }
 
 -- a cause that tells of no refused put
 pub flushed_by : (why : StreamObstacle) (told : Cause) (Fact : Type 0) → told ≡ cause_of_obstacle why → UnlessOutput why Fact → told ≢ cause.WriteDevice → told ≢ cause.TooLong → Fact

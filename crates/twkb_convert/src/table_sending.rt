@@ -32,7 +32,8 @@ pub(crate) fn send_table_and_flush<R: Read, W: Write>(
     let tally = match send_table_and_drain(alloc, tap, limits, style, output) {
         Ok(tally) => tally,
         Err(stop) => {
-            if stop.why.is_output() {
+            let is_refused = stop.why.is_output();
+            if is_refused {
                 return Err(stop);
             }
             if let Err(fault) = output.flush() {

@@ -1,7 +1,7 @@
 -- A member of a multipoint that comes behind another.
 use Rattle.std.proofs.Common.{◌≡◌, ℕ, zero, suc, ◌+◌, ◌-◌, ◌<◌, ◌≤◌, ◌^◌, ℤ, Bool, true, List, [], ◌∷◌, ◌++◌, map, length, take, drop, set, get_or, Option, Some, None, refl, sym, ap, ◌∙◌, subst, arith}
 use Rattle.std.specs.Prelude.{reverse, is_some, is_none, nat_le}
-use Rattle.std.proofs.lemmas.List.{length-append, length-take-le, length_push, reverse-append}
+use Rattle.std.proofs.lemmas.List.{length-append, length-map, length-take-le, length_push, reverse-append}
 use Rattle.twkb_points.specs.Point.{Point, IsInRange}
 use Rattle.twkb_tree.specs.declared.kind.Kind.{Kind}
 use Rattle.twkb_tree.specs.declared.open_rows.OpenRow.{OpenRow}
@@ -22,7 +22,7 @@ use Rattle.twkb_tree.proofs.RowsLocal.{continues_open}
 use Rattle.twkb_flat.specs.declared.node.Row.{Row}
 use Rattle.twkb_flat.specs.declared.entries.KeptNode.{KeptNode}
 use Rattle.twkb_flat.specs.Rows.{row_with}
-use Rattle.twkb_flat.specs.Entries.{IsFlat, closed, listed, next_of, span_of}
+use Rattle.twkb_flat.specs.Entries.{IsFlat, closed, listed, next_of, span_depth, span_of}
 use Rattle.twkb_flat.specs.Members.{with_member, OpenInMember, EndsInMember}
 use Rattle.twkb_flat.proofs.AdmitLemmas.{later_next}
 use Rattle.twkb_flat.proofs.GoingOn.{opened-take}
@@ -167,6 +167,16 @@ member_kept es mid after ps now p spine os count first total d id rows flat view
       subst (λ n. IsFlat after now (set spine d total) os n) (sym place.0) (flat_after es mid after ps (p ∷ []) now spine os os count first total row rows flat view continues place.1 pushed),
       view_after es mid after ps (p ∷ []) now spine os count first total row rows flat view pushed,
     )
+
+-- the member has a place among the open rows, and the node that stands there is one of the entries
+pub member_place : (es : List KeptNode) (ps : List Point) (spine : List ℕ) (os : List OpenRow) (count d : ℕ) (id : Option ℤ) (rows : List TableRow) → IsFlat es ps spine os count → listed (map span_of es) ps ≡ rows
+    → EndsInMember d (is_some id) rows → (d < 35) × (get_or spine d 0 < length es)
+member_place es ps spine os count d id rows flat view ends =
+    let row : Row = record { depth = d; kind = Kind.Point; id = id; precision = None } in
+    let most = flat.linked.most in
+    let place = member_opens rows os count row refl (subst (λ xs. AreOpen (reverse xs) (take count os)) view flat.opened) (omega (arith, flat.room, most)) ends in
+    let kept = flat.linked.open_at d (omega (arith, place.0)) in
+    (omega (arith, place.0, most), omega (arith, kept.0, length-map (map span_of es) span_depth, length-map es span_of))
 
 -- a row and a point more, behind which others may come
 pub member_added : (rows more : List TableRow) (d : ℕ) (id : Option ℤ) (p : Point) → more ≡ rows ++ plain_row d Kind.Point id (p ∷ []) ∷ [] → EndsInMember d (is_some id) rows

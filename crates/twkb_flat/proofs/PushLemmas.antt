@@ -1,7 +1,7 @@
 -- What a push leaves.
-use Rattle.std.proofs.Common.{◌≡◌, ℕ, ◌+◌, ◌-◌, ◌<◌, ◌≤◌, List, [], ◌∷◌, ◌++◌, map, length, take, drop, set, refl, sym, ap, ◌∙◌, subst, arith}
+use Rattle.std.proofs.Common.{◌≡◌, ℕ, ◌+◌, ◌-◌, ◌<◌, ◌≤◌, ◌^◌, List, [], ◌∷◌, ◌++◌, map, length, take, drop, set, refl, sym, ap, ◌∙◌, subst, arith}
 use Rattle.std.specs.Prelude.{reverse}
-use Rattle.std.proofs.lemmas.List.{length-map, length-append, length_push, map_push}
+use Rattle.std.proofs.lemmas.List.{length-map, length-append, length_push, map_push, take_all, take-append-le}
 use Rattle.twkb_points.specs.Point.{Point}
 use Rattle.twkb_tree.specs.declared.open_rows.OpenRow.{OpenRow}
 use Rattle.twkb_tree.specs.Limits.{largest_limits}
@@ -14,7 +14,7 @@ use Rattle.twkb_flat.specs.declared.entries.PlacedRow.{PlacedRow}
 use Rattle.twkb_flat.specs.declared.entries.KeptNode.{KeptNode}
 use Rattle.twkb_flat.specs.Links.{Linked}
 use Rattle.twkb_flat.specs.Rows.{row_with}
-use Rattle.twkb_flat.specs.Entries.{IsFlat, Laid, listed, span_of, next_of, span_depth, closed}
+use Rattle.twkb_flat.specs.Entries.{IsFlat, IsPut, Laid, listed, span_of, next_of, span_depth, closed, open_node}
 use Rattle.twkb_flat.proofs.GoingOn.{GoesOn, goes_on}
 use Rattle.twkb_flat.proofs.LinkLemmas.{linked_push}
 use Rattle.twkb_flat.proofs.RowLemmas.{length-listed, flat_points, laid-push, listed-push}
@@ -126,19 +126,44 @@ flat_after es mid after ps qs now spine os new_open count first total row rows f
     subst (λ (xs : List Point). IsFlat after xs (set spine row.depth total) new_open (row.depth + 1)) (sym p.now_is)
     (subst (λ (n : ℕ). IsFlat after (ps ++ qs) (set spine row.depth n) new_open (row.depth + 1)) p.total_is made)
 
--- the same where the row's points are counted by what all points became
-pub pushed_as : (es put mid after : List KeptNode) (ps qs now : List Point) (spine : List ℕ) (count first total size : ℕ) (row : Row)
-    → length ps ≡ first → length es ≡ total → size ≡ length now → now ≡ ps ++ qs
-    → put ≡ es ++ record { span = record { row = row; first = first; points = size - first }; next = record { 0 = 0 } } ∷ [] → mid ≡ put → map span_of after ≡ map span_of mid
+-- the same of a node and points that were put
+pub pushed_by : (es put mid after : List KeptNode) (ps qs now : List Point) (spine : List ℕ) (count total : ℕ) (row : Row)
+    → IsPut row qs es put ps now → length es ≡ total → mid ≡ put → map span_of after ≡ map span_of mid
     → map next_of after ≡ closed (map next_of mid) (take (count - row.depth) (drop row.depth spine)) total
-    → Pushed es mid after ps qs now spine count first total row
-pushed_as es put mid after ps qs now spine count first total size row first_is total_is size_is now_is put_is mid_is spans nexts =
+    → Pushed es mid after ps qs now spine count (length ps) total row
+pushed_by es put mid after ps qs now spine count total row is_put total_is mid_is spans nexts =
+    record { first_is = refl; total_is = total_is; mid_is = mid_is ∙ is_put.node; spans = spans; nexts = nexts; now_is = is_put.points }
+
+-- a node that was put, whose points are counted by what all points became
+pub put_as : (es put : List KeptNode) (ps qs now : List Point) (first size : ℕ) (row : Row) → first ≡ length ps → size ≡ length now → now ≡ ps ++ qs
+    → put ≡ es ++ open_node (record { row = row; first = first; points = size - first }) ∷ [] → IsPut row qs es put ps now
+put_as es put ps qs now first size row first_is size_is now_is put_is =
     let own : size - first ≡ length qs = omega (arith, size_is, first_is, ap length now_is, length-append ps qs) in
-    record {
-      first_is = first_is;
-      total_is = total_is;
-      mid_is = mid_is ∙ put_is ∙ ap (λ (n : ℕ). es ++ record { span = record { row = row; first = first; points = n }; next = record { 0 = 0 } } ∷ []) own;
-      spans = spans;
-      nexts = nexts;
-      now_is = now_is;
-    }
+    let counted = ap (λ (n : ℕ). es ++ open_node (record { row = row; first = first; points = n }) ∷ []) own in
+    let placed = ap (λ (n : ℕ). es ++ open_node (record { row = row; first = n; points = length qs }) ∷ []) first_is in
+    record { node = put_is ∙ counted ∙ placed; points = now_is }
+
+-- points that were put are taken away again
+pub cut_back : (ps qs now back : List Point) (n : ℕ) → n ≡ length ps → now ≡ ps ++ qs → back ≡ take n now → back ≡ ps
+cut_back ps qs now back n n_is now_is cut = cut ∙ ap (take n) now_is ∙ take-append-le n ps qs (omega (arith, n_is)) ∙ take_all n ps (omega (arith, n_is))
+
+-- there is room for the points of a row that goes on
+pub points_left : (es : List KeptNode) (ps : List Point) (spine : List ℕ) (os : List OpenRow) (count : ℕ) (row : Row) (qs : List Point) (rows : List TableRow)
+    → IsFlat es ps spine os count → listed (map span_of es) ps ≡ rows → Continues largest_limits rows (row_with row qs) → length ps + length qs ≤ 2 ^ 24
+points_left es ps spine os count row qs rows flat view continues =
+    let goes = admitted es ps spine os count row qs rows flat view continues in
+    let points_total = ap (λ (rs : List TableRow). length (row_points rs)) (sym view) ∙ ap length (flat_points (map span_of es) ps flat.laid) in
+    omega (arith, goes.most, points_total)
+
+-- links change no number of entries
+pub same_count : (mid after : List KeptNode) → map span_of after ≡ map span_of mid → length after ≡ length mid
+same_count mid after spans = sym (length-map after span_of) ∙ (ap length spans ∙ length-map mid span_of)
+
+-- where nothing was put, all is kept
+pub kept_flat : (es more : List KeptNode) (ps all : List Point) (spine : List ℕ) (os : List OpenRow) (count : ℕ) → IsFlat es ps spine os count → more ≡ es → all ≡ ps → IsFlat more all spine os count
+kept_flat es more ps all spine os count flat no_node no_point =
+    subst (λ (xs : List KeptNode). IsFlat xs all spine os count) (sym no_node) (subst (λ (xs : List Point). IsFlat es xs spine os count) (sym no_point) flat)
+
+-- and the rows are the same
+pub kept_view : (es more : List KeptNode) (ps all : List Point) (rows : List TableRow) → listed (map span_of es) ps ≡ rows → more ≡ es → all ≡ ps → listed (map span_of more) all ≡ rows
+kept_view es more ps all rows view no_node no_point = ap (λ (xs : List KeptNode). listed (map span_of xs) all) no_node ∙ (ap (λ (xs : List Point). listed (map span_of es) xs) no_point ∙ view)

@@ -1,5 +1,5 @@
 -- The nodes as they are kept, and the rows that they stand for.
-use Rattle.std.specs.Prelude.{ℕ, ◌≡◌, ◌+◌, ◌<◌, ◌≤◌, ◌^◌, ⊤, List, [], ◌∷◌, map, length, slice_set, take, drop, reverse}
+use Rattle.std.specs.Prelude.{ℕ, ◌≡◌, ◌+◌, ◌<◌, ◌≤◌, ◌^◌, ⊤, List, [], ◌∷◌, ◌++◌, map, length, slice_set, take, drop, reverse}
 use Rattle.twkb_points.specs.Point.{Point}
 use Rattle.twkb_tree.specs.declared.open_rows.OpenRow.{OpenRow}
 use Rattle.twkb_tree.specs.Limits.{largest_limits}
@@ -8,6 +8,7 @@ use Rattle.twkb_tree.specs.RowLists.{AreValidRowsOfOne}
 use Rattle.twkb_tree.specs.Open.{AreOpen}
 use Rattle.twkb_flat.specs.declared.entries.PlacedRow.{PlacedRow}
 use Rattle.twkb_flat.specs.declared.entries.KeptNode.{KeptNode}
+use Rattle.twkb_flat.specs.declared.node.Row.{Row}
 use Rattle.twkb_flat.specs.Rows.{row_with}
 use Rattle.twkb_flat.specs.Links.{Linked}
 
@@ -18,6 +19,15 @@ span_of e = e.span
 -- its link
 abbrev pub next_of : KeptNode → ℕ
 next_of e = e.next.0
+
+-- a node all rows after which are below it
+abbrev pub open_node : PlacedRow → KeptNode
+open_node s = record { span = s; next = record { 0 = 0 } }
+
+-- a node of a row is one more behind others, and its own points are behind those of the others
+pub record IsPut (row : Row) (own : List Point) (es more : List KeptNode) (ps all : List Point) : Type 0 where
+  pub node : more ≡ es ++ open_node (record { row = row; first = length ps; points = length own }) ∷ []
+  pub points : all ≡ ps ++ own
 
 -- how deep its row stands
 abbrev pub span_depth : PlacedRow → ℕ

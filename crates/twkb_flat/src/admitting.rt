@@ -23,7 +23,7 @@ const GREATEST_PRECISION: i8 = 7;
 const MOST_NODES: u64 = 1 << 20;
 
 // The points of the largest geometry.
-const MOST_POINTS: u64 = 1 << 24;
+pub(crate) const MOST_POINTS: u64 = 1 << 24;
 
 // Tells a proof that an id is in range. It changes nothing.
 pub(crate) fn look_at_id(id: Option<i64>)

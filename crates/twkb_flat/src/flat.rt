@@ -10,8 +10,12 @@ ghost use Rattle.twkb_tree.specs.RowLists.{AreValidRowsOfOne};
 ghost use Rattle.twkb_flat.specs.Members.{EndsInMember};
 ghost use Rattle.twkb_flat.specs.Rows.{IsNode, row_with};
 
-use crate::admitting::{admits_under, leaves_room, look_at_id, open_in_member, open_row};
-use crate::entries::{KeptNode, PlacedRow, close, close_all, count_point, ends_in_line};
+use crate::admitting::{
+    MOST_POINTS, admits_under, leaves_room, look_at_id, open_in_member, open_row,
+};
+use crate::entries::{
+    KeptNode, PlacedRow, close, close_all, count_point, ends_in_line, put_point, put_row,
+};
 use crate::node::{Node, NodeId, PointId, Row};
 use crate::point_source::{Copied, PointSource};
 use crate::work::Work;
@@ -24,9 +28,6 @@ use twkb_tree::{Kind, OpenRow};
 // How many depths a row of a geometry within `Limits::largest()` may have: a root, a member in 32
 // collections, its parts and their rings.
 const LEVELS: usize = 35;
-
-// The points of the largest geometry.
-const MOST_POINTS: usize = 1 << 24;
 
 /// One geometry within `Limits::largest()`, or none: its rows in preorder, and the points of all
 /// rows one after another. A contract sees the list of its rows, each with its own points.
@@ -167,9 +168,6 @@ impl Flat {
         // learnt: the point is in range
         let _learnt = point.x();
         self.clear();
-        if let Err(refused) = self.points.push(point) {
-            return Err(refused.into());
-        }
         let root = Row {
             depth: 0,
             kind: Kind::Point,
@@ -181,12 +179,8 @@ impl Flat {
             first: 0,
             points: 1,
         };
-        if let Err(refused) = self.entries.push(KeptNode {
-            span,
-            next: NodeId(0),
-        }) {
-            self.points.clear();
-            return Err(refused.into());
+        if let Err(refused) = put_point(&mut self.entries, &mut self.points, span, point) {
+            return Err(refused);
         }
         self.spine[0] = 0;
         self.open_rows[0] = OpenRow {
@@ -216,7 +210,7 @@ impl Flat {
         if !ends_in_line(&self.entries) {
             return false;
         }
-        self.points.len() < MOST_POINTS
+        self.points.len() < MOST_POINTS as usize
     }
 
     /// Whether so many points may be added to the last row, a linestring's or ring's; `false` says
@@ -225,7 +219,7 @@ impl Flat {
         ensures line { result ≡ true → EndsInLine self.now }
         ensures room { result ≡ true → length (row_points self.now) + count ≤ 2 ^ 24 }
     {
-        self.takes_point() && count <= MOST_POINTS as u64 - u64::from(self.point_count())
+        self.takes_point() && count <= MOST_POINTS - u64::from(self.point_count())
     }
 
     /// Appends a point to those of the last row, which is a linestring's or ring's, while there is room. Takes memory; an `Err`
@@ -273,10 +267,6 @@ impl Flat {
         // learnt: the point is in range
         let _learnt = point.x();
         let next = self.entries.len() as u32;
-        let before = self.points.len();
-        if let Err(refused) = self.points.push(point) {
-            return Err(refused.into());
-        }
         let row = Row {
             depth,
             kind: Kind::Point,
@@ -285,15 +275,11 @@ impl Flat {
         };
         let span = PlacedRow {
             row,
-            first: before as u32,
+            first: self.points.len() as u32,
             points: 1,
         };
-        if let Err(refused) = self.entries.push(KeptNode {
-            span,
-            next: NodeId(0),
-        }) {
-            self.points.truncate(before);
-            return Err(refused.into());
+        if let Err(refused) = put_point(&mut self.entries, &mut self.points, span, point) {
+            return Err(refused);
         }
         let at = depth as usize;
         close(&mut self.entries, self.spine[at], next);
@@ -312,23 +298,9 @@ impl Flat {
         ensures same { OnErr result (self.new ≡ self.old) }
     {
         let next = self.entries.len() as u32;
-        let first = self.points.len() as u32;
-        if let Err(fault) = source.append_to(&mut self.points) {
+        if let Err(fault) = put_row(&mut self.entries, &mut self.points, row, source) {
             return Err(fault);
         }
-        let span = PlacedRow {
-            row,
-            first,
-            points: self.points.len() as u32 - first,
-        };
-        let Ok(()) = self.entries.push(KeptNode {
-            span,
-            next: NodeId(0),
-        })
-        else {
-            self.points.truncate(first as usize);
-            return Err(source.want_of_memory());
-        };
         let depth = row.depth as usize;
         close_all(
             &mut self.entries,

@@ -1,13 +1,14 @@
 -- What goes from an input to a sink.
-use Rattle.std.specs.Prelude.{ℕ, ◌≡◌, ◌+◌, List, ◌++◌, length, Option, IfSome, Bool, true, false, Result, Ok, Err}
-use Rattle.std.specs.Io.KnownBytes.{Consumes}
+use Rattle.std.specs.Prelude.{ℕ, ◌≡◌, ◌+◌, ◌<◌, ◌^◌, ◌↔◌, List, ◌++◌, length, Option, IfSome, Bool, true, false, Result, Ok, Err, IfOk, OnOk, IfErr, OnErr}
+use Rattle.std.specs.Io.KnownBytes.{Consumes, IsAtEnd, Keeps}
 use Rattle.std.specs.declared.io.traits.Read.{Ghosts}
 use Rattle.twkb_io.specs.declared.input.Input.{Input}
 use Rattle.twkb_io.specs.declared.input.InFault.TheVariants as fault
 use Rattle.twkb_io.specs.declared.copying.CopyFault.{CopyFault}
 use Rattle.twkb_io.specs.declared.copying.CopyFault.TheVariants as stop
 use Rattle.twkb_io.specs.declared.output.OutFault.{OutFault}
-use Rattle.twkb_io.specs.Inputs.{given, input_tap, rest_of}
+use Rattle.twkb_io.specs.Taps.{count_failure}
+use Rattle.twkb_io.specs.Inputs.{given, has_ended, input_failures, input_tap, is_spent, rest_of}
 use Rattle.twkb_io.specs.Outputs.{is_device}
 
 -- these bytes left the input, which counted them, and the sink took them
@@ -44,3 +45,17 @@ abbrev pub is_write_stop : {A : Type 0} → Result A (CopyFault OutFault) → Bo
 is_write_stop (Ok done) = false
 is_write_stop (Err (stop.Source why)) = false
 is_write_stop (Err (stop.Sink why)) = is_device why
+
+-- one piece: all that is held goes to the sink, or the input is at its end, or the copy stops
+pub record CopiesPiece {R S F : Type 0} {read : Ghosts R} (took : S → List ℕ → S → Type 0) (refused : S → List ℕ → F → S → Type 0)
+    (old : Input R read) (from : S) (result : Result Bool (CopyFault F)) (new : Input R read) (to : S) : Type 0 where
+  pub ok : OnOk result ((bytes : List ℕ) × Copied took old from bytes new to)
+  pub more : IfOk result (λ has_byte. has_byte ≡ true → given old < given new)
+  pub end : IfOk result (λ has_byte. has_byte ≡ false → (has_ended new ≡ true) × IsAtEnd (rest_of new))
+  pub same_tap : (input_tap new).ghost_name ≡ (input_tap old).ghost_name
+  pub keeps : OnErr result (Keeps (rest_of old) (rest_of new))
+  pub err : IfErr result (λ why. StopsPiece refused (rest_of old) from why to)
+  pub failures : input_failures new ≡ count_failure (is_read_stop result) (input_failures old)
+  pub too_long : result ≡ Err (stop.Source fault.TooLong) → given new ≡ 2 ^ 62
+  pub spent : (result ≡ Err (stop.Source fault.Spent)) ↔ (is_spent old ≡ true)
+  pub stays : OnOk result (is_spent new ≡ is_spent old)

@@ -20,7 +20,7 @@ pub enum CopyFault<F> {
 
 ghost use Rattle.twkb_io.specs.Taps.{count_failure};
 ghost use Rattle.twkb_io.specs.Inputs.{given, has_ended, input_failures, input_tap, is_spent, rest_of};
-ghost use Rattle.twkb_io.specs.Copies.{Copied, StopsPiece, StopsCopy, is_read_stop};
+ghost use Rattle.twkb_io.specs.Copies.{Copied, CopiesPiece, StopsCopy, is_read_stop};
 
 /// Copies all that is left of an input to a sink, as many bytes a put as the input holds. After a
 /// refused put the bytes of that put are still in the input. Takes no memory but the sink's.
@@ -49,16 +49,7 @@ fn copy_piece<R: Read, S: Sink>(
     input: &mut Input<'_, R>,
     sink: &mut S,
 ) -> Result<bool, CopyFault<S::Fault>>
-    ensures ok { OnOk result ((bytes : List ℕ) × Copied S.took input.old sink.old bytes input.new sink.new) }
-    ensures more { IfOk result (λ has_byte. has_byte ≡ true → given input.old < given input.new) }
-    ensures end { IfOk result (λ has_byte. has_byte ≡ false → (has_ended input.new ≡ true) × IsAtEnd (rest_of input.new)) }
-    ensures same_tap { (input_tap input.new).ghost_name ≡ (input_tap input.old).ghost_name }
-    ensures keeps { OnErr result (Keeps (rest_of input.old) (rest_of input.new)) }
-    ensures err { IfErr result (λ stop. StopsPiece S.refused (rest_of input.old) sink.old stop sink.new) }
-    ensures failures { input_failures input.new ≡ count_failure (is_read_stop result) (input_failures input.old) }
-    ensures too_long { result ≡ Err (CopyFault.Source InFault.TooLong) → given input.new ≡ 2 ^ 62 }
-    ensures spent { (result ≡ Err (CopyFault.Source InFault.Spent)) ↔ (is_spent input.old ≡ true) }
-    ensures stays { OnOk result (is_spent input.new ≡ is_spent input.old) }
+    ensures { CopiesPiece S.took S.refused input.old sink.old result input.new sink.new }
 {
     if let Err(fault) = input.fill() {
         return Err(CopyFault::Source(fault));

@@ -1,5 +1,5 @@
 //! Points whose numbers stand whole in a text.
-ghost use Rattle.std.specs.Prelude.{◌≡◌, ◌+◌, true, false, Some, IfSome, IfNone};
+ghost use Rattle.std.specs.Prelude.{◌≡◌, ◌+◌, ◌<◌, true, false, Some, IfSome, IfNone, get_or, length};
 ghost use Rattle.twkb_num.specs.Alphabet.{five_group};
 ghost use Rattle.twkb_points.specs.Point.{IsInRange};
 ghost use Rattle.twkb_polyline.specs.Reading.{IsNumberAt, IsPointAt, IsBegun};
@@ -59,6 +59,16 @@ fn whole_number(text: &[u8], start: usize) -> Option<(i64, usize)>
         let only = last_group(unit)?;
         return Some((unzigzag(only), start + 1));
     };
+    later_number(text, start, first)
+}
+
+// The same of a number whose first character goes on, and has this group.
+#[inline(always)]
+fn later_number(text: &[u8], start: usize, first: u64) -> Option<(i64, usize)>
+    requires within { start < length text.now }
+    requires goes_on { five_group (get_or text.now start 0) ≡ Some (first, true) }
+    ensures { IfSome result (λ r. IsNumberAt text.now start r.0 r.1) }
+{
     let unit = *text.get(start + 1)?;
     let Some(second) = open_group(unit) else {
         let last = last_group(unit)?;

@@ -1,1 +1,2 @@
 pub mod PrintLemmas
+pub mod ShortWords

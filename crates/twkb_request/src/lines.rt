@@ -12,8 +12,7 @@ use twkb_table::RowReason;
 
 // What is wrong with a text of points.
 fn point_text_fault(reason: PolyReason) -> &'static [u8]
-    ensures text { result.now ≡ point_text_words reason }
-    ensures short { length result.now ≤ 40 }
+    ensures { result.now ≡ point_text_words reason }
 {
     match reason {
         PolyReason::BadChar => b"bad character",
@@ -28,8 +27,7 @@ fn point_text_fault(reason: PolyReason) -> &'static [u8]
 
 // What is wrong with a record; of a text of points only that it is one.
 fn row_fault(reason: RowReason) -> &'static [u8]
-    ensures text { result.now ≡ row_words reason }
-    ensures short { length result.now ≤ 40 }
+    ensures { result.now ≡ row_words reason }
 {
     match reason {
         RowReason::BadHeader => b"bad header",
@@ -53,8 +51,7 @@ fn row_fault(reason: RowReason) -> &'static [u8]
 
 // What is wrong with an item of a blob.
 fn blob_fault(reason: BlobReason) -> &'static [u8]
-    ensures text { result.now ≡ blob_words reason }
-    ensures short { length result.now ≤ 40 }
+    ensures { result.now ≡ blob_words reason }
 {
     match reason {
         BlobReason::Truncated => b"truncated",
@@ -97,6 +94,7 @@ fn put_text_reason<W: Write>(output: &mut Output<'_, W>, offset: usize, reason: 
 }
 
 // Puts what is wrong with a record.
+#[tactic(auto, using(crate::proofs::ShortWords::short_row))]
 fn put_row_reason<W: Write>(output: &mut Output<'_, W>, reason: RowReason)
     ensures prints { Prints W.contents output.old (reason_text reason) output.new }
     ensures short { length (reason_text reason) ≤ 100 }

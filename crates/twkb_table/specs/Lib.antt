@@ -3,6 +3,7 @@ pub mod Fields
 pub mod FiveFields
 pub mod Head
 pub mod Judged
+pub mod KindWord
 pub mod Named
 pub mod Numbering
 pub mod Parts

@@ -1,6 +1,7 @@
 //! The words of the kinds.
 ghost use Rattle.std.specs.Prelude.{◌≡◌};
 ghost use Rattle.twkb_table.specs.Fields.{Reads};
+ghost use Rattle.twkb_table.specs.KindWord.{likely, likely_of_ten};
 ghost use Rattle.twkb_tree.specs.Kind.{word_of};
 
 use twkb_tree::Kind;
@@ -10,15 +11,57 @@ use twkb_tree::Kind;
 pub fn parse_kind(field: &[u8]) -> Option<Kind>
     ensures reads { Reads (λ kind. field.now ≡ word_of kind) result }
 {
-    match field {
-        b"point" => Some(Kind::Point),
-        b"linestring" => Some(Kind::Linestring),
-        b"polygon" => Some(Kind::Polygon),
-        b"ring" => Some(Kind::Ring),
-        b"multipoint" => Some(Kind::MultiPoint),
-        b"multilinestring" => Some(Kind::MultiLinestring),
-        b"multipolygon" => Some(Kind::MultiPolygon),
-        b"collection" => Some(Kind::Collection),
-        _ => None,
+    if field.is_empty() {
+        return None;
+    }
+    let kind = likely_kind(field.len(), field[0]);
+    if field == kind_word(kind) {
+        Some(kind)
+    } else {
+        None
+    }
+}
+
+// The one kind of which a word of this length with this first letter can be.
+#[inline(always)]
+fn likely_kind(count: usize, first: u8) -> Kind
+    ensures { result ≡ likely count first }
+{
+    match count {
+        4 => Kind::Ring,
+        5 => Kind::Point,
+        7 => Kind::Polygon,
+        12 => Kind::MultiPolygon,
+        15 => Kind::MultiLinestring,
+        _ => likely_of_ten(first),
+    }
+}
+
+// The one kind of which a word of ten letters with this first one can be.
+#[inline(always)]
+fn likely_of_ten(first: u8) -> Kind
+    ensures { result ≡ likely_of_ten first }
+{
+    match first {
+        b'l' => Kind::Linestring,
+        b'm' => Kind::MultiPoint,
+        _ => Kind::Collection,
+    }
+}
+
+// The word of a kind.
+#[inline(always)]
+fn kind_word(kind: Kind) -> &'static [u8]
+    ensures { result.now ≡ word_of kind }
+{
+    match kind {
+        Kind::Point => b"point",
+        Kind::Linestring => b"linestring",
+        Kind::Polygon => b"polygon",
+        Kind::Ring => b"ring",
+        Kind::MultiPoint => b"multipoint",
+        Kind::MultiLinestring => b"multilinestring",
+        Kind::MultiPolygon => b"multipolygon",
+        Kind::Collection => b"collection",
     }
 }

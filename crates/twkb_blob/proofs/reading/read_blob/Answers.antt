@@ -1,11 +1,11 @@
-use Rattle.std.proofs.Common.{◌∙◌, ◌++◌, [], refl, ap, subst, Err, arith}
+use Rattle.std.proofs.Common.{◌∙◌, ◌++◌, [], refl, subst, arith}
 use Rattle.std.specs.Prelude.{Bool}
 use Rattle.twkb_grammar.specs.Fault.{FirstFault, Truncated}
+use Rattle.twkb_io.specs.Inputs.{input_failures}
 use Rattle.twkb_engine.specs.Standing.{IsEnd, allowance_of, offset_in}
 use Rattle.twkb_blob.proofs.Standing.{counted}
-use Rattle.twkb_blob.specs.declared.reading.Halt.TheVariants as halt
-use Rattle.twkb_blob.proofs.Parts.{lacks_memory, ahead_after}
-use Rattle.twkb_blob.proofs.Blobs.{nothing_left, left_join, made_next, end_next, cut_next, stopped_next, halted_next, no_device}
+use Rattle.twkb_blob.proofs.Parts.{lacks_memory, ahead_after, read_ahead}
+use Rattle.twkb_blob.proofs.Blobs.{nothing_left, left_join, made_next, end_next, cut_next, stopped_next, halted_next, no_device, read_failed}
 use Rattle.twkb_blob.proofs.reading.read_blob.Goals as goal
 
 pub loop-engine-init : goal.loop-engine-init
@@ -67,7 +67,8 @@ returns-in-Err-Engine-clause-memory g c = λ is.
     let (bs, left, stands) = c.loop-engine.invariant.read in
     let stop = lacks_memory c.fault_at.result _ c.in-Err-Engine.stop c.fault_at.ensures is in
     ahead_after (allowance_of c.args.engine.now) (allowance_of c.loop-engine.engine) bs c.args.input.now c.loop-engine.input c.loop-engine.invariant.limits left
-    ((rw c.in-Err-Engine.field-0-is at (c.in-Err-Engine.ensures.memory bs stands)) (ap (λ s. Err (halt.Engine s)) stop))
+    (read_ahead (allowance_of c.loop-engine.engine) bs c.loop-engine.input c.read_piece.new.input c.in-Err-Engine.stop c.read_piece.new.flat c.read_piece.new.engine stop
+    (rw c.in-Err-Engine.field-0-is at (c.in-Err-Engine.ensures.read bs stands)))
 
 pub returns-in-Err-Engine-clause-failures : goal.returns-in-Err-Engine-clause-failures
 returns-in-Err-Engine-clause-failures g c = rw (c.fault_at.ensures, no_device Bool) ((rw c.in-Err-Engine.field-0-is at c.in-Err-Engine.ensures.failures) ∙ c.loop-engine.invariant.failures)
@@ -79,3 +80,7 @@ returns-in-Err-Device-clause-next g c =
     halted_next (allowance_of c.args.engine.now) (allowance_of c.loop-engine.engine) c.in-Err-Device.fault bs c.args.input.now c.loop-engine.input c.read_piece.new.input c.read_piece.new.flat c.read_piece.new.engine
     (offset_in c.read_piece.new.engine) c.is_between-learnt.result c.loop-engine.invariant.limits left c.loop-engine.invariant.spent
     (subst (λ l. IsEnd l bs (offset_in c.read_piece.new.engine) c.is_between-learnt.result) c.read_piece.ensures.limits (c.is_between-learnt.ensures bs c.read_piece.new.flat read.1)) read
+
+pub returns-in-Err-Device-clause-failures : goal.returns-in-Err-Device-clause-failures
+returns-in-Err-Device-clause-failures g c =
+    read_failed Bool c.in-Err-Device.fault (input_failures c.read_piece.new.input) (input_failures c.loop-engine.input) (input_failures c.args.input.now) (rw c.in-Err-Device.field-0-is at c.in-Err-Device.ensures.failures) c.loop-engine.invariant.failures

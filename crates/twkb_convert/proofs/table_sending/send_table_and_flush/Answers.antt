@@ -1,5 +1,6 @@
 use Rattle.std.proofs.Common.{rules}
 use Rattle.twkb_convert.proofs.FlushedAfter.{stopped_flushed, stopped_unflushed, table_flushed}
+use Rattle.twkb_convert.proofs.FlushLemmas.{refused_any, unless_refused}
 use Rattle.twkb_convert.proofs.SendingLemmas.{flush_failed}
 use Rattle.twkb_convert.proofs.table_sending.send_table_and_flush.Goals as goal
 
@@ -16,3 +17,9 @@ returns-in-Err-flush-clause-sends g c =
 pub returns-in-Err-flush-2-clause-sends : goal.returns-in-Err-flush-2-clause-sends
 returns-in-Err-flush-2-clause-sends g c =
     flush_failed c.args.style c.args.limits g.W.Write.contents _ _ _ _ _ c.in-Ok.tally c.in-Err-flush-2.fault c.in-Ok.ensures.sends c.in-Err-flush-2.ensures.err (search rules) (search rules)
+
+pub returns-in-Err-clause-stop_flushed : goal.returns-in-Err-clause-stop_flushed
+returns-in-Err-clause-stop_flushed g c = unless_refused c.in-Err.stop.why _ (search rules)
+
+pub returns-then-is_refused-clause-stop_flushed : goal.returns-then-is_refused-clause-stop_flushed
+returns-then-is_refused-clause-stop_flushed g c = refused_any c.in-Err.stop.why _ (search rules)

@@ -5,7 +5,7 @@ use Rattle.twkb_tree.specs.declared.kind.Kind.{Kind}
 use Rattle.twkb_tree.specs.Size.{member_smaller}
 use Rattle.twkb_table.specs.Printing.{row_lines}
 use Rattle.twkb_tree.proofs.RowMembers.{member_rows_each, nest_member, under_shape}
-use Rattle.twkb_table.proofs.LineLemmas.{has_lines_none, has_lines_more, has_lines_all, rows_told}
+use Rattle.twkb_table.proofs.LineLemmas.{grows_by, grows_on, has_lines_none, has_lines_more, has_lines_all, rows_told}
 use Rattle.twkb_table.proofs.printing.+lines.Goals as goal
 
 pub put_members-loop-member-init : goal.put_members-loop-member-init
@@ -49,3 +49,24 @@ put_geometry-returns-in-MultiPolygon-clause-appended t c =
 
 pub put_geometry-returns-in-Collection-clause-appended : goal.put_geometry-returns-in-Collection-clause-appended
 put_geometry-returns-in-Collection-clause-appended t c = rows_told _ _ _ _ _ _ _ _ _ c.own_row.ensures (under_shape _ _ _ _ _ c.shape.ensures c.in-Collection.is) c.in_ok-put_row.ensures.appended c.put_members.ensures.appended
+
+pub put_geometry-returns-in-Polygon-clause-grown : goal.put_geometry-returns-in-Polygon-clause-grown
+put_geometry-returns-in-Polygon-clause-grown t c = grows_on _ _ _ (grows_by _ _ _ c.in_ok-put_row.ensures.appended) c.put_rings.ensures.grown
+
+pub put_geometry-returns-in-MultiPoint-clause-grown : goal.put_geometry-returns-in-MultiPoint-clause-grown
+put_geometry-returns-in-MultiPoint-clause-grown t c = grows_on _ _ _ (grows_by _ _ _ c.in_ok-put_row.ensures.appended) c.put_points.ensures.grown
+
+pub put_geometry-returns-in-MultiLine-clause-grown : goal.put_geometry-returns-in-MultiLine-clause-grown
+put_geometry-returns-in-MultiLine-clause-grown t c = grows_on _ _ _ (grows_by _ _ _ c.in_ok-put_row.ensures.appended) c.put_lines.ensures.grown
+
+pub put_geometry-returns-in-MultiPolygon-clause-grown : goal.put_geometry-returns-in-MultiPolygon-clause-grown
+put_geometry-returns-in-MultiPolygon-clause-grown t c = grows_on _ _ _ (grows_by _ _ _ c.in_ok-put_row.ensures.appended) c.put_areas.ensures.grown
+
+pub put_geometry-returns-in-Collection-clause-grown : goal.put_geometry-returns-in-Collection-clause-grown
+put_geometry-returns-in-Collection-clause-grown t c = grows_on _ _ _ (grows_by _ _ _ c.in_ok-put_row.ensures.appended) c.put_members.ensures.grown
+
+pub put_members-returns-clause-grown : goal.put_members-returns-clause-grown
+put_members-returns-clause-grown t c = c.loop-member.invariant.grown
+
+pub put_members-returns-in_err-put_geometry-clause-grown : goal.put_members-returns-in_err-put_geometry-clause-grown
+put_members-returns-in_err-put_geometry-clause-grown t c = grows_on _ _ _ c.loop-member.invariant.grown c.in_err-put_geometry.ensures.grown

@@ -1,3 +1,4 @@
+use Rattle.std.proofs.Common.{rules}
 use Rattle.twkb_blob.specs.Sessions.{begun_rows}
 use Rattle.twkb_blob.proofs.Counts.{frames_told}
 use Rattle.twkb_blob.proofs.Noted.{NoteLaws}
@@ -11,3 +12,6 @@ returns-clause-open c = λ bytes gs s.
 
 pub returns-clause-few : goal.returns-clause-few
 returns-clause-few c = λ bytes gs s. c.open_geometries.ensures.few s.rest (begun_rows c.args.self.now) s.begun
+
+pub returns-clause-state : goal.returns-clause-state
+returns-clause-state c = search rules
