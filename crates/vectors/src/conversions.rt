@@ -1,5 +1,5 @@
 //! What the conversions make of blobs and tables, as lines of text.
-use super::text::{put, put_hex, put_lines, put_shown};
+use super::text::{put, put_counts, put_hex, put_lines, put_stop};
 use std::alloc::Global;
 use twkb_convert::{ConvertFault, Report, Style, pack_styled, show, unpack};
 use twkb_geom::Limits;
@@ -42,19 +42,7 @@ fn put_answer(alloc: Global, answer: Result<Report, ConvertFault>, text: &mut Ve
         Ok(report) => (report.geometries, report.bytes),
         Err(fault) => (fault.done, fault.sent),
     };
-    put(text, b" ");
-    put_shown(alloc, text, &geometries);
-    put(text, b" ");
-    put_shown(alloc, text, &bytes);
-}
-
-// Prints the cause, and ends the line.
-fn put_cause(alloc: Global, answer: Result<Report, ConvertFault>, text: &mut Vec<u8>) {
-    if let Err(fault) = answer {
-        put(text, b"; ");
-        put_shown(alloc, text, &fault);
-    }
-    put(text, b"\n");
+    put_counts(alloc, text, &[geometries, bytes]);
 }
 
 /// Prints a word, the numbers of a conversion, the lines that it wrote, and why it stopped.
@@ -62,7 +50,7 @@ pub fn put_text_of(alloc: Global, word: &[u8], converted: Converted, text: &mut 
     put(text, word);
     put_answer(alloc, converted.answer, text);
     put_lines(text, &converted.written);
-    put_cause(alloc, converted.answer, text);
+    put_stop(alloc, text, converted.answer.err());
 }
 
 /// The same of blobs.
@@ -70,7 +58,7 @@ pub fn put_blobs_of(alloc: Global, word: &[u8], converted: Converted, text: &mut
     put(text, word);
     put_answer(alloc, converted.answer, text);
     put_hex(alloc, text, &converted.written);
-    put_cause(alloc, converted.answer, text);
+    put_stop(alloc, text, converted.answer.err());
 }
 
 /// Prints what each conversion makes of a blob: its headers, its table's blobs in both styles, and the table.

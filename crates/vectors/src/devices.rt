@@ -1,5 +1,5 @@
 //! Inputs, outputs and copies over devices that are cut or fail.
-use super::text::{bytes_of, cut_word, put, put_hex, put_shown};
+use super::text::{bytes_of, count_of, cut_word, put, put_counts, put_hex, put_shown};
 use std::alloc::Global;
 use std::io::{Read, Write};
 use twkb_io::{Bytes, CopyFault, Fuse, FuseEnd, InFault, Input, OutFault, Output, Sink, Tap, copy};
@@ -37,21 +37,12 @@ fn cut<D>(device: D, passing: Passing) -> Tap<Fuse<D>> {
     Tap::new(Fuse::new(device, passing.left, step, passing.end, passing.flush_fails))
 }
 
-// Prints a number behind a space.
-fn put_number(alloc: Global, number: u64, text: &mut Vec<u8>) {
-    put(text, b" ");
-    put_shown(alloc, text, &number);
-}
-
 // Prints a byte, the end, or a fault.
 fn put_next(alloc: Global, answer: Result<Option<u8>, InFault>, text: &mut Vec<u8>) {
     match answer {
-        Ok(Some(byte)) => put_number(alloc, u64::from(byte), text),
+        Ok(Some(byte)) => put_shown(alloc, text, b" ", &byte),
         Ok(None) => put(text, b" end"),
-        Err(fault) => {
-            put(text, b", ");
-            put_shown(alloc, text, &fault);
-        }
+        Err(fault) => put_shown(alloc, text, b", ", &fault),
     }
 }
 
@@ -61,12 +52,9 @@ fn put_piece<R: Read>(alloc: Global, input: &mut Input<'_, R>, text: &mut Vec<u8
         Ok(()) => {
             let count = input.held().len();
             input.advance(count);
-            put_number(alloc, count as u64, text);
+            put_shown(alloc, text, b" ", &count);
         }
-        Err(fault) => {
-            put(text, b", ");
-            put_shown(alloc, text, &fault);
-        }
+        Err(fault) => put_shown(alloc, text, b", ", &fault),
     }
 }
 
@@ -81,8 +69,7 @@ fn put_calls<R: Read>(alloc: Global, tap: &mut Tap<R>, calls: &str, text: &mut V
         }
     }
     put(text, b";");
-    put_number(alloc, input.offset(), text);
-    put_number(alloc, input.failures(), text);
+    put_counts(alloc, text, &[input.offset(), input.failures()]);
 }
 
 /// Prints what an input over a device of nine bytes answers; the bytes given, the failures, and the calls of the device.
@@ -91,7 +78,7 @@ pub fn put_input(alloc: Global, rest: &str, text: &mut Vec<u8>) {
     let mut tap = cut([1, 2, 3, 4, 5, 6, 7, 8, 9].as_slice(), passing);
     put(text, b"  input");
     put_calls(alloc, &mut tap, calls, text);
-    put_number(alloc, tap.calls(), text);
+    put_shown(alloc, text, b" ", &tap.calls());
     put(text, b"\n");
 }
 
@@ -99,10 +86,20 @@ pub fn put_input(alloc: Global, rest: &str, text: &mut Vec<u8>) {
 fn put_done(alloc: Global, answer: Result<(), OutFault>, text: &mut Vec<u8>) {
     match answer {
         Ok(()) => put(text, b" done"),
-        Err(fault) => {
-            put(text, b", ");
-            put_shown(alloc, text, &fault);
-        }
+        Err(fault) => put_shown(alloc, text, b", ", &fault),
+    }
+}
+
+// What a put of these digits answers, or a flush.
+fn put_or_flush<W: Write>(
+    alloc: Global,
+    output: &mut Output<'_, W>,
+    word: &str,
+) -> Result<(), OutFault> {
+    if word == "flush" {
+        output.flush()
+    } else {
+        output.put(&bytes_of(alloc, word))
     }
 }
 
@@ -110,16 +107,10 @@ fn put_done(alloc: Global, answer: Result<(), OutFault>, text: &mut Vec<u8>) {
 fn put_puts<W: Write>(alloc: Global, tap: &mut Tap<W>, puts: &str, text: &mut Vec<u8>) {
     let mut output = Output::new(tap);
     for word in puts.split(' ') {
-        let answer = if word == "flush" {
-            output.flush()
-        } else {
-            output.put(&bytes_of(alloc, word))
-        };
-        put_done(alloc, answer, text);
+        put_done(alloc, put_or_flush(alloc, &mut output, word), text);
     }
     put(text, b";");
-    put_number(alloc, output.sent(), text);
-    put_number(alloc, output.failures(), text);
+    put_counts(alloc, text, &[output.sent(), output.failures()]);
 }
 
 /// Prints what an output over a device answers; the bytes sent, the failures, the calls of the device, and what it took.
@@ -128,7 +119,7 @@ pub fn put_output(alloc: Global, rest: &str, text: &mut Vec<u8>) {
     let mut tap = cut(Vec::new(alloc), passing);
     put(text, b"  output");
     put_puts(alloc, &mut tap, puts, text);
-    put_number(alloc, tap.calls(), text);
+    put_shown(alloc, text, b" ", &tap.calls());
     put_hex(alloc, text, &tap.into_inner().into_inner());
     put(text, b"\n");
 }
@@ -150,33 +141,28 @@ fn put_answer<R: Read>(alloc: Global, tap: &mut Tap<R>, bytes: &mut Bytes, text:
     let mut input = Input::new(tap);
     match copy(&mut input, bytes) {
         Ok(()) => put(text, b" done"),
-        Err(CopyFault::Source(fault)) => {
-            put(text, b", ");
-            put_shown(alloc, text, &fault);
-        }
+        Err(CopyFault::Source(fault)) => put_shown(alloc, text, b", ", &fault),
         Err(CopyFault::Sink(_)) => put(text, b", the sink refused a put"),
     }
+}
+
+// Prints how many bytes came, the failures, and whether they are others.
+fn put_copied(alloc: Global, given: &[u8], copied: &[u8], failures: u64, text: &mut Vec<u8>) {
+    put(text, b";");
+    put_counts(alloc, text, &[copied.len() as u64, failures]);
+    if !given.starts_with(copied) {
+        put(text, b" others");
+    }
+    put(text, b"\n");
 }
 
 /// Prints how a copy of so many bytes ends; how many came, the failures, and whether they are others.
 pub fn put_copy(alloc: Global, rest: &str, text: &mut Vec<u8>) {
     let (passing, count) = passing_of(rest);
-    let given = bytes_to(alloc, count.parse::<u32>().unwrap_or(0));
+    let given = bytes_to(alloc, count_of(count));
     let mut bytes = Bytes::new(alloc);
     let mut tap = cut(given.as_slice(), passing);
     put(text, b"  copy");
     put_answer(alloc, &mut tap, &mut bytes, text);
-    put(text, b";");
-    let copied = bytes.into_vec();
-    put_number(alloc, copied.len() as u64, text);
-    put_number(alloc, tap.failures(), text);
-    put(
-        text,
-        if given.starts_with(&copied) {
-            b""
-        } else {
-            b" others"
-        },
-    );
-    put(text, b"\n");
+    put_copied(alloc, &given, &bytes.into_vec(), tap.failures(), text);
 }

@@ -15,7 +15,7 @@ fn put_spelled<D: Display + Drop>(
 ) {
     put(text, word);
     match spelled {
-        Some(spelled) => put_shown(alloc, text, &spelled),
+        Some(spelled) => put_shown(alloc, text, b"", &spelled),
         None => put(text, b"none"),
     }
 }

@@ -1,21 +1,14 @@
 //! The flat forms of tables: their nodes and points, and which rows they admit next.
-use super::text::{put, put_shown};
+use super::polylines::put_pair;
+use super::text::{lines_of, put, put_counts, put_named, put_shown, table_of};
 use std::alloc::Global;
 use twkb_geom::{Flat, Limits, Node, NodeId, PointId, Row, Work};
 use twkb_io::Tap;
 use twkb_polyline::decode;
-use twkb_table::{TableReader, header_text, parse_depth, parse_kind, parse_optional_id};
+use twkb_table::{TableReader, parse_depth, parse_kind, parse_optional_id};
 
-/// The table of these rows.
-pub fn table_of(alloc: Global, rows: &[u8]) -> Vec<u8> {
-    let mut table = Vec::new(alloc);
-    put(&mut table, header_text());
-    put(&mut table, rows);
-    table
-}
-
-// The form of the first geometry of these rows, under the largest limits; without rows where there is none.
-fn form_of(alloc: Global, rows: &[u8]) -> Flat {
+/// The form of the first geometry of these rows, under the largest limits; without rows where there is none.
+pub fn form_of(alloc: Global, rows: &[u8]) -> Flat {
     let mut flat = Flat::new(alloc);
     let table = table_of(alloc, rows);
     let mut tap = Tap::new(table.as_slice());
@@ -26,19 +19,14 @@ fn form_of(alloc: Global, rows: &[u8]) -> Flat {
 
 // Prints a node: depth, kind, id and precision of its row, the node after its subtree, its first point, and how many points it has.
 fn put_node(alloc: Global, node: Node, text: &mut Vec<u8>) {
-    let Row {
-        depth,
-        kind,
-        id,
-        precision,
-    } = node.row;
-    let word = kind.name();
-    let (next, first, points) = (node.next.0, node.first.0, node.points);
-    if let Ok(line) = format!(in alloc;
-        "  {depth} {word} {id:?} {precision:?} {next} {first} {points}\n"
-    ) {
-        put(text, line.as_bytes());
-    }
+    put_shown(alloc, text, b"  ", &node.row.depth);
+    put(text, b" ");
+    put(text, node.row.kind.name().as_bytes());
+    put_named(alloc, text, &node.row.id);
+    put_named(alloc, text, &node.row.precision);
+    let counts = [node.next.0 as u64, node.first.0 as u64, node.points as u64];
+    put_counts(alloc, text, &counts);
+    put(text, b"\n");
 }
 
 // Prints the nodes, and counts them as read.
@@ -52,10 +40,7 @@ fn put_nodes(alloc: Global, flat: &Flat, work: &mut Work, text: &mut Vec<u8>) {
 fn put_points(alloc: Global, flat: &Flat, work: &mut Work, text: &mut Vec<u8>) {
     for id in 0..flat.point_count() {
         let point = flat.point(PointId(id), work);
-        put(text, b" ");
-        put_shown(alloc, text, &point.x());
-        put(text, b",");
-        put_shown(alloc, text, &point.y());
+        put_pair(alloc, point.x(), point.y(), text);
     }
 }
 
@@ -66,10 +51,8 @@ pub fn put_form(alloc: Global, rows: &[u8], text: &mut Vec<u8>) {
     put_nodes(alloc, &flat, &mut work, text);
     put(text, b"  points");
     put_points(alloc, &flat, &mut work, text);
-    put(text, b"; ");
-    put_shown(alloc, text, &work.node_reads);
-    put(text, b" ");
-    put_shown(alloc, text, &work.point_reads);
+    put(text, b";");
+    put_counts(alloc, text, &[work.node_reads, work.point_reads]);
     put(text, b"\n");
 }
 
@@ -104,10 +87,10 @@ fn is_admitted(alloc: Global, flat: &Flat, text: &str) -> bool {
     }
 }
 
-/// Prints whether a row is admitted behind these rows.
-pub fn put_admitted(alloc: Global, row: &str, rows: &[u8], text: &mut Vec<u8>) {
-    let flat = form_of(alloc, rows);
-    put(text, b"  admits ");
-    put_shown(alloc, text, &is_admitted(alloc, &flat, row));
+/// Prints whether a row is admitted behind the rows that stand behind it and a `<`.
+pub fn put_admitted(alloc: Global, rest: &str, text: &mut Vec<u8>) {
+    let (row, rows) = rest.split_once(" <").unwrap_or((rest, ""));
+    let flat = form_of(alloc, &lines_of(alloc, rows.trim_start()));
+    put_shown(alloc, text, b"  admits ", &is_admitted(alloc, &flat, row));
     put(text, b"\n");
 }

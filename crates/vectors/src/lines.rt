@@ -5,27 +5,105 @@ use super::fields::put_field;
 use super::forms::{put_admitted, put_form};
 use super::numbers::{put_number, put_units, put_zigzag};
 use super::points::put_list;
-use super::polylines::put_polyline;
+use super::polylines::{put_polyline, put_polyline_of_bytes};
 use super::runs::{put_request, put_run};
 use super::spans::put_located;
 use super::streams::put_read;
-use super::tables::put_table;
-use super::text::{bytes_of, cut_word, lines_of, put};
+use super::tables::{put_rows_table, put_table};
+use super::text::{bytes_of, count_of, cut_word, lines_of};
 use super::trees::put_tree;
 use std::alloc::Global;
 use twkb_convert::Style;
 use twkb_geom::Limits;
 use twkb_num::{Five, Leb128};
-use twkb_table::header_text;
 
-// A number of a line; 0 where it is none.
-fn number_of(word: &str) -> u64 {
-    word.parse::<u64>().unwrap_or(0)
+/// What a word says of the line behind it.
+#[derive(Clone, Copy)]
+enum Word {
+    /// The limits of the lines that follow.
+    Limits,
+    /// A slash for the end of each line of a table.
+    Lines(Table),
+    /// Digits of bytes.
+    Digits(Bytes),
+    /// Words.
+    Text(Text),
+    /// Nothing: the line is printed alone.
+    Comment,
 }
 
-// The same of 32 bits.
-fn count_of(word: &str) -> u32 {
-    word.parse::<u32>().unwrap_or(0)
+#[derive(Clone, Copy)]
+enum Table {
+    Geometry,
+    Form,
+    Full,
+    Plain,
+    Whole,
+}
+
+#[derive(Clone, Copy)]
+enum Bytes {
+    Blob,
+    Read,
+    Show,
+    Unpack,
+    Units,
+    Characters,
+    Field,
+}
+
+#[derive(Clone, Copy)]
+enum Text {
+    Number,
+    Zigzag,
+    Points,
+    Polyline,
+    PolylineOfBytes,
+    Field,
+    Admits,
+    Input,
+    Output,
+    Copy,
+    Run,
+    Words,
+}
+
+const WORDS: [(&str, Word); 25] = [
+    ("limits", Word::Limits),
+    ("geometry", Word::Lines(Table::Geometry)),
+    ("form", Word::Lines(Table::Form)),
+    ("full", Word::Lines(Table::Full)),
+    ("plain", Word::Lines(Table::Plain)),
+    ("table", Word::Lines(Table::Whole)),
+    ("blob", Word::Digits(Bytes::Blob)),
+    ("read", Word::Digits(Bytes::Read)),
+    ("show", Word::Digits(Bytes::Show)),
+    ("unpack", Word::Digits(Bytes::Unpack)),
+    ("bytes", Word::Digits(Bytes::Units)),
+    ("characters", Word::Digits(Bytes::Characters)),
+    ("field_of_bytes", Word::Digits(Bytes::Field)),
+    ("number", Word::Text(Text::Number)),
+    ("zigzag", Word::Text(Text::Zigzag)),
+    ("points", Word::Text(Text::Points)),
+    ("polyline", Word::Text(Text::Polyline)),
+    ("polyline_of_bytes", Word::Text(Text::PolylineOfBytes)),
+    ("field", Word::Text(Text::Field)),
+    ("admits", Word::Text(Text::Admits)),
+    ("input", Word::Text(Text::Input)),
+    ("output", Word::Text(Text::Output)),
+    ("copy", Word::Text(Text::Copy)),
+    ("run", Word::Text(Text::Run)),
+    ("words", Word::Text(Text::Words)),
+];
+
+// What a word says.
+fn meaning_of(word: &str) -> Word {
+    for (name, meaning) in &WORDS {
+        if *name == word {
+            return *meaning;
+        }
+    }
+    Word::Comment
 }
 
 // The limits of three numbers: nesting, nodes and points; those of the standard where there are none such.
@@ -36,102 +114,60 @@ fn limits_of(numbers: &str) -> Limits {
     limits.unwrap_or(Limits::standard())
 }
 
-// Answers of streams.
-fn answer_stream(alloc: Global, limits: Limits, word: &str, blobs: &[u8], text: &mut Vec<u8>) {
-    match word {
-        "blob" => put_all(alloc, limits, blobs, text),
-        "read" => put_read(alloc, limits, blobs, text),
-        "show" => {
-            put_text_of(alloc, b"  show", shown(alloc, limits, blobs), text);
-            put_located(alloc, limits, blobs, text);
-        }
-        _ => put_text_of(alloc, b"  unpack", unpacked(alloc, limits, blobs), text),
+// Answers of tables, whose header is left out but for a whole one.
+fn answer_table(alloc: Global, limits: Limits, what: Table, lines: &[u8], text: &mut Vec<u8>) {
+    match what {
+        Table::Geometry => put_tree(alloc, limits, lines, text),
+        Table::Form => put_form(alloc, lines, text),
+        Table::Full => put_rows_table(alloc, Style::Full, limits, lines, text),
+        Table::Plain => put_rows_table(alloc, Style::Plain, limits, lines, text),
+        Table::Whole => put_table(alloc, Style::Full, limits, lines, text),
     }
 }
 
-// Answers of tables, whose header is left out but for the word `table`.
-fn answer_table(alloc: Global, limits: Limits, word: &str, lines: &[u8], text: &mut Vec<u8>) {
-    let mut table = Vec::new(alloc);
-    if word != "table" {
-        put(&mut table, header_text());
-    }
-    put(&mut table, lines);
-    let style = if word == "plain" {
-        Style::Plain
-    } else {
-        Style::Full
-    };
-    put_table(alloc, style, limits, &table, text);
-}
-
-// Answers of a run: behind its words and a `<` stand digits, or rows or a whole text.
-fn answer_run(alloc: Global, rest: &str, text: &mut Vec<u8>) {
-    let (line, given) = rest.split_once(" < ").unwrap_or((rest, ""));
-    let (word, rest) = cut_word(given);
-    let mut input = Vec::new(alloc);
-    match word {
-        "rows" => {
-            put(&mut input, header_text());
-            put(&mut input, &lines_of(alloc, rest));
+// Answers of bytes.
+fn answer_bytes(alloc: Global, limits: Limits, what: Bytes, bytes: &[u8], text: &mut Vec<u8>) {
+    match what {
+        Bytes::Blob => put_all(alloc, limits, bytes, text),
+        Bytes::Read => put_read(alloc, limits, bytes, text),
+        Bytes::Show => {
+            put_text_of(alloc, b"  show", shown(alloc, limits, bytes), text);
+            put_located(alloc, limits, bytes, text);
         }
-        "text" => put(&mut input, &lines_of(alloc, rest)),
-        _ => put(&mut input, &bytes_of(alloc, rest)),
-    }
-    put_run(alloc, line, &input, text);
-}
-
-// Answers of fields, rows, devices and words.
-fn answer_part(alloc: Global, word: &str, rest: &str, text: &mut Vec<u8>) {
-    match word {
-        "field" => put_field(alloc, rest.as_bytes(), text),
-        "field_of_bytes" => put_field(alloc, &bytes_of(alloc, rest), text),
-        "form" => put_form(alloc, &lines_of(alloc, rest), text),
-        "admits" => {
-            let (row, rows) = rest.split_once(" <").unwrap_or((rest, ""));
-            put_admitted(alloc, row, &lines_of(alloc, rows.trim_start()), text);
-        }
-        "input" => put_input(alloc, rest, text),
-        "output" => put_output(alloc, rest, text),
-        "copy" => put_copy(alloc, rest, text),
-        "words" => put_request(alloc, rest, text),
-        _ => {}
+        Bytes::Unpack => put_text_of(alloc, b"  unpack", unpacked(alloc, limits, bytes), text),
+        Bytes::Units => put_units::<Leb128>(alloc, bytes, text),
+        Bytes::Characters => put_units::<Five>(alloc, bytes, text),
+        Bytes::Field => put_field(alloc, bytes, text),
     }
 }
 
-// Answers of numbers, points and polylines.
-fn answer_number(alloc: Global, word: &str, rest: &str, text: &mut Vec<u8>) {
-    match word {
-        "number" => put_number(alloc, number_of(rest), text),
-        "zigzag" => put_zigzag(alloc, rest.parse::<i64>().unwrap_or(0), text),
-        "bytes" => put_units::<Leb128>(alloc, &bytes_of(alloc, rest), text),
-        "characters" => put_units::<Five>(alloc, &bytes_of(alloc, rest), text),
-        "points" => put_list(alloc, rest, text),
-        "polyline" => {
-            let (most, polyline) = cut_word(rest);
-            put_polyline(alloc, count_of(most), polyline.as_bytes(), text);
-        }
-        "polyline_of_bytes" => {
-            let (most, digits) = cut_word(rest);
-            put_polyline(alloc, count_of(most), &bytes_of(alloc, digits), text);
-        }
-        _ => answer_part(alloc, word, rest, text),
+// Answers of words.
+fn answer_text(alloc: Global, what: Text, rest: &str, text: &mut Vec<u8>) {
+    match what {
+        Text::Number => put_number(alloc, rest, text),
+        Text::Zigzag => put_zigzag(alloc, rest, text),
+        Text::Points => put_list(alloc, rest, text),
+        Text::Polyline => put_polyline(alloc, rest, text),
+        Text::PolylineOfBytes => put_polyline_of_bytes(alloc, rest, text),
+        Text::Field => put_field(alloc, rest.as_bytes(), text),
+        Text::Admits => put_admitted(alloc, rest, text),
+        Text::Input => put_input(alloc, rest, text),
+        Text::Output => put_output(alloc, rest, text),
+        Text::Copy => put_copy(alloc, rest, text),
+        Text::Run => put_run(alloc, rest, text),
+        Text::Words => put_request(alloc, rest, text),
     }
 }
 
 /// Prints what is made of a line under these limits, and gives the limits of the lines behind it.
 pub fn answer(alloc: Global, limits: Limits, line: &str, text: &mut Vec<u8>) -> Limits {
     let (word, rest) = cut_word(line);
-    match word {
-        "limits" => return limits_of(rest),
-        "geometry" => put_tree(alloc, limits, &lines_of(alloc, rest), text),
-        "blob" | "read" | "show" | "unpack" => {
-            answer_stream(alloc, limits, word, &bytes_of(alloc, rest), text)
-        }
-        "full" | "plain" | "table" => {
-            answer_table(alloc, limits, word, &lines_of(alloc, rest), text)
-        }
-        "run" => answer_run(alloc, rest, text),
-        _ => answer_number(alloc, word, rest, text),
+    match meaning_of(word) {
+        Word::Limits => return limits_of(rest),
+        Word::Lines(what) => answer_table(alloc, limits, what, &lines_of(alloc, rest), text),
+        Word::Digits(what) => answer_bytes(alloc, limits, what, &bytes_of(alloc, rest), text),
+        Word::Text(what) => answer_text(alloc, what, rest, text),
+        Word::Comment => {}
     }
     limits
 }

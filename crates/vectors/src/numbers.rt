@@ -10,8 +10,12 @@ fn put_step(alloc: Global, step: Step, text: &mut Vec<u8>) {
         Step::BadUnit => put(text, b" bad unit"),
         Step::TooLong => put(text, b" too long"),
         Step::Done { value, shortest } => {
-            put(text, if shortest { b" " } else { b" padded " });
-            put_shown(alloc, text, &value);
+            let word = if shortest {
+                b" ".as_slice()
+            } else {
+                b" padded ".as_slice()
+            };
+            put_shown(alloc, text, word, &value);
         }
     }
 }
@@ -23,15 +27,14 @@ pub fn put_units<G: Groups>(alloc: Global, units: &[u8], text: &mut Vec<u8>) {
     for unit in units {
         put_step(alloc, partial.step(*unit), text);
     }
-    put(text, b"; ");
-    put_shown(alloc, text, &partial.len());
+    put_shown(alloc, text, b"; ", &partial.len());
     put(text, b"\n");
 }
 
 /// Prints a number's varint, its length, and its characters in a polyline.
-pub fn put_number(alloc: Global, number: u64, text: &mut Vec<u8>) {
-    put(text, b"  varint ");
-    put_shown(alloc, text, &varint_len(number));
+pub fn put_number(alloc: Global, word: &str, text: &mut Vec<u8>) {
+    let number = word.parse::<u64>().unwrap_or(0);
+    put_shown(alloc, text, b"  varint ", &varint_len(number));
     put_hex(alloc, text, NumBuf::put::<Leb128>(number).as_slice());
     put(text, b"\n  characters ");
     put(text, NumBuf::put::<Five>(number).as_slice());
@@ -39,11 +42,9 @@ pub fn put_number(alloc: Global, number: u64, text: &mut Vec<u8>) {
 }
 
 /// Prints the zigzag form of a number, and the number of that form.
-pub fn put_zigzag(alloc: Global, number: i64, text: &mut Vec<u8>) {
-    let form = zigzag(number);
-    put(text, b"  zigzag ");
-    put_shown(alloc, text, &form);
-    put(text, b" ");
-    put_shown(alloc, text, &unzigzag(form));
+pub fn put_zigzag(alloc: Global, word: &str, text: &mut Vec<u8>) {
+    let form = zigzag(word.parse::<i64>().unwrap_or(0));
+    put_shown(alloc, text, b"  zigzag ", &form);
+    put_shown(alloc, text, b" ", &unzigzag(form));
     put(text, b"\n");
 }

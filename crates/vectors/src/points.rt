@@ -1,5 +1,5 @@
 //! Points, their differences and their boxes.
-use super::polylines::put_points;
+use super::polylines::{put_pair, put_points};
 use super::text::{put, put_shown};
 use std::alloc::Global;
 use twkb_points::{Bounds, Cursor, Pt};
@@ -26,19 +26,15 @@ fn put_differences(alloc: Global, points: &[Pt], text: &mut Vec<u8>) {
     let mut cursor = Cursor::origin();
     for point in points {
         let (dx, dy) = cursor.delta(*point);
-        put(text, b" ");
-        put_shown(alloc, text, &dx);
-        put(text, b",");
-        put_shown(alloc, text, &dy);
+        put_pair(alloc, dx, dy, text);
     }
 }
 
-// Prints the numbers of the box of points, if there is one.
-fn put_box(alloc: Global, points: &[Pt], text: &mut Vec<u8>) {
-    if let Some(bounds) = Bounds::around(points) {
+/// Prints the numbers of a box, if there is one.
+pub fn put_box(alloc: Global, bounds: Option<Bounds>, text: &mut Vec<u8>) {
+    if let Some(bounds) = bounds {
         for number in bounds.items() {
-            put(text, b" ");
-            put_shown(alloc, text, &number);
+            put_shown(alloc, text, b" ", &number);
         }
     }
 }
@@ -51,6 +47,6 @@ pub fn put_list(alloc: Global, words: &str, text: &mut Vec<u8>) {
     put(text, b"; differences");
     put_differences(alloc, &points, text);
     put(text, b"; box");
-    put_box(alloc, &points, text);
+    put_box(alloc, Bounds::around(&points), text);
     put(text, b"\n");
 }

@@ -1,5 +1,8 @@
 //! Whole runs of the command.
-use super::text::{put, put_hex, put_lines, put_shown};
+use super::text::{
+    bytes_of, cut_word, lines_of, put, put_counts, put_hex, put_lines, put_named, put_shown,
+    table_of,
+};
 use std::alloc::Global;
 use twkb_command::{read_words, run};
 use twkb_io::Tap;
@@ -26,8 +29,9 @@ fn are_lines(bytes: &[u8]) -> bool {
     true
 }
 
-// Prints lines as such, and other bytes as digits.
-fn put_output(alloc: Global, output: &[u8], text: &mut Vec<u8>) {
+// Prints a word, and behind it lines as such, and other bytes as digits.
+fn put_output(alloc: Global, word: &[u8], output: &[u8], text: &mut Vec<u8>) {
+    put(text, word);
     if are_lines(output) {
         put_lines(text, output);
     } else {
@@ -35,8 +39,24 @@ fn put_output(alloc: Global, output: &[u8], text: &mut Vec<u8>) {
     }
 }
 
-/// Prints the status of a run with the words of a line over an input, and what it wrote to both writers.
-pub fn put_run(alloc: Global, line: &str, input: &[u8], text: &mut Vec<u8>) {
+// The input that digits give, or rows, or a whole text.
+fn input_of(alloc: Global, given: &str) -> Vec<u8> {
+    let (word, rest) = cut_word(given);
+    match word {
+        "rows" => table_of(alloc, &lines_of(alloc, rest)),
+        "text" => lines_of(alloc, rest),
+        _ => bytes_of(alloc, rest),
+    }
+}
+
+/// Prints what comes of a run with the words of a line, over the input that stands behind them and a `<`.
+pub fn put_run(alloc: Global, rest: &str, text: &mut Vec<u8>) {
+    let (line, given) = rest.split_once(" < ").unwrap_or((rest, ""));
+    put_run_over(alloc, line, &input_of(alloc, given), text);
+}
+
+// Prints the status of a run, and what it wrote to both writers.
+fn put_run_over(alloc: Global, line: &str, input: &[u8], text: &mut Vec<u8>) {
     let mut writer = Tap::new(Vec::new(alloc));
     let mut errors = Tap::new(Vec::new(alloc));
     let words = words_of(alloc, line);
@@ -47,23 +67,23 @@ pub fn put_run(alloc: Global, line: &str, input: &[u8], text: &mut Vec<u8>) {
         &mut writer,
         &mut errors,
     );
-    put(text, b"  status ");
-    put_shown(alloc, text, &status);
-    put(text, b"\n  output");
-    put_output(alloc, &writer.into_inner(), text);
-    put(text, b"\n  errors");
-    put_output(alloc, &errors.into_inner(), text);
+    put_shown(alloc, text, b"  status ", &status);
+    put_output(alloc, b"\n  output", &writer.into_inner(), text);
+    put_output(alloc, b"\n  errors", &errors.into_inner(), text);
     put(text, b"\n");
 }
 
 // Prints a conversion, its limits and its style.
 fn put_parts(alloc: Global, request: Request, text: &mut Vec<u8>) {
     let limits = request.limits;
-    let (nest, nodes, points) = (limits.nest(), limits.nodes(), limits.points());
-    let (conversion, style) = (request.conversion, request.style);
-    if let Ok(parts) = format!(in alloc; " {conversion:?} {nest} {nodes} {points} {style:?}") {
-        put(text, parts.as_bytes());
-    }
+    let counts = [
+        limits.nest() as u64,
+        limits.nodes() as u64,
+        limits.points() as u64,
+    ];
+    put_named(alloc, text, &request.conversion);
+    put_counts(alloc, text, &counts);
+    put_named(alloc, text, &request.style);
 }
 
 /// Prints what the words of a line ask for: a conversion, three limits and a style.

@@ -1,5 +1,5 @@
 //! Each way to read a stream: what its geometries are as full blobs, and the fault behind them.
-use super::text::{put, put_hex, put_shown};
+use super::text::{put, put_hex, put_stop};
 use std::alloc::Global;
 use std::io::Read;
 use twkb_blob::{BlobFault, Reader, Session, Style, encode, measure_flat, write_flat};
@@ -39,6 +39,22 @@ fn put_flat_blob(alloc: Global, flat: &Flat, blobs: &mut Vec<u8>) {
     }
 }
 
+// Appends the full blob of a geometry, if there is one; else answers the end, or a fault.
+fn put_found(
+    alloc: Global,
+    found: Result<Option<Geometry>, BlobFault>,
+    blobs: &mut Vec<u8>,
+) -> Option<Option<BlobFault>> {
+    match found {
+        Ok(Some(geometry)) => {
+            put_blob(alloc, &geometry, blobs);
+            None
+        }
+        Ok(None) => Some(None),
+        Err(fault) => Some(Some(fault)),
+    }
+}
+
 // Reads trees to the end or the fault.
 fn read_trees<R: Read>(
     alloc: Global,
@@ -47,10 +63,8 @@ fn read_trees<R: Read>(
     blobs: &mut Vec<u8>,
 ) -> Option<BlobFault> {
     for _ in 0..most {
-        match reader.next(alloc) {
-            Ok(Some(geometry)) => put_blob(alloc, &geometry, blobs),
-            Ok(None) => return None,
-            Err(fault) => return Some(fault),
+        if let Some(end) = put_found(alloc, reader.next(alloc), blobs) {
+            return end;
         }
     }
     None
@@ -90,6 +104,19 @@ fn by_reader<R: Read>(
     }
 }
 
+// Appends the full blob of a geometry that was found, and answers how many bytes were used, or a fault.
+fn put_fed(
+    alloc: Global,
+    fed: Result<(usize, Option<Geometry>), BlobFault>,
+    blobs: &mut Vec<u8>,
+) -> Result<usize, BlobFault> {
+    let (used, found) = fed?;
+    if let Some(geometry) = found {
+        put_blob(alloc, &geometry, blobs);
+    }
+    Ok(used)
+}
+
 // Feeds a piece, and the unused rest again.
 fn feed_piece(
     alloc: Global,
@@ -99,13 +126,8 @@ fn feed_piece(
 ) -> Option<BlobFault> {
     let mut rest = piece;
     for _ in 0..piece.len() {
-        match session.feed(rest) {
-            Ok((used, found)) => {
-                if let Some(geometry) = found {
-                    put_blob(alloc, &geometry, blobs);
-                }
-                rest = rest.get(used..).unwrap_or(&[]);
-            }
+        match put_fed(alloc, session.feed(rest), blobs) {
+            Ok(used) => rest = rest.get(used..).unwrap_or(&[]),
             Err(fault) => return Some(fault),
         }
     }
@@ -149,14 +171,15 @@ fn feed_bytes(
     session.finish().err()
 }
 
-// Feeds two pieces.
+// Feeds two pieces, of which the first is so long.
 fn feed_pieces(
     alloc: Global,
     session: &mut Session,
-    first: &[u8],
-    second: &[u8],
+    length: usize,
+    bytes: &[u8],
     blobs: &mut Vec<u8>,
 ) -> Option<BlobFault> {
+    let (first, second) = bytes.split_at(length.min(bytes.len()));
     let fault = feed_piece(alloc, session, first, blobs);
     if fault.is_some() {
         return fault;
@@ -178,10 +201,7 @@ fn by_session(
 ) -> Option<BlobFault> {
     let mut session = Session::new(alloc, limits);
     match way {
-        Way::Pieces(length) => {
-            let (first, second) = bytes.split_at(length.min(bytes.len()));
-            feed_pieces(alloc, &mut session, first, second, blobs)
-        }
+        Way::Pieces(length) => feed_pieces(alloc, &mut session, length, bytes, blobs),
         _ => feed_bytes(alloc, &mut session, way, bytes, blobs),
     }
 }
@@ -254,11 +274,7 @@ pub fn put_read(alloc: Global, limits: Limits, bytes: &[u8], text: &mut Vec<u8>)
     let fault = read_by(alloc, Way::Trees, limits, bytes, &mut blobs);
     put(text, b"  read");
     put_hex(alloc, text, &blobs);
-    if let Some(fault) = fault {
-        put(text, b"; ");
-        put_shown(alloc, text, &fault);
-    }
-    put(text, b"\n");
+    put_stop(alloc, text, fault);
     if !all_give(alloc, limits, bytes, &blobs, fault) {
         put(text, b"  another way differs\n");
     }

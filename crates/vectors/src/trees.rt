@@ -1,50 +1,30 @@
 //! What the calls of a geometry tell.
-use super::forms::table_of;
-use super::text::{put, put_shown};
+use super::forms::form_of;
+use super::points::put_box;
+use super::text::{put, put_counts, put_shown};
 use std::alloc::Global;
-use std::io::Read;
-use twkb_geom::{Geometry, Limits};
-use twkb_io::Tap;
-use twkb_table::TableReader;
+use twkb_geom::{Flat, Geometry, Limits};
 
 // Prints rows, points, whether the geometry is within limits and has one precision, and its box, if it has one.
 fn put_geometry(alloc: Global, limits: Limits, geometry: &Geometry, text: &mut Vec<u8>) {
-    let (nodes, points) = (geometry.nodes(), geometry.points());
-    let (is_within, is_uniform) = (geometry.within(&limits), geometry.uniform());
-    if let Ok(line) = format!(in alloc; " {nodes} {points} {is_within} {is_uniform}") {
-        put(text, line.as_bytes());
-    }
-    if let Some(bounds) = geometry.bounds() {
-        for number in bounds.items() {
-            put(text, b" ");
-            put_shown(alloc, text, &number);
-        }
-    }
+    put_counts(alloc, text, &[geometry.nodes(), geometry.points()]);
+    put_shown(alloc, text, b" ", &geometry.within(&limits));
+    put_shown(alloc, text, b" ", &geometry.uniform());
+    put_box(alloc, geometry.bounds(), text);
 }
 
-// Prints these of the first geometry of a table.
-fn put_first<R: Read>(
-    alloc: Global,
-    limits: Limits,
-    reader: &mut TableReader<'_, R>,
-    text: &mut Vec<u8>,
-) {
-    match reader.next() {
-        Ok(Some(geometry)) => put_geometry(alloc, limits, &geometry, text),
-        _ => put(text, b" none"),
+// Prints these of the geometry of a form, if it has one.
+fn put_geometry_of(alloc: Global, limits: Limits, flat: &Flat, text: &mut Vec<u8>) {
+    if flat.is_empty() {
+        put(text, b" none");
+    } else if let Ok(geometry) = flat.to_geometry(alloc) {
+        put_geometry(alloc, limits, &geometry, text);
     }
 }
 
 /// Prints what the geometry of these rows tells, which is read under the largest limits.
 pub fn put_tree(alloc: Global, limits: Limits, rows: &[u8], text: &mut Vec<u8>) {
-    let table = table_of(alloc, rows);
-    let mut tap = Tap::new(table.as_slice());
     put(text, b"  geometry");
-    put_first(
-        alloc,
-        limits,
-        &mut TableReader::new(alloc, &mut tap, Limits::largest()),
-        text,
-    );
+    put_geometry_of(alloc, limits, &form_of(alloc, rows), text);
     put(text, b"\n");
 }

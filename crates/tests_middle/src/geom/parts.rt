@@ -23,6 +23,19 @@ fn words_of_kinds(rt: HostRuntime) {
     }
 }
 
+// A vector of this item.
+fn one<T: Drop>(alloc: Global, item: T) -> Option<Vec<T>> {
+    let mut items = Vec::new(alloc);
+    items.push(item).ok()?;
+    Some(items)
+}
+
+// The last item of a vector.
+fn last<T: Drop>(items: Vec<T>) -> Option<T> {
+    let mut items = items;
+    items.pop()
+}
+
 // Two places, of two points.
 const TWO: [(i64, i64); 2] = [(2, 1), (4, 3)];
 
@@ -44,20 +57,27 @@ fn points_keep_their_items(rt: HostRuntime) {
 // A list of one polygon of one ring of the two points.
 fn area(alloc: Global) -> Option<Areas> {
     let rows: [&[(i64, i64)]; 1] = [&TWO];
-    let mut areas = Vec::new(alloc);
-    areas.push(lines_of(alloc, &rows)?).ok()?;
-    Some(Areas::from_vec(areas))
+    let rings = lines_of(alloc, &rows)?;
+    Some(Areas::from_vec(one(alloc, rings)?))
 }
 
-// The ring of that polygon.
-fn ring(alloc: Global) -> Option<Pts> {
-    let lines = area(alloc)?.into_vec().pop()?;
-    lines.into_vec().pop()
+// The ring of the last polygon.
+fn ring(areas: Areas) -> Option<Pts> {
+    let rings = last(areas.into_vec())?;
+    last(rings.into_vec())
+}
+
+// Whether the ring of that polygon has the two points.
+fn has_ring(areas: Option<Areas>) -> bool {
+    match areas {
+        Some(areas) => holds_two(ring(areas)),
+        None => false,
+    }
 }
 
 #[test]
 fn lines_and_polygons_keep_their_items(rt: HostRuntime) {
-    assert!(rt; holds_two(ring(rt.alloc())));
+    assert!(rt; has_ring(area(rt.alloc())));
 }
 
 // Whether the list is there, with the least and the greatest number, in this order.
@@ -77,20 +97,31 @@ fn ids_keep_their_items(rt: HostRuntime) {
     assert!(rt; has_both_ends(ids(rt.alloc(), &[i64::MIN, i64::MAX])));
 }
 
-// The precision of the one member of a list, which holds it as it shows it.
-fn precision_of_one(alloc: Global, member: Option<Geometry>) -> Option<i8> {
-    let mut items = Vec::new(alloc);
-    items.push(member?).ok()?;
-    let members = Members::from_vec(items);
-    if members.as_slice().len() != 1 {
-        return None;
+// Whether the list shows one member, and hands out one of this precision.
+fn holds_one(members: Members, precision: i8) -> bool {
+    let count = members.as_slice().len();
+    match last(members.into_vec()) {
+        Some(member) => (count == 1) & (member.precision() == precision),
+        None => false,
     }
-    Some(members.into_vec().pop()?.precision())
+}
+
+// A list of this member.
+fn members_of(alloc: Global, member: Option<Geometry>) -> Option<Members> {
+    Some(Members::from_vec(one(alloc, member?)?))
+}
+
+// Whether the list is there, and holds one member of this precision.
+fn keeps_one(members: Option<Members>, precision: i8) -> bool {
+    match members {
+        Some(members) => holds_one(members, precision),
+        None => false,
+    }
 }
 
 #[test]
 fn members_keep_their_items(rt: HostRuntime) {
-    assert!(rt; precision_of_one(rt.alloc(), dot(-8, Some((2, 1)))) == Some(-8));
+    assert!(rt; keeps_one(members_of(rt.alloc(), dot(-8, Some((2, 1)))), -8));
 }
 
 // Whether the geometry is there, and shows a multipoint of two points with the ids 1 and 2.

@@ -20,39 +20,57 @@ fn multipoint(alloc: Global, places: &[(i64, i64)], numbers: &[i64]) -> Option<S
     Some(Shape::MultiPoint(line_of(alloc, places)?, Some(ids(alloc, numbers)?)))
 }
 
-// Why a multipoint of these points and ids is refused, where it comes back as it was.
-fn refusal(
+// Whether the shape is refused for the reason, and comes back as it was.
+fn comes_back(
+    precision: i8,
+    shape: Shape,
+    places: usize,
+    numbers: usize,
+    reason: GeomFault,
+) -> bool {
+    match Geometry::try_new(precision, shape) {
+        Ok(_) => false,
+        Err((shape, fault)) => holds(&shape, places, numbers) & (fault == reason),
+    }
+}
+
+// Whether a multipoint of these points, with these ids, is refused for the reason, and comes back.
+fn refuses(
     alloc: Global,
     precision: i8,
     places: &[(i64, i64)],
     numbers: &[i64],
-) -> Option<GeomFault> {
-    let shape = multipoint(alloc, places, numbers)?;
-    match Geometry::try_new(precision, shape) {
-        Ok(_) => None,
-        Err((shape, fault)) => holds(&shape, places.len(), numbers.len()).then_some(fault),
+    reason: GeomFault,
+) -> bool {
+    match multipoint(alloc, places, numbers) {
+        Some(shape) => comes_back(precision, shape, places.len(), numbers.len(), reason),
+        None => false,
     }
 }
 
-// Whether two points with these ids are refused for the reason, and come back.
-fn refuses(alloc: Global, precision: i8, numbers: &[i64], reason: GeomFault) -> bool {
-    refusal(alloc, precision, &[(1, 1), (2, 2)], numbers) == Some(reason)
-}
+// Two points.
+const TWO: &[(i64, i64)] = &[(1, 1), (2, 2)];
+
+// A precision, points, their ids, and the reason.
+type Refused = (i8, &'static [(i64, i64)], &'static [i64], GeomFault);
+
+const REFUSED: [Refused; 6] = [
+    (8, TWO, &[1, 2], GeomFault::BadPrecision),
+    (-9, TWO, &[1, 2], GeomFault::BadPrecision),
+    (8, TWO, &[1], GeomFault::BadPrecision),
+    (0, TWO, &[1], GeomFault::BadIds),
+    (0, TWO, &[1, 2, 3], GeomFault::BadIds),
+    (0, &[], &[], GeomFault::BadIds),
+];
 
 #[test]
-fn shapes_of_a_bad_precision_come_back(rt: HostRuntime) {
-    let alloc = rt.alloc();
-    assert!(rt; refuses(alloc, 8, &[1, 2], GeomFault::BadPrecision));
-    assert!(rt; refuses(alloc, -9, &[1, 2], GeomFault::BadPrecision));
-    assert!(rt; refuses(alloc, 8, &[1], GeomFault::BadPrecision));
-}
-
-#[test]
-fn shapes_of_bad_ids_come_back(rt: HostRuntime) {
-    let alloc = rt.alloc();
-    assert!(rt; refuses(alloc, 0, &[1], GeomFault::BadIds));
-    assert!(rt; refuses(alloc, 0, &[1, 2, 3], GeomFault::BadIds));
-    assert!(rt; refusal(alloc, 0, &[], &[]) == Some(GeomFault::BadIds));
+fn shapes_of_a_bad_precision_or_bad_ids_come_back(rt: HostRuntime) {
+    for (precision, places, numbers, reason) in &REFUSED {
+        assert!(rt;
+            refuses(rt.alloc(), *precision, *places, *numbers, *reason),
+            "precision {precision} and ids {numbers:?}"
+        );
+    }
 }
 
 const FAULTS: [(GeomFault, &str); 2] = [

@@ -5,7 +5,7 @@ use super::{HEADER, cut_reader, cut_writer, report, stopped};
 use std::alloc::Global;
 use std::process::Abort;
 use twkb_convert::{BlobReason, Cause, ConvertFault, Report, RowReason};
-use twkb_io::{FuseEnd, Tap};
+use twkb_io::{Fuse, FuseEnd, Tap};
 
 // A point, and two; a collection of a point with an id and an empty line with one; polygons with ids,
 // of two rings and of none; two points before a row of no kind; a blob before one that is cut.
@@ -87,15 +87,35 @@ fn done_with(worked: Worked, sent: usize) -> u64 {
     }
 }
 
+// What a conversion answered, and what the writer took.
+#[derive(Drop)]
+struct Ended {
+    answer: Result<Report, ConvertFault>,
+    written: Vec<u8>,
+}
+
+// Carries a conversion out over a reader that fails behind so many bytes.
+fn carried(alloc: Global, worked: Worked, given: u64, writer: Tap<Fuse<Vec<u8>>>) -> Ended {
+    let mut reader = cut_reader(worked.1, given);
+    let mut writer = writer;
+    let answer = worked.0.carry_out(alloc, &mut reader, &mut writer);
+    let written = writer.into_inner().into_inner();
+    Ended { answer, written }
+}
+
+// Carries it out over a writer that takes all.
+fn carried_from(alloc: Global, worked: Worked, given: usize) -> Ended {
+    let writer = cut_writer(alloc, u64::MAX, FuseEnd::Fail, false);
+    carried(alloc, worked, given as u64, writer)
+}
+
 // Whether a writer that takes so many bytes of the output, less than all, and then ends so, is told
 // with these, and with the geometries in them.
 fn write_is_told(alloc: Global, worked: Worked, taken: usize, end: FuseEnd) -> bool {
-    let mut reader = cut_reader(worked.1, u64::MAX);
-    let mut writer = cut_writer(alloc, taken as u64, end, false);
-    let answer = worked.0.carry_out(alloc, &mut reader, &mut writer);
-    let is_told = answer == stopped(done_with(worked, taken), taken as u64, Cause::WriteDevice);
-    let written = writer.into_inner().into_inner();
-    is_told && written.len() == taken && worked.2.starts_with(&written)
+    let writer = cut_writer(alloc, taken as u64, end, false);
+    let found = carried(alloc, worked, u64::MAX, writer);
+    let told = stopped(done_with(worked, taken), taken as u64, Cause::WriteDevice);
+    found.answer == told && found.written.len() == taken && worked.2.starts_with(&found.written)
 }
 
 // Whether each write is told where it is the first that ends so.
@@ -109,12 +129,10 @@ fn each_write_is_told(alloc: Global, worked: Worked, end: FuseEnd) -> bool {
 
 // Whether a failed read of a table is told behind a front of the blobs.
 fn read_of_a_table_is_told(alloc: Global, worked: Worked, given: usize) -> bool {
-    let mut reader = cut_reader(worked.1, given as u64);
-    let mut writer = Tap::new(Vec::new(alloc));
-    let answer = worked.0.carry_out(alloc, &mut reader, &mut writer);
-    let blobs = writer.into_inner();
-    let done = done_with(worked, blobs.len());
-    worked.2.starts_with(&blobs) && answer == stopped(done, blobs.len() as u64, Cause::ReadDevice)
+    let found = carried_from(alloc, worked, given);
+    let sent = found.written.len();
+    let told = stopped(done_with(worked, sent), sent as u64, Cause::ReadDevice);
+    worked.2.starts_with(&found.written) && found.answer == told
 }
 
 // How many bytes are written of a stream before its first blob.
@@ -135,12 +153,9 @@ fn read_of_a_stream_is_told(alloc: Global, worked: Worked, given: usize) -> bool
     } else {
         sent_before(worked.0)
     };
-    let mut reader = cut_reader(worked.1, given as u64);
-    let mut writer = Tap::new(Vec::new(alloc));
-    let answer = worked.0.carry_out(alloc, &mut reader, &mut writer);
-    let text = writer.into_inner();
-    let is_told = answer == stopped(u64::from(is_done), sent as u64, Cause::ReadDevice);
-    is_told && text.len() == sent && worked.2.starts_with(&text)
+    let found = carried_from(alloc, worked, given);
+    let told = stopped(u64::from(is_done), sent as u64, Cause::ReadDevice);
+    found.answer == told && found.written.len() == sent && worked.2.starts_with(&found.written)
 }
 
 // Whether each read of a table is told where it fails.
@@ -188,10 +203,9 @@ fn gets_all(
     flush_fails: bool,
     answer: Result<Report, ConvertFault>,
 ) -> bool {
-    let mut reader = cut_reader(worked.1, u64::MAX);
-    let mut writer = cut_writer(alloc, 999, FuseEnd::Fail, flush_fails);
-    let given = worked.0.carry_out(alloc, &mut reader, &mut writer);
-    given == answer && writer.into_inner().into_inner().as_slice() == worked.2
+    let writer = cut_writer(alloc, 999, FuseEnd::Fail, flush_fails);
+    let found = carried(alloc, worked, u64::MAX, writer);
+    found.answer == answer && found.written.as_slice() == worked.2
 }
 
 // Whether it gets all, and a flush that fails is told behind that, whatever the input has behind it.
