@@ -13,7 +13,8 @@ use Rattle.twkb_io.proofs.CopyLemmas.{kept_consumes}
 use Rattle.twkb_io.specs.declared.input.Input.{Input}
 use Rattle.twkb_io.specs.declared.input.InFault.{InFault}
 use Rattle.twkb_io.specs.declared.input.InFault.TheVariants.{Read, TooLong, Spent}
-use Rattle.twkb_io.specs.Inputs.{given, rest_of, held_of, is_read_fault, is_spent}
+use Rattle.twkb_io.specs.Inputs.{given, rest_of, held_of, input_failures, input_tap, is_read_fault, is_spent}
+use Rattle.twkb_io.specs.Taps.{failures_of}
 use Rattle.twkb_engine.specs.Standing.{StandsAt, IsFed, MadeIn, RefusedIn, offset_in}
 use Rattle.twkb_engine.specs.Stops.{reason_of}
 use Rattle.twkb_engine.specs.declared.engine.Engine.{Engine}
@@ -103,6 +104,14 @@ module _ {R : Type 0} {read : Ghosts R} where
   -- a fill loses nothing
   left_none : (a b : Input R read) → Keeps (rest_of a) (rest_of b) → given b ≡ given a → Left a b []
   left_none a b keeps same = record { consumed = kept_all (rest_of a) (rest_of b) keeps; counted = omega (arith, same) }
+
+  -- a tap that an advance leaves as it was keeps the name that a fill left
+  pub name_kept : (a b c : Input R read) → input_tap c ≡ input_tap b → (input_tap b).ghost_name ≡ (input_tap a).ghost_name → (input_tap c).ghost_name ≡ (input_tap a).ghost_name
+  name_kept a b c same named = ap (λ t. t.ghost_name) same ∙ named
+
+  -- and the count of its failures
+  pub failures_kept : (n : ℕ) (b c : Input R read) → input_tap c ≡ input_tap b → input_failures b ≡ n → input_failures c ≡ n
+  failures_kept n b c same counted = ap (λ t. failures_of t.now) same ∙ counted
 
   -- nothing is left
   pub end_read : (limits : Allowance) (bs : List ℕ) (a b : Input R read) (rs : List Row) (d : Engine) → Keeps (rest_of a) (rest_of b) → given b ≡ given a → IsAtEnd (rest_of b) → StandsAt bs rs d → IsRead limits bs a b (Ok piece.End) rs d

@@ -1,9 +1,9 @@
-use Rattle.std.proofs.Common.{◌≡◌, ap, ◌∙◌, sym, [], arith}
+use Rattle.std.proofs.Common.{refl, ◌≡◌, ap, ◌∙◌, sym, [], arith}
 use Rattle.std.proofs.lemmas.List.{nil_from_length}
 use Rattle.twkb_io.specs.Taps.{count_failure}
 use Rattle.twkb_io.specs.Inputs.{held_of, input_failures}
 use Rattle.twkb_engine.specs.Standing.{allowance_of}
-use Rattle.twkb_blob.proofs.Pieces.{end_read, halted, read_halted}
+use Rattle.twkb_blob.proofs.Pieces.{end_read, halted, read_halted, name_kept, failures_kept}
 use Rattle.twkb_blob.proofs.Bytes.{item_taken, item_stopped}
 use Rattle.twkb_blob.proofs.located.read_piece.Goals as goal
 
@@ -29,3 +29,42 @@ returns-in-Err-feed_noted-clause-read g c = λ bs s told.
 
 pub returns-in-Err-clause-failures : goal.returns-in-Err-clause-failures
 returns-in-Err-clause-failures g c = c.fill.ensures.failures ∙ ap (λ is. count_failure is (input_failures c.args.input.now)) (read_halted c.fill.result c.in-Err.fault c.in-Err.is)
+
+pub returns-in-Err-clause-same_tap : goal.returns-in-Err-clause-same_tap
+returns-in-Err-clause-same_tap g c = c.fill.ensures.same_tap
+
+pub returns-in-Err-clause-limits : goal.returns-in-Err-clause-limits
+returns-in-Err-clause-limits g c = refl
+
+pub returns-in-Err-clause-offset : goal.returns-in-Err-clause-offset
+returns-in-Err-clause-offset g c = omega (arith, c.requires.few)
+
+pub returns-then-count-eq0-clause-same_tap : goal.returns-then-count-eq0-clause-same_tap
+returns-then-count-eq0-clause-same_tap g c = c.fill.ensures.same_tap
+
+pub returns-then-count-eq0-clause-limits : goal.returns-then-count-eq0-clause-limits
+returns-then-count-eq0-clause-limits g c = refl
+
+pub returns-then-count-eq0-clause-offset : goal.returns-then-count-eq0-clause-offset
+returns-then-count-eq0-clause-offset g c = omega (arith, c.requires.few)
+
+pub returns-then-count-eq0-clause-failures : goal.returns-then-count-eq0-clause-failures
+returns-then-count-eq0-clause-failures g c = c.in_default.ensures.failures
+
+pub returns-in-Err-feed_noted-clause-same_tap : goal.returns-in-Err-feed_noted-clause-same_tap
+returns-in-Err-feed_noted-clause-same_tap g c = c.fill.ensures.same_tap
+
+pub returns-in-Err-feed_noted-clause-limits : goal.returns-in-Err-feed_noted-clause-limits
+returns-in-Err-feed_noted-clause-limits g c = c.feed_noted.ensures.limits
+
+pub returns-in-Err-feed_noted-clause-failures : goal.returns-in-Err-feed_noted-clause-failures
+returns-in-Err-feed_noted-clause-failures g c = c.in_default.ensures.failures
+
+pub returns-clause-same_tap : goal.returns-clause-same_tap
+returns-clause-same_tap g c = name_kept c.args.input.now c.fill.new.self c.advance.new.self c.advance.ensures.same_tap c.fill.ensures.same_tap
+
+pub returns-clause-limits : goal.returns-clause-limits
+returns-clause-limits g c = c.feed_noted.ensures.limits
+
+pub returns-clause-failures : goal.returns-clause-failures
+returns-clause-failures g c = failures_kept _ c.fill.new.self c.advance.new.self c.advance.ensures.same_tap c.in_default.ensures.failures
