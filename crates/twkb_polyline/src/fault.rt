@@ -36,6 +36,7 @@ impl PolyReason {
         }
     }
 
+    // What is printed for this reason.
     fn text(self) -> &'static str {
         match self {
             PolyReason::BadChar => "bad character",
