@@ -1,3 +1,3 @@
 //! Each public call of points once; their vectors are those of the program `vectors`.
 mod calls;
-pub mod fixtures;
+mod fixtures;

@@ -1,6 +1,5 @@
 //! Each public call of polylines once; their vectors are those of the program `vectors`.
 mod fixtures;
 mod laws;
-mod lent;
 mod memory;
 mod texts;

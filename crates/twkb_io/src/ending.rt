@@ -62,10 +62,8 @@ impl<R: Read> Read for Ending<R> {
             return Ok(0);
         }
         let has_room = !buf.is_empty();
-        let read = self.reader.read(buf);
-        if let Ok(count) = &read {
-            self.ended = has_room && *count == 0;
-        }
-        read
+        let count = self.reader.read(buf)?;
+        self.ended = has_room & (count == 0);
+        Ok(count)
     }
 }

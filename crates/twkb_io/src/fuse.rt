@@ -76,12 +76,8 @@ fn passing(length: usize, left: u64, step: usize) -> usize
     requires { 0 < step }
     ensures { result ≡ min (min length step) left }
 {
-    let most = length.min(step);
-    if most as u64 > left {
-        left as usize
-    } else {
-        most
-    }
+    let most = length.min(step) as u64;
+    most.min(left) as usize
 }
 
 impl<D: Read> Read for Fuse<D> {

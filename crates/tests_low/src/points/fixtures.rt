@@ -20,16 +20,3 @@ pub fn points_of(pairs: [(i64, i64); 3]) -> Option<[Pt; 3]> {
         Pt::try_new(x3, y3)?,
     ])
 }
-
-/// Whether these are points with these coordinates, x first.
-pub fn are_at(points: &[Pt], places: &[(i64, i64)]) -> bool {
-    if points.len() != places.len() {
-        return false;
-    }
-    for index in 0..points.len() {
-        if (points[index].x(), points[index].y()) != places[index] {
-            return false;
-        }
-    }
-    true
-}

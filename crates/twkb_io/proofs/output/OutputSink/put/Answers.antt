@@ -1,16 +1,20 @@
-use Rattle.std.proofs.Common.{◌≡◌, ◌+◌, ◌≤◌, ◌-◌, ◌∙◌, ◌++◌, List, ℕ, take, drop, length, arith, rules, append_assoc}
-use Rattle.std.proofs.lemmas.Grind.{common_steps}
+use Rattle.std.proofs.Common.{◌≡◌, ◌+◌, ◌≤◌, ◌-◌, ◌∙◌, ◌++◌, List, ℕ, take, drop, length, arith, rules, append_assoc, length-drop, sym, ap}
+use Rattle.std.proofs.Math.Seq.{take-length}
+use Rattle.std.proofs.lemmas.List.{length-take, length-take-le, take-append-drop}
 use Rattle.std.proofs.lemmas.Result.{err_from_is_err_and}
 use Rattle.twkb_io.specs.OutputLaws.{took_join}
 use Rattle.twkb_io.proofs.OutputLemmas.{cut_inside, front_cut}
 use Rattle.twkb_io.proofs.output.OutputSink.put.Goals as goal
 
 regroup : (whole front rest : List ℕ) (n : ℕ) → whole ≡ front ++ rest → whole ≡ (front ++ take n rest) ++ take (length rest - n) (drop n rest)
-regroup whole front rest n e = grind (arith, common_steps, append_assoc)
+regroup whole front rest n e =
+    let back = drop n rest in
+    let cut = ap (λ k. take k back) (sym (length-drop n rest)) ∙ take-length back in
+    e ∙ ap (λ l. front ++ l) (sym (take-append-drop n rest)) ∙ sym (append_assoc front (take n rest) back) ∙ ap (λ l. (front ++ take n rest) ++ l) (sym cut)
 
 room_left : (before after n most : ℕ) (rest : List ℕ) → before + length rest ≤ most → n ≤ length rest → after ≡ before + length (take n rest)
     → after + length (take (length rest - n) (drop n rest)) ≤ most
-room_left before after n most rest room within e = grind (arith, common_steps)
+room_left before after n most rest room within e = omega (arith, length-take-le n rest within, length-drop n rest, length-take (length rest - n) (drop n rest))
 
 pub loop-rest-preserved : goal.loop-rest-preserved
 loop-rest-preserved g c =

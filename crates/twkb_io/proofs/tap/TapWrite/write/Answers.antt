@@ -1,5 +1,5 @@
 use Rattle.std.proofs.Common.{rules}
 use Rattle.twkb_io.proofs.tap.TapWrite.write.Goals as goal
 
-pub returns-clause-failures : goal.returns-clause-failures
-returns-clause-failures g c = search rules
+pub returns-in-Ok-clause-failures : goal.returns-in-Ok-clause-failures
+returns-in-Ok-clause-failures g c = search rules
