@@ -2,26 +2,31 @@
 ghost use Rattle.std.specs.Prelude.{◌≡◌};
 
 use std::alloc::AllocError;
-use std::fmt;
-use std::fmt::{Display, Formatter, Write};
 use thiserror::Error;
 
 /// Why a text is no polyline: what is met first from its front (reasons and order: profile).
-#[derive(Clone, Copy, Debug, PartialEq, Eq)]
+#[derive(Clone, Copy, Debug, PartialEq, Eq, Error)]
 pub enum PolyReason {
     /// A character with a code outside 63 to 126.
+    #[error("bad character")]
     BadChar,
     /// The text ends before the last character of a number.
+    #[error("number cut short")]
     Cut,
     /// A thirteenth character of a number that goes on, or whose group is 16 or more.
+    #[error("number too long")]
     TooLong,
     /// A number of more than one character whose last group is 0.
+    #[error("padded number")]
     Padded,
     /// The text ends after a latitude.
+    #[error("latitude without longitude")]
     Half,
     /// A coordinate outside -2^62 to 2^62 - 1.
+    #[error("coordinate out of range")]
     Range,
     /// Text is left after as many points as are allowed.
+    #[error("too many points")]
     TooMany,
 }
 
@@ -35,28 +40,7 @@ impl PolyReason {
             reason: self,
         }
     }
-
-    // What is printed for this reason.
-    fn text(self) -> &'static str {
-        match self {
-            PolyReason::BadChar => "bad character",
-            PolyReason::Cut => "number cut short",
-            PolyReason::TooLong => "number too long",
-            PolyReason::Padded => "padded number",
-            PolyReason::Half => "latitude without longitude",
-            PolyReason::Range => "coordinate out of range",
-            PolyReason::TooMany => "too many points",
-        }
-    }
 }
-
-impl Display for PolyReason {
-    fn fmt<W: Write>(&self, f: &mut Formatter<W>) -> fmt::Result {
-        f.write_str(self.text())
-    }
-}
-
-impl std::error::Error for PolyReason {}
 
 /// Why a text was not read.
 #[derive(Clone, Copy, Debug, PartialEq, Eq, Error)]
