@@ -15,7 +15,7 @@ use twkb_io::{InFault, Input};
 use twkb_tree::Limits;
 
 // What the held bytes of an input made.
-#[derive(Clone, Copy, Debug, PartialEq, Eq)]
+#[derive(Clone, Copy)]
 pub(crate) enum Fed {
     // They were used, and more have to follow.
     More,
@@ -26,7 +26,7 @@ pub(crate) enum Fed {
 }
 
 // Why the held bytes of an input made nothing.
-#[derive(Clone, Copy, Debug, PartialEq, Eq)]
+#[derive(Clone, Copy)]
 pub(crate) enum Halt {
     // The input gave none.
     Device(InFault),

@@ -5,7 +5,7 @@ ghost use Rattle.twkb_blob.specs.Readers.{spent_at, ended_at};
 use crate::fault::BlobFault;
 
 // What a reader does next.
-#[derive(Clone, Copy, Debug, PartialEq, Eq)]
+#[derive(Clone, Copy)]
 pub(crate) enum State {
     Ready,
     Ended,

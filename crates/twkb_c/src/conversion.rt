@@ -8,7 +8,7 @@ use std::io::{Read, Write};
 use twkb_convert::{ConvertFault, Limits, Report, Style, Tap, pack_styled, show, unpack};
 
 // What a call converts.
-#[derive(Clone, Copy, Debug, PartialEq, Eq)]
+#[derive(Clone, Copy)]
 pub(crate) enum Conversion {
     // A table to a stream, in a style.
     Pack(Style),

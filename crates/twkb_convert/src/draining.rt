@@ -11,7 +11,7 @@ use twkb_io::Tap;
 const PIECE: usize = 64;
 
 // Why a reader was not read to its end.
-#[derive(Clone, Copy, PartialEq, Eq, Debug)]
+#[derive(Clone, Copy)]
 pub(crate) enum DrainFault {
     // A read failed.
     Read,

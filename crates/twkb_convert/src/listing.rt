@@ -5,7 +5,7 @@ ghost use Rattle.twkb_convert.specs.Listings.{first_line};
 use twkb_table::header_text;
 
 // What is written of a stream of blobs.
-#[derive(Clone, Copy, PartialEq, Eq, Debug)]
+#[derive(Clone, Copy)]
 pub(crate) enum Listing {
     // The rows of each, behind the header's line of a table.
     Table,

@@ -6,7 +6,7 @@ use twkb_io::OutFault;
 use twkb_table::TableFault;
 
 // Why not the whole table was sent.
-#[derive(Clone, Copy, PartialEq, Eq, Debug)]
+#[derive(Clone, Copy)]
 pub(crate) enum TableObstacle {
     // The table gave no geometry, or there was no memory for the sizes of one.
     Table(TableFault),
@@ -28,7 +28,7 @@ impl TableObstacle {
 }
 
 // Why not the text of the whole stream was sent.
-#[derive(Clone, Copy, PartialEq, Eq, Debug)]
+#[derive(Clone, Copy)]
 pub(crate) enum StreamObstacle {
     // The reader gave no blob, or there was no memory for the text of one.
     Stream(BlobFault),
@@ -37,7 +37,7 @@ pub(crate) enum StreamObstacle {
 }
 
 // How many geometries were sent whole, and why no more.
-#[derive(Clone, Copy, PartialEq, Eq, Debug)]
+#[derive(Clone, Copy)]
 pub(crate) struct Unfinished<F> {
     pub(crate) done: u64,
     pub(crate) why: F,

@@ -15,7 +15,7 @@ use twkb_tree::Limits;
 use twkb_writer::{EncodeFault, Style};
 
 // How many geometries were sent, and the work of it.
-#[derive(Clone, Copy, PartialEq, Eq, Debug)]
+#[derive(Clone, Copy)]
 pub(crate) struct Tally {
     pub(crate) geometries: u64,
     pub(crate) work: Work,
