@@ -1,9 +1,11 @@
 pub mod AllJoined
+pub mod Copied
 pub mod ExtentSteps
 pub mod Forest
 pub mod InRange
 pub mod LargestLimits
 pub mod LimitLaws
+pub mod MemberSteps
 pub mod OpenDecides
 pub mod OpenLaws
 pub mod OpenRefusal

@@ -1,8 +1,9 @@
 //! A second geometry that equals a first.
 ghost use Rattle.std.specs.Prelude.{◌≡◌, IfOk};
+ghost use Rattle.twkb_tree.specs.declared.geometry.Shape.{Shape};
 
 use crate::geometry::{Geometry, Members, Shape};
-use crate::lists::{Ids, Item};
+use crate::lists::{Areas, Ids, Item, Lines, Pts};
 use std::alloc::{AllocError, Global};
 
 impl Members {
@@ -28,6 +29,52 @@ fn copy_ids(alloc: Global, ids: &Ids) -> Result<Ids, AllocError>
     }
 }
 
+fn copy_line(alloc: Global, points: &Pts) -> Result<Shape, AllocError>
+    ensures { IfOk result (λ copy. copy ≡ Shape.Line points.now) }
+{
+    let points = points.copy(alloc)?;
+    Ok(Shape::Line(points))
+}
+
+fn copy_polygon(alloc: Global, rings: &Lines) -> Result<Shape, AllocError>
+    ensures { IfOk result (λ copy. copy ≡ Shape.Polygon rings.now) }
+{
+    let rings = rings.copy(alloc)?;
+    Ok(Shape::Polygon(rings))
+}
+
+fn copy_points(alloc: Global, points: &Pts, ids: &Ids) -> Result<Shape, AllocError>
+    ensures { IfOk result (λ copy. copy ≡ Shape.MultiPoint points.now ids.now) }
+{
+    let points = points.copy(alloc)?;
+    let ids = copy_ids(alloc, ids)?;
+    Ok(Shape::MultiPoint(points, ids))
+}
+
+fn copy_lines(alloc: Global, lines: &Lines, ids: &Ids) -> Result<Shape, AllocError>
+    ensures { IfOk result (λ copy. copy ≡ Shape.MultiLine lines.now ids.now) }
+{
+    let lines = lines.copy(alloc)?;
+    let ids = copy_ids(alloc, ids)?;
+    Ok(Shape::MultiLine(lines, ids))
+}
+
+fn copy_areas(alloc: Global, areas: &Areas, ids: &Ids) -> Result<Shape, AllocError>
+    ensures { IfOk result (λ copy. copy ≡ Shape.MultiPolygon areas.now ids.now) }
+{
+    let areas = areas.copy(alloc)?;
+    let ids = copy_ids(alloc, ids)?;
+    Ok(Shape::MultiPolygon(areas, ids))
+}
+
+// A collection of these members, with a copy of the ids.
+fn with_ids(alloc: Global, members: Members, ids: &Ids) -> Result<Shape, AllocError>
+    ensures { IfOk result (λ made. made ≡ Shape.Collection members ids.now) }
+{
+    let ids = copy_ids(alloc, ids)?;
+    Ok(Shape::Collection(members, ids))
+}
+
 impl Shape {
     #[cycle(copy)]
     fn copy(&self, alloc: Global) -> Result<Shape, AllocError>
@@ -35,20 +82,12 @@ impl Shape {
     {
         match self {
             Shape::Point(point) => Ok(Shape::Point(*point)),
-            Shape::Line(points) => Ok(Shape::Line(points.copy(alloc)?)),
-            Shape::Polygon(rings) => Ok(Shape::Polygon(rings.copy(alloc)?)),
-            Shape::MultiPoint(points, ids) => {
-                Ok(Shape::MultiPoint(points.copy(alloc)?, copy_ids(alloc, ids)?))
-            }
-            Shape::MultiLine(lines, ids) => {
-                Ok(Shape::MultiLine(lines.copy(alloc)?, copy_ids(alloc, ids)?))
-            }
-            Shape::MultiPolygon(areas, ids) => {
-                Ok(Shape::MultiPolygon(areas.copy(alloc)?, copy_ids(alloc, ids)?))
-            }
-            Shape::Collection(members, ids) => {
-                Ok(Shape::Collection(members.copy(alloc)?, copy_ids(alloc, ids)?))
-            }
+            Shape::Line(points) => copy_line(alloc, points),
+            Shape::Polygon(rings) => copy_polygon(alloc, rings),
+            Shape::MultiPoint(points, ids) => copy_points(alloc, points, ids),
+            Shape::MultiLine(lines, ids) => copy_lines(alloc, lines, ids),
+            Shape::MultiPolygon(areas, ids) => copy_areas(alloc, areas, ids),
+            Shape::Collection(members, ids) => with_ids(alloc, members.copy(alloc)?, ids),
         }
     }
 }

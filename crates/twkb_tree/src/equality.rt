@@ -3,7 +3,7 @@ ghost use Rattle.std.specs.Prelude.{◌≡◌, ◌↔◌, IsTrue};
 ghost use Rattle.twkb_tree.specs.Equal.{tree_eq, tree_eq_partial, tree_eq_equiv};
 
 use crate::geometry::{Geometry, Members, Shape};
-use crate::lists::{Ids, Item};
+use crate::lists::{Ids, Item, Items};
 use twkb_points::Pt;
 
 fn same_points(a: &Option<Pt>, b: &Option<Pt>) -> bool
@@ -26,9 +26,15 @@ fn same_ids(a: &Ids, b: &Ids) -> bool
     }
 }
 
+fn same_with<T: Item>(a: &Items<T>, b: &Items<T>, ids: &Ids, others: &Ids) -> bool
+    ensures { IsTrue result ↔ ((a.now ≡ b.now) × (ids.now ≡ others.now)) }
+{
+    a.same(b) && same_ids(ids, others)
+}
+
 impl Members {
     #[cycle(same)]
-    #[tactic(auto, using(crate::specs::Size::member_smaller, crate::proofs::Pairs::pairs))]
+    #[tactic(auto, using(crate::specs::Size::member_smaller))]
     fn same(&self, other: &Members) -> bool
         ensures { IsTrue result ↔ (self.now ≡ other.now) }
     {
@@ -55,12 +61,13 @@ impl Shape {
             (Shape::Point(a), Shape::Point(b)) => same_points(a, b),
             (Shape::Line(a), Shape::Line(b)) => a.same(b),
             (Shape::Polygon(a), Shape::Polygon(b)) => a.same(b),
-            (Shape::MultiPoint(a, ids), Shape::MultiPoint(b, others)) => a.same(b)
-                && same_ids(ids, others),
-            (Shape::MultiLine(a, ids), Shape::MultiLine(b, others)) => a.same(b)
-                && same_ids(ids, others),
-            (Shape::MultiPolygon(a, ids), Shape::MultiPolygon(b, others)) => a.same(b)
-                && same_ids(ids, others),
+            (Shape::MultiPoint(a, ids), Shape::MultiPoint(b, others)) => same_with(
+                a, b, ids, others,
+            ),
+            (Shape::MultiLine(a, ids), Shape::MultiLine(b, others)) => same_with(a, b, ids, others),
+            (Shape::MultiPolygon(a, ids), Shape::MultiPolygon(b, others)) => same_with(
+                a, b, ids, others,
+            ),
             (Shape::Collection(a, ids), Shape::Collection(b, others)) => a.same(b)
                 && same_ids(ids, others),
             _ => false,

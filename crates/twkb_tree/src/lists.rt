@@ -122,7 +122,6 @@ impl<T: Item> Item for Items<T> {
         let _learnt = self.as_slice();
     }
 
-    #[tactic(auto, using(crate::proofs::Pairs::pairs))]
     fn same(&self, other: &Items<T>) -> bool {
         let items = self.as_slice();
         let others = other.as_slice();

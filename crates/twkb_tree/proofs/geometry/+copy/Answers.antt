@@ -1,0 +1,29 @@
+use Rattle.std.proofs.Common.{◌∙◌}
+use Rattle.twkb_tree.proofs.Copied.{copied_more, copied_all}
+use Rattle.twkb_tree.proofs.geometry.+copy.Goals as goal
+
+pub Members::copy-loop-member-init : goal.Members::copy-loop-member-init
+Members::copy-loop-member-init t c = c.in_ok-items.ensures.items
+
+pub Members::copy-loop-member-preserved : goal.Members::copy-loop-member-preserved
+Members::copy-loop-member-preserved t c =
+    copied_more _ _ _ _ c.member-item.result c.in_ok-copy.field-0 c.loop-member.invariant c.loop-member-test.true c.member-item.is c.in_ok-copy.ensures c.in_ok-push.ensures.items
+
+pub Members::copy-returns : goal.Members::copy-returns
+Members::copy-returns t c =
+    copied_all _ _ _ c.loop-member.invariant c.loop-member-test.false ∙ c.as_slice-member-items.ensures.items
+
+pub Shape::copy-returns-in-Line : goal.Shape::copy-returns-in-Line
+Shape::copy-returns-in-Line t c = rw c.in-Line.is c.copy_line.ensures
+
+pub Shape::copy-returns-in-Polygon : goal.Shape::copy-returns-in-Polygon
+Shape::copy-returns-in-Polygon t c = rw c.in-Polygon.is c.copy_polygon.ensures
+
+pub Shape::copy-returns-in-MultiPoint : goal.Shape::copy-returns-in-MultiPoint
+Shape::copy-returns-in-MultiPoint t c = rw c.in-MultiPoint.is c.copy_points.ensures
+
+pub Shape::copy-returns-in-MultiLine : goal.Shape::copy-returns-in-MultiLine
+Shape::copy-returns-in-MultiLine t c = rw c.in-MultiLine.is c.copy_lines.ensures
+
+pub Shape::copy-returns-in-MultiPolygon : goal.Shape::copy-returns-in-MultiPolygon
+Shape::copy-returns-in-MultiPolygon t c = rw c.in-MultiPolygon.is c.copy_areas.ensures
