@@ -1,24 +1,22 @@
 -- What was put through a gatherer, which gathers bytes in a piece on their way to a sink.
-use Rattle.std.specs.Prelude.{ℕ, ◌≡◌, List, ◌++◌}
+use Rattle.std.specs.Prelude.{ℕ, ◌≡◌, List, ◌++◌, Option, None, Some}
+use Rattle.twkb_io.specs.Sinks.{TookFront}
 use Rattle.twkb_writer.specs.declared.gatherer.Gatherer.{Gatherer}
 
--- the sink took what was held and a front of the bytes, and the rest is held
-pub record Moved {S : Type 0} (took : S → List ℕ → S → Type 0) (old : Gatherer S) (bytes : List ℕ) (new : Gatherer S) : Type 0 where
-  pub same_sink : new.sink.ghost_name ≡ old.sink.ghost_name
-  pub front : List ℕ
-  pub taken : took old.sink.now front new.sink.now
-  pub whole : old.piece.now ++ bytes ≡ front ++ new.piece.now
+-- what a sink took of these bytes since a first state: all but those that are held, or a front, where it refused what came next
+abbrev pub Stands : {S F : Type 0} → (S → List ℕ → S → Type 0) → (S → List ℕ → F → S → Type 0) → S → List ℕ → Option F → S → List ℕ → Type 0
+Stands took refused from bytes None sink held = (front : List ℕ) × took from front sink × (bytes ≡ front ++ held)
+Stands took refused from bytes (Some fault) sink held = TookFront refused from bytes fault sink
 
--- the sink took a front of what was held and of the bytes, and refused what came next
-pub record Failed {S F : Type 0} (refused : S → List ℕ → F → S → Type 0) (old : Gatherer S) (bytes : List ℕ) (fault : F) (new : Gatherer S) : Type 0 where
+-- these bytes were put behind all those before
+pub record Put {S F : Type 0} (took : S → List ℕ → S → Type 0) (refused : S → List ℕ → F → S → Type 0) (old : Gatherer S F) (bytes : List ℕ) (new : Gatherer S F) : Type 0 where
   pub same_sink : new.sink.ghost_name ≡ old.sink.ghost_name
-  pub front : List ℕ
-  pub rest : List ℕ
-  pub refuses : refused old.sink.now front fault new.sink.now
-  pub whole : old.piece.now ++ bytes ≡ front ++ rest
+  pub same_fault : new.fault.ghost_name ≡ old.fault.ghost_name
+  pub puts : (from : S) (before : List ℕ) → Stands took refused from before old.fault.now old.sink.now old.piece.now
+      → Stands took refused from (before ++ bytes) new.fault.now new.sink.now new.piece.now
 
 -- of all the bytes these are left to put
-pub record Progress {S : Type 0} (took : S → List ℕ → S → Type 0) (old : Gatherer S) (all : List ℕ) (new : Gatherer S) (rest : List ℕ) : Type 0 where
+pub record Progress {S F : Type 0} (took : S → List ℕ → S → Type 0) (refused : S → List ℕ → F → S → Type 0) (old : Gatherer S F) (all : List ℕ) (new : Gatherer S F) (rest : List ℕ) : Type 0 where
   pub written : List ℕ
-  pub moved : Moved took old written new
+  pub put : Put took refused old written new
   pub total : written ++ rest ≡ all

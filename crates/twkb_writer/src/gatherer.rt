@@ -1,19 +1,21 @@
 //! Bytes that are put to a sink through a piece.
-ghost use Rattle.std.specs.Prelude.{◌≡◌, ◌≤◌, ◌+◌, ◌-ℤ◌, length, flat_map, [], OnOk, IfErr};
+ghost use Rattle.std.specs.Prelude.{◌≡◌, ◌≤◌, ◌+◌, ◌-ℤ◌, length, flat_map, [], ◌∷◌};
 ghost use Rattle.twkb_num.specs.Zigzag.{zigzag_of};
 ghost use Rattle.twkb_num.specs.Varint.{varint_of};
 ghost use Rattle.twkb_writer.specs.Bytes.{signed, id_bytes, step_bytes};
 
 use crate::piece::Piece;
+use std::mem::replace;
 use twkb_io::Sink;
 use twkb_num::zigzag;
 use twkb_points::{Cursor, Pt};
 
-// A sink, and the piece in which bytes are gathered on their way to it.
+// A sink, the piece in which bytes are gathered on their way to it, and the fault by which it refused some: what is put then is lost.
 #[derive(Drop)]
-pub(crate) struct Gatherer<'a, S> {
+pub(crate) struct Gatherer<'a, 'b, 'c, S, F> {
     pub(crate) sink: &'a mut S,
-    pub(crate) piece: &'a mut Piece,
+    pub(crate) piece: &'b mut Piece,
+    pub(crate) fault: &'c mut Option<F>,
 }
 
 // The zigzag forms of the difference to a point, where the cursor moves.
@@ -26,111 +28,104 @@ fn step_to(cursor: &mut Cursor, to: Pt) -> (u64, u64)
     (zigzag(x), zigzag(y))
 }
 
-impl<'a, S: Sink> Gatherer<'a, S> {
-    ghost use Rattle.twkb_writer.specs.Putting.{Moved, Failed};
+impl<'a, 'b, 'c, S: Sink> Gatherer<'a, 'b, 'c, S, S::Fault> {
+    ghost use Rattle.twkb_writer.specs.Putting.{Put};
 
-    // Puts what the piece holds, and empties it.
+    // Puts what the piece holds where no put was refused before, and empties it.
     #[inline(always)]
-    pub(crate) fn flush(&mut self) -> Result<(), S::Fault>
-        ensures ok { OnOk result (Moved S.took self.old [] self.new) }
-        ensures empty { OnOk result (self.new.piece.now ≡ []) }
-        ensures err { IfErr result (λ fault. Failed S.refused self.old [] fault self.new) }
+    pub(crate) fn flush(&mut self)
+        ensures put { Put S.took S.refused self.old [] self.new }
+        ensures empty { self.new.piece.now ≡ [] }
     {
-        self.sink.put(self.piece.as_slice())?;
+        if self.fault.is_some() {
+            self.piece.clear();
+            return;
+        }
+        let refused = self.sink.put(self.piece.as_slice()).err();
         self.piece.clear();
-        Ok(())
+        match replace(self.fault, refused) {
+            None => {}
+            Some(_before) => unreachable!(),
+        }
     }
 
     // Puts what the piece holds where it has no room for a step, two numbers.
     #[inline(always)]
-    fn make_room(&mut self) -> Result<(), S::Fault>
-        ensures ok { OnOk result (Moved S.took self.old [] self.new) }
-        ensures room { OnOk result (length self.new.piece.now + 20 ≤ 4096) }
-        ensures err { IfErr result (λ fault. Failed S.refused self.old [] fault self.new) }
+    fn make_room(&mut self)
+        ensures put { Put S.took S.refused self.old [] self.new }
+        ensures room { length self.new.piece.now + 20 ≤ 4096 }
     {
         if self.piece.has_room() {
-            return Ok(());
+            return;
         }
-        self.empty()
+        self.empty();
     }
 
     // Puts what the piece holds, and empties it, as happens once a piece.
     #[inline(never)]
-    fn empty(&mut self) -> Result<(), S::Fault>
-        ensures ok { OnOk result (Moved S.took self.old [] self.new) }
-        ensures room { OnOk result (length self.new.piece.now + 20 ≤ 4096) }
-        ensures err { IfErr result (λ fault. Failed S.refused self.old [] fault self.new) }
+    fn empty(&mut self)
+        ensures put { Put S.took S.refused self.old [] self.new }
+        ensures room { length self.new.piece.now + 20 ≤ 4096 }
     {
-        self.flush()
+        self.flush();
     }
 
     // Puts two bytes.
     #[inline(always)]
-    pub(crate) fn put_two(&mut self, bytes: [u8; 2]) -> Result<(), S::Fault>
-        ensures ok { OnOk result (Moved S.took self.old bytes self.new) }
-        ensures err { IfErr result (λ fault. Failed S.refused self.old bytes fault self.new) }
+    pub(crate) fn put_two(&mut self, first: u8, second: u8)
+        ensures { Put S.took S.refused self.old (first ∷ second ∷ []) self.new }
     {
-        self.make_room()?;
-        let [first, second] = bytes;
+        self.make_room();
         self.piece.push(first);
         self.piece.push(second);
-        Ok(())
     }
 
     // Puts a number, by its shortest varint.
     #[inline(always)]
-    pub(crate) fn put_number(&mut self, number: u64) -> Result<(), S::Fault>
-        ensures ok { OnOk result (Moved S.took self.old (varint_of number) self.new) }
-        ensures err { IfErr result (λ fault. Failed S.refused self.old (varint_of number) fault self.new) }
+    pub(crate) fn put_number(&mut self, number: u64)
+        ensures { Put S.took S.refused self.old (varint_of number) self.new }
     {
-        self.make_room()?;
+        self.make_room();
         self.piece.push_number(number);
-        Ok(())
     }
 
     // Puts a whole number, by its zigzag form.
     #[inline(always)]
-    fn put_signed(&mut self, number: i64) -> Result<(), S::Fault>
-        ensures ok { OnOk result (Moved S.took self.old (signed number) self.new) }
-        ensures err { IfErr result (λ fault. Failed S.refused self.old (signed number) fault self.new) }
+    fn put_signed(&mut self, number: i64)
+        ensures { Put S.took S.refused self.old (signed number) self.new }
     {
-        self.put_number(zigzag(number))
+        self.put_number(zigzag(number));
     }
 
     // Puts an id, where there is one.
     #[inline(always)]
-    pub(crate) fn put_id(&mut self, id: Option<i64>) -> Result<(), S::Fault>
-        ensures ok { OnOk result (Moved S.took self.old (id_bytes id) self.new) }
-        ensures err { IfErr result (λ fault. Failed S.refused self.old (id_bytes id) fault self.new) }
+    pub(crate) fn put_id(&mut self, id: Option<i64>)
+        ensures { Put S.took S.refused self.old (id_bytes id) self.new }
     {
         match id {
             Some(id) => self.put_signed(id),
-            None => Ok(()),
+            None => {}
         }
     }
 
     // Puts whole numbers.
-    pub(crate) fn put_all(&mut self, numbers: &[i64]) -> Result<(), S::Fault>
-        ensures ok { OnOk result (Moved S.took self.old (flat_map signed numbers.now) self.new) }
-        ensures err { IfErr result (λ fault. Failed S.refused self.old (flat_map signed numbers.now) fault self.new) }
+    pub(crate) fn put_all(&mut self, numbers: &[i64])
+        ensures { Put S.took S.refused self.old (flat_map signed numbers.now) self.new }
     {
         for number in numbers {
-            self.put_signed(*number)?;
+            self.put_signed(*number);
         }
-        Ok(())
     }
 
     // Puts the difference to a point, where the cursor moves.
     #[inline(always)]
-    pub(crate) fn put_step(&mut self, cursor: &mut Cursor, to: Pt) -> Result<(), S::Fault>
-        ensures ok { OnOk result (Moved S.took self.old (step_bytes (to.x -ℤ cursor.old.x, to.y -ℤ cursor.old.y)) self.new) }
-        ensures moved { OnOk result (cursor.new ≡ to) }
-        ensures err { IfErr result (λ fault. Failed S.refused self.old (step_bytes (to.x -ℤ cursor.old.x, to.y -ℤ cursor.old.y)) fault self.new) }
+    pub(crate) fn put_step(&mut self, cursor: &mut Cursor, to: Pt)
+        ensures put { Put S.took S.refused self.old (step_bytes (to.x -ℤ cursor.old.x, to.y -ℤ cursor.old.y)) self.new }
+        ensures moved { cursor.new ≡ to }
     {
-        self.make_room()?;
+        self.make_room();
         let (x, y) = step_to(cursor, to);
         self.piece.push_number(x);
         self.piece.push_number(y);
-        Ok(())
     }
 }

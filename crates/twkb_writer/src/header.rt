@@ -1,8 +1,8 @@
 //! The header of a TWKB geometry: type byte, metadata byte, size and box.
-ghost use Rattle.std.specs.Prelude.{◌≡◌, ◌++◌, OnOk, IfErr};
+ghost use Rattle.std.specs.Prelude.{◌≡◌, ◌++◌};
 ghost use Rattle.twkb_writer.specs.Bytes.{is_bare, metadata_of, size_bytes, box_bytes};
 ghost use Rattle.twkb_writer.specs.Nodes.{header_of};
-ghost use Rattle.twkb_writer.specs.Putting.{Moved, Failed};
+ghost use Rattle.twkb_writer.specs.Putting.{Put};
 
 use crate::gatherer::Gatherer;
 use crate::sizes::Entry;
@@ -32,42 +32,23 @@ fn metadata(style: Style, points: u32, entry: &Entry) -> Metadata
 }
 
 // Puts the size, where the style has one.
-fn put_size<S: Sink>(
-    style: Style,
-    entry: &Entry,
-    gatherer: &mut Gatherer<'_, S>,
-) -> Result<(), S::Fault>
-    ensures ok { OnOk result (Moved S.took gatherer.old (size_bytes style entry.now) gatherer.new) }
-    ensures err { IfErr result (λ fault. Failed S.refused gatherer.old (size_bytes style entry.now) fault gatherer.new) }
+fn put_size<S: Sink>(style: Style, entry: &Entry, gatherer: &mut Gatherer<'_, '_, '_, S, S::Fault>)
+    ensures { Put S.took S.refused gatherer.old (size_bytes style entry.now) gatherer.new }
 {
     match style {
         Style::Full => gatherer.put_number(entry.size),
-        Style::Plain => Ok(()),
+        Style::Plain => {}
     }
 }
 
 // Puts the box, where there is one.
-fn put_box<S: Sink>(entry: &Entry, gatherer: &mut Gatherer<'_, S>) -> Result<(), S::Fault>
-    ensures ok { OnOk result (Moved S.took gatherer.old (box_bytes entry.now.bounds) gatherer.new) }
-    ensures err { IfErr result (λ fault. Failed S.refused gatherer.old (box_bytes entry.now.bounds) fault gatherer.new) }
+fn put_box<S: Sink>(entry: &Entry, gatherer: &mut Gatherer<'_, '_, '_, S, S::Fault>)
+    ensures { Put S.took S.refused gatherer.old (box_bytes entry.now.bounds) gatherer.new }
 {
     match entry.bounds {
         Some(bounds) => gatherer.put_all(&bounds.items()),
-        None => Ok(()),
+        None => {}
     }
-}
-
-// Puts size and box.
-fn put_size_and_box<S: Sink>(
-    style: Style,
-    entry: &Entry,
-    gatherer: &mut Gatherer<'_, S>,
-) -> Result<(), S::Fault>
-    ensures ok { OnOk result (Moved S.took gatherer.old (size_bytes style entry.now ++ box_bytes entry.now.bounds) gatherer.new) }
-    ensures err { IfErr result (λ fault. Failed S.refused gatherer.old (size_bytes style entry.now ++ box_bytes entry.now.bounds) fault gatherer.new) }
-{
-    put_size(style, entry, gatherer)?;
-    put_box(entry, gatherer)
 }
 
 // Puts type byte, metadata byte, size and box of a node that is a geometry of its own.
@@ -76,15 +57,13 @@ pub(crate) fn put_header<S: Sink>(
     node: &Node,
     precision: i8,
     entry: &Entry,
-    gatherer: &mut Gatherer<'_, S>,
-) -> Result<(), S::Fault>
-    ensures ok { OnOk result (Moved S.took gatherer.old (header_of style precision entry.now node.now) gatherer.new) }
-    ensures err { IfErr result (λ fault. Failed S.refused gatherer.old (header_of style precision entry.now node.now) fault gatherer.new) }
+    gatherer: &mut Gatherer<'_, '_, '_, S, S::Fault>,
+)
+    ensures { Put S.took S.refused gatherer.old (header_of style precision entry.now node.now) gatherer.new }
 {
-    let bytes = [
-        TypeByte::of(node.row.kind, precision).byte(),
-        metadata(style, node.points, entry).byte(),
-    ];
-    gatherer.put_two(bytes)?;
-    put_size_and_box(style, entry, gatherer)
+    let kind = TypeByte::of(node.row.kind, precision).byte();
+    let flags = metadata(style, node.points, entry).byte();
+    gatherer.put_two(kind, flags);
+    put_size(style, entry, gatherer);
+    put_box(entry, gatherer);
 }

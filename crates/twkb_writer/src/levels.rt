@@ -12,7 +12,7 @@ use twkb_points::{Bounds, merged};
 use twkb_tree::Kind;
 
 // What the rows at one depth come to, from a place on up to the next row above them, with all rows below them.
-#[derive(Clone, Copy, Debug, PartialEq, Eq)]
+#[derive(Clone, Copy)]
 pub(crate) struct Level {
     // How many rows there are at this depth.
     pub(crate) members: u32,

@@ -1,9 +1,9 @@
 //! The members of a node: the nodes one deeper, from the one after it to the end of its subtree.
-ghost use Rattle.std.specs.Prelude.{◌≡◌, length, OnOk, IfErr};
+ghost use Rattle.std.specs.Prelude.{◌≡◌, length};
 ghost use Rattle.twkb_flat.specs.Rows.{IsNode};
 ghost use Rattle.twkb_writer.specs.Bytes.{ids_bytes};
 ghost use Rattle.twkb_writer.specs.Nodes.{members_of};
-ghost use Rattle.twkb_writer.specs.Putting.{Moved, Failed};
+ghost use Rattle.twkb_writer.specs.Putting.{Put};
 ghost use Rattle.twkb_writer.specs.Reads.{Reads};
 
 use crate::gatherer::Gatherer;
@@ -22,22 +22,20 @@ pub(crate) struct MemberIds {
 pub(crate) fn put_ids<S: Sink>(
     flat: &Flat,
     at: &Placed,
-    gatherer: &mut Gatherer<'_, S>,
+    gatherer: &mut Gatherer<'_, '_, '_, S, S::Fault>,
     work: &mut Work,
-) -> Result<(), S::Fault>
+)
     requires { IsNode flat.now at.now.id.0 at.now.node }
-    ensures ok { OnOk result (Moved S.took gatherer.old (ids_bytes (members_of flat.now at.now)) gatherer.new) }
-    ensures err { IfErr result (λ fault. Failed S.refused gatherer.old (ids_bytes (members_of flat.now at.now)) fault gatherer.new) }
-    ensures reads { OnOk result (Reads work.old (length (members_of flat.now at.now)) 0 work.new) }
+    ensures put { Put S.took S.refused gatherer.old (ids_bytes (members_of flat.now at.now)) gatherer.new }
+    ensures reads { Reads work.old (length (members_of flat.now at.now)) 0 work.new }
 {
     let end = at.node.next.0;
     let mut child = at.id.0 + 1;
     while child < end {
         let member = flat.node(NodeId(child), work);
-        gatherer.put_id(member.row.id)?;
+        gatherer.put_id(member.row.id);
         child = member.next.0;
     }
-    Ok(())
 }
 
 // How many members a node has. Reads each once.

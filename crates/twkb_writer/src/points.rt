@@ -1,9 +1,9 @@
 //! The points of a row, as a way from point to point.
-ghost use Rattle.std.specs.Prelude.{◌≡◌, ◌+◌, ◌≤◌, ◌<◌, ◌^◌, length, OnOk, IfErr};
+ghost use Rattle.std.specs.Prelude.{◌≡◌, ◌+◌, ◌≤◌, ◌<◌, ◌^◌, length};
 ghost use Rattle.twkb_tree.specs.Rows.{row_points};
 ghost use Rattle.twkb_writer.specs.Bytes.{way_bytes, way_end};
 ghost use Rattle.twkb_writer.specs.Nodes.{own_points_of};
-ghost use Rattle.twkb_writer.specs.Putting.{Moved, Failed};
+ghost use Rattle.twkb_writer.specs.Putting.{Put};
 ghost use Rattle.twkb_writer.specs.Reads.{Reads};
 
 use crate::gatherer::Gatherer;
@@ -17,20 +17,18 @@ pub(crate) fn put_points<S: Sink>(
     flat: &Flat,
     node: &Node,
     cursor: &mut Cursor,
-    gatherer: &mut Gatherer<'_, S>,
+    gatherer: &mut Gatherer<'_, '_, '_, S, S::Fault>,
     work: &mut Work,
-) -> Result<(), S::Fault>
+)
     requires within { node.now.first.0 + node.now.points ≤ length (row_points flat.now) }
     requires fits { node.now.first.0 + node.now.points < 2 ^ 32 }
-    ensures ok { OnOk result (Moved S.took gatherer.old (way_bytes cursor.old (own_points_of flat.now node.now)) gatherer.new) }
-    ensures moved { OnOk result (cursor.new ≡ way_end cursor.old (own_points_of flat.now node.now)) }
-    ensures err { IfErr result (λ fault. Failed S.refused gatherer.old (way_bytes cursor.old (own_points_of flat.now node.now)) fault gatherer.new) }
-    ensures reads { OnOk result (Reads work.old 0 node.now.points work.new) }
+    ensures put { Put S.took S.refused gatherer.old (way_bytes cursor.old (own_points_of flat.now node.now)) gatherer.new }
+    ensures moved { cursor.new ≡ way_end cursor.old (own_points_of flat.now node.now) }
+    ensures reads { Reads work.old 0 node.now.points work.new }
 {
     let first = node.first.0;
     for index in first..first + node.points {
         let to = flat.point(PointId(index), work);
-        gatherer.put_step(cursor, to)?;
+        gatherer.put_step(cursor, to);
     }
-    Ok(())
 }

@@ -3,7 +3,7 @@ ghost use Rattle.std.specs.Prelude.{◌≡◌};
 ghost use Rattle.twkb_writer.specs.Precisions.{agreed, all_are};
 
 // What is known of the precisions of some geometries.
-#[derive(Clone, Copy, Debug, PartialEq, Eq)]
+#[derive(Clone, Copy)]
 pub(crate) enum Precisions {
     // There is no geometry.
     Absent,

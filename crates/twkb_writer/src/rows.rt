@@ -1,10 +1,10 @@
 //! The rows of a flat form, one after another.
-ghost use Rattle.std.specs.Prelude.{◌≡◌, ◌+◌, ◌*◌, ◌≤◌, length, OnOk, IfOk, IfErr, if◌then◌else◌};
+ghost use Rattle.std.specs.Prelude.{◌≡◌, ◌+◌, ◌*◌, ◌≤◌, ◌<◌, ◌^◌, length, if◌then◌else◌};
 ghost use Rattle.twkb_tree.specs.Rows.{row_points};
 ghost use Rattle.twkb_flat.specs.Rows.{IsNode};
 ghost use Rattle.twkb_writer.specs.Bytes.{way_start, entry_count, entries_in};
 ghost use Rattle.twkb_writer.specs.Nodes.{members_of, listed_of, counts_of, own_of, part_of, lead_of, bytes_of};
-ghost use Rattle.twkb_writer.specs.Putting.{Moved, Failed};
+ghost use Rattle.twkb_writer.specs.Putting.{Put};
 ghost use Rattle.twkb_writer.specs.Reads.{Reads};
 
 use crate::gatherer::Gatherer;
@@ -23,19 +23,18 @@ fn put_members<S: Sink>(
     flat: &Flat,
     at: &Placed,
     members: MemberIds,
-    gatherer: &mut Gatherer<'_, S>,
+    gatherer: &mut Gatherer<'_, '_, '_, S, S::Fault>,
     work: &mut Work,
-) -> Result<(), S::Fault>
+)
     requires { IsNode flat.now at.now.id.0 at.now.node }
-    ensures ok { OnOk result (Moved S.took gatherer.old (listed_of members flat.now at.now) gatherer.new) }
-    ensures err { IfErr result (λ fault. Failed S.refused gatherer.old (listed_of members flat.now at.now) fault gatherer.new) }
-    ensures reads { OnOk result (Reads work.old (if members.named then length (members_of flat.now at.now) else 0) 0 work.new) }
+    ensures put { Put S.took S.refused gatherer.old (listed_of members flat.now at.now) gatherer.new }
+    ensures reads { Reads work.old (if members.named then length (members_of flat.now at.now) else 0) 0 work.new }
 {
-    gatherer.put_number(members.count as u64)?;
+    gatherer.put_number(members.count as u64);
     if !members.named {
-        return Ok(());
+        return;
     }
-    put_ids(flat, at, gatherer, work)
+    put_ids(flat, at, gatherer, work);
 }
 
 // Puts what stands before a node's points, behind its header.
@@ -44,16 +43,15 @@ fn put_counts<S: Sink>(
     flat: &Flat,
     at: &Placed,
     members: MemberIds,
-    gatherer: &mut Gatherer<'_, S>,
+    gatherer: &mut Gatherer<'_, '_, '_, S, S::Fault>,
     work: &mut Work,
-) -> Result<(), S::Fault>
+)
     requires { IsNode flat.now at.now.id.0 at.now.node }
-    ensures ok { OnOk result (Moved S.took gatherer.old (counts_of members flat.now at.now) gatherer.new) }
-    ensures err { IfErr result (λ fault. Failed S.refused gatherer.old (counts_of members flat.now at.now) fault gatherer.new) }
-    ensures reads { OnOk result (Reads work.old (if members.named then length (members_of flat.now at.now) else 0) 0 work.new) }
+    ensures put { Put S.took S.refused gatherer.old (counts_of members flat.now at.now) gatherer.new }
+    ensures reads { Reads work.old (if members.named then length (members_of flat.now at.now) else 0) 0 work.new }
 {
     match at.node.row.kind {
-        Kind::Point => Ok(()),
+        Kind::Point => {}
         Kind::Linestring | Kind::Ring => gatherer.put_number(at.node.points as u64),
         Kind::Polygon
         | Kind::MultiPoint
@@ -69,22 +67,21 @@ fn put_own<S: Sink>(
     flat: &Flat,
     at: &Placed,
     entry: &Entry,
-    gatherer: &mut Gatherer<'_, S>,
+    gatherer: &mut Gatherer<'_, '_, '_, S, S::Fault>,
     work: &mut Work,
-) -> Result<(), S::Fault>
+)
     requires { IsNode flat.now at.now.id.0 at.now.node }
-    ensures ok { OnOk result (Moved S.took gatherer.old (own_of entry.now flat.now at.now) gatherer.new) }
-    ensures err { IfErr result (λ fault. Failed S.refused gatherer.old (own_of entry.now flat.now at.now) fault gatherer.new) }
-    ensures reads { OnOk result (Reads work.old (length (members_of flat.now at.now)) 0 work.new) }
+    ensures put { Put S.took S.refused gatherer.old (own_of entry.now flat.now at.now) gatherer.new }
+    ensures reads { Reads work.old (length (members_of flat.now at.now)) 0 work.new }
 {
     if has_no_body(at.node.points, entry) {
-        return Ok(());
+        return;
     }
     let members = MemberIds {
         count: entry.members,
         named: entry.named,
     };
-    put_counts(flat, at, members, gatherer, work)
+    put_counts(flat, at, members, gatherer, work);
 }
 
 // Puts what stands before the points of a part of a geometry.
@@ -92,86 +89,95 @@ fn put_own<S: Sink>(
 fn put_part<S: Sink>(
     flat: &Flat,
     at: &Placed,
-    gatherer: &mut Gatherer<'_, S>,
+    gatherer: &mut Gatherer<'_, '_, '_, S, S::Fault>,
     work: &mut Work,
-) -> Result<(), S::Fault>
+)
     requires { IsNode flat.now at.now.id.0 at.now.node }
-    ensures ok { OnOk result (Moved S.took gatherer.old (part_of flat.now at.now) gatherer.new) }
-    ensures err { IfErr result (λ fault. Failed S.refused gatherer.old (part_of flat.now at.now) fault gatherer.new) }
-    ensures reads { OnOk result (Reads work.old (length (members_of flat.now at.now)) 0 work.new) }
+    ensures put { Put S.took S.refused gatherer.old (part_of flat.now at.now) gatherer.new }
+    ensures reads { Reads work.old (length (members_of flat.now at.now)) 0 work.new }
 {
     let count = count_members(flat, at, work);
     let members = MemberIds {
         count,
         named: false,
     };
-    put_counts(flat, at, members, gatherer, work)
+    put_counts(flat, at, members, gatherer, work);
 }
 
 // Where the way stands, and the entry of the next geometry.
-#[derive(Clone, Copy, Debug)]
+#[derive(Clone, Copy)]
 struct Place {
     cursor: Cursor,
     entry: usize,
 }
 
-// Puts what stands before the points of a row, and gives the place where these begin.
+// Where the points of a row of this precision begin, and the entry of the next geometry behind it.
+#[inline(always)]
+fn place_of_points(precision: Option<i8>, place: Place) -> Place
+    requires { place.entry + entry_count precision < 2 ^ 64 }
+    ensures at { result.cursor ≡ way_start precision place.cursor }
+    ensures entry { result.entry ≡ place.entry + entry_count precision }
+{
+    match precision {
+        Some(_) => Place {
+            cursor: Cursor::origin(),
+            entry: place.entry + 1,
+        },
+        None => place,
+    }
+}
+
+// Puts what stands before the points of a row.
 #[inline(always)]
 fn put_lead<S: Sink>(
     job: &Job<'_>,
     at: &Placed,
-    place: Place,
-    gatherer: &mut Gatherer<'_, S>,
+    entry: usize,
+    gatherer: &mut Gatherer<'_, '_, '_, S, S::Fault>,
     work: &mut Work,
-) -> Result<Place, S::Fault>
+)
     requires node { IsNode job.now.flat.now at.now.id.0 at.now.node }
-    requires room { place.entry + entry_count at.now.node.row.precision ≤ length job.now.sizes.now }
-    ensures ok { IfOk result (λ next. Moved S.took gatherer.old (lead_of job.now place.entry at.now) gatherer.new) }
-    ensures at { IfOk result (λ next. next.cursor ≡ way_start at.now.node.row.precision place.cursor) }
-    ensures entry { IfOk result (λ next. next.entry ≡ place.entry + entry_count at.now.node.row.precision) }
-    ensures err { IfErr result (λ fault. Failed S.refused gatherer.old (lead_of job.now place.entry at.now) fault gatherer.new) }
-    ensures reads { IfOk result (λ next. Reads work.old (length (members_of job.now.flat.now at.now)) 0 work.new) }
+    requires room { entry + entry_count at.now.node.row.precision ≤ length job.now.sizes.now }
+    ensures put { Put S.took S.refused gatherer.old (lead_of job.now entry at.now) gatherer.new }
+    ensures reads { Reads work.old (length (members_of job.now.flat.now at.now)) 0 work.new }
 {
     match at.node.row.precision {
         Some(precision) => {
             let sizes = job.sizes;
-            let entry = sizes.entries[place.entry];
-            put_header(job.style, &at.node, precision, &entry, gatherer)?;
-            put_own(job.flat, at, &entry, gatherer, work)?;
-            Ok(Place {
-                cursor: Cursor::origin(),
-                entry: place.entry + 1,
-            })
+            let entry = sizes.entries[entry];
+            put_header(job.style, &at.node, precision, &entry, gatherer);
+            put_own(job.flat, at, &entry, gatherer, work);
         }
-        None => {
-            put_part(job.flat, at, gatherer, work)?;
-            Ok(place)
-        }
+        None => put_part(job.flat, at, gatherer, work),
     }
 }
 
 // Puts all rows with their entries, in one pass.
 pub(crate) fn put_rows<S: Sink>(
     job: &Job<'_>,
-    gatherer: &mut Gatherer<'_, S>,
+    gatherer: &mut Gatherer<'_, '_, '_, S, S::Fault>,
     work: &mut Work,
-) -> Result<(), S::Fault>
+)
     requires { entries_in job.now.flat.now ≤ length job.now.sizes.now }
-    ensures ok { OnOk result (Moved S.took gatherer.old (bytes_of job.now) gatherer.new) }
-    ensures err { IfErr result (λ fault. Failed S.refused gatherer.old (bytes_of job.now) fault gatherer.new) }
-    ensures reads { OnOk result (Reads work.old (2 * length job.now.flat.now) (length (row_points job.now.flat.now)) work.new) }
+    ensures put { Put S.took S.refused gatherer.old (bytes_of job.now) gatherer.new }
+    ensures reads { Reads work.old (2 * length job.now.flat.now) (length (row_points job.now.flat.now)) work.new }
 {
+    // learnt: the entries are fewer than 2^64
+    let _learnt = job.sizes.len();
     let flat = job.flat;
     let mut place = Place {
         cursor: Cursor::origin(),
         entry: 0,
     };
     for index in 0..flat.node_count() {
+        if gatherer.fault.is_some() {
+            return;
+        }
         let id = NodeId(index);
         let node = flat.node(id, work);
         let at = Placed { id, node };
-        place = put_lead(job, &at, place, gatherer, work)?;
-        put_points(flat, &node, &mut place.cursor, gatherer, work)?;
+        put_lead(job, &at, place.entry, gatherer, work);
+        place = place_of_points(node.row.precision, place);
+        put_points(flat, &node, &mut place.cursor, gatherer, work);
     }
-    Ok(())
 }

@@ -6,7 +6,7 @@ use std::marker::Model;
 use twkb_points::Bounds;
 
 // What is measured of a TWKB geometry before its header can be written.
-#[derive(Clone, Copy, Debug, PartialEq, Eq)]
+#[derive(Clone, Copy)]
 pub(crate) struct Entry {
     // The bytes behind the size up to the geometry's end: box and body.
     pub(crate) size: u64,

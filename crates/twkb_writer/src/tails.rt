@@ -7,7 +7,7 @@ use crate::lengths::signed_len;
 use twkb_points::{Bounds, Cursor, Pt, merged};
 
 // What the points from a place on up to the end of their geometry come to.
-#[derive(Clone, Copy, Debug, PartialEq, Eq)]
+#[derive(Clone, Copy)]
 pub(crate) struct Tail {
     // The first of them.
     pub(crate) first: Option<Pt>,

@@ -43,9 +43,18 @@ pub fn write_through<S: Sink>(
     }
     piece.clear();
     let job = Job { flat, style, sizes };
-    let mut gatherer = Gatherer { sink, piece };
-    put_rows(&job, &mut gatherer, work)?;
-    gatherer.flush()
+    let mut fault = None;
+    let mut gatherer = Gatherer {
+        sink,
+        piece,
+        fault: &mut fault,
+    };
+    put_rows(&job, &mut gatherer, work);
+    gatherer.flush();
+    match fault {
+        Some(fault) => Err(fault),
+        None => Ok(()),
+    }
 }
 
 /// Writes the canonical blob of a flat form in a style, with its sizes in that style: exactly these bytes where it answers

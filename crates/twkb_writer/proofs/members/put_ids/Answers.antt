@@ -1,7 +1,6 @@
 use Rattle.std.proofs.Common.{◌+◌, ap, length, arith}
-use Rattle.std.proofs.lemmas.Result.{err_from_is_err_and}
 use Rattle.twkb_writer.specs.Bytes.{ids_bytes}
-use Rattle.twkb_writer.proofs.PutLemmas.{begun, step, stopped, finished}
+use Rattle.twkb_writer.proofs.PutLemmas.{begun, step, finished}
 use Rattle.twkb_writer.proofs.MemberLemmas.{node_ends, first_at, next_at, members_step, members_end}
 use Rattle.twkb_writer.proofs.ReadLemmas.{reads_none, reads_join, one_node}
 use Rattle.twkb_writer.proofs.members.put_ids.Goals as goal
@@ -10,7 +9,7 @@ pub loop-child-init : goal.loop-child-init
 loop-child-init g c = record {
   after = omega arith;
   at = first_at _ _ _ c.requires;
-  progress = begun g.S.Sink.took _ _ (g.met.S.Sink.takes_nothing _);
+  progress = begun g.S.Sink.took g.S.Sink.refused _ _;
   read = (0, omega arith, reads_none _ _ _);
 }
 
@@ -24,21 +23,14 @@ loop-child-preserved g c =
     record {
       after = omega (arith, member.next.after, inv.after);
       at = next_at _ _ _ _ _ _ ends inv.at c.loop-child-test.true inv.after member;
-      progress = step g.S.Sink.took g.S.Sink.refused g.met.S.Sink.takes_join g.met.S.Sink.refuses_join _ _ _ _ _ _ _ (ap ids_bytes more) inv.progress c.in_ok-put_id.ensures.ok;
+      progress = step g.S.Sink.took g.S.Sink.refused _ _ _ _ _ _ _ (ap ids_bytes more) inv.progress c.put_id.ensures;
       read = (n + 1, omega (arith, total, ap length more), reads_join _ _ _ _ _ _ _ _ _ reads (one_node _ _ c.node-member.ensures.no_fewer c.node-member.ensures.counted) (omega arith) (omega arith));
     }
 
-pub returns-in_err-put_id-clause-err : goal.returns-in_err-put_id-clause-err
-returns-in_err-put_id-clause-err g c =
-    let p = err_from_is_err_and c.from_residual.result c.from_residual.ensures.1 in
+pub returns-clause-put : goal.returns-clause-put
+returns-clause-put g c =
     let inv = c.loop-child.invariant in
-    let more = members_step _ _ 0 _ _ _ c.node-member.ensures.node inv.at c.loop-child-test.true in
-    rw (p.1, p.2) (stopped g.S.Sink.took g.S.Sink.refused g.met.S.Sink.takes_join g.met.S.Sink.refuses_join _ _ _ _ _ _ _ _ (ap ids_bytes more) inv.progress c.in_err-put_id.ensures.err)
-
-pub returns-clause-ok : goal.returns-clause-ok
-returns-clause-ok g c =
-    let inv = c.loop-child.invariant in
-    finished g.S.Sink.took _ _ _ _ (ap ids_bytes (members_end _ _ _ _ _ (node_ends _ _ _ c.requires) inv.at (omega arith))) inv.progress
+    finished g.S.Sink.took g.S.Sink.refused _ _ _ _ (ap ids_bytes (members_end _ _ _ _ _ (node_ends _ _ _ c.requires) inv.at (omega arith))) inv.progress
 
 pub returns-clause-reads : goal.returns-clause-reads
 returns-clause-reads g c =

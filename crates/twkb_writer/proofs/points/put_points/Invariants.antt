@@ -9,7 +9,7 @@ abbrev pub invariant-loop-index : goal.invariant-loop-index
 invariant-loop-index g l =
     let ps = row_points l.flat in
     record {
-      progress : Progress g.S.Sink.took l.fn.gatherer (way_bytes l.fn.cursor (take l.fn.node.points (drop l.fn.node.first.0 ps))) l.gatherer
+      progress : Progress g.S.Sink.took g.S.Sink.refused l.fn.gatherer (way_bytes l.fn.cursor (take l.fn.node.points (drop l.fn.node.first.0 ps))) l.gatherer
           (way_bytes l.cursor (take (l.fn.node.first.0 + l.fn.node.points - l.index) (drop l.index ps)));
       last : way_end l.cursor (take (l.fn.node.first.0 + l.fn.node.points - l.index) (drop l.index ps)) ≡ way_end l.fn.cursor (take l.fn.node.points (drop l.fn.node.first.0 ps));
       reads : Reads l.fn.work 0 (l.index - l.fn.node.first.0) l.work;

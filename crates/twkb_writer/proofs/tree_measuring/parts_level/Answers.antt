@@ -5,7 +5,7 @@ use Rattle.twkb_writer.specs.Levels.{blank}
 use Rattle.twkb_writer.specs.Measuring.{load}
 use Rattle.twkb_writer.proofs.MeasuringParts.{with_row_of}
 use Rattle.twkb_writer.proofs.MeasuringTotals.{part_counted}
-use Rattle.twkb_writer.proofs.TreeLevels.{each_back, part_more, count_back, fewer_points, length_back, counted_from, parts_are}
+use Rattle.twkb_writer.proofs.TreeLevels.{each_back, part_more, count_back, fewer, fewer_points, length_back, counted_from, parts_are}
 use Rattle.twkb_writer.proofs.tree_measuring.parts_level.Goals as goal
 
 pub overflow_cast-own : goal.overflow_cast-own
@@ -26,6 +26,18 @@ with_part-level-requires-clause-members g c =
       c.requires.few,
       counted_from (with_row_of c.args.kind g.T.Part.own) (part_counted c.args.kind (λ x. length (g.T.Part.own x)) (λ x. blank)) c.args.ids.now c.loop-index.index c.args.parts.now _ c.loop-index.invariant.value,
     )
+
+pub with_part-level-requires-clause-ids : goal.with_part-level-requires-clause-ids
+with_part-level-requires-clause-ids g c = omega (arith, c.requires.few, c.loop-index.invariant.most, fewer c.loop-index.index c.args.parts.now)
+
+pub with_part-level-requires-clause-bytes : goal.with_part-level-requires-clause-bytes
+with_part-level-requires-clause-bytes g c = omega (arith, c.requires.few, c.loop-index.invariant.most, fewer c.loop-index.index c.args.parts.now)
+
+pub with_part-level-requires-clause-ids_below : goal.with_part-level-requires-clause-ids_below
+with_part-level-requires-clause-ids_below g c = omega (arith, ap (λ (l : Level). l.ids) c.blank.ensures)
+
+pub with_part-level-requires-clause-bytes_below : goal.with_part-level-requires-clause-bytes_below
+with_part-level-requires-clause-bytes_below g c = omega (arith, ap (λ (l : Level). l.bytes) c.blank.ensures)
 
 pub loop-index-preserved : goal.loop-index-preserved
 loop-index-preserved g c =
