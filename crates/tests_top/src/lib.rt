@@ -9,3 +9,5 @@ mod command;
 mod convert;
 #[cfg(test)]
 mod table;
+#[cfg(test)]
+mod telling;

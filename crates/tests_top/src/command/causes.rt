@@ -6,15 +6,11 @@ use twkb_polyline::PolyReason;
 use twkb_request::{exit_status, print_line};
 use twkb_table::RowReason;
 
-// Whether a cause has this status, and this text in its line.
-fn is_told(alloc: Global, cause: Cause, number: u8, text: &str) -> bool {
-    let Ok(line) = format!(in alloc; "polytwkb: {text}\n") else {
-        return false;
-    };
+// Whether a cause has this status and this line.
+fn is_told(alloc: Global, cause: Cause, number: u8, line: &[u8]) -> bool {
     let mut errors = Tap::new(Vec::new(alloc));
     print_line(&mut errors, cause);
-    let printed = errors.into_inner();
-    printed.as_slice() == line.as_bytes() && exit_status(&cause) == number
+    errors.into_inner().as_slice() == line && exit_status(&cause) == number
 }
 
 const RECORD: Cause = Cause::Row {
@@ -33,24 +29,35 @@ const ITEM: Cause = Cause::Blob {
 };
 
 // The last record and the last byte, and a reason that no row of the program `vectors` has; then what is no reason.
-const CAUSES: [(Cause, u8, &str); 8] = [
+const CAUSES: [(Cause, u8, &[u8]); 8] = [
     (
         RECORD,
         1,
-        "record 4294967295: too many rows in one geometry",
+        b"polytwkb: record 4294967295: too many rows in one geometry\n",
     ),
-    (POLYLINE, 1, "record 1: polyline at 6: too many points"),
-    (ITEM, 1, "byte 18446744073709551615: size mismatch"),
-    (Cause::ReadDevice, 3, "read failed"),
-    (Cause::WriteDevice, 3, "write failed"),
-    (Cause::Memory, 4, "out of memory"),
-    (Cause::TooLong, 1, "input or output too long"),
-    (Cause::TooManyRecords, 1, "too many records"),
+    (
+        POLYLINE,
+        1,
+        b"polytwkb: record 1: polyline at 6: too many points\n",
+    ),
+    (
+        ITEM,
+        1,
+        b"polytwkb: byte 18446744073709551615: size mismatch\n",
+    ),
+    (Cause::ReadDevice, 3, b"polytwkb: read failed\n"),
+    (Cause::WriteDevice, 3, b"polytwkb: write failed\n"),
+    (Cause::Memory, 4, b"polytwkb: out of memory\n"),
+    (Cause::TooLong, 1, b"polytwkb: input or output too long\n"),
+    (Cause::TooManyRecords, 1, b"polytwkb: too many records\n"),
 ];
 
 #[test]
 fn each_cause_has_its_line(rt: HostRuntime) {
-    for (cause, number, text) in &CAUSES {
-        assert!(rt; is_told(rt.alloc(), *cause, *number, *text), "{text}");
+    for (cause, number, line) in &CAUSES {
+        assert!(rt;
+            is_told(rt.alloc(), *cause, *number, *line),
+            "status {number}"
+        );
     }
 }

@@ -1,26 +1,14 @@
 //! Runs over devices that fail.
 use super::{
-    COLLECTION_BLOB, COLLECTION_LINES, COLLECTION_TABLE, POINT_BLOBS, POINT_TABLE, cut_writer,
-    run_line,
+    COLLECTION_BLOB, COLLECTION_LINES, COLLECTION_TABLE, POINT_BLOBS, POINT_TABLE, Trial, ample,
+    ends, run_over,
 };
 use std::alloc::Global;
-use twkb_io::{Fuse, FuseEnd, Tap};
+use twkb_io::FuseEnd;
 
-// Whether a run with this writer ends with 3, after this output, and is told.
-fn write_fails(
-    alloc: Global,
-    line: &str,
-    input: &[u8],
-    mut writer: Tap<Fuse<Vec<u8>>>,
-    output: &[u8],
-) -> bool {
-    let mut reader = Tap::new(input);
-    let mut errors = Tap::new(Vec::new(alloc));
-    let status = run_line(alloc, line, &mut reader, &mut writer, &mut errors);
-    let is_written = writer.into_inner().into_inner().as_slice() == output;
-    let is_told = errors.into_inner().as_slice() == b"polytwkb: write failed\n".as_slice();
-    status == Some(3) && is_written && is_told
-}
+const READ_FAILED: &[u8] = b"polytwkb: read failed\n";
+
+const WRITE_FAILED: &[u8] = b"polytwkb: write failed\n";
 
 // Whether a writer that takes less than the whole output, however much, ends a run with 3 after
 // what it took.
@@ -33,8 +21,12 @@ fn fails_wherever_cut(
 ) -> bool {
     let mut is_right = true;
     for taken in 0..output.len() {
-        let writer = cut_writer(alloc, taken, end, false);
-        is_right = is_right && write_fails(alloc, line, input, writer, &output[..taken]);
+        let trial = Trial {
+            taken: taken as u64,
+            end,
+            ..ample(input)
+        };
+        is_right = is_right && ends(alloc, line, trial, 3, &output[..taken], WRITE_FAILED);
     }
     is_right
 }
@@ -82,8 +74,11 @@ fn a_writer_that_fails_or_takes_no_more_ends_with_3(rt: HostRuntime) {
 
 // Whether a writer that takes all but can't be flushed ends a run with 3.
 fn flush_fails(alloc: Global, line: &str, input: &[u8], output: &[u8]) -> bool {
-    let writer = cut_writer(alloc, 999, FuseEnd::Fail, true);
-    write_fails(alloc, line, input, writer, output)
+    let trial = Trial {
+        flush_fails: true,
+        ..ample(input)
+    };
+    ends(alloc, line, trial, 3, output, WRITE_FAILED)
 }
 
 // The last is a table that is refused at its last row.
@@ -108,26 +103,21 @@ fn a_flush_that_fails_ends_with_3_and_is_told_before_a_refused_row(rt: HostRunti
     }
 }
 
-// What a run writes, where a read fails after so many bytes and it ends with 3 and is told.
-fn written(alloc: Global, line: &str, input: &[u8], given: u64) -> Option<Vec<u8>> {
-    let mut reader = Tap::new(Fuse::new(input, given, 1, FuseEnd::Fail, false));
-    let mut writer = Tap::new(Vec::new(alloc));
-    let mut errors = Tap::new(Vec::new(alloc));
-    let status = run_line(alloc, line, &mut reader, &mut writer, &mut errors);
-    let is_told = errors.into_inner().as_slice() == b"polytwkb: read failed\n".as_slice();
-    if status == Some(3) && is_told {
-        Some(writer.into_inner())
-    } else {
-        None
+// An input of which a read fails after so many bytes.
+fn cut_input(input: &[u8], given: u64) -> Trial<'_> {
+    Trial {
+        given,
+        ..ample(input)
     }
 }
 
-// Whether packing writes a front of the blobs, where a read fails after so many bytes.
+// Whether packing writes a front of the blobs, where a read fails after so many bytes and it ends
+// with 3.
 fn packs_front(alloc: Global, given: u64) -> bool {
-    match written(alloc, "polytwkb pack", POINT_TABLE, given) {
-        Some(front) => POINT_BLOBS.starts_with(&front),
-        None => false,
-    }
+    let ended = run_over(alloc, "polytwkb pack", cut_input(POINT_TABLE, given));
+    ended.status == Some(3)
+        && POINT_BLOBS.starts_with(&ended.output)
+        && ended.errors.as_slice() == READ_FAILED
 }
 
 #[test]
@@ -137,14 +127,6 @@ fn a_failed_read_of_a_table_ends_with_3(rt: HostRuntime) {
             packs_front(rt.alloc(), given),
             "a reader that gives {given}"
         );
-    }
-}
-
-// Whether a run writes this, where a read fails after so many bytes.
-fn writes(alloc: Global, line: &str, input: &[u8], given: u64, output: &[u8]) -> bool {
-    match written(alloc, line, input, given) {
-        Some(found) => found.as_slice() == output,
-        None => false,
     }
 }
 
@@ -158,10 +140,11 @@ const GIVEN: [(u64, &[u8], &[u8]); 6] = [
     (10, POINT_TABLE, b"0 0 point 0 02 5 1\n0 5 point 0 02 5 1\n"),
 ];
 
-// Whether unpacking and showing write this, where a read fails after so many bytes.
+// Whether unpacking and showing write this and end with 3, where a read fails after so many bytes.
 fn writes_both(alloc: Global, given: u64, table: &[u8], lines: &[u8]) -> bool {
-    writes(alloc, "polytwkb unpack", POINT_BLOBS, given, table)
-        && writes(alloc, "polytwkb show", POINT_BLOBS, given, lines)
+    let trial = cut_input(POINT_BLOBS, given);
+    ends(alloc, "polytwkb unpack", trial, 3, table, READ_FAILED)
+        && ends(alloc, "polytwkb show", trial, 3, lines, READ_FAILED)
 }
 
 #[test]
@@ -172,45 +155,47 @@ fn a_failed_read_of_a_stream_comes_after_its_whole_blobs(rt: HostRuntime) {
     }
 }
 
-// The status of a run whose standard error takes three bytes.
-fn untold(alloc: Global, line: &str, input: &[u8]) -> Option<u8> {
-    let mut reader = Tap::new(input);
-    let mut writer = Tap::new(Vec::new(alloc));
-    let mut errors = cut_writer(alloc, 3, FuseEnd::Fail, true);
-    run_line(alloc, line, &mut reader, &mut writer, &mut errors)
+// Whether a run whose standard error takes three bytes ends so.
+fn ends_untold(
+    alloc: Global,
+    line: &str,
+    input: &[u8],
+    status: u8,
+    output: &[u8],
+    told: &[u8],
+) -> bool {
+    let trial = Trial {
+        told: 3,
+        ..ample(input)
+    };
+    ends(alloc, line, trial, status, output, told)
 }
 
-const UNTOLD: [(&str, &[u8], u8); 3] = [
-    ("polytwkb pack", b"", 1),
-    ("polytwkb", b"", 2),
-    ("polytwkb pack", POINT_TABLE, 0),
+const UNTOLD: [(&str, &[u8], u8, &[u8], &[u8]); 3] = [
+    ("polytwkb pack", b"", 1, b"", b"pol"),
+    ("polytwkb", b"", 2, b"", b"err"),
+    ("polytwkb pack", POINT_TABLE, 0, POINT_BLOBS, b""),
 ];
 
 #[test]
 fn a_failure_of_standard_error_changes_no_status(rt: HostRuntime) {
-    for (line, input, status) in &UNTOLD {
-        assert!(rt;
-            untold(rt.alloc(), *line, *input) == Some(*status),
-            "{line}"
-        );
+    for (line, input, status, output, told) in &UNTOLD {
+        let is_right = ends_untold(rt.alloc(), *line, *input, *status, *output, *told);
+        assert!(rt; is_right, "{line}");
     }
 }
 
-// The status of a run for help whose standard output takes three bytes.
-fn unprinted(alloc: Global) -> Option<u8> {
-    let mut reader = Tap::new(b"".as_slice());
-    let mut writer = cut_writer(alloc, 3, FuseEnd::Fail, true);
-    let mut errors = Tap::new(Vec::new(alloc));
-    run_line(
-        alloc,
-        "polytwkb --help",
-        &mut reader,
-        &mut writer,
-        &mut errors,
-    )
+// Whether a run for help whose standard output takes three bytes ends with 0.
+fn is_unprinted(alloc: Global) -> bool {
+    let trial = Trial {
+        taken: 3,
+        flush_fails: true,
+        ..ample(b"")
+    };
+    ends(alloc, "polytwkb --help", trial, 0, b"Con", b"")
 }
 
 #[test]
 fn a_failure_to_print_help_changes_no_status(rt: HostRuntime) {
-    assert!(rt; unprinted(rt.alloc()) == Some(0));
+    assert!(rt; is_unprinted(rt.alloc()));
 }

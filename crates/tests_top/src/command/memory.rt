@@ -1,7 +1,6 @@
 //! Runs while memory is short: run with each growth refused in turn (`rt try --test --fail-alloc N`).
-use super::{COLLECTION_BLOB, COLLECTION_LINES, COLLECTION_TABLE, run_line};
+use super::{COLLECTION_BLOB, COLLECTION_LINES, COLLECTION_TABLE, ample, run_over};
 use std::alloc::Global;
-use twkb_io::Tap;
 
 const REFUSED_TABLE: &[u8] =
     b"depth,kind,id,precision,polyline\n0,point,,0,AC\n0,point,,0,AA\n0,pont,,0,\n";
@@ -17,31 +16,25 @@ const CUT_STREAM: &[u8] = b"\x01\x00\x04\x02\x01\x00\x04";
 // ample memory, of want of memory or, where a writer in memory cannot grow, of a failed write; and a
 // front of the output was written. Where the words found no memory nothing was run.
 fn ends_short(alloc: Global, line: &str, input: &[u8], wanted: u8, whole: &[u8]) -> bool {
-    let mut reader = Tap::new(input);
-    let mut writer = Tap::new(Vec::new(alloc));
-    let mut errors = Tap::new(Vec::new(alloc));
-    let status = run_line(alloc, line, &mut reader, &mut writer, &mut errors);
-    let output = writer.into_inner();
-    match status {
-        Some(3 | 4) => whole.starts_with(&output),
-        Some(found) => found == wanted && output.as_slice() == whole,
-        None => output.is_empty(),
+    let ended = run_over(alloc, line, ample(input));
+    match ended.status {
+        Some(3 | 4) => whole.starts_with(&ended.output),
+        Some(found) => found == wanted && ended.output.as_slice() == whole,
+        None => ended.output.is_empty(),
     }
 }
 
+const PACKED: [(&[u8], u8, &[u8]); 3] = [
+    (REFUSED_TABLE, 1, b"\x01\x02\x02\x04\x02"),
+    (COLLECTION_TABLE, 0, COLLECTION_BLOB),
+    (AREAS_TABLE, 0, AREAS_BLOB),
+];
+
 #[test]
 fn packing_leaves_a_front_of_the_blobs(rt: HostRuntime) {
-    let alloc = rt.alloc();
-    let rows: [(&[u8], u8, &[u8]); 3] = [
-        (REFUSED_TABLE, 1, b"\x01\x02\x02\x04\x02"),
-        (COLLECTION_TABLE, 0, COLLECTION_BLOB),
-        (AREAS_TABLE, 0, AREAS_BLOB),
-    ];
-    for (table, status, blobs) in rows {
-        assert!(rt;
-            ends_short(alloc, "polytwkb pack", table, status, blobs),
-            "{blobs:?}"
-        );
+    for (table, status, blobs) in &PACKED {
+        let is_front = ends_short(rt.alloc(), "polytwkb pack", *table, *status, *blobs);
+        assert!(rt; is_front, "{} bytes", blobs.len());
     }
 }
 

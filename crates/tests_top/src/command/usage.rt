@@ -1,98 +1,86 @@
 //! Words that are refused, and words that no memory is found for.
-use super::{POINT_TABLE, run_line};
+use super::{POINT_TABLE, ample, run_over};
 use std::alloc::Global;
 use std::io::ErrorKind;
-use twkb_command::run;
 use twkb_io::Tap;
 use twkb_request::{lack_memory, lack_words};
 
 // Whether a line ends with 2, with a text on standard error alone, which has this in it.
 fn is_refused(alloc: Global, line: &str, named: &str) -> bool {
-    let mut reader = Tap::new(POINT_TABLE);
-    let mut writer = Tap::new(Vec::new(alloc));
-    let mut errors = Tap::new(Vec::new(alloc));
-    let status = run_line(alloc, line, &mut reader, &mut writer, &mut errors);
-    let is_unwritten = writer.into_inner().is_empty();
-    let told = errors.into_inner();
-    let is_named = match str::from_utf8(&told) {
+    let ended = run_over(alloc, line, ample(POINT_TABLE));
+    let is_named = match str::from_utf8(&ended.errors) {
         Ok(text) => text.starts_with("error: ") && text.contains(named),
         Err(_) => false,
     };
-    status == Some(2) && is_unwritten && is_named
+    ended.status == Some(2) && ended.output.is_empty() && is_named
 }
 
-// Lines, and the word that their text names: nestings and styles that are none, and words that are unknown.
-const REFUSED: [(&str, &str); 21] = [
-    ("polytwkb pack --max-nest 33", "'33'"),
-    ("polytwkb unpack --max-nest 33", "'33'"),
-    ("polytwkb show --max-nest 33", "'33'"),
-    ("polytwkb pack --max-nest x", "'x'"),
-    ("polytwkb pack --max-nest=-1", "'-1'"),
-    ("polytwkb pack --max-nest", "--max-nest"),
-    ("polytwkb pack --max-nest 1 --max-nest 2", "--max-nest"),
-    ("polytwkb --max-nest 3", "--max-nest"),
-    ("polytwkb pack --style thin", "'thin'"),
-    ("polytwkb pack --style Plain", "'Plain'"),
-    ("polytwkb pack --style", "--style"),
-    ("polytwkb pack --style plain --style plain", "--style"),
-    ("polytwkb unpack --style plain", "--style"),
-    ("polytwkb show --style full", "--style"),
-    ("polytwkb", "subcommand"),
-    ("polytwkb help", "'help'"),
-    ("polytwkb more", "'more'"),
-    ("polytwkb pack more", "'more'"),
-    ("polytwkb pack pack", "'pack'"),
-    ("polytwkb pack --unknown", "'--unknown'"),
-    ("polytwkb pack --version", "'--version'"),
-];
+// Whether a row, a line and behind it what its text names, is refused so.
+fn is_row_refused(alloc: Global, row: &str) -> bool {
+    match row.split_once(" > ") {
+        Some((line, named)) => is_refused(alloc, line, named),
+        None => false,
+    }
+}
+
+// Lines, and the word that their text names: nestings and styles that are none, and words that are
+// unknown. They are one text, since a row of a table costs the proof of the test more.
+const REFUSED: &str = "polytwkb pack --max-nest 33 > '33'
+polytwkb unpack --max-nest 33 > '33'
+polytwkb show --max-nest 33 > '33'
+polytwkb pack --max-nest x > 'x'
+polytwkb pack --max-nest=-1 > '-1'
+polytwkb pack --max-nest > --max-nest
+polytwkb pack --max-nest 1 --max-nest 2 > --max-nest
+polytwkb --max-nest 3 > --max-nest
+polytwkb pack --style thin > 'thin'
+polytwkb pack --style Plain > 'Plain'
+polytwkb pack --style > --style
+polytwkb pack --style plain --style plain > --style
+polytwkb unpack --style plain > --style
+polytwkb show --style full > --style
+polytwkb > subcommand
+polytwkb help > 'help'
+polytwkb more > 'more'
+polytwkb pack more > 'more'
+polytwkb pack pack > 'pack'
+polytwkb pack --unknown > '--unknown'
+polytwkb pack --version > '--version'";
 
 #[test]
 fn words_that_are_refused_end_with_2(rt: HostRuntime) {
-    for (line, named) in &REFUSED {
-        assert!(rt; is_refused(rt.alloc(), *line, *named), "{line}");
+    for row in REFUSED.split('\n') {
+        assert!(rt; is_row_refused(rt.alloc(), row), "{row}");
     }
 }
 
 #[test]
 fn no_words_at_all_end_with_2(rt: HostRuntime) {
-    let alloc = rt.alloc();
-    let words: Vec<String> = Vec::new(alloc);
-    let mut reader = Tap::new(b"".as_slice());
-    let mut writer = Tap::new(Vec::new(alloc));
-    let mut errors = Tap::new(Vec::new(alloc));
-    let status = run(alloc, &words, &mut reader, &mut writer, &mut errors);
-    let is_unwritten = writer.into_inner().is_empty();
-    let is_told = !errors.into_inner().is_empty();
-    assert!(rt; status == 2 && is_unwritten && is_told);
+    assert!(rt; is_refused(rt.alloc(), "", "subcommand"));
 }
+
+// Whether words that can't be had for this reason, or memory for them where there is none such, have
+// this status and this line.
+fn lacks(alloc: Global, kind: Option<ErrorKind>, status: u8, line: &[u8]) -> bool {
+    let mut errors = Tap::new(Vec::new(alloc));
+    let found = match kind {
+        Some(kind) => lack_words(&mut errors, kind),
+        None => lack_memory(&mut errors),
+    };
+    found == status && errors.into_inner().as_slice() == line
+}
+
+const NO_MEMORY: &[u8] = b"polytwkb: out of memory\n";
+
+const NO_TEXT: &[u8] = b"polytwkb: a word is not UTF-8\n";
 
 #[test]
 fn want_of_memory_ends_with_4(rt: HostRuntime) {
-    let mut errors = Tap::new(Vec::new(rt.alloc()));
-    let status = lack_memory(&mut errors);
-    let is_told = errors.into_inner().as_slice() == b"polytwkb: out of memory\n".as_slice();
-    assert!(rt; status == 4 && is_told);
-}
-
-// The status of words that can't be had for this reason, where their line is this one.
-fn lacks(alloc: Global, kind: ErrorKind, line: &[u8]) -> Option<u8> {
-    let mut errors = Tap::new(Vec::new(alloc));
-    let status = lack_words(&mut errors, kind);
-    if errors.into_inner().as_slice() == line {
-        Some(status)
-    } else {
-        None
-    }
+    assert!(rt; lacks(rt.alloc(), None, 4, NO_MEMORY));
 }
 
 #[test]
 fn words_without_memory_end_with_4_and_words_that_are_no_text_with_2(rt: HostRuntime) {
-    let short = lacks(
-        rt.alloc(),
-        ErrorKind::OutOfMemory,
-        b"polytwkb: out of memory\n",
-    );
-    assert!(rt; short == Some(4));
-    let line = b"polytwkb: a word is not UTF-8\n";
-    assert!(rt; lacks(rt.alloc(), ErrorKind::InvalidData, line) == Some(2));
+    assert!(rt; lacks(rt.alloc(), Some(ErrorKind::OutOfMemory), 4, NO_MEMORY));
+    assert!(rt; lacks(rt.alloc(), Some(ErrorKind::InvalidData), 2, NO_TEXT));
 }

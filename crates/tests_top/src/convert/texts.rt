@@ -1,16 +1,8 @@
 //! The texts of causes and faults.
+use crate::telling::tells;
 use std::alloc::Global;
-use std::fmt::Display;
 use twkb_convert::{BlobReason, Cause, ConvertFault};
 use twkb_table::RowReason;
-
-// Whether a fault is told so.
-fn tells<D: Display>(alloc: Global, fault: &D, text: &str) -> bool {
-    match format!(in alloc; "{fault}") {
-        Ok(told) => told.as_str() == text,
-        Err(_) => false,
-    }
-}
 
 // Whether a cause is told so, and a fault by its cause alone.
 fn tells_cause(alloc: Global, cause: Cause, text: &str) -> bool {

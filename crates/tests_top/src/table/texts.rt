@@ -1,16 +1,7 @@
 //! The texts of faults.
-use std::alloc::Global;
-use std::fmt::Display;
+use crate::telling::tells;
 use twkb_polyline::PolyReason;
 use twkb_table::{RowReason, SourceFault, TableFault};
-
-// Whether a fault is told so.
-fn tells<D: Display>(alloc: Global, fault: &D, text: &str) -> bool {
-    match format!(in alloc; "{fault}") {
-        Ok(told) => told.as_str() == text,
-        Err(_) => false,
-    }
-}
 
 const FIRST: TableFault = TableFault::At {
     number: 1,
