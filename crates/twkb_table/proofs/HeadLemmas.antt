@@ -1,9 +1,14 @@
 -- The row of a head with the points that it gave.
-use Rattle.std.proofs.Common.{◌≡◌, ◌<◌, List, [], ◌∷◌, ◌++◌, true, Option, Some, None, inr, refl, sym, ◌∙◌, ap, subst, arith}
+use Rattle.std.proofs.Common.{◌≡◌, ◌≢◌, ℕ, ◌-◌, ◌<◌, ◌≤◌, ◌==◌, List, [], ◌∷◌, ◌++◌, length, take, Bool, true, false, Option, Some, None, inl, inr, refl, sym, ◌∙◌, ap, subst, arith, length-append}
 use Rattle.std.specs.Prelude.{IfSome, reverse}
-use Rattle.std.proofs.lemmas.Bool.{true≢false}
+use Rattle.std.proofs.lemmas.List.{take_at}
+use Rattle.std.proofs.lemmas.Bool.{eqb-true, true≢false}
 use Rattle.twkb_points.specs.Point.{Point}
-use Rattle.twkb_polyline.specs.Polyline.{DecodesTo}
+use Rattle.twkb_polyline.specs.Polyline.{AppendsDecoded, DecodesTo}
+use Rattle.twkb_polyline.specs.Fault.{IsRefused, IsTextFault}
+use Rattle.twkb_polyline.specs.declared.fault.PolyFault.{PolyFault}
+use Rattle.twkb_polyline.specs.declared.fault.PolyFault.TheVariants.{At}
+use Rattle.twkb_polyline.specs.declared.fault.PolyReason.{PolyReason}
 use Rattle.twkb_tree.specs.declared.kind.Kind.TheVariants as kind
 use Rattle.twkb_tree.specs.Admits.{has_points, is_whole, points_fit}
 use Rattle.twkb_tree.specs.Limits.{Allowance}
@@ -13,7 +18,8 @@ use Rattle.twkb_tree.specs.Accepted.{Accepts}
 use Rattle.twkb_flat.specs.Rows.{row_with}
 use Rattle.twkb_flat.specs.declared.node.Row.{Row as Bare}
 use Rattle.twkb_table.specs.Record.{Record}
-use Rattle.twkb_table.specs.Judged.{Verdict, Accepted}
+use Rattle.twkb_table.specs.Judged.{Verdict, Accepted, Refused}
+use Rattle.twkb_table.specs.declared.reason.RowReason.TheVariants.{PolylineNotAllowed, Polyline, PointCount}
 use Rattle.twkb_table.specs.Head.{head_row, JudgedAs}
 use Rattle.twkb_table.specs.Standing.{place_seen}
 use Rattle.twkb_table.specs.RowReading.{JudgedAfter}
@@ -46,3 +52,66 @@ one_accepted head p is room read =
 pub one_judged : (head : RowHead) (r : Option Point) → head.kind ≡ kind.Point → head.standing.points < head.limits.points → IfSome r (λ p. DecodesTo head.text.now 1 (p ∷ [])) → IfSome r (λ p. JudgedAs head (Accepted (row_with (head_row head) (p ∷ []))))
 one_judged head None is room read = tt
 one_judged head (Some p) is room read = one_accepted head p is room read
+
+-- ---- the points of a row
+
+-- the kind of the row has no points, and its record has a text of them
+abbrev pub HasNeedlessText : RowHead → Type 0
+HasNeedlessText head = (head.text.now ≢ []) × (has_points head.kind ≡ false)
+
+nil_of : (xs : List ℕ) → (length xs == 0) ≡ true → xs ≡ []
+nil_of [] e = refl
+nil_of (x ∷ xs) e = absurd (omega (arith, eqb-true (length (x ∷ xs)) 0 e))
+
+pub no_text : (head : RowHead) (empty : Bool) → empty ≡ (length head.text.now == 0) → empty ≡ true → HasNeedlessText head → ⊥
+no_text head empty is none needless = needless.0 (nil_of head.text.now (sym is ∙ none))
+
+pub kind_has : (head : RowHead) (has : Bool) → has ≡ has_points head.kind → has ≡ true → HasNeedlessText head → ⊥
+kind_has head has is some needless = true≢false (sym some ∙ is ∙ needless.1)
+
+pub not_allowed : (head : RowHead) (empty has : Bool) → empty ≡ (length head.text.now == 0) → empty ≡ false → has ≡ has_points head.kind → has ≡ false → JudgedAs head (Refused PolylineNotAllowed)
+not_allowed head empty has is some of_kind none =
+    inl ((λ nil. true≢false (ap (λ (t : List ℕ). length t == 0) (sym nil) ∙ sym is ∙ some), sym of_kind ∙ none), refl)
+
+-- so many points are left to the row
+abbrev pub AreLeft : RowHead → ℕ → ℕ → Type 0
+AreLeft head points left = (points ≡ head.limits.points) × (left ≡ points - head.standing.points)
+
+left_is : (head : RowHead) (points left : ℕ) → AreLeft head points left → left ≡ head.limits.points - head.standing.points
+left_is head points left (most, is) = is ∙ ap (λ m. m - head.standing.points) most
+
+pub text_refused : (head : RowHead) (points left offset : ℕ) (why : PolyReason) (f : PolyFault) → (HasNeedlessText head → ⊥) → AreLeft head points left → f ≡ At offset why → IsRefused head.text.now left f → JudgedAs head (Refused (Polyline offset why))
+text_refused head points left offset why f needed are_left is refused =
+    let fault = subst (IsRefused head.text.now left) is refused in
+    inr (needed, inl (offset, why, subst (λ m. IsTextFault head.text.now m offset why) (left_is head points left are_left) fault, refl))
+
+-- the list grew by the points that were decoded
+pub has_grown : (text : List ℕ) (left held count : ℕ) (old new : List Point) → AppendsDecoded text left old new → held ≡ length old → count ≡ length new → held ≤ count
+has_grown text left held count old new a before after = omega (arith, before, after, ap length a.appended, length-append old a.ps)
+
+pub cut_back : (text : List ℕ) (left held : ℕ) (old new back : List Point) → AppendsDecoded text left old new → held ≡ length old → back ≡ take held new → back ≡ old
+cut_back text left held old new back a before cut = cut ∙ ap (take held) a.appended ∙ take_at old a.ps held (sym before)
+
+-- whether as many points as the list grew by fit the row
+abbrev pub TellsFit : RowHead → Bool → ℕ → Bool → Type 0
+TellsFit head whole count fits = (whole ≡ is_whole (place_seen head.standing).parent) × ((ps : List Point) → length ps ≡ count → points_fit head.kind whole ps ≡ fits)
+
+fit_is : (head : RowHead) (left held count : ℕ) (whole fits : Bool) (old new : List Point) (a : AppendsDecoded head.text.now left old new) → held ≡ length old → count ≡ length new → TellsFit head whole (count - held) fits
+    → points_fit head.kind (is_whole (place_seen head.standing).parent) a.ps ≡ fits
+fit_is head left held count whole fits old new a before after (is, tells) =
+    subst (λ w. points_fit head.kind w a.ps ≡ fits) is (tells a.ps (omega (arith, before, after, ap length a.appended, length-append old a.ps)))
+
+decoded_left : (head : RowHead) (points left : ℕ) (ps : List Point) → AreLeft head points left → DecodesTo head.text.now left ps → DecodesTo head.text.now (head.limits.points - head.standing.points) ps
+decoded_left head points left ps are_left = subst (λ m. DecodesTo head.text.now m ps) (left_is head points left are_left)
+
+pub points_accepted : (head : RowHead) (points left held count : ℕ) (whole fits : Bool) (old new : List Point) → (HasNeedlessText head → ⊥) → AreLeft head points left → AppendsDecoded head.text.now left old new → held ≡ length old → count ≡ length new → TellsFit head whole (count - held) fits → fits ≡ true
+    → (own : List Point) × (new ≡ old ++ own) × JudgedAs head (Accepted (row_with (head_row head) own))
+points_accepted head points left held count whole fits old new needed are_left a before after tells fitting =
+    let fit = fit_is head left held count whole fits old new a before after tells in
+    (a.ps, a.appended, inr (needed, inr (a.ps, decoded_left head points left a.ps are_left a.decoded, inr (λ e. true≢false (sym fitting ∙ sym fit ∙ e), refl))))
+
+pub points_refused : (head : RowHead) (points left held count : ℕ) (whole fits : Bool) (old new : List Point) → (HasNeedlessText head → ⊥) → AreLeft head points left → AppendsDecoded head.text.now left old new → held ≡ length old → count ≡ length new → TellsFit head whole (count - held) fits → fits ≡ false
+    → JudgedAs head (Refused PointCount)
+points_refused head points left held count whole fits old new needed are_left a before after tells misfit =
+    let fit = fit_is head left held count whole fits old new a before after tells in
+    inr (needed, inr (a.ps, decoded_left head points left a.ps are_left a.decoded, inl (fit ∙ misfit, refl)))

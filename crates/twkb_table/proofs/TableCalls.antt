@@ -1,6 +1,10 @@
 -- What the calls of a reader of tables show, put together.
 use Rattle.std.proofs.Common.{◌≡◌, ℕ, ◌+◌, ◌<◌, ◌^◌, ◌⊎◌, Bool, true, false, List, [], ◌∷◌, ◌++◌, length, Option, Some, None, Result, Ok, Err, refl, sym, ◌∙◌, ap, subst, arith, inl, inr}
-use Rattle.std.specs.Prelude.{IfOk, IfSome}
+use Rattle.std.specs.Prelude.{◌↔◌, IfOk, IfSome}
+use Rattle.std.proofs.lemmas.Bool.{true≢false}
+use Rattle.std.specs.Borrow.{MutBor}
+use Rattle.csv.specs.declared.reader.Reader.{Reader}
+use Rattle.twkb_io.specs.declared.tap.Tap.{Tap}
 use Rattle.twkb_tree.specs.Tree.{Tree, IsTree}
 use Rattle.twkb_tree.specs.Limits.{Allowance}
 use Rattle.twkb_tree.specs.Rows.{Row, rows}
@@ -9,7 +13,7 @@ use Rattle.twkb_table.specs.Record.{Record, header}
 use Rattle.twkb_table.specs.Named.{Named}
 use Rattle.twkb_table.specs.RowFault.{AreComplete, all_but_last}
 use Rattle.twkb_table.specs.CsvRecords.{AreRecordsOf, BeginWith, standing}
-use Rattle.twkb_table.specs.Numbering.{fault_of}
+use Rattle.twkb_table.specs.Numbering.{MissesRecord, fault_of}
 use Rattle.twkb_table.specs.Standing.{IfRefused}
 use Rattle.twkb_table.specs.RowReading.{limits_of, waiting}
 use Rattle.twkb_table.specs.TableReading.{HaveGiven, StandsAfter, GivesGeometry, Ends, Extends, GivesNext, GivesTree, MeetsEnd, IsRefusedAt, Explains, IsReading, HasHeader, BeginsNext, ReadsRoot, ReadsOn, HasRead, is_ended, is_spent}
@@ -34,6 +38,15 @@ no_record l told records given gs number f named complete count (inr (many, last
 pub explained : (l : Allowance) (told : Option (List ℕ)) (records : List Record) (given : List Tree) (number : ℕ) (f : JudgeFault) → IfRefused (λ reason. IsRefusedAt l told records given number reason) f → Explains l told records given (fault_of number f)
 explained l told records given number Memory h = tt
 explained l told records given number (Refused reason) h = h
+
+-- neither says that an earlier call was refused
+pub missed_fresh : {R : Type 0} (remaining : R → Option (List ℕ)) (ended : Bool) (reader : Reader (MutBor (Tap R))) (number : ℕ) (f : TableFault) → MissesRecord remaining ended reader number f → f ≡ fault.Spent → ⊥
+missed_fresh remaining ended reader number f (inl source) e = cc (source, e)
+missed_fresh remaining ended reader number f (inr many) e = (let is = many.0 in cc (is, e))
+
+pub fault_fresh : (number : ℕ) (f : JudgeFault) → fault_of number f ≡ fault.Spent → ⊥
+fault_fresh number Memory e = cc e
+fault_fresh number (Refused reason) e = cc e
 
 -- ---- the header
 
@@ -160,6 +173,27 @@ ended_by l remaining told records given so_far reader false e reads = reads
 pub root_by : {R : Type 0} (l : Allowance) (remaining : R → Option (List ℕ)) (told : Option (List ℕ)) (records : List Record) (given : List Tree) (reader : TableReader R) (found : Bool) → found ≡ true → ReadsRoot l remaining told records given reader (Ok found)
     → BeginsNext l remaining told records given (waiting reader.rows) reader
 root_by l remaining told records given reader found e reads = rw e at reads
+
+-- or the table ended
+pub end_by : {R : Type 0} (l : Allowance) (remaining : R → Option (List ℕ)) (told : Option (List ℕ)) (records : List Record) (given : List Tree) (reader : TableReader R) (found : Bool) → found ≡ false → ReadsRoot l remaining told records given reader (Ok found)
+    → MeetsEnd l remaining told records given reader
+end_by l remaining told records given reader found e reads = rw e at reads
+
+-- ---- a call that goes on
+
+-- some row is in the form, whether a row was put there or not
+pub some_row : (l : Bool) (before after : List Row) → 0 < length before → (l ≡ true → 0 < length after) → (l ≡ false → after ≡ before) → 0 < length after
+some_row true before after some more same = more refl
+some_row false before after some more same = subst (λ (rs : List Row). 0 < length rs) (sym (same refl)) some
+
+-- the reader is neither at its end nor spent
+pub goes_on : {P X : Type 0} (over before : Bool) → (over ≡ true → P) × (P → over ≡ true) → over ≡ false → before ≡ false → P ⊎ (before ≡ true) → X
+goes_on over before tells going fresh (inl p) = absurd (true≢false (sym (tells.1 p) ∙ going))
+goes_on over before tells going fresh (inr e) = absurd (true≢false (sym e ∙ fresh))
+
+-- what is given is no refusal, before or after
+pub not_spent : {A E : Type 0} (a : A) (f : E) (spent : Bool) → spent ≡ false → (◌≡◌ {A = Result A E} (Ok a) (Err f)) ↔ (spent ≡ true)
+not_spent a f spent fresh = (λ e. cc e, λ e. absurd (true≢false (sym e ∙ fresh)))
 
 -- the geometry of the rows that were given
 pub tree_given : {R : Type 0} (l : Allowance) (remaining : R → Option (List ℕ)) (told : Option (List ℕ)) (records : List Record) (given : List Tree) (flat : List Row) (reader : TableReader R) (tree : Tree) → GivesNext l remaining told records given flat reader → rows 0 tree ≡ flat → IsTree tree

@@ -26,7 +26,6 @@ pub(crate) fn next_record<R: Read>(
     ensures more { IfOk result (λ found. found ≡ true → Advances R.remaining ended.old reader.old (fields_of held.new) ended.new reader.new) }
     ensures counted { IfOk result (λ found. found ≡ true → (number.new ≡ number.old + 1) × (number.new < 2 ^ 32)) }
     ensures over { ended.old ≡ true → result ≡ Ok false }
-    ensures unread { ended.old ≡ true → (reader.new ≡ reader.old) × (held.new ≡ held.old) × (ended.new ≡ ended.old) × (number.new ≡ number.old) }
     ensures ended { result ≡ Ok false → ended.new ≡ true }
     ensures going { IfOk result (λ found. found ≡ true → ended.new ≡ false) }
     ensures end { IfOk result (λ found. found ≡ false → Finishes R.remaining ended.old reader.old ended.new reader.new) }

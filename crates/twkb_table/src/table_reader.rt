@@ -86,6 +86,10 @@ impl<'a, R: Read> TableReader<'a, R> {
             flat.clear();
             return Err(TableFault::Spent);
         }
+        if self.is_over() {
+            flat.clear();
+            return Ok(false);
+        }
         match self.read_geometry(flat) {
             Ok(true) => Ok(true),
             Ok(false) => {
@@ -143,7 +147,6 @@ impl<'a, R: Read> TableReader<'a, R> {
         ensures gives { IfOk result (λ found. IfSome found (λ geometry. GivesGeometry R.remaining self.old geometry self.new)) }
         ensures ends { result ≡ Ok None → Ends R.remaining self.old self.new }
         ensures fault { IfErr result (λ fault. Faults R.remaining self.old fault) }
-        ensures over { IsOver self.old → is_spent self.old ≡ false → result ≡ Ok None }
         ensures ended { result ≡ Ok None → IsOver self.new }
         ensures spent { (result ≡ Err TableFault.Spent) ↔ (is_spent self.old ≡ true) }
         ensures stays { is_spent self.new ≡ is_err result }
@@ -167,8 +170,6 @@ impl<'a, R: Read> TableReader<'a, R> {
         ensures ends { IfOk result (λ found. found ≡ false → Ends R.remaining self.old self.new) }
         ensures fault { IfErr result (λ fault. Faults R.remaining self.old fault) }
         ensures some { result ≡ Ok true → 0 < length flat.new }
-        ensures over { IsOver self.old → result ≡ Ok false }
-        ensures unread { IsOver self.old → self.new ≡ self.old }
         ensures ended { result ≡ Ok false → IsOver self.new }
         ensures fresh { IfErr result (λ fault. fault ≢ TableFault.Spent) }
         ensures same { is_spent self.new ≡ is_spent self.old }
@@ -193,8 +194,6 @@ impl<'a, R: Read> TableReader<'a, R> {
     fn next_root(&mut self) -> Result<bool, TableFault>
         ensures reads { ShowsRoot R.remaining self.old self.new result }
         ensures waits { result ≡ Ok true → 0 < length (waiting self.new.rows) }
-        ensures over { IsOver self.old → result ≡ Ok false }
-        ensures unread { IsOver self.old → self.new ≡ self.old }
         ensures ended { result ≡ Ok false → IsOver self.new }
         ensures fresh { IfErr result (λ fault. fault ≢ TableFault.Spent) }
         ensures same { is_spent self.new ≡ is_spent self.old }
@@ -254,8 +253,6 @@ impl<'a, R: Read> TableReader<'a, R> {
         requires none { waiting self.old.rows ≡ [] }
         ensures reads { ShowsRoot R.remaining self.old self.new result }
         ensures waits { result ≡ Ok true → 0 < length (waiting self.new.rows) }
-        ensures over { IsOver self.old → result ≡ Ok false }
-        ensures unread { IsOver self.old → self.new ≡ self.old }
         ensures ended { result ≡ Ok false → IsOver self.new }
         ensures fresh { IfErr result (λ fault. fault ≢ TableFault.Spent) }
         ensures same { is_spent self.new ≡ is_spent self.old }

@@ -1,16 +1,56 @@
-use Rattle.std.proofs.Common.{refl, rules}
+use Rattle.std.proofs.Common.{◌∙◌, Ok, ap, refl}
+use Rattle.std.proofs.lemmas.Bool.{false≢true, true≢false}
 use Rattle.twkb_table.proofs.TableReaderLemmas.{explains_from, gives_from}
-use Rattle.twkb_table.proofs.TableCalls.{root_by, reading_in}
+use Rattle.twkb_table.proofs.TableCalls.{end_by, root_by, reading_in}
 use Rattle.twkb_table.proofs.table_reader.TableReader.read_geometry.Goals as goal
 
 pub returns-in-Ok-read_rows-clause-gives : goal.returns-in-Ok-read_rows-clause-gives
 returns-in-Ok-read_rows-clause-gives g c found l told records given s =
-    let begun = root_by l g.R.Read.remaining told records given c.next_root.new.self c.in-Ok-true.field-0 (search rules) (c.in-Ok-true.ensures.reads l told records given s) in
+    let begun = root_by l g.R.Read.remaining told records given c.next_root.new.self c.in-Ok-true.field-0 c.in-Ok-true.field-0-test (c.in-Ok-true.ensures.reads l told records given s) in
     let reading = reading_in l g.R.Read.remaining told begun.seen given _ c.begin.new.flat c.next_root.new.self (record c.next_root.new.self { rows = c.begin.new.self }) begun.reading c.in-Ok.ensures.put refl refl refl c.begin.ensures.limits refl in
     gives_from l g.R.Read.remaining told records begun.seen given c.read_rows.new.flat c.read_rows.new.self begun.extends (c.in-Ok-read_rows.ensures.gives l told begun.seen given reading)
 
 pub returns-in-Err-read_rows-clause-fault : goal.returns-in-Err-read_rows-clause-fault
 returns-in-Err-read_rows-clause-fault g c l told records given s =
-    let begun = root_by l g.R.Read.remaining told records given c.next_root.new.self c.in-Ok-true.field-0 (search rules) (c.in-Ok-true.ensures.reads l told records given s) in
+    let begun = root_by l g.R.Read.remaining told records given c.next_root.new.self c.in-Ok-true.field-0 c.in-Ok-true.field-0-test (c.in-Ok-true.ensures.reads l told records given s) in
     let reading = reading_in l g.R.Read.remaining told begun.seen given _ c.begin.new.flat c.next_root.new.self (record c.next_root.new.self { rows = c.begin.new.self }) begun.reading c.in-Ok.ensures.put refl refl refl c.begin.ensures.limits refl in
     explains_from l told records begun.seen given c.in-Err-read_rows.fault begun.extends (c.in-Err-read_rows.ensures.fault l told begun.seen given reading)
+
+pub returns-in-Ok-false-clause-gives : goal.returns-in-Ok-false-clause-gives
+returns-in-Ok-false-clause-gives g c e = absurd (false≢true e)
+
+pub returns-in-Ok-false-clause-ends : goal.returns-in-Ok-false-clause-ends
+returns-in-Ok-false-clause-ends g c found l told records given s = end_by l g.R.Read.remaining told records given c.next_root.new.self c.in-Ok-false.field-0 c.in-Ok-false.field-0-test (c.in-Ok-false.ensures.reads l told records given s)
+
+pub returns-in-Ok-false-clause-ended : goal.returns-in-Ok-false-clause-ended
+returns-in-Ok-false-clause-ended g c found = c.in-Ok-false.ensures.ended (ap Ok c.in-Ok-false.field-0-test)
+
+pub returns-in-Ok-false-clause-same : goal.returns-in-Ok-false-clause-same
+returns-in-Ok-false-clause-same g c = c.next_root.ensures.same
+
+pub returns-in-Err-clause-fault : goal.returns-in-Err-clause-fault
+returns-in-Err-clause-fault g c = c.in-Err.ensures.reads
+
+pub returns-in-Err-clause-fresh : goal.returns-in-Err-clause-fresh
+returns-in-Err-clause-fresh g c = c.in-Err.ensures.fresh
+
+pub returns-in-Err-clause-same : goal.returns-in-Err-clause-same
+returns-in-Err-clause-same g c = c.next_root.ensures.same
+
+pub returns-in_default-clause-same : goal.returns-in_default-clause-same
+returns-in_default-clause-same g c = c.next_root.ensures.same
+
+pub returns-in-Ok-read_rows-clause-ends : goal.returns-in-Ok-read_rows-clause-ends
+returns-in-Ok-read_rows-clause-ends g c e = absurd (true≢false e)
+
+pub returns-in-Ok-read_rows-clause-some : goal.returns-in-Ok-read_rows-clause-some
+returns-in-Ok-read_rows-clause-some g c found = c.in-Ok-read_rows.ensures.some
+
+pub returns-in-Ok-read_rows-clause-same : goal.returns-in-Ok-read_rows-clause-same
+returns-in-Ok-read_rows-clause-same g c = c.read_rows.ensures.same ∙ c.next_root.ensures.same
+
+pub returns-in-Err-read_rows-clause-fresh : goal.returns-in-Err-read_rows-clause-fresh
+returns-in-Err-read_rows-clause-fresh g c = c.in-Err-read_rows.ensures.fresh
+
+pub returns-in-Err-read_rows-clause-same : goal.returns-in-Err-read_rows-clause-same
+returns-in-Err-read_rows-clause-same g c = c.read_rows.ensures.same ∙ c.next_root.ensures.same
