@@ -95,6 +95,10 @@ impl Body {
     ) -> Result<bool, AllocError>
         ensures { TakesNumber head number position self.old flat.old result self.new flat.new }
     {
+        if let Spot::X(lefts) = self.spot {
+            self.spot = Spot::Y(lefts);
+            return Ok(true);
+        }
         let after = self.after(number);
         let Some(spot) = after.spot else {
             return Ok(false);

@@ -35,6 +35,7 @@ pub fn push_row(flat: &mut Flat, row: Row) -> Result<(), AllocError>
 }
 
 // The same of a row with one point.
+#[inline(always)]
 fn push_point(flat: &mut Flat, row: Row, point: Pt) -> Result<(), AllocError>
     ensures pushed { OnOk result (flat.new ≡ flat.old ++ row_with row (point ∷ []) ∷ []) }
     ensures same { OnErr result (flat.new ≡ flat.old) }
@@ -44,6 +45,7 @@ fn push_point(flat: &mut Flat, row: Row, point: Pt) -> Result<(), AllocError>
 
 // Puts a point that was read: as a row of its own, or behind those of the last row, if the rows take it: wherever a reader stands
 // they do. Takes memory; an `Err` changes nothing.
+#[inline(always)]
 pub(crate) fn put_point(
     flat: &mut Flat,
     head: Head,

@@ -300,7 +300,9 @@ impl Builder {
         (position, self.nodes + nodes, self.points + points)
     }
 
-    // Takes an item with this number, which has so many bytes, and the ends behind it, by all its steps; answers as `take` does.
+    // Takes an item with this number, which has so many bytes, and the ends behind it, by all its steps; answers as `take` does. A frame of its own,
+    // since `take` stands in its callers'.
+    #[inline(never)]
     fn take_any(&mut self, flat: &mut Flat, number: u64, length: u64) -> Result<bool, Stop>
         requires byte { number < 256 ⊎ IsSpelled self.old.phase }
         requires room { self.old.bytes + length < 2 ^ 64 }
@@ -321,6 +323,7 @@ impl Builder {
 
     // Takes an item with this number, which has so many bytes, and the ends behind it; answers whether a geometry is whole. A row, a
     // point, an id and a group take memory.
+    #[inline(always)]
     pub(crate) fn take(&mut self, flat: &mut Flat, number: u64, length: u64) -> Result<bool, Stop>
         requires byte { number < 256 ⊎ IsSpelled self.old.phase }
         requires room { self.old.bytes + length < 2 ^ 64 }

@@ -25,7 +25,7 @@ impl Builder {
 
     // Where the next number of a body leads, and how many points are announced behind it, where nothing objects to it; none of a count of
     // rings.
-    #[inline]
+    #[inline(always)]
     fn foreseen(&self, number: u64) -> Option<(Pt, u64)>
         ensures free { IfSome result (λ to. refusal self.now.limits (sums_of self.now) (outline_in self.now) number ≡ None) }
         ensures points { IfSome result (λ to. to.1 ≤ self.now.limits.points) }
@@ -52,7 +52,7 @@ impl Builder {
 
     // Takes a number of a body that has so many bytes, where the body goes on with it and few steps tell that; answers whether it did, and
     // else changes nothing. A row and a point take memory.
-    #[inline]
+    #[inline(always)]
     pub(crate) fn take_number(
         &mut self,
         flat: &mut Flat,

@@ -18,6 +18,9 @@ const FOURTH: u64 = 1 << 21;
 
 const FIFTH: u64 = 1 << 28;
 
+// So many bytes are looked at behind one test of their count.
+const WIDE: usize = 5;
+
 // So many bytes at most spell a number of 64 bits, whatever they are.
 const NARROW: usize = 9;
 
@@ -25,7 +28,7 @@ const NARROW: usize = 9;
 #[inline(always)]
 pub(crate) fn byte_number(bytes: &[u8]) -> Option<u64>
     ensures front { IfSome result (λ number. NumberInFront bytes.now number 1) }
-    ensures small { IfSome result (λ number. number < 2 ^ 14) }
+    ensures small { IfSome result (λ number. number < 2 ^ 35) }
 {
     let first = *bytes.first()?;
     if first < GOES_ON {
@@ -39,31 +42,40 @@ pub(crate) fn byte_number(bytes: &[u8]) -> Option<u64>
 #[inline(always)]
 pub(crate) fn short_number(bytes: &[u8]) -> Option<(u64, usize)>
     ensures front { IfSome result (λ front. NumberInFront bytes.now front.0 front.1) }
-    ensures small { IfSome result (λ front. front.0 < 2 ^ 14) }
+    ensures small { IfSome result (λ front. front.0 < 2 ^ 35) }
 {
     let first = *bytes.first()?;
     if first < GOES_ON {
         return Some((u64::from(first), 1));
     }
-    let second = *bytes.get(1)?;
-    if second < GOES_ON {
-        return Some((u64::from(first - GOES_ON) + u64::from(second) * SECOND, 2));
+    let last = *bytes.get(1)?;
+    if last < GOES_ON {
+        return Some((u64::from(first - GOES_ON) + u64::from(last) * SECOND, 2));
     }
     None
 }
 
-// The number that stands in front in three to five bytes, and how many those are.
+// The number that stands in front in five bytes or fewer, and how many those are, where there are five at least: then one test of
+// their count serves all.
 #[inline(always)]
-fn middle_number(bytes: &[u8]) -> Option<(u64, usize)>
-    ensures { IfSome result (λ front. NumberInFront bytes.now front.0 front.1) }
+pub(crate) fn wide_number(bytes: &[u8]) -> Option<(u64, usize)>
+    ensures front { IfSome result (λ front. NumberInFront bytes.now front.0 front.1) }
+    ensures small { IfSome result (λ front. front.0 < 2 ^ 35) }
 {
-    let first = *bytes.first()?;
-    let second = *bytes.get(1)?;
-    let third = *bytes.get(2)?;
-    if first < GOES_ON || second < GOES_ON {
+    if bytes.len() < WIDE {
         return None;
     }
-    let low = u64::from(first - GOES_ON) + u64::from(second - GOES_ON) * SECOND;
+    let first = *bytes.first()?;
+    if first < GOES_ON {
+        return Some((u64::from(first), 1));
+    }
+    let low = u64::from(first - GOES_ON);
+    let second = *bytes.get(1)?;
+    if second < GOES_ON {
+        return Some((low + u64::from(second) * SECOND, 2));
+    }
+    let low = low + u64::from(second - GOES_ON) * SECOND;
+    let third = *bytes.get(2)?;
     if third < GOES_ON {
         return Some((low + u64::from(third) * THIRD, 3));
     }
@@ -80,16 +92,13 @@ fn middle_number(bytes: &[u8]) -> Option<(u64, usize)>
     None
 }
 
-// The same, by numbers of any length: a call where `front_number` is none.
+// The same, by numbers of any length, and where there are few bytes: a call where `front_number` is none.
 #[inline(never)]
 pub(crate) fn any_number(bytes: &[u8]) -> Option<(u64, usize)>
     ensures { IfSome result (λ front. NumberInFront bytes.now front.0 front.1) }
 {
     twkb_num::laws::varints();
-    if let Some(front) = short_number(bytes) {
-        return Some(front);
-    }
-    if let Some(front) = middle_number(bytes) {
+    if let Some(front) = wide_number(bytes) {
         return Some(front);
     }
     let mut partial = Partial::<Leb128>::new();

@@ -5,14 +5,14 @@ ghost use Rattle.twkb_points.specs.Point.{IsCoordinate};
 ghost use Rattle.twkb_front.specs.Front.{PointInFront, StepsTo};
 
 use crate::motion::{moved_x, moved_y};
-use crate::numbers::{any_number, byte_number, short_number};
+use crate::numbers::{any_number, byte_number, short_number, wide_number};
 use twkb_num::unzigzag;
 use twkb_points::Pt;
 
-// The step that a number of one or two bytes spells.
+// The step that a number of five bytes or fewer spells.
 #[inline(always)]
 fn short_step(number: u64) -> i64
-    requires { number < 2 ^ 14 }
+    requires { number < 2 ^ 35 }
     ensures value { result ≡ unzigzag_of number }
     ensures near { IsCoordinate result }
 {
@@ -23,7 +23,7 @@ fn short_step(number: u64) -> i64
 #[inline(always)]
 fn near_coordinate(from: i64, number: u64) -> i64
     requires in_range { IsCoordinate from }
-    requires small { number < 2 ^ 14 }
+    requires small { number < 2 ^ 35 }
     ensures { result ≡ from +ℤ unzigzag_of number }
 {
     from + short_step(number)
@@ -32,8 +32,8 @@ fn near_coordinate(from: i64, number: u64) -> i64
 // The point behind two such steps, or `None` where that is out of range.
 #[inline(always)]
 fn near(from: Pt, x: u64, y: u64) -> Option<Pt>
-    requires x_small { x < 2 ^ 14 }
-    requires y_small { y < 2 ^ 14 }
+    requires x_small { x < 2 ^ 35 }
+    requires y_small { y < 2 ^ 35 }
     ensures { IfSome result (λ to. StepsTo from x y to) }
 {
     let to = Pt::try_new(near_coordinate(from.x(), x), near_coordinate(from.y(), y))?;
@@ -73,9 +73,31 @@ fn short_point(from: Pt, bytes: &[u8]) -> Option<(Pt, usize)>
     Some((to, width + height))
 }
 
-// The same, by any numbers.
+// The same, by numbers of five bytes or fewer, where there are so many bytes; `None` says nothing.
+#[inline(always)]
+fn wide_point(from: Pt, bytes: &[u8]) -> Option<(Pt, usize)>
+    ensures { IfSome result (λ front. PointInFront from bytes.now front.0 front.1) }
+{
+    let (x, width) = wide_number(bytes)?;
+    let (y, height) = wide_number(&bytes[width..])?;
+    let to = near(from, x, y)?;
+    Some((to, width + height))
+}
+
+// The same, by longer numbers than two bytes spell.
 #[inline(never)]
 fn long_point(from: Pt, bytes: &[u8]) -> Option<(Pt, usize)>
+    ensures { IfSome result (λ front. PointInFront from bytes.now front.0 front.1) }
+{
+    if let Some(front) = wide_point(from, bytes) {
+        return Some(front);
+    }
+    any_point(from, bytes)
+}
+
+// The same, by any numbers.
+#[inline(never)]
+fn any_point(from: Pt, bytes: &[u8]) -> Option<(Pt, usize)>
     ensures { IfSome result (λ front. PointInFront from bytes.now front.0 front.1) }
 {
     let (x, width) = any_number(bytes)?;

@@ -4,7 +4,7 @@ use Rattle.std.proofs.lemmas.Int.{to_z-of_z}
 use Rattle.twkb_points.specs.Point.{point_at}
 use Rattle.twkb_grammar.specs.PlainReader.{in_range}
 use Rattle.twkb_front.proofs.InFront.{two_numbers}
-use Rattle.twkb_front.proofs.points.long_point.Goals as goal
+use Rattle.twkb_front.proofs.points.any_point.Goals as goal
 
 pub returns : goal.returns
 returns c =
