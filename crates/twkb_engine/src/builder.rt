@@ -300,8 +300,8 @@ impl Builder {
         (position, self.nodes + nodes, self.points + points)
     }
 
-    // Takes an item with this number, which has so many bytes, and the ends behind it, by all its steps; answers as `take` does. A frame of its own,
-    // since `take` stands in its callers'.
+    // Takes an item with this number, which has so many bytes, and the ends behind it, by all its steps; answers as `take` does. A frame
+    // of its own, since `take` stands in its callers'.
     #[inline(never)]
     fn take_any(&mut self, flat: &mut Flat, number: u64, length: u64) -> Result<bool, Stop>
         requires byte { number < 256 ⊎ IsSpelled self.old.phase }
