@@ -15,7 +15,7 @@ use Rattle.twkb_tree.proofs.RootLimits.{valid_list, continues_row, one_valid_fro
 use Rattle.twkb_tree.proofs.RowDepths.{valid_depths}
 use Rattle.twkb_tree.proofs.RowFitting.{own_row-depth}
 use Rattle.twkb_tree.proofs.RowMembers.{each_next, ids_from_start, member_rows_each, own_row_first, under_shape}
-use Rattle.twkb_flat.specs.Parts.{part_rows}
+use Rattle.twkb_flat.specs.Parts.{IsSimple, part_rows}
 
 -- these are rows of one geometry within the largest limits
 abbrev pub AreFlatRows : List Row → Type 0
@@ -150,3 +150,16 @@ members_valid d ids gs hs old e v = subst (λ rs. AreFlatRows (old ++ rs)) (sym 
 -- the rows of a valid geometry
 pub valid_alone : (g : Tree) → IsValid largest_limits g → AreFlatRows (rows 0 g)
 valid_alone g v = subst AreFlatRows (sym (own_row_first _ 0 g)) (g, v, own_row_first _ 0 g)
+
+-- a geometry that is no collection has no members
+pub is_simple : (p : ℤ) (shape : Shape) (g : Tree) → tree_of p shape ≡ g → ((gs : List Tree) (ids : Ids) → shape ≡ Shape.Collection gs ids → ⊥) → IsSimple g
+is_simple p (Shape.Point o) g whole none = subst IsSimple whole tt
+is_simple p (Shape.Line ps) g whole none = subst IsSimple whole tt
+is_simple p (Shape.Polygon rings) g whole none = subst IsSimple whole tt
+is_simple p (Shape.MultiPoint ps ids) g whole none = subst IsSimple whole tt
+is_simple p (Shape.MultiLine lines ids) g whole none = subst IsSimple whole tt
+is_simple p (Shape.MultiPolygon areas ids) g whole none = subst IsSimple whole tt
+is_simple p (Shape.Collection gs ids) g whole none = absurd (none gs ids refl)
+
+pub no_members : (p : ℤ) (shape : Shape) (gs : List Tree) (ids : Ids) (g : Tree) → tree_of p shape ≡ g → shape ≡ Shape.Collection gs ids → IsSimple g → ⊥
+no_members p shape gs ids g whole is plain = subst IsSimple (sym whole ∙ ap (tree_of p) is) plain

@@ -1,6 +1,6 @@
 -- What a push leaves.
 use Rattle.std.proofs.Common.{◌≡◌, ℕ, ◌+◌, ◌-◌, ◌<◌, ◌≤◌, ◌^◌, List, [], ◌∷◌, ◌++◌, map, length, take, drop, set, refl, sym, ap, ◌∙◌, subst, arith}
-use Rattle.std.specs.Prelude.{reverse}
+use Rattle.std.specs.Prelude.{reverse, slice_index}
 use Rattle.std.proofs.lemmas.List.{length-map, length-append, length_push, map_push, take_all, take-append-le}
 use Rattle.twkb_points.specs.Point.{Point}
 use Rattle.twkb_tree.specs.declared.open_rows.OpenRow.{OpenRow}
@@ -26,6 +26,13 @@ admitted es ps spine os count row qs rows flat view continues =
     let limits = flat.linked.most in
     goes_on rows os count (row_with row qs) (subst (AreValidRowsOfOne largest_limits) view flat.valid)
     (subst (λ xs. AreOpen (reverse xs) (take count os)) view flat.opened) (omega (arith, flat.room, limits)) continues
+
+-- the open nodes are among those that stand there then
+pub open_below : (es more : List KeptNode) (node : KeptNode) (spine : List ℕ) (count k : ℕ)
+    → Linked (map span_depth (map span_of es)) (map next_of es) spine count → more ≡ es ++ node ∷ [] → k < count → slice_index spine k < length more
+open_below es more node spine count k linked put less =
+    let total : length (map span_depth (map span_of es)) ≡ length es = length-map _ _ ∙ length-map _ _ in
+    omega (arith, (linked.open_at k less).0, total, ap length put, length_push {X = KeptNode})
 
 -- its span
 abbrev new_span : Row → List Point → List Point → PlacedRow

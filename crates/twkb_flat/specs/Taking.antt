@@ -1,12 +1,12 @@
 -- Where the rows of a part, of parts or of a geometry stand among the rows.
-use Rattle.std.specs.Prelude.{◌≡◌, ℕ, suc, ℤ, List, [], ◌∷◌, ◌++◌, length, drop, Option, None, Some, ⊤}
+use Rattle.std.specs.Prelude.{◌≡◌, ◌≢◌, ℕ, suc, ℤ, List, [], ◌∷◌, ◌++◌, length, drop, Option, None, Some, ⊤}
 use Rattle.std.specs.List.{AllByRecursion}
 use Rattle.twkb_points.specs.Point.{Point}
 use Rattle.twkb_tree.specs.declared.kind.Kind.{Kind}
 use Rattle.twkb_tree.specs.Tree.{Ids, Tree, IsTree, HasIds, precision_of}
 use Rattle.twkb_tree.specs.Shape.{tree_of}
 use Rattle.twkb_tree.specs.declared.geometry.Shape.{Shape}
-use Rattle.twkb_tree.specs.Rows.{Row, rows_with, rows_of_each}
+use Rattle.twkb_tree.specs.Rows.{Row, own_row, rows_with, rows_of_each}
 use Rattle.twkb_tree.specs.RowLists.{IsAbove}
 use Rattle.twkb_flat.specs.Parts.{part_rows}
 
@@ -35,6 +35,11 @@ IsAny item = ⊤
 -- the rows of a geometry at a depth stand at a place
 abbrev pub TreeAt : List Row → ℕ → ℕ → Option ℤ → Tree → List Row → Type 0
 TreeAt rows at d id g rest = ItemAt IsTree (λ i h. rows_with i d h) rows at d id g rest
+
+-- the same of a geometry that is no collection
+pub record SimpleAt (rows : List Row) (at d : ℕ) (id : Option ℤ) (g : Tree) (rest : List Row) : Type 0 where
+  pub stands : TreeAt rows at d id g rest
+  pub no_collection : (own_row id d g).kind ≢ Kind.Collection
 
 -- the rows of parts of this kind at a depth stand at a place
 abbrev pub PartsAt : {A : Type 0} → (A → List Point) → (ℕ → A → List Row) → Kind → List Row → ℕ → ℕ → Ids → List A → List Row → Type 0

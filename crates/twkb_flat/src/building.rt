@@ -5,7 +5,7 @@ ghost use Rattle.twkb_tree.specs.Limits.{largest_limits, IsValid};
 ghost use Rattle.twkb_tree.specs.Shape.{tree_of};
 ghost use Rattle.twkb_tree.specs.Tree.{Ids, Tree, IsTree, precision_of};
 ghost use Rattle.twkb_tree.specs.Rows.{Row as TableRow, rows, rows_with};
-ghost use Rattle.twkb_flat.specs.Taking.{TreeAt, EachAt, PartsAt, AreOf, ids_in, id_list};
+ghost use Rattle.twkb_flat.specs.Taking.{TreeAt, SimpleAt, EachAt, PartsAt, AreOf, ids_in, id_list};
 
 use crate::flat::Flat;
 use crate::parts::Part;
@@ -59,6 +59,21 @@ fn take_shape(flat: &Flat, alloc: Global, at: usize) -> Result<(Shape, usize), A
     ensures { (d : ℕ) (id : Option ℤ) (g : Tree) (rest : List TableRow) → TreeAt flat.now at d id g rest → IfOk result (λ taken. (tree_of (precision_of g) taken.0 ≡ g) × (drop taken.1 flat.now ≡ rest)) }
 {
     let row = flat.row(at);
+    match row.kind {
+        Kind::Collection => {
+            let (members, ids, next) = take_members(flat, alloc, at + 1, row.depth + 1)?;
+            Ok((Shape::Collection(members, ids), next))
+        }
+        _ => take_simple(flat, alloc, at),
+    }
+}
+
+// The same of a geometry that is no collection.
+fn take_simple(flat: &Flat, alloc: Global, at: usize) -> Result<(Shape, usize), AllocError>
+    requires { (d : ℕ) × (id : Option ℤ) × (g : Tree) × (rest : List TableRow) × SimpleAt flat.now at d id g rest }
+    ensures { (d : ℕ) (id : Option ℤ) (g : Tree) (rest : List TableRow) → TreeAt flat.now at d id g rest → IfOk result (λ taken. (tree_of (precision_of g) taken.0 ≡ g) × (drop taken.1 flat.now ≡ rest)) }
+{
+    let row = flat.row(at);
     let below = at + 1;
     let depth = row.depth + 1;
     match row.kind {
@@ -86,11 +101,7 @@ fn take_shape(flat: &Flat, alloc: Global, at: usize) -> Result<(Shape, usize), A
             let (areas, ids, next) = take_each(flat, alloc, below, depth)?;
             Ok((Shape::MultiPolygon(areas, ids), next))
         }
-        Kind::Collection => {
-            let (members, ids, next) = take_members(flat, alloc, below, depth)?;
-            Ok((Shape::Collection(members, ids), next))
-        }
-        Kind::Ring => unreachable!(),
+        Kind::Collection | Kind::Ring => unreachable!(),
     }
 }
 

@@ -11,7 +11,7 @@ use twkb_points::{PointTail, Pt};
 use twkb_tree::Kind;
 
 // A row and where its own points are.
-#[derive(Clone, Copy, Debug)]
+#[derive(Clone, Copy)]
 pub(crate) struct PlacedRow {
     pub(crate) row: Row,
     pub(crate) first: u32,
@@ -19,7 +19,7 @@ pub(crate) struct PlacedRow {
 }
 
 // A span, and the node after its subtree, or 0 while all rows after it are below it.
-#[derive(Clone, Copy, Debug)]
+#[derive(Clone, Copy)]
 pub(crate) struct KeptNode {
     pub(crate) span: PlacedRow,
     pub(crate) next: NodeId,

@@ -4,7 +4,7 @@ ghost use Rattle.twkb_tree.specs.Limits.{largest_limits, IsValid};
 ghost use Rattle.twkb_tree.specs.Tree.{trees};
 ghost use Rattle.twkb_tree.specs.Rows.{rows, rows_with, rows_under, own_row, member_rows, rows_of_each};
 ghost use Rattle.twkb_tree.specs.RowLists.{AreValidRowsOfOne};
-ghost use Rattle.twkb_flat.specs.Parts.{part_rows};
+ghost use Rattle.twkb_flat.specs.Parts.{IsSimple, part_rows};
 ghost use Rattle.twkb_flat.specs.Rows.{row_with};
 
 use crate::flat::Flat;
@@ -66,6 +66,18 @@ fn push_under(geometry: &Geometry, depth: u32, flat: &mut Flat) -> Result<(), Al
     ensures { OnOk result (flat.new ≡ flat.old ++ rows_under depth geometry.now) }
 {
     match geometry.shape() {
+        Shape::Collection(members, ids) => push_members(members, depth, ids, flat),
+        _ => push_parts(geometry, depth, flat),
+    }
+}
+
+// The same of a geometry that is no collection.
+fn push_parts(geometry: &Geometry, depth: u32, flat: &mut Flat) -> Result<(), AllocError>
+    requires valid { AreValidRowsOfOne largest_limits (flat.old ++ rows_under depth geometry.now) }
+    requires no_collection { IsSimple geometry.now }
+    ensures { OnOk result (flat.new ≡ flat.old ++ rows_under depth geometry.now) }
+{
+    match geometry.shape() {
         Shape::Point(_) | Shape::Line(_) => Ok(()),
         Shape::Polygon(rings) => push_each(Kind::Ring, depth, rings.as_slice(), &None, flat),
         Shape::MultiPoint(points, ids) => {
@@ -77,7 +89,7 @@ fn push_under(geometry: &Geometry, depth: u32, flat: &mut Flat) -> Result<(), Al
         Shape::MultiPolygon(areas, ids) => {
             push_each(Kind::Polygon, depth, areas.as_slice(), ids, flat)
         }
-        Shape::Collection(members, ids) => push_members(members, depth, ids, flat),
+        Shape::Collection(..) => unreachable!(),
     }
 }
 

@@ -1,10 +1,9 @@
-use Rattle.std.proofs.Common.{◌∙◌, ◌∷◌, [], ◌++◌, ap, arith, rules}
+use Rattle.std.proofs.Common.{◌∙◌, ◌++◌, ap, arith, rules}
 use Rattle.twkb_tree.specs.Tree.{trees}
-use Rattle.twkb_tree.specs.Rows.{rows_with, rows_of_each, member_rows, plain_row, ring_rows, polygon_rows}
-use Rattle.twkb_tree.specs.declared.kind.Kind.{Kind}
+use Rattle.twkb_tree.specs.Rows.{rows_with, member_rows}
 use Rattle.twkb_tree.specs.Size.{member_smaller}
 use Rattle.twkb_tree.proofs.RowMembers.{member_rows_each, under_shape}
-use Rattle.twkb_flat.proofs.FillLemmas.{has_rows_none, has_rows_more, has_rows_all, next_goes_on, members_valid, own_may_push, own_no_deeper, under_goes_on, all_pushed, under_valid, under_pushed, none_under}
+use Rattle.twkb_flat.proofs.FillLemmas.{is_simple, has_rows_none, has_rows_more, has_rows_all, next_goes_on, members_valid, own_may_push, own_no_deeper, under_goes_on, all_pushed, under_valid, under_pushed}
 use Rattle.twkb_flat.proofs.filling.+filling.Goals as goal
 
 pub push_members-loop-member-init : goal.push_members-loop-member-init
@@ -37,50 +36,11 @@ push_geometry-push_under-requires t c = (search rules, under_goes_on _ _ _ _ _ _
 pub push_geometry-returns : goal.push_geometry-returns
 push_geometry-returns t c = all_pushed _ _ _ _ _ _ _ _ c.own_row.ensures c.in_ok-push.ensures.pushed c.push_under.ensures
 
-pub push_under-push_each-requires : goal.push_under-push_each-requires
-push_under-push_each-requires t c =
-    under_valid _ _ _ _ c.requires (ap (ring_rows c.args.depth) c.as_slice.ensures.items ∙ under_shape _ _ _ _ _ c.shape.ensures c.in-Polygon.is)
-
-pub push_under-push_each-requires-in-MultiPoint : goal.push_under-push_each-requires-in-MultiPoint
-push_under-push_each-requires-in-MultiPoint t c =
-    under_valid _ _ _ _ c.requires
-    (ap (rows_of_each (λ id p. plain_row c.args.depth Kind.Point id (p ∷ []) ∷ []) c.in-MultiPoint.ids) c.as_slice-in-MultiPoint.ensures.items ∙ under_shape _ _ _ _ _ c.shape.ensures c.in-MultiPoint.is)
-
-pub push_under-push_each-requires-in-MultiLine : goal.push_under-push_each-requires-in-MultiLine
-push_under-push_each-requires-in-MultiLine t c =
-    under_valid _ _ _ _ c.requires
-    (ap (rows_of_each (λ id ps. plain_row c.args.depth Kind.Linestring id ps ∷ []) c.in-MultiLine.ids) c.as_slice-in-MultiLine.ensures.items ∙ under_shape _ _ _ _ _ c.shape.ensures c.in-MultiLine.is)
-
-pub push_under-push_each-requires-in-MultiPolygon : goal.push_under-push_each-requires-in-MultiPolygon
-push_under-push_each-requires-in-MultiPolygon t c =
-    under_valid _ _ _ _ c.requires (ap (rows_of_each (polygon_rows c.args.depth) c.in-MultiPolygon.ids) c.as_slice-in-MultiPolygon.ensures.items ∙ under_shape _ _ _ _ _ c.shape.ensures c.in-MultiPolygon.is)
-
 pub push_under-push_members-requires : goal.push_under-push_members-requires
 push_under-push_members-requires t c = (search rules, under_valid _ _ _ _ c.requires (under_shape _ _ _ _ _ c.shape.ensures c.in-Collection.is))
-
-pub push_under-returns-in-Polygon : goal.push_under-returns-in-Polygon
-push_under-returns-in-Polygon t c =
-    under_pushed _ _ _ _ _ _ (ap (ring_rows c.args.depth) c.as_slice.ensures.items ∙ under_shape _ _ _ _ _ c.shape.ensures c.in-Polygon.is) c.push_each.ensures
-
-pub push_under-returns-in-MultiPoint : goal.push_under-returns-in-MultiPoint
-push_under-returns-in-MultiPoint t c =
-    under_pushed _ _ _ _ _ _
-    (ap (rows_of_each (λ id p. plain_row c.args.depth Kind.Point id (p ∷ []) ∷ []) c.in-MultiPoint.ids) c.as_slice-in-MultiPoint.ensures.items ∙ under_shape _ _ _ _ _ c.shape.ensures c.in-MultiPoint.is) c.push_each-in-MultiPoint.ensures
-
-pub push_under-returns-in-MultiLine : goal.push_under-returns-in-MultiLine
-push_under-returns-in-MultiLine t c =
-    under_pushed _ _ _ _ _ _
-    (ap (rows_of_each (λ id ps. plain_row c.args.depth Kind.Linestring id ps ∷ []) c.in-MultiLine.ids) c.as_slice-in-MultiLine.ensures.items ∙ under_shape _ _ _ _ _ c.shape.ensures c.in-MultiLine.is) c.push_each-in-MultiLine.ensures
-
-pub push_under-returns-in-MultiPolygon : goal.push_under-returns-in-MultiPolygon
-push_under-returns-in-MultiPolygon t c =
-    under_pushed _ _ _ _ _ _ (ap (rows_of_each (polygon_rows c.args.depth) c.in-MultiPolygon.ids) c.as_slice-in-MultiPolygon.ensures.items ∙ under_shape _ _ _ _ _ c.shape.ensures c.in-MultiPolygon.is) c.push_each-in-MultiPolygon.ensures
 
 pub push_under-returns-in-Collection : goal.push_under-returns-in-Collection
 push_under-returns-in-Collection t c = under_pushed _ _ _ _ _ _ (under_shape _ _ _ _ _ c.shape.ensures c.in-Collection.is) c.push_members.ensures
 
-pub push_under-returns-in-Point : goal.push_under-returns-in-Point
-push_under-returns-in-Point t c = none_under _ _ _ _ _ c.shape.ensures c.in-Point.is
-
-pub push_under-returns-in-Point-2 : goal.push_under-returns-in-Point-2
-push_under-returns-in-Point-2 t c = none_under _ _ _ _ _ c.shape.ensures c.in-Point.is
+pub push_under-push_parts-requires : goal.push_under-push_parts-requires
+push_under-push_parts-requires t c = record { valid = c.requires; no_collection = is_simple _ _ _ c.shape.ensures c.in_default.not-Collection }

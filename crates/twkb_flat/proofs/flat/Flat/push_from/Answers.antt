@@ -2,7 +2,7 @@ use Rattle.std.proofs.Common.{◌≡◌, ◌+◌, List, length, map, set, sym, a
 use Rattle.std.proofs.lemmas.List.{with_items_is}
 use Rattle.twkb_flat.specs.declared.entries.KeptNode.{KeptNode}
 use Rattle.twkb_flat.specs.Entries.{IsFlat, listed, span_of}
-use Rattle.twkb_flat.proofs.PushLemmas.{Opens, admitted, flat_after, kept_flat, kept_view, points_left, pushed_by, same_count, view_after}
+use Rattle.twkb_flat.proofs.PushLemmas.{Opens, admitted, flat_after, kept_flat, kept_view, open_below, points_left, pushed_by, same_count, view_after}
 use Rattle.twkb_flat.proofs.flat.Flat.push_from.Goals as goal
 
 pub put_row-requires-clause-few : goal.put_row-requires-clause-few
@@ -16,6 +16,17 @@ invariant_of-self g c = kept_flat _ _ _ _ _ _ _ c.self.invariant c.in-Err.ensure
 
 pub returns-in-Err-clause-same : goal.returns-in-Err-clause-same
 returns-in-Err-clause-same g c = kept_view _ _ _ _ _ c.self.view_is c.in-Err.ensures.no_node c.in-Err.ensures.no_point
+
+pub close_all-requires : goal.close_all-requires
+close_all-requires g c =
+    let own = c.in_default.ensures.put in
+    let on = admitted _ _ _ _ _ c.args.row own.0 _ c.self.invariant c.self.view_is (c.requires own.0 own.2) in
+    let linked = c.self.invariant.linked in
+    record {
+      range = omega (arith, on.child);
+      room = omega (arith, linked.most, linked.room, on.child);
+      below = λ k less. open_below c.self.inside.entries.items c.deref_mut.result.now _ c.self.inside.spine c.self.inside.levels k linked (c.deref_mut.ensures.value ∙ own.1.node) (omega (arith, less, on.child));
+    }
 
 pub bounds-self-inside-depth : goal.bounds-self-inside-depth
 bounds-self-inside-depth g c =
