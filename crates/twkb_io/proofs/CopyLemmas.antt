@@ -1,16 +1,32 @@
 -- Copies of pieces, one after the other, copy the join.
-use Rattle.std.proofs.Common.{◌≡◌, ℕ, List, ◌++◌, drop, length, Option, Some, None, arith, ap, sym, ◌∙◌, subst, append_assoc, length-append}
+use Rattle.std.proofs.Common.{◌≡◌, ◌+◌, ◌<◌, ℕ, List, ◌++◌, drop, length, Option, Some, None, arith, ap, sym, ◌∙◌, subst, append_assoc, length-append}
 use Rattle.std.proofs.KnownBytes.{Consumes-kept, Consumes-trans, Consumes-whole}
 use Rattle.std.proofs.lemmas.List.{take-append-drop}
-use Rattle.std.specs.Prelude.{IfSome}
+use Rattle.std.specs.Prelude.{IfSome, Result, Err}
 use Rattle.std.specs.Io.{StartsWith}
 use Rattle.std.specs.Io.KnownBytes.{Consumes, IsAtEnd, Keeps}
 use Rattle.std.specs.declared.io.traits.Read.{Ghosts}
+use Rattle.twkb_io.specs.declared.input.InFault.{InFault}
 use Rattle.twkb_io.specs.declared.input.Input.{Input}
 use Rattle.twkb_io.specs.declared.copying.CopyFault.{CopyFault}
 use Rattle.twkb_io.specs.declared.copying.CopyFault.TheVariants.{Sink, Source}
 use Rattle.twkb_io.specs.Inputs.{rest_of}
 use Rattle.twkb_io.specs.Copies.{BeginsWith, Copied, StopsCopy, StopsPiece}
+
+-- a copy is stopped by an input's fault exactly as the input is
+pub source_fault : {T U F : Type 0} {why k : InFault} → ◌≡◌ {A = Result T (CopyFault F)} (Err (Source why)) (Err (Source k)) → ◌≡◌ {A = Result U InFault} (Err why) (Err k)
+source_fault same = cc same
+
+pub fault_source : {T U F : Type 0} {why k : InFault} → ◌≡◌ {A = Result U InFault} (Err why) (Err k) → ◌≡◌ {A = Result T (CopyFault F)} (Err (Source why)) (Err (Source k))
+fault_source same = cc same
+
+-- and a sink is no input
+pub sink_no_source : {T F : Type 0} {stop : F} {why : InFault} → ◌≡◌ {A = Result T (CopyFault F)} (Err (Sink stop)) (Err (Source why)) → ⊥
+sink_no_source other = cc other
+
+-- a piece with some bytes is more
+pub more_given : (a m b n : ℕ) → m ≡ a → b ≡ m + n → (n ≡ 0 → ⊥) → a < b
+more_given a m b n kept counted some = omega arith
 
 -- what a kept rest loses, the rest before loses
 pub kept_consumes : (a b c : Option (List ℕ)) (bytes : List ℕ) → Keeps a b → Consumes b c bytes → Consumes a c bytes

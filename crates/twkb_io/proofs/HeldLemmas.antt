@@ -1,10 +1,12 @@
 -- What is held of an array: the part from `at` to `filled` that is unused, as far as there is room.
-use Rattle.std.proofs.Common.{◌≡◌, ◌≢◌, ◌≤◌, ◌<◌, ◌+◌, ◌-◌, min, ℕ, List, [], ◌++◌, take, drop, length, Option, Some, None, arith, ap, sym, ◌∙◌, refl, inl, inr, Bool, true, false, append_assoc, length-append, length-drop}
+use Rattle.std.proofs.Common.{◌≡◌, ◌≢◌, ◌≤◌, ◌<◌, ◌+◌, ◌-◌, min, ℕ, List, [], ◌∷◌, ◌++◌, take, drop, length, Option, Some, None, arith, ap, sym, ◌∙◌, refl, inl, inr, Bool, true, false, append_assoc, length-append, length-drop}
 use Rattle.std.proofs.Math.Nat.{eq-or-lt_of_le}
-use Rattle.std.proofs.lemmas.List.{length-take, take-take, drop-take, drop-drop, take-append-drop, take_at}
-use Rattle.std.specs.Prelude.{IfSome, slice_range}
+use Rattle.std.proofs.Math.Seq.{take-nil}
+use Rattle.std.proofs.lemmas.List.{length-take, nil_from_length, take-take, drop-take, drop-drop, take-append-drop, take_at}
+use Rattle.twkb_io.proofs.FaultLemmas.{not_both}
+use Rattle.std.specs.Prelude.{IfSome, slice_get, slice_range}
 use Rattle.std.specs.Io.{StartsWith}
-use Rattle.std.specs.Io.KnownBytes.{Consumes, Keeps, prepend_known}
+use Rattle.std.specs.Io.KnownBytes.{Consumes, IsAtEnd, Keeps, prepend_known}
 
 -- n bytes further, the unused part has lost its first n
 pub unused_advanced : (held : List ℕ) (at filled n : ℕ) → at + n ≤ filled → slice_range held (at + n) filled ≡ drop n (slice_range held at filled)
@@ -62,3 +64,29 @@ count_fits held at filled room n ordered fits =
     let cut : length (take room unused) ≡ min room (length unused) = length-take room unused in
     let part : length unused ≡ min (filled - at) (length (drop at held)) = length-take (filled - at) (drop at held) in
     (omega arith, omega arith)
+
+-- bytes of which there is no first are none
+pub no_first : (piece held : List ℕ) → piece ≡ held → None ≡ slice_get piece 0 → held ≡ []
+no_first [] held same none = sym same
+no_first (x ∷ xs) held same none = absurd (cc none)
+
+-- a rest that was kept was at its end before
+pub kept_end : (old new : Option (List ℕ)) → Keeps old new → IsAtEnd new → IsAtEnd old
+kept_end None new keeps end = tt
+kept_end (Some rest) None keeps end = absurd keeps
+kept_end (Some rest) (Some same) keeps end = sym keeps ∙ end
+
+-- an input that has ended is not spent
+pub not_spent : {ended spent : Bool} → (ended ≡ true → spent ≡ false) → spent ≡ true → ended ≡ true → ⊥
+not_spent fresh was end = not_both was (fresh end)
+
+-- an array that is used up holds none
+pub none_unused : (held : List ℕ) (at filled : ℕ) → at ≡ filled → slice_range held at filled ≡ []
+none_unused held at filled same = nil_from_length (slice_range held at filled) (omega (arith, length-take (filled - at) (drop at held)))
+
+pub none_held : (held : List ℕ) (at filled room : ℕ) → at ≡ filled → take room (slice_range held at filled) ≡ []
+none_held held at filled room same = ap (take room) (none_unused held at filled same) ∙ take-nil room
+
+-- so where bytes are held it is not used up
+pub held_unused : (held : List ℕ) (at filled room : ℕ) → at ≤ filled → take room (slice_range held at filled) ≢ [] → at < filled
+held_unused held at filled room ordered some = elim (eq-or-lt_of_le ordered) [ inl same ↦ absurd (some (none_held held at filled room same)) | inr less ↦ less ]

@@ -8,7 +8,7 @@ use Rattle.twkb_io.specs.declared.copying.CopyFault.{CopyFault}
 use Rattle.twkb_io.specs.declared.copying.CopyFault.TheVariants as stop
 use Rattle.twkb_io.specs.declared.output.OutFault.{OutFault}
 use Rattle.twkb_io.specs.Taps.{count_failure}
-use Rattle.twkb_io.specs.Inputs.{given, has_ended, input_failures, input_tap, is_spent, rest_of}
+use Rattle.twkb_io.specs.Inputs.{given, has_ended, input_failures, input_tap, is_read, is_spent, rest_of}
 use Rattle.twkb_io.specs.Outputs.{is_device}
 
 -- these bytes left the input, which counted them, and the sink took them
@@ -32,13 +32,15 @@ abbrev pub StopsPiece : {S F : Type 0} → (S → List ℕ → F → S → Type 
 StopsPiece refused rest from (stop.Source why) to = to ≡ from
 StopsPiece refused rest from (stop.Sink why) to = (front : List ℕ) × BeginsWith rest front × refused from front why to
 
+-- whether this is a failed read
+abbrev pub is_of_read : {F : Type 0} → CopyFault F → Bool
+is_of_read (stop.Source why) = is_read why
+is_of_read (stop.Sink why) = false
+
 -- whether a copy was stopped by a failed read
 abbrev pub is_read_stop : {A F : Type 0} → Result A (CopyFault F) → Bool
 is_read_stop (Ok done) = false
-is_read_stop (Err (stop.Source fault.Read)) = true
-is_read_stop (Err (stop.Source fault.TooLong)) = false
-is_read_stop (Err (stop.Source fault.Spent)) = false
-is_read_stop (Err (stop.Sink why)) = false
+is_read_stop (Err why) = is_of_read why
 
 -- whether a copy was stopped by a writer that failed
 abbrev pub is_write_stop : {A : Type 0} → Result A (CopyFault OutFault) → Bool

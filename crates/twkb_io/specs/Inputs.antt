@@ -53,9 +53,13 @@ given_after n (Ok (Some byte)) = n + 1
 given_after n (Ok None) = n
 given_after n (Err e) = n
 
+-- whether this is a failed read
+abbrev pub is_read : InFault → Bool
+is_read fault.Read = true
+is_read fault.TooLong = false
+is_read fault.Spent = false
+
 -- whether a call was answered by a failed read
 abbrev pub is_read_fault : {A : Type 0} → Result A InFault → Bool
 is_read_fault (Ok found) = false
-is_read_fault (Err fault.Read) = true
-is_read_fault (Err fault.TooLong) = false
-is_read_fault (Err fault.Spent) = false
+is_read_fault (Err e) = is_read e

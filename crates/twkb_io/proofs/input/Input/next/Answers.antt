@@ -1,8 +1,47 @@
-use Rattle.std.proofs.Common.{rules}
+use Rattle.std.proofs.Common.{ap, refl, sym}
+use Rattle.std.proofs.lemmas.Result.{err_from_is_err_and}
+use Rattle.twkb_io.specs.Inputs.{held_of}
+use Rattle.twkb_io.proofs.FaultLemmas.{both_ok, ok_no_err, same_fault}
+use Rattle.twkb_io.proofs.HeldLemmas.{kept_end, no_first}
 use Rattle.twkb_io.proofs.input.Input.next.Goals as goal
 
-pub returns-clause-gives : goal.returns-clause-gives
-returns-clause-gives g c = search rules
+pub returns-in_err-fill : goal.returns-in_err-fill
+returns-in_err-fill g c =
+    let p = err_from_is_err_and c.from_residual.result c.from_residual.ensures.1 in
+    let f = c.in_err-fill.ensures in
+    rw (p.1, p.2) record {
+      same_tap = f.same_tap;
+      gives = f.keeps;
+      given = f.given;
+      end = λ other. absurd (ok_no_err (sym other));
+      for_good = λ ended. absurd (ok_no_err (sym (f.for_good ended).0));
+      unread = λ held. ap (λ (input : _). input.tap) (f.unread held);
+      once = f.once;
+      failures = f.failures;
+      too_long = λ same. f.too_long (same_fault same);
+      none_held = λ same. f.none_held (same_fault same);
+      spent = (λ same. f.spent.0 (same_fault same), λ was. same_fault (f.spent.1 was));
+      stays = f.stays;
+      unchanged = f.unchanged;
+    }
 
-pub returns-clause-given : goal.returns-clause-given
-returns-clause-given g c = search rules
+pub returns-in_default : goal.returns-in_default
+returns-in_default g c =
+    let f = c.in_ok-fill.ensures in
+    let none = no_first c.held.result.now (held_of c.fill.new.self) c.held.ensures.held c.in_default.ensures.value in
+    let (held, at_end, left) = f.ended (f.end none) in
+    record {
+      same_tap = f.same_tap;
+      gives = (kept_end _ _ f.keeps at_end, f.keeps);
+      given = f.given;
+      end = λ _. (f.end none, left);
+      for_good = λ ended. (refl, (f.for_good ended).1);
+      unread = λ held. ap (λ (input : _). input.tap) (f.unread held);
+      once = f.once;
+      failures = f.failures;
+      too_long = λ other. f.too_long (both_ok other);
+      none_held = λ other. f.none_held (both_ok other);
+      spent = (λ other. f.spent.0 (both_ok other), λ was. both_ok (f.spent.1 was));
+      stays = f.stays;
+      unchanged = f.unchanged;
+    }

@@ -1,9 +1,12 @@
-use Rattle.std.proofs.Common.{◌≡◌, ◌+◌, ◌≤◌, ◌-◌, ◌∙◌, ◌++◌, List, ℕ, take, drop, length, arith, rules, append_assoc, length-drop, sym, ap}
+use Rattle.std.proofs.Common.{◌≡◌, ◌+◌, ◌≤◌, ◌-◌, ◌∙◌, ◌++◌, List, [], ℕ, refl, take, drop, length, arith, rules, append_assoc, length-drop, sym, ap}
+use Rattle.std.specs.Prelude.{◌≢◌}
 use Rattle.std.proofs.Math.Seq.{take-length}
 use Rattle.std.proofs.lemmas.List.{length-take, length-take-le, take-append-drop}
 use Rattle.std.proofs.lemmas.Result.{err_from_is_err_and}
 use Rattle.twkb_io.specs.OutputLaws.{took_join}
-use Rattle.twkb_io.proofs.OutputLemmas.{cut_inside, front_cut}
+use Rattle.twkb_io.proofs.OutputLemmas.{cut_inside, cut_short, front_cut, no_device}
+use Rattle.twkb_io.specs.declared.output.OutFault.TheVariants as fault
+use Rattle.twkb_io.proofs.FaultLemmas.{not_both}
 use Rattle.twkb_io.proofs.output.OutputSink.put.Goals as goal
 
 regroup : (whole front rest : List ℕ) (n : ℕ) → whole ≡ front ++ rest → whole ≡ (front ++ take n rest) ++ take (length rest - n) (drop n rest)
@@ -31,9 +34,21 @@ loop-rest-preserved g c =
 pub returns-then-bytes-self-clause-err : goal.returns-then-bytes-self-clause-err
 returns-then-bytes-self-clause-err g c = front_cut g.W.Write.contents _ _ c.args.bytes.now _ (search rules)
 
-pub returns-in_err-taken-clause-err : goal.returns-in_err-taken-clause-err
-returns-in_err-taken-clause-err g c =
+pub returns-in_err-taken : goal.returns-in_err-taken
+returns-in_err-taken g c =
     let p = err_from_is_err_and c.from_residual.result c.from_residual.ensures.1 in
     let (front, whole, took) = c.loop-rest.invariant.front in
-    rw (p.1, p.2) (front_cut g.W.Write.contents _ _ c.args.bytes.now _
-    (cut_inside g.W.Write.contents _ _ _ c.args.bytes.now front c.loop-rest.rest.now _ whole (search rules) took c.in_err-taken.ensures.err.0 c.in_err-taken.ensures.err.1))
+    let told = c.in_err-taken.ensures in
+    let some : c.loop-rest.rest.now ≢ [] = search rules in
+    let cut = cut_inside g.W.Write.contents _ _ _ c.args.bytes.now front c.loop-rest.rest.now _ whole some took told.err.0 told.err.1 in
+    rw (p.1, p.2) record {
+      ok = tt;
+      err = front_cut g.W.Write.contents _ _ c.args.bytes.now _ cut;
+      cut = cut;
+      spent = (λ same. absurd (no_device _ fault.Spent told.err.1 refl (cc same)), λ was. absurd (not_both was c.if-self.false));
+      too_long = (λ same. absurd (no_device _ fault.TooLong told.err.1 refl (cc same)), λ far. absurd (let most = far.1 in omega arith));
+      untouched = λ same. absurd (no_device _ fault.TooLong told.err.1 refl (cc same));
+      unchanged = λ was. absurd (not_both was c.if-self.false);
+      told = λ _. told.told;
+      short = λ _. cut_short g.W.Write.contents _ _ _ c.args.bytes.now front c.loop-rest.rest.now _ whole some took told.err.0;
+    }
