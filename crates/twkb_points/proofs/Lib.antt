@@ -1,3 +1,4 @@
 pub mod DifferenceLemmas
+pub mod PointLemmas
 pub mod ExtentLemmas
 pub mod SpanLemmas
