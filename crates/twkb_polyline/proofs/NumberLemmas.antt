@@ -1,9 +1,9 @@
 -- What a reader of characters answers, as the fault of a number or as the number.
-use Rattle.std.proofs.Common.{◌≡◌, ℕ, ℤ, drop, get_or, ◌+◌, ◌<◌, ◌≤◌, ◌^◌, false, List, [], ◌∷◌, ◌++◌, length, ◌⊎◌, inl, inr, refl, sym, ◌∙◌, ap, arith, append_assoc, length-append, lit<}
+use Rattle.std.proofs.Common.{◌≡◌, ℕ, ℤ, drop, get_or, ◌+◌, ◌<◌, ◌≤◌, ◌^◌, false, List, [], ◌∷◌, ◌++◌, length, ◌⊎◌, inl, inr, refl, sym, ◌∙◌, ap, arith, append_assoc, append-nil, length-append, lit<, subst}
 use Rattle.std.specs.Prelude.{None}
 use Rattle.std.specs.List.{AllByRecursion}
 use Rattle.std.specs.Int.Digits.{AllBelowBase}
-use Rattle.std.proofs.lemmas.List.{same_from_push, nil_from_length, drop_more}
+use Rattle.std.proofs.lemmas.List.{same_from_push, nil_from_length, drop_all, drop_more}
 use Rattle.std.proofs.lemmas.Bool.{cases_lt}
 use Rattle.twkb_num.specs.Alphabet.{five_unit, five_group}
 use Rattle.twkb_num.specs.Answer.{IsAbove, IsAnswer}
@@ -13,7 +13,7 @@ use Rattle.twkb_num.specs.Zigzag.{zigzag_of}
 use Rattle.twkb_num.specs.declared.partial.Step.TheVariants as step
 use Rattle.twkb_num.proofs.SpellingLemmas.{length-units_of}
 use Rattle.twkb_polyline.specs.Polyline.{number_text}
-use Rattle.twkb_polyline.specs.declared.fault.PolyReason.TheVariants.{BadChar}
+use Rattle.twkb_polyline.specs.declared.fault.PolyReason.TheVariants.{BadChar, Cut}
 use Rattle.twkb_polyline.specs.Fault.{GoesOn, EndsIn, Reaches, IsTooLong, IsPadded, IsNumberFault, StartsWithNumber}
 use Rattle.twkb_polyline.specs.Reading.{IsNumberAt}
 use Rattle.twkb_polyline.proofs.CharacterLemmas.{goes_on, no_character}
@@ -110,3 +110,9 @@ number_at text start at us n value next place more spelled form fits =
       some = omega arith;
       within = omega arith;
     }
+
+-- the text ends before the number does
+pub cut_short : (text : List ℕ) (start at : ℕ) (us : List ℕ) → us ++ drop at text ≡ drop start text → AllByRecursion GoesOn us → length us < 13 → length text ≤ at → IsNumberFault (drop start text) 0 Cut
+cut_short text start at us held go within past =
+    let whole : us ≡ drop start text = sym (append-nil us) ∙ ap (λ t. us ++ t) (sym (drop_all at text past)) ∙ held in
+    (record { go_on = subst (AllByRecursion GoesOn) whole go; within = subst (λ l. length l < 13) whole within }, refl)

@@ -1,11 +1,12 @@
 -- A point of a text: its two numbers, or its fault.
 use Rattle.std.proofs.Common.{◌≡◌, ℕ, ℤ, ◌+◌, ◌<◌, ◌+ℤ◌, ◌-ℤ◌, List, [], ◌++◌, length, drop, inl, inr, refl, ◌∙◌, ap, arith, length-drop}
 use Rattle.std.proofs.lemmas.Int.{ints}
+use Rattle.std.proofs.lemmas.List.{drop_all}
 use Rattle.twkb_points.specs.Point.{Point, IsCoordinate}
 use Rattle.twkb_polyline.specs.Polyline.{number_text}
 use Rattle.twkb_polyline.specs.Fault.{IsNumberFault, IsLongitudeFault, IsPointFault}
 use Rattle.twkb_polyline.specs.Reading.{IsNumberAt, IsPointAt, IsRefusedFrom}
-use Rattle.twkb_polyline.specs.declared.fault.PolyReason.TheVariants.{Range}
+use Rattle.twkb_polyline.specs.declared.fault.PolyReason.TheVariants.{Half, Range}
 use Rattle.twkb_polyline.specs.declared.fault.PolyFault.{PolyFault}
 use Rattle.twkb_polyline.specs.declared.fault.PolyFault.TheVariants.{Memory, At}
 
@@ -42,3 +43,17 @@ longitude_number text middle x (At offset reason) more f = (f.0, f.1, inr (text_
 -- a longitude that leaves its range
 pub longitude_range : (text : List ℕ) (middle end : ℕ) (x dx : ℤ) → middle < length text → IsNumberAt text middle dx end → (IsCoordinate (x +ℤ dx) → ⊥) → IsRefusedFrom middle (IsLongitudeFault x (drop middle text)) (At middle Range)
 longitude_range text middle end x dx more longitude outside = (0, omega arith, inr (text_left text middle more, inr (record { difference = dx; after = drop end text; number = longitude.number; outside = outside }, refl, refl)))
+
+-- a number's fault is its latitude's
+pub latitude_number : (text : List ℕ) (start : ℕ) (p : Point) (e : PolyFault) → IsRefusedFrom start (IsNumberFault (drop start text)) e → IsRefusedFrom start (IsPointFault p (drop start text)) e
+latitude_number text start p Memory f = absurd f
+latitude_number text start p (At offset reason) f = (f.0, f.1, inl (inl f.2))
+
+-- a latitude that leaves its range
+pub latitude_range : (text : List ℕ) (start middle : ℕ) (p : Point) (dy : ℤ) → IsNumberAt text start dy middle → (IsCoordinate (p.y +ℤ dy) → ⊥) → IsRefusedFrom start (IsPointFault p (drop start text)) (At start Range)
+latitude_range text start middle p dy latitude outside = (0, omega arith, inl (inr (record { difference = dy; after = drop middle text; number = latitude.number; outside = outside }, refl, refl)))
+
+-- a latitude without a longitude
+pub no_longitude : (text : List ℕ) (start middle : ℕ) (p : Point) (dy : ℤ) → IsNumberAt text start dy middle → IsCoordinate (p.y +ℤ dy) → middle ≡ length text → IsRefusedFrom start (IsPointFault p (drop start text)) (At middle Half)
+no_longitude text start middle p dy latitude inside end =
+    after_latitude text start middle p dy (At middle Half) latitude inside (0, omega arith, inl (drop_all middle text (omega arith), refl, refl))

@@ -5,17 +5,44 @@ use Rattle.std.proofs.lemmas.Result.{err_from_is_err_and}
 use Rattle.twkb_points.specs.Point.{Point}
 use Rattle.twkb_polyline.specs.declared.fault.PolyReason.TheVariants.{Range}
 use Rattle.twkb_polyline.specs.declared.fault.PolyFault.TheVariants.{At}
-use Rattle.twkb_polyline.proofs.PointLemmas.{point_read, after_latitude, longitude_number, longitude_range}
+use Rattle.twkb_polyline.proofs.PointLemmas.{point_read, after_latitude, latitude_number, latitude_range, longitude_number, longitude_range, no_longitude}
 use Rattle.twkb_polyline.proofs.decoding.point_at.Goals as goal
 
-pub returns-in_err-dx-clause-refused : goal.returns-in_err-dx-clause-refused
-returns-in_err-dx-clause-refused c =
+pub returns-in_err-dy : goal.returns-in_err-dy
+returns-in_err-dy c =
+    let p = err_from_is_err_and c.from_residual.result c.from_residual.ensures.1 in
+    rw (p.1, p.2) record {
+      read = tt;
+      in_range = tt;
+      moved = tt;
+      refused = latitude_number c.args.text.now c.args.start c.args.cursor.now c.in_err-dy.field-0.0 c.in_err-dy.ensures.refused;
+    }
+
+pub returns-then-not-y_in_range-clause-refused : goal.returns-then-not-y_in_range-clause-refused
+returns-then-not-y_in_range-clause-refused c =
+    let fits : FitsSigned w64 c.in_ok-dy.dy = search rules in
+    let known = simp to_z-of_z at c.if-not-y_in_range.ensures in
+    rw c.at.ensures (latitude_range c.args.text.now c.args.start c.in_ok-dy.middle c.args.cursor.now c.in_ok-dy.dy c.in_ok-dy.ensures.read (λ inside. false≢true (known.1 inside)))
+
+pub returns-then-middle-text-clause-refused : goal.returns-then-middle-text-clause-refused
+returns-then-middle-text-clause-refused c =
+    let fits : FitsSigned w64 c.in_ok-dy.dy = search rules in
+    let known = simp to_z-of_z at c.if-not-y_in_range.ensures in
+    rw c.at-then-middle-text.ensures (no_longitude c.args.text.now c.args.start c.in_ok-dy.middle c.args.cursor.now c.in_ok-dy.dy c.in_ok-dy.ensures.read (known.0 refl) c.if-middle-text.true)
+
+pub returns-in_err-dx : goal.returns-in_err-dx
+returns-in_err-dx c =
     let p = err_from_is_err_and c.from_residual-in_err-dx.result c.from_residual-in_err-dx.ensures.1 in
     let fits : FitsSigned w64 c.in_ok-dy.dy = search rules in
     let known = simp to_z-of_z at c.if-not-y_in_range.ensures in
     let latitude = c.in_ok-dy.ensures.read in
-    rw (p.1, p.2) (after_latitude c.args.text.now c.args.start c.in_ok-dy.middle c.args.cursor.now c.in_ok-dy.dy c.in_err-dx.field-0.0 latitude (known.0 refl)
-    (longitude_number c.args.text.now c.in_ok-dy.middle c.args.cursor.now.x c.in_err-dx.field-0.0 (omega (arith, latitude.within, c.if-middle-text.false)) c.in_err-dx.ensures.refused))
+    rw (p.1, p.2) record {
+      read = tt;
+      in_range = tt;
+      moved = tt;
+      refused = after_latitude c.args.text.now c.args.start c.in_ok-dy.middle c.args.cursor.now c.in_ok-dy.dy c.in_err-dx.field-0.0 latitude (known.0 refl)
+          (longitude_number c.args.text.now c.in_ok-dy.middle c.args.cursor.now.x c.in_err-dx.field-0.0 (omega (arith, latitude.within, c.if-middle-text.false)) c.in_err-dx.ensures.refused);
+    }
 
 pub returns-in-Some-clause-read : goal.returns-in-Some-clause-read
 returns-in-Some-clause-read c =

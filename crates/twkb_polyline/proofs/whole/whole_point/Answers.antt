@@ -1,8 +1,17 @@
-use Rattle.std.proofs.Common.{ap, rules, FitsSigned, w64}
+use Rattle.std.proofs.Common.{ap, refl, rules, FitsSigned, w64}
 use Rattle.std.proofs.lemmas.Int.{to_z-of_z}
 use Rattle.twkb_points.specs.Point.{Point}
 use Rattle.twkb_polyline.proofs.PointLemmas.{point_read}
 use Rattle.twkb_polyline.proofs.whole.whole_point.Goals as goal
+
+pub returns-in_err-dy : goal.returns-in_err-dy
+returns-in_err-dy c = rw c.from_residual.ensures (record { read = tt; in_range = tt; moved = tt; unmoved = refl })
+
+pub returns-in_err-dx : goal.returns-in_err-dx
+returns-in_err-dx c = rw c.from_residual-in_err-dx.ensures (record { read = tt; in_range = tt; moved = tt; unmoved = refl })
+
+pub returns-in_err-point : goal.returns-in_err-point
+returns-in_err-point c = rw c.from_residual-in_err-point.ensures (record { read = tt; in_range = tt; moved = tt; unmoved = c.in_err-point.ensures.unmoved })
 
 pub returns-clause-read : goal.returns-clause-read
 returns-clause-read c =
