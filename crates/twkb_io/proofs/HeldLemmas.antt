@@ -1,5 +1,6 @@
 -- What is held of an array: the part from `at` to `filled` that is unused, as far as there is room.
 use Rattle.std.proofs.Common.{◌≡◌, ◌≢◌, ◌≤◌, ◌<◌, ◌+◌, ◌-◌, min, ℕ, List, [], ◌∷◌, ◌++◌, take, drop, length, Option, Some, None, arith, ap, sym, ◌∙◌, refl, inl, inr, Bool, true, false, append_assoc, length-append, length-drop}
+use Rattle.std.proofs.KnownBytes.{Keeps-refl, prepend_known-end}
 use Rattle.std.proofs.Math.Nat.{eq-or-lt_of_le}
 use Rattle.std.proofs.Math.Seq.{take-nil}
 use Rattle.std.proofs.lemmas.List.{length-take, nil_from_length, take-take, drop-take, drop-drop, take-append-drop, take_at}
@@ -90,3 +91,15 @@ none_held held at filled room same = ap (take room) (none_unused held at filled 
 -- so where bytes are held it is not used up
 pub held_unused : (held : List ℕ) (at filled room : ℕ) → at ≤ filled → take room (slice_range held at filled) ≢ [] → at < filled
 held_unused held at filled room ordered some = elim (eq-or-lt_of_le ordered) [ inl same ↦ absurd (some (none_held held at filled room same)) | inr less ↦ less ]
+
+-- what a reader at its end tells
+told_end : (known : Option (List ℕ)) → IfSome known (λ left. left ≡ []) → IsAtEnd known
+told_end None end = tt
+told_end (Some left) end = end
+
+-- at the end nothing is held, and nothing is left
+pub ended_rest : (held : List ℕ) (known : Option (List ℕ)) (at filled room : ℕ) → at ≡ filled → IfSome known (λ left. left ≡ [])
+    → (take room (slice_range held at filled) ≡ []) × IsAtEnd (prepend_known (slice_range held at filled) known) × IsAtEnd known
+ended_rest held known at filled room same end =
+    let none = none_unused held at filled same in
+    (none_held held at filled room same, prepend_known-end _ known (slice_range held at filled) (Keeps-refl _) none (told_end known end), told_end known end)
