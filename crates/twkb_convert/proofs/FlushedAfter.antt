@@ -1,5 +1,5 @@
 -- A flush behind what was sent.
-use Rattle.twkb_convert.proofs.Prelude.{◌≡◌, ◌∙◌, ℕ, List, [], ◌++◌, Option, Bool, true, false, ap, refl, sym, subst, append-nil, Ghosts, count_failure, Refused, Sent, Took, is_spent, output_failures, refused_join, took_join, Output, OutFault, Allowance, canonical_stream, Style, Reader, Located, StreamObstacle, TableObstacle, Unfinished, sent_join, Tally}
+use Rattle.twkb_convert.proofs.Prelude.{◌≡◌, ◌∙◌, ℕ, List, [], Option, false, ap, refl, subst, append-nil, Ghosts, count_failure, Refused, Sent, Took, is_spent, output_failures, took_join, Output, OutFault, Allowance, canonical_stream, Style, Reader, Located, StreamObstacle, TableObstacle, Unfinished, sent_join, Tally}
 use Rattle.twkb_io.specs.declared.output.OutFault.TheVariants as out
 use Rattle.twkb_convert.specs.BlobSending.{CutText}
 use Rattle.twkb_convert.specs.BlobSending as Blobs

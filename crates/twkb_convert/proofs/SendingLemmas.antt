@@ -1,6 +1,7 @@
 -- Where the sending of a table stops.
 use Rattle.twkb_convert.proofs.Prelude.{◌≡◌, ◌∙◌, ◌+◌, ◌<◌, ◌≤◌, ◌-◌, ◌^◌, ℕ, Bool, true, false, List, [], ◌∷◌, ◌++◌, Option, Some, None, Err, length, ap, arith, refl, sym, subst, inl, inr, length-append, IfSome, append-nil, flat_map-append, Refused, Took, is_spent, sent_of, refused_join, took_join, Output, OutFault, Tree, simple, collection, Row, Allowance, Work, canonical_blob, canonical_stream, Style, Record, AreRecordsOf, BeginWith, standing, all_but_last, FrontOfBlobs, MayBeWritten, TableObstacle}
 use Rattle.twkb_io.specs.declared.output.OutFault.TheVariants as out
+use Rattle.twkb_io.specs.OutputLaws.{took_nothing}
 use Rattle.twkb_table.specs.RowReading.{waiting}
 use Rattle.twkb_table.specs.TableReading as Table
 use Rattle.twkb_table.specs.TableReading.{HaveGiven, StandsAfter, is_ended}
@@ -48,6 +49,10 @@ stream_one : (style : Style) (gs : List Tree) (g : Tree) → canonical_stream st
 stream_one style gs g = flat_map-append (canonical_blob style) gs (g ∷ []) ∙ ap (λ l. canonical_stream style gs ++ l) (append-nil (canonical_blob style g))
 
 module _ {R W : Type 0} (style : Style) (l : Allowance) (remaining : R → Option (List ℕ)) (contents : W → Option (List ℕ)) (told : Option (List ℕ)) where
+  -- none yet
+  pub sent_none : (from : TableReader R) (old : Output W) (work : Work) → StandsAfter l remaining told [] [] from → IsWorkOf [] work → SentSoFar style l remaining contents told from old old 0 work
+  sent_none from old work stands none = record { records = []; geometries = []; stands = stands; took = took_nothing contents old; count = refl; work_of = none }
+
   -- one more
   pub sent_more : (from to : TableReader R) (old mid new : Output W) (done : ℕ) (before after : Work) (s : SentSoFar style l remaining contents told from old mid done before)
       → SendsOne style l remaining contents told s.geometries to mid before new after → SentSoFar style l remaining contents told to old new (done + 1) after

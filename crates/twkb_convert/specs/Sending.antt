@@ -124,3 +124,8 @@ pub record Stopped {W : Type 0} (style : Style) (l : Allowance) (contents : W �
 abbrev pub SendsTable : {W : Type 0} → Style → Allowance → (W → Option (List ℕ)) → Option (List ℕ) → ℕ → Output W → Output W → Result Tally (Unfinished TableObstacle) → Type 0
 SendsTable style l contents told given old new (Ok tally) = SentTable style l contents told old new tally
 SendsTable style l contents told given old new (Err stop) = Stopped style l contents told given old new stop
+
+-- the whole table was sent, or a front of its output, wherever a reader stood that had read nothing
+abbrev pub SendsAll : {R W : Type 0} → Style → (R → Option (List ℕ)) → (W → Option (List ℕ)) → TableReader R → Output W → Output W → Result Tally (Unfinished TableObstacle) → Type 0
+SendsAll style remaining contents from old new answer =
+    (l : Allowance) (told : Option (List ℕ)) (given : ℕ) → StandsAfter l remaining told [] [] from → SendsTable style l contents told given old new answer

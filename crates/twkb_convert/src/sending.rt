@@ -2,7 +2,7 @@
 ghost use Rattle.std.specs.Prelude.{◌≡◌, false};
 ghost use Rattle.twkb_io.specs.Taps.{bytes_given, device_of};
 ghost use Rattle.twkb_io.specs.Outputs.{is_spent};
-ghost use Rattle.twkb_convert.specs.Sending.{SendsFrom, SendsTable};
+ghost use Rattle.twkb_convert.specs.Sending.{SendsAll, SendsFrom, SendsTable};
 
 use crate::blob_writing::{Room, write_blob};
 use crate::obstacle::{TableObstacle, Unfinished};
@@ -36,9 +36,23 @@ pub(crate) fn send_table<R: Read, W: Write>(
     let mut table = TableReader::new(alloc, tap, limits);
     let mut flat = Flat::new(alloc);
     let mut room = Room::new(alloc);
+    send_all(&mut table, &mut flat, style, &mut room, output)
+}
+
+// Sends the geometries of a table that was not read yet. Form and room are kept from one to the next.
+fn send_all<R: Read, W: Write>(
+    table: &mut TableReader<'_, R>,
+    flat: &mut Flat,
+    style: Style,
+    room: &mut Room,
+    output: &mut Output<'_, W>,
+) -> Result<Tally, Unfinished<TableObstacle>>
+    requires fresh { is_spent output.old ≡ false }
+    ensures sends { SendsAll style R.remaining W.contents table.old output.old output.new result }
+{
     let mut work = Work::new();
     for done in 0..u64::MAX {
-        match send_next(&mut table, &mut flat, style, &mut room, output, &mut work) {
+        match send_next(table, flat, style, room, output, &mut work) {
             Ok(true) => {}
             Ok(false) => {
                 return Ok(Tally {

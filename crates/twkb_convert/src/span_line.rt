@@ -26,21 +26,13 @@ pub(crate) fn put_lines(spans: &[Span], text: &mut Vec<u8>) -> Result<(), AllocE
 fn put_line(span: &Span, text: &mut Vec<u8>) -> Result<(), AllocError>
     ensures appended { OnOk result (text.new.items ≡ text.old.items ++ span_line span.now) }
 {
-    put_level(span.level, text)?;
+    put_count(u64::from(span.level), b' ', text)?;
     put_decimal(span.offset, text)?;
-    put_kind(span.kind, text)?;
+    text.extend_from_slice(kind_field(span.kind))?;
     put_precision(span.precision, text)?;
     put_byte(span.metadata, text)?;
     put_count(span.length, b' ', text)?;
     put_count(span.points, b'\n', text)
-}
-
-// Appends a level in decimals, and a space.
-#[inline(always)]
-fn put_level(level: u32, text: &mut Vec<u8>) -> Result<(), AllocError>
-    ensures appended { OnOk result (text.new.items ≡ text.old.items ++ (decimal level ++ 32 ∷ [])) }
-{
-    put_count(u64::from(level), b' ', text)
 }
 
 // Appends a precision in decimals, and a space. Few are negative.
@@ -104,14 +96,6 @@ fn put_decimal<I: Integer>(number: I, text: &mut Vec<u8>) -> Result<(), AllocErr
 {
     let mut buffer = Buffer::new();
     text.extend_from_slice(buffer.format(number).as_bytes())
-}
-
-// Appends the word of a kind between two spaces.
-#[inline(always)]
-fn put_kind(kind: Kind, text: &mut Vec<u8>) -> Result<(), AllocError>
-    ensures appended { OnOk result (text.new.items ≡ text.old.items ++ (32 ∷ (word_of kind ++ 32 ∷ []))) }
-{
-    text.extend_from_slice(kind_field(kind))
 }
 
 // The word of a kind between two spaces.

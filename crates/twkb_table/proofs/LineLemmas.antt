@@ -44,6 +44,10 @@ grows_on old mid new g h = (g.0 ++ h.0, h.1 ∙ ap (λ t. t ++ h.0) g.1 ∙ appe
 cons_append : (x : ℕ) (xs ys : List ℕ) → (x ∷ xs) ++ ys ≡ x ∷ (xs ++ ys)
 cons_append x xs ys = refl
 
+-- the word of a kind between two commas, put behind
+pub kind_put : (old word field new : List ℕ) → field ≡ word → new ≡ old ++ field → new ≡ old ++ word
+kind_put old word field new same put = put ∙ ap (λ t. old ++ t) same
+
 -- five fields, each put behind the other, the second and the fourth between two commas
 pub fields_put : (old depth kind id precision line a b c d e f : List ℕ) → a ≡ old ++ depth → b ≡ a ++ (44 ∷ (kind ++ 44 ∷ [])) → c ≡ b ++ id → d ≡ c ++ (44 ∷ (precision ++ 44 ∷ [])) → e ≡ d ++ line → f ≡ e ++ (10 ∷ [])
     → f ≡ old ++ csvtext ((depth ∷ kind ∷ id ∷ precision ∷ line ∷ []) ∷ [])

@@ -16,7 +16,7 @@ use Rattle.twkb_table.specs.CsvRecords.{AreRecordsOf, BeginWith, standing}
 use Rattle.twkb_table.specs.Numbering.{MissesRecord, fault_of}
 use Rattle.twkb_table.specs.Standing.{IfRefused}
 use Rattle.twkb_table.specs.RowReading.{limits_of, waiting}
-use Rattle.twkb_table.specs.TableReading.{HaveGiven, StandsAfter, GivesGeometry, Ends, Extends, GivesNext, GivesTree, MeetsEnd, IsRefusedAt, Explains, IsReading, HasHeader, BeginsNext, ReadsRoot, ReadsOn, HasRead, is_ended, is_spent}
+use Rattle.twkb_table.specs.TableReading.{HaveGiven, StandsAfter, Gives, GivesGeometry, Ends, Extends, GivesNext, GivesTree, MeetsEnd, IsRefusedAt, Explains, IsReading, HasHeader, BeginsNext, ReadsRoot, ReadsOn, HasRead, is_ended, is_spent}
 use Rattle.twkb_table.specs.declared.judging.JudgeFault.{JudgeFault}
 use Rattle.twkb_table.specs.declared.judging.JudgeFault.TheVariants.{Memory, Refused}
 use Rattle.twkb_table.specs.declared.reason.RowReason.TheVariants.{BadHeader}
@@ -194,6 +194,20 @@ goes_on over before tells going fresh (inr e) = absurd (true≢false (sym e ∙ 
 -- what is given is no refusal, before or after
 pub not_spent : {A E : Type 0} (a : A) (f : E) (spent : Bool) → spent ≡ false → (◌≡◌ {A = Result A E} (Ok a) (Err f)) ↔ (spent ≡ true)
 not_spent a f spent fresh = (λ e. cc e, λ e. absurd (true≢false (sym e ∙ fresh)))
+
+-- a reader that is not spent, and is told so once more
+unspent : {R : Type 0} (reader : TableReader R) (spent : Bool) → spent ≡ false → is_spent reader ≡ false → reader ≡ record reader { spent = spent }
+unspent reader spent e fresh = ap (λ (s : Bool). record reader { spent = s }) (fresh ∙ sym e)
+
+pub gives_unspent : {R : Type 0} (remaining : R → Option (List ℕ)) (old new : TableReader R) (flat : List Row) (spent : Bool) (r : Result Bool TableFault) → spent ≡ false → is_spent new ≡ false
+    → IfOk r (λ found. found ≡ true → Gives remaining old flat new) → IfOk r (λ found. found ≡ true → Gives remaining old flat (record new { spent = spent }))
+gives_unspent remaining old new flat spent (Ok found) e fresh h = λ is. subst (λ n. Gives remaining old flat n) (unspent new spent e fresh) (h is)
+gives_unspent remaining old new flat spent (Err f) e fresh h = tt
+
+pub ends_unspent : {R : Type 0} (remaining : R → Option (List ℕ)) (old new : TableReader R) (spent : Bool) (r : Result Bool TableFault) → spent ≡ false → is_spent new ≡ false
+    → IfOk r (λ found. found ≡ false → Ends remaining old new) → IfOk r (λ found. found ≡ false → Ends remaining old (record new { spent = spent }))
+ends_unspent remaining old new spent (Ok found) e fresh h = λ is. subst (λ n. Ends remaining old n) (unspent new spent e fresh) (h is)
+ends_unspent remaining old new spent (Err f) e fresh h = tt
 
 -- the geometry of the rows that were given
 pub tree_given : {R : Type 0} (l : Allowance) (remaining : R → Option (List ℕ)) (told : Option (List ℕ)) (records : List Record) (given : List Tree) (flat : List Row) (reader : TableReader R) (tree : Tree) → GivesNext l remaining told records given flat reader → rows 0 tree ≡ flat → IsTree tree

@@ -29,26 +29,16 @@ pub fn parse_depth(field: &[u8]) -> Option<u32>
     }
 }
 
-// The number that a field of one digit spells, as most fields do.
-#[inline(always)]
-fn digit_of(field: &[u8]) -> Option<i64>
-    ensures some { IfSome result (λ id. IsIdField field.now id) }
-{
-    match field {
-        [digit] if b'0' <= *digit && *digit <= b'9' => Some(i64::from(*digit - b'0')),
-        _ => None,
-    }
-}
-
 /// The id, any i64, whose canonical decimal the field is (profile). Takes no memory.
 #[inline(always)]
 pub fn parse_id(field: &[u8]) -> Option<i64>
     ensures reads { Reads (IsIdField field.now) result }
 {
-    if let Some(id) = digit_of(field) {
-        return Some(id);
+    match field {
+        // one digit, as most fields have
+        [digit] if b'0' <= *digit && *digit <= b'9' => Some(i64::from(*digit - b'0')),
+        _ => read_number(field),
     }
-    read_number(field)
 }
 
 // The number that a field of digits spells, of which the first is not 0. `None` says nothing.

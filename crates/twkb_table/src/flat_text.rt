@@ -3,7 +3,6 @@ ghost use Rattle.std.specs.Prelude.{◌≡◌, ◌≤◌, ◌+◌, ◌++◌, len
 ghost use Rattle.twkb_tree.specs.Rows.{row_points};
 ghost use Rattle.twkb_table.specs.Record.{record_of};
 ghost use Rattle.twkb_table.specs.Text.{csvtext};
-ghost use Rattle.twkb_table.specs.Printing.{row_lines, Grows};
 
 use crate::row_line::put_row;
 use std::alloc::AllocError;
@@ -11,7 +10,6 @@ use twkb_flat::{Flat, NodeId, Work};
 
 /// Appends the lines of the rows of a flat form, each ended by LF (profile). Takes memory for the
 /// text alone; where that is refused, the text is as it was.
-#[tactic(auto, unfolding(crate::specs::Printing::row_lines))]
 pub fn put_flat_rows(flat: &Flat, work: &mut Work, text: &mut Vec<u8>) -> Result<(), AllocError>
     ensures appended { OnOk result (text.new.items ≡ text.old.items ++ csvtext (map record_of flat.now)) }
     ensures same { OnErr result (text.new.items ≡ text.old.items) }
@@ -21,23 +19,12 @@ pub fn put_flat_rows(flat: &Flat, work: &mut Work, text: &mut Vec<u8>) -> Result
     ensures points { work.new.point_reads ≤ work.old.point_reads + length (row_points flat.now) }
 {
     let held = text.len();
-    let result = put_each(flat, work, text);
-    if result.is_err() {
-        text.truncate(held);
-    }
-    result
-}
-
-// Appends the lines, or a front of them where memory is refused.
-fn put_each(flat: &Flat, work: &mut Work, text: &mut Vec<u8>) -> Result<(), AllocError>
-    ensures appended { OnOk result (text.new.items ≡ text.old.items ++ row_lines flat.now) }
-    ensures grown { Grows text.old.items text.new.items }
-    ensures nodes { work.new.node_reads ≤ work.old.node_reads + length flat.now }
-    ensures points { work.new.point_reads ≤ work.old.point_reads + length (row_points flat.now) }
-{
     for index in 0..flat.node_count() {
         let (row, points) = flat.row_at(NodeId(index), work);
-        put_row(&row, points, text)?;
+        let Ok(()) = put_row(&row, points, text) else {
+            text.truncate(held);
+            return Err(AllocError);
+        };
     }
     Ok(())
 }

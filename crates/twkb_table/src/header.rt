@@ -14,6 +14,9 @@ pub fn header_text() -> &'static [u8]
     b"depth,kind,id,precision,polyline\n"
 }
 
+// The header's fields.
+const HEADER: [&[u8]; FIELD_COUNT] = [b"depth", b"kind", b"id", b"precision", b"polyline"];
+
 // Whether the record is the header.
 pub(crate) fn is_header(here: &ByteRecord) -> bool
     ensures { IsTrue result ↔ (fields_of here.now ≡ header) }
@@ -22,9 +25,11 @@ pub(crate) fn is_header(here: &ByteRecord) -> bool
         return false;
     }
     let fields = five_fields(here);
-    fields.depth == b"depth".as_slice()
-        && fields.kind == b"kind".as_slice()
-        && fields.id == b"id".as_slice()
-        && fields.precision == b"precision".as_slice()
-        && fields.polyline == b"polyline".as_slice()
+    [
+        fields.depth,
+        fields.kind,
+        fields.id,
+        fields.precision,
+        fields.polyline,
+    ] == HEADER
 }

@@ -2,7 +2,7 @@
 ghost use Rattle.std.specs.Prelude.{◌≡◌, ◌≤◌, ◌<◌, ◌+◌, ◌^◌, ◌∷◌, [], ◌++◌, map, OnOk, OnErr, IfOk};
 ghost use Rattle.twkb_tree.specs.Limits.{largest_limits};
 ghost use Rattle.twkb_tree.specs.Tree.{nest, nest_all, trees};
-ghost use Rattle.twkb_tree.specs.Rows.{rows, rows_with, member_rows, rows_of_each, plain_row, ring_rows, polygon_rows};
+ghost use Rattle.twkb_tree.specs.Rows.{rows, rows_with, member_rows, rows_of_each, plain_row, polygon_rows};
 ghost use Rattle.twkb_tree.specs.declared.kind.Kind.{Kind};
 ghost use Rattle.twkb_table.specs.Record.{record_of};
 ghost use Rattle.twkb_table.specs.Text.{csvtext};
@@ -59,9 +59,11 @@ fn put_geometry(
     let below = depth + 1;
     match geometry.shape() {
         Shape::Point(_) | Shape::Line(_) => Ok(()),
-        Shape::Polygon(rings) => put_rings(below, rings.as_slice(), text),
+        Shape::Polygon(rings) => put_lines(below, Kind::Ring, rings.as_slice(), &None, text),
         Shape::MultiPoint(points, ids) => put_points(below, points.as_slice(), ids, text),
-        Shape::MultiLine(lines, ids) => put_lines(below, lines.as_slice(), ids, text),
+        Shape::MultiLine(lines, ids) => {
+            put_lines(below, Kind::Linestring, lines.as_slice(), ids, text)
+        }
         Shape::MultiPolygon(areas, ids) => put_areas(below, areas.as_slice(), ids, text),
         Shape::Collection(members, ids) => put_members(below, members, ids, text),
     }
@@ -119,22 +121,29 @@ fn put_areas(depth: u32, areas: &[Lines], ids: &Ids, text: &mut Vec<u8>) -> Resu
     for rings in areas {
         let id = id_at(ids, index);
         put_part(depth, Kind::Polygon, id, &[], text)?;
-        put_rings(depth + 1, rings.as_slice(), text)?;
+        put_lines(depth + 1, Kind::Ring, rings.as_slice(), &None, text)?;
         index += 1;
     }
     Ok(())
 }
 
-// Appends the lines of the linestrings of a multilinestring.
-fn put_lines(depth: u32, lines: &[Pts], ids: &Ids, text: &mut Vec<u8>) -> Result<(), AllocError>
-    ensures appended { OnOk result (text.new.items ≡ text.old.items ++ row_lines (rows_of_each (λ id ps. plain_row depth Kind.Linestring id ps ∷ []) ids.now lines.now)) }
+// Appends the lines of parts of this kind, each with a list of points: rings, or the linestrings of
+// a multilinestring.
+fn put_lines(
+    depth: u32,
+    kind: Kind,
+    lines: &[Pts],
+    ids: &Ids,
+    text: &mut Vec<u8>,
+) -> Result<(), AllocError>
+    ensures appended { OnOk result (text.new.items ≡ text.old.items ++ row_lines (rows_of_each (λ id ps. plain_row depth kind id ps ∷ []) ids.now lines.now)) }
     ensures grown { Grows text.old.items text.new.items }
 {
     let mut index = 0;
     for line in lines {
         let id = id_at(ids, index);
         let points = line.as_slice();
-        put_part(depth, Kind::Linestring, id, points, text)?;
+        put_part(depth, kind, id, points, text)?;
         index += 1;
     }
     Ok(())
@@ -151,18 +160,6 @@ fn put_points(depth: u32, points: &[Pt], ids: &Ids, text: &mut Vec<u8>) -> Resul
         let points = from_ref(point);
         put_part(depth, Kind::Point, id, points, text)?;
         index += 1;
-    }
-    Ok(())
-}
-
-// Appends the lines of the rings of a polygon.
-fn put_rings(depth: u32, rings: &[Pts], text: &mut Vec<u8>) -> Result<(), AllocError>
-    ensures appended { OnOk result (text.new.items ≡ text.old.items ++ row_lines (ring_rows depth rings.now)) }
-    ensures grown { Grows text.old.items text.new.items }
-{
-    for ring in rings {
-        let points = ring.as_slice();
-        put_part(depth, Kind::Ring, None, points, text)?;
     }
     Ok(())
 }

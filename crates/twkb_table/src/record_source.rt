@@ -92,11 +92,11 @@ pub(crate) fn read_next<R: Read>(
     if *ended {
         return Ok(false);
     }
-    let found = read_record(reader, held);
-    if let Ok(false) = found {
-        *ended = true;
-    }
-    found
+    let Ok(found) = reader.read_byte_record(held) else {
+        return Err(SourceFault::Source);
+    };
+    *ended = !found;
+    Ok(found)
 }
 
 // A reader of every record, of any length, as it stands.
@@ -107,20 +107,4 @@ pub(crate) fn new_reader<'a, R: Read>(alloc: Global, tap: &'a mut Tap<R>) -> Rea
         .has_headers(false)
         .flexible(true)
         .from_reader(alloc, tap)
-}
-
-// The next record.
-#[inline(always)]
-fn read_record<R: Read>(
-    reader: &mut Reader<&mut Tap<R>>,
-    held: &mut ByteRecord,
-) -> Result<bool, SourceFault>
-    ensures more { IfOk result (λ found. found ≡ true → Advances R.remaining false reader.old (fields_of held.new) false reader.new) }
-    ensures end { IfOk result (λ found. found ≡ false → Finishes R.remaining false reader.old true reader.new) }
-    ensures source { IfErr result (λ fault. fault ≡ SourceFault.Source) }
-{
-    let Ok(found) = reader.read_byte_record(held) else {
-        return Err(SourceFault::Source);
-    };
-    Ok(found)
 }

@@ -19,21 +19,12 @@ pub(crate) fn put_row(row: &Row, points: &[Pt], text: &mut Vec<u8>) -> Result<()
     ensures grown { Grows text.old.items text.new.items }
 {
     put_depth(row.depth, text)?;
-    put_kind(row.kind, text)?;
+    text.extend_from_slice(kind_field(row.kind))?;
     put_id(row.id, text)?;
     put_precision(row.precision, text)?;
     encode_into(points, text)?;
-    end_line(text)?;
+    text.extend_from_slice(b"\n")?;
     Ok(())
-}
-
-// Appends the end of a line.
-#[inline(always)]
-fn end_line(text: &mut Vec<u8>) -> Result<(), AllocError>
-    ensures appended { OnOk result (text.new.items ≡ text.old.items ++ (10 ∷ [])) }
-    ensures same { OnErr result (text.new.items ≡ text.old.items) }
-{
-    text.extend_from_slice(b"\n")
 }
 
 // Appends the canonical decimal of a depth.
@@ -43,15 +34,6 @@ fn put_depth(depth: u32, text: &mut Vec<u8>) -> Result<(), AllocError>
     ensures same { OnErr result (text.new.items ≡ text.old.items) }
 {
     push_decimal(text, i64::from(depth))
-}
-
-// Appends the word of a kind between two commas.
-#[inline(always)]
-fn put_kind(kind: Kind, text: &mut Vec<u8>) -> Result<(), AllocError>
-    ensures appended { OnOk result (text.new.items ≡ text.old.items ++ (44 ∷ (word_of kind ++ 44 ∷ []))) }
-    ensures same { OnErr result (text.new.items ≡ text.old.items) }
-{
-    text.extend_from_slice(kind_field(kind))
 }
 
 // The word of a kind between two commas.

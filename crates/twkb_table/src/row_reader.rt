@@ -102,11 +102,7 @@ impl RowReader {
             id: None,
             precision: root.precision,
         };
-        self.open_rows.clear();
-        self.open_rows.push(OpenRow {
-            kind: root.kind,
-            child_ids: None,
-        })?;
+        open_row(&mut self.open_rows, &row)?;
         flat.begin(row, &mut self.points)?;
         Ok(())
     }

@@ -82,26 +82,19 @@ impl<'a, R: Read> TableReader<'a, R> {
         ensures unchanged { IsOver self.old ⊎ (is_spent self.old ≡ true) → self.new ≡ self.old }
         ensures stays { is_spent self.new ≡ is_err result }
     {
+        flat.clear();
         if self.spent {
-            flat.clear();
             return Err(TableFault::Spent);
         }
         if self.is_over() {
-            flat.clear();
             return Ok(false);
         }
-        match self.read_geometry(flat) {
-            Ok(true) => Ok(true),
-            Ok(false) => {
-                flat.clear();
-                Ok(false)
-            }
-            Err(fault) => {
-                flat.clear();
-                self.spent = true;
-                Err(fault)
-            }
+        let found = self.read_geometry(flat);
+        self.spent = found.is_err();
+        if self.spent {
+            flat.clear();
         }
+        found
     }
 
     /// The next geometry, or `None` at the table's end, as `next_flat` reads them; calls of the two
@@ -163,13 +156,15 @@ impl<'a, R: Read> TableReader<'a, R> {
         Ok(Some(geometry))
     }
 
-    // Reads the next geometry into a flat form, in place of what it holds.
+    // Reads the next geometry into a flat form without rows.
     #[inline(always)]
     fn read_geometry(&mut self, flat: &mut Flat) -> Result<bool, TableFault>
+        requires empty { flat.old ≡ [] }
         ensures gives { IfOk result (λ found. found ≡ true → Gives R.remaining self.old flat.new self.new) }
         ensures ends { IfOk result (λ found. found ≡ false → Ends R.remaining self.old self.new) }
         ensures fault { IfErr result (λ fault. Faults R.remaining self.old fault) }
         ensures some { result ≡ Ok true → 0 < length flat.new }
+        ensures none { result ≡ Ok false → flat.new ≡ [] }
         ensures ended { result ≡ Ok false → IsOver self.new }
         ensures fresh { IfErr result (λ fault. fault ≢ TableFault.Spent) }
         ensures same { is_spent self.new ≡ is_spent self.old }
@@ -182,14 +177,11 @@ impl<'a, R: Read> TableReader<'a, R> {
         let Ok(()) = self.rows.begin(flat) else {
             return Err(TableFault::Memory);
         };
-        match self.read_rows(flat) {
-            Ok(()) => Ok(true),
-            Err(fault) => Err(fault),
-        }
+        self.read_rows(flat)
     }
 
     // Has the root of the next geometry wait, and answers whether there is one: one waits, or the
-    // first is read.
+    // first is read, behind the header.
     #[inline(always)]
     fn next_root(&mut self) -> Result<bool, TableFault>
         ensures reads { ShowsRoot R.remaining self.old self.new result }
@@ -202,29 +194,16 @@ impl<'a, R: Read> TableReader<'a, R> {
             return Ok(true);
         }
         if self.number == 0 {
-            return self.begin_table();
+            return match self.read_header() {
+                Ok(()) => self.first_root(),
+                Err(fault) => Err(fault),
+            };
         }
         self.first_root()
     }
 
-    // Reads the header, and the root of the first geometry behind it.
-    #[inline(never)]
-    fn begin_table(&mut self) -> Result<bool, TableFault>
-        requires first { records_read self.old ≡ 0 }
-        requires none { waiting self.old.rows ≡ [] }
-        ensures reads { ShowsRoot R.remaining self.old self.new result }
-        ensures waits { result ≡ Ok true → 0 < length (waiting self.new.rows) }
-        ensures ended { result ≡ Ok false → IsOver self.new }
-        ensures fresh { IfErr result (λ fault. fault ≢ TableFault.Spent) }
-        ensures same { is_spent self.new ≡ is_spent self.old }
-    {
-        match self.read_header() {
-            Ok(()) => self.first_root(),
-            Err(fault) => Err(fault),
-        }
-    }
-
     // Reads the first record, which is to be the header.
+    #[inline(never)]
     fn read_header(&mut self) -> Result<(), TableFault>
         requires first { records_read self.old ≡ 0 }
         requires none { waiting self.old.rows ≡ [] }
@@ -273,10 +252,11 @@ impl<'a, R: Read> TableReader<'a, R> {
         }
     }
 
-    // Reads the rows of a geometry behind its first ones, up to its end.
+    // Reads the rows of a geometry behind its first ones, up to its end, and answers true.
     #[inline(always)]
-    fn read_rows(&mut self, flat: &mut Flat) -> Result<(), TableFault>
+    fn read_rows(&mut self, flat: &mut Flat) -> Result<bool, TableFault>
         requires keeps { Keeps self.old.rows flat.old }
+        ensures found { IfOk result (λ found. found ≡ true) }
         ensures gives { OnOk result (Completes R.remaining self.old flat.old flat.new self.new) }
         ensures fault { IfErr result (λ fault. FaultsIn R.remaining self.old flat.old fault) }
         ensures some { OnOk result (0 < length flat.new) }
@@ -288,7 +268,7 @@ impl<'a, R: Read> TableReader<'a, R> {
         for _ in 0..RECORD_CAP {
             match self.read_row(flat) {
                 Ok(true) => {}
-                Ok(false) => return Ok(()),
+                Ok(false) => return Ok(true),
                 Err(fault) => return Err(fault),
             }
         }

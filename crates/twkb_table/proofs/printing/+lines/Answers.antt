@@ -28,7 +28,7 @@ put_members-returns-clause-appended t c =
 
 pub put_geometry-returns-in-Polygon-clause-appended : goal.put_geometry-returns-in-Polygon-clause-appended
 put_geometry-returns-in-Polygon-clause-appended t c =
-    rows_told _ _ _ _ _ _ _ _ _ c.own_row.ensures (ap (ring_rows (c.args.depth + 1)) c.as_slice.ensures.items ∙ under_shape _ _ _ _ _ c.shape.ensures c.in-Polygon.is) c.in_ok-put_row.ensures.appended c.put_rings.ensures.appended
+    rows_told _ _ _ _ _ _ _ _ _ c.own_row.ensures (ap (ring_rows (c.args.depth + 1)) c.as_slice.ensures.items ∙ under_shape _ _ _ _ _ c.shape.ensures c.in-Polygon.is) c.in_ok-put_row.ensures.appended c.put_lines.ensures.appended
 
 pub put_geometry-returns-in-MultiPoint-clause-appended : goal.put_geometry-returns-in-MultiPoint-clause-appended
 put_geometry-returns-in-MultiPoint-clause-appended t c =
@@ -40,7 +40,7 @@ pub put_geometry-returns-in-MultiLine-clause-appended : goal.put_geometry-return
 put_geometry-returns-in-MultiLine-clause-appended t c =
     rows_told _ _ _ _ _ _ _ _ _ c.own_row.ensures
     (ap (rows_of_each (λ id ps. plain_row (c.args.depth + 1) Kind.Linestring id ps ∷ []) c.in-MultiLine.ids) c.as_slice-in-MultiLine.ensures.items ∙ under_shape _ _ _ _ _ c.shape.ensures c.in-MultiLine.is) c.in_ok-put_row.ensures.appended
-    c.put_lines.ensures.appended
+    c.put_lines-in-MultiLine.ensures.appended
 
 pub put_geometry-returns-in-MultiPolygon-clause-appended : goal.put_geometry-returns-in-MultiPolygon-clause-appended
 put_geometry-returns-in-MultiPolygon-clause-appended t c =
@@ -51,13 +51,13 @@ pub put_geometry-returns-in-Collection-clause-appended : goal.put_geometry-retur
 put_geometry-returns-in-Collection-clause-appended t c = rows_told _ _ _ _ _ _ _ _ _ c.own_row.ensures (under_shape _ _ _ _ _ c.shape.ensures c.in-Collection.is) c.in_ok-put_row.ensures.appended c.put_members.ensures.appended
 
 pub put_geometry-returns-in-Polygon-clause-grown : goal.put_geometry-returns-in-Polygon-clause-grown
-put_geometry-returns-in-Polygon-clause-grown t c = grows_on _ _ _ (grows_by _ _ _ c.in_ok-put_row.ensures.appended) c.put_rings.ensures.grown
+put_geometry-returns-in-Polygon-clause-grown t c = grows_on _ _ _ (grows_by _ _ _ c.in_ok-put_row.ensures.appended) c.put_lines.ensures.grown
 
 pub put_geometry-returns-in-MultiPoint-clause-grown : goal.put_geometry-returns-in-MultiPoint-clause-grown
 put_geometry-returns-in-MultiPoint-clause-grown t c = grows_on _ _ _ (grows_by _ _ _ c.in_ok-put_row.ensures.appended) c.put_points.ensures.grown
 
 pub put_geometry-returns-in-MultiLine-clause-grown : goal.put_geometry-returns-in-MultiLine-clause-grown
-put_geometry-returns-in-MultiLine-clause-grown t c = grows_on _ _ _ (grows_by _ _ _ c.in_ok-put_row.ensures.appended) c.put_lines.ensures.grown
+put_geometry-returns-in-MultiLine-clause-grown t c = grows_on _ _ _ (grows_by _ _ _ c.in_ok-put_row.ensures.appended) c.put_lines-in-MultiLine.ensures.grown
 
 pub put_geometry-returns-in-MultiPolygon-clause-grown : goal.put_geometry-returns-in-MultiPolygon-clause-grown
 put_geometry-returns-in-MultiPolygon-clause-grown t c = grows_on _ _ _ (grows_by _ _ _ c.in_ok-put_row.ensures.appended) c.put_areas.ensures.grown

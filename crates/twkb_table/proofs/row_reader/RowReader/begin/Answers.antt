@@ -1,5 +1,6 @@
-use Rattle.std.proofs.Common.{List, [], ◌∷◌, ◌++◌, None, refl, ap, sym, ◌∙◌}
-use Rattle.twkb_tree.specs.declared.open_rows.OpenRow.{OpenRow}
+use Rattle.std.proofs.Common.{[], refl, ap, sym, ◌∙◌}
+use Rattle.twkb_flat.specs.Rows.{row_with}
+use Rattle.twkb_table.specs.Waiting.{root_row}
 use Rattle.twkb_tree.proofs.LargestLimits.{continues_largest}
 use Rattle.twkb_table.specs.RowReading.{with_points}
 use Rattle.twkb_table.proofs.RowReaderLemmas.{waiting_begins, keeps_first}
@@ -17,6 +18,6 @@ pub returns-clause-keeps : goal.returns-clause-keeps
 returns-clause-keeps c =
     let l = c.args.self.now.limits in
     let begins = waiting_begins l c.args.self.now.waiting c.in-Some.root c.args.self.now.points.items c.args.self.now.waits c.in-Some.is in
-    let opened_now = c.in_ok-push.ensures.items ∙ ap (λ (os : List OpenRow). os ++ record { kind = c.in-Some.root.kind; child_ids = None } ∷ []) c.clear.ensures.items in
-    let kept = keeps_first l _ c.begin.new.self c.clear.new.self.items c.push.new.self.items begins c.in_ok-begin.ensures.begun c.clear.ensures.items opened_now in
+    let row = row_with (root_row c.in-Some.root) c.args.self.now.points.items in
+    let kept = keeps_first l row c.begin.new.self [] c.open_row.new.rows.items begins c.in_ok-begin.ensures.begun refl (c.in_ok-open_row.ensures.opened c.args.self.now.points.items) in
     record { of_one = kept.of_one; some = kept.some; open_rows = kept.open_rows; none = refl }

@@ -1,4 +1,4 @@
-use Rattle.std.proofs.Common.{inl, refl}
+use Rattle.std.proofs.Common.{inl}
 use Rattle.twkb_table.proofs.TableCalls.{found_kept, goes_on, none_kept}
 use Rattle.twkb_table.proofs.TableSteps.{over_meets}
 use Rattle.twkb_table.proofs.table_reader.TableReader.next.Goals as goal

@@ -1,6 +1,7 @@
-use Rattle.std.proofs.Common.{refl, sym, ◌∙◌}
+use Rattle.std.proofs.Common.{[], ◌∷◌, refl, sym, ◌∙◌}
 use Rattle.std.proofs.lemmas.Bool.{true≢false}
-use Rattle.twkb_table.proofs.TableCalls.{none_waiting, waited}
+use Rattle.twkb_table.specs.Record.{header}
+use Rattle.twkb_table.proofs.TableCalls.{after_header, none_waiting, waited}
 use Rattle.twkb_table.proofs.table_reader.TableReader.next_root.Goals as goal
 
 pub returns-then-has_root-clause-reads : goal.returns-then-has_root-clause-reads
@@ -12,38 +13,16 @@ returns-then-has_root-clause-waits g c found = c.has_root.ensures.0 c.if-has_roo
 pub returns-then-has_root-clause-same : goal.returns-then-has_root-clause-same
 returns-then-has_root-clause-same g c = refl
 
-pub begin_table-requires-clause-none : goal.begin_table-requires-clause-none
-begin_table-requires-clause-none g c = none_waiting _ (λ some. true≢false (sym (c.has_root.ensures.1 some) ∙ c.if-has_root.false))
+pub read_header-requires-clause-none : goal.read_header-requires-clause-none
+read_header-requires-clause-none g c = none_waiting _ (λ some. true≢false (sym (c.has_root.ensures.1 some) ∙ c.if-has_root.false))
 
-pub first_root-requires-clause-none : goal.first_root-requires-clause-none
-first_root-requires-clause-none g c = none_waiting _ (λ some. true≢false (sym (c.has_root.ensures.1 some) ∙ c.if-has_root.false))
+pub returns-in-Ok-clause-reads : goal.returns-in-Ok-clause-reads
+returns-in-Ok-clause-reads g c l told records given s =
+    let h = c.in-Ok.ensures.reads l told records given s in
+    after_header l g.R.Read.remaining told records given c.read_header.new.self c.first_root.new.self c.first_root.result h (c.first_root.ensures.reads l told (header ∷ []) [] h.stands)
 
-pub returns-then-self-eq0-clause-reads : goal.returns-then-self-eq0-clause-reads
-returns-then-self-eq0-clause-reads g c = c.begin_table.ensures.reads
+pub returns-in-Err-clause-reads : goal.returns-in-Err-clause-reads
+returns-in-Err-clause-reads g c = c.in-Err.ensures.reads
 
 pub returns-clause-reads : goal.returns-clause-reads
-returns-clause-reads g c = c.first_root.ensures.reads
-
-pub returns-then-self-eq0-clause-waits : goal.returns-then-self-eq0-clause-waits
-returns-then-self-eq0-clause-waits g c = c.begin_table.ensures.waits
-
-pub returns-clause-waits : goal.returns-clause-waits
-returns-clause-waits g c = c.first_root.ensures.waits
-
-pub returns-then-self-eq0-clause-ended : goal.returns-then-self-eq0-clause-ended
-returns-then-self-eq0-clause-ended g c = c.begin_table.ensures.ended
-
-pub returns-clause-ended : goal.returns-clause-ended
-returns-clause-ended g c = c.first_root.ensures.ended
-
-pub returns-then-self-eq0-clause-fresh : goal.returns-then-self-eq0-clause-fresh
-returns-then-self-eq0-clause-fresh g c = c.begin_table.ensures.fresh
-
-pub returns-clause-fresh : goal.returns-clause-fresh
-returns-clause-fresh g c = c.first_root.ensures.fresh
-
-pub returns-then-self-eq0-clause-same : goal.returns-then-self-eq0-clause-same
-returns-then-self-eq0-clause-same g c = c.begin_table.ensures.same
-
-pub returns-clause-same : goal.returns-clause-same
-returns-clause-same g c = c.first_root.ensures.same
+returns-clause-reads g c = c.first_root-2.ensures.reads

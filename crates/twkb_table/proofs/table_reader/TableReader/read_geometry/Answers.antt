@@ -1,20 +1,23 @@
-use Rattle.std.proofs.Common.{◌∙◌, Ok, ap, refl}
-use Rattle.std.proofs.lemmas.Bool.{false≢true, true≢false}
+use Rattle.std.proofs.Common.{Ok, ap, refl}
+use Rattle.std.proofs.lemmas.Bool.{false≢true}
+use Rattle.twkb_table.proofs.RecordJudged.{if_err, if_ok}
 use Rattle.twkb_table.proofs.TableReaderLemmas.{explains_from, gives_from}
 use Rattle.twkb_table.proofs.TableCalls.{end_by, root_by, reading_in}
 use Rattle.twkb_table.proofs.table_reader.TableReader.read_geometry.Goals as goal
 
-pub returns-in-Ok-read_rows-clause-gives : goal.returns-in-Ok-read_rows-clause-gives
-returns-in-Ok-read_rows-clause-gives g c found l told records given s =
-    let begun = root_by l g.R.Read.remaining told records given c.next_root.new.self c.in-Ok-true.field-0 c.in-Ok-true.field-0-test (c.in-Ok-true.ensures.reads l told records given s) in
+pub returns-clause-gives : goal.returns-clause-gives
+returns-clause-gives g c =
+    if_ok _ _ c.read_rows.result (λ found completes is l told records given s.
+    (let begun = root_by l g.R.Read.remaining told records given c.next_root.new.self c.in-Ok-true.field-0 c.in-Ok-true.field-0-test (c.in-Ok-true.ensures.reads l told records given s) in
     let reading = reading_in l g.R.Read.remaining told begun.seen given _ c.begin.new.flat c.next_root.new.self (record c.next_root.new.self { rows = c.begin.new.self }) begun.reading c.in-Ok.ensures.put refl refl refl c.begin.ensures.limits refl in
-    gives_from l g.R.Read.remaining told records begun.seen given c.read_rows.new.flat c.read_rows.new.self begun.extends (c.in-Ok-read_rows.ensures.gives l told begun.seen given reading)
+    gives_from l g.R.Read.remaining told records begun.seen given c.read_rows.new.flat c.read_rows.new.self begun.extends (completes l told begun.seen given reading))) c.read_rows.ensures.gives
 
-pub returns-in-Err-read_rows-clause-fault : goal.returns-in-Err-read_rows-clause-fault
-returns-in-Err-read_rows-clause-fault g c l told records given s =
-    let begun = root_by l g.R.Read.remaining told records given c.next_root.new.self c.in-Ok-true.field-0 c.in-Ok-true.field-0-test (c.in-Ok-true.ensures.reads l told records given s) in
+pub returns-clause-fault : goal.returns-clause-fault
+returns-clause-fault g c =
+    if_err _ _ c.read_rows.result (λ fault faults l told records given s.
+    (let begun = root_by l g.R.Read.remaining told records given c.next_root.new.self c.in-Ok-true.field-0 c.in-Ok-true.field-0-test (c.in-Ok-true.ensures.reads l told records given s) in
     let reading = reading_in l g.R.Read.remaining told begun.seen given _ c.begin.new.flat c.next_root.new.self (record c.next_root.new.self { rows = c.begin.new.self }) begun.reading c.in-Ok.ensures.put refl refl refl c.begin.ensures.limits refl in
-    explains_from l told records begun.seen given c.in-Err-read_rows.fault begun.extends (c.in-Err-read_rows.ensures.fault l told begun.seen given reading)
+    explains_from l told records begun.seen given fault begun.extends (faults l told begun.seen given reading))) c.read_rows.ensures.fault
 
 pub returns-in-Ok-false-clause-gives : goal.returns-in-Ok-false-clause-gives
 returns-in-Ok-false-clause-gives g c e = absurd (false≢true e)
@@ -39,18 +42,3 @@ returns-in-Err-clause-same g c = c.next_root.ensures.same
 
 pub returns-in_default-clause-same : goal.returns-in_default-clause-same
 returns-in_default-clause-same g c = c.next_root.ensures.same
-
-pub returns-in-Ok-read_rows-clause-ends : goal.returns-in-Ok-read_rows-clause-ends
-returns-in-Ok-read_rows-clause-ends g c e = absurd (true≢false e)
-
-pub returns-in-Ok-read_rows-clause-some : goal.returns-in-Ok-read_rows-clause-some
-returns-in-Ok-read_rows-clause-some g c found = c.in-Ok-read_rows.ensures.some
-
-pub returns-in-Ok-read_rows-clause-same : goal.returns-in-Ok-read_rows-clause-same
-returns-in-Ok-read_rows-clause-same g c = c.read_rows.ensures.same ∙ c.next_root.ensures.same
-
-pub returns-in-Err-read_rows-clause-fresh : goal.returns-in-Err-read_rows-clause-fresh
-returns-in-Err-read_rows-clause-fresh g c = c.in-Err-read_rows.ensures.fresh
-
-pub returns-in-Err-read_rows-clause-same : goal.returns-in-Err-read_rows-clause-same
-returns-in-Err-read_rows-clause-same g c = c.read_rows.ensures.same ∙ c.next_root.ensures.same
