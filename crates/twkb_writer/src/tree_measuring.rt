@@ -34,15 +34,6 @@ trait Part: Item {
         requires room { tail.bytes + 20 * length (all self.now) ≤ 2 ^ 40 }
         ensures value { (ahead : List Point) → tail ≡ tail_of ahead → result ≡ tail_of (all self.now ++ ahead) }
         ensures most { result.bytes ≤ tail.bytes + 20 * length (all self.now) };
-
-    // All its points, with none after them.
-    fn whole(&self) -> Tail
-        requires few { length (all self.now) ≤ 2 ^ 24 }
-        ensures value { result ≡ tail_of (all self.now) }
-        ensures most { result.bytes ≤ 20 * length (all self.now) }
-    {
-        self.in_front_of(Tail::none())
-    }
 }
 
 impl Part for Pt {
@@ -138,9 +129,9 @@ fn own_tail(geometry: &Geometry) -> Tail
 {
     match geometry.shape() {
         Shape::Point(None) | Shape::Collection(_, _) => Tail::none(),
-        Shape::Point(Some(point)) => point.whole(),
-        Shape::Line(points) | Shape::MultiPoint(points, _) => points.whole(),
-        Shape::Polygon(lines) | Shape::MultiLine(lines, _) => lines.whole(),
+        Shape::Point(Some(point)) => Tail::none().behind(*point),
+        Shape::Line(points) | Shape::MultiPoint(points, _) => points.in_front_of(Tail::none()),
+        Shape::Polygon(lines) | Shape::MultiLine(lines, _) => lines.in_front_of(Tail::none()),
         Shape::MultiPolygon(areas, _) => tail_before(areas.as_slice(), Tail::none()),
     }
 }
