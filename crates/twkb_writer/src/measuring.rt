@@ -162,6 +162,7 @@ fn measure_rows(
 }
 
 // Makes entries those of a flat form.
+#[inline(always)]
 fn measure_entries(
     flat: &Flat,
     style: Style,
@@ -179,6 +180,7 @@ fn measure_entries(
 }
 
 // Counts so many points, nodes and entries as measured.
+#[inline(always)]
 fn count_measured(points: u32, nodes: u32, entries: usize, work: &mut Work)
     ensures { (before : Before) → ReadsExactly before nodes points work.old → Counted before points nodes entries work.new }
 {
