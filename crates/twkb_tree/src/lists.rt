@@ -139,7 +139,7 @@ impl<T: Item> Item for Items<T> {
     fn copy(&self, alloc: Global) -> Result<Items<T>, AllocError> {
         let mut items = Vec::with_capacity(alloc, self.items.len())?;
         for item in &self.items {
-            items.push(item.copy(alloc)?)?;
+            items.push_reserved(item.copy(alloc)?);
         }
         Ok(Items { items })
     }
