@@ -12,9 +12,10 @@ impl Members {
     fn copy(&self, alloc: Global) -> Result<Members, AllocError>
         ensures { IfOk result (λ copy. copy ≡ self.now) }
     {
-        let mut items = Vec::with_capacity(alloc, self.as_slice().len())?;
-        for member in self.as_slice() {
-            items.push(member.copy(alloc)?)?;
+        let members = self.as_slice();
+        let mut items = Vec::with_capacity(alloc, members.len())?;
+        for member in members {
+            items.push_reserved(member.copy(alloc)?);
         }
         Ok(Members { items })
     }

@@ -8,22 +8,17 @@ use std::alloc::{AllocError, Global};
 use std::marker::Model;
 use twkb_points::Pt;
 
-/// Marks what a list may hold. It is not passed on, so no other crate adds to it.
-pub trait Sealed {}
-
-impl Sealed for Pt {}
-
-impl Sealed for i64 {}
-
-impl<T: Item> Sealed for Items<T> {}
+/// What `look` is given. It is not passed on, so no other crate adds to what a list may hold.
+#[derive(Clone, Copy)]
+pub struct Look;
 
 /// What such a list may hold: a point, an id, or another list, and nothing else.
-pub trait Item: Drop + Sealed {
+pub trait Item: Drop {
     // What each item is known to be.
     ghost Fits: { Self → Type 0 };
 
     /// Tells a proof that the item fits. It does nothing when it runs.
-    fn look(&self)
+    fn look(&self, look: Look)
         ensures { Fits self.now };
 
     /// Whether the two are one.
@@ -38,7 +33,7 @@ pub trait Item: Drop + Sealed {
 impl Item for Pt {
     ghost Fits = { IsInRange };
 
-    fn look(&self) {
+    fn look(&self, _look: Look) {
         // learnt: that the point is in range
         let _learnt = self.x();
     }
@@ -55,7 +50,7 @@ impl Item for Pt {
 impl Item for i64 {
     ghost Fits = { IsId };
 
-    fn look(&self) {
+    fn look(&self, _look: Look) {
         // learnt: that the id is one, by its type's range
         let _learnt = *self;
     }
@@ -93,7 +88,7 @@ impl<T: Item> Items<T> {
     {
         for item in &items {
             // learnt: that the item fits
-            let _learnt = item.look();
+            let _learnt = item.look(Look);
         }
         Items { items }
     }
@@ -117,7 +112,7 @@ impl<T: Item> Items<T> {
 impl<T: Item> Item for Items<T> {
     ghost Fits = { AllByRecursion T.Fits };
 
-    fn look(&self) {
+    fn look(&self, _look: Look) {
         // learnt: that each of its items fits
         let _learnt = self.as_slice();
     }
@@ -139,7 +134,7 @@ impl<T: Item> Item for Items<T> {
     fn copy(&self, alloc: Global) -> Result<Items<T>, AllocError> {
         let mut items = Vec::with_capacity(alloc, self.items.len())?;
         for item in &self.items {
-            items.push(item.copy(alloc)?)?;
+            items.push_reserved(item.copy(alloc)?);
         }
         Ok(Items { items })
     }

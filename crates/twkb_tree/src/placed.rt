@@ -28,13 +28,8 @@ impl Placed for Pts {
         self.as_slice().len() as u64
     }
 
-    #[tactic(auto, using(twkb_points::proofs::ExtentLemmas::extents))]
     fn bounds(&self) -> Option<Bounds> {
-        let mut bounds = None;
-        for point in self.as_slice() {
-            bounds = merged(bounds, Some(Bounds::of(*point)));
-        }
-        bounds
+        Bounds::around(self.as_slice())
     }
 }
 

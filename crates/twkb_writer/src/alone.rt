@@ -7,7 +7,6 @@ ghost use Rattle.twkb_tree.specs.declared.kind.Kind.TheVariants.{Point as PointK
 ghost use Rattle.twkb_flat.specs.Rows.{IsNode};
 ghost use Rattle.twkb_grammar.specs.declared.style.Style.{Style as InStyle};
 ghost use Rattle.twkb_writer.specs.Levels.{blank, entry_for};
-ghost use Rattle.twkb_writer.specs.Measuring.{Counted};
 ghost use Rattle.twkb_writer.specs.Reads.{ReadsExactly};
 ghost use Rattle.twkb_writer.specs.Sizes.{AreSizes};
 ghost use Rattle.twkb_writer.specs.Tails.{tail_of};
@@ -15,7 +14,7 @@ ghost use Rattle.twkb_writer.specs.Tails.{tail_of};
 use crate::lengths::signed_len;
 use crate::levels::Level;
 use crate::measuring::{keep, look_at_reads, take_points};
-use crate::sizes::{Entry, Sizes};
+use crate::sizes::Entry;
 use crate::tails::Tail;
 use std::alloc::AllocError;
 use twkb_flat::{Flat, Node, NodeId, Work};
@@ -72,7 +71,7 @@ fn keep_alone(entries: &mut Vec<Entry>, entry: Entry) -> Result<(), AllocError>
 
 // Makes entries those of a flat form of one row.
 #[inline(always)]
-fn measure_one(
+pub(crate) fn measure_one(
     flat: &Flat,
     style: Style,
     entries: &mut Vec<Entry>,
@@ -95,22 +94,4 @@ fn measure_one(
     }
     let entry = row_entry(flat, style, &node, precision, work);
     keep_alone(entries, entry)
-}
-
-// Makes sizes those of a flat form of one row.
-pub(crate) fn measure_alone(
-    flat: &Flat,
-    style: Style,
-    sizes: &mut Sizes,
-    work: &mut Work,
-) -> Result<(), AllocError>
-    requires { length flat.now ≡ 1 }
-    ensures sizes { OnOk result (AreSizes style flat.now sizes.new) }
-    ensures work { OnOk result (Counted work.old (length (row_points flat.now)) (length flat.now) (length sizes.new) work.new) }
-{
-    measure_one(flat, style, &mut sizes.entries, work)?;
-    work.points = work.points.saturating_add(flat.point_count() as u64);
-    work.nodes = work.nodes.saturating_add(1);
-    work.entries = work.entries.saturating_add(sizes.entries.len() as u64);
-    Ok(())
 }

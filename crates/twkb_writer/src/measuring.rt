@@ -3,6 +3,7 @@ ghost use Rattle.std.specs.Prelude.{◌≡◌, ◌+◌, ◌++◌, ◌*◌, ◌<�
 ghost use Rattle.twkb_points.specs.Point.{Point};
 ghost use Rattle.twkb_tree.specs.Rows.{row_points};
 ghost use Rattle.twkb_flat.specs.Rows.{IsNode};
+ghost use Rattle.twkb_flat.specs.declared.work.Work.{Work as Before};
 ghost use Rattle.twkb_grammar.specs.declared.style.Style.{Style as InStyle};
 ghost use Rattle.twkb_writer.specs.declared.tails.Tail.{Tail as PointsAhead};
 ghost use Rattle.twkb_writer.specs.Levels.{blank, IsSmall};
@@ -11,7 +12,7 @@ ghost use Rattle.twkb_writer.specs.Reads.{ReadsExactly};
 ghost use Rattle.twkb_writer.specs.Sizes.{AreSizes};
 ghost use Rattle.twkb_writer.specs.Tails.{tail_of};
 
-use crate::alone::measure_alone;
+use crate::alone::measure_one;
 use crate::depths::Depths;
 use crate::levels::Level;
 use crate::sizes::{Entry, Sizes};
@@ -132,20 +133,20 @@ fn before_row(node: &Node, points: Tail) -> Tail
     }
 }
 
-// Makes sizes those of a flat form, row by row from the last to the first.
+// Makes entries those of a flat form, row by row from the last to the first.
 fn measure_rows(
     flat: &Flat,
     style: Style,
     depths: &mut Depths,
-    sizes: &mut Sizes,
+    entries: &mut Vec<Entry>,
     work: &mut Work,
 ) -> Result<(), AllocError>
-    ensures sizes { OnOk result (AreSizes style flat.now sizes.new) }
-    ensures work { OnOk result (Counted work.old (length (row_points flat.now)) (length flat.now) (length sizes.new) work.new) }
+    ensures sizes { OnOk result (AreSizes style flat.now entries.new.items) }
+    ensures reads { OnOk result (ReadsExactly work.old (length flat.now) (length (row_points flat.now)) work.new) }
 {
     let total = flat.node_count();
     depths.clear();
-    sizes.entries.clear();
+    entries.clear();
     look_at_reads(work);
     let mut tail = Tail::none();
     for back in 0..total {
@@ -154,13 +155,38 @@ fn measure_rows(
         let points = take_points(flat, id, &node, tail, work);
         let entry = take_row(style, &node, &points, depths);
         tail = before_row(&node, points);
-        keep(&mut sizes.entries, entry, id.0 as usize + 1)?;
+        keep(entries, entry, id.0 as usize + 1)?;
     }
-    sizes.entries.reverse();
-    work.points = work.points.saturating_add(flat.point_count() as u64);
-    work.nodes = work.nodes.saturating_add(total as u64);
-    work.entries = work.entries.saturating_add(sizes.entries.len() as u64);
+    entries.reverse();
     Ok(())
+}
+
+// Makes entries those of a flat form.
+#[inline(always)]
+fn measure_entries(
+    flat: &Flat,
+    style: Style,
+    depths: &mut Depths,
+    entries: &mut Vec<Entry>,
+    work: &mut Work,
+) -> Result<(), AllocError>
+    ensures sizes { OnOk result (AreSizes style flat.now entries.new.items) }
+    ensures reads { OnOk result (ReadsExactly work.old (length flat.now) (length (row_points flat.now)) work.new) }
+{
+    if flat.node_count() == 1 {
+        return measure_one(flat, style, entries, work);
+    }
+    measure_rows(flat, style, depths, entries, work)
+}
+
+// Counts so many points, nodes and entries as measured.
+#[inline(always)]
+fn count_measured(points: u32, nodes: u32, entries: usize, work: &mut Work)
+    ensures { (before : Before) → ReadsExactly before nodes points work.old → Counted before points nodes entries work.new }
+{
+    work.points = work.points.saturating_add(points as u64);
+    work.nodes = work.nodes.saturating_add(nodes as u64);
+    work.entries = work.entries.saturating_add(entries as u64);
 }
 
 /// Makes sizes those of a flat form in a style, in place of what they were: one entry for each TWKB geometry in preorder,
@@ -176,10 +202,14 @@ pub fn measure_into(
     ensures sizes { OnOk result (AreSizes style flat.now sizes.new) }
     ensures work { OnOk result (Counted work.old (length (row_points flat.now)) (length flat.now) (length sizes.new) work.new) }
 {
-    if flat.node_count() == 1 {
-        return measure_alone(flat, style, sizes, work);
-    }
-    measure_rows(flat, style, depths, sizes, work)
+    measure_entries(flat, style, depths, &mut sizes.entries, work)?;
+    count_measured(
+        flat.point_count(),
+        flat.node_count(),
+        sizes.entries.len(),
+        work,
+    );
+    Ok(())
 }
 
 /// The sizes of a flat form in a style, one entry for each TWKB geometry in preorder, and none where there is no node.

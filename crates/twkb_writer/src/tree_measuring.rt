@@ -91,15 +91,6 @@ fn tail_before<T: Part>(parts: &[T], tail: Tail) -> Tail
     tail
 }
 
-// All points of a part, with none after them.
-fn whole_tail<T: Part>(part: &T) -> Tail
-    requires few { length (T.all part.now) ≤ 2 ^ 24 }
-    ensures value { result ≡ tail_of (T.all part.now) }
-    ensures most { result.bytes ≤ 20 * length (T.all part.now) }
-{
-    part.in_front_of(Tail::none())
-}
-
 // What rings, or members that are points or linestrings, come to.
 fn parts_level<T: Part>(kind: Kind, parts: &[T], ids: &Ids) -> Level
     requires few { length parts.now ≤ 2 ^ 20 }
@@ -138,9 +129,9 @@ fn own_tail(geometry: &Geometry) -> Tail
 {
     match geometry.shape() {
         Shape::Point(None) | Shape::Collection(_, _) => Tail::none(),
-        Shape::Point(Some(point)) => whole_tail(point),
-        Shape::Line(points) | Shape::MultiPoint(points, _) => whole_tail(points),
-        Shape::Polygon(lines) | Shape::MultiLine(lines, _) => whole_tail(lines),
+        Shape::Point(Some(point)) => Tail::none().behind(*point),
+        Shape::Line(points) | Shape::MultiPoint(points, _) => points.in_front_of(Tail::none()),
+        Shape::Polygon(lines) | Shape::MultiLine(lines, _) => lines.in_front_of(Tail::none()),
         Shape::MultiPolygon(areas, _) => tail_before(areas.as_slice(), Tail::none()),
     }
 }

@@ -1,17 +1,20 @@
-use Rattle.std.proofs.Common.{◌∙◌}
+use Rattle.std.proofs.Common.{◌∙◌, arith}
 use Rattle.twkb_tree.proofs.Copied.{copied_more, copied_all}
 use Rattle.twkb_tree.proofs.geometry.+copy.Goals as goal
 
 pub Members::copy-loop-member-init : goal.Members::copy-loop-member-init
-Members::copy-loop-member-init t c = c.in_ok-items.ensures.items
+Members::copy-loop-member-init t c = (c.in_ok-items.ensures.items, c.in_ok-items.ensures.len, omega (arith, c.in_ok-items.ensures.capacity))
+
+pub Members::copy-push_reserved-requires : goal.Members::copy-push_reserved-requires
+Members::copy-push_reserved-requires t c = omega (arith, c.loop-member.invariant.1, c.loop-member.invariant.2, c.loop-member-test.true)
 
 pub Members::copy-loop-member-preserved : goal.Members::copy-loop-member-preserved
 Members::copy-loop-member-preserved t c =
-    copied_more _ _ _ _ c.member-item.result c.in_ok-copy.field-0 c.loop-member.invariant c.loop-member-test.true c.member-item.is c.in_ok-copy.ensures c.in_ok-push.ensures.items
+    (copied_more _ _ _ _ c.member-item.result c.in_ok-copy.field-0 c.loop-member.invariant.0 c.loop-member-test.true c.member-item.is c.in_ok-copy.ensures c.push_reserved.ensures.items, omega (arith, c.push_reserved.ensures.len, c.loop-member.invariant.1), omega (arith, c.push_reserved.ensures.capacity, c.loop-member.invariant.2))
 
 pub Members::copy-returns : goal.Members::copy-returns
 Members::copy-returns t c =
-    copied_all _ _ _ c.loop-member.invariant c.loop-member-test.false ∙ c.as_slice-member-items.ensures.items
+    copied_all _ _ _ c.loop-member.invariant.0 c.loop-member-test.false ∙ c.as_slice-members.ensures.items
 
 pub Shape::copy-returns-in-Line : goal.Shape::copy-returns-in-Line
 Shape::copy-returns-in-Line t c = rw c.in-Line.is c.copy_line.ensures

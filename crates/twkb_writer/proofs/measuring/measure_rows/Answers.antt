@@ -1,4 +1,4 @@
-use Rattle.std.proofs.Common.{◌≡◌, ◌-◌, arith, rules}
+use Rattle.std.proofs.Common.{◌≡◌, ◌-◌, length, arith}
 use Rattle.twkb_writer.proofs.MeasuringCaps.{capped, capped_drop, node_depth}
 use Rattle.twkb_writer.proofs.MeasuringPass.{pass_start, pass_small, tail_short, pass_step, points_back, pass_end}
 use Rattle.twkb_writer.proofs.MeasuringWork.{reads_behind, reads_back}
@@ -51,14 +51,8 @@ pub returns-clause-sizes : goal.returns-clause-sizes
 returns-clause-sizes c =
     pass_end _ _ (c.node_count-total.result - c.loop-back.back) _ _ _ _ c.node_count-total.ensures.sound (omega (arith, c.loop-back-test.false)) c.loop-back.invariant.pass c.reverse.ensures.items
 
-pub returns-clause-work : goal.returns-clause-work
-returns-clause-work c =
+pub returns-clause-reads : goal.returns-clause-reads
+returns-clause-reads c =
     let none_left : c.node_count-total.result - c.loop-back.back ≡ 0 = omega (arith, c.loop-back-test.false) in
-    let reads = rw none_left at c.loop-back.invariant.reads in
-    record {
-      more_points = search rules;
-      more_nodes = search rules;
-      more_entries = search rules;
-      point_reads = reads.point_reads;
-      node_reads = omega (arith, reads.node_reads, c.node_count-total.ensures.value, none_left);
-    }
+    let all_read : c.loop-back.back ≡ length c.args.flat.now = omega (arith, c.loop-back-test.false, c.node_count-total.ensures.value) in
+    rw all_read at rw none_left at c.loop-back.invariant.reads

@@ -7,6 +7,6 @@ use Rattle.twkb_writer.proofs.measuring.measure_rows.Given as goal
 
 abbrev pub invariant-loop-back : goal.invariant-loop-back
 invariant-loop-back l = record {
-  pass : Pass l.style (drop (l.total - l.back) l.flat) l.depths l.tail l.sizes-inside.entries.items;
+  pass : Pass l.style (drop (l.total - l.back) l.flat) l.depths l.tail l.entries.items;
   reads : ReadsExactly l.fn.work l.back (length (row_points (drop (l.total - l.back) l.flat))) l.work;
 }

@@ -1,5 +1,7 @@
-use Rattle.std.proofs.Common.{◌≡◌, take}
+use Rattle.std.proofs.Common.{◌≡◌, ◌≤◌, length, take}
+use Rattle.std.specs.Prelude.{vec_len, vec_capacity}
 use Rattle.twkb_tree.proofs.lists.ItemsItem.copy.Given as goal
 
 abbrev pub invariant-loop-item : goal.invariant-loop-item
-invariant-loop-item g l = l.items.items ≡ take l.item-index l.item-items
+invariant-loop-item g l =
+    (l.items.items ≡ take l.item-index l.item-items) × (vec_len l.items ≡ l.item-index) × (length l.item-items ≤ vec_capacity l.items)
