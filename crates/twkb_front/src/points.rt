@@ -85,7 +85,7 @@ fn wide_point(from: Pt, bytes: &[u8]) -> Option<(Pt, usize)>
 }
 
 // The same, by longer numbers than two bytes spell.
-#[inline(never)]
+#[inline(always)]
 fn long_point(from: Pt, bytes: &[u8]) -> Option<(Pt, usize)>
     ensures { IfSome result (λ front. PointInFront from bytes.now front.0 front.1) }
 {
