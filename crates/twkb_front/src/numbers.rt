@@ -53,7 +53,7 @@ pub(crate) fn short_number(bytes: &[u8]) -> Option<(u64, usize)>
 
 // The number that stands in front in five bytes or fewer, and how many those are, where there are five at least: then one test of
 // their count serves all.
-#[inline(always)]
+#[inline]
 pub(crate) fn wide_number(bytes: &[u8]) -> Option<(u64, usize)>
     ensures front { IfSome result (λ front. NumberInFront bytes.now front.0 front.1) }
     ensures small { IfSome result (λ front. front.0 < 2 ^ 35) }
@@ -89,6 +89,7 @@ pub(crate) fn wide_number(bytes: &[u8]) -> Option<(u64, usize)>
 }
 
 // The same, by numbers of any length, and where there are few bytes: a call where `front_number` is none.
+#[cold]
 #[inline(never)]
 pub(crate) fn any_number(bytes: &[u8]) -> Option<(u64, usize)>
     ensures { IfSome result (λ front. NumberInFront bytes.now front.0 front.1) }
