@@ -33,7 +33,7 @@ pub enum Spot {
 }
 
 // What stands behind a value that is done: what the body wants next, or its end; and whether the next member begins.
-#[derive(Clone, Copy, Debug, PartialEq, Eq)]
+#[derive(Clone, Copy)]
 pub(crate) struct After {
     pub(crate) spot: Option<Spot>,
     pub(crate) next_member: bool,

@@ -1,5 +1,5 @@
 -- A builder behind items that stood whole in front.
-use Rattle.std.proofs.Common.{◌≡◌, ℕ, ◌+◌, ◌-◌, ◌<◌, ◌≤◌, ◌++◌, List, [], append_assoc, append-nil, length, take, drop, refl, sym, ap, ◌∙◌, subst, Ok, Err, arith}
+use Rattle.std.proofs.Common.{◌≡◌, ℕ, ◌+◌, ◌-◌, ◌≤◌, ◌++◌, List, [], append_assoc, append-nil, length, take, drop, refl, sym, ap, ◌∙◌, subst, Ok, Err, arith}
 use Rattle.std.proofs.lemmas.List.{length-take}
 use Rattle.twkb_points.specs.Point.{Point}
 use Rattle.twkb_tree.specs.Limits.{Allowance}
@@ -15,17 +15,12 @@ use Rattle.twkb_outline.proofs.Pieces.{used_join, one_within}
 use Rattle.twkb_body.specs.Body.{IsHeadAt}
 use Rattle.twkb_body.specs.Running.{StepRuns, StepStops, WantedIn}
 use Rattle.twkb_body.specs.declared.head.Head as place
-use Rattle.twkb_engine.specs.State.{groups_of, step_of, IsPart, IsPlacedIn}
+use Rattle.twkb_engine.specs.State.{groups_of, step_of, IsPlacedIn}
 use Rattle.twkb_engine.specs.Building.{sums_of, outline_in, StandsBehind}
-use Rattle.twkb_engine.specs.Ahead.{RunsNoting, RunsBy, StopsBehind, IsLedBy, HeadersLead, HeaderLeads, TakesAhead, note_next}
-use Rattle.twkb_engine.specs.Leads.{IfOff}
+use Rattle.twkb_engine.specs.Ahead.{RunsNoting, RunsBy, StopsBehind, IsLedBy, HeadersLead, HeaderLeads, TakesAhead}
 use Rattle.twkb_engine.specs.declared.phase.Phase.{Phase}
 use Rattle.twkb_engine.specs.declared.phase.Group.{Group}
 use Rattle.twkb_engine.specs.declared.builder.Builder.{Builder}
-use Rattle.twkb_engine.specs.declared.header.Led.{Led}
-use Rattle.twkb_engine.specs.declared.header.Led.TheVariants.{On, Ends, Apart}
-use Rattle.twkb_outline.proofs.Notings.{same_first}
-use Rattle.twkb_engine.proofs.Noting.{part_silent}
 
 -- where a reader stands the builder does whose fields say so
 pub stands_there : (c : Builder) (limits : Allowance) (bytes : List ℕ) (e : Sums) (o : Outline) (rs more : List Row) (told : ℕ → Notes) → NotedOutline limits bytes e o rs told → c.limits ≡ limits → sums_of c ≡ e → outline_in c ≡ o → more ≡ rs → IsPlacedIn c.groups.items c.phase
@@ -126,25 +121,13 @@ pub stops_further : (b c : Builder) (rs mid : List Row) (rest : List ℕ) (used 
 stops_further b c rs mid rest used first stops = λ front s.
     part_further b.limits front rest used first.within (subst (λ l. PartIn l (front ++ take used rest) (take (length rest - used) (drop used rest))) first.limits (stops (front ++ take used rest) (first.led front s).0))
 
+-- an item of a header, whatever it notes
+pub headers_one : (b c : Builder) (rest : List ℕ) (used : ℕ) → HeaderLeads b rest used c → HeadersLead b rest used c
+headers_one b c rest used first = record { limits = first.limits; within = first.within; bytes = first.bytes; led = λ front rs s. (first.led rs front s).0 }
+
 -- items of headers, and then one more
 pub headers_further : (b c d : Builder) (rest : List ℕ) (used count : ℕ) → HeadersLead b rest used c → HeaderLeads c (take (length rest - used) (drop used rest)) count d → HeadersLead b rest (used + count) d
 headers_further b c d rest used count =
     let xs = take used rest in
     let ys = take count (take (length rest - used) (drop used rest)) in
     led_further b c d rest used count (λ first next front rs s. subst (λ l. StandsBehind l rs d) (append_assoc front xs ys) (next rs (front ++ xs) (first front rs s)).0)
-
--- behind a first item an optional part notes nothing
-pub header_further : (b c d : Builder) (rest : List ℕ) (used count : ℕ) → 0 < used → IsPart c.phase → HeaderLeads b rest used c → HeaderLeads c (take (length rest - used) (drop used rest)) count d → HeaderLeads b rest (used + count) d
-header_further b c d rest used count some is first next =
-    let xs = take used rest in
-    let ys = take count (take (length rest - used) (drop used rest)) in
-    let more : 0 < length xs = (let within = first.within in omega (arith, some, within, length-take used rest)) in
-    led_further b c d rest used count (λ lead on rs.
-    runs_join (note_next b xs) (note_next c ys) (note_next b (xs ++ ys)) b c d rs rs rs xs ys
-    (λ start w. part_silent c.phase (start + c.bytes) c.points ys (note_next b xs start w) is ∙ same_first (step_of b.phase) (start + b.bytes) b.points xs ys w more) (lead rs) (on rs)) first next
-
--- what holds where an item leads nowhere
-pub where_off : {P : Type 0} (led : Led) → (led ≡ On → ⊥) → IfOff led P → P
-where_off On off p = absurd (off refl)
-where_off (Ends head kind) off p = p
-where_off Apart off p = p

@@ -1,5 +1,5 @@
 -- What the item notes that comes next.
-use Rattle.std.proofs.Common.{◌≡◌, ℕ, ◌+◌, List, refl, sym, ap, ◌∙◌, subst, true, Some}
+use Rattle.std.proofs.Common.{◌≡◌, ℕ, ◌+◌, refl, sym, ap, ◌∙◌, subst, true, Some}
 use Rattle.twkb_grammar.specs.Roles.{Role, Header, Metadata, Extended, End, IsNumber, Item}
 use Rattle.twkb_grammar.specs.Machine.{Sums, kind_number}
 use Rattle.twkb_grammar.specs.Noting.{Notes, noted_by, IsQuiet}
@@ -10,18 +10,13 @@ use Rattle.twkb_outline.specs.Outline.{OnHeader, OnMetadata, step_role}
 use Rattle.twkb_outline.specs.Noting.{note_step, note_first}
 use Rattle.twkb_outline.proofs.Notings.{silent}
 use Rattle.twkb_body.specs.Body.{kind_of}
-use Rattle.twkb_engine.specs.State.{step_of, goes_on, IsPart}
+use Rattle.twkb_engine.specs.State.{step_of, goes_on}
 use Rattle.twkb_engine.specs.declared.phase.Phase.{Phase}
 use Rattle.twkb_engine.specs.declared.phase.Phase.TheVariants as phase
 use Rattle.twkb_engine.specs.declared.phase.Optional.TheVariants as part
 use Rattle.twkb_engine.proofs.Roles.{has_role, is_number}
 
--- an optional part does not
-pub part_silent : (p : Phase) (offset points : ℕ) (bytes : List ℕ) (w : Notes) → IsPart p → note_first (step_of p) offset points bytes w ≡ w
-part_silent (phase.Optional kind head part) offset points bytes w is = silent (step_of (phase.Optional kind head part)) offset points bytes w (λ byte. refl)
-part_silent _ offset points bytes w is = absurd is
-
--- nor does a number
+-- a number notes nothing
 pub number_quiet : (r : Role) → IsNumber r → IsQuiet r
 number_quiet Header number = number
 number_quiet (Metadata kind) number = number

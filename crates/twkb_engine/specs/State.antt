@@ -115,11 +115,6 @@ IsByte (phase.Metadata typed) = ⊤
 IsByte (phase.Optional kind head part.Extended) = ⊤
 IsByte _ = ⊥
 
--- the next item is an optional part
-abbrev pub IsPart : Phase → Type 0
-IsPart (phase.Optional kind head part) = ⊤
-IsPart _ = ⊥
-
 -- an open collection
 abbrev pub group_of : Group → outline.Group
 group_of g = record { head = head_of g.head; ids = ids_of g.names; left = g.left }

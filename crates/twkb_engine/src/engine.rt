@@ -88,8 +88,8 @@ impl Engine {
         self.builder.take_points(flat, rest)
     }
 
-    /// Takes the next item of a header, and the optional parts behind it, as far as they stand whole in front and lead on within the
-    /// header, or to a body or count, where no byte of a number is held; answers how many bytes they had, or 0. Takes no memory.
+    /// Takes the next item of a header, with the optional parts behind it, where they stand whole in front and lead on within the
+    /// header, or to a body or count, and no byte of a number is held; answers how many bytes they had, or 0. Takes no memory.
     pub fn lead_header(&mut self, rest: &[u8]) -> usize
         requires some { 0 < length_of rest.now }
         requires room { count_of self.old + length_of rest.now ≤ 2 ^ 63 }

@@ -13,11 +13,11 @@ ghost use Rattle.twkb_engine.specs.Leads.{IfOn, IfOff, IfEnds, IfApart};
 ghost use Rattle.twkb_engine.specs.declared.phase.Phase.TheVariants.{End};
 
 use crate::builder::Builder;
-use crate::phase::{Groups, Many, Optional, Phase, wants_byte, wants_part};
+use crate::phase::{Groups, Many, Optional, Phase};
 use crate::typed::Typed;
 use std::alloc::Global;
 use twkb_body::{Body, Form, GeometryType, Head, Lefts, Names, Spot};
-use twkb_front::front_number;
+use twkb_front::origin;
 use twkb_header::{Metadata, TypeByte};
 use twkb_tree::Kind;
 
@@ -50,16 +50,16 @@ fn typed_as(kind: Kind) -> GeometryType
     }
 }
 
-// What follows a type byte.
-fn after_type(number: u64) -> Phase
+// What a type byte of this number says.
+fn typed_by(number: u64) -> Typed
     requires { number < 256 }
-    ensures step { step_of result ≡ OnMetadata (kind_at (number % 16)) (unzigzag_of (number / 16)) }
+    ensures step { OnMetadata (kind_of result.kind) result.precision ≡ OnMetadata (kind_at (number % 16)) (unzigzag_of (number / 16)) }
 {
     let byte = TypeByte::from_number(number);
-    Phase::Metadata(Typed {
+    Typed {
         kind: typed_as(byte.kind()),
         precision: byte.precision(),
-    })
+    }
 }
 
 // The id of the geometry that is read in these collections.
@@ -207,7 +207,7 @@ pub(crate) fn lead_on(
     ensures apart { IfApart result (stands_apart phase.old ≡ true → IsMembered phase.old) }
 {
     match phase {
-        Phase::Header => *phase = after_type(number),
+        Phase::Header => *phase = Phase::Metadata(typed_by(number)),
         Phase::Metadata(typed) => {
             let kind = typed.kind;
             let metadata = Metadata::from_number(number);
@@ -243,54 +243,33 @@ pub(crate) fn lead_on(
 }
 
 impl Builder {
-    ghost use Rattle.twkb_engine.specs.Building.{SaysNext};
     ghost use Rattle.twkb_engine.specs.Ahead.{HeadersLead, HeaderLeads};
 
-    // The number of the next item of a header and how many bytes it has, where it stands whole in front.
-    #[inline]
-    fn part_in_front(&self, rest: &[u8]) -> Option<(u64, usize)>
-        requires some { 0 < length rest.now }
-        ensures { IfSome result (λ item. SaysNext self.now rest.now item.0 item.1) }
-    {
-        if wants_byte(&self.phase) {
-            return Some((u64::from(rest[0]), 1));
-        }
-        if !wants_part(&self.phase) {
-            return None;
-        }
-        front_number(rest)
-    }
-
-    // Takes the next item of a header, where it stands whole in front and leads on within the header, or to a body or count; answers
-    // how many bytes it had, or 0. Takes no memory.
+    // Takes a type byte in front, where it names a type; answers how many bytes it had, or 0. Takes no memory.
     #[inline(always)]
-    fn lead_by_one(&mut self, rest: &[u8]) -> usize
+    fn lead_type(&mut self, rest: &[u8]) -> usize
         requires some { 0 < length rest.now }
         requires room { self.old.bytes + length rest.now < 2 ^ 64 }
         ensures { HeaderLeads self.old rest.now result self.new }
     {
-        let Some((number, count)) = self.part_in_front(rest) else {
+        let Phase::Header = &self.phase else {
             return 0;
         };
+        let number = u64::from(rest[0]);
         if let Some(_) = self.objection(number) {
             return 0;
         }
-        let bytes = self.bytes + count as u64;
-        let (position, nodes, points) = self.behind(number);
-        let led = lead_on(self.alloc, &self.groups, &mut self.phase, bytes, number);
-        let Led::On = led else {
-            return 0;
-        };
-        self.bytes = bytes;
-        self.position = position;
-        self.nodes = nodes;
-        self.points = points;
-        count
+        self.phase = Phase::Metadata(typed_by(number));
+        self.bytes += 1;
+        self.position = origin();
+        1
     }
 
-    // Takes the next item of a header as `lead_by_one` does, or a metadata byte with the optional parts behind it.
-    #[inline(always)]
-    fn lead_next(&mut self, rest: &[u8]) -> usize
+    // Takes the next item of a header, a type byte, or a metadata byte with the optional parts behind it, where it stands whole in front
+    // and leads on within the header, or to a body or count; answers how many bytes it had, or 0. Takes no memory. A frame of its own,
+    // for the sake of its callers' registers.
+    #[inline(never)]
+    pub(crate) fn lead_header(&mut self, rest: &[u8]) -> usize
         requires some { 0 < length rest.now }
         requires room { self.old.bytes + length rest.now < 2 ^ 64 }
         ensures { HeaderLeads self.old rest.now result self.new }
@@ -299,48 +278,20 @@ impl Builder {
         if count > 0 {
             return count;
         }
-        self.lead_by_one(rest)
+        self.lead_type(rest)
     }
 
-    // Takes items of a header as far as they stand whole in front and lead on so, and answers how many bytes they had; 0 says nothing.
+    // Takes the items of a header as far as they stand whole in front and lead on so, and answers how many bytes they had; 0 says nothing.
     // Takes no memory.
     pub(crate) fn lead_ahead(&mut self, rest: &[u8]) -> usize
+        requires some { 0 < length rest.now }
         requires room { self.old.bytes + length rest.now < 2 ^ 64 }
         ensures { HeadersLead self.old rest.now result self.new }
     {
-        let mut used = 0;
-        while used < rest.len() {
-            let count = self.lead_next(&rest[used..]);
-            used += count;
-            if count == 0 {
-                return used;
-            }
-        }
-        used
-    }
-
-    // Takes the next item of a header, and the optional parts behind it, as far as they stand whole in front and lead on so; answers how
-    // many bytes they had, or 0. Takes no memory. A frame of its own, for the sake of its callers' registers.
-    #[inline(never)]
-    pub(crate) fn lead_header(&mut self, rest: &[u8]) -> usize
-        requires some { 0 < length rest.now }
-        requires room { self.old.bytes + length rest.now < 2 ^ 64 }
-        ensures { HeaderLeads self.old rest.now result self.new }
-    {
-        let mut used = self.lead_next(rest);
-        if used == 0 {
+        let used = self.lead_type(rest);
+        if used == rest.len() {
             return used;
         }
-        while used < rest.len() {
-            if !wants_part(&self.phase) {
-                return used;
-            }
-            let count = self.lead_by_one(&rest[used..]);
-            used += count;
-            if count == 0 {
-                return used;
-            }
-        }
-        used
+        used + self.lead_metadata(&rest[used..])
     }
 }

@@ -17,7 +17,7 @@ use twkb_header::Metadata;
 
 // A header whose optional parts stand whole behind its metadata byte, and behind them a body or count: how many bytes these have,
 // and how many points are announced behind them.
-#[derive(Clone, Copy, Debug)]
+#[derive(Clone, Copy)]
 pub(crate) struct HeaderAhead {
     kind: GeometryType,
     head: Head,

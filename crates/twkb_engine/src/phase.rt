@@ -1,6 +1,6 @@
 //! What comes next.
 ghost use Rattle.std.specs.Prelude.{◌≡◌, true, false};
-ghost use Rattle.twkb_engine.specs.State.{IsSpelled, IsByte, IsPart};
+ghost use Rattle.twkb_engine.specs.State.{IsSpelled, IsByte};
 
 use crate::typed::Typed;
 use smallvec::SmallVec;
@@ -9,7 +9,7 @@ use std::default::MadeWith;
 use twkb_body::{Body, GeometryType, Head, Names};
 
 // What the count of a geometry with members counts.
-#[derive(Clone, Copy, Debug, PartialEq, Eq)]
+#[derive(Clone, Copy)]
 pub(crate) enum Many {
     Points,
     Lines,
@@ -18,7 +18,7 @@ pub(crate) enum Many {
 }
 
 // A part that stands between the metadata byte and the body.
-#[derive(Clone, Copy, Debug, PartialEq, Eq)]
+#[derive(Clone, Copy, PartialEq, Eq)]
 pub(crate) enum Optional {
     // The extended dimensions byte.
     Extended,
@@ -30,7 +30,7 @@ pub(crate) enum Optional {
 
 // A collection that is begun and not finished: its header, the ids from the member on that stands open, and how many follow
 // that one.
-#[derive(Debug, Drop)]
+#[derive(Drop)]
 pub(crate) struct Group {
     pub(crate) head: Head,
     pub(crate) names: Names,
@@ -64,7 +64,7 @@ impl MadeWith<Global> for Group {
 }
 
 // What comes next.
-#[derive(Debug, Drop)]
+#[derive(Drop)]
 pub(crate) enum Phase {
     // A type byte.
     Header,
@@ -105,11 +105,4 @@ pub(crate) fn wants_byte(phase: &Phase) -> bool
         Phase::Optional { part, .. } => *part == Optional::Extended,
         _ => false,
     }
-}
-
-// Whether a part comes next that a metadata byte asked for.
-pub(crate) fn wants_part(phase: &Phase) -> bool
-    ensures { (result ≡ true) → IsPart phase.now }
-{
-    matches!(phase, Phase::Optional { .. })
 }

@@ -1,9 +1,8 @@
 -- Optional parts of a header stand in front of bytes.
-use Rattle.std.proofs.Common.{◌≡◌, ℕ, zero, suc, ◌+◌, ◌-◌, ◌%◌, ◌<◌, ◌≤◌, ◌^◌, List, [], ◌∷◌, ◌++◌, length, take, drop, true, false, ℤ, Option, Some, None, refl, sym, ◌∙◌, ap, subst, arith}
+use Rattle.std.proofs.Common.{◌≡◌, ℕ, zero, suc, ◌+◌, ◌-◌, ◌<◌, ◌≤◌, List, [], ◌∷◌, ◌++◌, length, take, drop, true, false, ℤ, Option, Some, None, refl, sym, ◌∙◌, ap, subst, arith}
 use Rattle.std.proofs.Math.Seq.{take-suc}
 use Rattle.std.proofs.lemmas.List.{length-take-le, length-drop, take_rest}
 use Rattle.std.specs.Prelude.{get_or}
-use Rattle.twkb_num.specs.Varint.{HasMarks, seven_bit_sum, IsVarint}
 use Rattle.twkb_grammar.specs.Bits.{bit}
 use Rattle.twkb_tree.specs.Limits.{Allowance}
 use Rattle.twkb_tree.specs.Rows.{Row}
@@ -19,53 +18,7 @@ use Rattle.twkb_outline.specs.HeaderParts.{bare_head, AreNumberParts}
 use Rattle.twkb_outline.proofs.HeaderParts.{one_part, parts_join, sums_behind_header, header_read}
 use Rattle.twkb_outline.proofs.Pieces.{used_join}
 use Rattle.twkb_front.specs.Front.{NumberInFront}
-use Rattle.twkb_front.specs.Parts.{WidthInFront, sides, sized_head, SidesInFront, BoxInFront, SizeInFront, PartsInFront}
-
--- ---- the bytes of a number
-
--- each byte goes on
-abbrev pub AllHigh : List ℕ → Type 0
-AllHigh [] = Rattle.std.specs.Prelude.⊤
-AllHigh (b ∷ bs) = (128 ≤ b) × (b < 256) × AllHigh bs
-
--- one more does
-pub high_more : (bs : List ℕ) (b : ℕ) → AllHigh bs → 128 ≤ b → b < 256 → AllHigh (bs ++ b ∷ [])
-high_more [] b high above low = (above, low, tt)
-high_more (c ∷ bs) b high above low = (high.0, high.1, high_more bs b high.2 above low)
-
--- bytes that go on, and one that does not
-marks_closed : (bs : List ℕ) (b : ℕ) → AllHigh bs → b < 128 → HasMarks (bs ++ b ∷ [])
-marks_closed [] b high low = low
-marks_closed (c ∷ []) b high low = (high.0, high.1, low)
-marks_closed (c ∷ d ∷ bs) b high low = (high.0, high.1, marks_closed (d ∷ bs) b high.2 low)
-
--- few bytes spell no large number
-sum_small : (k : ℕ) (bs : List ℕ) → length bs ≤ k → seven_bit_sum bs < 128 ^ k
-sum_small zero [] few = omega arith
-sum_small zero (b ∷ bs) few = absurd (omega (arith, few))
-sum_small (suc k) [] few = let one = sum_small k [] (omega arith) in omega (arith, one)
-sum_small (suc k) (b ∷ bs) few = let rest = sum_small k bs (omega (arith, few)) in let low : b % 128 < 128 = omega arith in omega (arith, rest, low)
-
--- so nine at most spell a number of 64 bits
-number_closed : (bs : List ℕ) (b : ℕ) → AllHigh bs → b < 128 → length (bs ++ b ∷ []) ≤ 9 → IsVarint (bs ++ b ∷ []) (seven_bit_sum (bs ++ b ∷ []))
-number_closed bs b high low few =
-    let small : seven_bit_sum (bs ++ b ∷ []) < 128 ^ 9 = sum_small 9 (bs ++ b ∷ []) few in
-    record { marked = marks_closed bs b high low; within = omega (arith, few); sum = refl; fits = omega (arith, small) }
-
--- a byte that ends a number behind others that go on
-pub width_closed : (bytes : List ℕ) (width : ℕ) → AllHigh (take width bytes) → width < 9 → width < length bytes → get_or bytes width 0 < 128 → WidthInFront bytes (width + 1)
-width_closed bytes width high few within low =
-    let whole : take (suc width) bytes ≡ take width bytes ++ get_or bytes width 0 ∷ [] = take-suc bytes width 0 within in
-    let size : length (take (suc width) bytes) ≡ suc width = length-take-le (suc width) bytes (omega (arith, within)) in
-    let number = number_closed (take width bytes) (get_or bytes width 0) high low (omega (arith, ap length whole, size, few)) in
-    let next : suc width ≡ width + 1 = omega arith in (
-      seven_bit_sum (take width bytes ++ get_or bytes width 0 ∷ []),
-      record {
-        some = omega arith;
-        within = omega (arith, within);
-        spelled = subst (λ l. IsVarint l (seven_bit_sum (take width bytes ++ get_or bytes width 0 ∷ []))) (sym whole ∙ ap (λ w. take w bytes) next) number;
-      },
-    )
+use Rattle.twkb_front.specs.Parts.{sides, sized_head, SidesInFront, BoxInFront, SizeInFront, PartsInFront}
 
 -- ---- the sides of a box
 
@@ -77,17 +30,16 @@ sides_push (suc count) = ap (λ rs. Box ∷ rs) (sides_push count)
 pub sides_none : (bytes : List ℕ) → SidesInFront 0 bytes 0
 sides_none bytes = record { within = omega arith; parts = λ h at. (refl, refl) }
 
-pub sides_more : (count : ℕ) (bytes : List ℕ) (used width : ℕ) → SidesInFront count bytes used → WidthInFront (take (length bytes - used) (drop used bytes)) width → SidesInFront (count + 1) bytes (used + width)
-sides_more count bytes used width first next =
+pub sides_more : (count : ℕ) (bytes : List ℕ) (used n width : ℕ) → SidesInFront count bytes used → NumberInFront (take (length bytes - used) (drop used bytes)) n width → SidesInFront (count + 1) bytes (used + width)
+sides_more count bytes used n width first number =
     let left : List ℕ = take (length bytes - used) (drop used bytes) in
-    let number = next.1 in
     let more : sides count ++ Box ∷ [] ≡ sides (count + 1) = let one : suc count ≡ count + 1 = omega arith in sides_push count ∙ ap sides one in
     record {
       within = (let so_far = first.within in let few = number.within in omega (arith, so_far, subst (λ l. width ≤ length l) (take_rest bytes used) few, length-drop used bytes));
       parts = λ h at.
           subst (λ l. AreNumberParts h at (sides (count + 1)) l h) (sym (used_join bytes used width))
           (subst (λ rs. AreNumberParts h at rs (take used bytes ++ take width left) h) more
-          (parts_join h h h at (sides count) (Box ∷ []) (take used bytes) (take width left) (first.parts h at) (one_part h (at + length (take used bytes)) next.0 Box (take width left) tt number.spelled)));
+          (parts_join h h h at (sides count) (Box ∷ []) (take used bytes) (take width left) (first.parts h at) (one_part h (at + length (take used bytes)) n Box (take width left) tt number.spelled)));
     }
 
 pub box_whole : (meta : ℕ) (bytes : List ℕ) (used : ℕ) → bit meta 0 ≡ true → SidesInFront 4 bytes used → BoxInFront meta bytes used

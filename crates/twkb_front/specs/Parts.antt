@@ -4,11 +4,6 @@ use Rattle.twkb_grammar.specs.Bits.{bit}
 use Rattle.twkb_grammar.specs.Roles.{Role, Size, Box, where_set}
 use Rattle.twkb_grammar.specs.Machine.{Head, asked}
 use Rattle.twkb_outline.specs.HeaderParts.{bare_head, AreNumberParts}
-use Rattle.twkb_front.specs.Front.{NumberInFront}
-
--- so many of the bytes spell a number
-abbrev pub WidthInFront : List ℕ → ℕ → Type 0
-WidthInFront bytes count = (n : ℕ) × NumberInFront bytes n count
 
 -- so many sides of a box
 abbrev pub sides : ℕ → List Role

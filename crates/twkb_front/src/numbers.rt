@@ -2,7 +2,6 @@
 ghost use Rattle.std.specs.Prelude.{◌≡◌, ◌<◌, ◌^◌, ◌++◌, ◌∷◌, [], IfSome, take};
 ghost use Rattle.twkb_num.specs.Varint.{IsVarint};
 ghost use Rattle.twkb_front.specs.Front.{NumberInFront};
-ghost use Rattle.twkb_front.specs.Parts.{WidthInFront};
 
 use twkb_num::{Leb128, Partial, Step};
 
@@ -20,9 +19,6 @@ const FIFTH: u64 = 1 << 28;
 
 // So many bytes are looked at behind one test of their count.
 const WIDE: usize = 5;
-
-// So many bytes at most spell a number of 64 bits, whatever they are.
-const NARROW: usize = 9;
 
 // The number that stands in front in one byte.
 #[inline(always)]
@@ -57,7 +53,8 @@ pub(crate) fn short_number(bytes: &[u8]) -> Option<(u64, usize)>
 
 // The number that stands in front in five bytes or fewer, and how many those are, where there are five at least: then one test of
 // their count serves all.
-#[inline(always)]
+// `inline` alone: with `always`, `front_point` would hold so much that its own is not heeded, and lines take a third more steps.
+#[inline]
 pub(crate) fn wide_number(bytes: &[u8]) -> Option<(u64, usize)>
     ensures front { IfSome result (λ front. NumberInFront bytes.now front.0 front.1) }
     ensures small { IfSome result (λ front. front.0 < 2 ^ 35) }
@@ -93,6 +90,7 @@ pub(crate) fn wide_number(bytes: &[u8]) -> Option<(u64, usize)>
 }
 
 // The same, by numbers of any length, and where there are few bytes: a call where `front_number` is none.
+#[cold]
 #[inline(never)]
 pub(crate) fn any_number(bytes: &[u8]) -> Option<(u64, usize)>
     ensures { IfSome result (λ front. NumberInFront bytes.now front.0 front.1) }
@@ -117,24 +115,8 @@ pub(crate) fn any_number(bytes: &[u8]) -> Option<(u64, usize)>
 pub fn front_number(bytes: &[u8]) -> Option<(u64, usize)>
     ensures { IfSome result (λ front. NumberInFront bytes.now front.0 front.1) }
 {
-    if let Some(front) = short_number(bytes) {
+    if let Some(front) = wide_number(bytes) {
         return Some(front);
     }
     any_number(bytes)
-}
-
-// How many bytes the number has that stands in front, where they are nine at most.
-#[inline(always)]
-pub(crate) fn front_width(bytes: &[u8]) -> Option<usize>
-    ensures { IfSome result (λ width. WidthInFront bytes.now width) }
-{
-    let most = bytes.len().min(NARROW);
-    let mut width = 0;
-    while width < most {
-        if bytes[width] < GOES_ON {
-            return Some(width + 1);
-        }
-        width += 1;
-    }
-    None
 }

@@ -2,7 +2,7 @@
 ghost use Rattle.std.specs.Prelude.{IfSome};
 ghost use Rattle.twkb_front.specs.Parts.{SizeInFront, BoxInFront, PartsInFront};
 
-use crate::numbers::{front_number, front_width};
+use crate::numbers::front_number;
 use twkb_header::Metadata;
 
 // Sides of a box (TWKB, bounding box).
@@ -40,14 +40,14 @@ fn front_box(metadata: Metadata, bytes: &[u8]) -> Option<usize>
     let mut used = 0;
     let mut count = 0;
     while count < SIDES {
-        used += front_width(&bytes[used..])?;
+        let (_, width) = front_number(&bytes[used..])?;
+        used += width;
         count += 1;
     }
     Some(used)
 }
 
-/// The optional parts that this metadata byte asks for, all of them; `None` too where one is the extended dimensions byte, or a side
-/// of the box has ten bytes.
+/// The optional parts that this metadata byte asks for, all of them; `None` too where one is the extended dimensions byte.
 #[inline(always)]
 pub fn front_parts(metadata: Metadata, bytes: &[u8]) -> Option<Parts>
     ensures { IfSome result (λ parts. PartsInFront metadata bytes.now parts.size parts.from parts.used) }

@@ -52,9 +52,7 @@ pub fn front_point(from: Pt, bytes: &[u8]) -> Option<(Pt, usize)>
     let Some(y) = byte_number(&bytes[1..]) else {
         return short_point(from, bytes);
     };
-    let Some(to) = near(from, x, y) else {
-        return long_point(from, bytes);
-    };
+    let to = near(from, x, y)?;
     Some((to, 2))
 }
 
@@ -85,7 +83,7 @@ fn wide_point(from: Pt, bytes: &[u8]) -> Option<(Pt, usize)>
 }
 
 // The same, by longer numbers than two bytes spell.
-#[inline(never)]
+#[inline(always)]
 fn long_point(from: Pt, bytes: &[u8]) -> Option<(Pt, usize)>
     ensures { IfSome result (λ front. PointInFront from bytes.now front.0 front.1) }
 {
@@ -96,6 +94,7 @@ fn long_point(from: Pt, bytes: &[u8]) -> Option<(Pt, usize)>
 }
 
 // The same, by any numbers.
+#[cold]
 #[inline(never)]
 fn any_point(from: Pt, bytes: &[u8]) -> Option<(Pt, usize)>
     ensures { IfSome result (λ front. PointInFront from bytes.now front.0 front.1) }

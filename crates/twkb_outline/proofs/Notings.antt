@@ -1,5 +1,5 @@
 -- What is noted of spans is told by the outline.
-use Rattle.std.proofs.Common.{◌≡◌, ℕ, zero, suc, ◌<◌, [], ◌∷◌, ◌++◌, length, take, get_or, refl, sym, ap, arith}
+use Rattle.std.proofs.Common.{◌≡◌, ℕ, zero, suc, ◌<◌, [], ◌∷◌, length, take, get_or, refl, sym, ap, arith}
 use Rattle.std.proofs.lemmas.List.{length-map}
 use Rattle.std.specs.Prelude.{List}
 use Rattle.twkb_grammar.specs.Noting.{Notes, note_byte, IsCalm}
@@ -50,11 +50,6 @@ module _ (t : Step) (offset points : ℕ) where
   pub silent : (bytes : List ℕ) (w : Notes) → ((byte : ℕ) → note_step t offset points byte w ≡ w) → note_first t offset points bytes w ≡ w
   silent [] w h = refl
   silent (byte ∷ bytes) w h = h byte
-
-  -- what comes behind some bytes does not matter
-  pub same_first : (xs ys : List ℕ) (w : Notes) → 0 < length xs → note_first t offset points xs w ≡ note_first t offset points (xs ++ ys) w
-  same_first [] ys w some = absurd (omega (arith, some))
-  same_first (x ∷ xs) ys w some = refl
 
   -- a front of some bytes
   pub first_in_front : (count : ℕ) (rest : List ℕ) (w : Notes) → 0 < count → 0 < length rest → note_step t offset points (get_or rest 0 0) w ≡ note_first t offset points (take count rest) w

@@ -9,7 +9,7 @@ loop-count-init c = record { few = omega arith; sides = sides_none c.args.bytes.
 pub loop-count-preserved : goal.loop-count-preserved
 loop-count-preserved c = record {
   few = omega arith;
-  sides = sides_more c.loop-count.count c.args.bytes.now c.loop-count.used c.in_ok-used.field-0 c.loop-count.invariant.sides c.in_ok-used.ensures;
+  sides = sides_more c.loop-count.count c.args.bytes.now c.loop-count.used c.in_ok-width.field-0-0 c.in_ok-width.width c.loop-count.invariant.sides c.in_ok-width.ensures;
 }
 
 pub returns : goal.returns
