@@ -1,9 +1,9 @@
-use Rattle.std.proofs.Common.{refl, ◌≡◌, ap, ◌∙◌, sym, [], arith}
+use Rattle.std.proofs.Common.{refl, ◌^◌, ◌≡◌, ap, ◌∙◌, sym, [], arith}
 use Rattle.std.proofs.lemmas.List.{nil_from_length}
 use Rattle.twkb_io.specs.Taps.{count_failure}
-use Rattle.twkb_io.specs.Inputs.{held_of, input_failures}
+use Rattle.twkb_io.specs.Inputs.{given, held_of, input_failures, unused}
 use Rattle.twkb_engine.specs.Standing.{allowance_of}
-use Rattle.twkb_blob.proofs.Pieces.{end_read, halted, read_halted, name_kept, failures_kept}
+use Rattle.twkb_blob.proofs.Pieces.{end_read, halted, read_halted, room_left, name_kept, failures_kept}
 use Rattle.twkb_blob.proofs.Bytes.{item_taken, item_stopped}
 use Rattle.twkb_blob.proofs.reading.read_piece.Goals as goal
 
@@ -68,3 +68,15 @@ returns-clause-limits g c = c.feed_piece.ensures.limits
 
 pub returns-clause-failures : goal.returns-clause-failures
 returns-clause-failures g c = failures_kept _ c.fill.new.self c.advance.new.self c.advance.ensures.same_tap c.in_default.ensures.failures
+
+pub feed_piece-requires-clause-begin : goal.feed_piece-requires-clause-begin
+feed_piece-requires-clause-begin g c = c.requires.begin
+
+pub feed_piece-requires-clause-room : goal.feed_piece-requires-clause-room
+feed_piece-requires-clause-room g c = omega (arith, room_left (2 ^ 62) (given c.fill.new.self) (unused c.fill.new.self) c.held-held.result.now c.held-held.ensures.held)
+
+pub returns-in-Err-feed_piece-clause-offset : goal.returns-in-Err-feed_piece-clause-offset
+returns-in-Err-feed_piece-clause-offset g c = omega (arith, room_left (2 ^ 62) (given c.fill.new.self) (unused c.fill.new.self) c.held-held.result.now c.held-held.ensures.held)
+
+pub returns-clause-offset : goal.returns-clause-offset
+returns-clause-offset g c = omega (arith, room_left (2 ^ 62) (given c.fill.new.self) (unused c.fill.new.self) c.held-held.result.now c.held-held.ensures.held)
