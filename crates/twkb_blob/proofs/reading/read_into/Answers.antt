@@ -18,3 +18,6 @@ returns-clause-next g c =
 
 pub returns-clause-some : goal.returns-clause-some
 returns-clause-some g c = some_rows c.args.limits c.args.input.now c.read_with_engine-found.new.input c.keep_made.result c.keep_made.new.flat (returns-clause-next g c)
+
+pub returns-clause-failures : goal.returns-clause-failures
+returns-clause-failures g c = search rules
