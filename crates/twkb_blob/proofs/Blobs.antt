@@ -20,7 +20,7 @@ use Rattle.twkb_engine.specs.declared.stop.Stop.{Stop}
 use Rattle.twkb_engine.specs.declared.stop.Stop.TheVariants.{Memory, Refused}
 use Rattle.twkb_engine.specs.declared.blob_reason.BlobReason.TheVariants as reason
 use Rattle.twkb_blob.specs.Faults.{fault_of}
-use Rattle.twkb_blob.specs.Readers.{AreCutOff, Left, Makes, IsHalted, IsNext, IsNextFlat, RefusedKnown, failed_by_read, halted_by_read}
+use Rattle.twkb_blob.specs.Readers.{AreCutOff, Left, IsHalted, IsNext, RefusedKnown, failed_by_read, halted_by_read}
 use Rattle.twkb_blob.specs.declared.fault.BlobFault.TheVariants as fault
 use Rattle.twkb_blob.specs.declared.reading.Fed.TheVariants as piece
 use Rattle.twkb_blob.specs.declared.reading.Halt.TheVariants as halt

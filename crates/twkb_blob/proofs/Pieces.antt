@@ -1,7 +1,6 @@
 -- A piece of an input goes to an engine.
-use Rattle.std.proofs.Common.{◌≡◌, ◌≢◌, ℕ, ◌+◌, ◌-◌, ◌<◌, ◌≤◌, ◌^◌, List, [], ◌∷◌, ◌++◌, length, take, drop, refl, sym, ap, ◌∙◌, subst, append_assoc, Bool, true, false, Option, Some, None, Result, Ok, Err, arith}
-use Rattle.std.proofs.Math.Seq.{take-length}
-use Rattle.std.proofs.lemmas.List.{length-take, length-take-le, take-append-drop}
+use Rattle.std.proofs.Common.{◌≡◌, ◌≢◌, ℕ, ◌+◌, ◌-◌, ◌<◌, ◌≤◌, ◌^◌, List, [], ◌∷◌, ◌++◌, length, take, drop, refl, sym, ap, ◌∙◌, subst, append_assoc, true, Option, Some, None, Result, Ok, Err, arith}
+use Rattle.std.proofs.lemmas.List.{length-take, take-append-drop}
 use Rattle.std.specs.Prelude.{IfSome}
 use Rattle.std.specs.Io.{StartsWith}
 use Rattle.std.specs.Io.KnownBytes.{Consumes, IsAtEnd, Keeps}
@@ -13,18 +12,13 @@ use Rattle.twkb_io.proofs.CopyLemmas.{kept_consumes}
 use Rattle.twkb_io.specs.declared.input.Input.{Input}
 use Rattle.twkb_io.specs.declared.input.InFault.{InFault}
 use Rattle.twkb_io.specs.declared.input.InFault.TheVariants.{Read, TooLong, Spent}
-use Rattle.twkb_io.specs.Inputs.{given, rest_of, held_of, input_failures, input_tap, is_read_fault, is_spent}
+use Rattle.twkb_io.specs.Inputs.{given, rest_of, input_failures, input_tap, is_read_fault, is_spent}
 use Rattle.twkb_io.specs.Taps.{failures_of}
-use Rattle.twkb_engine.specs.Standing.{StandsAt, IsFed, MadeIn, RefusedIn, offset_in}
-use Rattle.twkb_engine.specs.Stops.{reason_of}
+use Rattle.twkb_engine.specs.Standing.{StandsAt, RefusedIn}
 use Rattle.twkb_engine.specs.declared.engine.Engine.{Engine}
-use Rattle.twkb_engine.specs.declared.stop.Stop.{Stop}
-use Rattle.twkb_engine.specs.declared.stop.Stop.TheVariants.{Memory, Refused}
-use Rattle.twkb_blob.specs.Readers.{Left, IsHalted, Stops, fed_as, halted_by_read, told_by}
-use Rattle.twkb_blob.specs.declared.reading.Fed.{Fed}
+use Rattle.twkb_blob.specs.Readers.{Left, IsHalted, Stops, halted_by_read, told_by}
 use Rattle.twkb_blob.specs.declared.reading.Fed.TheVariants as piece
 use Rattle.twkb_blob.specs.declared.reading.Halt.TheVariants as halt
-use Rattle.twkb_blob.proofs.Parts.{part_known}
 
 -- a rest that was kept is at its end where it was
 pub kept_end : (a b : Option (List ℕ)) → Keeps a b → IsAtEnd b → IsAtEnd a
