@@ -20,7 +20,7 @@ use Rattle.twkb_engine.specs.declared.stop.Stop.{Stop}
 use Rattle.twkb_engine.specs.declared.stop.Stop.TheVariants.{Memory, Refused}
 use Rattle.twkb_engine.specs.declared.blob_reason.BlobReason.TheVariants as reason
 use Rattle.twkb_blob.specs.Faults.{fault_of}
-use Rattle.twkb_blob.specs.Readers.{AreCutOff, Left, Makes, IsRead, IsNext, IsNextFlat, RefusedKnown, failed_by_read, halted_by_read}
+use Rattle.twkb_blob.specs.Readers.{AreCutOff, Left, IsHalted, IsNext, RefusedKnown, failed_by_read, halted_by_read}
 use Rattle.twkb_blob.specs.declared.fault.BlobFault.TheVariants as fault
 use Rattle.twkb_blob.specs.declared.reading.Fed.TheVariants as piece
 use Rattle.twkb_blob.specs.declared.reading.Halt.TheVariants as halt
@@ -79,26 +79,20 @@ module _ {R : Type 0} {read : Ghosts R} where
   left_still : (a b c : Input R read) (bs : List ℕ) → Left a b bs → Left b c [] → Left a c bs
   left_still a b c bs first none = subst (λ l. Left a c l) (append-nil bs) (left_join a b c bs [] first none)
 
-  -- a geometry was made
-  pub made_next : (limits own : Allowance) (bs : List ℕ) (a b c : Input R read) (rs : List Row) (d : Engine) → own ≡ limits → Left a b bs → IsRead own bs b c (Ok piece.Made) rs d → IsNextFlat limits a c (Ok true) rs
-  made_next limits own bs a b c rs d same left (g, made, is) =
-      let whole : Makes own [] a c g = record { bytes = bs ++ made.bytes; left = left_join a b c bs made.bytes left made.left; blob = made.blob; unspent = made.unspent } in
-      (g, subst (λ l. Makes l [] a c g) same whole, is)
-
   -- the input ended between two blobs
-  pub end_next : (limits own : Allowance) (bs : List ℕ) (a b c : Input R read) (rs : List Row) (d : Engine) → Left a b bs → IsRead own bs b c (Ok piece.End) rs d → bs ≡ [] → IsNext limits a c (Ok None)
+  pub end_next : (limits own : Allowance) (bs : List ℕ) (a b c : Input R read) (rs : List Row) (d : Engine) → Left a b bs → IsHalted own bs b c (Ok piece.End) rs d → bs ≡ [] → IsNext limits a c (Ok None)
   end_next limits own bs a b c rs d left (end, more, stands) none =
       (end_after (rest_of a) (rest_of b) bs none left.consumed end, subst (λ l. Left a c l) none (left_still a b c bs left more))
 
   -- the input ended inside a blob
-  pub cut_next : (limits own : Allowance) (bs : List ℕ) (a b c : Input R read) (start within : ℕ) (rs : List Row) (d : Engine) → own ≡ limits → start ≡ given a → Left a b bs → IsRead own bs b c (Ok piece.End) rs d → FirstFault own bs within Truncated
+  pub cut_next : (limits own : Allowance) (bs : List ℕ) (a b c : Input R read) (start within : ℕ) (rs : List Row) (d : Engine) → own ≡ limits → start ≡ given a → Left a b bs → IsHalted own bs b c (Ok piece.End) rs d → FirstFault own bs within Truncated
       → IsNext limits a c (Err (fault.At (start + within) reason.Truncated))
   cut_next limits own bs a b c start within rs d same begun left (end, more, stands) h =
       cut_after limits (rest_of a) (rest_of b) bs (given a) start within Truncated begun left.consumed end (subst (λ l. FirstFault l bs within Truncated) same h)
 
   -- the input gave no byte behind these, which are no blob
   pub halted_next : (limits own : Allowance) (why : InFault) (bs : List ℕ) (a b c : Input R read) (rs : List Row) (d : Engine) (within : ℕ) (between : Bool) → own ≡ limits → Left a b bs → (is_spent b ≡ true → is_spent a ≡ true)
-      → IsEnd own bs within between → IsRead own bs b c (Err (halt.Device why)) rs d → IsNext limits a c (Err (fault.Device why))
+      → IsEnd own bs within between → IsHalted own bs b c (Err (halt.Device why)) rs d → IsNext limits a c (Err (fault.Device why))
   halted_next limits own Read bs a b c rs d within between same left spent end (stops, stands) = record {
     bytes = bs;
     left = left_still a b c bs left stops.0;
@@ -114,7 +108,7 @@ module _ {R : Type 0} {read : Ghosts R} where
   halted_next limits own Spent bs a b c rs d within between same left spent end (stops, stands) = spent stops
 
   -- the engine stopped
-  pub stopped_next : (limits own : Allowance) (bs : List ℕ) (a b c : Input R read) (start offset : ℕ) (stop : Stop) (rs : List Row) (d : Engine) → own ≡ limits → start ≡ given a → offset ≡ offset_in d → Left a b bs → IsRead own bs b c (Err (halt.Engine stop)) rs d
+  pub stopped_next : (limits own : Allowance) (bs : List ℕ) (a b c : Input R read) (start offset : ℕ) (stop : Stop) (rs : List Row) (d : Engine) → own ≡ limits → start ≡ given a → offset ≡ offset_in d → Left a b bs → IsHalted own bs b c (Err (halt.Engine stop)) rs d
       → IsNext limits a c (Err (fault_of (start + offset) stop))
   stopped_next limits own bs a b c start offset Memory rs d same begun at left h = tt
   stopped_next limits own bs a b c start offset (Refused r) rs d same begun at left h =

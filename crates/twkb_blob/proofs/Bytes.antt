@@ -1,5 +1,6 @@
 -- Items of an input, one after another, make a geometry with its spans, or a fault.
-use Rattle.std.proofs.Common.{◌≡◌, ℕ, ◌+◌, ◌-◌, ◌<◌, ◌≤◌, List, ◌++◌, length, take, drop, sym, ap, ◌∙◌, subst, Bool, Ok, Err, true, false, arith}
+use Rattle.std.proofs.Common.{◌≡◌, ℕ, ◌+◌, ◌-◌, ◌<◌, ◌≤◌, List, ◌++◌, length, take, drop, refl, sym, ap, ◌∙◌, subst, Bool, Result, Ok, Err, IfOk, true, false, arith}
+use Rattle.std.proofs.Math.Seq.{take-length}
 use Rattle.std.proofs.lemmas.List.{append-nil, length-take-le}
 use Rattle.std.specs.Prelude.{IfSome}
 use Rattle.std.specs.Io.{StartsWith}
@@ -18,13 +19,14 @@ use Rattle.twkb_outline.proofs.Pieces.{one_front}
 use Rattle.twkb_outline.specs.Parts.{PartIn}
 use Rattle.twkb_outline.proofs.Judging.{part_further}
 use Rattle.twkb_engine.proofs.Feeding.{refused}
-use Rattle.twkb_engine.specs.Standing.{IsTakenFrom, StandsAt, offset_in}
+use Rattle.twkb_engine.specs.Standing.{IsFed, IsTakenFrom, StandsAt, offset_in}
 use Rattle.twkb_engine.specs.Stops.{reason_of}
 use Rattle.twkb_engine.specs.declared.engine.Engine.{Engine}
 use Rattle.twkb_engine.specs.declared.stop.Stop.{Stop}
 use Rattle.twkb_engine.specs.declared.stop.Stop.TheVariants.{Memory, Refused}
-use Rattle.twkb_blob.specs.Readers.{Left, Makes, fed_as}
-use Rattle.twkb_blob.specs.Located.{HasSpans, IsSpanned, IsNotedFed, IsNotedRead, notes_at}
+use Rattle.twkb_blob.specs.Readers.{Left, IsNextFlat, fed_as}
+use Rattle.twkb_blob.specs.Located.{IsAsked, IsSpanned, IsNotedFed, IsPieceFed, IsPieceRead, notes_at}
+use Rattle.twkb_blob.specs.declared.fault.BlobFault.{BlobFault}
 use Rattle.twkb_blob.specs.declared.reading.Fed.{Fed}
 use Rattle.twkb_blob.specs.declared.reading.Fed.TheVariants as piece
 use Rattle.twkb_blob.specs.declared.reading.Halt.TheVariants as halt
@@ -36,6 +38,16 @@ use Rattle.twkb_blob.proofs.Parts.{part_known}
 pub item_refused : (limits : Allowance) (start : ℕ) (bs held : List ℕ) (stop : Stop) (rs : List Row) (d : Engine) (w : Notes) → IsTakenFrom limits bs held (Err stop) rs d → IsNotedFed limits start bs held (Err stop) rs d w
 item_refused limits start bs held Memory rs d w (used, some, within, part) = record { used = used; some = some; within = within; part = part }
 item_refused limits start bs held (Refused r) rs d w (used, some, within, fault) = record { used = used; some = some; within = within; fault = fault }
+
+-- one byte that is taken is a piece that is fed
+pub one_fed : (limits : Allowance) (bs piece : List ℕ) (answer : Result (ℕ × Bool) Stop) (rs : List Row) (d : Engine) → length piece ≡ 1 → IfOk answer (λ taken. 0 < taken.0) → IfOk answer (λ taken. taken.0 ≤ length piece)
+    → IsTakenFrom limits bs piece answer rs d → IsFed limits bs piece answer rs d
+one_fed limits bs piece (Ok (used, false)) rs d one some within s =
+    let all : used ≡ length piece = omega (arith, one, some, within) in
+    (all, subst (λ l. StandsAt (bs ++ l) rs d) (ap (λ n. take n piece) all ∙ take-length piece) s)
+one_fed limits bs piece (Ok (used, true)) rs d one some within (g, blob, made, s) = (record { some = some; within = within; geometry = g; blob = blob; made = made }, s)
+one_fed limits bs piece (Err Memory) rs d one some within (used, more, fits, part) = record { used = used; some = more; within = fits; part = part }
+one_fed limits bs piece (Err (Refused r)) rs d one some within (used, more, fits, fault) = record { used = used; some = more; within = fits; fault = fault }
 
 -- no bytes were taken yet
 pub stands_behind : (start : ℕ) (bs held : List ℕ) (rs : List Row) (d : Engine) (w : Notes) (s : StandsAt bs rs d) → w ≡ notes_at start s → (t : StandsAt (bs ++ take 0 held) rs d) × (w ≡ notes_at start t)
@@ -62,6 +74,24 @@ stopped_behind limits own start bs held used Memory rs d w same within h = subst
 stopped_behind limits own start bs held used (Refused r) rs d w same within h =
     refused limits own bs held used (Refused r) rs d same within (h.used, h.some, h.within, h.fault)
 
+-- what was noted is what was asked for
+pub fed_noted : (limits : Allowance) (asked : Bool) (start : ℕ) (bs held : List ℕ) (answer : Result (ℕ × Bool) Stop) (rs : List Row) (d : Engine) (w : Notes) → IfOk answer (λ taken. (0 < taken.0) × (taken.0 ≤ length held))
+    → IsNotedFed limits start bs held answer rs d w → IsPieceFed limits asked start bs held answer rs d w
+fed_noted limits asked start bs held (Ok (used, false)) rs d w some (s, told) = (some.0, s, λ on. told)
+fed_noted limits asked start bs held (Ok (used, true)) rs d w some (g, blob, told, made) = (g, blob, (λ on. told), made)
+fed_noted limits asked start bs held (Err Memory) rs d w some h = h
+fed_noted limits asked start bs held (Err (Refused r)) rs d w some h = h
+
+-- where no spans are asked for, nothing has to be noted
+pub fed_plain : (limits : Allowance) (asked : Bool) (start : ℕ) (bs held : List ℕ) (answer : Result (ℕ × Bool) Stop) (rs : List Row) (d : Engine) (w : Notes) → asked ≡ false → 0 < length held
+    → IsFed limits bs held answer rs d → IsPieceFed limits asked start bs held answer rs d w
+fed_plain limits asked start bs held (Ok (used, false)) rs d w off some (all, s) =
+    let is : held ≡ take used held = sym (ap (λ n. take n held) all ∙ take-length held) in
+    (omega (arith, all, some), subst (λ l. StandsAt (bs ++ l) rs d) is s, λ on. absurd (cc (on, off)))
+fed_plain limits asked start bs held (Ok (used, true)) rs d w off some (m, s) = (m.geometry, m.blob, (λ on. absurd (cc (on, off))), m.made)
+fed_plain limits asked start bs held (Err Memory) rs d w off some h = h
+fed_plain limits asked start bs held (Err (Refused r)) rs d w off some h = h
+
 module _ {R : Type 0} {read : Ghosts R} where
   -- held bytes leave
   held_left : (a b c : Input R read) (held : List ℕ) (used : ℕ) → Keeps (rest_of a) (rest_of b) → given b ≡ given a → held ≡ held_of b → used ≤ length held → Consumes (rest_of b) (rest_of c) (take used (held_of b)) → given c ≡ given b + used
@@ -70,42 +100,47 @@ module _ {R : Type 0} {read : Ghosts R} where
       left_after a b c (take used held) keeps same (subst (λ l. Consumes (rest_of b) (rest_of c) (take used l)) (sym is) loses) (omega (arith, counted, length-take-le used held within))
 
   -- the blob goes on
-  item_more : (limits : Allowance) (start : ℕ) (bs held : List ℕ) (a b c : Input R read) (used : ℕ) (rs : List Row) (d : Engine) (w : Notes) → Keeps (rest_of a) (rest_of b) → given b ≡ given a → held ≡ held_of b → 0 < used → used ≤ length held
-      → Consumes (rest_of b) (rest_of c) (take used (held_of b)) → given c ≡ given b + used → is_spent c ≡ false → IsNotedFed limits start bs held (Ok (used, false)) rs d w → IsNotedRead limits start bs a c (Ok piece.More) rs d w
-  item_more limits start bs held a b c used rs d w keeps same is some within loses counted live h =
-      (take used held, omega (arith, some, length-take-le used held within), held_left a b c held used keeps same is within loses counted, h.0, h.1, live)
+  item_more : (limits : Allowance) (asked : Bool) (start : ℕ) (bs held : List ℕ) (a b c : Input R read) (used : ℕ) (rs : List Row) (d : Engine) (w : Notes) → Keeps (rest_of a) (rest_of b) → given b ≡ given a → held ≡ held_of b → used ≤ length held
+      → Consumes (rest_of b) (rest_of c) (take used (held_of b)) → given c ≡ given b + used → is_spent c ≡ false → IsPieceFed limits asked start bs held (Ok (used, false)) rs d w → IsPieceRead limits asked start bs a c (Ok piece.More) rs d w
+  item_more limits asked start bs held a b c used rs d w keeps same is within loses counted live (some, s, told) =
+      (take used held, omega (arith, some, length-take-le used held within), held_left a b c held used keeps same is within loses counted, s, told, live)
 
   -- the blob ends
-  item_made : (limits : Allowance) (start : ℕ) (bs held : List ℕ) (a b c : Input R read) (used : ℕ) (rs : List Row) (d : Engine) (w : Notes) → Keeps (rest_of a) (rest_of b) → given b ≡ given a → held ≡ held_of b → used ≤ length held
-      → Consumes (rest_of b) (rest_of c) (take used (held_of b)) → given c ≡ given b + used → is_spent c ≡ false → IsNotedFed limits start bs held (Ok (used, true)) rs d w → IsNotedRead limits start bs a c (Ok piece.Made) rs d w
-  item_made limits start bs held a b c used rs d w keeps same is within loses counted live (g, blob, told, made) =
+  item_made : (limits : Allowance) (asked : Bool) (start : ℕ) (bs held : List ℕ) (a b c : Input R read) (used : ℕ) (rs : List Row) (d : Engine) (w : Notes) → Keeps (rest_of a) (rest_of b) → given b ≡ given a → held ≡ held_of b → used ≤ length held
+      → Consumes (rest_of b) (rest_of c) (take used (held_of b)) → given c ≡ given b + used → is_spent c ≡ false → IsPieceFed limits asked start bs held (Ok (used, true)) rs d w → IsPieceRead limits asked start bs a c (Ok piece.Made) rs d w
+  item_made limits asked start bs held a b c used rs d w keeps same is within loses counted live (g, blob, told, made) =
       (g, record { bytes = take used held; left = held_left a b c held used keeps same is within loses counted; blob = blob; unspent = live }, told, made)
 
   -- bytes were used
-  pub item_taken : (limits : Allowance) (start : ℕ) (bs held : List ℕ) (a b c : Input R read) (taken : ℕ × Bool) (answer : Fed) (rs : List Row) (d : Engine) (w : Notes) → Keeps (rest_of a) (rest_of b) → given b ≡ given a → held ≡ held_of b → 0 < taken.0
-      → taken.0 ≤ length held → Consumes (rest_of b) (rest_of c) (take taken.0 (held_of b)) → given c ≡ given b + taken.0 → is_spent c ≡ false → answer ≡ fed_as taken.1 → IsNotedFed limits start bs held (Ok taken) rs d w
-      → IsNotedRead limits start bs a c (Ok answer) rs d w
-  item_taken limits start bs held a b c (used, false) answer rs d w keeps same is some within loses counted live told h =
-      subst (λ m. IsNotedRead limits start bs a c (Ok m) rs d w) (sym told) (item_more limits start bs held a b c used rs d w keeps same is some within loses counted live h)
-  item_taken limits start bs held a b c (used, true) answer rs d w keeps same is some within loses counted live told h =
-      subst (λ m. IsNotedRead limits start bs a c (Ok m) rs d w) (sym told) (item_made limits start bs held a b c used rs d w keeps same is within loses counted live h)
+  pub item_taken : (limits : Allowance) (asked : Bool) (start : ℕ) (bs held : List ℕ) (a b c : Input R read) (taken : ℕ × Bool) (answer : Fed) (rs : List Row) (d : Engine) (w : Notes) → Keeps (rest_of a) (rest_of b) → given b ≡ given a → held ≡ held_of b
+      → taken.0 ≤ length held → Consumes (rest_of b) (rest_of c) (take taken.0 (held_of b)) → given c ≡ given b + taken.0 → is_spent c ≡ false → answer ≡ fed_as taken.1 → IsPieceFed limits asked start bs held (Ok taken) rs d w
+      → IsPieceRead limits asked start bs a c (Ok answer) rs d w
+  item_taken limits asked start bs held a b c (used, false) answer rs d w keeps same is within loses counted live told h =
+      subst (λ m. IsPieceRead limits asked start bs a c (Ok m) rs d w) (sym told) (item_more limits asked start bs held a b c used rs d w keeps same is within loses counted live h)
+  item_taken limits asked start bs held a b c (used, true) answer rs d w keeps same is within loses counted live told h =
+      subst (λ m. IsPieceRead limits asked start bs a c (Ok m) rs d w) (sym told) (item_made limits asked start bs held a b c used rs d w keeps same is within loses counted live h)
 
   -- the engine stopped in the held bytes
-  pub item_stopped : (limits : Allowance) (start : ℕ) (bs held : List ℕ) (a b : Input R read) (stop : Stop) (rs : List Row) (d : Engine) (w : Notes) → Keeps (rest_of a) (rest_of b) → IfSome (rest_of b) (λ rest. StartsWith rest held)
-      → IsNotedFed limits start bs held (Err stop) rs d w → IsNotedRead limits start bs a b (Err (halt.Engine stop)) rs d w
-  item_stopped limits start bs held a b Memory rs d w keeps starts h = part_known limits (rest_of a) (rest_of b) bs held keeps starts h
-  item_stopped limits start bs held a b (Refused r) rs d w keeps starts h = refused_known limits (rest_of a) (rest_of b) bs held (offset_in d) (reason_of r) keeps starts h
+  pub item_stopped : (limits : Allowance) (asked : Bool) (start : ℕ) (bs held : List ℕ) (a b : Input R read) (stop : Stop) (rs : List Row) (d : Engine) (w : Notes) → Keeps (rest_of a) (rest_of b) → IfSome (rest_of b) (λ rest. StartsWith rest held)
+      → IsPieceFed limits asked start bs held (Err stop) rs d w → IsPieceRead limits asked start bs a b (Err (halt.Engine stop)) rs d w
+  item_stopped limits asked start bs held a b Memory rs d w keeps starts h = part_known limits (rest_of a) (rest_of b) bs held keeps starts h
+  item_stopped limits asked start bs held a b (Refused r) rs d w keeps starts h = refused_known limits (rest_of a) (rest_of b) bs held (offset_in d) (reason_of r) keeps starts h
 
   -- a blob left the input, with these spans
-  made_spans : (limits own : Allowance) (start : ℕ) (bs : List ℕ) (a b c : Input R read) (g : Tree) (spans : List Span) → own ≡ limits → start ≡ given a → Left a b bs
-      → (made : Makes own bs b c g) → spans ≡ spans_of_blob start made.blob → HasSpans limits a c g spans
-  made_spans limits own start bs a b c g spans same begun left made says =
-      subst (λ l. HasSpans l a c g spans) same (record {
-        made = record { bytes = bs ++ made.bytes; left = left_join a b c bs made.bytes left made.left; blob = made.blob; unspent = made.unspent };
-        told = says ∙ ap (λ o. spans_of_blob o made.blob) begun;
-      })
+  pub spans_made : (limits own : Allowance) (asked : Bool) (start : ℕ) (bs : List ℕ) (a b c : Input R read) (rs : List Row) (d : Engine) (w : Notes) → own ≡ limits → start ≡ given a → Left a b bs
+      → IsPieceRead own asked start bs b c (Ok piece.Made) rs d w → IsAsked limits asked a c (Ok true) rs w.spans
+  spans_made limits own asked start bs a b c rs d w same begun left (g, made, told, rows_are) =
+      subst (λ l. IsAsked l asked a c (Ok true) rs w.spans) same
+      (g, record { bytes = bs ++ made.bytes; left = left_join a b c bs made.bytes left made.left; blob = made.blob; unspent = made.unspent }, (λ on. told on ∙ ap (λ o. spans_of_blob o made.blob) begun), rows_are)
 
-  -- and that is an answer
-  pub spans_made : (limits own : Allowance) (start : ℕ) (bs : List ℕ) (a b c : Input R read) (rs : List Row) (d : Engine) (w : Notes) → own ≡ limits → start ≡ given a → Left a b bs
-      → IsNotedRead own start bs b c (Ok piece.Made) rs d w → IsSpanned limits a c (Ok true) rs w.spans
-  spans_made limits own start bs a b c rs d w same begun left (g, made, told, rows_are) = (g, made_spans limits own start bs a b c g w.spans same begun left made told, rows_are)
+  -- an answer of which no spans were asked
+  pub rows_asked : (limits : Allowance) (asked : Bool) (a c : Input R read) (answer : Result Bool BlobFault) (rs : List Row) (spans : List Span) → IsAsked limits asked a c answer rs spans → IsNextFlat limits a c answer rs
+  rows_asked limits asked a c (Ok true) rs spans (g, made, told, is) = (g, made, is)
+  rows_asked limits asked a c (Ok false) rs spans h = h
+  rows_asked limits asked a c (Err why) rs spans h = h
+
+  -- an answer with spans
+  pub spans_asked : (limits : Allowance) (a c : Input R read) (answer : Result Bool BlobFault) (rs : List Row) (spans : List Span) → IsAsked limits true a c answer rs spans → IsSpanned limits a c answer rs spans
+  spans_asked limits a c (Ok true) rs spans (g, made, told, is) = (g, record { made = made; told = told refl }, is)
+  spans_asked limits a c (Ok false) rs spans h = h
+  spans_asked limits a c (Err why) rs spans h = h

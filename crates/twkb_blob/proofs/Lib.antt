@@ -10,6 +10,7 @@ pub mod NotedItems
 pub mod NotedHeaders
 pub mod NotedParts
 pub mod Bytes
+pub mod Answering
 pub mod Counts
 pub mod PointSpans
 pub mod WholePoints

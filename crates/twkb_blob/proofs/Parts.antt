@@ -20,7 +20,7 @@ use Rattle.twkb_engine.specs.declared.stop.Stop.{Stop}
 use Rattle.twkb_engine.specs.declared.stop.Stop.TheVariants.{Memory, Refused}
 use Rattle.twkb_blob.proofs.Judging.{blob_judged}
 use Rattle.twkb_blob.specs.Faults.{fault_of}
-use Rattle.twkb_blob.specs.Readers.{Left, IsRead, IsNextFlat, PartAhead}
+use Rattle.twkb_blob.specs.Readers.{Left, IsHalted, IsNextFlat, PartAhead}
 use Rattle.twkb_blob.specs.Located.{IsSpanned}
 use Rattle.twkb_blob.specs.declared.fault.BlobFault.{BlobFault}
 use Rattle.twkb_blob.specs.declared.fault.BlobFault.TheVariants as fault
@@ -80,6 +80,6 @@ module _ {R : Type 0} {read : Ghosts R} where
   spanned_ahead limits a c rs spans (g, has, is) = blob_known limits (rest_of a) (rest_of c) has.made.bytes g has.made.left.consumed has.made.blob
 
   -- memory that was missing
-  pub read_ahead : (limits : Allowance) (bs : List ℕ) (a b : Input R read) (stop : Stop) (rs : List Row) (d : Engine) → stop ≡ Memory → IsRead limits bs a b (Err (halt.Engine stop)) rs d → PartAhead limits bs a
+  pub read_ahead : (limits : Allowance) (bs : List ℕ) (a b : Input R read) (stop : Stop) (rs : List Row) (d : Engine) → stop ≡ Memory → IsHalted limits bs a b (Err (halt.Engine stop)) rs d → PartAhead limits bs a
   read_ahead limits bs a b Memory rs d is h = h
   read_ahead limits bs a b (Refused r) rs d is h = absurd cc

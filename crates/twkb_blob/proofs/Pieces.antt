@@ -1,7 +1,6 @@
 -- A piece of an input goes to an engine.
-use Rattle.std.proofs.Common.{◌≡◌, ◌≢◌, ℕ, ◌+◌, ◌-◌, ◌<◌, ◌≤◌, ◌^◌, List, [], ◌∷◌, ◌++◌, length, take, drop, refl, sym, ap, ◌∙◌, subst, append_assoc, Bool, true, false, Option, Some, None, Result, Ok, Err, arith}
-use Rattle.std.proofs.Math.Seq.{take-length}
-use Rattle.std.proofs.lemmas.List.{length-take, length-take-le, take-append-drop}
+use Rattle.std.proofs.Common.{◌≡◌, ◌≢◌, ℕ, ◌+◌, ◌-◌, ◌<◌, ◌≤◌, ◌^◌, List, [], ◌∷◌, ◌++◌, length, take, drop, refl, sym, ap, ◌∙◌, subst, append_assoc, true, Option, Some, None, Result, Ok, Err, arith}
+use Rattle.std.proofs.lemmas.List.{length-take, take-append-drop}
 use Rattle.std.specs.Prelude.{IfSome}
 use Rattle.std.specs.Io.{StartsWith}
 use Rattle.std.specs.Io.KnownBytes.{Consumes, IsAtEnd, Keeps}
@@ -13,18 +12,13 @@ use Rattle.twkb_io.proofs.CopyLemmas.{kept_consumes}
 use Rattle.twkb_io.specs.declared.input.Input.{Input}
 use Rattle.twkb_io.specs.declared.input.InFault.{InFault}
 use Rattle.twkb_io.specs.declared.input.InFault.TheVariants.{Read, TooLong, Spent}
-use Rattle.twkb_io.specs.Inputs.{given, rest_of, held_of, input_failures, input_tap, is_read_fault, is_spent}
+use Rattle.twkb_io.specs.Inputs.{given, rest_of, input_failures, input_tap, is_read_fault, is_spent}
 use Rattle.twkb_io.specs.Taps.{failures_of}
-use Rattle.twkb_engine.specs.Standing.{StandsAt, IsFed, MadeIn, RefusedIn, offset_in}
-use Rattle.twkb_engine.specs.Stops.{reason_of}
+use Rattle.twkb_engine.specs.Standing.{StandsAt, RefusedIn}
 use Rattle.twkb_engine.specs.declared.engine.Engine.{Engine}
-use Rattle.twkb_engine.specs.declared.stop.Stop.{Stop}
-use Rattle.twkb_engine.specs.declared.stop.Stop.TheVariants.{Memory, Refused}
-use Rattle.twkb_blob.specs.Readers.{Left, IsRead, Stops, fed_as, halted_by_read, told_by}
-use Rattle.twkb_blob.specs.declared.reading.Fed.{Fed}
+use Rattle.twkb_blob.specs.Readers.{Left, IsHalted, Stops, halted_by_read, told_by}
 use Rattle.twkb_blob.specs.declared.reading.Fed.TheVariants as piece
 use Rattle.twkb_blob.specs.declared.reading.Halt.TheVariants as halt
-use Rattle.twkb_blob.proofs.Parts.{part_known}
 
 -- a rest that was kept is at its end where it was
 pub kept_end : (a b : Option (List ℕ)) → Keeps a b → IsAtEnd b → IsAtEnd a
@@ -72,35 +66,6 @@ module _ {R : Type 0} {read : Ghosts R} where
   pub left_after : (a b c : Input R read) (bytes : List ℕ) → Keeps (rest_of a) (rest_of b) → given b ≡ given a → Consumes (rest_of b) (rest_of c) bytes → given c ≡ given b + length bytes → Left a c bytes
   left_after a b c bytes keeps same loses counted = record { consumed = kept_consumes (rest_of a) (rest_of b) (rest_of c) bytes keeps loses; counted = omega (arith, same, counted) }
 
-  -- all held bytes were used
-  more_read : (limits : Allowance) (bs held : List ℕ) (a b c : Input R read) (used : ℕ) (rs : List Row) (d : Engine) → Keeps (rest_of a) (rest_of b) → given b ≡ given a → held ≡ held_of b → 0 < length held
-      → Consumes (rest_of b) (rest_of c) (take used (held_of b)) → given c ≡ given b + used → is_spent c ≡ false → (used ≡ length held) × StandsAt (bs ++ held) rs d → IsRead limits bs a c (Ok piece.More) rs d
-  more_read limits bs held a b c used rs d keeps same is some loses counted live h =
-      let whole : take used (held_of b) ≡ held = ap (λ l. take used l) (sym is) ∙ (ap (λ n. take n held) h.0 ∙ take-length held) in
-      (held, some, left_after a b c held keeps same (subst (λ l. Consumes (rest_of b) (rest_of c) l) whole loses) (counted ∙ ap (λ n. given b + n) h.0), h.1, live)
-
-  -- a geometry ends in the held bytes
-  made_read : (limits : Allowance) (bs held : List ℕ) (a b c : Input R read) (used : ℕ) (rs : List Row) (d : Engine) → Keeps (rest_of a) (rest_of b) → given b ≡ given a → held ≡ held_of b
-      → Consumes (rest_of b) (rest_of c) (take used (held_of b)) → given c ≡ given b + used → is_spent c ≡ false → MadeIn limits bs held used rs × StandsAt [] [] d → IsRead limits bs a c (Ok piece.Made) rs d
-  made_read limits bs held a b c used rs d keeps same is loses counted live h = (
-    h.0.geometry,
-    record {
-      bytes = take used held;
-      left = left_after a b c (take used held) keeps same (subst (λ l. Consumes (rest_of b) (rest_of c) (take used l)) (sym is) loses) (omega (arith, counted, length-take-le used held h.0.within));
-      blob = h.0.blob;
-      unspent = live;
-    },
-    h.0.made,
-  )
-
-  -- bytes were used
-  pub taken_read : (limits : Allowance) (bs held : List ℕ) (a b c : Input R read) (fed : ℕ × Bool) (answer : Fed) (rs : List Row) (d : Engine) → Keeps (rest_of a) (rest_of b) → given b ≡ given a → held ≡ held_of b → 0 < length held
-      → Consumes (rest_of b) (rest_of c) (take fed.0 (held_of b)) → given c ≡ given b + fed.0 → is_spent c ≡ false → answer ≡ fed_as fed.1 → IsFed limits bs held (Ok fed) rs d → IsRead limits bs a c (Ok answer) rs d
-  taken_read limits bs held a b c (used, false) answer rs d keeps same is some loses counted live told h =
-      subst (λ m. IsRead limits bs a c (Ok m) rs d) (sym told) (more_read limits bs held a b c used rs d keeps same is some loses counted live h)
-  taken_read limits bs held a b c (used, true) answer rs d keeps same is some loses counted live told h =
-      subst (λ m. IsRead limits bs a c (Ok m) rs d) (sym told) (made_read limits bs held a b c used rs d keeps same is loses counted live h)
-
   -- a fill loses nothing
   left_none : (a b : Input R read) → Keeps (rest_of a) (rest_of b) → given b ≡ given a → Left a b []
   left_none a b keeps same = record { consumed = kept_all (rest_of a) (rest_of b) keeps; counted = omega (arith, same) }
@@ -114,15 +79,9 @@ module _ {R : Type 0} {read : Ghosts R} where
   failures_kept n b c same counted = ap (λ t. failures_of t.now) same ∙ counted
 
   -- nothing is left
-  pub end_read : (limits : Allowance) (bs : List ℕ) (a b : Input R read) (rs : List Row) (d : Engine) → Keeps (rest_of a) (rest_of b) → given b ≡ given a → IsAtEnd (rest_of b) → StandsAt bs rs d → IsRead limits bs a b (Ok piece.End) rs d
+  pub end_read : (limits : Allowance) (bs : List ℕ) (a b : Input R read) (rs : List Row) (d : Engine) → Keeps (rest_of a) (rest_of b) → given b ≡ given a → IsAtEnd (rest_of b) → StandsAt bs rs d → IsHalted limits bs a b (Ok piece.End) rs d
   end_read limits bs a b rs d keeps same end s =
       (kept_end (rest_of a) (rest_of b) keeps end, left_none a b keeps same, s)
-
-  -- the engine stopped in the held bytes
-  pub stopped_read : (limits : Allowance) (bs held : List ℕ) (a b : Input R read) (stop : Stop) (rs : List Row) (d : Engine) → Keeps (rest_of a) (rest_of b) → IfSome (rest_of b) (λ rest. StartsWith rest held)
-      → IsFed limits bs held (Err stop) rs d → IsRead limits bs a b (Err (halt.Engine stop)) rs d
-  stopped_read limits bs held a b Memory rs d keeps starts h = part_known limits (rest_of a) (rest_of b) bs held keeps starts h
-  stopped_read limits bs held a b (Refused r) rs d keeps starts h = refused_known limits (rest_of a) (rest_of b) bs held (offset_in d) (reason_of r) keeps starts h
 
   -- the input gave no byte
   pub halted : {A : Type 0} (r : Result A InFault) (why : InFault) (a b : Input R read) → r ≡ Err why → Keeps (rest_of a) (rest_of b) → given b ≡ given a → (r ≡ Err TooLong → (given a ≡ 2 ^ 62) × IfSome (rest_of a) (λ rest. rest ≢ []))

@@ -7,8 +7,6 @@ use Rattle.twkb_tree.specs.Limits.{Allowance, IsValid, largest_limits}
 use Rattle.twkb_grammar.specs.Blob.{Stream}
 use Rattle.twkb_io.specs.declared.input.Input.{Input}
 use Rattle.twkb_blob.specs.Readers.{Makes, IsNextFlat, IsNext}
-use Rattle.twkb_blob.specs.Located.{HasSpans, IsSpanned, IsLocated}
-use Rattle.twkb_blob.specs.declared.spans.Located.{Located}
 
 -- the law that rows tell one tree
 abbrev pub TreeLaw : Type 0
@@ -39,9 +37,3 @@ module _ {R : Type 0} {read : Ghosts R} where
   -- a blob left the input, and the tree was made of the rows
   pub made_tree : TreeLaw → (limits : Allowance) (a c : Input R read) (rs : List Row) (h : Tree) → IsNextFlat limits a c (Ok true) rs → rows 0 h ≡ rs → IsValid largest_limits h → IsNext limits a c (Ok (Some h))
   made_tree law limits a c rs h (g, makes, is) made valid = subst (λ t. Makes limits [] a c t) (tree_made law rs g h makes.blob.valid.tree is made valid) makes
-
-  -- the same, with the spans
-  pub made_spanned : TreeLaw → (limits : Allowance) (a c : Input R read) (rs : List Row) (l : Located) → IsSpanned limits a c (Ok true) rs l.spans → rows 0 l.geometry ≡ rs → IsValid largest_limits l.geometry → IsLocated limits a c (Ok (Some l))
-  made_spanned law limits a c rs l (g, has, is) made valid =
-      let here : HasSpans limits a c l.geometry l.spans = subst (λ t. HasSpans limits a c t l.spans) (tree_made law rs g l.geometry has.made.blob.valid.tree is made valid) has in
-      record { next = here.made; spans = here }

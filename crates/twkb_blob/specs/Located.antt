@@ -19,7 +19,7 @@ use Rattle.twkb_engine.specs.declared.engine.Engine.{Engine}
 use Rattle.twkb_engine.specs.declared.stop.Stop.{Stop}
 use Rattle.twkb_engine.specs.declared.awaited.Awaited.{Awaited}
 use Rattle.twkb_engine.specs.declared.awaited.Awaited.TheVariants as awaited
-use Rattle.twkb_blob.specs.Readers.{Left, Makes, IsRead, IsNext}
+use Rattle.twkb_blob.specs.Readers.{Left, Makes, IsHalted, IsNext}
 use Rattle.twkb_blob.specs.declared.fault.BlobFault.{BlobFault}
 use Rattle.twkb_blob.specs.declared.reading.Fed.{Fed}
 use Rattle.twkb_blob.specs.declared.reading.Fed.TheVariants as piece
@@ -70,23 +70,43 @@ IsNotedFed limits start bs held (Ok (used, true)) rs d w = (g : Tree) × (b : Bl
 IsNotedFed limits start bs held (Err Memory) rs d w = PartIn limits bs held
 IsNotedFed limits start bs held (Err (Refused r)) rs d w = RefusedIn limits bs held (offset_in d) (reason_of r)
 
--- the same, with bytes that left an input; or it gave none
-abbrev pub IsNotedRead :
-    {R : Type 0} {read : Ghosts R} → Allowance → (start : ℕ) → List ℕ
-    → Input R read → Input R read → Result Fed Halt → List Row → Engine → Notes → Type 0
-IsNotedRead limits start bs old new (Ok piece.More) rs d w =
-    (bytes : List ℕ) × (0 < length bytes) × Left old new bytes × (s : StandsAt (bs ++ bytes) rs d)
-    × (w ≡ notes_at start s) × (input_spent new ≡ false)
-IsNotedRead limits start bs old new (Ok piece.Made) rs d w = (g : Tree) × (made : Makes limits bs old new g) × (w.spans ≡ spans_of_blob start made.blob) × (rs ≡ rows 0 g)
-IsNotedRead limits start bs old new answer rs d w = IsRead limits bs old new answer rs d
-
 -- wherever the engine stands with the notes of its items, that is the answer to the held bytes
 abbrev pub TakesNoted : (start : ℕ) → List ℕ → Result (ℕ × Bool) Stop → (rs more : List Row) (d e : Engine) (w v : Notes) → Type 0
 TakesNoted start held answer rs more d e w v = (bs : List ℕ) (s : StandsAt bs rs d) → w ≡ notes_at start s → IsNotedFed (allowance_of d) start bs held answer more e v
 
+-- The same, of bytes that a reader holds, one at least of them taken, whether or not spans are asked for: where none are, nothing is known of the notes.
+abbrev pub IsPieceFed : Allowance → (asked : Bool) → (start : ℕ) → List ℕ → (held : List ℕ) → Result (ℕ × Bool) Stop → List Row → Engine → Notes → Type 0
+IsPieceFed limits asked start bs held (Ok (used, false)) rs d w = (0 < used) × (s : StandsAt (bs ++ take used held) rs d) × (asked ≡ true → w ≡ notes_at start s)
+IsPieceFed limits asked start bs held (Ok (used, true)) rs d w =
+    (g : Tree) × (b : Blob limits (bs ++ take used held) g) × (asked ≡ true → w.spans ≡ spans_of_blob start b) × (rs ≡ rows 0 g)
+IsPieceFed limits asked start bs held (Err Memory) rs d w = PartIn limits bs held
+IsPieceFed limits asked start bs held (Err (Refused r)) rs d w = RefusedIn limits bs held (offset_in d) (reason_of r)
+
+-- the same, with bytes that left an input; or it gave none
+abbrev pub IsPieceRead :
+    {R : Type 0} {read : Ghosts R} → Allowance → (asked : Bool) → (start : ℕ) → List ℕ
+    → Input R read → Input R read → Result Fed Halt → List Row → Engine → Notes → Type 0
+IsPieceRead limits asked start bs old new (Ok piece.More) rs d w =
+    (bytes : List ℕ) × (0 < length bytes) × Left old new bytes × (s : StandsAt (bs ++ bytes) rs d)
+    × (asked ≡ true → w ≡ notes_at start s) × (input_spent new ≡ false)
+IsPieceRead limits asked start bs old new (Ok piece.Made) rs d w =
+    (g : Tree) × (made : Makes limits bs old new g) × (asked ≡ true → w.spans ≡ spans_of_blob start made.blob) × (rs ≡ rows 0 g)
+IsPieceRead limits asked start bs old new answer rs d w = IsHalted limits bs old new answer rs d
+
+-- the rows of a geometry whose blob left the input, and its spans where they are asked for; or an answer without a geometry
+abbrev pub IsAsked : {R : Type 0} {read : Ghosts R} → Allowance → (asked : Bool) → Input R read → Input R read → Result Bool BlobFault → List Row → List Span → Type 0
+IsAsked limits asked old new (Ok true) rs spans = (g : Tree) × (made : Makes limits [] old new g) × (asked ≡ true → spans ≡ spans_of_blob (given old) made.blob) × (rs ≡ rows 0 g)
+IsAsked limits asked old new (Ok false) rs spans = IsNext limits old new (Ok None)
+IsAsked limits asked old new (Err why) rs spans = IsNext limits old new (Err why)
+
+-- wherever the engine stands, with the notes of its items where spans are asked for, that is the answer to the held bytes
+abbrev pub TakesPiece : (asked : Bool) → (start : ℕ) → List ℕ → Result (ℕ × Bool) Stop → (rs more : List Row) (d e : Engine) (w v : Notes) → Type 0
+TakesPiece asked start held answer rs more d e w v =
+    (bs : List ℕ) (s : StandsAt bs rs d) → (asked ≡ true → w ≡ notes_at start s) → IsPieceFed (allowance_of d) asked start bs held answer more e v
+
 -- the same, of an input
-abbrev pub ReadsNoted :
-    {R : Type 0} {read : Ghosts R} → (start : ℕ) → Input R read → Input R read → Result Fed Halt
+abbrev pub ReadsPiece :
+    {R : Type 0} {read : Ghosts R} → (asked : Bool) → (start : ℕ) → Input R read → Input R read → Result Fed Halt
     → (rs more : List Row) (d e : Engine) (w v : Notes) → Type 0
-ReadsNoted start old new answer rs more d e w v =
-    (bs : List ℕ) (s : StandsAt bs rs d) → w ≡ notes_at start s → IsNotedRead (allowance_of d) start bs old new answer more e v
+ReadsPiece asked start old new answer rs more d e w v =
+    (bs : List ℕ) (s : StandsAt bs rs d) → (asked ≡ true → w ≡ notes_at start s) → IsPieceRead (allowance_of d) asked start bs old new answer more e v

@@ -4,7 +4,7 @@ use Rattle.std.specs.Io.KnownBytes.{Consumes, IsAtEnd}
 use Rattle.std.specs.declared.io.traits.Read.{Ghosts}
 use Rattle.twkb_tree.specs.Tree.{Tree}
 use Rattle.twkb_tree.specs.Rows.{Row, rows}
-use Rattle.twkb_tree.specs.Limits.{Allowance}
+use Rattle.twkb_tree.specs.Limits.{Allowance, IsValid, largest_limits}
 use Rattle.twkb_grammar.specs.Blob.{Blob}
 use Rattle.twkb_grammar.specs.Fault.{FirstFault, Reason, Truncated}
 use Rattle.twkb_io.specs.Taps.{device_of}
@@ -114,15 +114,15 @@ abbrev pub fed_as : Bool → Fed
 fed_as true = piece.Made
 fed_as false = piece.More
 
--- Some bytes left the input, and make a blob so far, with these rows, or a blob; or there are none; or there was no memory behind a part
--- that ends in what is known of the rest; or with that they have a first fault.
-abbrev pub IsRead : {R : Type 0} {read : Ghosts R} → Allowance → List ℕ → Input R read → Input R read → Result Fed Halt → List Row → Engine → Type 0
-IsRead limits bs old new (Ok piece.More) rs d = (bytes : List ℕ) × (0 < length bytes) × Left old new bytes × StandsAt (bs ++ bytes) rs d × (input_spent new ≡ false)
-IsRead limits bs old new (Ok piece.Made) rs d = (g : Tree) × Makes limits bs old new g × (rs ≡ rows 0 g)
-IsRead limits bs old new (Ok piece.End) rs d = IsAtEnd (rest_of old) × Left old new [] × StandsAt bs rs d
-IsRead limits bs old new (Err (halt.Device why)) rs d = Stops why old new × StandsAt bs rs d
-IsRead limits bs old new (Err (halt.Engine Memory)) rs d = PartAhead limits bs old
-IsRead limits bs old new (Err (halt.Engine (Refused r))) rs d = IfSome (rest_of old) (λ rest. FirstFault limits (bs ++ rest) (offset_in d) (reason_of r))
+-- Nothing was made: there are no bytes; or the input gave none; or there was no memory behind a part that ends in what is known of the
+-- rest; or with that they have a first fault.
+abbrev pub IsHalted : {R : Type 0} {read : Ghosts R} → Allowance → List ℕ → Input R read → Input R read → Result Fed Halt → List Row → Engine → Type 0
+IsHalted limits bs old new (Ok piece.More) rs d = ⊥
+IsHalted limits bs old new (Ok piece.Made) rs d = ⊥
+IsHalted limits bs old new (Ok piece.End) rs d = IsAtEnd (rest_of old) × Left old new [] × StandsAt bs rs d
+IsHalted limits bs old new (Err (halt.Device why)) rs d = Stops why old new × StandsAt bs rs d
+IsHalted limits bs old new (Err (halt.Engine Memory)) rs d = PartAhead limits bs old
+IsHalted limits bs old new (Err (halt.Engine (Refused r))) rs d = IfSome (rest_of old) (λ rest. FirstFault limits (bs ++ rest) (offset_in d) (reason_of r))
 
 -- The known bytes have this first fault; the offset counts from where the input began to give out bytes.
 pub record RefusedKnown (limits : Allowance) (before : ℕ) (rest : List ℕ) (offset : ℕ) (reason : Reason) : Type 0 where
@@ -144,6 +144,14 @@ abbrev pub IsNextFlat : {R : Type 0} {read : Ghosts R} → Allowance → Input R
 IsNextFlat limits old new (Ok true) rs = (g : Tree) × Makes limits [] old new g × (rs ≡ rows 0 g)
 IsNextFlat limits old new (Ok false) rs = IsNext limits old new (Ok None)
 IsNextFlat limits old new (Err why) rs = IsNext limits old new (Err why)
+
+-- The tree of these rows, where a geometry was read, or that there is no memory for it; else the same answer.
+abbrev pub IsTreeOf : Result Bool BlobFault → List Row → Result (Option Tree) BlobFault → Type 0
+IsTreeOf (Ok true) rs (Ok (Some g)) = (rows 0 g ≡ rs) × IsValid largest_limits g
+IsTreeOf (Ok true) rs (Ok None) = ⊥
+IsTreeOf (Ok true) rs (Err why) = why ≡ fault.Memory
+IsTreeOf (Ok false) rs answer = answer ≡ Ok None
+IsTreeOf (Err why) rs answer = answer ≡ Err why
 
 -- whether a piece was missing because the reader failed
 abbrev pub halted_by_read : Result Fed Halt → Bool

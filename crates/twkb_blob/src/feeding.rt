@@ -23,6 +23,22 @@ fn take_root(engine: &Engine, flat: &mut Flat, piece: &[u8]) -> Result<Option<us
     take_root_point(flat, engine.limits(), piece)
 }
 
+// Gives bytes to an engine, which its `feed` takes; one byte goes without its loop.
+#[inline(always)]
+fn feed_engine(engine: &mut Engine, flat: &mut Flat, piece: &[u8]) -> Result<(usize, bool), Stop>
+    requires room { count_of engine.old + length piece.now ≤ 2 ^ 63 }
+    ensures limits { allowance_of engine.new ≡ allowance_of engine.old }
+    ensures count { count_of engine.new ≤ count_of engine.old + length piece.now }
+    ensures within { IfOk result (λ fed. fed.0 ≤ length piece.now) }
+    ensures fed { (bs : List ℕ) → StandsAt bs flat.old engine.old → IsFed (allowance_of engine.old) bs piece.now result flat.new engine.new }
+{
+    if piece.len() == 1 {
+        engine.take_item(flat, piece)
+    } else {
+        engine.feed(flat, piece)
+    }
+}
+
 // Gives bytes to an engine, which its `feed` takes; a blob that is a single point leaves it as it was. Takes memory as `feed` does.
 pub(crate) fn feed(
     engine: &mut Engine,
@@ -37,7 +53,7 @@ pub(crate) fn feed(
 {
     match take_root(engine, flat, piece) {
         Ok(Some(used)) => Ok((used, true)),
-        Ok(None) => engine.feed(flat, piece),
+        Ok(None) => feed_engine(engine, flat, piece),
         Err(_) => Err(Stop::Memory),
     }
 }

@@ -1,119 +1,19 @@
 //! The spans of a blob that is read.
-ghost use Rattle.std.specs.Prelude.{◌≡◌, ◌≤◌, ◌<◌, ◌^◌, ◌⊎◌, [], true, false, Ok, Err, length, OnErr};
+ghost use Rattle.std.specs.Prelude.{◌≡◌, ◌<◌, ◌⊎◌, [], true, false, Ok, Err, length, OnErr};
 ghost use Rattle.twkb_io.specs.Taps.{count_failure};
 ghost use Rattle.twkb_io.specs.Inputs.{input_failures, input_tap};
-ghost use Rattle.twkb_grammar.specs.Noting.{no_notes};
-ghost use Rattle.twkb_engine.specs.Standing.{StandsAt, allowance_of, count_of, offset_in};
-ghost use Rattle.twkb_blob.specs.Readers.{PartAhead, halted_by_read, failed_by_read};
-ghost use Rattle.twkb_blob.specs.Located.{IsSpanned, ReadsNoted};
+ghost use Rattle.twkb_blob.specs.Readers.{PartAhead, failed_by_read};
+ghost use Rattle.twkb_blob.specs.Located.{IsSpanned};
 
-use crate::fault::{BlobFault, fault_at};
-use crate::notes::SpanNotes;
-use crate::noting::feed_noted;
+use crate::fault::BlobFault;
 use crate::point::read_point;
-use crate::reading::{Fed, Halt, made_of};
+use crate::reading::read_with_engine;
 use crate::spans::Spans;
 use std::alloc::{AllocError, Global};
 use std::io::Read;
-use twkb_engine::{BlobReason, Engine};
 use twkb_flat::Flat;
 use twkb_io::Input;
 use twkb_tree::Limits;
-
-// Gives the held bytes of an input to an engine, up to the end of a blob, and notes what they tell.
-fn read_piece<R: Read>(
-    input: &mut Input<'_, R>,
-    engine: &mut Engine,
-    flat: &mut Flat,
-    notes: &mut SpanNotes,
-    start: u64,
-) -> Result<Fed, Halt>
-    requires few { count_of engine.old ≤ 2 ^ 62 }
-    requires begin { start ≤ 2 ^ 62 }
-    ensures same_tap { (input_tap input.new).ghost_name ≡ (input_tap input.old).ghost_name }
-    ensures limits { allowance_of engine.new ≡ allowance_of engine.old }
-    ensures offset { offset_in engine.new ≤ 2 ^ 63 }
-    ensures read { ReadsNoted start input.old input.new result flat.old flat.new engine.old engine.new notes.old notes.new }
-    ensures failures { input_failures input.new ≡ count_failure (halted_by_read result) (input_failures input.old) }
-{
-    if let Err(fault) = input.fill() {
-        return Err(Halt::Device(fault));
-    }
-    // learnt: the input has given at most 2 ^ 62 bytes
-    let _learnt = input.offset();
-    let held = input.held();
-    let count = held.len();
-    if count == 0 {
-        return Ok(Fed::End);
-    }
-    let (used, is_whole) = match feed_noted(engine, flat, notes, start, held) {
-        Ok(taken) => taken,
-        Err(stop) => return Err(Halt::Engine(stop)),
-    };
-    input.advance(used);
-    Ok(made_of(is_whole))
-}
-
-// Reads a blob from an input into a form without rows, with an engine that has read nothing and notes of nothing.
-fn read_noted<R: Read>(
-    input: &mut Input<'_, R>,
-    engine: &mut Engine,
-    flat: &mut Flat,
-    notes: &mut SpanNotes,
-) -> Result<bool, BlobFault>
-    requires stands { StandsAt [] flat.old engine.old }
-    requires no_notes { notes.old ≡ no_notes }
-    ensures same_tap { (input_tap input.new).ghost_name ≡ (input_tap input.old).ghost_name }
-    ensures limits { allowance_of engine.new ≡ allowance_of engine.old }
-    ensures next { IsSpanned (allowance_of engine.old) input.old input.new result flat.new notes.new.spans }
-    ensures memory { result ≡ Err BlobFault.Memory → PartAhead (allowance_of engine.old) [] input.old }
-    ensures failures { input_failures input.new ≡ count_failure (failed_by_read result) (input_failures input.old) }
-{
-    twkb_outline::laws::reading();
-    let start = input.offset();
-    loop {
-        // learnt: the input has given at most 2 ^ 62 bytes
-        let _learnt = input.offset();
-        match read_piece(input, engine, flat, notes, start) {
-            Ok(Fed::More) => {}
-            Ok(Fed::Made) => return Ok(true),
-            Ok(Fed::End) => {
-                if engine.is_between() {
-                    return Ok(false);
-                }
-                let offset = start + engine.offset();
-                let reason = BlobReason::Truncated;
-                return Err(BlobFault::At { offset, reason });
-            }
-            Err(Halt::Device(fault)) => {
-                // learnt: the engine stands behind bytes that it took
-                let _learnt = engine.is_between();
-                return Err(BlobFault::Device(fault));
-            }
-            Err(Halt::Engine(stop)) => return Err(fault_at(start + engine.offset(), stop)),
-        }
-    }
-}
-
-// The same, with a new engine, into notes: a frame of its own, which a blob that is read at once has no part in.
-#[inline(never)]
-fn read_with_engine<R: Read>(
-    input: &mut Input<'_, R>,
-    alloc: Global,
-    limits: Limits,
-    flat: &mut Flat,
-    notes: &mut SpanNotes,
-) -> Result<bool, BlobFault>
-    requires empty { flat.old ≡ [] }
-    ensures same_tap { (input_tap input.new).ghost_name ≡ (input_tap input.old).ghost_name }
-    ensures next { IsSpanned limits input.old input.new result flat.new notes.new.spans }
-    ensures memory { result ≡ Err BlobFault.Memory → PartAhead limits [] input.old }
-    ensures failures { input_failures input.new ≡ count_failure (failed_by_read result) (input_failures input.old) }
-{
-    notes.restart();
-    let mut engine = Engine::new(alloc, limits);
-    read_noted(input, &mut engine, flat, notes)
-}
 
 // Reads a blob that is a single point, where it stands whole in what an input holds, and notes its span; answers whether one does. It
 // takes memory for a row and a span.
@@ -152,28 +52,33 @@ pub(crate) fn read_spans<R: Read>(
     ensures some { result ≡ Ok true → 0 < length flat.new }
     ensures failures { input_failures input.new ≡ count_failure (failed_by_read result) (input_failures input.old) }
 {
-    twkb_tree::laws::nodes_are_rows();
     match read_spanned_point(input, limits, flat, spans) {
         Ok(true) => return Ok(true),
-        Ok(false) => {}
+        Ok(false) => flat.clear(),
         Err(_) => {
             flat.clear();
             spans.clear();
             return Err(BlobFault::Memory);
         }
     }
-    flat.clear();
-    match read_with_engine(input, alloc, limits, flat, &mut spans.notes) {
-        Ok(true) => Ok(true),
-        Ok(false) => {
-            flat.clear();
-            spans.clear();
-            Ok(false)
-        }
-        Err(fault) => {
-            flat.clear();
-            spans.clear();
-            Err(fault)
-        }
+    let found = read_with_engine(input, alloc, limits, flat, &mut spans.notes, true);
+    keep_spanned(found, flat, spans)
+}
+
+// Leaves rows in a form, and spans in a list, only where this is the answer that a geometry was read; answers the same.
+fn keep_spanned(
+    found: Result<bool, BlobFault>,
+    flat: &mut Flat,
+    spans: &mut Spans,
+) -> Result<bool, BlobFault>
+    ensures same { result ≡ found }
+    ensures made { found ≡ Ok true → (flat.new ≡ flat.old) × (spans.new ≡ spans.old) }
+    ensures cleared { (found ≡ Ok true) ⊎ ((flat.new ≡ []) × (spans.new ≡ [])) }
+{
+    if let Ok(true) = found {
+        return found;
     }
+    flat.clear();
+    spans.clear();
+    found
 }

@@ -3,7 +3,7 @@ ghost use Rattle.std.specs.Prelude.{◌≡◌, ◌≤◌, ◌<◌, ◌+◌, ◌^
 ghost use Rattle.twkb_tree.specs.Rows.{Row, row_points};
 ghost use Rattle.twkb_grammar.specs.Noting.{note_ends_to};
 ghost use Rattle.twkb_engine.specs.Standing.{allowance_of, count_of, offset_in, open_in, points_in};
-ghost use Rattle.twkb_blob.specs.Located.{TakesNoted};
+ghost use Rattle.twkb_blob.specs.Located.{TakesNoted, TakesPiece};
 
 use crate::notes::SpanNotes;
 use std::alloc::AllocError;
@@ -160,7 +160,7 @@ fn take_noted(
 
 // Gives the held bytes to an engine, up to the end of a blob, and notes what they tell; answers how many were taken, and whether a blob
 // ends behind them.
-pub(crate) fn feed_noted(
+fn feed_noted(
     engine: &mut Engine,
     flat: &mut Flat,
     notes: &mut SpanNotes,
@@ -187,4 +187,28 @@ pub(crate) fn feed_noted(
         }
     }
     Ok((used, false))
+}
+
+// Gives the held bytes to an engine, up to the end of a blob, and notes what they tell where spans are asked for; answers as `feed_noted`.
+pub(crate) fn feed_piece(
+    engine: &mut Engine,
+    flat: &mut Flat,
+    notes: &mut SpanNotes,
+    start: u64,
+    held: &[u8],
+    asked: bool,
+) -> Result<(usize, bool), Stop>
+    requires some { 0 < length held.now }
+    requires room { count_of engine.old + length held.now ≤ 2 ^ 63 }
+    requires begin { start ≤ 2 ^ 62 }
+    ensures limits { allowance_of engine.new ≡ allowance_of engine.old }
+    ensures few { count_of engine.new ≤ count_of engine.old + length held.now }
+    ensures within { IfOk result (λ taken. taken.0 ≤ length held.now) }
+    ensures fed { TakesPiece asked start held.now result flat.old flat.new engine.old engine.new notes.old notes.new }
+{
+    if asked {
+        feed_noted(engine, flat, notes, start, held)
+    } else {
+        engine.feed(flat, held)
+    }
 }

@@ -1,6 +1,6 @@
 //! A blob that is a single point, read at once.
-ghost use Rattle.std.specs.Prelude.{◌≡◌, ◌∷◌, [], true, Ok, None, IfOk, IfSome, OnErr};
-ghost use Rattle.twkb_io.specs.Inputs.{input_failures, input_tap};
+ghost use Rattle.std.specs.Prelude.{◌≡◌, ◌∷◌, [], true, false, Ok, None, IfOk, IfSome, OnErr};
+ghost use Rattle.twkb_io.specs.Inputs.{input_failures, input_tap, is_spent};
 ghost use Rattle.twkb_blob.specs.Readers.{PartAhead};
 ghost use Rattle.twkb_blob.specs.Located.{IsSpanned};
 
@@ -12,6 +12,19 @@ use twkb_grammar::Span;
 use twkb_header::TypeByte;
 use twkb_io::Input;
 use twkb_tree::{Kind, Limits};
+
+// Whether an input holds bytes and was not refused. It stays as it is.
+#[inline(always)]
+fn holds_bytes<R: Read>(input: &mut Input<'_, R>) -> bool
+    ensures same { input.new ≡ input.old }
+    ensures live { result ≡ true → is_spent input.new ≡ false }
+{
+    if input.held().is_empty() {
+        return false;
+    }
+    // an input that was refused gives no byte, and one that holds some reads none
+    input.fill().is_ok()
+}
 
 // Reads a blob that is a single point, where it stands whole in what an input holds, into a form, in place of what that holds, and
 // answers its span; `None`, and nothing has left the input, where none does. Its row takes memory.
@@ -27,11 +40,7 @@ pub(crate) fn read_point<R: Read>(
     ensures memory { OnErr result (PartAhead limits [] input.old) }
     ensures failures { input_failures input.new ≡ input_failures input.old }
 {
-    if input.held().is_empty() {
-        return Ok(None);
-    }
-    // an input that was refused gives no byte, and one that holds some reads none
-    if let Err(_) = input.fill() {
+    if !holds_bytes(input) {
         return Ok(None);
     }
     let offset = input.offset();

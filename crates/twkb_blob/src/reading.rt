@@ -1,11 +1,15 @@
 //! A blob that is read into a flat form from the held bytes of an input, as many at once as there are.
-ghost use Rattle.std.specs.Prelude.{◌≡◌, ◌≤◌, ◌<◌, ◌^◌, ◌⊎◌, ℕ, List, [], true, Ok, Err, length};
+ghost use Rattle.std.specs.Prelude.{◌≡◌, ◌≤◌, ◌<◌, ◌^◌, ◌⊎◌, [], true, Ok, Err, length};
 ghost use Rattle.twkb_io.specs.Taps.{count_failure};
 ghost use Rattle.twkb_io.specs.Inputs.{input_failures, input_tap};
 ghost use Rattle.twkb_engine.specs.Standing.{StandsAt, allowance_of, count_of, offset_in};
-ghost use Rattle.twkb_blob.specs.Readers.{IsRead, IsNextFlat, PartAhead, fed_as, halted_by_read, failed_by_read};
+ghost use Rattle.twkb_grammar.specs.Noting.{no_notes};
+ghost use Rattle.twkb_blob.specs.Readers.{IsNextFlat, PartAhead, fed_as, halted_by_read, failed_by_read};
+ghost use Rattle.twkb_blob.specs.Located.{IsAsked, ReadsPiece};
 
 use crate::fault::{BlobFault, fault_at};
+use crate::notes::SpanNotes;
+use crate::noting::feed_piece;
 use crate::point::read_point;
 use std::alloc::Global;
 use std::io::Read;
@@ -15,7 +19,6 @@ use twkb_io::{InFault, Input};
 use twkb_tree::Limits;
 
 // What the held bytes of an input made.
-#[derive(Clone, Copy)]
 pub(crate) enum Fed {
     // They were used, and more have to follow.
     More,
@@ -26,8 +29,7 @@ pub(crate) enum Fed {
 }
 
 // Why the held bytes of an input made nothing.
-#[derive(Clone, Copy)]
-pub(crate) enum Halt {
+enum Halt {
     // The input gave none.
     Device(InFault),
     // The engine stopped.
@@ -35,23 +37,27 @@ pub(crate) enum Halt {
 }
 
 // What the held bytes made that an engine took.
-pub(crate) fn made_of(is_whole: bool) -> Fed
+fn made_of(is_whole: bool) -> Fed
     ensures { result ≡ fed_as is_whole }
 {
     if is_whole { Fed::Made } else { Fed::More }
 }
 
-// Gives the held bytes of an input to an engine, up to the end of a geometry.
+// Gives the held bytes of an input to an engine, up to the end of a blob, and notes what they tell where spans are asked for.
 fn read_piece<R: Read>(
     input: &mut Input<'_, R>,
     engine: &mut Engine,
     flat: &mut Flat,
+    notes: &mut SpanNotes,
+    start: u64,
+    asked: bool,
 ) -> Result<Fed, Halt>
-    requires { count_of engine.old ≤ 2 ^ 62 }
+    requires few { count_of engine.old ≤ 2 ^ 62 }
+    requires begin { start ≤ 2 ^ 62 }
     ensures same_tap { (input_tap input.new).ghost_name ≡ (input_tap input.old).ghost_name }
     ensures limits { allowance_of engine.new ≡ allowance_of engine.old }
     ensures offset { offset_in engine.new ≤ 2 ^ 63 }
-    ensures read { (bs : List ℕ) → StandsAt bs flat.old engine.old → IsRead (allowance_of engine.old) bs input.old input.new result flat.new engine.new }
+    ensures read { ReadsPiece asked start input.old input.new result flat.old flat.new engine.old engine.new notes.old notes.new }
     ensures failures { input_failures input.new ≡ count_failure (halted_by_read result) (input_failures input.old) }
 {
     if let Err(fault) = input.fill() {
@@ -59,29 +65,33 @@ fn read_piece<R: Read>(
     }
     // learnt: the input has given at most 2 ^ 62 bytes
     let _learnt = input.offset();
-    let piece = input.held();
-    let count = piece.len();
+    let held = input.held();
+    let count = held.len();
     if count == 0 {
         return Ok(Fed::End);
     }
-    let (used, is_whole) = match engine.feed(flat, piece) {
-        Ok(fed) => fed,
+    let (used, is_whole) = match feed_piece(engine, flat, notes, start, held, asked) {
+        Ok(taken) => taken,
         Err(stop) => return Err(Halt::Engine(stop)),
     };
     input.advance(used);
     Ok(made_of(is_whole))
 }
 
-// Reads a blob from an input into a form without rows, with an engine that has read nothing.
+// Reads a blob from an input into a form without rows, with an engine that has read nothing and notes of nothing; notes its spans where
+// they are asked for.
 fn read_blob<R: Read>(
     input: &mut Input<'_, R>,
     engine: &mut Engine,
     flat: &mut Flat,
+    notes: &mut SpanNotes,
+    asked: bool,
 ) -> Result<bool, BlobFault>
-    requires { StandsAt [] flat.old engine.old }
+    requires stands { StandsAt [] flat.old engine.old }
+    requires no_notes { notes.old ≡ no_notes }
     ensures same_tap { (input_tap input.new).ghost_name ≡ (input_tap input.old).ghost_name }
     ensures limits { allowance_of engine.new ≡ allowance_of engine.old }
-    ensures next { IsNextFlat (allowance_of engine.old) input.old input.new result flat.new }
+    ensures next { IsAsked (allowance_of engine.old) asked input.old input.new result flat.new notes.new.spans }
     ensures memory { result ≡ Err BlobFault.Memory → PartAhead (allowance_of engine.old) [] input.old }
     ensures failures { input_failures input.new ≡ count_failure (failed_by_read result) (input_failures input.old) }
 {
@@ -90,7 +100,7 @@ fn read_blob<R: Read>(
     loop {
         // learnt: the input has given at most 2 ^ 62 bytes
         let _learnt = input.offset();
-        match read_piece(input, engine, flat) {
+        match read_piece(input, engine, flat, notes, start, asked) {
             Ok(Fed::More) => {}
             Ok(Fed::Made) => return Ok(true),
             Ok(Fed::End) => {
@@ -111,22 +121,25 @@ fn read_blob<R: Read>(
     }
 }
 
-// The same, with a new engine: a frame of its own, which a blob that is read at once has no part in.
+// The same, with a new engine, into notes in place of what they hold: a frame of its own, which a blob that is read at once has no part in.
 #[inline(never)]
-fn read_with_engine<R: Read>(
+pub(crate) fn read_with_engine<R: Read>(
     input: &mut Input<'_, R>,
     alloc: Global,
     limits: Limits,
     flat: &mut Flat,
+    notes: &mut SpanNotes,
+    asked: bool,
 ) -> Result<bool, BlobFault>
-    requires { flat.old ≡ [] }
+    requires empty { flat.old ≡ [] }
     ensures same_tap { (input_tap input.new).ghost_name ≡ (input_tap input.old).ghost_name }
-    ensures next { IsNextFlat limits input.old input.new result flat.new }
+    ensures next { IsAsked limits asked input.old input.new result flat.new notes.new.spans }
     ensures memory { result ≡ Err BlobFault.Memory → PartAhead limits [] input.old }
     ensures failures { input_failures input.new ≡ count_failure (failed_by_read result) (input_failures input.old) }
 {
+    notes.restart();
     let mut engine = Engine::new(alloc, limits);
-    read_blob(input, &mut engine, flat)
+    read_blob(input, &mut engine, flat, notes, asked)
 }
 
 // Reads a blob from an input into a form, in place of what that holds: a single point at once, all else with an engine. The form has no
@@ -144,7 +157,6 @@ pub(crate) fn read_into<R: Read>(
     ensures some { result ≡ Ok true → 0 < length flat.new }
     ensures failures { input_failures input.new ≡ count_failure (failed_by_read result) (input_failures input.old) }
 {
-    twkb_tree::laws::nodes_are_rows();
     match read_point(input, limits, flat) {
         Ok(Some(_)) => return Ok(true),
         Ok(None) => flat.clear(),
@@ -153,15 +165,20 @@ pub(crate) fn read_into<R: Read>(
             return Err(BlobFault::Memory);
         }
     }
-    match read_with_engine(input, alloc, limits, flat) {
-        Ok(true) => Ok(true),
-        Ok(false) => {
-            flat.clear();
-            Ok(false)
-        }
-        Err(fault) => {
-            flat.clear();
-            Err(fault)
-        }
+    let mut notes = SpanNotes::new(alloc);
+    let found = read_with_engine(input, alloc, limits, flat, &mut notes, false);
+    keep_made(found, flat)
+}
+
+// Leaves rows in a form only where this is the answer that a geometry was read; answers the same.
+pub(crate) fn keep_made(found: Result<bool, BlobFault>, flat: &mut Flat) -> Result<bool, BlobFault>
+    ensures same { result ≡ found }
+    ensures made { found ≡ Ok true → flat.new ≡ flat.old }
+    ensures cleared { (found ≡ Ok true) ⊎ (flat.new ≡ []) }
+{
+    if let Ok(true) = found {
+        return found;
     }
+    flat.clear();
+    found
 }

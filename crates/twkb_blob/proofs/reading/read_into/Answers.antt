@@ -1,5 +1,7 @@
-use Rattle.std.proofs.Common.{rules}
+use Rattle.std.proofs.Common.{rules, ◌≡◌, false}
 use Rattle.twkb_blob.proofs.Trees.{some_row}
+use Rattle.twkb_blob.proofs.Answering.{rows_kept, some_rows}
+use Rattle.twkb_blob.proofs.Bytes.{rows_asked}
 use Rattle.twkb_blob.proofs.reading.read_into.Goals as goal
 
 pub returns-in-Ok-Some-clause-some : goal.returns-in-Ok-Some-clause-some
@@ -7,19 +9,15 @@ returns-in-Ok-Some-clause-some g c = λ e.
     let (t, has, is) = rw c.in-Ok-Some.field-0-is at c.in-Ok-Some.ensures.made in
     some_row c.read_point.new.flat t is
 
-pub returns-in-Ok-true-clause-some : goal.returns-in-Ok-true-clause-some
-returns-in-Ok-true-clause-some g c = λ e.
-    let (t, made, is) = rw c.in-Ok-true.field-0-test at c.in-Ok-true.ensures.next in
-    some_row c.read_with_engine.new.flat t is
+pub returns-clause-next : goal.returns-clause-next
+returns-clause-next g c =
+    let read = c.read_with_engine-found in
+    let still : c.read_point.new.input ≡ c.args.input.now = search rules in
+    rows_kept c.args.limits c.args.input.now c.read_point.new.input read.new.input read.result c.keep_made.result read.new.flat c.keep_made.new.flat still
+    (rows_asked c.args.limits false c.read_point.new.input read.new.input read.result read.new.flat read.new.notes.spans read.ensures.next) c.keep_made.ensures.same c.keep_made.ensures.made
 
-pub returns-in-Err-read_with_engine-clause-cleared : goal.returns-in-Err-read_with_engine-clause-cleared
-returns-in-Err-read_with_engine-clause-cleared g c = search rules
+pub returns-clause-some : goal.returns-clause-some
+returns-clause-some g c = some_rows c.args.limits c.args.input.now c.read_with_engine-found.new.input c.keep_made.result c.keep_made.new.flat (returns-clause-next g c)
 
-pub returns-in-Ok-true-clause-next : goal.returns-in-Ok-true-clause-next
-returns-in-Ok-true-clause-next g c = search rules
-
-pub returns-in-Ok-true-clause-cleared : goal.returns-in-Ok-true-clause-cleared
-returns-in-Ok-true-clause-cleared g c = search rules
-
-pub returns-in-Ok-true-clause-failures : goal.returns-in-Ok-true-clause-failures
-returns-in-Ok-true-clause-failures g c = search rules
+pub returns-clause-failures : goal.returns-clause-failures
+returns-clause-failures g c = search rules
