@@ -14,3 +14,6 @@ pub mod Counts
 pub mod PointSpans
 pub mod WholePoints
 pub mod Rooted
+pub mod Handed
+pub mod Onward
+pub mod Abreast

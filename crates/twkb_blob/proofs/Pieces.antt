@@ -102,7 +102,7 @@ module _ {R : Type 0} {read : Ghosts R} where
       subst (λ m. IsRead limits bs a c (Ok m) rs d) (sym told) (made_read limits bs held a b c used rs d keeps same is loses counted live h)
 
   -- a fill loses nothing
-  left_none : (a b : Input R read) → Keeps (rest_of a) (rest_of b) → given b ≡ given a → Left a b []
+  pub left_none : (a b : Input R read) → Keeps (rest_of a) (rest_of b) → given b ≡ given a → Left a b []
   left_none a b keeps same = record { consumed = kept_all (rest_of a) (rest_of b) keeps; counted = omega (arith, same) }
 
   -- a tap that an advance leaves as it was keeps the name that a fill left
