@@ -8,3 +8,4 @@ mod readers;
 mod rows;
 mod sessions;
 mod texts;
+mod through;

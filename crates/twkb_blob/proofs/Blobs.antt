@@ -43,7 +43,7 @@ cut_after limits (Some xs) (Some ys) bs before start within reason same loses en
     record { within = within; first = subst (λ l. FirstFault limits l within reason) all h; place = ap (λ n. n + within) same }
 
 -- more than 2^62 bytes behind some are more with them
-long_after : (a b : Option (List ℕ)) (bs : List ℕ) (before given_now : ℕ) → Consumes a b bs → given_now ≡ before + length bs → IfSome b (λ rest. 2 ^ 62 < given_now + length rest) → IfSome a (λ rest. 2 ^ 62 < before + length rest)
+pub long_after : (a b : Option (List ℕ)) (bs : List ℕ) (before given_now : ℕ) → Consumes a b bs → given_now ≡ before + length bs → IfSome b (λ rest. 2 ^ 62 < given_now + length rest) → IfSome a (λ rest. 2 ^ 62 < before + length rest)
 long_after None b bs before given_now loses e h = tt
 long_after (Some xs) None bs before given_now loses e h = absurd loses
 long_after (Some xs) (Some ys) bs before given_now loses e h = omega (arith, h, e, ap length loses, length-append bs ys)
@@ -76,7 +76,7 @@ module _ {R : Type 0} {read : Ghosts R} where
   }
 
   -- the same, where none leaves at last
-  left_still : (a b c : Input R read) (bs : List ℕ) → Left a b bs → Left b c [] → Left a c bs
+  pub left_still : (a b c : Input R read) (bs : List ℕ) → Left a b bs → Left b c [] → Left a c bs
   left_still a b c bs first none = subst (λ l. Left a c l) (append-nil bs) (left_join a b c bs [] first none)
 
   -- the input ended between two blobs

@@ -15,3 +15,6 @@ pub mod Counts
 pub mod PointSpans
 pub mod WholePoints
 pub mod Rooted
+pub mod Handed
+pub mod Onward
+pub mod Abreast

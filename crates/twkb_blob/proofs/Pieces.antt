@@ -67,7 +67,7 @@ module _ {R : Type 0} {read : Ghosts R} where
   left_after a b c bytes keeps same loses counted = record { consumed = kept_consumes (rest_of a) (rest_of b) (rest_of c) bytes keeps loses; counted = omega (arith, same, counted) }
 
   -- a fill loses nothing
-  left_none : (a b : Input R read) → Keeps (rest_of a) (rest_of b) → given b ≡ given a → Left a b []
+  pub left_none : (a b : Input R read) → Keeps (rest_of a) (rest_of b) → given b ≡ given a → Left a b []
   left_none a b keeps same = record { consumed = kept_all (rest_of a) (rest_of b) keeps; counted = omega (arith, same) }
 
   -- a tap that an advance leaves as it was keeps the name that a fill left

@@ -2,3 +2,4 @@ pub mod Faults
 pub mod Sessions
 pub mod Readers
 pub mod Located
+pub mod Through

@@ -15,6 +15,7 @@ mod root;
 mod session;
 mod spans;
 mod state;
+mod through;
 
 pub use fault::BlobFault;
 pub use reader::Reader;

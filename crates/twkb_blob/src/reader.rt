@@ -1,5 +1,6 @@
 //! The blobs of an input, one after another.
-ghost use Rattle.std.specs.Prelude.{◌≡◌, ◌<◌, ◌↔◌, ◌⊎◌, [], length, true, false, Ok, Err, None, IfOk, IfSome, is_err};
+ghost use Rattle.std.specs.Prelude.{◌≡◌, ◌<◌, ◌↔◌, ◌⊎◌, ℕ, List, [], length, true, false, Ok, Err, None, IfOk, IfSome, is_err};
+ghost use Rattle.twkb_tree.specs.Tree.{Tree};
 ghost use Rattle.twkb_io.specs.Taps.{count_failure};
 ghost use Rattle.twkb_io.specs.Inputs.{input_failures, input_tap};
 
@@ -7,8 +8,10 @@ use crate::fault::BlobFault;
 use crate::located::read_spans;
 use crate::made::{read_located, read_tree};
 use crate::reading::read_into;
+use crate::session::Session;
 use crate::spans::{Located, Spans};
 use crate::state::{State, state_behind, state_past};
+use crate::through::read_through;
 use std::alloc::Global;
 use std::io::Read;
 use twkb_flat::Flat;
@@ -26,6 +29,8 @@ pub struct Reader<'a, R: Read> {
 impl<'a, R: Read> Reader<'a, R> {
     ghost use Rattle.twkb_blob.specs.Readers.{reader_input, reader_limits, is_spent, has_ended, IsNext, IsNextFlat, PartAhead, failed_by_read};
     ghost use Rattle.twkb_blob.specs.Located.{IsLocated, IsSpanned};
+    ghost use Rattle.twkb_blob.specs.Sessions.{Stands, is_spent as is_finished, session_limits, session_rows};
+    ghost use Rattle.twkb_blob.specs.Through.{IsAbreast, IsThrough};
 
     /// A reader of what the input still has. Takes no memory.
     pub fn new(input: Input<'a, R>, limits: Limits) -> Reader<'a, R>
@@ -99,6 +104,47 @@ impl<'a, R: Read> Reader<'a, R> {
             }
         }
         let found = read_into(&mut self.input, alloc, self.limits, flat);
+        self.state = state_past(found);
+        found
+    }
+
+    /// Reads the next geometry, as `next_flat` does, through a session, which is fed what the input holds, keeps its room from blob to blob,
+    /// and lends the rows (`Session::flat`); it answers whether there was one. The limits are the session's, and an offset counts from its
+    /// start: a new session of the reader's limits, at a new input, has those of `next_flat`. At the input's end the session is finished, and
+    /// after a false and after an `Err` it has no rows and takes no further byte. Takes memory as `Session::feed_flat` does.
+    pub fn next_through(&mut self, session: &mut Session) -> Result<bool, BlobFault>
+        ensures same_tap { (input_tap (reader_input self.new)).ghost_name ≡ (input_tap (reader_input self.old)).ghost_name }
+        ensures limits { reader_limits self.new ≡ reader_limits self.old }
+        ensures next { IsAbreast (reader_limits self.old) (reader_input self.old) session.old → is_spent self.old ≡ false → has_ended self.old ≡ false → IsNextFlat (reader_limits self.old) (reader_input self.old) (reader_input self.new) result (session_rows session.new) }
+        ensures memory { IsAbreast (reader_limits self.old) (reader_input self.old) session.old → result ≡ Err BlobFault.Memory → PartAhead (reader_limits self.old) [] (reader_input self.old) }
+        ensures failures { input_failures (reader_input self.new) ≡ count_failure (failed_by_read result) (input_failures (reader_input self.old)) }
+        ensures cleared { (result ≡ Ok true) ⊎ (session_rows session.new ≡ []) }
+        ensures some { IsAbreast (reader_limits self.old) (reader_input self.old) session.old → result ≡ Ok true → 0 < length (session_rows session.new) }
+
+        ensures through { (bytes : List ℕ) (gs : List Tree) → Stands bytes gs session.old → is_spent self.old ≡ false → has_ended self.old ≡ false → IsThrough (session_limits session.old) bytes gs (reader_input self.old) (reader_input self.new) result session.new }
+        ensures abreast { IsAbreast (reader_limits self.old) (reader_input self.old) session.old → result ≡ Ok true → IsAbreast (reader_limits self.old) (reader_input self.new) session.new }
+        ensures session_limits { session_limits session.new ≡ session_limits session.old }
+        ensures finished { (result ≡ Ok true) ⊎ (is_finished session.new ≡ true) }
+
+        ensures spent { is_spent self.old ≡ true → result ≡ Err BlobFault.Spent }
+        ensures stays { is_spent self.new ≡ is_err result }
+        ensures unchanged { is_spent self.old ≡ true → self.new ≡ self.old }
+        ensures end { result ≡ Ok false → has_ended self.new ≡ true }
+        ensures going_on { result ≡ Ok true → has_ended self.new ≡ false }
+        ensures for_good { has_ended self.old ≡ true → (result ≡ Ok false) × (self.new ≡ self.old) }
+    {
+        match self.state {
+            State::Ready => {}
+            State::Ended => {
+                session.give_up();
+                return Ok(false);
+            }
+            State::Spent => {
+                session.give_up();
+                return Err(BlobFault::Spent);
+            }
+        }
+        let found = read_through(&mut self.input, session);
         self.state = state_past(found);
         found
     }

@@ -4,6 +4,7 @@ ghost use Rattle.twkb_tree.specs.Tree.{Tree};
 ghost use Rattle.twkb_tree.specs.Rows.{rows};
 ghost use Rattle.twkb_tree.specs.Limits.{IsValid, largest_limits};
 ghost use Rattle.twkb_engine.specs.Standing.{count_of, held_in, open_in};
+ghost use Rattle.twkb_blob.specs.Readers.{failed_by_read};
 
 use crate::fault::{BlobFault, fault_at};
 use crate::feeding::feed;
@@ -89,11 +90,13 @@ impl Session {
         }
     }
 
-    // Has each further call answer `Spent`.
-    fn give_up(&mut self)
+    // Has each further call answer `Spent`, and clears the form.
+    pub(crate) fn give_up(&mut self)
         ensures spent { self.new.spent ≡ true }
         ensures engine { self.new.engine ≡ self.old.engine }
+        ensures rows { session_rows self.new ≡ [] }
     {
+        self.flat.clear();
         self.spent = true;
     }
 
@@ -101,6 +104,8 @@ impl Session {
     /// call. Calls of it and of `feed` may be mixed. It takes memory for what it keeps, and none once that has room.
     pub fn feed_flat(&mut self, piece: &[u8]) -> Result<(usize, bool), BlobFault>
         ensures fed { (bytes : List ℕ) (gs : List Tree) → Stands bytes gs self.old → FedFlat bytes gs piece.now result self.new }
+        ensures within { IfOk result (λ fed. fed.0 ≤ length piece.now) }
+        ensures unread { failed_by_read result ≡ false }
         ensures spent { (result ≡ Err BlobFault.Spent) ↔ (is_spent self.old ≡ true) }
         ensures stays { is_spent self.new ≡ is_err result }
         ensures limits { session_limits self.new ≡ session_limits self.old }
@@ -161,6 +166,8 @@ impl Session {
 
     /// The stream ends here: `Ok` between two blobs, else `Truncated`. Afterwards each call answers `Spent`. Takes no memory.
     pub fn finish(&mut self) -> Result<(), BlobFault>
+        ensures unread { failed_by_read result ≡ false }
+        ensures limits { session_limits self.new ≡ session_limits self.old }
         ensures finished { (bytes : List ℕ) (gs : List Tree) → Stands bytes gs self.old → Finished (session_limits self.old) bytes gs result }
         ensures spent { (result ≡ Err BlobFault.Spent) ↔ (is_spent self.old ≡ true) }
         ensures stays { is_spent self.new ≡ true }

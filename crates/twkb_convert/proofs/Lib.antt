@@ -18,3 +18,4 @@ pub mod RefusedLemmas
 pub mod ShownLemmas
 pub mod PartsLemmas
 pub mod FlushLemmas
+pub mod SessionLemmas

@@ -10,7 +10,10 @@ use Rattle.twkb_io.specs.declared.output.OutFault.TheVariants as out
 use Rattle.twkb_io.specs.declared.input.InFault.TheVariants as input
 use Rattle.twkb_tree.specs.Limits.{Allowance}
 use Rattle.twkb_convert.specs.BlobReading.{GaveOnly, GivesBlob, Misses, RefusesBlob, Used, given, limits_of, reader_failures, reader_tap, rest_of, told_of}
+use Rattle.twkb_blob.specs.Readers.{reader_input}
+use Rattle.twkb_blob.specs.Through.{IsAbreast}
 use Rattle.twkb_blob.specs.declared.reader.Reader.{Reader}
+use Rattle.twkb_blob.specs.declared.session.Session.{Session}
 use Rattle.twkb_blob.specs.declared.fault.BlobFault.{BlobFault}
 use Rattle.twkb_blob.specs.declared.fault.BlobFault.TheVariants as blob
 use Rattle.twkb_blob.specs.declared.spans.Located.{Located}
@@ -18,6 +21,7 @@ use Rattle.twkb_convert.specs.Fronts.{FrontOfText}
 use Rattle.twkb_convert.specs.LocatedBlobs.{LocatedStream}
 use Rattle.twkb_convert.specs.Listings.{blob_text, blobs_text}
 use Rattle.twkb_convert.specs.declared.listing.Listing.{Listing}
+use Rattle.twkb_convert.specs.declared.listing.Listing.TheVariants as listing
 use Rattle.twkb_convert.specs.declared.obstacle.StreamObstacle.{StreamObstacle}
 use Rattle.twkb_convert.specs.declared.obstacle.StreamObstacle.TheVariants as obstacle
 use Rattle.twkb_convert.specs.declared.obstacle.Unfinished.{Unfinished}
@@ -62,6 +66,11 @@ pub record StopsRead {R : Type 0} {read : Ghosts R} (from : Reader R read) (why 
   pub has_failed : Bool
   pub follows : Follows from to has_failed
   pub told : (has_failed ≡ is_read why) ⊎ (is_write why ≡ true)
+
+-- Where a table is written, the session reads what the reader reads: it stands between two blobs, behind as many bytes.
+abbrev pub IsReady : {R : Type 0} {read : Ghosts R} → Listing → Reader R read → Session → Type 0
+IsReady listing.Table reader s = IsAbreast (limits_of reader) (reader_input reader) s
+IsReady listing.Headers reader s = ⊤
 
 -- No bytes are left for another blob.
 pub record EndsBlobs {R : Type 0} {read : Ghosts R} (remaining : R → Option (List ℕ)) (from to : Reader R read) : Type 0 where

@@ -3,29 +3,33 @@ ghost use Rattle.std.specs.Prelude.{◌≡◌, false, true, IfOk, IfErr, OnOk};
 ghost use Rattle.twkb_io.specs.Outputs as Outputs;
 ghost use Rattle.twkb_io.specs.Taps.{has_unflushed};
 ghost use Rattle.twkb_blob.specs.Readers.{has_ended, is_spent};
-ghost use Rattle.twkb_convert.specs.BlobReading.{is_input_spent};
+ghost use Rattle.twkb_convert.specs.BlobReading.{given, is_input_spent, limits_of};
 ghost use Rattle.twkb_convert.specs.Listings.{blobs_text, listing_text};
-ghost use Rattle.twkb_convert.specs.BlobSending.{CutText, EndsBlobs, Follows, IsEnded, SentBlob, SentText, StopsBlob, StopsRead, UnlessOutput};
+ghost use Rattle.twkb_convert.specs.BlobSending.{CutText, EndsBlobs, Follows, IsEnded, IsReady, SentBlob, SentText, StopsBlob, StopsRead, UnlessOutput};
 
 use crate::blob_text::next_text;
 use crate::listing::{Listing, first_text};
 use crate::obstacle::{StreamObstacle, Unfinished};
 use std::alloc::Global;
 use std::io::{Read, Write};
-use twkb_blob::{Reader, Spans};
+use twkb_blob::{Reader, Session, Spans};
 use twkb_flat::Flat;
 use twkb_io::{Output, Sink};
+use twkb_tree::Limits;
 
 // Sends what is written of a stream, and flushes the output where it refused no put.
 pub(crate) fn send_listing_and_flush<R: Read, W: Write>(
     what: Listing,
     alloc: Global,
+    limits: Limits,
     reader: &mut Reader<'_, R>,
     output: &mut Output<'_, W>,
 ) -> Result<u64, Unfinished<StreamObstacle>>
     requires reader { is_spent reader.old ≡ false }
     requires going_on { has_ended reader.old ≡ false }
     requires input { is_input_spent reader.old ≡ false }
+    requires start { given reader.old ≡ 0 }
+    requires limits { limits_of reader.old ≡ limits }
     requires output { Outputs.is_spent output.old ≡ false }
     ensures ok { IfOk result (λ done. SentText (listing_text what) W.contents reader.old output.old output.new done) }
     ensures unfailed { IfOk result (λ done. Follows reader.old reader.new false × IsEnded R.remaining reader.old reader.new) }
@@ -34,7 +38,7 @@ pub(crate) fn send_listing_and_flush<R: Read, W: Write>(
     ensures flushed { OnOk result (has_unflushed (Outputs.output_tap output.new).now ≡ false) }
     ensures stop_flushed { IfErr result (λ stop. UnlessOutput stop.why (has_unflushed (Outputs.output_tap output.new).now ≡ false)) }
 {
-    let done = match send_listing(what, alloc, reader, output) {
+    let done = match send_listing(what, alloc, limits, reader, output) {
         Ok(done) => done,
         Err(stop) => {
             if let StreamObstacle::Output(_) = stop.why {
@@ -62,12 +66,15 @@ pub(crate) fn send_listing_and_flush<R: Read, W: Write>(
 fn send_listing<R: Read, W: Write>(
     what: Listing,
     alloc: Global,
+    limits: Limits,
     reader: &mut Reader<'_, R>,
     output: &mut Output<'_, W>,
 ) -> Result<u64, Unfinished<StreamObstacle>>
     requires reader { is_spent reader.old ≡ false }
     requires going_on { has_ended reader.old ≡ false }
     requires input { is_input_spent reader.old ≡ false }
+    requires start { given reader.old ≡ 0 }
+    requires limits { limits_of reader.old ≡ limits }
     requires output { Outputs.is_spent output.old ≡ false }
     ensures ok { IfOk result (λ done. SentText (listing_text what) W.contents reader.old output.old output.new done) }
     ensures unfailed { IfOk result (λ done. Follows reader.old reader.new false × IsEnded R.remaining reader.old reader.new) }
@@ -75,7 +82,7 @@ fn send_listing<R: Read, W: Write>(
     ensures stops { IfErr result (λ stop. StopsRead reader.old stop.why reader.new) }
 {
     match output.put(first_text(what)) {
-        Ok(()) => send_blobs(what, alloc, reader, output),
+        Ok(()) => send_blobs(what, alloc, limits, reader, output),
         Err(fault) => Err(Unfinished {
             done: 0,
             why: StreamObstacle::Output(fault),
@@ -87,12 +94,15 @@ fn send_listing<R: Read, W: Write>(
 fn send_blobs<R: Read, W: Write>(
     what: Listing,
     alloc: Global,
+    limits: Limits,
     reader: &mut Reader<'_, R>,
     output: &mut Output<'_, W>,
 ) -> Result<u64, Unfinished<StreamObstacle>>
     requires reader { is_spent reader.old ≡ false }
     requires going_on { has_ended reader.old ≡ false }
     requires input { is_input_spent reader.old ≡ false }
+    requires start { given reader.old ≡ 0 }
+    requires limits { limits_of reader.old ≡ limits }
     requires output { Outputs.is_spent output.old ≡ false }
     ensures ok { IfOk result (λ done. SentText (blobs_text what) W.contents reader.old output.old output.new done) }
     ensures unfailed { IfOk result (λ done. Follows reader.old reader.new false × IsEnded R.remaining reader.old reader.new) }
@@ -100,13 +110,21 @@ fn send_blobs<R: Read, W: Write>(
     ensures stops { IfErr result (λ stop. StopsRead reader.old stop.why reader.new) }
 {
     twkb_grammar::laws::some_byte();
+    let mut session = Session::new(alloc, limits);
     let mut form = Flat::new(alloc);
     let mut spans = Spans::new(alloc);
     let mut text = Vec::new(alloc);
     let mut done = 0;
     loop {
         match send_blob(
-            what, alloc, reader, &mut form, &mut spans, &mut text, output,
+            what,
+            alloc,
+            reader,
+            &mut session,
+            &mut form,
+            &mut spans,
+            &mut text,
+            output,
         ) {
             Ok(true) => done += 1,
             Ok(false) => return Ok(done),
@@ -120,6 +138,7 @@ fn send_blob<R: Read, W: Write>(
     what: Listing,
     alloc: Global,
     reader: &mut Reader<'_, R>,
+    session: &mut Session,
     form: &mut Flat,
     spans: &mut Spans,
     text: &mut Vec<u8>,
@@ -128,17 +147,19 @@ fn send_blob<R: Read, W: Write>(
     requires reader { is_spent reader.old ≡ false }
     requires going_on { has_ended reader.old ≡ false }
     requires input { is_input_spent reader.old ≡ false }
+    requires session { IsReady what reader.old session.old }
     requires output { Outputs.is_spent output.old ≡ false }
     ensures more { IfOk result (λ found. found ≡ true → SentBlob what W.contents reader.old output.old reader.new output.new) }
     ensures fresh { IfOk result (λ found. is_spent reader.new ≡ false) }
     ensures going_on { IfOk result (λ found. found ≡ true → has_ended reader.new ≡ false) }
     ensures input { IfOk result (λ found. found ≡ true → is_input_spent reader.new ≡ false) }
+    ensures session { IfOk result (λ found. found ≡ true → IsReady what reader.new session.new) }
     ensures end { IfOk result (λ found. found ≡ false → EndsBlobs R.remaining reader.old reader.new × (output.new ≡ output.old)) }
     ensures follows { IfOk result (λ found. Follows reader.old reader.new false) }
     ensures err { IfErr result (λ why. StopsBlob what W.contents reader.old output.old why reader.new output.new) }
     ensures stops { IfErr result (λ why. StopsRead reader.old why reader.new) }
 {
-    match next_text(what, alloc, reader, form, spans, text) {
+    match next_text(what, alloc, reader, session, form, spans, text) {
         Ok(true) => {}
         Ok(false) => return Ok(false),
         Err(fault) => return Err(StreamObstacle::Stream(fault)),

@@ -2,22 +2,23 @@
 ghost use Rattle.std.specs.Prelude.{◌≡◌, false, true, IfOk, IfErr};
 ghost use Rattle.twkb_blob.specs.Readers.{has_ended, is_spent};
 ghost use Rattle.twkb_convert.specs.BlobReading.{is_input_spent};
-ghost use Rattle.twkb_convert.specs.BlobSending.{EndsBlobs, Follows, GivesText, StopsText, is_read_stop};
+ghost use Rattle.twkb_convert.specs.BlobSending.{EndsBlobs, Follows, GivesText, IsReady, StopsText, is_read_stop};
 
 use crate::listing::Listing;
 use crate::span_line::put_lines;
 use std::alloc::Global;
 use std::io::Read;
-use twkb_blob::{BlobFault, Reader, Spans};
+use twkb_blob::{BlobFault, Reader, Session, Spans};
 use twkb_flat::{Flat, Work};
 use twkb_table::put_flat_rows;
 
-// Reads the next blob, if there is one, and makes the text what is written of it. Form and list are
-// room for its rows and spans.
+// Reads the next blob, if there is one, and makes the text what is written of it. A table's rows come
+// through the session; form and list are room for the rows and spans of which lines are made.
 pub(crate) fn next_text<R: Read>(
     what: Listing,
     alloc: Global,
     reader: &mut Reader<'_, R>,
+    session: &mut Session,
     form: &mut Flat,
     spans: &mut Spans,
     text: &mut Vec<u8>,
@@ -25,47 +26,50 @@ pub(crate) fn next_text<R: Read>(
     requires reader { is_spent reader.old ≡ false }
     requires going_on { has_ended reader.old ≡ false }
     requires input { is_input_spent reader.old ≡ false }
+    requires session { IsReady what reader.old session.old }
     ensures more { IfOk result (λ found. found ≡ true → GivesText what reader.old reader.new text.new.items) }
     ensures fresh { IfOk result (λ found. is_spent reader.new ≡ false) }
     ensures going_on { IfOk result (λ found. found ≡ true → has_ended reader.new ≡ false) }
     ensures input { IfOk result (λ found. found ≡ true → is_input_spent reader.new ≡ false) }
+    ensures session { IfOk result (λ found. found ≡ true → IsReady what reader.new session.new) }
     ensures end { IfOk result (λ found. found ≡ false → EndsBlobs R.remaining reader.old reader.new) }
     ensures follows { IfOk result (λ found. Follows reader.old reader.new false) }
     ensures err { IfErr result (λ fault. StopsText reader.old fault reader.new) }
     ensures stops { IfErr result (λ fault. Follows reader.old reader.new (is_read_stop fault)) }
 {
     match what {
-        Listing::Table => next_rows(alloc, reader, form, text),
+        Listing::Table => next_rows(reader, session, text),
         Listing::Headers => next_lines(alloc, reader, form, spans, text),
     }
 }
 
-// Makes the text that of the rows of the next blob's geometry.
+// Makes the text that of the rows of the next blob's geometry, which the session lends.
 fn next_rows<R: Read>(
-    alloc: Global,
     reader: &mut Reader<'_, R>,
-    form: &mut Flat,
+    session: &mut Session,
     text: &mut Vec<u8>,
 ) -> Result<bool, BlobFault>
     requires reader { is_spent reader.old ≡ false }
     requires going_on { has_ended reader.old ≡ false }
     requires input { is_input_spent reader.old ≡ false }
+    requires session { IsReady Listing.Table reader.old session.old }
     ensures more { IfOk result (λ found. found ≡ true → GivesText Listing.Table reader.old reader.new text.new.items) }
     ensures fresh { IfOk result (λ found. is_spent reader.new ≡ false) }
     ensures going_on { IfOk result (λ found. found ≡ true → has_ended reader.new ≡ false) }
     ensures input { IfOk result (λ found. found ≡ true → is_input_spent reader.new ≡ false) }
+    ensures session { IfOk result (λ found. found ≡ true → IsReady Listing.Table reader.new session.new) }
     ensures end { IfOk result (λ found. found ≡ false → EndsBlobs R.remaining reader.old reader.new) }
     ensures follows { IfOk result (λ found. Follows reader.old reader.new false) }
     ensures err { IfErr result (λ fault. StopsText reader.old fault reader.new) }
     ensures stops { IfErr result (λ fault. Follows reader.old reader.new (is_read_stop fault)) }
 {
-    match reader.next_flat(alloc, form) {
+    match reader.next_through(session) {
         Ok(true) => {}
         Ok(false) => return Ok(false),
         Err(fault) => return Err(fault),
     }
     text.clear();
-    if put_flat_rows(form, &mut Work::new(), text).is_err() {
+    if put_flat_rows(session.flat(), &mut Work::new(), text).is_err() {
         return Err(BlobFault::Memory);
     }
     Ok(true)

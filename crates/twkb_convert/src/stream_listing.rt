@@ -30,7 +30,7 @@ pub(crate) fn list_stream<R: Read, W: Write>(
 {
     let mut output = Output::new(writer);
     let mut blobs = Reader::new(Input::new(reader), limits);
-    let listing = send_listing_and_flush(what, alloc, &mut blobs, &mut output);
+    let listing = send_listing_and_flush(what, alloc, limits, &mut blobs, &mut output);
     let sent = output.sent();
     match listing {
         Ok(done) => Ok(Report {

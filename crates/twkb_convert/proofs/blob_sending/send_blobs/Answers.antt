@@ -1,6 +1,7 @@
 use Rattle.std.proofs.Common.{◌∙◌, refl, arith, rules}
 use Rattle.twkb_convert.proofs.BlobsSent.{cut_blobs, follows_trans, sent_more, sent_none}
 use Rattle.twkb_convert.proofs.LocatedLemmas.{located_long}
+use Rattle.twkb_convert.proofs.SessionLemmas.{ready_first}
 use Rattle.twkb_convert.proofs.blob_sending.send_blobs.Goals as goal
 
 pub loop-done-init : goal.loop-done-init
@@ -10,6 +11,7 @@ loop-done-init g c = record {
   reader = c.requires.reader;
   going_on = c.requires.going_on;
   input = c.requires.input;
+  session = ready_first c.args.what c.args.reader.now c.new-session.result c.args.limits c.new-session.ensures.stands c.new-session.ensures.limits c.requires.limits c.requires.start;
   output = c.requires.output;
 }
 
@@ -33,6 +35,7 @@ loop-done-preserved g c =
       reader = c.in-Ok-true.ensures.fresh;
       going_on = c.in-Ok-true.ensures.going_on (search rules);
       input = c.in-Ok-true.ensures.input (search rules);
+      session = c.in-Ok-true.ensures.session (search rules);
       output = one.took.spent ∙ kept.output;
     }
 

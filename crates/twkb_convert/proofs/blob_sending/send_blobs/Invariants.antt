@@ -2,7 +2,7 @@ use Rattle.std.proofs.Common.{◌≡◌, ◌-◌, ◌^◌, false}
 use Rattle.twkb_io.specs.Outputs as Outputs
 use Rattle.twkb_blob.specs.Readers.{has_ended, is_spent}
 use Rattle.twkb_convert.specs.BlobReading.{given, is_input_spent}
-use Rattle.twkb_convert.specs.BlobSending.{Follows, SentBlobs}
+use Rattle.twkb_convert.specs.BlobSending.{Follows, IsReady, SentBlobs}
 use Rattle.twkb_convert.proofs.blob_sending.send_blobs.Given as goal
 
 -- the texts of the blobs so far were sent, and nothing was refused
@@ -14,6 +14,7 @@ invariant-loop-done g l =
       reader : is_spent l.reader ≡ false;
       going_on : has_ended l.reader ≡ false;
       input : is_input_spent l.reader ≡ false;
+      session : IsReady l.what l.reader l.session;
       output : Outputs.is_spent l.output ≡ false;
     }
 

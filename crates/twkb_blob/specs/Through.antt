@@ -1,0 +1,95 @@
+-- What an input and a session are behind a blob of the input that was read through the session.
+use Rattle.std.specs.Prelude.{ℕ, ◌≡◌, ◌<◌, ◌⊎◌, List, [], ◌∷◌, ◌++◌, length, Bool, true, false, IfSome, Result, Ok, Err}
+use Rattle.std.specs.Io.KnownBytes.{IsAtEnd}
+use Rattle.std.specs.declared.io.traits.Read.{Ghosts}
+use Rattle.twkb_tree.specs.Tree.{Tree}
+use Rattle.twkb_tree.specs.Rows.{rows}
+use Rattle.twkb_tree.specs.Limits.{Allowance}
+use Rattle.twkb_grammar.specs.Blob.{Stream}
+use Rattle.twkb_grammar.specs.Fault.{StreamFault}
+use Rattle.twkb_io.specs.declared.input.Input.{Input}
+use Rattle.twkb_io.specs.declared.input.InFault.{InFault}
+use Rattle.twkb_io.specs.declared.input.InFault.TheVariants as stopped
+use Rattle.twkb_io.specs.Inputs.{given, rest_of, is_spent as input_spent}
+use Rattle.twkb_engine.specs.Stops.{reason_of}
+use Rattle.twkb_blob.specs.Readers.{Left, IsFull, told_by}
+use Rattle.twkb_blob.specs.Sessions.{AreBegun, PartAt, Stands, session_limits, session_rows}
+use Rattle.twkb_blob.specs.declared.fault.BlobFault.{BlobFault}
+use Rattle.twkb_blob.specs.declared.fault.BlobFault.TheVariants as fault
+use Rattle.twkb_blob.specs.declared.reading.Fed.{Fed}
+use Rattle.twkb_blob.specs.declared.reading.Fed.TheVariants as piece
+use Rattle.twkb_blob.specs.declared.session.Session.{Session}
+
+-- A session of these limits stands between two blobs, behind as many bytes as the input gave out.
+pub record IsAbreast {R : Type 0} {read : Ghosts R} (limits : Allowance) (input : Input R read) (s : Session) : Type 0 where
+  pub bytes : List ℕ
+  pub gs : List Tree
+  pub stands : Stands bytes gs s
+  pub blobs : Stream limits bytes gs
+  pub same_limits : session_limits s ≡ limits
+  pub as_many : given input ≡ length bytes
+
+-- Bytes left the input, and with them the bytes before are a stream of one geometry more, for which the session stands, and whose rows it has.
+pub record GoesOn {R : Type 0} {read : Ghosts R} (limits : Allowance) (bytes : List ℕ) (gs : List Tree) (old new : Input R read) (s : Session) : Type 0 where
+  pub geometry : Tree
+  pub more : List ℕ
+  pub left : Left old new more
+  pub blobs : Stream limits (bytes ++ more) (gs ++ geometry ∷ [])
+  pub stands : Stands (bytes ++ more) (gs ++ geometry ∷ []) s
+  pub made : session_rows s ≡ rows 0 geometry
+  pub unspent : input_spent new ≡ false
+
+-- Bytes left the input, and the session stands for them behind the bytes before.
+pub record FedSoFar {R : Type 0} {read : Ghosts R} (bytes : List ℕ) (gs : List Tree) (old new : Input R read) (s : Session) : Type 0 where
+  pub more : List ℕ
+  pub left : Left old new more
+  pub stands : Stands (bytes ++ more) gs s
+  pub live : input_spent new ≡ true → input_spent old ≡ true
+
+-- All bytes left the input, and with the bytes before they are a stream.
+pub record EndsAll {R : Type 0} {read : Ghosts R} (limits : Allowance) (bytes : List ℕ) (gs : List Tree) (old new : Input R read) : Type 0 where
+  pub more : List ℕ
+  pub left : Left old new more
+  pub all : IfSome (rest_of old) (λ rest. rest ≡ more)
+  pub blobs : Stream limits (bytes ++ more) gs
+
+-- why an input gave no further byte: its reader failed and no byte was held; it has more than 2^62 bytes; or it was refused before
+abbrev pub HasNone : {R : Type 0} {read : Ghosts R} → InFault → Input R read → Input R read → Type 0
+HasNone stopped.Read old new = rest_of new ≡ told_by new
+HasNone stopped.TooLong old new = IsFull old new
+HasNone stopped.Spent old new = input_spent old ≡ true
+
+-- It gave none, and lost none, and the session stands as it did.
+pub record HaltsHere {R : Type 0} {read : Ghosts R} (bytes : List ℕ) (gs : List Tree) (why : InFault) (old new : Input R read) (s : Session) : Type 0 where
+  pub left : Left old new []
+  pub none : HasNone why old new
+  pub stands : Stands bytes gs s
+
+-- The input gave no byte behind some, and with the bytes before these are whole blobs, or cut inside a further one.
+pub record HaltsWithin {R : Type 0} {read : Ghosts R} (limits : Allowance) (bytes : List ℕ) (gs : List Tree) (why : InFault) (old new : Input R read) : Type 0 where
+  pub more : List ℕ
+  pub left : Left old new more
+  pub begun : AreBegun limits (bytes ++ more) gs
+  pub none : HasNone why old new
+
+-- that, or the session takes no further byte, since it took more than the input gave out
+abbrev pub Halts : {R : Type 0} {read : Ghosts R} → Allowance → List ℕ → List Tree → InFault → Input R read → Input R read → Type 0
+Halts limits bytes gs why old new = HaltsWithin limits bytes gs why old new ⊎ ((why ≡ stopped.TooLong) × (given old < length bytes))
+
+-- A session that stood for these bytes and geometries read a further geometry; or all bytes are a stream; or there was no memory for a part
+-- that ends in what is known of the rest; or the input gave no byte; or with the rest the bytes have a first fault.
+abbrev pub IsThrough : {R : Type 0} {read : Ghosts R} → Allowance → List ℕ → List Tree → Input R read → Input R read → Result Bool BlobFault → Session → Type 0
+IsThrough limits bytes gs old new (Ok true) s = GoesOn limits bytes gs old new s
+IsThrough limits bytes gs old new (Ok false) s = EndsAll limits bytes gs old new
+IsThrough limits bytes gs old new (Err fault.Memory) s = IfSome (rest_of old) (λ rest. PartAt limits bytes gs rest)
+IsThrough limits bytes gs old new (Err (fault.Device why)) s = Halts limits bytes gs why old new
+IsThrough limits bytes gs old new (Err fault.Spent) s = ⊥
+IsThrough limits bytes gs old new (Err (fault.At offset reason)) s = IfSome (rest_of old) (λ rest. StreamFault limits (bytes ++ rest) gs offset (reason_of reason))
+
+-- the same, of the held bytes alone
+abbrev pub IsHanded : {R : Type 0} {read : Ghosts R} → Allowance → List ℕ → List Tree → Input R read → Input R read → Result Fed BlobFault → Session → Type 0
+IsHanded limits bytes gs old new (Ok piece.More) s = FedSoFar bytes gs old new s
+IsHanded limits bytes gs old new (Ok piece.Made) s = GoesOn limits bytes gs old new s
+IsHanded limits bytes gs old new (Ok piece.End) s = IsAtEnd (rest_of old) × Left old new [] × Stands bytes gs s
+IsHanded limits bytes gs old new (Err (fault.Device why)) s = HaltsHere bytes gs why old new s ⊎ ((why ≡ stopped.TooLong) × (given old < length bytes))
+IsHanded limits bytes gs old new (Err why) s = IsThrough limits bytes gs old new (Err why) s
