@@ -10,6 +10,10 @@ mod command;
 #[cfg(test)]
 mod convert;
 #[cfg(test)]
+mod devices;
+#[cfg(test)]
+mod laws;
+#[cfg(test)]
 mod table;
 #[cfg(test)]
-mod telling;
+mod texts;
