@@ -1,6 +1,6 @@
 use Rattle.std.proofs.Common.{◌∙◌, arith, rules}
 use Rattle.examples.proofs.ArrivalsLemmas.{bytes_fewer, bytes_more, few_more}
-use Rattle.examples.proofs.arrivals.count_arrivals.Goals as goal
+use Rattle.examples.proofs.arrivals.count_by.Goals as goal
 
 pub loop-count-smaller : goal.loop-count-smaller
 loop-count-smaller g c =

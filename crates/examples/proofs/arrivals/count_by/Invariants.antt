@@ -2,7 +2,7 @@ use Rattle.std.proofs.Common.{◌≡◌, ◌≤◌, ◌-◌, ◌^◌}
 use Rattle.twkb_tree.specs.Limits.{standard_limits}
 use Rattle.twkb_blob.specs.Sessions.{session_limits}
 use Rattle.examples.proofs.ArrivalsLemmas.{TookBytes}
-use Rattle.examples.proofs.arrivals.count_arrivals.Given as goal
+use Rattle.examples.proofs.arrivals.count_by.Given as goal
 
 -- the bytes so far were taken
 abbrev pub invariant-loop-count : goal.invariant-loop-count
