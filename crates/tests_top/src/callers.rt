@@ -79,7 +79,8 @@ fn packs_a_point(alloc: Global, table: &[u8], stopped: Option<Cause>) -> bool {
         sent: 5,
         stopped,
     };
-    account == due && writer.into_inner().as_slice() == b"\x01\x02\x02\x04\x02".as_slice()
+    let written = writer.into_inner();
+    account == due && written.as_slice() == b"\x01\x02\x02\x04\x02".as_slice()
 }
 
 const POINT: &[u8] = b"depth,kind,id,precision,polyline\n0,point,,0,AC\n";

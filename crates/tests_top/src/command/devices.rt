@@ -1,7 +1,7 @@
 //! Runs over devices that fail: the status, the output before that, and the line. That each call that fails is told is shown of
 //! the conversions (`convert`), which a run carries out.
 use super::{
-    COLLECTION_BLOB, COLLECTION_LINES, COLLECTION_TABLE, POINT_BLOBS, POINT_TABLE, run_over,
+    COLLECTION_BLOB, COLLECTION_LINES, COLLECTION_TABLE, Ended, POINT_BLOBS, POINT_TABLE, run_over,
 };
 use crate::devices::{AMPLE, Failing};
 use std::alloc::Global;
@@ -51,8 +51,20 @@ const SHOWING: Run = Run {
     ..UNPACKING
 };
 
-// Writers that fail, that take no more, and that can't be flushed, also behind a refused row.
-const WRITING: [Run; 10] = [
+// Blobs of two points, of which a read fails behind the first.
+const STREAM: Run = Run {
+    line: "polytwkb unpack",
+    input: POINT_BLOBS,
+    given: 5,
+    output: b"depth,kind,id,precision,polyline\n0,point,,0,AC\n",
+    errors: b"polytwkb: read failed\n",
+    ..PACKING
+};
+
+// Writers that fail, that take no more, and that can't be flushed, also behind a refused row. Readers that fail: of a stream
+// behind its whole blobs, of a table before a row, in it, and behind the last. Last, standard error takes three bytes, or
+// standard output three of help: no status is another.
+const RUNS: [Run; 24] = [
     Run {
         taken: 0,
         output: b"",
@@ -103,20 +115,6 @@ const WRITING: [Run; 10] = [
         output: b"",
         ..PACKING
     },
-];
-
-// Blobs of two points, of which a read fails behind the first.
-const STREAM: Run = Run {
-    line: "polytwkb unpack",
-    input: POINT_BLOBS,
-    given: 5,
-    output: b"depth,kind,id,precision,polyline\n0,point,,0,AC\n",
-    errors: b"polytwkb: read failed\n",
-    ..PACKING
-};
-
-// Readers that fail: of a stream behind its whole blobs, of a table before a row, in it, and behind the last.
-const READING: [Run; 10] = [
     Run {
         given: 4,
         output: b"depth,kind,id,precision,polyline\n",
@@ -167,10 +165,6 @@ const READING: [Run; 10] = [
         output: b"\x01\x02\x02\x04\x02",
         ..STREAM
     },
-];
-
-// Standard error takes three bytes, or standard output three of help: no status is another.
-const UNTOLD: [Run; 4] = [
     Run {
         input: b"",
         told: 3,
@@ -206,7 +200,14 @@ const UNTOLD: [Run; 4] = [
     },
 ];
 
-// Whether a run ends so.
+// Whether a run came to what it should.
+fn is_due(run: &Run, ended: &Ended) -> bool {
+    ended.status == Some(run.status)
+        && ended.output.as_slice() == run.output
+        && ended.errors.as_slice() == run.errors
+}
+
+// Whether it ends so.
 fn ends(alloc: Global, run: &Run) -> bool {
     let failing = Failing {
         given: run.given,
@@ -214,32 +215,18 @@ fn ends(alloc: Global, run: &Run) -> bool {
         end: run.end,
         flush_fails: run.flush_fails,
     };
-    let ended = run_over(alloc, run.line, run.input, failing, run.told);
-    ended.status == Some(run.status)
-        && ended.output.as_slice() == run.output
-        && ended.errors.as_slice() == run.errors
+    is_due(
+        run,
+        &run_over(alloc, run.line, run.input, failing, run.told),
+    )
 }
 
 #[test]
-fn a_writer_that_fails_or_takes_no_more_or_is_not_flushed_ends_with_3(rt: HostRuntime) {
-    for run in &WRITING {
+fn a_device_that_fails_ends_with_3_behind_what_was_whole_and_standard_error_changes_nothing(
+    rt: HostRuntime,
+) {
+    for run in &RUNS {
         let is_right = ends(rt.alloc(), run);
-        assert!(rt; is_right, "{} with {} written", run.line, run.taken);
-    }
-}
-
-#[test]
-fn a_failed_read_ends_with_3_behind_what_was_whole(rt: HostRuntime) {
-    for run in &READING {
-        let is_right = ends(rt.alloc(), run);
-        assert!(rt; is_right, "{} with {} read", run.line, run.given);
-    }
-}
-
-#[test]
-fn a_failure_of_standard_error_or_of_help_changes_no_status(rt: HostRuntime) {
-    for run in &UNTOLD {
-        let is_right = ends(rt.alloc(), run);
-        assert!(rt; is_right, "{}", run.line);
+        assert!(rt; is_right, "{} to {} bytes", run.line, run.output.len());
     }
 }

@@ -1,19 +1,23 @@
 //! Words that are refused, and words that no memory is found for.
-use super::{POINT_TABLE, run_over};
+use super::{Ended, POINT_TABLE, run_over};
 use crate::devices::{AMPLE, SOUND};
 use std::alloc::Global;
 use std::io::ErrorKind;
 use twkb_io::Tap;
 use twkb_request::lack_words;
 
-// Whether a line ends with 2, with a text on standard error alone, which has this in it.
-fn is_refused(alloc: Global, line: &str, named: &str) -> bool {
-    let ended = run_over(alloc, line, POINT_TABLE, SOUND, AMPLE);
+// Whether a run ended with 2, with a text on standard error alone, which has this in it.
+fn names(ended: &Ended, named: &str) -> bool {
     let is_named = match str::from_utf8(&ended.errors) {
         Ok(text) => text.starts_with("error: ") && text.contains(named),
         Err(_) => false,
     };
     ended.status == Some(2) && ended.output.is_empty() && is_named
+}
+
+// Whether a line is refused so.
+fn is_refused(alloc: Global, line: &str, named: &str) -> bool {
+    names(&run_over(alloc, line, POINT_TABLE, SOUND, AMPLE), named)
 }
 
 // Whether a row, a line and behind it what its text names, is refused so.
@@ -60,7 +64,9 @@ fn words_that_are_refused_end_with_2(rt: HostRuntime) {
 // says it.
 fn lacks(alloc: Global, kind: ErrorKind, status: u8, line: &[u8]) -> bool {
     let mut errors = Tap::new(Vec::new(alloc));
-    lack_words(&mut errors, kind) == status && errors.into_inner().as_slice() == line
+    let found = lack_words(&mut errors, kind);
+    let told = errors.into_inner();
+    told.as_slice() == line && found == status
 }
 
 #[test]
