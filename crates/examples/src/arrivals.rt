@@ -1,5 +1,5 @@
 //! Blobs that arrive in pieces, counted.
-ghost use Rattle.std.specs.Prelude.{◌≡◌, ◌≤◌, List, ℕ, length, IfOk};
+ghost use Rattle.std.specs.Prelude.{◌≡◌, ◌≤◌, List, [], ℕ, length, IfOk};
 ghost use Rattle.twkb_tree.specs.Tree.{Tree};
 ghost use Rattle.twkb_tree.specs.Limits.{standard_limits};
 ghost use Rattle.twkb_blob.specs.Sessions.{Stands, session_limits};
@@ -24,6 +24,15 @@ pub fn count_arrivals<R: Read>(alloc: Global, socket: &mut R) -> Result<Arrived,
     ensures { IfOk result (λ arrived. HasGeometries standard_limits (R.remaining socket.old) arrived.geometries arrived.bytes) }
 {
     let mut session = Session::new(alloc, Limits::standard());
+    count_by(&mut session, socket)
+}
+
+// Reads a socket to its end by a session that stands at the front of a stream.
+fn count_by<R: Read>(session: &mut Session, socket: &mut R) -> Result<Arrived, BlobFault>
+    requires stands { Stands [] [] session.old }
+    requires limits { session_limits session.old ≡ standard_limits }
+    ensures { IfOk result (λ arrived. HasGeometries standard_limits (R.remaining socket.old) arrived.geometries arrived.bytes) }
+{
     let mut piece = [0; 512];
     let mut arrived = Arrived {
         geometries: 0,
@@ -37,7 +46,7 @@ pub fn count_arrivals<R: Read>(alloc: Global, socket: &mut R) -> Result<Arrived,
             session.finish()?;
             return Ok(arrived);
         }
-        arrived.geometries += take_piece(&mut session, &piece[..count])?;
+        arrived.geometries += take_piece(session, &piece[..count])?;
         arrived.bytes += count as u64;
     }
 }

@@ -1,7 +1,5 @@
-//! Each caller of `examples` once, on bytes worked by hand from the formats.
-use examples::{
-    Account, Arrived, count_arrivals, count_points, joined, make_stops, pack_table, stops_table,
-};
+//! Each caller of `examples` once, on bytes worked by hand from the formats; `stops_table` calls `make_stops`.
+use examples::{Account, Arrived, count_arrivals, count_points, joined, pack_table, stops_table};
 use std::alloc::Global;
 use twkb_convert::{Cause, RowReason};
 use twkb_io::{Fuse, FuseEnd, Tap};
@@ -49,31 +47,17 @@ const STOPS: &[u8] =
 
 // The points (0, 0) and (1, 1).
 fn places(alloc: Global) -> Option<Vec<Pt>> {
-    let mut points = Vec::new(alloc);
-    points.push(Pt::try_new(0, 0)?).ok()?;
-    points.push(Pt::try_new(1, 1)?).ok()?;
-    Some(points)
+    let places = [Pt::try_new(0, 0)?, Pt::try_new(1, 1)?];
+    Vec::from_slice(alloc, &places).ok()
 }
 
-// The table of two stops, as the caller makes it.
+// The same table, as the caller makes it of its stops.
 fn stops_text(alloc: Global) -> Option<Vec<u8>> {
     let numbers = Vec::from_slice(alloc, &[1, 2]).ok()?;
     stops_table(alloc, places(alloc)?, numbers).ok()
 }
 
-// Whether two stops are made.
-fn has_stops(alloc: Global) -> Option<bool> {
-    let numbers = Vec::from_slice(alloc, &[1, 2]).ok()?;
-    let stops = make_stops(places(alloc)?, numbers).ok()?;
-    Some(stops.points() == 2 && stops.precision() == 5)
-}
-
-#[test]
-fn stops_are_a_geometry(rt: HostRuntime) {
-    assert!(rt; has_stops(rt.alloc()) == Some(true));
-}
-
-// Whether that is the table of two stops.
+// Whether that is the table.
 fn is_printed(alloc: Global) -> bool {
     match stops_text(alloc) {
         Some(text) => text.as_slice() == STOPS,
@@ -82,43 +66,36 @@ fn is_printed(alloc: Global) -> bool {
 }
 
 #[test]
-fn stops_are_printed(rt: HostRuntime) {
+fn stops_are_made_and_printed(rt: HostRuntime) {
     assert!(rt; is_printed(rt.alloc()));
 }
 
-// Whether a table is packed to these bytes, with this account.
-fn packs_so(alloc: Global, table: &[u8], account: Account, bytes: &[u8]) -> bool {
-    let mut reader = Tap::new(table);
+// Whether a table is packed to the blob of the point (2, 1), and stops so behind it.
+fn packs_a_point(alloc: Global, table: &[u8], stopped: Option<Cause>) -> bool {
     let mut writer = Tap::new(Vec::new(alloc));
-    let answer = pack_table(alloc, &mut reader, &mut writer);
-    answer == account && writer.into_inner().as_slice() == bytes
+    let account = pack_table(alloc, &mut Tap::new(table), &mut writer);
+    let due = Account {
+        done: 1,
+        sent: 5,
+        stopped,
+    };
+    let written = writer.into_inner();
+    account == due && written.as_slice() == b"\x01\x02\x02\x04\x02".as_slice()
 }
 
-// A point, another, and a kind that there is not.
+const POINT: &[u8] = b"depth,kind,id,precision,polyline\n0,point,,0,AC\n";
+
+// The point, another, and a kind that there is not.
 const THREE_ROWS: &[u8] =
     b"depth,kind,id,precision,polyline\n0,point,,0,AC\n0,point,,0,AA\n0,pont,,0,\n";
 
-#[test]
-fn a_table_is_packed_up_to_its_refused_row(rt: HostRuntime) {
-    let cause = Cause::Row {
-        number: 4,
-        reason: RowReason::BadKind,
-    };
-    let account = Account {
-        done: 1,
-        sent: 5,
-        stopped: Some(cause),
-    };
-    assert!(rt; packs_so(rt.alloc(), THREE_ROWS, account, b"\x01\x02\x02\x04\x02"));
-}
+const BAD_KIND: Cause = Cause::Row {
+    number: 4,
+    reason: RowReason::BadKind,
+};
 
 #[test]
-fn a_table_is_packed_to_its_end(rt: HostRuntime) {
-    let account = Account {
-        done: 1,
-        sent: 5,
-        stopped: None,
-    };
-    let table = b"depth,kind,id,precision,polyline\n0,point,,0,AC\n";
-    assert!(rt; packs_so(rt.alloc(), table, account, b"\x01\x02\x02\x04\x02"));
+fn a_table_is_packed_to_its_end_or_up_to_its_refused_row(rt: HostRuntime) {
+    assert!(rt; packs_a_point(rt.alloc(), POINT, None));
+    assert!(rt; packs_a_point(rt.alloc(), THREE_ROWS, Some(BAD_KIND)));
 }

@@ -4,9 +4,9 @@ mod devices;
 mod memory;
 mod usage;
 
+use crate::devices::{Failing, cut_reader, cut_writer, short_writer};
 use std::alloc::Global;
 use twkb_command::run;
-use twkb_io::{Fuse, FuseEnd, Tap};
 
 // Two points, (2, 1) and (1, 1), as a table and as blobs.
 const POINT_TABLE: &[u8] = b"depth,kind,id,precision,polyline\n0,point,,0,AC\n0,point,,0,AA\n";
@@ -24,48 +24,23 @@ const COLLECTION_BLOB: &[u8] =
 const COLLECTION_LINES: &[u8] =
     b"0 0 collection 0 07 18 1\n1 10 point 0 02 5 1\n1 15 linestring 0 12 3 0\n";
 
-// The words of a line, which names the program first, where memory is found; none of an empty one.
-fn words_of(alloc: Global, line: &str) -> Option<Vec<String>> {
-    let mut words = Vec::new(alloc);
-    if line.is_empty() {
-        return Some(words);
+// Appends a word, where memory is found.
+fn put_word(alloc: Global, name: &str, words: &mut Vec<String>) -> bool {
+    match name.to_string(alloc) {
+        Ok(word) => words.push(word).is_ok(),
+        Err(_) => false,
     }
-    for name in line.split(' ') {
-        let Ok(word) = format!(in alloc; "{name}") else {
-            return None;
-        };
-        if words.push(word).is_err() {
-            return None;
+}
+
+// Appends the words of a line, which names the program first, where memory is found; none of an empty one.
+fn put_words(alloc: Global, line: &str, words: &mut Vec<String>) -> bool {
+    let mut are_put = true;
+    if !line.is_empty() {
+        for name in line.split(' ') {
+            are_put = are_put && put_word(alloc, name, words);
         }
     }
-    Some(words)
-}
-
-// As many bytes as a device needs that does not fail.
-const AMPLE: u64 = 999_999;
-
-// The devices of a run: its input, and behind how many of its bytes a read fails; behind how many bytes the writer
-// ends so, and whether its flush fails; and how many bytes standard error takes.
-#[derive(Clone, Copy)]
-struct Trial<'a> {
-    input: &'a [u8],
-    given: u64,
-    taken: u64,
-    end: FuseEnd,
-    flush_fails: bool,
-    told: u64,
-}
-
-// A trial whose devices do not fail.
-fn ample(input: &[u8]) -> Trial<'_> {
-    Trial {
-        input,
-        given: AMPLE,
-        taken: AMPLE,
-        end: FuseEnd::Fail,
-        flush_fails: false,
-        told: AMPLE,
-    }
+    are_put
 }
 
 // What came of a run: its status, where memory was found for its words, and what both writers took.
@@ -76,40 +51,20 @@ struct Ended {
     errors: Vec<u8>,
 }
 
-// A writer that takes so many bytes, one a write, and then ends so.
-fn cut_writer(alloc: Global, taken: u64, end: FuseEnd, flush_fails: bool) -> Tap<Fuse<Vec<u8>>> {
-    Tap::new(Fuse::new(Vec::new(alloc), taken, 1, end, flush_fails))
-}
-
-// Runs the words of a line over devices, the input a byte a read where one of its reads fails.
-fn run_over(alloc: Global, line: &str, trial: Trial<'_>) -> Ended {
-    let step = if trial.given == AMPLE { 4096 } else { 1 };
-    let fuse = Fuse::new(trial.input, trial.given, step, FuseEnd::Fail, false);
-    let mut reader = Tap::new(fuse);
-    let mut writer = cut_writer(alloc, trial.taken, trial.end, trial.flush_fails);
-    let mut errors = cut_writer(alloc, trial.told, FuseEnd::Fail, trial.told != AMPLE);
-    let status = match words_of(alloc, line) {
-        Some(words) => Some(run(alloc, &words, &mut reader, &mut writer, &mut errors)),
-        None => None,
+// Runs the words of a line over devices that pass a byte a call.
+fn run_over(alloc: Global, line: &str, input: &[u8], failing: Failing, told: u64) -> Ended {
+    let mut reader = cut_reader(input, failing.given);
+    let mut writer = cut_writer(Vec::new(alloc), failing);
+    let mut errors = short_writer(alloc, told);
+    let mut words = Vec::new(alloc);
+    let status = if put_words(alloc, line, &mut words) {
+        Some(run(alloc, &words, &mut reader, &mut writer, &mut errors))
+    } else {
+        None
     };
     Ended {
         status,
         output: writer.into_inner().into_inner(),
         errors: errors.into_inner().into_inner(),
     }
-}
-
-// Whether a run has this status, this output, and this on standard error.
-fn ends(
-    alloc: Global,
-    line: &str,
-    trial: Trial<'_>,
-    status: u8,
-    output: &[u8],
-    errors: &[u8],
-) -> bool {
-    let ended = run_over(alloc, line, trial);
-    ended.status == Some(status)
-        && ended.output.as_slice() == output
-        && ended.errors.as_slice() == errors
 }

@@ -2,12 +2,18 @@
 #![tactic(auto)]
 
 #[cfg(test)]
+mod buffers;
+#[cfg(test)]
 mod callers;
 #[cfg(test)]
 mod command;
 #[cfg(test)]
 mod convert;
 #[cfg(test)]
+mod devices;
+#[cfg(test)]
+mod laws;
+#[cfg(test)]
 mod table;
 #[cfg(test)]
-mod telling;
+mod texts;

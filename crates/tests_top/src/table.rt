@@ -1,8 +1,3 @@
-//! Tests against vectors from outside.
+//! Readers of tables, a judged row, and printed numbers.
 mod calls;
-mod fields;
-mod fixtures;
-mod laws;
 mod rows;
-mod tables;
-mod texts;

@@ -3,9 +3,9 @@ use Rattle.std.proofs.Common.{◌≡◌, ℕ, List, arith, refl, subst}
 use Rattle.twkb_tree.specs.Limits.{Allowance}
 use Rattle.twkb_grammar.specs.declared.style.Style.{Style}
 use Rattle.twkb_grammar.specs.declared.style.Style.TheVariants.{Full, Plain}
-use Rattle.twkb_c.specs.Conversions.{PacksSlice, ShowsSlice, UnpacksSlice}
-use Rattle.twkb_c.specs.Numbers.{IsStyleNumber}
-use Rattle.twkb_c.specs.declared.report.BufferReport.{BufferReport}
+use Rattle.twkb_buffer.specs.Conversions.{PacksSlice, ShowsSlice, UnpacksSlice}
+use Rattle.twkb_c.specs.Arguments.{IsStyleNumber}
+use Rattle.twkb_buffer.specs.declared.report.BufferReport.{BufferReport}
 
 apart : (n : ℕ) → n ≡ 0 → n ≡ 1 → ⊥
 apart n a b = omega (arith, a, b)

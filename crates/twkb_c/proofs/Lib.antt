@@ -1,5 +1,1 @@
-pub mod RunLemmas
-pub mod FillLemmas
-pub mod LengthLemmas
-pub mod MeasureLemmas
 pub mod ExportLemmas

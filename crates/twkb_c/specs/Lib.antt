@@ -1,8 +1,1 @@
-pub mod Numbers
-pub mod Reports
-pub mod Fillers
-pub mod Runs
-pub mod Slices
-pub mod Lengths
-pub mod Calls
-pub mod Conversions
+pub mod Arguments

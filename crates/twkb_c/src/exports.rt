@@ -2,16 +2,13 @@
 ghost use Rattle.std.specs.Prelude.{◌≡◌, ◌<◌};
 ghost use Rattle.twkb_tree.specs.Limits.{IsAllowance, standard_limits};
 ghost use Rattle.twkb_grammar.specs.declared.style.Style.{Style};
-ghost use Rattle.twkb_c.specs.Numbers.{IsConversionNumber, IsStyleNumber};
-ghost use Rattle.twkb_c.specs.Reports.{allowance_of, arguments_report};
-ghost use Rattle.twkb_c.specs.Conversions.{MeasuresOutput, PacksSlice, ShowsSlice, UnpacksSlice};
-ghost use Rattle.twkb_c.specs.declared.conversion.Conversion.{Conversion};
+ghost use Rattle.twkb_buffer.specs.Conversions.{MeasuresOutput, PacksSlice, ShowsSlice, UnpacksSlice};
+ghost use Rattle.twkb_buffer.specs.declared.conversion.Conversion.{Conversion};
+ghost use Rattle.twkb_c.specs.Arguments.{IsConversionNumber, IsStyleNumber, allowance_of, arguments_report};
 
-use crate::conversion::{Conversion, conversion_of};
-use crate::filling::fill;
-use crate::measuring::measure;
-use crate::report::{BufferLimits, BufferReport, refused_arguments, style_of};
+use crate::arguments::{BufferLimits, conversion_of, refused_arguments, style_of};
 use std::alloc::Global;
+use twkb_buffer::{BufferReport, Conversion, fill, measure};
 
 /// Sixteen levels, 2^20 rows and 2^24 points. Takes no memory.
 #[unsafe(no_mangle)]

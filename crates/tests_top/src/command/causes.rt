@@ -6,11 +6,12 @@ use twkb_polyline::PolyReason;
 use twkb_request::{exit_status, print_line};
 use twkb_table::RowReason;
 
-// Whether a cause has this status and this line.
-fn is_told(alloc: Global, cause: Cause, number: u8, line: &[u8]) -> bool {
-    let mut errors = Tap::new(Vec::new(alloc));
-    print_line(&mut errors, cause);
-    errors.into_inner().as_slice() == line && exit_status(&cause) == number
+// A cause, its status and its line.
+#[derive(Clone, Copy)]
+struct Told {
+    cause: Cause,
+    status: u8,
+    line: &'static [u8],
 }
 
 const RECORD: Cause = Cause::Row {
@@ -28,36 +29,63 @@ const ITEM: Cause = Cause::Blob {
     reason: BlobReason::SizeMismatch,
 };
 
+const READ: Told = Told {
+    cause: Cause::ReadDevice,
+    status: 3,
+    line: b"polytwkb: read failed\n",
+};
+
 // The last record and the last byte, and a reason that no row of the program `vectors` has; then what is no reason.
-const CAUSES: [(Cause, u8, &[u8]); 8] = [
-    (
-        RECORD,
-        1,
-        b"polytwkb: record 4294967295: too many rows in one geometry\n",
-    ),
-    (
-        POLYLINE,
-        1,
-        b"polytwkb: record 1: polyline at 6: too many points\n",
-    ),
-    (
-        ITEM,
-        1,
-        b"polytwkb: byte 18446744073709551615: size mismatch\n",
-    ),
-    (Cause::ReadDevice, 3, b"polytwkb: read failed\n"),
-    (Cause::WriteDevice, 3, b"polytwkb: write failed\n"),
-    (Cause::Memory, 4, b"polytwkb: out of memory\n"),
-    (Cause::TooLong, 1, b"polytwkb: input or output too long\n"),
-    (Cause::TooManyRecords, 1, b"polytwkb: too many records\n"),
+const CAUSES: [Told; 8] = [
+    Told {
+        cause: RECORD,
+        status: 1,
+        line: b"polytwkb: record 4294967295: too many rows in one geometry\n",
+    },
+    Told {
+        cause: POLYLINE,
+        status: 1,
+        line: b"polytwkb: record 1: polyline at 6: too many points\n",
+    },
+    Told {
+        cause: ITEM,
+        status: 1,
+        line: b"polytwkb: byte 18446744073709551615: size mismatch\n",
+    },
+    READ,
+    Told {
+        cause: Cause::WriteDevice,
+        line: b"polytwkb: write failed\n",
+        ..READ
+    },
+    Told {
+        cause: Cause::Memory,
+        status: 4,
+        line: b"polytwkb: out of memory\n",
+    },
+    Told {
+        cause: Cause::TooLong,
+        status: 1,
+        line: b"polytwkb: input or output too long\n",
+    },
+    Told {
+        cause: Cause::TooManyRecords,
+        status: 1,
+        line: b"polytwkb: too many records\n",
+    },
 ];
+
+// Whether a cause has this status and this line.
+fn is_told(alloc: Global, row: &Told) -> bool {
+    let mut errors = Tap::new(Vec::new(alloc));
+    print_line(&mut errors, row.cause);
+    errors.into_inner().as_slice() == row.line && exit_status(&row.cause) == row.status
+}
 
 #[test]
 fn each_cause_has_its_line(rt: HostRuntime) {
-    for (cause, number, line) in &CAUSES {
-        assert!(rt;
-            is_told(rt.alloc(), *cause, *number, *line),
-            "status {number}"
-        );
+    for row in &CAUSES {
+        let is_right = is_told(rt.alloc(), row);
+        assert!(rt; is_right, "{} bytes", row.line.len());
     }
 }

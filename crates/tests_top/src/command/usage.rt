@@ -1,18 +1,23 @@
 //! Words that are refused, and words that no memory is found for.
-use super::{POINT_TABLE, ample, run_over};
+use super::{Ended, POINT_TABLE, run_over};
+use crate::devices::{AMPLE, SOUND};
 use std::alloc::Global;
 use std::io::ErrorKind;
 use twkb_io::Tap;
-use twkb_request::{lack_memory, lack_words};
+use twkb_request::lack_words;
 
-// Whether a line ends with 2, with a text on standard error alone, which has this in it.
-fn is_refused(alloc: Global, line: &str, named: &str) -> bool {
-    let ended = run_over(alloc, line, ample(POINT_TABLE));
+// Whether a run ended with 2, with a text on standard error alone, which has this in it.
+fn names(ended: &Ended, named: &str) -> bool {
     let is_named = match str::from_utf8(&ended.errors) {
         Ok(text) => text.starts_with("error: ") && text.contains(named),
         Err(_) => false,
     };
     ended.status == Some(2) && ended.output.is_empty() && is_named
+}
+
+// Whether a line is refused so.
+fn is_refused(alloc: Global, line: &str, named: &str) -> bool {
+    names(&run_over(alloc, line, POINT_TABLE, SOUND, AMPLE), named)
 }
 
 // Whether a row, a line and behind it what its text names, is refused so.
@@ -23,7 +28,7 @@ fn is_row_refused(alloc: Global, row: &str) -> bool {
     }
 }
 
-// Lines, and the word that their text names: nestings and styles that are none, and words that are
+// Lines, and the word that their text names: nestings and styles that are none, no words at all, and words that are
 // unknown. They are one text, since a row of a table costs the proof of the test more.
 const REFUSED: &str = "polytwkb pack --max-nest 33 > '33'
 polytwkb unpack --max-nest 33 > '33'
@@ -39,6 +44,7 @@ polytwkb pack --style > --style
 polytwkb pack --style plain --style plain > --style
 polytwkb unpack --style plain > --style
 polytwkb show --style full > --style
+ > subcommand
 polytwkb > subcommand
 polytwkb help > 'help'
 polytwkb more > 'more'
@@ -54,33 +60,32 @@ fn words_that_are_refused_end_with_2(rt: HostRuntime) {
     }
 }
 
-#[test]
-fn no_words_at_all_end_with_2(rt: HostRuntime) {
-    assert!(rt; is_refused(rt.alloc(), "", "subcommand"));
-}
-
-// Whether words that can't be had for this reason, or memory for them where there is none such, have
-// this status and this line.
-fn lacks(alloc: Global, kind: Option<ErrorKind>, status: u8, line: &[u8]) -> bool {
+// Whether words that can't be had for this reason have this status and this line; where no memory was found `lack_memory`
+// says it.
+fn lacks(alloc: Global, kind: ErrorKind, status: u8, line: &[u8]) -> bool {
     let mut errors = Tap::new(Vec::new(alloc));
-    let found = match kind {
-        Some(kind) => lack_words(&mut errors, kind),
-        None => lack_memory(&mut errors),
-    };
-    found == status && errors.into_inner().as_slice() == line
-}
-
-const NO_MEMORY: &[u8] = b"polytwkb: out of memory\n";
-
-const NO_TEXT: &[u8] = b"polytwkb: a word is not UTF-8\n";
-
-#[test]
-fn want_of_memory_ends_with_4(rt: HostRuntime) {
-    assert!(rt; lacks(rt.alloc(), None, 4, NO_MEMORY));
+    let found = lack_words(&mut errors, kind);
+    let told = errors.into_inner();
+    told.as_slice() == line && found == status
 }
 
 #[test]
 fn words_without_memory_end_with_4_and_words_that_are_no_text_with_2(rt: HostRuntime) {
-    assert!(rt; lacks(rt.alloc(), Some(ErrorKind::OutOfMemory), 4, NO_MEMORY));
-    assert!(rt; lacks(rt.alloc(), Some(ErrorKind::InvalidData), 2, NO_TEXT));
+    let alloc = rt.alloc();
+    assert!(rt;
+        lacks(
+            alloc,
+            ErrorKind::OutOfMemory,
+            4,
+            b"polytwkb: out of memory\n"
+        )
+    );
+    assert!(rt;
+        lacks(
+            alloc,
+            ErrorKind::InvalidData,
+            2,
+            b"polytwkb: a word is not UTF-8\n"
+        )
+    );
 }

@@ -1,61 +1,87 @@
 //! What a conversion reads before it writes: no byte more than the first output needs.
-use super::edge_devices::Conversion;
-use super::{cut_reader, cut_writer};
+use super::runs::carried;
+use crate::devices::{Failing, SOUND};
 use std::alloc::Global;
 use twkb_convert::Cause;
-use twkb_io::FuseEnd;
+use twkb_request::Conversion;
 
-// Whether a conversion whose writer takes so many bytes and then fails, and whose reader gives a byte
-// a read, stops there with this much of the input left.
-fn leaves(alloc: Global, conversion: Conversion, taken: u64, input: &[u8], left: &[u8]) -> bool {
-    let mut reader = cut_reader(input, u64::MAX);
-    let mut writer = cut_writer(alloc, taken, FuseEnd::Fail, false);
-    let answer = conversion.carry_out(alloc, &mut reader, &mut writer);
-    let is_stopped = answer.is_err_and(|fault| fault.cause == Cause::WriteDevice);
-    is_stopped && reader.into_inner().into_inner() == left
+// A conversion, how many bytes are written of it, and how many are read for them.
+#[derive(Clone, Copy)]
+struct Asked {
+    what: Conversion,
+    input: &'static [u8],
+    taken: u64,
+    read: u64,
 }
 
-// The same, behind this much of the input.
-fn stops(alloc: Global, conversion: Conversion, taken: u64, input: &[u8], used: usize) -> bool {
-    leaves(
-        alloc,
-        conversion,
-        taken,
-        input,
-        input.get(used..).unwrap_or(&[]),
-    )
-}
+// Two points, and a blob that is none.
+const UNPACKED: Asked = Asked {
+    what: Conversion::Unpack,
+    input: b"\x01\x02\x02\x04\x02\x01\x02\x02\x02\x02\x08",
+    taken: 0,
+    read: 0,
+};
 
-const BLOBS: &[u8] = b"\x01\x02\x02\x04\x02\x01\x02\x02\x02\x02\x08";
+// Three points, and a row that is none.
+const PACKED: Asked = Asked {
+    what: Conversion::Pack,
+    input: b"depth,kind,id,precision,polyline\n0,point,,0,AC\n0,point,,0,AA\n0,point,,0,AC\n0,pont,,0,\n",
+    taken: 0,
+    read: 61,
+};
 
-// How many bytes are written, and how much of the blobs is read for them.
-const BLOBS_READ: [(Conversion, u64, usize); 6] = [
-    (Conversion::Unpack, 0, 0),
-    (Conversion::Unpack, 33, 5),
-    (Conversion::Unpack, 46, 5),
-    (Conversion::Unpack, 47, 10),
-    (Conversion::Show, 0, 5),
-    (Conversion::Show, 19, 10),
+// The text of a blob is written before the next is read, and a geometry before the row behind the next root is.
+const ASKED: [Asked; 9] = [
+    UNPACKED,
+    Asked {
+        taken: 33,
+        read: 5,
+        ..UNPACKED
+    },
+    Asked {
+        taken: 46,
+        read: 5,
+        ..UNPACKED
+    },
+    Asked {
+        taken: 47,
+        read: 10,
+        ..UNPACKED
+    },
+    Asked {
+        what: Conversion::Show,
+        read: 5,
+        ..UNPACKED
+    },
+    Asked {
+        what: Conversion::Show,
+        taken: 19,
+        read: 10,
+        ..UNPACKED
+    },
+    PACKED,
+    Asked { taken: 4, ..PACKED },
+    Asked {
+        taken: 5,
+        read: 75,
+        ..PACKED
+    },
 ];
 
-#[test]
-fn the_text_of_a_blob_is_written_before_the_next_is_read(rt: HostRuntime) {
-    for (conversion, taken, used) in &BLOBS_READ {
-        let stops = stops(rt.alloc(), *conversion, *taken, BLOBS, *used);
-        assert!(rt; stops, "{conversion:?} after {taken} bytes");
-    }
+// Whether a conversion whose writer fails behind its bytes read so many, of a reader that gives a byte a read.
+fn reads_no_more(alloc: Global, asked: &Asked) -> bool {
+    let failing = Failing {
+        taken: asked.taken,
+        ..SOUND
+    };
+    let found = carried(alloc, asked.what, asked.input, failing, Vec::new(alloc));
+    found.account.stopped == Some(Cause::WriteDevice) && found.read == asked.read
 }
 
-const TABLE: &[u8] =
-    b"depth,kind,id,precision,polyline\n0,point,,0,AC\n0,point,,0,AA\n0,point,,0,AC\n0,pont,,0,\n";
-
-// The same of the table.
-const TABLE_READ: [(u64, usize); 3] = [(0, 61), (4, 61), (5, 75)];
-
 #[test]
-fn a_geometry_is_written_before_the_row_behind_the_next_root_is_read(rt: HostRuntime) {
-    for (taken, used) in &TABLE_READ {
-        let stops = stops(rt.alloc(), Conversion::Pack, *taken, TABLE, *used);
-        assert!(rt; stops, "after {taken} bytes");
+fn output_is_written_before_more_is_read_than_it_needs(rt: HostRuntime) {
+    for asked in &ASKED {
+        let is_right = reads_no_more(rt.alloc(), asked);
+        assert!(rt; is_right, "{} bytes written", asked.taken);
     }
 }

@@ -1,90 +1,135 @@
 //! Readers of tables over devices that fail, and while memory is short.
-use super::fixtures::{Outcome, holds, read_all};
+use crate::devices::{AMPLE, cut_reader};
 use std::alloc::Global;
-use twkb_geom::Limits;
-use twkb_io::{Fuse, FuseEnd, Tap};
-use twkb_table::TableFault;
+use std::io::Read;
+use twkb_geom::{Geometry, Limits};
+use twkb_table::{TableFault, TableReader, rows_text};
 
-const MANY_KINDS: &[u8] =
-    b"depth,kind,id,precision,polyline\n0,multipolygon,,0,\n1,polygon,3,,\n2,ring,,,AA\n2,ring,,,\n1,polygon,4,,\n0,multilinestring,,0,\n1,linestring,,,\n0,linestring,,0,AAGG\n";
+// A table, where the rows of none, one, two and all of its geometries end, and how many geometries it has.
+#[derive(Clone, Copy)]
+struct Table {
+    text: &'static [u8],
+    ends: [usize; 4],
+    count: usize,
+}
 
-// Where the rows of none, one, two and all geometries of `MANY_KINDS` end.
-const ENDS: [usize; 4] = [33, 102, 140, 161];
+const MANY_KINDS: Table = Table {
+    text: b"depth,kind,id,precision,polyline\n0,multipolygon,,0,\n1,polygon,3,,\n2,ring,,,AA\n2,ring,,,\n1,polygon,4,,\n0,multilinestring,,0,\n1,linestring,,,\n0,linestring,,0,AAGG\n",
+    ends: [33, 102, 140, 161],
+    count: 3,
+};
 
-// Whether the rows are those of the first geometries of `MANY_KINDS`, as many as are told.
-fn is_front(outcome: &Outcome) -> bool {
-    match ENDS.get(outcome.count as usize) {
-        Some(end) => MANY_KINDS.get(ENDS[0]..*end) == Some(outcome.rows.as_slice()),
+// A line in nine collections, and a point behind it in one: a growth for the rows that are open, ten deep.
+const DEEP: Table = Table {
+    text: b"depth,kind,id,precision,polyline\n0,collection,,0,\n1,collection,,0,\n2,collection,,0,\n3,collection,,0,\n4,collection,,0,\n5,collection,,0,\n6,collection,,0,\n7,collection,,0,\n8,collection,,0,\n9,linestring,,0,AAGG\n1,point,,-8,AC\n",
+    ends: [33, 222, 222, 222],
+    count: 1,
+};
+
+// What came of a table: the rows of its geometries, how many there were, and why it was not read on.
+#[derive(Drop)]
+struct Outcome {
+    rows: Vec<u8>,
+    count: usize,
+    fault: Option<TableFault>,
+}
+
+// Appends the rows of a geometry.
+fn put(alloc: Global, geometry: &Geometry, rows: &mut Vec<u8>) -> Result<bool, TableFault> {
+    if !geometry.within(&Limits::largest()) {
+        return Err(TableFault::Memory);
+    }
+    match rows_text(alloc, geometry) {
+        Ok(text) if rows.extend_from_slice(&text).is_ok() => Ok(true),
+        _ => Err(TableFault::Memory),
+    }
+}
+
+// Appends the rows of a geometry, if there is one, and tells whether there was.
+fn put_found(
+    alloc: Global,
+    found: Option<Geometry>,
+    rows: &mut Vec<u8>,
+) -> Result<bool, TableFault> {
+    match found {
+        Some(geometry) => put(alloc, &geometry, rows),
+        None => Ok(false),
+    }
+}
+
+// Appends the rows of the next geometry.
+fn put_next<R: Read>(
+    alloc: Global,
+    reader: &mut TableReader<'_, R>,
+    rows: &mut Vec<u8>,
+) -> Result<bool, TableFault> {
+    put_found(alloc, reader.next()?, rows)
+}
+
+// Appends the rows of few geometries, and tells how many there were and why the table was not read on.
+fn put_all<R: Read>(
+    alloc: Global,
+    reader: &mut TableReader<'_, R>,
+    rows: &mut Vec<u8>,
+) -> (usize, Option<TableFault>) {
+    for count in 0..64usize {
+        match put_next(alloc, reader, rows) {
+            Ok(true) => {}
+            Ok(false) => return (count, None),
+            Err(fault) => return (count, Some(fault)),
+        }
+    }
+    (64, None)
+}
+
+// Reads a table, a byte a read, over a reader that fails behind so many bytes.
+fn read_all(alloc: Global, text: &[u8], given: u64) -> Outcome {
+    let mut tap = cut_reader(text, given);
+    let mut rows = Vec::new(alloc);
+    let mut reader = TableReader::new(alloc, &mut tap, Limits::standard());
+    let (count, fault) = put_all(alloc, &mut reader, &mut rows);
+    Outcome { rows, count, fault }
+}
+
+// Whether the rows are those of the first geometries of a table, as many as are told.
+fn is_front(table: &Table, outcome: &Outcome) -> bool {
+    match table.ends.get(outcome.count) {
+        Some(end) => table.text.get(33..*end) == Some(outcome.rows.as_slice()),
         None => false,
     }
 }
 
-// Whether a read that fails behind so many bytes, a byte a read, is told behind the geometries
-// before it.
-fn tells_failure(alloc: Global, given: u64) -> Option<bool> {
-    let mut tap = Tap::new(Fuse::new(MANY_KINDS, given, 1, FuseEnd::Fail, false));
-    let outcome = read_all(alloc, Limits::standard(), &mut tap)?;
-    let is_told = outcome.fault == Some(TableFault::Source);
-    Some(is_told && is_front(&outcome) && outcome.count < 3 && tap.failures() == 1)
+// Whether a read that fails behind so many bytes is told behind the geometries before it.
+fn tells_failure(alloc: Global, given: u64) -> bool {
+    let outcome = read_all(alloc, MANY_KINDS.text, given);
+    outcome.fault == Some(TableFault::Source)
+        && outcome.count < 3
+        && is_front(&MANY_KINDS, &outcome)
 }
 
 // Each single read fails in turn: the geometries complete before it are given, and then `Source`.
 #[test]
 fn a_failed_read_is_told_after_the_geometries_before_it(rt: HostRuntime) {
-    for given in 0..MANY_KINDS.len() as u64 + 1 {
-        assert!(rt; holds(tells_failure(rt.alloc(), given)), "{given} bytes");
+    for given in 0..MANY_KINDS.text.len() as u64 + 1 {
+        let is_told = tells_failure(rt.alloc(), given);
+        assert!(rt; is_told, "{given} bytes");
     }
 }
 
-// Whether a byte a read gives all geometries.
-fn reads_bytes(alloc: Global) -> Option<bool> {
-    let mut tap = Tap::new(Fuse::new(MANY_KINDS, u64::MAX, 1, FuseEnd::Fail, false));
-    let outcome = read_all(alloc, Limits::standard(), &mut tap)?;
-    Some(outcome.fault.is_none() && outcome.count == 3 && is_front(&outcome))
-}
-
-#[test]
-fn a_byte_a_read_gives_the_same_geometries(rt: HostRuntime) {
-    assert!(rt; holds(reads_bytes(rt.alloc())));
-}
-
-// Whether `MANY_KINDS` was read whole, or no memory was found before its last geometry.
-fn is_told(outcome: &Outcome) -> bool {
-    match outcome.fault {
-        None => outcome.count == 3,
-        Some(TableFault::Memory | TableFault::Source) => outcome.count < 3,
+// Whether a table was read whole, or no memory was found before its last geometry.
+fn is_read(alloc: Global, table: &Table) -> bool {
+    let outcome = read_all(alloc, table.text, AMPLE);
+    let is_told = match outcome.fault {
+        None => outcome.count == table.count,
+        Some(TableFault::Memory | TableFault::Source) => outcome.count < table.count,
         _ => false,
-    }
+    };
+    is_told && is_front(table, &outcome)
 }
 
-// Run with `rt try --test --fail-alloc N`: whichever growth is refused, it is told, and the
-// geometries before it are given.
+// Run with `rt try --test --fail-alloc N`: whichever growth is refused, it is told, and the geometries before it are given.
 #[test]
 fn a_refused_growth_is_told(rt: HostRuntime) {
-    let mut tap = Tap::new(MANY_KINDS);
-    if let Some(outcome) = read_all(rt.alloc(), Limits::standard(), &mut tap) {
-        assert!(rt; is_told(&outcome) && is_front(&outcome));
-    }
-}
-
-// A line in nine collections, and a point behind it in one.
-const DEEP: &[u8] =
-    b"depth,kind,id,precision,polyline\n0,collection,,0,\n1,collection,,0,\n2,collection,,0,\n3,collection,,0,\n4,collection,,0,\n5,collection,,0,\n6,collection,,0,\n7,collection,,0,\n8,collection,,0,\n9,linestring,,0,AAGG\n1,point,,-8,AC\n";
-
-// Whether `DEEP` was read whole, or no memory was found before its geometry.
-fn is_deep(outcome: &Outcome) -> bool {
-    match outcome.fault {
-        None => outcome.count == 1 && DEEP.get(ENDS[0]..) == Some(outcome.rows.as_slice()),
-        Some(TableFault::Memory | TableFault::Source) => outcome.count == 0,
-        _ => false,
-    }
-}
-
-// The same, with a growth for the rows that are open, ten deep.
-#[test]
-fn a_refused_growth_of_the_open_rows_is_told(rt: HostRuntime) {
-    let mut tap = Tap::new(DEEP);
-    if let Some(outcome) = read_all(rt.alloc(), Limits::standard(), &mut tap) {
-        assert!(rt; is_deep(&outcome));
-    }
+    assert!(rt; is_read(rt.alloc(), &MANY_KINDS));
+    assert!(rt; is_read(rt.alloc(), &DEEP));
 }

@@ -1,44 +1,48 @@
-//! A worked row, field by field.
-use super::fixtures::holds;
+//! A worked row, field by field, and printed numbers. What fields spell is in the rows of the program `vectors`.
 use csv::ByteRecord;
 use std::alloc::Global;
 use twkb_geom::{Kind, Limits, Row};
 use twkb_points::Pt;
-use twkb_table::judge;
+use twkb_table::{judge, push_decimal};
 use twkb_tree::OpenRow;
 
 // The fields of the worked row.
 const FIELDS: [&[u8]; 5] = [b"1", b"linestring", b"-1", b"0", b"AAGG"];
 
+// The row of a linestring of depth 1, id -1 and precision 0, and the collection above it, whose children have ids.
+const ROW: Row = Row {
+    depth: 1,
+    kind: Kind::Linestring,
+    id: Some(-1),
+    precision: Some(0),
+};
+
+const PARENT: OpenRow = OpenRow {
+    kind: Kind::Collection,
+    child_ids: Some(true),
+};
+
 // Appends these, where memory is found.
 fn put_fields(record: &mut ByteRecord) -> bool {
+    let mut are_put = true;
     for field in &FIELDS {
-        if record.push_field(*field).is_err() {
-            return false;
-        }
+        are_put = are_put && record.push_field(*field).is_ok();
     }
-    true
-}
-
-// Whether this is the row of a linestring of depth 1, id -1 and precision 0.
-fn is_worked(row: &Row) -> bool {
-    row.depth == 1 && row.kind == Kind::Linestring && row.id == Some(-1) && row.precision == Some(0)
+    are_put
 }
 
 // Whether these are the places (1, 1) and (5, 5).
-fn are_worked(points: &[Pt]) -> Option<bool> {
-    let places = [Pt::try_new(1, 1)?, Pt::try_new(5, 5)?];
-    Some(points == places.as_slice())
+fn are_worked(points: &[Pt]) -> bool {
+    match points {
+        [first, last] => first.x() == 1 && first.y() == 1 && last.x() == 5 && last.y() == 5,
+        _ => false,
+    }
 }
 
-// Whether the record is the worked row, below a collection whose children have ids.
+// Whether the record is the worked row.
 fn is_judged_so(record: &ByteRecord, points: &mut Vec<Pt>) -> bool {
-    let parent = OpenRow {
-        kind: Kind::Collection,
-        child_ids: Some(true),
-    };
-    match judge(&Limits::standard(), &[parent], 2, 1, record, points) {
-        Ok(row) => is_worked(&row) && holds(are_worked(points.as_slice())),
+    match judge(&Limits::standard(), &[PARENT], 2, 1, record, points) {
+        Ok(row) => row == ROW && are_worked(points.as_slice()),
         Err(_) => false,
     }
 }
@@ -54,4 +58,17 @@ fn is_row(alloc: Global) -> bool {
 #[test]
 fn a_row_is_its_fields(rt: HostRuntime) {
     assert!(rt; is_row(rt.alloc()));
+}
+
+// Whether two numbers are printed so, one behind the other.
+fn prints(alloc: Global) -> bool {
+    let mut text = Vec::new(alloc);
+    push_decimal(&mut text, -1).is_ok()
+        && push_decimal(&mut text, i64::MIN).is_ok()
+        && text.as_slice() == b"-1-9223372036854775808".as_slice()
+}
+
+#[test]
+fn numbers_are_printed_as_canonical_decimals(rt: HostRuntime) {
+    assert!(rt; prints(rt.alloc()));
 }

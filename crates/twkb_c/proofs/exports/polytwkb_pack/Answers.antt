@@ -1,4 +1,4 @@
-use Rattle.twkb_c.specs.Reports.{allowance_of}
+use Rattle.twkb_c.specs.Arguments.{allowance_of}
 use Rattle.twkb_c.proofs.ExportLemmas.{packs_named}
 use Rattle.twkb_c.proofs.exports.polytwkb_pack.Goals as goal
 

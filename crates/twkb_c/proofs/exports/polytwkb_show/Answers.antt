@@ -1,4 +1,4 @@
-use Rattle.twkb_c.specs.Reports.{allowance_of}
+use Rattle.twkb_c.specs.Arguments.{allowance_of}
 use Rattle.twkb_c.proofs.ExportLemmas.{shows_named}
 use Rattle.twkb_c.proofs.exports.polytwkb_show.Goals as goal
 

@@ -1,0 +1,18 @@
+use Rattle.std.proofs.Common.{◌≡◌, ◌≤◌, ◌-◌, ◌^◌}
+use Rattle.twkb_tree.specs.Limits.{standard_limits}
+use Rattle.twkb_blob.specs.Sessions.{session_limits}
+use Rattle.examples.proofs.ArrivalsLemmas.{TookBytes}
+use Rattle.examples.proofs.arrivals.count_by.Given as goal
+
+-- the bytes so far were taken
+abbrev pub invariant-loop-count : goal.invariant-loop-count
+invariant-loop-count g l =
+    record {
+      took : TookBytes (g.R.Read.remaining l.fn.socket) (g.R.Read.remaining l.socket) l.arrived.bytes l.arrived.geometries l.session;
+      few : l.arrived.geometries ≤ l.arrived.bytes;
+      limits : session_limits l.session ≡ standard_limits;
+    }
+
+-- the bytes that a session may still take
+abbrev pub decreases-loop-count : goal.decreases-loop-count
+decreases-loop-count g l = 2 ^ 62 - l.arrived.bytes

@@ -1,0 +1,116 @@
+//! Conversions from a buffer to a buffer. The blob is the one that PostGIS writes of the line from (1, 1) to (5, 5); the
+//! places of faults are those of docs/FORMATS.md.
+use std::alloc::Global;
+use twkb_buffer::{BufferReport, Conversion, fill, measure};
+use twkb_convert::Style;
+use twkb_geom::Limits;
+
+const TABLE: &[u8] = b"depth,kind,id,precision,polyline\n0,linestring,,0,AAGG\n";
+
+const BLOB: &[u8] = b"\x02\x00\x02\x02\x02\x08\x08";
+
+// A conversion, its input, and the whole of its output.
+#[derive(Clone, Copy)]
+struct Converted {
+    what: Conversion,
+    input: &'static [u8],
+    output: &'static [u8],
+}
+
+const CONVERTED: [Converted; 3] = [
+    Converted {
+        what: Conversion::Pack(Style::Plain),
+        input: TABLE,
+        output: BLOB,
+    },
+    Converted {
+        what: Conversion::Unpack,
+        input: BLOB,
+        output: TABLE,
+    },
+    Converted {
+        what: Conversion::Show,
+        input: BLOB,
+        output: b"0 0 linestring 0 00 7 2\n",
+    },
+];
+
+// A report of one geometry that was converted, of so many bytes.
+fn report_of(sent: u64, needed: u64) -> BufferReport {
+    BufferReport {
+        status: 0,
+        reason: 0,
+        place: 0,
+        text_offset: 0,
+        done: 1,
+        sent,
+        needed,
+    }
+}
+
+// Whether the output stands in front of a larger room, whose last two bytes are as they were, and is measured.
+fn is_converted(alloc: Global, row: &Converted) -> bool {
+    let limits = Limits::standard();
+    let due = row.output.len() as u64;
+    let mut room = [0u8; 56];
+    let is_filled = fill(alloc, row.what, row.input, &mut room, limits) == report_of(due, due);
+    is_filled
+        && room.starts_with(row.output)
+        && room.ends_with(b"\0\0")
+        && measure(alloc, row.what, row.input, limits) == report_of(0, due)
+}
+
+#[test]
+fn an_input_is_converted_and_measured(rt: HostRuntime) {
+    for row in &CONVERTED {
+        let is_right = is_converted(rt.alloc(), row);
+        assert!(rt; is_right, "{} bytes", row.output.len());
+    }
+}
+
+// Whether a table of 54 bytes does not fit a room of 40, which is filled with a front of it.
+fn has_a_front(alloc: Global) -> bool {
+    let mut room = [0u8; 40];
+    let limits = Limits::standard();
+    let due = BufferReport {
+        status: 5,
+        done: 0,
+        ..report_of(40, 54)
+    };
+    fill(alloc, Conversion::Unpack, BLOB, &mut room, limits) == due && TABLE.starts_with(&room)
+}
+
+#[test]
+fn a_small_room_has_a_front(rt: HostRuntime) {
+    assert!(rt; has_a_front(rt.alloc()));
+}
+
+// A table whose point is cut, which has a latitude alone.
+const HALF_POINT: &[u8] = b"depth,kind,id,precision,polyline\n0,point,,0,A\n";
+
+// Whether an input is refused behind no output, for this reason at this place.
+fn is_refused(
+    alloc: Global,
+    what: Conversion,
+    input: &[u8],
+    reason: u32,
+    place: u64,
+    text_offset: u64,
+) -> bool {
+    let due = BufferReport {
+        status: 1,
+        reason,
+        place,
+        text_offset,
+        done: 0,
+        ..report_of(0, 0)
+    };
+    fill(alloc, what, input, &mut [], Limits::standard()) == due
+}
+
+#[test]
+fn a_refusal_tells_its_place(rt: HostRuntime) {
+    let alloc = rt.alloc();
+    assert!(rt; is_refused(alloc, Conversion::Pack(Style::Full), HALF_POINT, 25, 2, 1));
+    assert!(rt; is_refused(alloc, Conversion::Show, &BLOB[..6], 41, 6, 0));
+}

@@ -1,0 +1,212 @@
+//! Conversions worked by hand.
+use twkb_convert::{BlobReason, Cause, RowReason};
+use twkb_request::Conversion;
+
+/// A conversion, its input and the whole of its output, which is that of no geometry, of one, or for a table of two.
+#[derive(Clone, Copy)]
+pub struct Worked {
+    pub name: &'static str,
+    pub what: Conversion,
+    pub input: &'static [u8],
+    pub output: &'static [u8],
+    /// How many bytes of the output stand before the first geometry, and where that ends.
+    pub before: usize,
+    pub first: usize,
+    /// Behind how many bytes of a stream all is written; how many reads there are.
+    pub whole: usize,
+    pub reads: usize,
+    /// Why the conversion stops behind its output, if it does.
+    pub stopped: Option<Cause>,
+}
+
+// More bytes than any of them has.
+const NEVER: usize = 999;
+
+const HEADER: &[u8] = b"depth,kind,id,precision,polyline\n";
+
+const POINT: &[u8] = b"depth,kind,id,precision,polyline\n0,point,,0,AC\n";
+
+const POINT_BLOB: &[u8] = b"\x01\x02\x02\x04\x02";
+
+// A collection of a point with an id and an empty line with one.
+const MEMBERS: &[u8] =
+    b"depth,kind,id,precision,polyline\n0,collection,,0,\n1,point,7,0,AA\n1,linestring,-1,0,\n";
+
+const MEMBERS_BLOB: &[u8] =
+    b"\x07\x07\x0f\x02\x00\x02\x00\x02\x0e\x01\x01\x02\x02\x02\x02\x02\x12\x00";
+
+const MEMBERS_LINES: &[u8] =
+    b"0 0 collection 0 07 18 1\n1 10 point 0 02 5 1\n1 15 linestring 0 12 3 0\n";
+
+// A blob before one that is cut, and the reason; and no type.
+const CUT: &[u8] = b"\x01\x00\x04\x02\x01\x00\x04";
+
+const CUT_BLOB: Cause = Cause::Blob {
+    offset: 7,
+    reason: BlobReason::Truncated,
+};
+
+const BAD_TYPE: Cause = Cause::Blob {
+    offset: 0,
+    reason: BlobReason::BadType,
+};
+
+const PACKED: Worked = Worked {
+    name: "a point is packed",
+    what: Conversion::Pack,
+    input: POINT,
+    output: POINT_BLOB,
+    before: 0,
+    first: 5,
+    whole: NEVER,
+    reads: 48,
+    stopped: None,
+};
+
+const UNPACKED: Worked = Worked {
+    name: "a point is unpacked",
+    what: Conversion::Unpack,
+    input: b"\x01\x00\x04\x02",
+    output: POINT,
+    before: 33,
+    first: 47,
+    whole: 4,
+    reads: 5,
+    stopped: None,
+};
+
+const SHOWN: Worked = Worked {
+    name: "a collection is shown",
+    what: Conversion::Show,
+    input: MEMBERS_BLOB,
+    output: MEMBERS_LINES,
+    before: 0,
+    first: 70,
+    whole: 18,
+    reads: 19,
+    stopped: None,
+};
+
+/// A table is read to its end, but for one that is refused: that is not read behind its last row.
+pub const WORKED: [Worked; 16] = [
+    PACKED,
+    Worked {
+        name: "two points are packed",
+        input: b"depth,kind,id,precision,polyline\n0,point,,0,AC\n0,point,,0,AA\n",
+        output: b"\x01\x02\x02\x04\x02\x01\x02\x02\x02\x02",
+        reads: 62,
+        ..PACKED
+    },
+    Worked {
+        name: "a collection is packed",
+        input: MEMBERS,
+        output: MEMBERS_BLOB,
+        first: 18,
+        reads: 85,
+        ..PACKED
+    },
+    Worked {
+        name: "polygons are packed",
+        input: b"depth,kind,id,precision,polyline\n0,multipolygon,,0,\n1,polygon,3,,\n2,ring,,,AA\n2,ring,,,\n1,polygon,4,,\n",
+        output: b"\x06\x07\x0d\x02\x00\x02\x00\x02\x06\x08\x02\x01\x02\x02\x00\x00",
+        first: 16,
+        reads: 103,
+        ..PACKED
+    },
+    Worked {
+        name: "a row is refused behind two points",
+        input: b"depth,kind,id,precision,polyline\n0,point,,0,AC\n0,point,,0,AA\n0,pont,,0,\n",
+        reads: 72,
+        stopped: Some(Cause::Row {
+            number: 4,
+            reason: RowReason::BadKind,
+        }),
+        ..PACKED
+    },
+    Worked {
+        name: "a header is packed",
+        input: HEADER,
+        output: b"",
+        first: NEVER,
+        reads: 34,
+        ..PACKED
+    },
+    Worked {
+        name: "no header is refused",
+        input: b"",
+        output: b"",
+        first: NEVER,
+        reads: 1,
+        stopped: Some(Cause::Row {
+            number: 1,
+            reason: RowReason::BadHeader,
+        }),
+        ..PACKED
+    },
+    UNPACKED,
+    Worked {
+        name: "a collection is unpacked",
+        input: MEMBERS_BLOB,
+        output: MEMBERS,
+        first: 84,
+        whole: 18,
+        reads: 19,
+        ..UNPACKED
+    },
+    Worked {
+        name: "a point before a cut blob is unpacked",
+        input: CUT,
+        reads: 8,
+        stopped: Some(CUT_BLOB),
+        ..UNPACKED
+    },
+    Worked {
+        name: "no blobs are unpacked",
+        input: b"",
+        output: HEADER,
+        first: NEVER,
+        whole: NEVER,
+        reads: 1,
+        ..UNPACKED
+    },
+    Worked {
+        name: "no type is unpacked",
+        input: b"\x08",
+        output: HEADER,
+        first: NEVER,
+        whole: NEVER,
+        reads: 1,
+        stopped: Some(BAD_TYPE),
+        ..UNPACKED
+    },
+    SHOWN,
+    Worked {
+        name: "a point before a cut blob is shown",
+        input: CUT,
+        output: b"0 0 point 0 00 4 1\n",
+        first: 19,
+        whole: 4,
+        reads: 8,
+        stopped: Some(CUT_BLOB),
+        ..SHOWN
+    },
+    Worked {
+        name: "no blobs are shown",
+        input: b"",
+        output: b"",
+        first: NEVER,
+        whole: NEVER,
+        reads: 1,
+        ..SHOWN
+    },
+    Worked {
+        name: "no type is shown",
+        input: b"\x08",
+        output: b"",
+        first: NEVER,
+        whole: NEVER,
+        reads: 1,
+        stopped: Some(BAD_TYPE),
+        ..SHOWN
+    },
+];

@@ -1,0 +1,54 @@
+-- What a writer into a slice leaves there.
+use Rattle.std.specs.Io.KnownBytes.{Appends}
+use Rattle.std.proofs.Common.{◌≡◌, ◌∙◌, ℕ, ◌≤◌, List, ◌∷◌, ◌++◌, length, take, Result, Ok, Err, ap, sym, subst, length-take-le}
+use Rattle.twkb_convert.specs.declared.report.ConvertFault.{ConvertFault}
+use Rattle.twkb_convert.specs.declared.report.Report.{Report}
+use Rattle.twkb_table.proofs.FieldLemmas.{head_same, tail_same}
+use Rattle.twkb_buffer.specs.Calls.{Answers, Ends, Fills, Stops}
+use Rattle.twkb_buffer.specs.Fillers.{buffer_of, filled_of, held}
+use Rattle.twkb_buffer.specs.declared.filler.Filler.{Filler}
+
+-- The loan is the one that was lent, and these bytes are the front of its slice.
+pub record Filled (old new : Filler) (bytes : List ℕ) : Type 0 where
+  pub same_loan : (buffer_of new).ghost_name ≡ (buffer_of old).ghost_name
+  pub within : length bytes ≤ length (buffer_of new).now
+  pub front : take (length bytes) (buffer_of new).now ≡ bytes
+
+-- the name of the loan, and the bytes behind it
+abbrev held_list : Filler → List ℕ
+held_list f = (buffer_of f).ghost_name ∷ take (filled_of f) (buffer_of f).now
+
+-- what was written behind nothing
+filled : (old new : Filler) (bytes : List ℕ) → filled_of old ≡ 0 → Appends (held old) (held new) bytes → Filled old new bytes
+filled old new bytes none appends =
+    let name : ℕ = (buffer_of old).ghost_name in
+    let all : held_list new ≡ name ∷ bytes = appends ∙ ap (λ n. (name ∷ take n (buffer_of old).now) ++ bytes) none in
+    let front : take (filled_of new) (buffer_of new).now ≡ bytes = tail_same _ name _ bytes all in
+    let count : filled_of new ≡ length bytes = sym (length-take-le (filled_of new) (buffer_of new).now new.within) ∙ ap length front in
+    record {
+      same_loan = head_same _ name _ bytes all;
+      within = subst (λ n. n ≤ length (buffer_of new).now) count new.within;
+      front = ap (λ n. take n (buffer_of new).now) (sym count) ∙ front;
+    }
+
+-- the same of a writer that was moved under a tap, and back
+pub moved_back : (lent started ended given : Filler) (bytes : List ℕ) → started ≡ lent → given ≡ ended → filled_of lent ≡ 0 → Appends (held started) (held ended) bytes → Filled lent given bytes
+moved_back lent started ended given bytes first last none appends =
+    let behind : Appends (held lent) (held ended) bytes = subst (λ (f : Filler). Appends (held f) (held ended) bytes) first appends in
+    filled lent given bytes none (subst (λ (f : Filler). Appends (held lent) (held f) bytes) (sym last) behind)
+
+-- the front of a slice is what was written
+pub fills : (Ended : Ends) (Halted : Stops) (answer : Result Report ConvertFault) (bytes slice : List ℕ) → Answers Ended Halted bytes answer
+    → length bytes ≤ length slice → take (length bytes) slice ≡ bytes → Fills Ended Halted slice answer
+fills Ended Halted (Ok report) bytes slice agrees within front =
+    let same : take report.bytes slice ≡ bytes = ap (λ n. take n slice) agrees.1 ∙ front in
+    record {
+      fits = subst (λ n. n ≤ length slice) (sym agrees.1) within;
+      agrees = (subst (λ written. Ended written report.geometries) (sym same) agrees.0, agrees.1 ∙ ap length (sym same));
+    }
+fills Ended Halted (Err fault) bytes slice agrees within front =
+    let same : take fault.sent slice ≡ bytes = ap (λ n. take n slice) agrees.1 ∙ front in
+    record {
+      fits = subst (λ n. n ≤ length slice) (sym agrees.1) within;
+      agrees = (subst (λ written. Halted written fault.done fault.cause) (sym same) agrees.0, agrees.1 ∙ ap length (sym same));
+    }

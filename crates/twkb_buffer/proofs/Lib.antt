@@ -1,0 +1,4 @@
+pub mod RunLemmas
+pub mod FillLemmas
+pub mod LengthLemmas
+pub mod MeasureLemmas

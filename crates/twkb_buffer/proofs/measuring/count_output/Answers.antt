@@ -1,0 +1,8 @@
+use Rattle.std.proofs.Common.{Some, ap}
+use Rattle.twkb_buffer.proofs.RunLemmas.{ran}
+use Rattle.twkb_buffer.proofs.measuring.count_output.Goals as goal
+
+pub returns : goal.returns
+returns c =
+    let wrote = ran c.args.limits c.args.input.now _ _ c.new-reader.result c.new-writer.result c.run.new.reader c.run.new.writer (ap (λ s. Some s.now) c.new-reader.ensures.device) c.args.what c.run.result c.run.ensures in
+    (wrote.bytes, wrote.agrees)

@@ -1,0 +1,61 @@
+//! A writer into a slice.
+ghost use Rattle.std.specs.Prelude.{◌≡◌, ◌≤◌, ◌+◌, ◌++◌, length, take, drop};
+ghost use Rattle.std.specs.Io.{WritesAtMost};
+ghost use Rattle.std.specs.Io.KnownBytes.{Keeps, WriteAppends};
+
+use std::io;
+use std::io::Write;
+
+// A writer that fills a slice from its front, and takes no more than fits.
+#[derive(Drop)]
+pub(crate) struct Filler<'a> {
+    buffer: &'a mut [u8],
+    filled: usize,
+    ghost within: { filled ≤ length buffer.now },
+}
+
+impl<'a> Filler<'a> {
+    ghost use Rattle.twkb_buffer.specs.Fillers.{buffer_of, filled_of};
+
+    // A writer that has filled nothing.
+    pub(crate) fn new(buffer: &'a mut [u8]) -> Filler<'a>
+        ensures same_buffer { (buffer_of result).ghost_name ≡ buffer.entry.ghost_name }
+        ensures untouched { (buffer_of result).now ≡ buffer.old }
+        ensures filled { filled_of result ≡ 0 }
+    {
+        Filler { buffer, filled: 0 }
+    }
+}
+
+// Copies into a slice, from a place on, as many bytes as there are and as fit.
+fn copy_at(start: usize, from: &[u8], to: &mut [u8]) -> usize
+    requires { start ≤ length to.old }
+    ensures given { result ≤ length from.now }
+    ensures fits { start + result ≤ length to.old }
+    ensures copied { to.new ≡ take start to.old ++ (take result from.now ++ drop (start + result) to.old) }
+{
+    let count = from.len().min(to.len() - start);
+    to[start..start + count].copy_from_slice(&from[..count]);
+    count
+}
+
+impl Write for Filler<'_> {
+    ghost use Rattle.twkb_buffer.specs.Fillers.{held};
+
+    ghost contents = { λ filler. held filler };
+
+    fn write(&mut self, buf: &[u8]) -> io::Result<usize>
+        ensures bound { WritesAtMost result buf.now }
+        ensures bytes { WriteAppends (held self.old) (held self.new) result buf.now }
+    {
+        let count = copy_at(self.filled, buf, self.buffer);
+        self.filled += count;
+        Ok(count)
+    }
+
+    fn flush(&mut self) -> io::Result<()>
+        ensures bytes { Keeps (held self.old) (held self.new) }
+    {
+        Ok(())
+    }
+}

@@ -1,0 +1,73 @@
+//! How long the output of a conversion is.
+ghost use Rattle.std.specs.Prelude.{◌≡◌, IfSome};
+ghost use Rattle.twkb_buffer.specs.Calls.{Counts, MeasuresBy, whole_length_of};
+ghost use Rattle.twkb_buffer.specs.Conversions.{Finished, HasLength, MeasuresOutput, Stopped};
+
+use crate::conversion::{Conversion, run};
+use crate::report::{BufferReport, finished, stopped};
+use std::alloc::Global;
+use std::io;
+use twkb_convert::{Cause, ConvertFault, Limits, Report, Tap};
+
+// Converts a slice, and keeps nothing of the output.
+fn count_output(
+    alloc: Global,
+    what: Conversion,
+    input: &[u8],
+    limits: Limits,
+) -> Result<Report, ConvertFault>
+    ensures { Counts (Finished what limits input.now) (Stopped what limits input.now) result }
+{
+    let mut reader = Tap::new(input);
+    let mut writer = Tap::new(io::sink());
+    run(alloc, what, &mut reader, &mut writer, limits)
+}
+
+// How many bytes an answer counts, where they are the whole output: also of a refused input.
+fn whole_length(answer: Result<Report, ConvertFault>) -> Option<u64>
+    ensures { result ≡ whole_length_of answer }
+{
+    match answer {
+        Ok(report) => Some(report.bytes),
+        Err(fault) => match fault.cause {
+            Cause::Row { .. } | Cause::Blob { .. } => Some(fault.sent),
+            _ => None,
+        },
+    }
+}
+
+// What an answer is to a caller who asked for the length.
+fn measured(answer: Result<Report, ConvertFault>) -> BufferReport
+    ensures { MeasuresBy answer result }
+{
+    let needed = whole_length(answer).unwrap_or(0);
+    let report = match answer {
+        Ok(report) => finished(report),
+        Err(fault) => stopped(fault),
+    };
+    BufferReport {
+        sent: 0,
+        needed,
+        ..report
+    }
+}
+
+// How many bytes the whole output of a conversion has, where it is known. Writes nothing.
+pub(crate) fn output_length(
+    alloc: Global,
+    what: Conversion,
+    input: &[u8],
+    limits: Limits,
+) -> Option<u64>
+    ensures { IfSome result (HasLength what limits input.now) }
+{
+    whole_length(count_output(alloc, what, input, limits))
+}
+
+/// What a conversion would write, without writing it: `needed` is the length of its whole output. Takes memory for one
+/// geometry.
+pub fn measure(alloc: Global, what: Conversion, input: &[u8], limits: Limits) -> BufferReport
+    ensures { MeasuresOutput what limits input.now result }
+{
+    measured(count_output(alloc, what, input, limits))
+}

@@ -1,0 +1,132 @@
+//! The numbers by which C knows statuses and reasons.
+ghost use Rattle.std.specs.Prelude.{◌≡◌};
+ghost use Rattle.twkb_buffer.specs.Numbers.{blob_number_of, place_of, point_text_number_of, reason_number_of, row_number_of, row_text_offset_of, status_of, text_offset_of};
+
+use twkb_convert::{BlobReason, Cause, PolyReason, RowReason};
+
+// All was converted.
+pub(crate) const DONE: u32 = 0;
+
+// The input is refused, or too long.
+const REFUSED: u32 = 1;
+
+// The input could not be read.
+const DEVICE: u32 = 3;
+
+// No memory was found.
+const MEMORY: u32 = 4;
+
+// The output is too small.
+pub(crate) const TOO_SMALL: u32 = 5;
+
+// What is wrong with a text of points.
+fn point_text_number(reason: PolyReason) -> u32
+    ensures { result ≡ point_text_number_of reason }
+{
+    match reason {
+        PolyReason::BadChar => 21,
+        PolyReason::Cut => 22,
+        PolyReason::TooLong => 23,
+        PolyReason::Padded => 24,
+        PolyReason::Half => 25,
+        PolyReason::Range => 26,
+        PolyReason::TooMany => 27,
+    }
+}
+
+// What is wrong with a record.
+fn row_number(reason: RowReason) -> u32
+    ensures { result ≡ row_number_of reason }
+{
+    match reason {
+        RowReason::BadHeader => 1,
+        RowReason::FieldCount => 2,
+        RowReason::BadDepth => 3,
+        RowReason::BadKind => 4,
+        RowReason::BadPlace => 5,
+        RowReason::TooDeep => 6,
+        RowReason::TooManyNodes => 7,
+        RowReason::BadId => 8,
+        RowReason::IdNotAllowed => 9,
+        RowReason::MixedIds => 10,
+        RowReason::BadPrecision => 11,
+        RowReason::PrecisionMissing => 12,
+        RowReason::PrecisionNotAllowed => 13,
+        RowReason::PolylineNotAllowed => 14,
+        RowReason::Polyline(_, why) => point_text_number(why),
+        RowReason::PointCount => 16,
+    }
+}
+
+// What is wrong with an item of a blob.
+fn blob_number(reason: BlobReason) -> u32
+    ensures { result ≡ blob_number_of reason }
+{
+    match reason {
+        BlobReason::Truncated => 41,
+        BlobReason::BadType => 42,
+        BlobReason::ExtraDimensions => 43,
+        BlobReason::BadVarint => 44,
+        BlobReason::TooDeep => 45,
+        BlobReason::TooManyNodes => 46,
+        BlobReason::TooManyPoints => 47,
+        BlobReason::CoordinateRange => 48,
+        BlobReason::SizeMismatch => 49,
+    }
+}
+
+// Why the input is refused: 0 where it is not.
+pub(crate) fn reason_number(cause: Cause) -> u32
+    ensures { result ≡ reason_number_of cause }
+{
+    match cause {
+        Cause::Row { reason, .. } => row_number(reason),
+        Cause::Blob { reason, .. } => blob_number(reason),
+        Cause::TooLong => 61,
+        Cause::TooManyRecords => 62,
+        Cause::ReadDevice | Cause::WriteDevice | Cause::Memory => 0,
+    }
+}
+
+// The status of a conversion that stopped.
+pub(crate) fn status(cause: Cause) -> u32
+    ensures { result ≡ status_of cause }
+{
+    match cause {
+        Cause::Row { .. } | Cause::Blob { .. } | Cause::TooLong | Cause::TooManyRecords => REFUSED,
+        Cause::ReadDevice => DEVICE,
+        Cause::Memory => MEMORY,
+        Cause::WriteDevice => TOO_SMALL,
+    }
+}
+
+// The refused record, or where the refused item begins; 0 where nothing is refused.
+pub(crate) fn place(cause: Cause) -> u64
+    ensures { result ≡ place_of cause }
+{
+    match cause {
+        Cause::Row { number, .. } => number,
+        Cause::Blob { offset, .. } => offset,
+        _ => 0,
+    }
+}
+
+// Where a text of points is refused.
+fn row_text_offset(reason: RowReason) -> u64
+    ensures { result ≡ row_text_offset_of reason }
+{
+    match reason {
+        RowReason::Polyline(offset, _) => offset as u64,
+        _ => 0,
+    }
+}
+
+// Where a text of points is refused, in bytes from its front; 0 where none is.
+pub(crate) fn text_offset(cause: Cause) -> u64
+    ensures { result ≡ text_offset_of cause }
+{
+    match cause {
+        Cause::Row { reason, .. } => row_text_offset(reason),
+        _ => 0,
+    }
+}

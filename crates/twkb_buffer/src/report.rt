@@ -1,0 +1,61 @@
+//! What a call answers.
+ghost use Rattle.std.specs.Prelude.{◌≡◌};
+ghost use Rattle.twkb_buffer.specs.Reports.{Tells};
+
+use crate::reason_numbers::{DONE, place, reason_number, status, text_offset};
+use twkb_convert::{ConvertFault, Report};
+
+/// What a call did.
+#[repr(C)]
+#[derive(Clone, Copy, Debug, PartialEq, Eq)]
+pub struct BufferReport {
+    /// 0: all was converted. 1: the input is refused. 2: the limits or the style are. 3: the input
+    /// could not be read. 4: no memory. 5: the output is too small.
+    pub status: u32,
+    /// Why the input is refused; 0 where it is not.
+    pub reason: u32,
+    /// The refused record, from 1, or the offset of the refused item, from 0; else 0.
+    pub place: u64,
+    /// Where a text of points is refused, in bytes from its front; else 0.
+    pub text_offset: u64,
+    /// The geometries whose output was written whole.
+    pub done: u64,
+    /// The bytes that were written.
+    pub sent: u64,
+    /// Where the output is too small, the bytes of the whole output, or 0 where they are not known;
+    /// else as many as were written.
+    pub needed: u64,
+}
+
+// The report of a conversion that was carried through.
+pub(crate) fn finished(report: Report) -> BufferReport
+    ensures { result ≡ record { status = 0; reason = 0; place = 0; text_offset = 0; done = report.geometries; sent = report.bytes; needed = report.bytes } }
+{
+    BufferReport {
+        status: DONE,
+        reason: 0,
+        place: 0,
+        text_offset: 0,
+        done: report.geometries,
+        sent: report.bytes,
+        needed: report.bytes,
+    }
+}
+
+// The report of a conversion that stopped.
+pub(crate) fn stopped(fault: ConvertFault) -> BufferReport
+    ensures told { Tells result fault.cause }
+    ensures done { result.done ≡ fault.done }
+    ensures sent { result.sent ≡ fault.sent }
+    ensures needed { result.needed ≡ fault.sent }
+{
+    BufferReport {
+        status: status(fault.cause),
+        reason: reason_number(fault.cause),
+        place: place(fault.cause),
+        text_offset: text_offset(fault.cause),
+        done: fault.done,
+        sent: fault.sent,
+        needed: fault.sent,
+    }
+}

@@ -1,0 +1,72 @@
+//! The limits, the styles and the conversions as C names them.
+ghost use Rattle.std.specs.Prelude.{◌≡◌, ◌≢◌, ◌↔◌, IsSome, IfSome, IsNone};
+ghost use Rattle.twkb_tree.specs.Limits.{IsAllowance};
+ghost use Rattle.twkb_c.specs.Arguments.{IsConversionNumber, IsStyleNumber, allowance_of, arguments_report};
+
+use twkb_buffer::{BufferReport, Conversion};
+use twkb_convert::{Limits, Style};
+
+/// The most that one geometry may have.
+#[repr(C)]
+#[derive(Clone, Copy, Debug, PartialEq, Eq)]
+pub struct BufferLimits {
+    /// Collections that a geometry may stand in, 0 to 32.
+    pub nest: u32,
+    /// Rows, 1 to 2^20.
+    pub nodes: u32,
+    /// Points, 0 to 2^24.
+    pub points: u32,
+}
+
+impl BufferLimits {
+    // The limits, where each is in its range.
+    pub(crate) fn limits(self) -> Option<Limits>
+        ensures accepted { IsSome result ↔ IsAllowance (allowance_of self) }
+        ensures value { IfSome result (λ limits. limits ≡ allowance_of self) }
+    {
+        Limits::try_new(self.nest, self.nodes, self.points)
+    }
+}
+
+// The style of a number: 0 is full, 1 is plain.
+pub(crate) fn style_of(number: u32) -> Option<Style>
+    ensures style { IfSome result (λ style. IsStyleNumber style number) }
+    ensures other { IsNone result → (number ≢ 0) × (number ≢ 1) }
+{
+    match number {
+        0 => Some(Style::Full),
+        1 => Some(Style::Plain),
+        _ => None,
+    }
+}
+
+// The conversion of a number: 0 packs in this style, 1 unpacks, 2 shows.
+pub(crate) fn conversion_of(number: u32, style: Style) -> Option<Conversion>
+    ensures some { IfSome result (λ what. IsConversionNumber style what number) }
+    ensures other { IsNone result → (number ≢ 0) × (number ≢ 1) × (number ≢ 2) }
+{
+    match number {
+        0 => Some(Conversion::Pack(style)),
+        1 => Some(Conversion::Unpack),
+        2 => Some(Conversion::Show),
+        _ => None,
+    }
+}
+
+// The limits, the style or the conversion is none.
+const ARGUMENTS: u32 = 2;
+
+// The report of arguments that are refused.
+pub(crate) fn refused_arguments() -> BufferReport
+    ensures { result ≡ arguments_report }
+{
+    BufferReport {
+        status: ARGUMENTS,
+        reason: 0,
+        place: 0,
+        text_offset: 0,
+        done: 0,
+        sent: 0,
+        needed: 0,
+    }
+}
