@@ -146,9 +146,9 @@ blobs_of_others() {
     xxd -r -p <<< "${line#blob }" > "$work/blob"
     "$program" unpack < "$work/blob" > "$work/table"
     "$program" show < "$work/blob" | slashed | expect show $count
+    slashed < "$work/table" | expect unpack $count
     "$program" pack < "$work/table" | hex | expect full $count
     "$program" pack --style plain < "$work/table" | hex | expect plain $count
-    slashed < "$work/table" | expect unpack $count
     through "$work/table" | cmp -s - "$work/table" || echo "round trip of blob $count"
   done 3< crates/vectors/stdout
   [ "$count" -gt 0 ] || echo "no blobs"

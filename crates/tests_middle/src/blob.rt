@@ -1,11 +1,7 @@
-//! Readers and sessions of blobs: single calls, devices that fail, texts, and want of memory. Their vectors are those of the program
-//! `vectors`.
-mod answers;
-mod growths;
-mod growths_of_spans;
-mod located;
-mod readers;
-mod rows;
+//! Readers and sessions of blobs: devices that fail, what a session holds, and want of memory. Their vectors are those of the
+//! program `vectors`.
+mod failing;
+mod memory;
 mod sessions;
-mod texts;
 mod through;
+mod ways;

@@ -1,10 +1,4 @@
-//! Vectors of single calls of geometries, limits and rows. The rows and their numbers are those of worked tables, and no
-//! output of the crates.
-mod counts;
-mod fixtures;
+//! Single calls of geometries, limits, rows and flat forms. Worked tables are rows of the program `vectors`.
 mod laws;
-mod limits;
-mod parts;
-mod recursion;
-mod refusals;
-mod rows;
+mod making;
+mod rules;

@@ -3,10 +3,7 @@ use twkb_grammar::{Style, laws, samples};
 
 #[test]
 fn a_full_blob_has_sizes_and_a_plain_one_has_none(rt: HostRuntime) {
-    for (style, full) in [(Style::Full, true), (Style::Plain, false)] {
-        assert_eq!(rt; style.is_full(), full, "{style:?}");
-    }
-    assert!(rt; Style::Full != Style::Plain, "two styles");
+    assert!(rt; Style::Full.is_full() & !Style::Plain.is_full());
 }
 
 #[test]

@@ -1,19 +1,26 @@
-//! Tests of geometries, the flat form, the grammar, the writer and the reader of blobs, through what these crates make public.
+//! Tests of numbers, points, polylines, devices, geometries, the flat form, the grammar, the writer and the reader of blobs,
+//! through what these crates make public.
 #![tactic(auto)]
 
 #[cfg(test)]
 mod blob;
 #[cfg(test)]
-mod flat;
-#[cfg(test)]
-mod forms;
+mod fixtures;
 #[cfg(test)]
 mod geom;
 #[cfg(test)]
-mod geometries;
-#[cfg(test)]
 mod grammar;
 #[cfg(test)]
-mod printed;
+mod io;
+#[cfg(test)]
+mod memory;
+#[cfg(test)]
+mod num;
+#[cfg(test)]
+mod points;
+#[cfg(test)]
+mod polyline;
+#[cfg(test)]
+mod texts;
 #[cfg(test)]
 mod writer;

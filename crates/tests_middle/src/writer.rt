@@ -1,6 +1,3 @@
-//! The calls of the writer, the counted work, and sinks that fail. Blobs of tables are those of the program `vectors`.
-mod encoding;
+//! Sinks that refuse a put, and the law of sizes. Blobs of tables are those of the program `vectors`.
 mod failing;
-mod lending;
-mod measuring;
-mod memory;
+mod laws;

@@ -1,73 +1,78 @@
 //! What the conversions make of blobs and tables, as lines of text.
-use super::text::{put, put_counts, put_hex, put_lines, put_stop};
+use super::text::{put_counts, put_hex, put_lines, put_stop};
 use std::alloc::Global;
 use twkb_convert::{ConvertFault, Report, Style, pack_styled, show, unpack};
 use twkb_geom::Limits;
 use twkb_io::Tap;
 
-/// What a conversion answered, and what it wrote.
-#[derive(Drop)]
-pub struct Converted {
-    pub answer: Result<Report, ConvertFault>,
-    pub written: Vec<u8>,
+/// A conversion.
+#[derive(Clone, Copy)]
+pub enum Conversion {
+    Unpack,
+    Show,
+    Full,
+    Plain,
 }
 
-/// A stream's table.
-pub fn unpacked(alloc: Global, limits: Limits, blobs: &[u8]) -> Converted {
+// Converts an input to memory.
+fn convert(
+    alloc: Global,
+    what: Conversion,
+    limits: Limits,
+    input: &[u8],
+    writer: &mut Tap<Vec<u8>>,
+) -> Result<Report, ConvertFault> {
+    let mut reader = Tap::new(input);
+    match what {
+        Conversion::Unpack => unpack(alloc, &mut reader, writer, limits),
+        Conversion::Show => show(alloc, &mut reader, writer, limits),
+        Conversion::Full => pack_styled(alloc, &mut reader, writer, limits, Style::Full),
+        Conversion::Plain => pack_styled(alloc, &mut reader, writer, limits, Style::Plain),
+    }
+}
+
+// The word of a conversion.
+fn word_of(what: Conversion) -> &'static [u8] {
+    match what {
+        Conversion::Unpack => b"\n  unpack",
+        Conversion::Show => b"\n  show",
+        Conversion::Full => b"\n  full",
+        Conversion::Plain => b"\n  plain",
+    }
+}
+
+// How many geometries were converted and how many bytes written.
+fn counts_of(answer: Result<Report, ConvertFault>) -> [u64; 2] {
+    match answer {
+        Ok(report) => [report.geometries, report.bytes],
+        Err(fault) => [fault.done, fault.sent],
+    }
+}
+
+/// Prints the numbers of a conversion, the lines or bytes that it wrote, and why it stopped; and gives what it wrote.
+pub fn put_conversion(
+    alloc: Global,
+    what: Conversion,
+    limits: Limits,
+    input: &[u8],
+    text: &mut Vec<u8>,
+) -> Vec<u8> {
     let mut writer = Tap::new(Vec::new(alloc));
-    let answer = unpack(alloc, &mut Tap::new(blobs), &mut writer, limits);
+    let answer = convert(alloc, what, limits, input, &mut writer);
     let written = writer.into_inner();
-    Converted { answer, written }
+    put_counts(alloc, text, word_of(what), &counts_of(answer));
+    match what {
+        Conversion::Unpack | Conversion::Show => put_lines(text, &written),
+        _ => put_hex(alloc, text, &written),
+    }
+    put_stop(alloc, text, answer.err());
+    written
 }
 
-/// The lines of a stream's headers.
-pub fn shown(alloc: Global, limits: Limits, blobs: &[u8]) -> Converted {
-    let mut writer = Tap::new(Vec::new(alloc));
-    let answer = show(alloc, &mut Tap::new(blobs), &mut writer, limits);
-    let written = writer.into_inner();
-    Converted { answer, written }
-}
-
-/// A table's blobs in a style.
-pub fn packed(alloc: Global, style: Style, limits: Limits, table: &[u8]) -> Converted {
-    let mut writer = Tap::new(Vec::new(alloc));
-    let answer = pack_styled(alloc, &mut Tap::new(table), &mut writer, limits, style);
-    let written = writer.into_inner();
-    Converted { answer, written }
-}
-
-// Prints how many geometries were converted and how many bytes written, or these and why no more were.
-fn put_answer(alloc: Global, answer: Result<Report, ConvertFault>, text: &mut Vec<u8>) {
-    let (geometries, bytes) = match answer {
-        Ok(report) => (report.geometries, report.bytes),
-        Err(fault) => (fault.done, fault.sent),
-    };
-    put_counts(alloc, text, &[geometries, bytes]);
-}
-
-/// Prints a word, the numbers of a conversion, the lines that it wrote, and why it stopped.
-pub fn put_text_of(alloc: Global, word: &[u8], converted: Converted, text: &mut Vec<u8>) {
-    put(text, word);
-    put_answer(alloc, converted.answer, text);
-    put_lines(text, &converted.written);
-    put_stop(alloc, text, converted.answer.err());
-}
-
-/// The same of blobs.
-pub fn put_blobs_of(alloc: Global, word: &[u8], converted: Converted, text: &mut Vec<u8>) {
-    put(text, word);
-    put_answer(alloc, converted.answer, text);
-    put_hex(alloc, text, &converted.written);
-    put_stop(alloc, text, converted.answer.err());
-}
-
-/// Prints what each conversion makes of a blob: its headers, its table's blobs in both styles, and the table.
+/// Prints what each conversion makes of a blob: its headers, its table, and that table's blobs in both styles.
 pub fn put_all(alloc: Global, limits: Limits, blob: &[u8], text: &mut Vec<u8>) {
-    put_text_of(alloc, b"  show", shown(alloc, limits, blob), text);
-    let table = unpacked(alloc, limits, blob);
-    let full = packed(alloc, Style::Full, limits, &table.written);
-    put_blobs_of(alloc, b"  full", full, text);
-    let plain = packed(alloc, Style::Plain, limits, &table.written);
-    put_blobs_of(alloc, b"  plain", plain, text);
-    put_text_of(alloc, b"  unpack", table, text);
+    put_conversion(alloc, Conversion::Show, limits, blob, text);
+    let table = put_conversion(alloc, Conversion::Unpack, limits, blob, text);
+    put_conversion(alloc, Conversion::Full, limits, &table, text);
+    put_conversion(alloc, Conversion::Plain, limits, &table, text);
 }

@@ -1,19 +1,15 @@
 //! The words that begin a line of the input.
-use super::conversions::{put_all, put_text_of, shown, unpacked};
-use super::devices::{put_copy, put_input, put_output};
+use super::conversions::{Conversion, put_all, put_conversion};
+use super::devices::{put_input, put_output};
 use super::fields::put_field;
-use super::forms::{put_admitted, put_form};
+use super::forms::{put_form, put_tree};
 use super::numbers::{put_number, put_units, put_zigzag};
-use super::points::put_list;
-use super::polylines::{put_polyline, put_polyline_of_bytes};
+use super::polylines::{put_polyline_of_bytes, put_polyline_of_text};
 use super::runs::{put_request, put_run};
-use super::spans::put_located;
-use super::streams::put_read;
+use super::streams::{put_located, put_read};
 use super::tables::{put_rows_table, put_table};
 use super::text::{bytes_of, count_of, cut_word, lines_of};
-use super::trees::put_tree;
 use std::alloc::Global;
-use twkb_convert::Style;
 use twkb_geom::Limits;
 use twkb_num::{Five, Leb128};
 
@@ -22,78 +18,57 @@ use twkb_num::{Five, Leb128};
 enum Word {
     /// The limits of the lines that follow.
     Limits,
-    /// A slash for the end of each line of a table.
-    Lines(Table),
-    /// Digits of bytes.
-    Digits(Bytes),
-    /// Words.
-    Text(Text),
-    /// Nothing: the line is printed alone.
-    Comment,
-}
-
-#[derive(Clone, Copy)]
-enum Table {
+    /// Rows of a table, or a whole one, a slash for the end of each line.
     Geometry,
     Form,
     Full,
     Plain,
-    Whole,
-}
-
-#[derive(Clone, Copy)]
-enum Bytes {
+    Table,
+    /// Digits of bytes.
     Blob,
     Read,
     Show,
     Unpack,
     Units,
     Characters,
-    Field,
-}
-
-#[derive(Clone, Copy)]
-enum Text {
+    FieldOfBytes,
+    /// Words.
     Number,
     Zigzag,
-    Points,
     Polyline,
     PolylineOfBytes,
     Field,
-    Admits,
     Input,
     Output,
-    Copy,
     Run,
     Words,
+    /// Nothing: the line is printed alone.
+    Comment,
 }
 
-const WORDS: [(&str, Word); 25] = [
+const WORDS: [(&str, Word); 22] = [
     ("limits", Word::Limits),
-    ("geometry", Word::Lines(Table::Geometry)),
-    ("form", Word::Lines(Table::Form)),
-    ("full", Word::Lines(Table::Full)),
-    ("plain", Word::Lines(Table::Plain)),
-    ("table", Word::Lines(Table::Whole)),
-    ("blob", Word::Digits(Bytes::Blob)),
-    ("read", Word::Digits(Bytes::Read)),
-    ("show", Word::Digits(Bytes::Show)),
-    ("unpack", Word::Digits(Bytes::Unpack)),
-    ("bytes", Word::Digits(Bytes::Units)),
-    ("characters", Word::Digits(Bytes::Characters)),
-    ("field_of_bytes", Word::Digits(Bytes::Field)),
-    ("number", Word::Text(Text::Number)),
-    ("zigzag", Word::Text(Text::Zigzag)),
-    ("points", Word::Text(Text::Points)),
-    ("polyline", Word::Text(Text::Polyline)),
-    ("polyline_of_bytes", Word::Text(Text::PolylineOfBytes)),
-    ("field", Word::Text(Text::Field)),
-    ("admits", Word::Text(Text::Admits)),
-    ("input", Word::Text(Text::Input)),
-    ("output", Word::Text(Text::Output)),
-    ("copy", Word::Text(Text::Copy)),
-    ("run", Word::Text(Text::Run)),
-    ("words", Word::Text(Text::Words)),
+    ("geometry", Word::Geometry),
+    ("form", Word::Form),
+    ("full", Word::Full),
+    ("plain", Word::Plain),
+    ("table", Word::Table),
+    ("blob", Word::Blob),
+    ("read", Word::Read),
+    ("show", Word::Show),
+    ("unpack", Word::Unpack),
+    ("bytes", Word::Units),
+    ("characters", Word::Characters),
+    ("field_of_bytes", Word::FieldOfBytes),
+    ("number", Word::Number),
+    ("zigzag", Word::Zigzag),
+    ("polyline", Word::Polyline),
+    ("polyline_of_bytes", Word::PolylineOfBytes),
+    ("field", Word::Field),
+    ("input", Word::Input),
+    ("output", Word::Output),
+    ("run", Word::Run),
+    ("words", Word::Words),
 ];
 
 // What a word says.
@@ -115,59 +90,67 @@ fn limits_of(numbers: &str) -> Limits {
 }
 
 // Answers of tables, whose header is left out but for a whole one.
-fn answer_table(alloc: Global, limits: Limits, what: Table, lines: &[u8], text: &mut Vec<u8>) {
+fn answer_lines(alloc: Global, limits: Limits, what: Word, lines: &[u8], text: &mut Vec<u8>) {
     match what {
-        Table::Geometry => put_tree(alloc, limits, lines, text),
-        Table::Form => put_form(alloc, lines, text),
-        Table::Full => put_rows_table(alloc, Style::Full, limits, lines, text),
-        Table::Plain => put_rows_table(alloc, Style::Plain, limits, lines, text),
-        Table::Whole => put_table(alloc, Style::Full, limits, lines, text),
+        Word::Geometry => put_tree(alloc, limits, lines, text),
+        Word::Form => put_form(alloc, lines, text),
+        Word::Full => put_rows_table(alloc, Conversion::Full, limits, lines, text),
+        Word::Plain => put_rows_table(alloc, Conversion::Plain, limits, lines, text),
+        Word::Table => put_table(alloc, Conversion::Full, limits, lines, text),
+        _ => {}
     }
 }
 
+// Prints what `show` writes, and the spans.
+fn put_shown_stream(alloc: Global, limits: Limits, bytes: &[u8], text: &mut Vec<u8>) {
+    put_conversion(alloc, Conversion::Show, limits, bytes, text);
+    put_located(alloc, limits, bytes, text);
+}
+
+// Prints the table of a stream.
+fn put_unpacked(alloc: Global, limits: Limits, bytes: &[u8], text: &mut Vec<u8>) {
+    put_conversion(alloc, Conversion::Unpack, limits, bytes, text);
+}
+
 // Answers of bytes.
-fn answer_bytes(alloc: Global, limits: Limits, what: Bytes, bytes: &[u8], text: &mut Vec<u8>) {
+fn answer_bytes(alloc: Global, limits: Limits, what: Word, bytes: &[u8], text: &mut Vec<u8>) {
     match what {
-        Bytes::Blob => put_all(alloc, limits, bytes, text),
-        Bytes::Read => put_read(alloc, limits, bytes, text),
-        Bytes::Show => {
-            put_text_of(alloc, b"  show", shown(alloc, limits, bytes), text);
-            put_located(alloc, limits, bytes, text);
-        }
-        Bytes::Unpack => put_text_of(alloc, b"  unpack", unpacked(alloc, limits, bytes), text),
-        Bytes::Units => put_units::<Leb128>(alloc, bytes, text),
-        Bytes::Characters => put_units::<Five>(alloc, bytes, text),
-        Bytes::Field => put_field(alloc, bytes, text),
+        Word::Blob => put_all(alloc, limits, bytes, text),
+        Word::Read => put_read(alloc, limits, bytes, text),
+        Word::Show => put_shown_stream(alloc, limits, bytes, text),
+        Word::Unpack => put_unpacked(alloc, limits, bytes, text),
+        Word::Units => put_units::<Leb128>(alloc, bytes, text),
+        Word::Characters => put_units::<Five>(alloc, bytes, text),
+        Word::FieldOfBytes => put_field(alloc, bytes, text),
+        _ => {}
     }
 }
 
 // Answers of words.
-fn answer_text(alloc: Global, what: Text, rest: &str, text: &mut Vec<u8>) {
+fn answer_words(alloc: Global, what: Word, rest: &str, text: &mut Vec<u8>) {
     match what {
-        Text::Number => put_number(alloc, rest, text),
-        Text::Zigzag => put_zigzag(alloc, rest, text),
-        Text::Points => put_list(alloc, rest, text),
-        Text::Polyline => put_polyline(alloc, rest, text),
-        Text::PolylineOfBytes => put_polyline_of_bytes(alloc, rest, text),
-        Text::Field => put_field(alloc, rest.as_bytes(), text),
-        Text::Admits => put_admitted(alloc, rest, text),
-        Text::Input => put_input(alloc, rest, text),
-        Text::Output => put_output(alloc, rest, text),
-        Text::Copy => put_copy(alloc, rest, text),
-        Text::Run => put_run(alloc, rest, text),
-        Text::Words => put_request(alloc, rest, text),
+        Word::Number => put_number(alloc, rest, text),
+        Word::Zigzag => put_zigzag(alloc, rest, text),
+        Word::Polyline => put_polyline_of_text(alloc, rest, text),
+        Word::PolylineOfBytes => put_polyline_of_bytes(alloc, rest, text),
+        Word::Field => put_field(alloc, rest.as_bytes(), text),
+        Word::Input => put_input(alloc, rest, text),
+        Word::Output => put_output(alloc, rest, text),
+        Word::Run => put_run(alloc, rest, text),
+        Word::Words => put_request(alloc, rest, text),
+        _ => {}
     }
 }
 
 /// Prints what is made of a line under these limits, and gives the limits of the lines behind it.
 pub fn answer(alloc: Global, limits: Limits, line: &str, text: &mut Vec<u8>) -> Limits {
     let (word, rest) = cut_word(line);
-    match meaning_of(word) {
-        Word::Limits => return limits_of(rest),
-        Word::Lines(what) => answer_table(alloc, limits, what, &lines_of(alloc, rest), text),
-        Word::Digits(what) => answer_bytes(alloc, limits, what, &bytes_of(alloc, rest), text),
-        Word::Text(what) => answer_text(alloc, what, rest, text),
-        Word::Comment => {}
+    let what = meaning_of(word);
+    answer_lines(alloc, limits, what, &lines_of(alloc, rest), text);
+    answer_bytes(alloc, limits, what, &bytes_of(alloc, rest), text);
+    answer_words(alloc, what, rest, text);
+    match what {
+        Word::Limits => limits_of(rest),
+        _ => limits,
     }
-    limits
 }

@@ -7,14 +7,11 @@ mod fields;
 mod forms;
 mod lines;
 mod numbers;
-mod points;
 mod polylines;
 mod runs;
-mod spans;
 mod streams;
 mod tables;
 mod text;
-mod trees;
 
 use std::io;
 use std::io::{BufWriter, Write};
@@ -28,8 +25,8 @@ fn main(rt: HostRuntime) -> io::Result<()> {
         let line = line?;
         let mut text = Vec::new(alloc);
         text::put(&mut text, line.as_bytes());
-        text::put(&mut text, b"\n");
         limits = lines::answer(alloc, limits, line.as_str(), &mut text);
+        text::put(&mut text, b"\n");
         output.write_all(&text)?;
     }
     output.flush()

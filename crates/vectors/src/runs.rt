@@ -1,12 +1,10 @@
 //! Whole runs of the command.
 use super::text::{
-    bytes_of, cut_word, lines_of, put, put_counts, put_hex, put_lines, put_named, put_shown,
-    table_of,
+    bytes_of, cut_word, lines_of, put, put_hex, put_lines, put_named, put_shown, table_of,
 };
 use std::alloc::Global;
 use twkb_command::{read_words, run};
 use twkb_io::Tap;
-use twkb_request::Request;
 
 // The words of a line.
 fn words_of(alloc: Global, line: &str) -> Vec<String> {
@@ -19,23 +17,12 @@ fn words_of(alloc: Global, line: &str) -> Vec<String> {
     words
 }
 
-// Whether all are printed characters or ends of lines.
-fn are_lines(bytes: &[u8]) -> bool {
-    for byte in bytes {
-        if *byte != b'\n' && (*byte < b' ' || *byte > b'~') {
-            return false;
-        }
-    }
-    true
-}
-
-// Prints a word, and behind it lines as such, and other bytes as digits.
+// Prints a word, and behind it the digits of an output that begins with a control character, and else lines.
 fn put_output(alloc: Global, word: &[u8], output: &[u8], text: &mut Vec<u8>) {
     put(text, word);
-    if are_lines(output) {
-        put_lines(text, output);
-    } else {
-        put_hex(alloc, text, output);
+    match output.first() {
+        Some(byte) if *byte < b' ' => put_hex(alloc, text, output),
+        _ => put_lines(text, output),
     }
 }
 
@@ -57,40 +44,18 @@ pub fn put_run(alloc: Global, rest: &str, text: &mut Vec<u8>) {
 
 // Prints the status of a run, and what it wrote to both writers.
 fn put_run_over(alloc: Global, line: &str, input: &[u8], text: &mut Vec<u8>) {
+    let mut reader = Tap::new(input);
     let mut writer = Tap::new(Vec::new(alloc));
     let mut errors = Tap::new(Vec::new(alloc));
     let words = words_of(alloc, line);
-    let status = run(
-        alloc,
-        &words,
-        &mut Tap::new(input),
-        &mut writer,
-        &mut errors,
-    );
-    put_shown(alloc, text, b"  status ", &status);
+    let status = run(alloc, &words, &mut reader, &mut writer, &mut errors);
+    put_shown(alloc, text, b"\n  status ", &status);
     put_output(alloc, b"\n  output", &writer.into_inner(), text);
     put_output(alloc, b"\n  errors", &errors.into_inner(), text);
-    put(text, b"\n");
-}
-
-// Prints a conversion, its limits and its style.
-fn put_parts(alloc: Global, request: Request, text: &mut Vec<u8>) {
-    let limits = request.limits;
-    let counts = [
-        limits.nest() as u64,
-        limits.nodes() as u64,
-        limits.points() as u64,
-    ];
-    put_named(alloc, text, &request.conversion);
-    put_counts(alloc, text, &counts);
-    put_named(alloc, text, &request.style);
 }
 
 /// Prints what the words of a line ask for: a conversion, three limits and a style.
 pub fn put_request(alloc: Global, line: &str, text: &mut Vec<u8>) {
-    put(text, b"  asks for");
-    if let Some(request) = read_words(alloc, &words_of(alloc, line)).ok() {
-        put_parts(alloc, request, text);
-    }
-    put(text, b"\n");
+    let request = read_words(alloc, &words_of(alloc, line)).ok();
+    put_named(alloc, text, b"\n  asks for ", &request);
 }

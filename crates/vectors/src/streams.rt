@@ -1,30 +1,25 @@
-//! Each way to read a stream: what its geometries are as full blobs, and the fault behind them.
-use super::text::{put, put_hex, put_stop};
+//! Each way to read a stream: what its geometries are as full blobs, or their spans, and the fault behind them.
+use super::text::{put, put_hex, put_named, put_stop};
 use std::alloc::Global;
 use std::io::Read;
-use twkb_blob::{BlobFault, Reader, Session, Style, encode, measure_flat, write_flat};
+use twkb_blob::{BlobFault, Reader, Session, Span, Style, encode, measure_flat, write_flat};
 use twkb_geom::{Flat, Geometry, Limits, Work};
 use twkb_io::{Bytes, Input, Tap};
 
-/// How a stream is read.
+/// What a stream is read as.
 #[derive(Clone, Copy)]
 enum Way {
-    /// By a reader of trees, or of rows.
     Trees,
+    Located,
     Rows,
-    /// By a session that is fed two pieces, of which the first is so long, or single bytes; or single bytes for rows.
-    Pieces(usize),
-    Bytes,
-    RowBytes,
 }
 
 // Appends the full blob of a geometry.
 fn put_blob(alloc: Global, geometry: &Geometry, blobs: &mut Vec<u8>) {
     if geometry.within(&Limits::largest()) {
         let mut sink = Bytes::new(alloc);
-        if encode(alloc, geometry, &mut sink).is_ok() {
-            put(blobs, sink.into_vec().as_slice());
-        }
+        let _is_put = encode(alloc, geometry, &mut sink).is_ok();
+        put(blobs, &sink.into_vec());
     }
 }
 
@@ -33,237 +28,219 @@ fn put_flat_blob(alloc: Global, flat: &Flat, blobs: &mut Vec<u8>) {
     let mut work = Work::new();
     let mut sink = Bytes::new(alloc);
     if let Ok(sizes) = measure_flat(alloc, flat, Style::Full, &mut work) {
-        if write_flat(flat, Style::Full, &sizes, &mut sink, &mut work).is_ok() {
-            put(blobs, sink.into_vec().as_slice());
-        }
+        let _is_put = write_flat(flat, Style::Full, &sizes, &mut sink, &mut work).is_ok();
+    }
+    put(blobs, &sink.into_vec());
+}
+
+// Appends spans.
+fn put_spans(alloc: Global, spans: &[Span], lines: &mut Vec<u8>) {
+    for span in spans {
+        put_named(alloc, lines, b"\n  ", span);
     }
 }
 
-// Appends the full blob of a geometry, if there is one; else answers the end, or a fault.
-fn put_found(
-    alloc: Global,
-    found: Result<Option<Geometry>, BlobFault>,
-    blobs: &mut Vec<u8>,
-) -> Option<Option<BlobFault>> {
-    match found {
-        Ok(Some(geometry)) => {
-            put_blob(alloc, &geometry, blobs);
-            None
-        }
-        Ok(None) => Some(None),
-        Err(fault) => Some(Some(fault)),
-    }
-}
-
-// Reads trees to the end or the fault.
-fn read_trees<R: Read>(
+// Reads a tree, appends its full blob, and answers whether there is one.
+fn read_tree<R: Read>(
     alloc: Global,
     reader: &mut Reader<'_, R>,
-    most: usize,
-    blobs: &mut Vec<u8>,
-) -> Option<BlobFault> {
-    for _ in 0..most {
-        if let Some(end) = put_found(alloc, reader.next(alloc), blobs) {
-            return end;
+    found: &mut Vec<u8>,
+) -> Result<bool, BlobFault> {
+    match reader.next(alloc) {
+        Ok(Some(geometry)) => {
+            put_blob(alloc, &geometry, found);
+            drop(geometry);
+            Ok(true)
         }
+        Ok(None) => Ok(false),
+        Err(fault) => Err(fault),
     }
-    None
 }
 
-// Reads rows.
+// The same of its spans.
+fn read_located<R: Read>(
+    alloc: Global,
+    reader: &mut Reader<'_, R>,
+    found: &mut Vec<u8>,
+) -> Result<bool, BlobFault> {
+    match reader.next_located(alloc) {
+        Ok(Some(located)) => {
+            put_spans(alloc, located.spans.as_slice(), found);
+            drop(located);
+            Ok(true)
+        }
+        Ok(None) => Ok(false),
+        Err(fault) => Err(fault),
+    }
+}
+
+// The same of its rows.
 fn read_rows<R: Read>(
     alloc: Global,
     reader: &mut Reader<'_, R>,
-    most: usize,
-    blobs: &mut Vec<u8>,
-) -> Option<BlobFault> {
-    let mut flat = Flat::new(alloc);
-    for _ in 0..most {
-        match reader.next_flat(alloc, &mut flat) {
-            Ok(true) => put_flat_blob(alloc, &flat, blobs),
-            Ok(false) => return None,
-            Err(fault) => return Some(fault),
-        }
-    }
-    None
+    flat: &mut Flat,
+    found: &mut Vec<u8>,
+) -> Result<bool, BlobFault> {
+    let read = reader.next_flat(alloc, flat);
+    put_flat_blob(alloc, flat, found);
+    read
 }
 
-// By a reader over a tap.
-fn by_reader<R: Read>(
+// Reads the next geometry, appends what it is read as, and answers whether there is one.
+fn read_next<R: Read>(
+    alloc: Global,
+    way: Way,
+    reader: &mut Reader<'_, R>,
+    flat: &mut Flat,
+    found: &mut Vec<u8>,
+) -> Result<bool, BlobFault> {
+    match way {
+        Way::Trees => read_tree(alloc, reader, found),
+        Way::Located => read_located(alloc, reader, found),
+        Way::Rows => read_rows(alloc, reader, flat, found),
+    }
+}
+
+// Reads a device to its end or the fault.
+fn read_device<R: Read>(
     alloc: Global,
     way: Way,
     limits: Limits,
     tap: &mut Tap<R>,
     most: usize,
-    blobs: &mut Vec<u8>,
+    found: &mut Vec<u8>,
 ) -> Option<BlobFault> {
     let mut reader = Reader::new(Input::new(tap), limits);
-    match way {
-        Way::Rows => read_rows(alloc, &mut reader, most, blobs),
-        _ => read_trees(alloc, &mut reader, most, blobs),
-    }
-}
-
-// Appends the full blob of a geometry that was found, and answers how many bytes were used, or a fault.
-fn put_fed(
-    alloc: Global,
-    fed: Result<(usize, Option<Geometry>), BlobFault>,
-    blobs: &mut Vec<u8>,
-) -> Result<usize, BlobFault> {
-    let (used, found) = fed?;
-    if let Some(geometry) = found {
-        put_blob(alloc, &geometry, blobs);
-    }
-    Ok(used)
-}
-
-// Feeds a piece, and the unused rest again.
-fn feed_piece(
-    alloc: Global,
-    session: &mut Session,
-    piece: &[u8],
-    blobs: &mut Vec<u8>,
-) -> Option<BlobFault> {
-    let mut rest = piece;
-    for _ in 0..piece.len() {
-        match put_fed(alloc, session.feed(rest), blobs) {
-            Ok(used) => rest = rest.get(used..).unwrap_or(&[]),
-            Err(fault) => return Some(fault),
+    let mut flat = Flat::new(alloc);
+    let mut answer = Ok(true);
+    for _ in 0..most {
+        if answer == Ok(true) {
+            answer = read_next(alloc, way, &mut reader, &mut flat, found);
         }
     }
-    None
+    answer.err()
 }
 
-// Feeds a byte to a session of rows.
-fn feed_row_byte(
-    alloc: Global,
-    session: &mut Session,
-    byte: u8,
-    blobs: &mut Vec<u8>,
-) -> Option<BlobFault> {
-    match session.feed_flat(&[byte]) {
-        Ok((_, true)) => {
-            put_flat_blob(alloc, session.flat(), blobs);
-            None
-        }
-        Ok((_, false)) => None,
-        Err(fault) => Some(fault),
-    }
-}
-
-// Feeds single bytes.
-fn feed_bytes(
-    alloc: Global,
-    session: &mut Session,
-    way: Way,
-    bytes: &[u8],
-    blobs: &mut Vec<u8>,
-) -> Option<BlobFault> {
-    for byte in bytes {
-        let fault = match way {
-            Way::RowBytes => feed_row_byte(alloc, session, *byte, blobs),
-            _ => feed_piece(alloc, session, &[*byte], blobs),
-        };
-        if fault.is_some() {
-            return fault;
-        }
-    }
-    session.finish().err()
-}
-
-// Feeds two pieces, of which the first is so long.
-fn feed_pieces(
-    alloc: Global,
-    session: &mut Session,
-    length: usize,
-    bytes: &[u8],
-    blobs: &mut Vec<u8>,
-) -> Option<BlobFault> {
-    let (first, second) = bytes.split_at(length.min(bytes.len()));
-    let fault = feed_piece(alloc, session, first, blobs);
-    if fault.is_some() {
-        return fault;
-    }
-    let fault = feed_piece(alloc, session, second, blobs);
-    if fault.is_some() {
-        return fault;
-    }
-    session.finish().err()
-}
-
-// By a session.
-fn by_session(
-    alloc: Global,
-    way: Way,
-    limits: Limits,
-    bytes: &[u8],
-    blobs: &mut Vec<u8>,
-) -> Option<BlobFault> {
-    let mut session = Session::new(alloc, limits);
-    match way {
-        Way::Pieces(length) => feed_pieces(alloc, &mut session, length, bytes, blobs),
-        _ => feed_bytes(alloc, &mut session, way, bytes, blobs),
-    }
-}
-
-// By a reader or a session.
+// The same of bytes.
 fn read_by(
     alloc: Global,
     way: Way,
     limits: Limits,
     bytes: &[u8],
-    blobs: &mut Vec<u8>,
+    found: &mut Vec<u8>,
 ) -> Option<BlobFault> {
-    match way {
-        Way::Trees | Way::Rows => {
-            let most = bytes.len().saturating_add(1);
-            by_reader(alloc, way, limits, &mut Tap::new(bytes), most, blobs)
+    let most = bytes.len().saturating_add(1);
+    read_device(alloc, way, limits, &mut Tap::new(bytes), most, found)
+}
+
+// Feeds a piece, appends the full blob of a tree that it ends, and answers how many bytes were used.
+fn feed_tree(
+    alloc: Global,
+    session: &mut Session,
+    piece: &[u8],
+    found: &mut Vec<u8>,
+) -> Result<usize, BlobFault> {
+    match session.feed(piece) {
+        Ok((used, Some(geometry))) => {
+            put_blob(alloc, &geometry, found);
+            drop(geometry);
+            Ok(used)
         }
-        _ => by_session(alloc, way, limits, bytes, blobs),
+        Ok((used, None)) => Ok(used),
+        Err(fault) => Err(fault),
     }
 }
 
-// Whether this way gives these blobs and this fault.
-fn gives(
+// The same of rows.
+fn feed_rows(
+    alloc: Global,
+    session: &mut Session,
+    piece: &[u8],
+    found: &mut Vec<u8>,
+) -> Result<usize, BlobFault> {
+    let (used, is_found) = session.feed_flat(piece)?;
+    if is_found {
+        put_flat_blob(alloc, session.flat(), found);
+    }
+    Ok(used)
+}
+
+// Feeds a piece.
+fn feed(
+    alloc: Global,
+    way: Way,
+    session: &mut Session,
+    piece: &[u8],
+    found: &mut Vec<u8>,
+) -> Result<usize, BlobFault> {
+    match way {
+        Way::Rows => feed_rows(alloc, session, piece, found),
+        _ => feed_tree(alloc, session, piece, found),
+    }
+}
+
+// Feeds pieces of so many bytes.
+fn feed_all(
+    alloc: Global,
+    way: Way,
+    session: &mut Session,
+    length: usize,
+    bytes: &[u8],
+    found: &mut Vec<u8>,
+) -> Option<BlobFault> {
+    let mut rest = bytes;
+    for _ in 0..bytes.len() {
+        let piece = &rest[..length.min(rest.len())];
+        match feed(alloc, way, session, piece, found) {
+            Ok(used) => rest = &rest[used.min(rest.len())..],
+            Err(fault) => return Some(fault),
+        }
+    }
+    session.finish().err()
+}
+
+// The same of a session.
+fn feed_by(
     alloc: Global,
     way: Way,
     limits: Limits,
+    length: usize,
+    bytes: &[u8],
+    found: &mut Vec<u8>,
+) -> Option<BlobFault> {
+    let mut session = Session::new(alloc, limits);
+    feed_all(alloc, way, &mut session, length, bytes, found)
+}
+
+// Whether pieces of so many bytes give these blobs and this fault, by trees and by rows.
+fn pieces_give(
+    alloc: Global,
+    limits: Limits,
+    length: usize,
     bytes: &[u8],
     blobs: &[u8],
     fault: Option<BlobFault>,
 ) -> bool {
-    let mut found = Vec::new(alloc);
-    let given = read_by(alloc, way, limits, bytes, &mut found);
-    given == fault && found.as_slice() == blobs
+    let mut trees = Vec::new(alloc);
+    let mut rows = Vec::new(alloc);
+    let are_trees = feed_by(alloc, Way::Trees, limits, length, bytes, &mut trees) == fault;
+    let are_rows = feed_by(alloc, Way::Rows, limits, length, bytes, &mut rows) == fault;
+    are_trees & are_rows & (trees.as_slice() == blobs) & (rows.as_slice() == blobs)
 }
 
-// Whether two pieces, cut anywhere, give these.
-fn each_cut_gives(
+// Whether rows, and pieces of each length, give these.
+fn each_way_gives(
     alloc: Global,
     limits: Limits,
     bytes: &[u8],
     blobs: &[u8],
     fault: Option<BlobFault>,
 ) -> bool {
-    for length in 0..bytes.len() {
-        if !gives(alloc, Way::Pieces(length), limits, bytes, blobs, fault) {
-            return false;
-        }
-    }
-    true
-}
-
-// Whether each way gives these.
-fn all_give(
-    alloc: Global,
-    limits: Limits,
-    bytes: &[u8],
-    blobs: &[u8],
-    fault: Option<BlobFault>,
-) -> bool {
-    let mut is_given = each_cut_gives(alloc, limits, bytes, blobs, fault);
-    for way in [Way::Rows, Way::Bytes, Way::RowBytes] {
-        is_given = is_given && gives(alloc, way, limits, bytes, blobs, fault);
+    let mut rows = Vec::new(alloc);
+    let mut is_given = read_by(alloc, Way::Rows, limits, bytes, &mut rows) == fault;
+    is_given &= rows.as_slice() == blobs;
+    for length in 1..bytes.len().saturating_add(1) {
+        is_given &= pieces_give(alloc, limits, length, bytes, blobs, fault);
     }
     is_given
 }
@@ -272,10 +249,17 @@ fn all_give(
 pub fn put_read(alloc: Global, limits: Limits, bytes: &[u8], text: &mut Vec<u8>) {
     let mut blobs = Vec::new(alloc);
     let fault = read_by(alloc, Way::Trees, limits, bytes, &mut blobs);
-    put(text, b"  read");
+    put(text, b"\n  read");
     put_hex(alloc, text, &blobs);
     put_stop(alloc, text, fault);
-    if !all_give(alloc, limits, bytes, &blobs, fault) {
-        put(text, b"  another way differs\n");
+    if !each_way_gives(alloc, limits, bytes, &blobs, fault) {
+        put(text, b"\n  another way differs");
     }
+}
+
+/// Prints the spans of a stream's geometries, as they come with these, and the fault behind them.
+pub fn put_located(alloc: Global, limits: Limits, bytes: &[u8], text: &mut Vec<u8>) {
+    put(text, b"\n  located");
+    let fault = read_by(alloc, Way::Located, limits, bytes, text);
+    put_stop(alloc, text, fault);
 }

@@ -1,9 +1,8 @@
 //! Each way to read a table: the rows of its geometries, and the fault behind them.
-use super::conversions::{packed, put_blobs_of, unpacked};
+use super::conversions::{Conversion, put_conversion};
 use super::text::{put, put_lines, put_stop, table_of};
 use std::alloc::Global;
 use std::io::Read;
-use twkb_convert::Style;
 use twkb_geom::{Flat, Geometry, Limits, Work};
 use twkb_io::Tap;
 use twkb_table::{TableFault, TableReader, header_text, put_flat_rows, put_rows};
@@ -22,54 +21,31 @@ fn put_tree(geometry: &Geometry, rows: &mut Vec<u8>) {
     }
 }
 
-// Appends the rows of a geometry, if there is one; else answers the end, or a fault.
-fn put_found(
-    found: Result<Option<Geometry>, TableFault>,
+// Reads a tree, appends its rows, and answers whether there is one.
+fn read_tree<R: Read>(
+    reader: &mut TableReader<'_, R>,
     rows: &mut Vec<u8>,
-) -> Option<Option<TableFault>> {
-    match found {
+) -> Result<bool, TableFault> {
+    match reader.next() {
         Ok(Some(geometry)) => {
             put_tree(&geometry, rows);
-            None
+            drop(geometry);
+            Ok(true)
         }
-        Ok(None) => Some(None),
-        Err(fault) => Some(Some(fault)),
+        Ok(None) => Ok(false),
+        Err(fault) => Err(fault),
     }
 }
 
-// Reads trees to the end or the fault.
-fn read_trees<R: Read>(
+// The same of a flat form.
+fn read_form<R: Read>(
     reader: &mut TableReader<'_, R>,
-    most: usize,
+    flat: &mut Flat,
     rows: &mut Vec<u8>,
-) -> Option<TableFault> {
-    for _ in 0..most {
-        if let Some(end) = put_found(reader.next(), rows) {
-            return end;
-        }
-    }
-    None
-}
-
-// Reads flat forms.
-fn read_forms<R: Read>(
-    alloc: Global,
-    reader: &mut TableReader<'_, R>,
-    most: usize,
-    rows: &mut Vec<u8>,
-) -> Option<TableFault> {
-    let mut flat = Flat::new(alloc);
-    let mut work = Work::new();
-    for _ in 0..most {
-        match reader.next_flat(&mut flat) {
-            Ok(true) => {
-                let _is_put = put_flat_rows(&flat, &mut work, rows).is_ok();
-            }
-            Ok(false) => return None,
-            Err(fault) => return Some(fault),
-        }
-    }
-    None
+) -> Result<bool, TableFault> {
+    let read = reader.next_flat(flat);
+    let _is_put = put_flat_rows(flat, &mut Work::new(), rows).is_ok();
+    read
 }
 
 // The rows of a table, by trees or by flat forms.
@@ -80,61 +56,64 @@ fn read_by(
     table: &[u8],
     rows: &mut Vec<u8>,
 ) -> Option<TableFault> {
-    let most = table.len().saturating_add(1);
     let mut tap = Tap::new(table);
     let mut reader = TableReader::new(alloc, &mut tap, limits);
-    match way {
-        Way::Trees => read_trees(&mut reader, most, rows),
-        Way::Forms => read_forms(alloc, &mut reader, most, rows),
+    let mut flat = Flat::new(alloc);
+    let mut answer = Ok(true);
+    for _ in 0..table.len().saturating_add(1) {
+        if answer == Ok(true) {
+            answer = match way {
+                Way::Trees => read_tree(&mut reader, rows),
+                Way::Forms => read_form(&mut reader, &mut flat, rows),
+            };
+        }
     }
+    answer.err()
 }
 
-// Whether the forms of a table have these rows and this fault.
-fn forms_have(
+// Whether the forms of a table have these rows and this fault, and its blobs the rows.
+fn is_one(
     alloc: Global,
     limits: Limits,
     table: &[u8],
+    blobs: &[u8],
     rows: &[u8],
     fault: Option<TableFault>,
 ) -> bool {
     let mut found = Vec::new(alloc);
-    read_by(alloc, Way::Forms, limits, table, &mut found) == fault && found.as_slice() == rows
+    let found_fault = read_by(alloc, Way::Forms, limits, table, &mut found);
+    let mut unused = Vec::new(alloc);
+    let unpacked = put_conversion(alloc, Conversion::Unpack, limits, blobs, &mut unused);
+    let has_rows = unpacked.as_slice().strip_prefix(header_text()) == Some(rows);
+    has_rows & (found_fault == fault) & (found.as_slice() == rows)
 }
 
-// Whether the blobs have these rows.
-fn blobs_have(alloc: Global, limits: Limits, blobs: &[u8], rows: &[u8]) -> bool {
-    let table = unpacked(alloc, limits, blobs).written;
-    table.as_slice().strip_prefix(header_text()) == Some(rows)
-}
-
-// Prints the rows of a table's geometries, and why there are no more.
-fn put_rows_of(alloc: Global, rows: &[u8], fault: Option<TableFault>, text: &mut Vec<u8>) {
-    put(text, b"  rows");
-    put_lines(text, rows);
+/// Prints the blobs of a table in a style and its rows, as they are read, and whether a way to read it differs.
+pub fn put_table(
+    alloc: Global,
+    what: Conversion,
+    limits: Limits,
+    table: &[u8],
+    text: &mut Vec<u8>,
+) {
+    let blobs = put_conversion(alloc, what, limits, table, text);
+    let mut rows = Vec::new(alloc);
+    let fault = read_by(alloc, Way::Trees, limits, table, &mut rows);
+    put(text, b"\n  rows");
+    put_lines(text, &rows);
     put_stop(alloc, text, fault);
+    if !is_one(alloc, limits, table, &blobs, &rows, fault) {
+        put(text, b"\n  another way differs");
+    }
 }
 
-/// Prints these of the table of rows.
+/// The same of the table of rows.
 pub fn put_rows_table(
     alloc: Global,
-    style: Style,
+    what: Conversion,
     limits: Limits,
     rows: &[u8],
     text: &mut Vec<u8>,
 ) {
-    put_table(alloc, style, limits, &table_of(alloc, rows), text);
-}
-
-/// Prints the blobs of a table in a style and its rows, as they are read, and whether a way to read it differs.
-pub fn put_table(alloc: Global, style: Style, limits: Limits, table: &[u8], text: &mut Vec<u8>) {
-    let blobs = packed(alloc, style, limits, table);
-    let mut rows = Vec::new(alloc);
-    let fault = read_by(alloc, Way::Trees, limits, table, &mut rows);
-    let is_one = forms_have(alloc, limits, table, &rows, fault)
-        && blobs_have(alloc, limits, &blobs.written, &rows);
-    put_blobs_of(alloc, b"  pack", blobs, text);
-    put_rows_of(alloc, &rows, fault, text);
-    if !is_one {
-        put(text, b"  another way differs\n");
-    }
+    put_table(alloc, what, limits, &table_of(alloc, rows), text);
 }

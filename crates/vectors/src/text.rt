@@ -16,26 +16,27 @@ pub fn put_shown<D: Display>(alloc: Global, text: &mut Vec<u8>, word: &[u8], sho
     }
 }
 
-/// Appends the name of a value, with its parts, behind a space.
-pub fn put_named<D: Debug>(alloc: Global, text: &mut Vec<u8>, named: &D) {
-    if let Ok(words) = format!(in alloc; " {named:?}") {
+/// Appends a word, and a value with the names of its parts.
+pub fn put_named<D: Debug>(alloc: Global, text: &mut Vec<u8>, word: &[u8], named: &D) {
+    put(text, word);
+    if let Ok(words) = format!(in alloc; "{named:?}") {
         put(text, words.as_bytes());
     }
 }
 
-/// Appends counts, each behind a space.
-pub fn put_counts(alloc: Global, text: &mut Vec<u8>, counts: &[u64]) {
+/// Appends a word, and counts, each behind a space.
+pub fn put_counts(alloc: Global, text: &mut Vec<u8>, word: &[u8], counts: &[u64]) {
+    put(text, word);
     for count in counts {
         put_shown(alloc, text, b" ", count);
     }
 }
 
-/// Appends why something stopped, if it did, and ends the line.
+/// Appends why something stopped, if it did.
 pub fn put_stop<D: Display + Copy>(alloc: Global, text: &mut Vec<u8>, stop: Option<D>) {
     if let Some(fault) = stop {
         put_shown(alloc, text, b"; ", &fault);
     }
-    put(text, b"\n");
 }
 
 /// Appends the hexadecimal digits of bytes, if there are any, behind a space.
@@ -49,28 +50,27 @@ pub fn put_hex(alloc: Global, text: &mut Vec<u8>, bytes: &[u8]) {
     }
 }
 
+// Appends bytes, one of them in place of another.
+fn put_replaced(text: &mut Vec<u8>, bytes: &[u8], old: u8, new: u8) {
+    for byte in bytes {
+        put(text, &[if *byte == old { new } else { *byte }]);
+    }
+}
+
 /// Appends lines, if there are any, each ended by a slash, behind a space.
 pub fn put_lines(text: &mut Vec<u8>, lines: &[u8]) {
-    if lines.is_empty() {
-        return;
-    }
-    put(text, b" ");
-    for byte in lines {
-        put(text, &[if *byte == b'\n' { b'/' } else { *byte }]);
+    if !lines.is_empty() {
+        put(text, b" ");
+        put_replaced(text, lines, b'\n', b'/');
     }
 }
 
 /// The lines that a word stands for: a slash ends a line, and an exclamation mark is a carriage return.
 pub fn lines_of(alloc: Global, word: &str) -> Vec<u8> {
+    let mut half = Vec::new(alloc);
+    put_replaced(&mut half, word.as_bytes(), b'/', b'\n');
     let mut lines = Vec::new(alloc);
-    for byte in word.as_bytes() {
-        let meant = match *byte {
-            b'/' => b'\n',
-            b'!' => b'\r',
-            other => other,
-        };
-        put(&mut lines, &[meant]);
-    }
+    put_replaced(&mut lines, &half, b'!', b'\r');
     lines
 }
 
@@ -90,6 +90,11 @@ pub fn bytes_of(alloc: Global, digits: &str) -> Vec<u8> {
 /// The first word, and what follows it.
 pub fn cut_word(line: &str) -> (&str, &str) {
     line.split_once(' ').unwrap_or((line, ""))
+}
+
+/// A number of 64 bits; 0 where it is none.
+pub fn number_of(word: &str) -> u64 {
+    word.parse::<u64>().unwrap_or(0)
 }
 
 /// A number of 32 bits; 0 where it is none.

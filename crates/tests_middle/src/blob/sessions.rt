@@ -1,19 +1,15 @@
 //! Sessions: what is begun, and what is held of a number.
-use super::answers::goes_on;
+use super::ways::fault_of;
 use twkb_blob::{Session, laws};
 use twkb_geom::Limits;
 
-// Whether a session has so many geometries begun, and holds so many bytes of a number.
-fn has_begun(session: &Session, frames: usize, held: usize) -> bool {
-    session.frames() == frames && session.held() == held
-}
-
 // Whether collections are counted as they open, and the first byte of a number is held.
 fn counts(session: &mut Session) -> bool {
-    goes_on(session, b"\x07\x00\x01\x07\x00\x01")
-        && has_begun(session, 2, 0)
-        && goes_on(session, b"\x02\x00\x82")
-        && has_begun(session, 3, 1)
+    let first = fault_of(session, b"\x07\x00\x01\x07\x00\x01");
+    let has_two = (session.frames() == 2) & (session.held() == 0);
+    let second = fault_of(session, b"\x02\x00\x82");
+    let has_three = (session.frames() == 3) & (session.held() == 1);
+    first.is_none() & second.is_none() & has_two & has_three
 }
 
 #[test]

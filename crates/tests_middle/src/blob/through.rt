@@ -1,28 +1,26 @@
 //! Blobs of an input, read through a session that is lent.
-use super::answers::refuses_piece;
-use crate::geometries::{dot, point_and_line, two_points};
+use super::ways::fault_of;
 use std::alloc::Global;
 use std::io::Read;
 use twkb_blob::{BlobFault, BlobReason, Reader, Session};
-use twkb_geom::{Geometry, Limits};
+use twkb_geom::{Limits, NodeId, Work};
 use twkb_io::{Fuse, FuseEnd, InFault, Input, Tap};
 
-// Whether the session lends the rows of this geometry.
-fn lends(alloc: Global, session: &Session, geometry: Option<Geometry>) -> bool {
-    match session.flat().to_geometry(alloc) {
-        Ok(built) => Some(built) == geometry,
-        Err(_) => false,
-    }
-}
-
-// Whether the next geometry is this one.
+// Whether the next geometry has so many rows and points, and its last row this id.
 fn gives<R: Read>(
-    alloc: Global,
     reader: &mut Reader<'_, R>,
     session: &mut Session,
-    geometry: Option<Geometry>,
+    rows: u32,
+    points: u32,
+    last: Option<i64>,
 ) -> bool {
-    reader.next_through(session) == Ok(true) && lends(alloc, session, geometry)
+    let answer = reader.next_through(session);
+    let flat = session.flat();
+    if rows == 0 || flat.node_count() != rows {
+        return false;
+    }
+    let row = flat.node(NodeId(rows - 1), &mut Work::new()).row;
+    (answer == Ok(true)) & (flat.point_count() == points) & (row.id == last)
 }
 
 // Whether a call answers this, and then no row is left and the session takes no further byte.
@@ -31,12 +29,12 @@ fn stops<R: Read>(
     session: &mut Session,
     answer: Result<bool, BlobFault>,
 ) -> bool {
-    reader.next_through(session) == answer
-        && session.flat().is_empty()
-        && refuses_piece(session, b"\x01", BlobFault::Spent)
+    let is_answered = reader.next_through(session) == answer;
+    let is_cleared = session.flat().is_empty();
+    is_answered & is_cleared & (fault_of(session, b"\x01") == Some(BlobFault::Spent))
 }
 
-// Two points with ids, a collection of a point and a line, and a single point.
+// Two points with ids, a collection of a point and an empty line, and a single point.
 const KINDS: &[u8] =
     b"\x04\x04\x02\x02\x04\x00\x00\x02\x02\x07\x04\x02\x0E\x01\x01\x00\x02\x02\x02\x10\x01\x00\x04\x02";
 
@@ -44,17 +42,17 @@ const KINDS: &[u8] =
 fn gives_all<R: Read>(alloc: Global, tap: &mut Tap<R>) -> bool {
     let mut reader = Reader::new(Input::new(tap), Limits::standard());
     let mut session = Session::new(alloc, Limits::standard());
-    gives(alloc, &mut reader, &mut session, two_points(alloc))
-        && gives(alloc, &mut reader, &mut session, point_and_line(alloc))
-        && gives(alloc, &mut reader, &mut session, dot(0, Some((2, 1))))
-        && stops(&mut reader, &mut session, Ok(false))
-        && stops(&mut reader, &mut session, Ok(false))
+    let are_given = gives(&mut reader, &mut session, 3, 2, Some(2))
+        & gives(&mut reader, &mut session, 3, 1, Some(-1))
+        & gives(&mut reader, &mut session, 1, 1, None);
+    are_given
+        & stops(&mut reader, &mut session, Ok(false))
+        & stops(&mut reader, &mut session, Ok(false))
 }
 
 #[test]
 fn blobs_of_an_input_come_through_one_session(rt: HostRuntime) {
-    let mut tap = Tap::new(KINDS);
-    assert!(rt; gives_all(rt.alloc(), &mut tap));
+    assert!(rt; gives_all(rt.alloc(), &mut Tap::new(KINDS)));
 }
 
 // The input ends inside the second blob, at its byte 12.
@@ -68,16 +66,17 @@ fn goes_on_from<R: Read>(alloc: Global, tap: &mut Tap<R>) -> bool {
         offset: 16,
         reason: BlobReason::Truncated,
     };
-    session.feed_flat(b"\x01\x00\x04\x02") == Ok((4, true))
-        && gives(alloc, &mut reader, &mut session, two_points(alloc))
-        && stops(&mut reader, &mut session, Err(fault))
-        && stops(&mut reader, &mut session, Err(BlobFault::Spent))
+    let is_fed = session.feed_flat(b"\x01\x00\x04\x02") == Ok((4, true));
+    let is_given = gives(&mut reader, &mut session, 3, 2, Some(2));
+    is_fed
+        & is_given
+        & stops(&mut reader, &mut session, Err(fault))
+        & stops(&mut reader, &mut session, Err(BlobFault::Spent))
 }
 
 #[test]
 fn a_session_that_was_fed_goes_on_with_an_input(rt: HostRuntime) {
-    let mut tap = Tap::new(CUT);
-    assert!(rt; goes_on_from(rt.alloc(), &mut tap));
+    assert!(rt; goes_on_from(rt.alloc(), &mut Tap::new(CUT)));
 }
 
 // Whether a failed read is told, and leaves no row.
@@ -86,7 +85,7 @@ fn tells_failure<R: Read>(alloc: Global, tap: &mut Tap<R>) -> bool {
     let mut session = Session::new(alloc, Limits::standard());
     let fault = BlobFault::Device(InFault::Read);
     stops(&mut reader, &mut session, Err(fault))
-        && stops(&mut reader, &mut session, Err(BlobFault::Spent))
+        & stops(&mut reader, &mut session, Err(BlobFault::Spent))
 }
 
 #[test]
@@ -94,7 +93,6 @@ fn each_read_that_fails_ends_the_session(rt: HostRuntime) {
     for bytes in 0..7 {
         let line = b"\x02\x00\x02\x02\x02\x08\x08".as_slice();
         let mut tap = Tap::new(Fuse::new(line, bytes, 1, FuseEnd::Fail, false));
-        let is_told = tells_failure(rt.alloc(), &mut tap);
-        assert!(rt; is_told, "{bytes} bytes");
+        assert!(rt; tells_failure(rt.alloc(), &mut tap), "{bytes} bytes");
     }
 }

@@ -20,3 +20,11 @@ fn laws_are_called() {
     laws::refused_tables();
     laws::ranges_of_rows();
 }
+
+#[test]
+fn laws_of_flat_forms_are_called() {
+    twkb_flat::laws::caps();
+    twkb_flat::laws::every_geometry();
+    twkb_flat::laws::one_node();
+    twkb_flat::laws::reads_add_up();
+}

@@ -1,52 +1,29 @@
 //! Sinks that refuse a put.
-ghost use Rattle.std.specs.Prelude.{◌<◌};
-
-use crate::forms::{POINT_AND_LINE, form, row};
+use crate::fixtures::{POINT_AND_LINE, form};
 use std::alloc::Global;
-use twkb_geom::{Flat, Kind, Work};
+use twkb_geom::{Flat, Work};
 use twkb_io::{Fuse, FuseEnd, Output, Tap};
-use twkb_points::Pt;
 use twkb_writer::{Style, measure_flat, write_flat};
 
-// What a device took that fails after some bytes, and whether the flat form was written.
-fn taken(
-    flat: &Flat,
-    style: Style,
-    room: usize,
-    step: usize,
-    alloc: Global,
-) -> Option<(Vec<u8>, bool)>
-    requires { 0 < step }
-{
+// Whether a device with room for so many bytes takes that front of the form's blob, and only the whole blob is told as written.
+fn keeps_a_front(alloc: Global, flat: &Flat, style: Style, blob: &[u8], room: usize) -> bool {
     let mut work = Work::new();
-    let sizes = measure_flat(alloc, flat, style, &mut work).ok()?;
-    let device = Fuse::new(Vec::new(alloc), room as u64, step, FuseEnd::Fail, false);
-    let mut tap = Tap::new(device);
-    let mut output = Output::new(&mut tap);
-    let written = write_flat(flat, style, &sizes, &mut output, &mut work);
-    Some((tap.into_inner().into_inner(), written.is_ok()))
-}
-
-// Whether a device with room for so many bytes takes that front of the blob, and only the whole blob is told as written.
-fn keeps_a_front(flat: &Flat, style: Style, blob: &[u8], room: usize, alloc: Global) -> bool {
-    if room > blob.len() {
-        return false;
-    }
-    match taken(flat, style, room, 3, alloc) {
-        Some((front, written)) => {
-            front.as_slice() == &blob[..room] && written == (room == blob.len())
-        }
-        None => false,
-    }
-}
-
-// Whether that is so in each room up to the blob's length.
-fn keeps_each_front(flat: Option<Flat>, style: Style, blob: &[u8], alloc: Global) -> bool {
-    let Some(flat) = flat else {
+    let Ok(sizes) = measure_flat(alloc, flat, style, &mut work) else {
         return false;
     };
-    for room in 0..blob.len() + 1 {
-        if !keeps_a_front(&flat, style, blob, room, alloc) {
+    let mut tap = Tap::new(Fuse::new(Vec::new(alloc), room as u64, 3, FuseEnd::Fail, false));
+    let mut output = Output::new(&mut tap);
+    let is_written = write_flat(flat, style, &sizes, &mut output, &mut work).is_ok();
+    let front = tap.into_inner().into_inner();
+    let is_whole = room >= blob.len();
+    blob.starts_with(&front) & (front.len() == room.min(blob.len())) & (is_written == is_whole)
+}
+
+// Whether that is so in each room from this one up to the blob's length.
+fn keeps_each_front(alloc: Global, style: Style, blob: &[u8], least: usize) -> bool {
+    let flat = form(alloc, blob);
+    for room in least..blob.len().saturating_add(1) {
+        if !keeps_a_front(alloc, &flat, style, blob, room) {
             return false;
         }
     }
@@ -55,68 +32,27 @@ fn keeps_each_front(flat: Option<Flat>, style: Style, blob: &[u8], alloc: Global
 
 #[test]
 fn a_front_is_written_where_the_device_fails_at_each_byte(rt: HostRuntime) {
-    let blob = b"\x07\x07\x0F\x02\x00\x02\x00\x02\x0E\x01\x01\x02\x02\x02\x02\x02\x12\x00";
-    let flat = form(rt.alloc(), POINT_AND_LINE);
-    assert!(rt;
-        keeps_each_front(flat, Style::Full, blob.as_slice(), rt.alloc()),
-        "fronts"
-    );
+    assert!(rt; keeps_each_front(rt.alloc(), Style::Full, POINT_AND_LINE, 0));
 }
 
-// So many points, each 100 right of the one before it and 100 below it, the first so far from the origin.
-fn slope(count: u32, alloc: Global) -> Option<Vec<Pt>> {
-    let mut points = Vec::new(alloc);
-    let mut far = 0i64;
-    for _ in 0..count {
-        far = far.saturating_add(100);
-        points.push(Pt::try_new(far, far.saturating_neg())?).ok()?;
-    }
-    Some(points)
+// Appends bytes.
+fn put(blob: &mut Vec<u8>, bytes: &[u8]) {
+    let _is_put = blob.extend_from_slice(bytes).is_ok();
 }
 
-// A line of 1100 points.
-fn long_line(alloc: Global) -> Option<Flat> {
-    let points = slope(1100, alloc)?;
-    let mut flat = Flat::new(alloc);
-    let row = row(0, Kind::Linestring, None, Some(0));
-    if !flat.admits(&row, points.as_slice()) {
-        return None;
-    }
-    flat.push(row, points.as_slice()).ok()?;
-    Some(flat)
-}
-
-// Its plain blob, of 4404 bytes, which is more than the writer gathers: type, metadata and count, and each step the same.
-fn long_blob(alloc: Global) -> Option<Vec<u8>> {
-    let mut bytes = Vec::from_slice(alloc, b"\x02\x00\xCC\x08".as_slice()).ok()?;
+// The plain blob of a line of 1100 points, of 4404 bytes, which is more than the writer gathers: type, metadata and count, and
+// each step the same, 100 to the right and 100 down.
+fn long_blob(alloc: Global) -> Vec<u8> {
+    let mut blob = Vec::new(alloc);
+    put(&mut blob, b"\x02\x00\xCC\x08");
     for _ in 0..1100 {
-        bytes
-            .extend_from_slice(b"\xC8\x01\xC7\x01".as_slice())
-            .ok()?;
+        put(&mut blob, b"\xC8\x01\xC7\x01");
     }
-    Some(bytes)
+    blob
 }
 
-// Whether the device keeps a front of the long blob in this room.
-fn keeps_a_long_front(room: usize, alloc: Global) -> bool {
-    match (long_line(alloc), long_blob(alloc)) {
-        (Some(flat), Some(blob)) => {
-            keeps_a_front(&flat, Style::Plain, blob.as_slice(), room, alloc)
-        }
-        _ => false,
-    }
-}
-
+// In the first piece of 4096 bytes, between two pieces, in the last piece, at its last byte, and nowhere.
 #[test]
 fn a_front_of_a_long_blob_is_written_wherever_the_device_fails(rt: HostRuntime) {
-    let rows = [
-        ("in the first piece of 4096 bytes", 4095),
-        ("between two pieces", 4096),
-        ("in the last piece", 4097),
-        ("at the last byte of the last piece", 4403),
-        ("nowhere", 4404),
-    ];
-    for (name, room) in rows {
-        assert!(rt; keeps_a_long_front(room, rt.alloc()), "{name}");
-    }
+    assert!(rt; keeps_each_front(rt.alloc(), Style::Plain, &long_blob(rt.alloc()), 4090));
 }

@@ -1,0 +1,99 @@
+//! Want of memory. Run with each allocation refused in turn (`rt try --test --fail-alloc N`): an answer is then the right one
+//! or want of memory, for good.
+use super::ways::{Way, fault_of, read_twice};
+use std::alloc::Global;
+use twkb_blob::{BlobFault, Session};
+use twkb_geom::Limits;
+use twkb_io::Tap;
+
+// A collection with ids: a multipolygon with an id, and a multilinestring of two lines. Seven rows, three spans.
+const NAMED: &[u8] =
+    b"\x07\x04\x02\x02\x04\x06\x04\x01\x02\x01\x03\x02\x02\x02\x02\x02\x02\x05\x00\x02\x01\x02\x02\x01\x02\x02";
+
+// Collections inside five others, and an empty point. Seven rows, seven spans.
+const DEEP: &[u8] =
+    b"\x07\x00\x01\x07\x00\x01\x07\x00\x01\x07\x00\x01\x07\x00\x01\x07\x00\x01\x01\x10";
+
+// Whether so many rows or spans were given, or memory lacked and the reader was spent.
+fn are_given_or_lack(answers: [Result<u64, BlobFault>; 2], count: u64) -> bool {
+    let [first, second] = answers;
+    let is_lack = (first == Err(BlobFault::Memory)) & (second == Err(BlobFault::Spent));
+    is_lack | (first == Ok(count))
+}
+
+// Whether that is so of a reader of this blob.
+fn gives_or_lacks(alloc: Global, way: Way, blob: &[u8], count: u64) -> bool {
+    are_given_or_lack(read_twice(alloc, way, &mut Tap::new(blob)), count)
+}
+
+// Whether that is so of both blobs.
+fn both_give_or_lack(alloc: Global, way: Way, named: u64, deep: u64) -> bool {
+    let are_named = gives_or_lacks(alloc, way, NAMED, named);
+    are_named & gives_or_lacks(alloc, way, DEEP, deep)
+}
+
+#[test]
+fn each_growth_of_a_reader_may_be_refused(rt: HostRuntime) {
+    let trees = both_give_or_lack(rt.alloc(), Way::Tree, 7, 7);
+    let rows = both_give_or_lack(rt.alloc(), Way::Rows, 7, 7);
+    assert!(rt; trees & rows & both_give_or_lack(rt.alloc(), Way::Located, 3, 7));
+}
+
+// Whether this is want of memory, and the session is spent.
+fn is_spent(session: &mut Session, fault: BlobFault) -> bool {
+    (fault == BlobFault::Memory) & (fault_of(session, &[]) == Some(BlobFault::Spent))
+}
+
+// Whether a session gives a geometry for the whole piece, or lacks memory and is spent.
+fn feeds_or_lacks(session: &mut Session, piece: &[u8]) -> bool {
+    match session.feed(piece) {
+        Ok((used, geometry)) => {
+            let is_given = geometry.is_some();
+            drop(geometry);
+            is_given & (used == piece.len())
+        }
+        Err(fault) => is_spent(session, fault),
+    }
+}
+
+// Whether a session lends seven rows for the whole piece, or lacks memory and is spent.
+fn lends_or_lacks(session: &mut Session, piece: &[u8]) -> bool {
+    match session.feed_flat(piece) {
+        Ok(answer) => (answer == (piece.len(), true)) & (session.flat().node_count() == 7),
+        Err(fault) => is_spent(session, fault),
+    }
+}
+
+// Whether a session takes the bytes one by one and then has no geometry begun, or lacks memory and is spent.
+fn takes_or_lacks(session: &mut Session, bytes: &[u8]) -> bool {
+    for byte in bytes {
+        if let Some(fault) = fault_of(session, &[*byte]) {
+            return is_spent(session, fault);
+        }
+    }
+    session.frames() == 0
+}
+
+// Whether a session that is fed the blob in this way, a tree at once, bytes or rows, gives its geometry, or lacks memory.
+fn is_fed_or_lacks(alloc: Global, way: Way, bytes: &[u8]) -> bool {
+    let mut session = Session::new(alloc, Limits::standard());
+    let is_fed = match way {
+        Way::Tree => feeds_or_lacks(&mut session, bytes),
+        Way::Located => takes_or_lacks(&mut session, bytes),
+        Way::Rows => lends_or_lacks(&mut session, bytes),
+    };
+    drop(session);
+    is_fed
+}
+
+// Whether that is so of both blobs.
+fn both_are_fed_or_lack(alloc: Global, way: Way) -> bool {
+    is_fed_or_lacks(alloc, way, NAMED) & is_fed_or_lacks(alloc, way, DEEP)
+}
+
+#[test]
+fn each_growth_of_a_session_may_be_refused(rt: HostRuntime) {
+    let trees = both_are_fed_or_lack(rt.alloc(), Way::Tree);
+    let bytes = both_are_fed_or_lack(rt.alloc(), Way::Located);
+    assert!(rt; trees & bytes & both_are_fed_or_lack(rt.alloc(), Way::Rows));
+}

@@ -1,0 +1,92 @@
+//! The ways to read a geometry, and to feed a piece.
+use std::alloc::Global;
+use std::io::Read;
+use twkb_blob::{BlobFault, Located, Reader, Session};
+use twkb_geom::{Flat, Limits};
+use twkb_io::{Input, Tap};
+
+/// As a tree, as a tree with its spans, or as rows.
+#[derive(Clone, Copy)]
+pub enum Way {
+    Tree,
+    Located,
+    Rows,
+}
+
+// How many rows there are in a form that was read.
+fn rows_in(flat: &Flat, answer: Result<bool, BlobFault>) -> Result<u64, BlobFault> {
+    match answer {
+        Ok(_) => Ok(u64::from(flat.node_count())),
+        Err(fault) => Err(fault),
+    }
+}
+
+// How many rows the next tree has.
+fn read_tree<R: Read>(alloc: Global, reader: &mut Reader<'_, R>) -> Result<u64, BlobFault> {
+    match reader.next(alloc) {
+        Ok(Some(geometry)) => {
+            let rows = geometry.nodes();
+            drop(geometry);
+            Ok(rows)
+        }
+        Ok(None) => Ok(0),
+        Err(fault) => Err(fault),
+    }
+}
+
+// How many spans come with the next tree.
+fn read_spans<R: Read>(alloc: Global, reader: &mut Reader<'_, R>) -> Result<u64, BlobFault> {
+    match reader.next_located(alloc) {
+        Ok(Some(located)) => {
+            let spans = located.spans.as_slice().len();
+            drop(located);
+            Ok(spans as u64)
+        }
+        Ok(None) => Ok(0),
+        Err(fault) => Err(fault),
+    }
+}
+
+// How many rows are read.
+fn read_rows<R: Read>(
+    alloc: Global,
+    reader: &mut Reader<'_, R>,
+    flat: &mut Flat,
+) -> Result<u64, BlobFault> {
+    let answer = reader.next_flat(alloc, flat);
+    rows_in(flat, answer)
+}
+
+// Reads a geometry: how many rows it has, or spans where it comes with them, 0 where there is none; or the fault.
+fn read<R: Read>(
+    alloc: Global,
+    way: Way,
+    reader: &mut Reader<'_, R>,
+    flat: &mut Flat,
+) -> Result<u64, BlobFault> {
+    match way {
+        Way::Tree => read_tree(alloc, reader),
+        Way::Located => read_spans(alloc, reader),
+        Way::Rows => read_rows(alloc, reader, flat),
+    }
+}
+
+/// What two calls of a reader over a device answer.
+pub fn read_twice<R: Read>(
+    alloc: Global,
+    way: Way,
+    tap: &mut Tap<R>,
+) -> [Result<u64, BlobFault>; 2] {
+    let mut reader = Reader::new(Input::new(tap), Limits::standard());
+    let mut flat = Flat::new(alloc);
+    let first = read(alloc, way, &mut reader, &mut flat);
+    let second = read(alloc, way, &mut reader, &mut flat);
+    drop(flat);
+    drop(reader);
+    [first, second]
+}
+
+/// Why a session refuses a piece, if it does.
+pub fn fault_of(session: &mut Session, piece: &[u8]) -> Option<BlobFault> {
+    session.feed(piece).err()
+}

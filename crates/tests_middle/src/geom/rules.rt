@@ -1,0 +1,68 @@
+//! What a row may be where it stands, each rule once for each answer; and limits. Rows behind others are rows of the program `vectors`.
+use twkb_tree::row_rules::{
+    count_fits, has_place, has_points, has_same_ids, id_allowed, is_whole, may_have, nest_kept,
+};
+use twkb_tree::{Kind, Limits, OpenRow, Standing};
+
+// An open row of this kind, whose first child has an id, if there is one.
+fn under(kind: Kind, child_ids: Option<bool>) -> Option<OpenRow> {
+    Some(OpenRow { kind, child_ids })
+}
+
+#[test]
+fn parents_and_children(rt: HostRuntime) {
+    let collection = under(Kind::Collection, None);
+    let multipoint = under(Kind::MultiPoint, None);
+    let may_be = may_have(Kind::Polygon, Kind::Ring) & !may_have(Kind::Point, Kind::Point);
+    let may_stand = has_place(None, Kind::Collection) & !has_place(collection, Kind::Ring);
+    let are_whole = is_whole(None) & is_whole(collection) & !is_whole(multipoint);
+    let limits = Limits::largest();
+    let are_nested = nest_kept(&limits, collection, 32) & !nest_kept(&limits, collection, 33);
+    assert!(rt; may_be & may_stand & are_whole & are_nested);
+}
+
+#[test]
+fn ids_of_rows(rt: HostRuntime) {
+    let multipoint = under(Kind::MultiPoint, Some(true));
+    let are_allowed = id_allowed(multipoint, Kind::Point, true)
+        & !id_allowed(None, Kind::Point, true);
+    let are_same = has_same_ids(multipoint, true) & !has_same_ids(multipoint, false);
+    let first = OpenRow::default().with_child(true);
+    let is_kept = first.with_child(false) == first;
+    assert!(rt; are_allowed & are_same & is_kept & (first.child_ids == Some(true)));
+}
+
+#[test]
+fn points_of_rows(rt: HostRuntime) {
+    let have_points = has_points(Kind::Ring) & !has_points(Kind::Polygon);
+    let fit = count_fits(Kind::Point, true, 0) & !count_fits(Kind::Point, false, 0);
+    assert!(rt; have_points & fit);
+}
+
+#[test]
+fn a_row_stands_under_the_last_row_above_its_depth(rt: HostRuntime) {
+    let child_ids = None;
+    let kind = Kind::MultiPoint;
+    let rows = [OpenRow::default(), OpenRow { kind, child_ids }];
+    let below = Standing {
+        depth: 2,
+        parent: Some(rows[1]),
+        nodes: 5,
+        points: 3,
+    };
+    let is_below = Standing::at(2, &rows, 5, 3) == Some(below);
+    assert!(rt; is_below & Standing::at(3, &rows, 5, 3).is_none());
+}
+
+// Whether limits have these numbers.
+fn reads(limits: Limits, nest: u32, nodes: u32, points: u32) -> bool {
+    (limits.nest() == nest) & (limits.nodes() == nodes) & (limits.points() == points)
+}
+
+#[test]
+fn limits_and_their_caps(rt: HostRuntime) {
+    let made = Limits::try_new(8, 2, 1).unwrap_or(Limits::standard());
+    let are_caps = reads(Limits::largest(), 32, 1 << 20, 1 << 24)
+        & Limits::try_new(33, 1, 0).is_none();
+    assert!(rt; are_caps & reads(made, 8, 2, 1));
+}

@@ -1,0 +1,86 @@
+//! What no clause says of taps, endings and sinks: that calls succeed, and how often a device is asked. Inputs and outputs are tried by
+//! the program `vectors`.
+use std::alloc::Global;
+use std::io::{Read, Write};
+use twkb_io::{Bytes, Count, Ending, Fuse, FuseEnd, Input, Sink, Tap, copy};
+
+// Whether a read answers so many bytes.
+fn reads<R: Read>(reader: &mut R, count: usize) -> bool {
+    let mut room = [0; 4];
+    reader.read(&mut room).ok() == Some(count)
+}
+
+// Whether a reader of two bytes gives them, and then its end, also where it is asked again.
+fn ends_for_good<R: Read>(ending: &mut Ending<R>) -> bool {
+    let is_given = reads(ending, 2) & !ending.has_ended();
+    is_given & reads(ending, 0) & ending.has_ended() & reads(ending, 0)
+}
+
+#[test]
+fn behind_its_end_a_reader_is_asked_no_more(rt: HostRuntime) {
+    let mut ending = Ending::new(Tap::new(b"ab".as_slice()));
+    let has_ended = ends_for_good(&mut ending);
+    let tap = ending.into_inner();
+    assert!(rt; has_ended & (tap.calls() == 2) & (tap.given() == 2));
+}
+
+// The tap underneath counts the calls that reach it.
+#[test]
+fn each_read_of_a_tap_reaches_its_device_once(rt: HostRuntime) {
+    let mut reader = Tap::new(Tap::new([7].as_slice()));
+    let are_read = reads(&mut reader, 1) & reads(&mut reader, 0);
+    assert!(rt; are_read & (reader.calls() == 2) & (reader.into_inner().calls() == 2));
+}
+
+// Whether bytes are unflushed behind a write, until a flush.
+fn writes_and_flushes<W: Write>(tap: &mut Tap<W>) -> bool {
+    let is_written = tap.write(&[1, 2]).ok() == Some(2);
+    is_written & tap.has_unflushed() & tap.flush().is_ok() & !tap.has_unflushed()
+}
+
+#[test]
+fn each_write_and_flush_of_a_tap_reaches_its_device_once(rt: HostRuntime) {
+    let mut writer = Tap::new(Tap::new(Vec::new(rt.alloc())));
+    let are_written = writes_and_flushes(&mut writer);
+    assert!(rt; are_written & (writer.calls() == 2) & (writer.into_inner().calls() == 2));
+}
+
+// Whether the bytes are taken, at the second put where the first is refused, and then counted.
+fn takes(bytes: &mut Bytes, count: &mut Count, part: &[u8]) -> bool {
+    if bytes.put(part).is_err() && bytes.put(part).is_err() {
+        return false;
+    }
+    count.put(part).is_ok()
+}
+
+// With memory refused at any growth, what was taken is kept, and a later put goes on from there.
+#[test]
+fn a_refused_put_keeps_what_was_taken(rt: HostRuntime) {
+    let mut bytes = Bytes::new(rt.alloc());
+    let mut count = Count::new();
+    let is_taken = takes(&mut bytes, &mut count, &[1; 40])
+        & takes(&mut bytes, &mut count, &[2; 4000]);
+    let kept = bytes.into_vec();
+    let is_kept = (count.total() == 4040) & (kept.len() == 4040);
+    assert!(rt; is_taken & is_kept & kept.starts_with(&[1; 40]) & kept.ends_with(&[2; 4000]));
+}
+
+// Whether what a device gives is copied to its end.
+fn is_copied<R: Read>(tap: &mut Tap<R>, bytes: &mut Bytes) -> bool {
+    copy(&mut Input::new(tap), bytes).is_ok()
+}
+
+// Whether a device of a thousand bytes a call that is cut behind so many is copied so far, and to its end where it does not fail there.
+fn copies(alloc: Global, left: u64, end: FuseEnd) -> bool {
+    let given = [7; 10000];
+    let mut tap = Tap::new(Fuse::new(given.as_slice(), left, 1000, end, false));
+    let mut bytes = Bytes::new(alloc);
+    let is_whole = is_copied(&mut tap, &mut bytes) == (end == FuseEnd::Zero);
+    let copied = bytes.into_vec();
+    is_whole & (copied.len() as u64 == left) & given.starts_with(&copied)
+}
+
+#[test]
+fn a_copy_moves_what_a_device_gives(rt: HostRuntime) {
+    assert!(rt; copies(rt.alloc(), 9999, FuseEnd::Zero) & copies(rt.alloc(), 5, FuseEnd::Fail));
+}

@@ -1,0 +1,202 @@
+//! Copies, flat forms and blobs of geometries, with memory and where it is refused. Run with each allocation refused in turn
+//! (`rt try --test --fail-alloc N`) too: an answer is then the right one or want of memory.
+use crate::fixtures::{
+    NINE_COLLECTIONS, POINT_AND_LINE, THREE_PRECISIONS, TWO_POLYGONS, form, geometry,
+};
+use std::alloc::Global;
+use twkb_geom::{Flat, Geometry, Kind, Limits, Row, Work};
+use twkb_io::Count;
+use twkb_points::Pt;
+use twkb_polyline::decode;
+use twkb_writer::{
+    Depths, EncodeFault, Piece, Sizes, Style, encode_styled, measure, measure_flat, measure_into,
+    write_flat, write_through,
+};
+
+// Whether a copy equals the geometry; and what is answered where memory is refused.
+fn is_copied(alloc: Global, geometry: &Geometry, if_refused: bool) -> bool {
+    match geometry.copy(alloc) {
+        Ok(copy) => {
+            let is_same = copy == *geometry;
+            drop(copy);
+            is_same
+        }
+        Err(_) => if_refused,
+    }
+}
+
+// The same of the geometry of a form, which has rows.
+fn is_built(alloc: Global, flat: &Flat, geometry: &Geometry, if_refused: bool) -> bool {
+    if flat.is_empty() {
+        return false;
+    }
+    match flat.to_geometry(alloc) {
+        Ok(built) => {
+            let is_same = built == *geometry;
+            drop(built);
+            is_same
+        }
+        Err(_) => if_refused,
+    }
+}
+
+// The same of its own form.
+fn has_form(alloc: Global, geometry: &Geometry, if_refused: bool) -> bool {
+    if !geometry.within(&Limits::largest()) {
+        return false;
+    }
+    match Flat::from_geometry(alloc, geometry) {
+        Ok(flat) => {
+            let is_built = is_built(alloc, &flat, geometry, if_refused);
+            drop(flat);
+            is_built
+        }
+        Err(_) => if_refused,
+    }
+}
+
+// Whether the plain blob has the first of these lengths, and the full one is measured as the second; where memory is refused, nothing
+// is put.
+fn is_encoded(alloc: Global, geometry: &Geometry, lengths: (u64, u64), if_refused: bool) -> bool {
+    if !geometry.within(&Limits::largest()) {
+        return false;
+    }
+    let mut sink = Count::new();
+    match encode_styled(alloc, geometry, Style::Plain, &mut sink) {
+        Ok(()) => (sink.total(), measure(geometry)) == lengths,
+        Err(fault) => (fault == EncodeFault::Memory) & (sink.total() == 0) & if_refused,
+    }
+}
+
+// Whether all of this is so.
+fn all_are(alloc: Global, geometry: &Geometry, lengths: (u64, u64), if_refused: bool) -> bool {
+    let is_kept = is_copied(alloc, geometry, if_refused) & has_form(alloc, geometry, if_refused);
+    is_kept & is_encoded(alloc, geometry, lengths, if_refused)
+}
+
+// The same of the geometry of a blob, whose plain and full blobs have these lengths.
+fn holds(alloc: Global, blob: &[u8], lengths: (u64, u64), if_refused: bool) -> bool {
+    match geometry(alloc, blob) {
+        Some(geometry) => {
+            let are_so = all_are(alloc, &geometry, lengths, if_refused);
+            drop(geometry);
+            are_so
+        }
+        None => if_refused,
+    }
+}
+
+// Whether the form of a point and a line is measured and written as three entries and 18 bytes; and what is answered where memory is refused.
+fn is_written(alloc: Global, flat: &Flat, if_refused: bool) -> bool {
+    let mut work = Work::new();
+    let mut sink = Count::new();
+    match measure_flat(alloc, flat, Style::Full, &mut work) {
+        Ok(sizes) => {
+            let is_put = write_flat(flat, Style::Full, &sizes, &mut sink, &mut work).is_ok();
+            let is_counted = (work.points == 1) & (work.nodes == 3) & (work.entries == 3);
+            is_put & is_counted & (sizes.len() == 3) & (sink.total() == 18)
+        }
+        Err(_) => if_refused,
+    }
+}
+
+// Whether that is so of the form of the blob, if it is read.
+fn form_is_written(alloc: Global, if_refused: bool) -> bool {
+    let flat = form(alloc, POINT_AND_LINE);
+    (flat.is_empty() & if_refused) || is_written(alloc, &flat, if_refused)
+}
+
+// Whether all of this is so of three geometries.
+fn all_hold(alloc: Global, if_refused: bool) -> bool {
+    let are_polygons = holds(alloc, TWO_POLYGONS, (11, 16), if_refused);
+    let are_members = holds(alloc, POINT_AND_LINE, (11, 18), if_refused);
+    let are_nested = holds(alloc, THREE_PRECISIONS, (14, 18), if_refused);
+    are_polygons & are_members & are_nested & form_is_written(alloc, if_refused)
+}
+
+#[test]
+fn copies_forms_and_blobs_are_those_of_their_geometry(rt: HostRuntime) {
+    assert!(rt; all_hold(rt.alloc(), false));
+}
+
+#[test]
+fn each_growth_may_be_refused(rt: HostRuntime) {
+    assert!(rt; all_hold(rt.alloc(), true));
+}
+
+// Whether a form that held more takes a point's row, and that row in place of it, without a growth.
+fn takes_rows_again(flat: &mut Flat, own: &mut Vec<Pt>) -> bool {
+    flat.clear();
+    let row = Row {
+        depth: 0,
+        kind: Kind::Point,
+        id: None,
+        precision: Some(0),
+    };
+    if !flat.admits(&row, own) {
+        return false;
+    }
+    let is_pushed = flat.push(row, own).is_ok() & (flat.node_count() == 1);
+    is_pushed & flat.begin(row, own).is_ok() & (flat.point_count() == 1)
+}
+
+#[test]
+fn rows_in_place_of_others_ask_for_no_growth(rt: HostRuntime) {
+    let mut flat = form(rt.alloc(), TWO_POLYGONS);
+    if !flat.is_empty() {
+        if let Ok(mut own) = decode(rt.alloc(), b"AC", 1) {
+            assert!(rt; takes_rows_again(&mut flat, &mut own));
+        }
+    }
+}
+
+// What is lent from one geometry to the next.
+#[derive(Drop)]
+struct Room {
+    depths: Depths,
+    sizes: Sizes,
+    piece: Piece,
+}
+
+// Whether a flat form is measured, and written to a sink that takes no memory.
+fn is_done(flat: &Flat, style: Style, room: &mut Room) -> bool {
+    let mut work = Work::new();
+    let mut sink = Count::new();
+    if measure_into(flat, style, &mut room.depths, &mut room.sizes, &mut work).is_err() {
+        return false;
+    }
+    write_through(
+        flat,
+        style,
+        &room.sizes,
+        &mut room.piece,
+        &mut sink,
+        &mut work,
+    )
+    .is_ok()
+}
+
+// Whether the other form is measured and written without a growth, once the largest was, and then that in another style.
+fn asks_for_no_growth(alloc: Global, largest: &Flat, other: &Flat) -> bool {
+    let mut room = Room {
+        depths: Depths::new(),
+        sizes: Sizes::new(alloc),
+        piece: Piece::new(),
+    };
+    if !is_done(largest, Style::Full, &mut room) {
+        return true;
+    }
+    is_done(other, Style::Full, &mut room) & is_done(largest, Style::Plain, &mut room)
+}
+
+#[test]
+fn room_that_has_grown_grows_no_more(rt: HostRuntime) {
+    let alloc = rt.alloc();
+    assert!(rt;
+        asks_for_no_growth(
+            alloc,
+            &form(alloc, NINE_COLLECTIONS),
+            &form(alloc, TWO_POLYGONS)
+        )
+    );
+}

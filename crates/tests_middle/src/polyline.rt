@@ -1,0 +1,50 @@
+//! Want of memory, the text of its fault, and the laws. Vectors of polylines are those of the program `vectors`.
+use std::alloc::Global;
+use twkb_points::Pt;
+use twkb_polyline::{PolyFault, decode, decode_into, encode, encode_into, laws};
+
+// Far points, whose text grows more than once, and near ones, of which there are more.
+const FAR: &[u8] = b"A____________CA~~~~~~~~~~~~FA____________G";
+
+const NEAR: &[u8] = b"AAAAAAAAAAAAAAAAAA";
+
+// Whether the text is written of these points, or memory is refused; and by a lent vector that is then empty.
+fn is_written(alloc: Global, points: &[Pt], text: &[u8]) -> bool {
+    let mut lent = Vec::new(alloc);
+    let is_lent = match encode_into(points, &mut lent) {
+        Ok(()) => lent.as_slice() == text,
+        Err(_) => lent.is_empty(),
+    };
+    match encode(alloc, points) {
+        Ok(written) => is_lent & (written.as_slice() == text),
+        Err(_) => is_lent,
+    }
+}
+
+// Whether the points of the text are read and give it again, or memory is refused; and by a lent vector that is then empty.
+fn is_read(alloc: Global, text: &[u8]) -> bool {
+    let mut lent = Vec::new(alloc);
+    let is_lent = match decode_into(text, 9, &mut lent) {
+        Ok(()) => is_written(alloc, &lent, text),
+        Err(fault) => (fault == PolyFault::Memory) & lent.is_empty(),
+    };
+    match decode(alloc, text, 9) {
+        Ok(points) => is_lent & (points.len() > 2),
+        Err(fault) => is_lent & (fault == PolyFault::Memory),
+    }
+}
+
+#[test]
+fn each_growth_may_be_refused(rt: HostRuntime) {
+    assert!(rt; is_read(rt.alloc(), NEAR) & is_read(rt.alloc(), FAR));
+}
+
+#[test]
+fn laws_can_be_called() {
+    laws::distinct_lists();
+    laws::no_polyline();
+    laws::one_fault();
+    laws::polyline_or_fault();
+    laws::samples();
+    laws::too_long_numbers();
+}
