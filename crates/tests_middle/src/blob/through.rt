@@ -4,12 +4,15 @@ use crate::geometries::{dot, point_and_line, two_points};
 use std::alloc::Global;
 use std::io::Read;
 use twkb_blob::{BlobFault, BlobReason, Reader, Session};
-use twkb_geom::{Geometry, Limits};
+use twkb_geom::{Flat, Geometry, Limits};
 use twkb_io::{Fuse, FuseEnd, InFault, Input, Tap};
 
-// Whether the session lends the rows of this geometry.
-fn lends(alloc: Global, session: &Session, geometry: Option<Geometry>) -> bool {
-    match session.flat().to_geometry(alloc) {
+// Whether the form has the rows of this geometry.
+fn has_rows(alloc: Global, flat: &Flat, geometry: Option<Geometry>) -> bool {
+    if flat.is_empty() {
+        return false;
+    }
+    match flat.to_geometry(alloc) {
         Ok(built) => Some(built) == geometry,
         Err(_) => false,
     }
@@ -22,7 +25,7 @@ fn gives<R: Read>(
     session: &mut Session,
     geometry: Option<Geometry>,
 ) -> bool {
-    reader.next_through(session) == Ok(true) && lends(alloc, session, geometry)
+    reader.next_through(session) == Ok(true) && has_rows(alloc, session.flat(), geometry)
 }
 
 // Whether a call answers this, and then no row is left and the session takes no further byte.
