@@ -12,10 +12,11 @@ use Rattle.twkb_io.specs.declared.input.InFault.{InFault}
 use Rattle.twkb_io.specs.declared.input.InFault.TheVariants as stopped
 use Rattle.twkb_io.specs.Inputs.{given, rest_of, is_spent as input_spent}
 use Rattle.twkb_engine.specs.Stops.{reason_of}
-use Rattle.twkb_blob.specs.Readers.{Left, IsFull, told_by}
+use Rattle.twkb_blob.specs.Readers.{Left, IsFull, told_by, is_spent, has_ended}
 use Rattle.twkb_blob.specs.Sessions.{AreBegun, PartAt, Stands, session_limits, session_rows}
 use Rattle.twkb_blob.specs.declared.fault.BlobFault.{BlobFault}
 use Rattle.twkb_blob.specs.declared.fault.BlobFault.TheVariants as fault
+use Rattle.twkb_blob.specs.declared.reader.Reader.{Reader}
 use Rattle.twkb_blob.specs.declared.reading.Fed.{Fed}
 use Rattle.twkb_blob.specs.declared.reading.Fed.TheVariants as piece
 use Rattle.twkb_blob.specs.declared.session.Session.{Session}
@@ -28,6 +29,10 @@ pub record IsAbreast {R : Type 0} {read : Ghosts R} (limits : Allowance) (input 
   pub blobs : Stream limits bytes gs
   pub same_limits : session_limits s ≡ limits
   pub as_many : given input ≡ length bytes
+
+-- this, where the reader answered neither an error nor the end
+abbrev pub IfGoingOn : {R : Type 0} {read : Ghosts R} → Reader R read → Type 0 → Type 0
+IfGoingOn r fact = is_spent r ≡ false → has_ended r ≡ false → fact
 
 -- Bytes left the input, and with them the bytes before are a stream of one geometry more, for which the session stands, and whose rows it has.
 pub record GoesOn {R : Type 0} {read : Ghosts R} (limits : Allowance) (bytes : List ℕ) (gs : List Tree) (old new : Input R read) (s : Session) : Type 0 where

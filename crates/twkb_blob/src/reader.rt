@@ -30,7 +30,7 @@ impl<'a, R: Read> Reader<'a, R> {
     ghost use Rattle.twkb_blob.specs.Readers.{reader_input, reader_limits, is_spent, has_ended, IsNext, IsNextFlat, PartAhead, failed_by_read};
     ghost use Rattle.twkb_blob.specs.Located.{IsLocated, IsSpanned};
     ghost use Rattle.twkb_blob.specs.Sessions.{Stands, is_spent as is_finished, session_limits, session_rows};
-    ghost use Rattle.twkb_blob.specs.Through.{IsAbreast, IsThrough};
+    ghost use Rattle.twkb_blob.specs.Through.{IfGoingOn, IsAbreast, IsThrough};
 
     /// A reader of what the input still has. Takes no memory.
     pub fn new(input: Input<'a, R>, limits: Limits) -> Reader<'a, R>
@@ -115,13 +115,13 @@ impl<'a, R: Read> Reader<'a, R> {
     pub fn next_through(&mut self, session: &mut Session) -> Result<bool, BlobFault>
         ensures same_tap { (input_tap (reader_input self.new)).ghost_name ≡ (input_tap (reader_input self.old)).ghost_name }
         ensures limits { reader_limits self.new ≡ reader_limits self.old }
-        ensures next { IsAbreast (reader_limits self.old) (reader_input self.old) session.old → is_spent self.old ≡ false → has_ended self.old ≡ false → IsNextFlat (reader_limits self.old) (reader_input self.old) (reader_input self.new) result (session_rows session.new) }
+        ensures next { IsAbreast (reader_limits self.old) (reader_input self.old) session.old → IfGoingOn self.old (IsNextFlat (reader_limits self.old) (reader_input self.old) (reader_input self.new) result (session_rows session.new)) }
         ensures memory { IsAbreast (reader_limits self.old) (reader_input self.old) session.old → result ≡ Err BlobFault.Memory → PartAhead (reader_limits self.old) [] (reader_input self.old) }
         ensures failures { input_failures (reader_input self.new) ≡ count_failure (failed_by_read result) (input_failures (reader_input self.old)) }
         ensures cleared { (result ≡ Ok true) ⊎ (session_rows session.new ≡ []) }
         ensures some { IsAbreast (reader_limits self.old) (reader_input self.old) session.old → result ≡ Ok true → 0 < length (session_rows session.new) }
 
-        ensures through { (bytes : List ℕ) (gs : List Tree) → Stands bytes gs session.old → is_spent self.old ≡ false → has_ended self.old ≡ false → IsThrough (session_limits session.old) bytes gs (reader_input self.old) (reader_input self.new) result session.new }
+        ensures through { (bytes : List ℕ) (gs : List Tree) → Stands bytes gs session.old → IfGoingOn self.old (IsThrough (session_limits session.old) bytes gs (reader_input self.old) (reader_input self.new) result session.new) }
         ensures abreast { IsAbreast (reader_limits self.old) (reader_input self.old) session.old → result ≡ Ok true → IsAbreast (reader_limits self.old) (reader_input self.new) session.new }
         ensures session_limits { session_limits session.new ≡ session_limits session.old }
         ensures finished { (result ≡ Ok true) ⊎ (is_finished session.new ≡ true) }
