@@ -7,13 +7,12 @@ ghost use Rattle.twkb_convert.specs.BlobReading.{given, is_input_spent, limits_o
 ghost use Rattle.twkb_convert.specs.Listings.{blobs_text, listing_text};
 ghost use Rattle.twkb_convert.specs.BlobSending.{CutText, EndsBlobs, Follows, IsEnded, IsReady, SentBlob, SentText, StopsBlob, StopsRead, UnlessOutput};
 
-use crate::blob_text::next_text;
+use crate::blob_text::{TextRoom, next_text};
 use crate::listing::{Listing, first_text};
 use crate::obstacle::{StreamObstacle, Unfinished};
 use std::alloc::Global;
 use std::io::{Read, Write};
-use twkb_blob::{Reader, Session, Spans};
-use twkb_flat::Flat;
+use twkb_blob::{Reader, Session};
 use twkb_io::{Output, Sink};
 use twkb_tree::Limits;
 
@@ -45,19 +44,16 @@ pub(crate) fn send_listing_and_flush<R: Read, W: Write>(
                 return Err(stop);
             }
             if let Err(fault) = output.flush() {
-                return Err(Unfinished {
-                    done: stop.done,
-                    why: StreamObstacle::Output(fault),
-                });
+                let done = stop.done;
+                let why = StreamObstacle::Output(fault);
+                return Err(Unfinished { done, why });
             }
             return Err(stop);
         }
     };
     if let Err(fault) = output.flush() {
-        return Err(Unfinished {
-            done,
-            why: StreamObstacle::Output(fault),
-        });
+        let why = StreamObstacle::Output(fault);
+        return Err(Unfinished { done, why });
     }
     Ok(done)
 }
@@ -111,21 +107,10 @@ fn send_blobs<R: Read, W: Write>(
 {
     twkb_grammar::laws::some_byte();
     let mut session = Session::new(alloc, limits);
-    let mut form = Flat::new(alloc);
-    let mut spans = Spans::new(alloc);
-    let mut text = Vec::new(alloc);
+    let mut room = TextRoom::new(alloc);
     let mut done = 0;
     loop {
-        match send_blob(
-            what,
-            alloc,
-            reader,
-            &mut session,
-            &mut form,
-            &mut spans,
-            &mut text,
-            output,
-        ) {
+        match send_blob(what, alloc, reader, &mut session, &mut room, output) {
             Ok(true) => done += 1,
             Ok(false) => return Ok(done),
             Err(why) => return Err(Unfinished { done, why }),
@@ -139,9 +124,7 @@ fn send_blob<R: Read, W: Write>(
     alloc: Global,
     reader: &mut Reader<'_, R>,
     session: &mut Session,
-    form: &mut Flat,
-    spans: &mut Spans,
-    text: &mut Vec<u8>,
+    room: &mut TextRoom,
     output: &mut Output<'_, W>,
 ) -> Result<bool, StreamObstacle>
     requires reader { is_spent reader.old ≡ false }
@@ -159,12 +142,12 @@ fn send_blob<R: Read, W: Write>(
     ensures err { IfErr result (λ why. StopsBlob what W.contents reader.old output.old why reader.new output.new) }
     ensures stops { IfErr result (λ why. StopsRead reader.old why reader.new) }
 {
-    match next_text(what, alloc, reader, session, form, spans, text) {
+    match next_text(what, alloc, reader, session, room) {
         Ok(true) => {}
         Ok(false) => return Ok(false),
         Err(fault) => return Err(StreamObstacle::Stream(fault)),
     }
-    if let Err(fault) = output.put(text.as_slice()) {
+    if let Err(fault) = output.put(room.text.as_slice()) {
         return Err(StreamObstacle::Output(fault));
     }
     Ok(true)

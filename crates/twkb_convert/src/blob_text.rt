@@ -12,22 +12,40 @@ use twkb_blob::{BlobFault, Reader, Session, Spans};
 use twkb_flat::{Flat, Work};
 use twkb_table::put_flat_rows;
 
-// Reads the next blob, if there is one, and makes the text what is written of it. A table's rows come
-// through the session; form and list are room for the rows and spans of which lines are made.
+// What is kept from one blob to the next: room for the rows and the spans of which lines are made, and
+// the text of a blob.
+#[derive(Drop)]
+pub(crate) struct TextRoom {
+    form: Flat,
+    spans: Spans,
+    pub(crate) text: Vec<u8>,
+}
+
+impl TextRoom {
+    // Takes no memory.
+    pub(crate) fn new(alloc: Global) -> TextRoom {
+        TextRoom {
+            form: Flat::new(alloc),
+            spans: Spans::new(alloc),
+            text: Vec::new(alloc),
+        }
+    }
+}
+
+// Reads the next blob, if there is one, and makes the room's text what is written of it. A table's
+// rows come through the session.
 pub(crate) fn next_text<R: Read>(
     what: Listing,
     alloc: Global,
     reader: &mut Reader<'_, R>,
     session: &mut Session,
-    form: &mut Flat,
-    spans: &mut Spans,
-    text: &mut Vec<u8>,
+    room: &mut TextRoom,
 ) -> Result<bool, BlobFault>
     requires reader { is_spent reader.old ≡ false }
     requires going_on { has_ended reader.old ≡ false }
     requires input { is_input_spent reader.old ≡ false }
     requires session { IsReady what reader.old session.old }
-    ensures more { IfOk result (λ found. found ≡ true → GivesText what reader.old reader.new text.new.items) }
+    ensures more { IfOk result (λ found. found ≡ true → GivesText what reader.old reader.new room.new.text.items) }
     ensures fresh { IfOk result (λ found. is_spent reader.new ≡ false) }
     ensures going_on { IfOk result (λ found. found ≡ true → has_ended reader.new ≡ false) }
     ensures input { IfOk result (λ found. found ≡ true → is_input_spent reader.new ≡ false) }
@@ -38,8 +56,8 @@ pub(crate) fn next_text<R: Read>(
     ensures stops { IfErr result (λ fault. Follows reader.old reader.new (is_read_stop fault)) }
 {
     match what {
-        Listing::Table => next_rows(reader, session, text),
-        Listing::Headers => next_lines(alloc, reader, form, spans, text),
+        Listing::Table => next_rows(reader, session, &mut room.text),
+        Listing::Headers => next_lines(alloc, reader, room),
     }
 }
 
@@ -75,18 +93,16 @@ fn next_rows<R: Read>(
     Ok(true)
 }
 
-// Makes the text that of the headers of the next blob.
+// Makes the room's text that of the headers of the next blob.
 fn next_lines<R: Read>(
     alloc: Global,
     reader: &mut Reader<'_, R>,
-    form: &mut Flat,
-    spans: &mut Spans,
-    text: &mut Vec<u8>,
+    room: &mut TextRoom,
 ) -> Result<bool, BlobFault>
     requires reader { is_spent reader.old ≡ false }
     requires going_on { has_ended reader.old ≡ false }
     requires input { is_input_spent reader.old ≡ false }
-    ensures more { IfOk result (λ found. found ≡ true → GivesText Listing.Headers reader.old reader.new text.new.items) }
+    ensures more { IfOk result (λ found. found ≡ true → GivesText Listing.Headers reader.old reader.new room.new.text.items) }
     ensures fresh { IfOk result (λ found. is_spent reader.new ≡ false) }
     ensures going_on { IfOk result (λ found. found ≡ true → has_ended reader.new ≡ false) }
     ensures input { IfOk result (λ found. found ≡ true → is_input_spent reader.new ≡ false) }
@@ -95,13 +111,13 @@ fn next_lines<R: Read>(
     ensures err { IfErr result (λ fault. StopsText reader.old fault reader.new) }
     ensures stops { IfErr result (λ fault. Follows reader.old reader.new (is_read_stop fault)) }
 {
-    match reader.next_spans(alloc, form, spans) {
+    match reader.next_spans(alloc, &mut room.form, &mut room.spans) {
         Ok(true) => {}
         Ok(false) => return Ok(false),
         Err(fault) => return Err(fault),
     }
-    text.clear();
-    if put_lines(spans.as_slice(), text).is_err() {
+    room.text.clear();
+    if put_lines(room.spans.as_slice(), &mut room.text).is_err() {
         return Err(BlobFault::Memory);
     }
     Ok(true)

@@ -18,7 +18,8 @@ use twkb_table::TableFault;
 use twkb_tree::Limits;
 use twkb_writer::Style;
 
-/// `pack_styled` with sizes, and with boxes where they may be.
+/// Packs a table into a stream of TWKB blobs, each geometry with its size, and with its bounding box
+/// where it may have one: `pack_styled` in the full style.
 pub fn pack<R: Read, W: Write>(
     alloc: Global,
     reader: &mut Tap<R>,
@@ -32,11 +33,15 @@ pub fn pack<R: Read, W: Write>(
     pack_styled(alloc, reader, writer, limits, Style::Full)
 }
 
-/// Packs a table in a style: reads its records to the reader's end, and writes the canonical blob
-/// of each geometry once the row behind it was accepted or the table's end was met (TWKB; encoded
-/// polyline; RFC 4180). Where no write failed, the writer is flushed as the last act. Takes memory
-/// for one record and one geometry with its sizes. Behind the end that `csv` met the reader is asked
-/// once more: lend one that may go on behind an end, as a terminal, under `twkb_io::Ending`.
+/// Packs a table into a stream in a style: reads its records to the reader's end, and writes the
+/// canonical blob of each geometry once the row behind it was accepted or the table's end was met
+/// (records: RFC 4180; their polylines: Encoded Polyline Algorithm Format; blobs: TWKB; the columns,
+/// and which blob is canonical: profile). Each geometry is to keep the limits. A refused record stops
+/// it; the geometry before that one is not written, since the record might have belonged to it. The
+/// writer is flushed as the last act, but where it failed or more than 2^62 bytes would be written.
+/// Takes memory for one record and one geometry with its sizes. Behind the end that `csv` met the
+/// reader is asked once more: lend one that may go on behind an end, as a terminal, under
+/// `twkb_io::Ending`.
 pub fn pack_styled<R: Read, W: Write>(
     alloc: Global,
     reader: &mut Tap<R>,

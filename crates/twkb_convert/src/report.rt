@@ -15,25 +15,28 @@ pub struct Report {
 /// Why a conversion stopped.
 #[derive(Clone, Copy, Debug, PartialEq, Eq, Error)]
 pub enum Cause {
-    /// A record of the table is refused. Records are counted from 1, which is the header.
+    /// A record of the table that is packed is refused. Records are counted from 1, which is the
+    /// header.
     #[error("record {number}: {reason}")]
     Row { number: u64, reason: RowReason },
-    /// An item of the stream is refused. Its offset is counted in bytes from the stream's start.
+    /// An item of the stream that is unpacked or shown is refused. Its offset is counted in bytes from
+    /// the stream's start.
     #[error("byte {offset}: {reason}")]
     Blob { offset: u64, reason: BlobReason },
-    /// The reader failed.
+    /// A read failed.
     #[error("read failed")]
     ReadDevice,
-    /// The writer failed, or took nothing.
+    /// A write or a flush failed, or a write took nothing.
     #[error("write failed")]
     WriteDevice,
     /// No memory was found.
     #[error("out of memory")]
     Memory,
-    /// More than 2^62 bytes would be read or written.
+    /// More than 2^62 bytes would be written or, of a stream, read; or a table's reader gave 2^64 - 1
+    /// bytes and no end.
     #[error("input or output too long")]
     TooLong,
-    /// The table has a record of number 2^32.
+    /// The table that is packed has a record of number 2^32.
     #[error("too many records")]
     TooManyRecords,
 }
@@ -46,5 +49,6 @@ pub struct ConvertFault {
     pub done: u64,
     /// The bytes that the writer took.
     pub sent: u64,
+    /// Why no more.
     pub cause: Cause,
 }

@@ -18,7 +18,8 @@ const LEAST_PRECISION: i64 = -8;
 
 const GREATEST_PRECISION: i64 = 7;
 
-/// The depth from 0 to 999 whose canonical decimal the field is (profile). Takes no memory.
+/// The depth from 0 to 999 whose canonical decimal the field is, if it is one (profile). Takes no
+/// memory.
 #[inline(always)]
 pub fn parse_depth(field: &[u8]) -> Option<u32>
     ensures reads { Reads (IsDepthField field.now) result }
@@ -29,7 +30,7 @@ pub fn parse_depth(field: &[u8]) -> Option<u32>
     }
 }
 
-/// The id, any i64, whose canonical decimal the field is (profile). Takes no memory.
+/// The id, any i64, whose canonical decimal the field is, if it is one (profile). Takes no memory.
 #[inline(always)]
 pub fn parse_id(field: &[u8]) -> Option<i64>
     ensures reads { Reads (IsIdField field.now) result }
@@ -94,7 +95,8 @@ fn read_decimal(field: &[u8]) -> Option<i64>
     }
 }
 
-/// The precision from -8 to 7 whose canonical decimal the field is (profile). Takes no memory.
+/// The precision from -8 to 7 whose canonical decimal the field is, if it is one (profile). Takes no
+/// memory.
 #[inline(always)]
 pub fn parse_precision(field: &[u8]) -> Option<i8>
     ensures reads { Reads (IsPrecisionField field.now) result }
@@ -107,7 +109,8 @@ pub fn parse_precision(field: &[u8]) -> Option<i8>
     }
 }
 
-/// The id that the field spells, and no id where the field is empty (profile). Takes no memory.
+/// The id that the field spells, `Some(None)` where the field is empty, and `None` where it is neither
+/// (profile). Takes no memory.
 #[inline(always)]
 pub fn parse_optional_id(field: &[u8]) -> Option<Option<i64>>
     ensures reads { Reads (IsOptionalId field.now) result }
@@ -121,7 +124,8 @@ pub fn parse_optional_id(field: &[u8]) -> Option<Option<i64>>
     }
 }
 
-/// The precision that the field spells, and none where the field is empty (profile). Takes no memory.
+/// The precision that the field spells, `Some(None)` where the field is empty, and `None` where it is
+/// neither (profile). Takes no memory.
 #[inline(always)]
 pub fn parse_optional_precision(field: &[u8]) -> Option<Option<i8>>
     ensures reads { Reads (IsOptionalPrecision field.now) result }
@@ -147,8 +151,9 @@ pub(crate) fn one_digit(number: i64) -> Option<u8>
     }
 }
 
-/// Appends the canonical decimal of a number (profile). Takes memory for the text alone; where that
-/// is refused, the text is as it was.
+/// Appends the canonical decimal of a number: its digits without a leading zero, after a minus sign
+/// where it is below 0 (profile). Takes memory for the text alone; where that is refused, the text is
+/// as it was.
 pub fn push_decimal(text: &mut Vec<u8>, number: i64) -> Result<(), AllocError>
     ensures appended { OnOk result (text.new.items ≡ text.old.items ++ signed_decimal number) }
     ensures same { OnErr result (text.new.items ≡ text.old.items) }

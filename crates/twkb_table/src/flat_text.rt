@@ -8,8 +8,9 @@ use crate::row_line::put_row;
 use std::alloc::AllocError;
 use twkb_flat::{Flat, NodeId, Work};
 
-/// Appends the lines of the rows of a flat form, each ended by LF (profile). Takes memory for the
-/// text alone; where that is refused, the text is as it was.
+/// Appends the lines of the rows of a flat form, each ended by LF and none of them the header (profile;
+/// their polylines: Encoded Polyline Algorithm Format), and counts in `work` what it reads. Takes memory
+/// for the text alone; where that is refused, the text is as it was.
 pub fn put_flat_rows(flat: &Flat, work: &mut Work, text: &mut Vec<u8>) -> Result<(), AllocError>
     ensures appended { OnOk result (text.new.items ≡ text.old.items ++ csvtext (map record_of flat.now)) }
     ensures same { OnErr result (text.new.items ≡ text.old.items) }

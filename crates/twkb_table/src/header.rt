@@ -7,7 +7,7 @@ ghost use Rattle.twkb_table.specs.Text.{csvtext};
 use crate::fields::{FIELD_COUNT, five_fields};
 use csv::ByteRecord;
 
-/// The header's line with its LF (profile). Takes no memory.
+/// The header's line with its LF: `depth,kind,id,precision,polyline` (profile). Takes no memory.
 pub fn header_text() -> &'static [u8]
     ensures text { result.now ≡ csvtext (header ∷ []) }
 {

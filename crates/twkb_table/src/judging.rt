@@ -116,7 +116,8 @@ pub(crate) fn judge_head<'a>(
 
 /// What a record after the first is, after rows so far with these open rows, the root first, and
 /// these counts of rows and points since the last root: its row, or the first reason that holds of
-/// it (profile). The row's points replace those held in `points`, which alone takes memory.
+/// it (profile). The row's points replace those held in `points`, which alone takes memory; after an
+/// `Err` nothing is said of what it holds.
 #[inline(always)]
 pub fn judge(
     limits: &Limits,

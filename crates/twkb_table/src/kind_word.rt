@@ -6,7 +6,8 @@ ghost use Rattle.twkb_tree.specs.Kind.{word_of};
 
 use twkb_tree::Kind;
 
-/// The kind whose word the field is (profile). Takes no memory.
+/// The kind whose word the field is, if it is one: `point`, `linestring`, `polygon`, `ring`,
+/// `multipoint`, `multilinestring`, `multipolygon` or `collection` (profile). Takes no memory.
 #[inline(always)]
 pub fn parse_kind(field: &[u8]) -> Option<Kind>
     ensures reads { Reads (λ kind. field.now ≡ word_of kind) result }

@@ -1,4 +1,4 @@
-//! Tables of geometries: their fields, definitions and laws.
+//! Tables of geometries as CSV text: their fields and rows, read and written, and the laws of both.
 #![tactic(auto)]
 
 mod decimal;

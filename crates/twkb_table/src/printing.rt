@@ -15,8 +15,9 @@ use twkb_flat::{Row, own_row};
 use twkb_points::Pt;
 use twkb_tree::{Geometry, Ids, Kind, Lines, Members, Pts, Shape, id_at};
 
-/// The lines of the geometry's rows, each ended by LF and none of them the header (profile). Takes
-/// memory for the text alone.
+/// The lines of the geometry's rows, each ended by LF and none of them the header (profile; their
+/// polylines: Encoded Polyline Algorithm Format). The geometry nests no deeper than the largest limits
+/// let it, at most 32 collections round a member. Takes memory for the text alone.
 pub fn rows_text(alloc: Global, geometry: &Geometry) -> Result<Vec<u8>, AllocError>
     requires nest { nest geometry.now ≤ largest_limits.nest }
     ensures { IfOk result (λ text. text.items ≡ csvtext (map record_of (rows 0 geometry.now))) }
@@ -26,8 +27,8 @@ pub fn rows_text(alloc: Global, geometry: &Geometry) -> Result<Vec<u8>, AllocErr
     Ok(text)
 }
 
-/// Appends the lines of the geometry's rows, each ended by LF (profile). Takes memory for the text
-/// alone; where that is refused, the text is as it was.
+/// Appends the lines of the geometry's rows, as `rows_text` gives them. Takes memory for the text alone;
+/// where that is refused, the text is as it was.
 #[tactic(auto, unfolding(crate::specs::Printing::row_lines))]
 pub fn put_rows(geometry: &Geometry, text: &mut Vec<u8>) -> Result<(), AllocError>
     requires nest { nest geometry.now ≤ largest_limits.nest }

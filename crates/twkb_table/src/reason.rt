@@ -2,7 +2,7 @@
 use thiserror::Error;
 use twkb_polyline::PolyReason;
 
-/// Why a record is no row of a table, in the order of the checks.
+/// Why a record is no row of a table, in the order of the checks (profile).
 #[derive(Clone, Copy, Debug, PartialEq, Eq, Error)]
 pub enum RowReason {
     /// The first record is missing, or is not the header.
@@ -17,13 +17,13 @@ pub enum RowReason {
     /// The kind is none of the eight words.
     #[error("unknown kind")]
     BadKind,
-    /// The row skips a depth, or its parent may not have this kind.
+    /// The row skips a depth, or a root is a ring, or its parent may not have this kind.
     #[error("kind not allowed there")]
     BadPlace,
     /// The parent is a collection inside as many collections as may nest.
     #[error("nested too deep")]
     TooDeep,
-    /// The geometry has as many rows as it may have.
+    /// The geometry has as many rows already as it may have.
     #[error("too many rows in one geometry")]
     TooManyNodes,
     /// The id is neither empty nor the canonical decimal of an i64.
@@ -47,10 +47,10 @@ pub enum RowReason {
     /// A row of a kind without points has a polyline.
     #[error("polyline not allowed")]
     PolylineNotAllowed,
-    /// The polyline is refused at this byte of it.
+    /// The polyline is refused at this byte of it, counted from 0 (Encoded Polyline Algorithm Format).
     #[error("polyline at {0}: {1}")]
     Polyline(usize, PolyReason),
-    /// A point has not as many points as it may have.
+    /// A point of a multipoint has not just one point, or another point has more than one.
     #[error("wrong number of points")]
     PointCount,
 }

@@ -53,7 +53,8 @@ impl<'a, R: Read> RecordSource<'a, R> {
     }
 
     /// Reads the next record, and answers whether there was one. After an `Err` each call answers
-    /// `Spent`, and after the end each call answers that there is none.
+    /// `Spent`, and after the end each call answers that there is none. Takes memory for the reader of
+    /// `csv` and one record.
     pub fn read(&mut self) -> Result<bool, SourceFault>
         ensures gives { IfOk result (λ found. found ≡ true → GivesRecord R.remaining self.old self.new) }
         ensures ends { IfOk result (λ found. found ≡ false → Ends R.remaining self.old self.new) }

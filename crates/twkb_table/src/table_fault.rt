@@ -5,7 +5,7 @@ use thiserror::Error;
 /// Why a reader of tables gave no geometry.
 #[derive(Clone, Copy, Debug, PartialEq, Eq, Error)]
 pub enum TableFault {
-    /// No memory was found for the rows of a geometry.
+    /// No memory was found for the rows or the tree of a geometry.
     #[error("out of memory")]
     Memory,
     /// `csv` answered an error: the device failed, or no memory was found.

@@ -47,7 +47,7 @@ impl<'a, R: Read> TableReader<'a, R> {
     ghost use Rattle.twkb_table.specs.RowReading.{waiting, Keeps};
     ghost use Rattle.twkb_table.specs.TableReading.{StandsAfter, Gives, GivesGeometry, Ends, Faults, Completes, FaultsIn, ShowsHeader, ShowsRoot, ShowsRow, IsOver, is_spent, records_read};
 
-    /// Reads nothing yet, and takes no memory.
+    /// Reads nothing yet, and takes no memory. Each geometry is to keep the limits.
     pub fn new(alloc: Global, tap: &'a mut Tap<R>, limits: Limits) -> TableReader<'a, R>
         ensures { StandsAfter limits R.remaining (R.remaining (device_of tap.old)) [] [] result }
     {
@@ -66,8 +66,8 @@ impl<'a, R: Read> TableReader<'a, R> {
     /// Reads the next geometry into a flat form, in place of what it holds, and answers whether
     /// there was one; after a false and after an `Err` the form is empty. A geometry is given once
     /// the next root was accepted, or at the table's end. After the end each call answers false, and
-    /// after an `Err` each call answers `Spent`, and nothing more is read. Takes memory for one record, one root's points and
-    /// the open rows, and for the flat form.
+    /// after an `Err` each call answers `Spent`, and nothing more is read. Takes memory for the reader
+    /// of `csv`, one record, one root's points and the open rows, and for the flat form.
     pub fn next_flat(&mut self, flat: &mut Flat) -> Result<bool, TableFault>
         ensures gives { IfOk result (λ found. found ≡ true → Gives R.remaining self.old flat.new self.new) }
         ensures ends { IfOk result (λ found. found ≡ false → Ends R.remaining self.old self.new) }

@@ -15,11 +15,15 @@ fn form_of(alloc: Global, rows: &[u8]) -> Flat {
     flat
 }
 
-// Prints the nodes and points, and counts them as read.
-fn put_parts(alloc: Global, flat: &Flat, work: &mut Work, text: &mut Vec<u8>) {
+// Prints the nodes, and counts them as read.
+fn put_nodes(alloc: Global, flat: &Flat, work: &mut Work, text: &mut Vec<u8>) {
     for id in 0..flat.node_count() {
         put_named(alloc, text, b"\n  ", &flat.node(NodeId(id), work));
     }
+}
+
+// The same of the points.
+fn put_points(alloc: Global, flat: &Flat, work: &mut Work, text: &mut Vec<u8>) {
     for id in 0..flat.point_count() {
         put_named(alloc, text, b"\n  ", &flat.point(PointId(id), work));
     }
@@ -29,7 +33,8 @@ fn put_parts(alloc: Global, flat: &Flat, work: &mut Work, text: &mut Vec<u8>) {
 pub fn put_form(alloc: Global, rows: &[u8], text: &mut Vec<u8>) {
     let flat = form_of(alloc, rows);
     let mut work = Work::new();
-    put_parts(alloc, &flat, &mut work, text);
+    put_nodes(alloc, &flat, &mut work, text);
+    put_points(alloc, &flat, &mut work, text);
     put_counts(
         alloc,
         text,

@@ -1,5 +1,6 @@
-use Rattle.std.proofs.Common.{Bool, rules}
+use Rattle.std.proofs.Common.{Bool, [], rules}
 use Rattle.twkb_convert.proofs.BlobTexts.{follows_stop, lines_given, text_stopped}
+use Rattle.twkb_convert.proofs.SessionLemmas.{ended_blobs}
 use Rattle.twkb_convert.proofs.blob_text.next_lines.Goals as goal
 
 pub returns-clause-more : goal.returns-clause-more
@@ -11,3 +12,7 @@ returns-in-Err-clause-err g c = text_stopped c.args.reader.now c.next_spans.new.
 
 pub returns-in-Err-clause-stops : goal.returns-in-Err-clause-stops
 returns-in-Err-clause-stops g c = follows_stop c.args.reader.now c.next_spans.new.self Bool c.in-Err.fault c.next_spans.ensures.same_tap c.next_spans.ensures.limits c.in-Err.ensures.failures c.next_spans.new.self.input.within
+
+pub returns-in-Ok-false-clause-end : goal.returns-in-Ok-false-clause-end
+returns-in-Ok-false-clause-end g c = λ none.
+    ended_blobs c.args.reader.now c.next_spans.new.self [] (rw c.in-Ok-false.field-0-test at (c.in-Ok-false.ensures.next c.requires.reader c.requires.going_on))
