@@ -101,6 +101,11 @@ IsMembered (phase.Count many head) = ⊤
 IsMembered (phase.Id many head others ids left) = ⊤
 IsMembered _ = ⊥
 
+-- the next item is an id
+abbrev pub WantsId : Phase → Type 0
+WantsId (phase.Id many head others ids left) = ⊤
+WantsId _ = ⊥
+
 -- the next item is a number
 abbrev pub IsSpelled : Phase → Type 0
 IsSpelled phase.Header = ⊥

@@ -1,12 +1,12 @@
 //! From a type byte to a body.
-ghost use Rattle.std.specs.Prelude.{◌≡◌, ◌+◌, ◌<◌, ◌^◌, ◌⊎◌, ◌/◌, ◌%◌, length, IfSome, None, true, false};
+ghost use Rattle.std.specs.Prelude.{◌≡◌, ◌+◌, ◌<◌, ◌^◌, ◌⊎◌, ◌/◌, ◌%◌, ℕ, ℤ, Option, length, IfSome, None, true, false};
 ghost use Rattle.twkb_points.specs.Point.{Point};
 ghost use Rattle.twkb_num.specs.Zigzag.{unzigzag_of};
 ghost use Rattle.twkb_grammar.specs.Machine as machine;
 ghost use Rattle.twkb_grammar.specs.Machine.{asked, with_option, kind_at};
 ghost use Rattle.twkb_grammar.specs.Noting.{shown};
-ghost use Rattle.twkb_outline.specs.Outline.{begins, outline_advanced, OnMetadata, OnBody, OnEnd};
-ghost use Rattle.twkb_outline.specs.Growing.{change_of, id_in, Nothing};
+ghost use Rattle.twkb_outline.specs.Outline.{begins, options, outline_advanced, OnMetadata, OnBody, OnEnd};
+ghost use Rattle.twkb_outline.specs.Growing.{change_of, header_change, own_of, id_in, Nothing, NewRow};
 ghost use Rattle.twkb_body.specs.Body.{form_of, spot_of, kind_of, head_of};
 ghost use Rattle.twkb_engine.specs.State.{step_of, groups_of, role_of_part, roles_behind, roles_from, size_roles, box_roles, goes_on, stands_apart, own_change, IsMembered, IsPlaced, IsPlacedIn, IsShallow, IsSpelled};
 ghost use Rattle.twkb_engine.specs.Leads.{IfOn, IfOff, IfEnds, IfApart};
@@ -186,6 +186,35 @@ pub(crate) fn begin_body(alloc: Global, kind: GeometryType, head: Head) -> Phase
     Phase::Count { many, head }
 }
 
+// Goes to this optional part, or where none is left to the body or count, and answers whether it did: a geometry without a body ends,
+// and nothing is changed. Takes no memory.
+#[inline(always)]
+fn lead_to(
+    alloc: Global,
+    phase: &mut Phase,
+    kind: GeometryType,
+    head: Head,
+    part: Option<Optional>,
+) -> bool
+    ensures going { result ≡ true → goes_on phase.new ≡ true }
+    ensures step { result ≡ true → step_of phase.new ≡ options (kind_of kind) (head_of head) (roles_from head.metadata part) }
+    ensures row { result ≡ true → (d : ℕ) (id : Option ℤ) → header_change d id (kind_of kind) head.precision head.metadata (roles_from head.metadata part) ≡ Nothing }
+    ensures placed { result ≡ true → IsPlaced head.depth head.id phase.new }
+    ensures same { result ≡ false → phase.new ≡ phase.old }
+    ensures ends { result ≡ false → options (kind_of kind) (head_of head) (roles_from head.metadata part) ≡ OnEnd (head_of head) }
+    ensures own { result ≡ false → (d : ℕ) (id : Option ℤ) → header_change d id (kind_of kind) head.precision head.metadata (roles_from head.metadata part) ≡ NewRow (own_of d id (kind_of kind) head.precision) }
+{
+    if let Some(part) = part {
+        *phase = Phase::Optional { kind, head, part };
+        return true;
+    }
+    if Metadata::from_byte(head.metadata).is_empty() {
+        return false;
+    }
+    *phase = begin_body(alloc, kind, head);
+    true
+}
+
 // Goes on within a header, or to its body or count, in the phase as it stands, and else changes nothing. Takes no memory.
 #[inline(always)]
 pub(crate) fn lead_on(
@@ -212,29 +241,16 @@ pub(crate) fn lead_on(
             let kind = typed.kind;
             let metadata = Metadata::from_number(number);
             let head = head_within(groups, *typed, bytes, metadata);
-            if let Some(part) = first_part(metadata) {
-                *phase = Phase::Optional { kind, head, part };
-            } else if metadata.is_empty() {
+            if !lead_to(alloc, phase, kind, head, first_part(metadata)) {
                 return Led::Ends(head, kind);
-            } else {
-                *phase = begin_body(alloc, kind, head);
             }
         }
-        Phase::Optional {
-            part: Optional::Box { left },
-            ..
-        } if *left > 0 => *left -= 1,
         Phase::Optional { kind, head, part } => {
             let kind = *kind;
-            let metadata = Metadata::from_byte(head.metadata);
+            let further = next_part(Metadata::from_byte(head.metadata), *part);
             let with = head_with(*head, *part, bytes, number);
-            if let Some(further) = next_part(metadata, *part) {
-                *head = with;
-                *part = further;
-            } else if metadata.is_empty() {
+            if !lead_to(alloc, phase, kind, with, further) {
                 return Led::Ends(with, kind);
-            } else {
-                *phase = begin_body(alloc, kind, with);
             }
         }
         _ => return Led::Apart,

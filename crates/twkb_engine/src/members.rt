@@ -7,7 +7,7 @@ ghost use Rattle.twkb_outline.specs.Growing.{applied, change_of, kind_with, own_
 ghost use Rattle.twkb_outline.specs.Parts.{Passes};
 ghost use Rattle.twkb_body.specs.Body.{kind_of, head_of};
 ghost use Rattle.twkb_body.specs.Names.{ids_of};
-ghost use Rattle.twkb_engine.specs.State.{many_of, step_of, groups_of, goes_on, own_change, IsMembered, IsPlaced, IsPlacedIn, HasHead, IsShallow};
+ghost use Rattle.twkb_engine.specs.State.{many_of, step_of, groups_of, goes_on, own_change, IsMembered, WantsId, IsPlaced, IsPlacedIn, HasHead, IsShallow};
 ghost use Rattle.twkb_engine.specs.Leads.{reached};
 ghost use Rattle.twkb_engine.specs.Stops.{IsPast};
 
@@ -33,34 +33,32 @@ fn many_kind(many: Many) -> GeometryType
     }
 }
 
-// A geometry with members, a first one and so many others, has its row, and they begin, behind their ids. Takes memory for the row
-// and a group.
+// A geometry with members has its row, and they begin, behind their ids: a first one, and as many others as are left behind it. Takes
+// memory for the row and a group.
 fn begin_members(
     flat: &mut Flat,
     groups: &mut Groups,
     phase: &mut Phase,
     many: Many,
-    head: Head,
-    names: Names,
-    others: u64,
+    members: Group,
 ) -> Result<(), AllocError>
     ensures going { goes_on phase.old ≡ true → goes_on phase.new ≡ true }
-    ensures step { OnOk result ((groups_of groups.new.items, step_of phase.new) ≡ members_open (many_of many) (head_of head) (groups_of groups.old.items) (ids_of names) (suc others)) }
-    ensures placed { OnOk result (IsPlaced head.depth head.id phase.new) }
-    ensures rows { OnOk result (applied (own_change phase.new) flat.new ≡ applied (NewRow (own_of head.depth head.id (kind_with (many_of many)) head.precision)) flat.old) }
+    ensures step { OnOk result ((groups_of groups.new.items, step_of phase.new) ≡ members_open (many_of many) (head_of members.head) (groups_of groups.old.items) (ids_of members.names) (suc members.left)) }
+    ensures placed { OnOk result (IsPlaced members.head.depth members.head.id phase.new) }
+    ensures rows { OnOk result (applied (own_change phase.new) flat.new ≡ applied (NewRow (own_of members.head.depth members.head.id (kind_with (many_of many)) members.head.precision)) flat.old) }
     ensures kept { OnOk result (HasHead phase.new → groups_of groups.new.items ≡ groups_of groups.old.items) }
     ensures few { IsShallow groups.old.items → IsShallow groups.new.items }
 {
+    let Group { head, names, left } = members;
     push_row(flat, whole_row(head, many_kind(many)))?;
     let (form, spot) = match many {
-        Many::Points => (Form::MultiPoint, Spot::X(Lefts::One(others))),
-        Many::Lines => (Form::MultiLine, Spot::LineCount(Lefts::One(others))),
-        Many::Areas => (Form::MultiPolygon, Spot::AreaCount(Lefts::One(others))),
+        Many::Points => (Form::MultiPoint, Spot::X(Lefts::One(left))),
+        Many::Lines => (Form::MultiLine, Spot::LineCount(Lefts::One(left))),
+        Many::Areas => (Form::MultiPolygon, Spot::AreaCount(Lefts::One(left))),
         Many::Geometries => {
             if groups.len() >= DEEPEST {
                 return Err(AllocError);
             }
-            let left = others;
             groups.push(Group { head, names, left })?;
             *phase = Phase::Header;
             return Ok(());
@@ -68,6 +66,42 @@ fn begin_members(
     };
     *phase = Phase::Body(head, Body { form, names, spot });
     Ok(())
+}
+
+// Goes on behind an id, in the phase as it stands: to the next one, or to the members. It takes memory for an id, a row and a group.
+fn next_id(
+    flat: &mut Flat,
+    alloc: Global,
+    groups: &mut Groups,
+    phase: &mut Phase,
+    number: u64,
+) -> Result<(), AllocError>
+    requires id { WantsId phase.old }
+    ensures going { goes_on phase.new ≡ true }
+    ensures step { (bytes : ℕ) → OnOk result ((groups_of groups.new.items, step_of phase.new) ≡ outline_advanced bytes number (groups_of groups.old.items, step_of phase.old)) }
+    ensures rows { (p : Point) → IsPlacedIn groups.old.items phase.old → OnOk result (applied (own_change phase.new) flat.new ≡ applied (change_of p number (groups_of groups.old.items, step_of phase.old)) flat.old) }
+    ensures memory { (bytes : ℕ) → OnErr result (Passes (outline_ends bytes (outline_advanced bytes number (groups_of groups.old.items, step_of phase.old)))) }
+    ensures placed { IsPlacedIn groups.old.items phase.old → OnOk result (IsPlacedIn groups.new.items phase.new) }
+    ensures few { IsShallow groups.old.items → IsShallow groups.new.items }
+{
+    let Phase::Id {
+        many,
+        head,
+        others,
+        ids,
+        left,
+    } = phase
+    else {
+        unreachable!();
+    };
+    ids.push(unzigzag(number))?;
+    if *left > 0 {
+        *left -= 1;
+        return Ok(());
+    }
+    let (many, head, left) = (*many, *head, *others);
+    let names = Names::new(true, mem::replace(ids, Vec::new(alloc)));
+    begin_members(flat, groups, phase, many, Group { head, names, left })
 }
 
 // Goes on behind the count of members, or an id, in the phase as it stands; answers the geometry that ends, if one does, which has no
@@ -93,36 +127,21 @@ pub(crate) fn next(
             if number == 0 {
                 return Ok(Some((head, many_kind(many))));
             }
-            let others = number - 1;
+            let left = number - 1;
             if Metadata::from_byte(head.metadata).has_ids() {
                 *phase = Phase::Id {
                     many,
                     head,
-                    others,
+                    others: left,
                     ids: Vec::new(alloc),
-                    left: others,
+                    left,
                 };
                 return Ok(None);
             }
             let names = Names::new(false, Vec::new(alloc));
-            begin_members(flat, groups, phase, many, head, names, others)?;
+            begin_members(flat, groups, phase, many, Group { head, names, left })?;
         }
-        Phase::Id {
-            many,
-            head,
-            others,
-            ids,
-            left,
-        } => {
-            ids.push(unzigzag(number))?;
-            if *left > 0 {
-                *left -= 1;
-                return Ok(None);
-            }
-            let (many, head, others) = (*many, *head, *others);
-            let names = Names::new(true, mem::replace(ids, Vec::new(alloc)));
-            begin_members(flat, groups, phase, many, head, names, others)?;
-        }
+        Phase::Id { .. } => next_id(flat, alloc, groups, phase, number)?,
         _ => unreachable!(),
     }
     Ok(None)
