@@ -1,5 +1,5 @@
 //! A writer into a slice.
-ghost use Rattle.std.specs.Prelude.{◌≡◌, ◌≤◌, ◌+◌, ◌++◌, length, take, drop};
+ghost use Rattle.std.specs.Prelude.{◌≡◌, ◌≤◌, ◌+◌, ◌++◌, ◌⊎◌, length, take, drop, false, is_err, IfOk};
 ghost use Rattle.std.specs.Io.{WritesAtMost};
 ghost use Rattle.std.specs.Io.KnownBytes.{Keeps, WriteAppends};
 
@@ -32,6 +32,7 @@ fn copy_at(start: usize, from: &[u8], to: &mut [u8]) -> usize
     requires { start ≤ length to.old }
     ensures given { result ≤ length from.now }
     ensures fits { start + result ≤ length to.old }
+    ensures most { (result ≡ length from.now) ⊎ (start + result ≡ length to.old) }
     ensures copied { to.new ≡ take start to.old ++ (take result from.now ++ drop (start + result) to.old) }
 {
     let count = from.len().min(to.len() - start);
@@ -40,13 +41,15 @@ fn copy_at(start: usize, from: &[u8], to: &mut [u8]) -> usize
 }
 
 impl Write for Filler<'_> {
-    ghost use Rattle.twkb_buffer.specs.Fillers.{held};
+    ghost use Rattle.twkb_buffer.specs.Fillers.{buffer_of, filled_of, held};
 
     ghost contents = { λ filler. held filler };
 
     fn write(&mut self, buf: &[u8]) -> io::Result<usize>
         ensures bound { WritesAtMost result buf.now }
         ensures bytes { WriteAppends (held self.old) (held self.new) result buf.now }
+        ensures passes { is_err result ≡ false }
+        ensures most { IfOk result (λ count. (count ≡ length buf.now) ⊎ (filled_of self.new ≡ length (buffer_of self.new).now)) }
     {
         let count = copy_at(self.filled, buf, self.buffer);
         self.filled += count;
@@ -55,6 +58,7 @@ impl Write for Filler<'_> {
 
     fn flush(&mut self) -> io::Result<()>
         ensures bytes { Keeps (held self.old) (held self.new) }
+        ensures passes { is_err result ≡ false }
     {
         Ok(())
     }
