@@ -40,14 +40,14 @@ item_refused limits start bs held Memory rs d w (used, some, within, part) = rec
 item_refused limits start bs held (Refused r) rs d w (used, some, within, fault) = record { used = used; some = some; within = within; fault = fault }
 
 -- one byte that is taken is a piece that is fed
-pub one_fed : (limits : Allowance) (bs piece : List ℕ) (answer : Result (ℕ × Bool) Stop) (rs : List Row) (d : Engine) → length piece ≡ 1 → IfOk answer (λ taken. 0 < taken.0) → IfOk answer (λ taken. taken.0 ≤ length piece)
+pub one_fed : (limits : Allowance) (bs piece : List ℕ) (answer : Result (ℕ × Bool) Stop) (rs : List Row) (d : Engine) → length piece ≡ 1 → IfOk answer (λ taken. taken.0 ≡ 1)
     → IsTakenFrom limits bs piece answer rs d → IsFed limits bs piece answer rs d
-one_fed limits bs piece (Ok (used, false)) rs d one some within s =
-    let all : used ≡ length piece = omega (arith, one, some, within) in
+one_fed limits bs piece (Ok (used, false)) rs d single one s =
+    let all : used ≡ length piece = omega (arith, single, one) in
     (all, subst (λ l. StandsAt (bs ++ l) rs d) (ap (λ n. take n piece) all ∙ take-length piece) s)
-one_fed limits bs piece (Ok (used, true)) rs d one some within (g, blob, made, s) = (record { some = some; within = within; geometry = g; blob = blob; made = made }, s)
-one_fed limits bs piece (Err Memory) rs d one some within (used, more, fits, part) = record { used = used; some = more; within = fits; part = part }
-one_fed limits bs piece (Err (Refused r)) rs d one some within (used, more, fits, fault) = record { used = used; some = more; within = fits; fault = fault }
+one_fed limits bs piece (Ok (used, true)) rs d single one (g, blob, made, s) = (record { some = omega (arith, one); within = omega (arith, single, one); geometry = g; blob = blob; made = made }, s)
+one_fed limits bs piece (Err Memory) rs d single one (used, more, fits, part) = record { used = used; some = more; within = fits; part = part }
+one_fed limits bs piece (Err (Refused r)) rs d single one (used, more, fits, fault) = record { used = used; some = more; within = fits; fault = fault }
 
 -- no bytes were taken yet
 pub stands_behind : (start : ℕ) (bs held : List ℕ) (rs : List Row) (d : Engine) (w : Notes) (s : StandsAt bs rs d) → w ≡ notes_at start s → (t : StandsAt (bs ++ take 0 held) rs d) × (w ≡ notes_at start t)

@@ -23,7 +23,7 @@ fn take_root(engine: &Engine, flat: &mut Flat, piece: &[u8]) -> Result<Option<us
     take_root_point(flat, engine.limits(), piece)
 }
 
-// Gives bytes to an engine, which its `feed` takes; one byte goes without its loop.
+// Gives bytes to an engine, which its `feed` takes; one byte goes without its loop, and is not looked at for a whole number.
 #[inline(always)]
 fn feed_engine(engine: &mut Engine, flat: &mut Flat, piece: &[u8]) -> Result<(usize, bool), Stop>
     requires room { count_of engine.old + length piece.now ≤ 2 ^ 63 }
@@ -33,7 +33,7 @@ fn feed_engine(engine: &mut Engine, flat: &mut Flat, piece: &[u8]) -> Result<(us
     ensures fed { (bs : List ℕ) → StandsAt bs flat.old engine.old → IsFed (allowance_of engine.old) bs piece.now result flat.new engine.new }
 {
     if piece.len() == 1 {
-        engine.take_item(flat, piece)
+        engine.take_byte(flat, piece)
     } else {
         engine.feed(flat, piece)
     }

@@ -143,8 +143,8 @@ impl Engine {
         self.take_byte(flat, rest)
     }
 
-    // Takes a byte, and answers as `take_item` does.
-    fn take_byte(&mut self, flat: &mut Flat, rest: &[u8]) -> Result<(usize, bool), Stop>
+    /// Takes the first of these bytes, and answers as `take_item` does. It takes memory as `feed` does.
+    pub fn take_byte(&mut self, flat: &mut Flat, rest: &[u8]) -> Result<(usize, bool), Stop>
         requires some { 0 < length_of rest.now }
         requires room { count_of self.old < 2 ^ 63 }
         ensures limits { allowance_of self.new ≡ allowance_of self.old }
