@@ -3,7 +3,7 @@ ghost use Rattle.std.specs.Prelude.{◌≡◌, ◌≤◌, ◌^◌, ◌↔◌, �
 ghost use Rattle.twkb_tree.specs.Tree.{Tree};
 ghost use Rattle.twkb_tree.specs.Rows.{rows};
 ghost use Rattle.twkb_tree.specs.Limits.{IsValid, largest_limits};
-ghost use Rattle.twkb_engine.specs.Standing.{count_of, held_in, open_in};
+ghost use Rattle.twkb_engine.specs.Standing.{count_of};
 ghost use Rattle.twkb_blob.specs.Readers.{failed_by_read};
 
 use crate::fault::{BlobFault, fault_at};

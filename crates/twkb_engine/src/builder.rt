@@ -3,7 +3,7 @@ ghost use Rattle.std.specs.Prelude.{◌≡◌, ◌≤◌, ◌+◌, ◌-◌, ◌^
 ghost use Rattle.twkb_grammar.specs.PlainReader.{unless, objection as objection_in, is_exact as exact};
 ghost use Rattle.twkb_grammar.specs.Fault as fault;
 ghost use Rattle.twkb_grammar.specs.Fault.{moved as moved_by};
-ghost use Rattle.twkb_grammar.specs.Roles.{Role, Count, Item};
+ghost use Rattle.twkb_grammar.specs.Roles.{Role, Count};
 ghost use Rattle.twkb_grammar.specs.Machine.{first_count};
 ghost use Rattle.twkb_outline.specs.Outline.{Outline, spot_role, outline_role, outline_advanced, outline_ends, outline_past_end};
 ghost use Rattle.twkb_outline.specs.Growing.{applied, change_of};

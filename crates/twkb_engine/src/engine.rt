@@ -1,9 +1,8 @@
 //! A blob that is read byte by byte into a flat form.
-ghost use Rattle.std.specs.Prelude.{◌≡◌, IfOk, OnErr, Ok, None, true, false, ◌+◌, ◌<◌, ◌≤◌, ◌^◌, ◌++◌, ◌∷◌, [], List, ℕ, take, IfSome, length as length_of};
+ghost use Rattle.std.specs.Prelude.{◌≡◌, IfOk, OnErr, false, ◌+◌, ◌<◌, ◌≤◌, ◌^◌, ◌++◌, ◌∷◌, [], List, ℕ, take, IfSome, length as length_of};
 ghost use Rattle.twkb_num.specs.Varint.{IsOpenVarint};
 ghost use Rattle.twkb_tree.specs.Rows.{Row};
-ghost use Rattle.twkb_outline.specs.Parts.{PartIn};
-ghost use Rattle.twkb_engine.specs.Standing.{StandsAt, LeadsOn, LeadsHeader, StopsIn, IsStep, IsTakenFrom, IsOneItem, ItemInFront, IsFed, MadeIn, IsEnd, count_of, offset_in, points_in, awaited_in, held_in, open_in, allowance_of};
+ghost use Rattle.twkb_engine.specs.Standing.{StandsAt, LeadsOn, LeadsHeader, StopsIn, IsStep, IsTakenFrom, IsOneItem, ItemInFront, IsFed, IsEnd, count_of, offset_in, points_in, awaited_in, held_in, open_in, allowance_of};
 
 use crate::awaited::Awaited;
 use crate::blob_reason::BlobReason;

@@ -1,5 +1,5 @@
 //! From a type byte to a body.
-ghost use Rattle.std.specs.Prelude.{◌≡◌, ◌+◌, ◌<◌, ◌^◌, ◌⊎◌, ◌/◌, ◌%◌, ℕ, ℤ, Option, length, IfSome, None, true, false};
+ghost use Rattle.std.specs.Prelude.{◌≡◌, ◌+◌, ◌<◌, ◌^◌, ◌⊎◌, ◌/◌, ◌%◌, ℕ, ℤ, Option, length, None, true, false};
 ghost use Rattle.twkb_points.specs.Point.{Point};
 ghost use Rattle.twkb_num.specs.Zigzag.{unzigzag_of};
 ghost use Rattle.twkb_grammar.specs.Machine as machine;

@@ -1,6 +1,5 @@
 //! Numbers that stand whole in front of bytes.
-ghost use Rattle.std.specs.Prelude.{◌≡◌, ◌<◌, ◌^◌, ◌++◌, ◌∷◌, [], IfSome, take};
-ghost use Rattle.twkb_num.specs.Varint.{IsVarint};
+ghost use Rattle.std.specs.Prelude.{◌<◌, ◌^◌, IfSome};
 ghost use Rattle.twkb_front.specs.Front.{NumberInFront};
 
 use twkb_num::{Leb128, Partial, Step};

@@ -11,8 +11,7 @@ use Rattle.twkb_grammar.specs.Reading.{Reached}
 use Rattle.twkb_grammar.proofs.Trees.{tree_runs}
 use Rattle.twkb_grammar.proofs.Parts.{runs_split, runs_same}
 use Rattle.twkb_grammar.proofs.Running.{ran_part}
-use Rattle.twkb_grammar.proofs.Reaching.{role_behind}
-use Rattle.twkb_grammar.proofs.TwoFronts.{Beyond, Compared, longer, shorter, same, two_fronts, join-beyond, none_beyond_fault}
+use Rattle.twkb_grammar.proofs.TwoFronts.{Compared, longer, shorter, same, two_fronts, join-beyond, none_beyond_fault}
 use Rattle.twkb_grammar.proofs.OneFault.{fault_runs}
 
 -- the role is none of a geometry's end

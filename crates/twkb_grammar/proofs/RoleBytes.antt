@@ -1,7 +1,7 @@
 -- The bytes of items, by their roles.
-use Rattle.std.proofs.Common.{◌≡◌, ℕ, ◌<◌, List, [], ◌∷◌, refl}
+use Rattle.std.proofs.Common.{ℕ, ◌<◌, List, [], ◌∷◌, refl}
 use Rattle.twkb_num.specs.Varint.{IsVarint}
-use Rattle.twkb_grammar.specs.Roles.{Role, Header, Metadata, Extended, Size, Box, Count, Id, X, Y, End, IsNumber}
+use Rattle.twkb_grammar.specs.Roles.{Role, Header, Metadata, Extended, Size, Box, Count, Id, X, Y, IsNumber}
 use Rattle.twkb_grammar.specs.Reading.{Gives}
 use Rattle.twkb_grammar.proofs.ExactEnds.{NoEnd}
 

@@ -1,6 +1,5 @@
 //! From a reader to any sink.
-ghost use Rattle.std.specs.Prelude.{Err, ◌≡◌, ◌+◌, ◌<◌, ◌^◌, ◌↔◌, ℕ, List, [], true, false, length, IfSome, IfOk, IfErr, OnOk, OnErr};
-ghost use Rattle.std.specs.Io.KnownBytes.{IsAtEnd, Keeps};
+ghost use Rattle.std.specs.Prelude.{Err, ◌≡◌, ◌^◌, ◌↔◌, ℕ, List, true, IfSome, IfErr, OnOk};
 
 use crate::input::{InFault, Input};
 use crate::sink::Sink;

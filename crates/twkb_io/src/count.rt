@@ -1,5 +1,5 @@
 //! A sink that counts.
-ghost use Rattle.std.specs.Prelude.{◌≡◌, ◌+◌, ◌≤◌, ◌<◌, ◌^◌, ◌↔◌, length, Err, OnOk, OnErr, IfErr, IsErr, refl};
+ghost use Rattle.std.specs.Prelude.{◌≡◌, ◌+◌, ◌≤◌, ◌<◌, ◌^◌, ◌↔◌, length, OnOk, OnErr, IfErr, IsErr};
 ghost use Rattle.twkb_io.specs.Sinks.{TookFront};
 
 use crate::MAX_BYTES;

@@ -1,5 +1,5 @@
 //! A device for tests, which fails after some bytes.
-ghost use Rattle.std.specs.Prelude.{◌≡◌, ◌+◌, ◌-◌, ◌≤◌, ◌<◌, true, false, Ok, IsErr, IfOk, OnErr, length, min};
+ghost use Rattle.std.specs.Prelude.{◌≡◌, ◌-◌, ◌≤◌, ◌<◌, true, IsErr, IfOk, min};
 ghost use Rattle.std.specs.Io.{ReadsAtMost, WritesAtMost};
 ghost use Rattle.std.specs.Io.KnownBytes.{Keeps, ReadConsumes, WriteAppends};
 
@@ -81,7 +81,7 @@ fn passing(length: usize, left: u64, step: usize) -> usize
 }
 
 impl<D: Read> Read for Fuse<D> {
-    ghost use Rattle.twkb_io.specs.Fuses.{Dries, KeepsSettings, end_of, fails_flush, fuse_device, left_of, moved, passed, step_of};
+    ghost use Rattle.twkb_io.specs.Fuses.{Dries, KeepsSettings, end_of, fuse_device, left_of, moved, passed, step_of};
 
     ghost remaining = { λ fuse. passed (left_of fuse) (D.remaining (fuse_device fuse)) };
 

@@ -1,5 +1,5 @@
 //! Bytes of a reader, one at a time or as many as are held, through a fixed array.
-ghost use Rattle.std.specs.Prelude.{Ok, None, Err, Some, ◌≡◌, ◌≢◌, ◌≤◌, ◌<◌, ◌+◌, ◌^◌, ◌↔◌, true, false, is_err, length, take, drop, IfSome, IfErr, OnOk, OnErr, [], ◌⊎◌};
+ghost use Rattle.std.specs.Prelude.{Ok, None, Err, ◌≡◌, ◌≢◌, ◌≤◌, ◌<◌, ◌+◌, ◌^◌, ◌↔◌, true, false, is_err, length, take, drop, IfSome, IfErr, OnOk, [], ◌⊎◌};
 ghost use Rattle.std.specs.Io.{StartsWith};
 ghost use Rattle.std.specs.Io.KnownBytes.{Consumes, IsAtEnd, Keeps};
 ghost use Rattle.std.proofs.Props.{props};

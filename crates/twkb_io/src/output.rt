@@ -1,5 +1,5 @@
 //! Bytes to a writer, with an exact count of what it took.
-ghost use Rattle.std.specs.Prelude.{false, ◌≡◌, ◌≢◌, ◌+◌, ◌≤◌, ◌<◌, ◌^◌, ◌++◌, ◌↔◌, ℕ, List, [], true, false, length, take, is_err, Err, Ok, IfOk, OnOk, OnErr, IfErr};
+ghost use Rattle.std.specs.Prelude.{◌≡◌, ◌≢◌, ◌+◌, ◌≤◌, ◌<◌, ◌^◌, ◌↔◌, [], true, false, length, take, Err, IfOk, OnOk, OnErr, IfErr};
 ghost use Rattle.twkb_io.specs.Sinks.{TookFront};
 
 use crate::MAX_BYTES;
@@ -69,8 +69,8 @@ impl<'a, W> Output<'a, W> {
 }
 
 impl<'a, W: Write> Output<'a, W> {
-    ghost use Rattle.twkb_io.specs.Taps.{calls_of, count_failure, has_unflushed, is_stuck, one_call};
-    ghost use Rattle.twkb_io.specs.Outputs.{Refused, Took, is_device, is_of_stuck, is_spent, output_failures, output_tap, sent_of, written};
+    ghost use Rattle.twkb_io.specs.Taps.{calls_of, has_unflushed, is_stuck, one_call};
+    ghost use Rattle.twkb_io.specs.Outputs.{Refused, Took, is_device, is_of_stuck, is_spent, output_tap, sent_of};
 
     /// Flushes the writer. After an `Err` each call answers `Spent`.
     pub fn flush(&mut self) -> Result<(), OutFault>

@@ -1,5 +1,5 @@
 //! Text to points.
-ghost use Rattle.std.specs.Prelude.{◌≡◌, ℕ, ◌+◌, ◌<◌, List, ◌++◌, length, drop, ◌⊎◌, ◌∷◌, [], IfOk, IfErr, IfSome, IfNone, OnOk, OnErr, MatchResult};
+ghost use Rattle.std.specs.Prelude.{◌≡◌, ℕ, ◌<◌, List, ◌++◌, length, drop, ◌⊎◌, ◌∷◌, [], IfOk, IfErr, IfSome, IfNone, OnOk, OnErr, MatchResult};
 ghost use Rattle.twkb_points.specs.Point.{Point, IsInRange};
 ghost use Rattle.twkb_polyline.specs.Polyline.{AppendsDecoded, DecodesTo};
 ghost use Rattle.twkb_polyline.specs.Fault.{IsNumberFault, IsPointFault, IsTextFault, IsRefused};

@@ -1,6 +1,6 @@
 //! What the rows at one depth come to, and the entry of a geometry whose members and parts are known.
 ghost use Rattle.std.specs.Prelude.{◌≡◌, ◌+◌, ◌≤◌, ◌^◌};
-ghost use Rattle.twkb_writer.specs.Levels.{blank, is_bare, lead_len, body_len, all_bounds, box_for, box_len, id_len, is_point, entry_for, blob_len, with_part, with_geometry};
+ghost use Rattle.twkb_writer.specs.Levels.{blank, lead_len, body_len, all_bounds, box_for, box_len, id_len, is_point, entry_for, blob_len, with_part, with_geometry};
 ghost use Rattle.twkb_grammar.specs.declared.style.Style.TheVariants.{Full};
 
 use crate::lengths::{number_len, signed_len};

@@ -14,7 +14,6 @@ ghost use Rattle.twkb_writer.specs.Tails.{tail_of};
 
 use crate::alone::measure_one;
 use crate::depths::Depths;
-use crate::levels::Level;
 use crate::sizes::{Entry, Sizes};
 use crate::tails::Tail;
 use std::alloc::{AllocError, Global};

@@ -2,7 +2,7 @@
 ghost use Rattle.std.specs.Prelude.{◌≡◌, ◌+◌, ◌++◌, ◌∷◌, [], ◌*◌, ◌≤◌, ◌^◌, List, length, flat_map};
 ghost use Rattle.twkb_points.specs.Point.{Point};
 ghost use Rattle.twkb_tree.specs.Limits.{largest_limits, IsValid};
-ghost use Rattle.twkb_tree.specs.Rows.{rows_of_each, plain_row, polygon_rows, rows_under, member_rows};
+ghost use Rattle.twkb_tree.specs.Rows.{rows_of_each, plain_row, polygon_rows, member_rows};
 ghost use Rattle.twkb_tree.specs.Tree.{IsTree, flatten, trees, area_nodes, nodes, nodes_all, flat, flat_all};
 ghost use Rattle.twkb_grammar.specs.Written.{canonical_blob};
 ghost use Rattle.twkb_grammar.specs.declared.style.Style.TheVariants.{Full};

@@ -1,0 +1,75 @@
+#!/usr/bin/env python3
+"""Lists each name that a file of crates/ imports and does not name.
+
+    scripts/unused_imports.py
+
+A `ghost use` serves clauses alone, so its names are looked for in what stands in braces behind `requires`, `ensures`, `ghost` and `by`: in
+the file, or in the block that the line stands in. The names of other lines are looked for in all of the file. An operator is named where
+each of its words is. In clauses, specs/ and proofs/ what stands behind a dot is a part of something, and names nothing of the file's; what
+is named only as a parameter or another binder counts as named. A trait of a `use` is let pass, as its methods may be called; `pub use`
+passes names on, and is not looked at. What a check leaves in out/ is not looked at either.
+Exit status: 0 where nothing is found, else 1.
+"""
+import glob
+import os
+import re
+import sys
+
+REPO = os.path.abspath(os.path.join(os.path.dirname(__file__), ".."))
+USE = re.compile(r"^( *)(pub |pub\(crate\) )?(ghost )?use ([^{;\n]*?)(?:\{([^}]*)\})?;?$", re.M)
+TRAIT = re.compile(r"^ *(?:pub |pub\(crate\) )?trait (\w+)", re.M)
+TRAITS_OF_STD = {"Read", "Write"}
+CLAUSE = re.compile(r"\b(?:requires|ensures|ghost|by)\b[^{};]*\{")
+STRING = re.compile(r"""b?"(?:\\.|[^"\\])*"|b?'(?:\\.|[^'\\\n])'""")
+COMMENT = {".rt": re.compile(rf"//[^\n]*|({STRING.pattern})"), ".antt": re.compile(r'(?<!\S)--[^\n]*|("[^"\n]*")')}
+WORD = re.compile(r"(?<![^\s(){}\[\],;])[^\s(){}\[\],;.]+")
+
+
+def clauses(code):
+    """What stands in the braces of clauses and ghost items."""
+    code = STRING.sub("", code)
+    for found in CLAUSE.finditer(code):
+        end, depth = found.end(), 1
+        while depth:
+            depth += {"{": 1, "}": -1}.get(code[end], 0)
+            end += 1
+        yield code[found.end():end - 1]
+
+
+def words(code, kind):
+    """What could name a name of a line of this kind: a `use` of Rust, a `ghost use`, or a `use` of antt."""
+    if kind == "use":
+        return set(re.findall(r"\w+", code))
+    text = code if kind == "antt" else " ".join(clauses(code))
+    return set(WORD.findall(text)) | ({"[]"} if "[" in text else set())
+
+
+def imported(path, names):
+    """The names that a line brings in, each as the file has it."""
+    for name in [path] if names is None else filter(None, map(str.strip, names.split(","))):
+        name = path.rstrip(":") if name == "self" else name.split(" as ")[-1]
+        yield name if "◌" in name else re.split(r"::|\.", name)[-1]
+
+
+def unused(text, ending, traits):
+    """The names that a file imports and does not name."""
+    code = COMMENT[ending].sub(lambda found: found.group(1) or " ", text)
+    known = {}
+    for line in USE.finditer(code):
+        indent, public, ghost, path, names = line.groups()
+        kind = "antt" if ending == ".antt" else "ghost" if ghost else "use"
+        key = (kind, line.start() if indent else 0)
+        if key not in known:
+            known[key] = words(USE.sub("", code[line.end():].split("\n}")[0] if indent else code), kind)
+        for name in () if public else imported(path, names):
+            if not (kind == "use" and name in traits or known[key].issuperset(filter(None, name.split("◌")))):
+                yield name
+
+
+files = sorted(file for ending in COMMENT for file in glob.glob(f"{REPO}/crates/*/*/**/*{ending}", recursive=True))
+texts = {file: open(file, encoding="utf-8").read() for file in files if "/out/" not in os.path.relpath(file, REPO)}
+all_traits = TRAITS_OF_STD.union(*map(TRAIT.findall, texts.values()))
+found_names = [(file, name) for file in texts for name in unused(texts[file], os.path.splitext(file)[1], all_traits)]
+for file, name in found_names:
+    print(f"{os.path.relpath(file, REPO)}: {name}")
+sys.exit(1 if found_names else 0)
