@@ -3,10 +3,12 @@ use Rattle.std.proofs.Common.{Result, Ok, Err, ◌≡◌, ℕ, zero, suc, ◌+�
 use Rattle.std.specs.Prelude.{Option, ℤ, IsErrAnd}
 use Rattle.twkb_points.specs.Point.{Point}
 use Rattle.twkb_tree.specs.declared.kind.Kind.{Kind}
+use Rattle.twkb_tree.specs.Tree.{Ids}
 use Rattle.twkb_tree.specs.Rows.{Row, plain_row, first_id, other_ids}
 use Rattle.twkb_tree.specs.RowGrowth.{point_added}
+use Rattle.twkb_grammar.specs.Machine as machine
 use Rattle.twkb_grammar.specs.Machine.{Form, PointForm, LineForm, PolygonForm, MultiPointForm, MultiLineForm, MultiPolygonForm}
-use Rattle.twkb_outline.specs.Outline.{Group, Step, OnBody, Wanted, shut, next_ids}
+use Rattle.twkb_outline.specs.Outline.{Group, Step, OnBody, Wanted, shut, listing, next_ids}
 use Rattle.twkb_outline.specs.Growing.{applied, NewPoint, point_change, id_in}
 use Rattle.twkb_outline.specs.Reading.{Pair, sums_past}
 use Rattle.twkb_outline.specs.Noting.{NotedOutline}
@@ -16,15 +18,15 @@ use Rattle.twkb_outline.proofs.NotedJoins.{noted_still, noted_join}
 use Rattle.twkb_outline.proofs.Judging.{outlined_judged, part_further}
 use Rattle.twkb_outline.proofs.Pieces.{used_join, one_within}
 use Rattle.twkb_front.specs.Front.{PointInFront}
-use Rattle.twkb_body.specs.Body.{head_of, form_of, spot_of, lefts_of, IsHeadAt}
+use Rattle.twkb_body.specs.Body.{head_of, form_of, lefts_of, IsHeadAt}
 use Rattle.twkb_body.specs.Names.{ids_of}
 use Rattle.twkb_body.specs.Steps.{step_in}
-use Rattle.twkb_body.specs.Running.{HasLists, StepRuns, StepStops, StopsWith, Leads, TakesPoints, left_in, at_spot, outer}
+use Rattle.twkb_body.specs.Running.{HasLists, StepRuns, StepStops, StopsWith, Leads, TakesPoints, rest_in, at_spot, outer}
 use Rattle.twkb_body.specs.declared.head.Head.{Head}
 use Rattle.twkb_body.specs.declared.runs.Taken.{Taken}
 use Rattle.twkb_body.specs.declared.names.Names.{Names}
 use Rattle.twkb_body.specs.declared.lefts.Lefts.{Lefts}
-use Rattle.twkb_body.specs.declared.lefts.Lefts.TheVariants.{Empty, One, Two, Three}
+use Rattle.twkb_body.specs.declared.lefts.Lefts.TheVariants.{One}
 use Rattle.twkb_body.specs.declared.form.Form.TheVariants.{MultiPoint}
 use Rattle.twkb_body.specs.declared.lefts.Spot.TheVariants.{X}
 use Rattle.twkb_body.specs.declared.body.Body.{Body}
@@ -85,38 +87,25 @@ same_change : (to : Point) (gs : List Group) (h : Head) (f : Form) (member : Opt
 same_change to gs h f member at = ap (λ d. point_change to d (id_in gs) h.precision f member) (sym at.depth_is) ∙ ap (λ i. point_change to h.depth i h.precision f member) (sym at.id_is)
 
 -- what a point leads to
-point_runs : (h : Head) (b : Body) (rs : List Row) (from to : Point) (bytes lefts : List ℕ) (used : ℕ) → spot_of b.spot ≡ Wanted 0 lefts → PointInFront from bytes to used
-    → StepRuns h (step_in h b) rs from (take used bytes) (shut (head_of h) (form_of b.form) (ids_of b.names) 0 lefts) (applied (point_change to h.depth h.id h.precision (form_of b.form) (first_id (ids_of b.names))) rs) to
-point_runs h b rs from to bytes lefts used spot cut = λ limits e front gs told at i.
-    let f = form_of b.form in
-    let ids = ids_of b.names in
+point_runs : (h : Head) (f : Form) (ids : Ids) (rs : List Row) (from to : Point) (bytes lefts : List ℕ) (used : ℕ) → PointInFront from bytes to used
+    → StepRuns h (OnBody (head_of h) f ids (Wanted 0 lefts)) rs from (take used bytes) (shut (head_of h) f ids 0 lefts) (applied (point_change to h.depth h.id h.precision f (first_id ids)) rs) to
+point_runs h f ids rs from to bytes lefts used cut = λ limits e front gs told at i.
     let xs = take used bytes in
-    let here = subst (λ s. NotedOutline limits front e (gs, OnBody (head_of h) f ids s) rs told) spot i.outlined in
-    let next = noted_point limits front e gs (head_of h) f ids lefts rs told xs to here (subst (λ q. Pair q xs to) (sym at) cut.pair) in
+    let next = noted_point limits front e gs (head_of h) f ids lefts rs told xs to i.outlined (subst (λ q. Pair q xs to) (sym at) cut.pair) in
     subst (λ k. NotedOutline limits (front ++ xs) (sums_past e xs to) (gs, shut (head_of h) f ids 0 lefts) (applied k rs) told) (same_change to gs h f (first_id ids) i.placed) next
 
--- a point behind which the body goes on
-pub point_leads : (h : Head) (b c : Body) (rs more : List Row) (from to : Point) (bytes lefts : List ℕ) (used : ℕ) (member : Option ℤ) → spot_of b.spot ≡ Wanted 0 lefts → PointInFront from bytes to used
-    → member ≡ first_id (ids_of b.names) → more ≡ applied (point_change to h.depth h.id h.precision (form_of b.form) member) rs
-    → shut (head_of h) (form_of b.form) (ids_of b.names) 0 lefts ≡ step_in h c → Leads h b rs from bytes (record { used = used; position = to }) c more
-point_leads h b c rs more from to bytes lefts used member spot cut same put goes =
-    let rows : applied (point_change to h.depth h.id h.precision (form_of b.form) (first_id (ids_of b.names))) rs ≡ more = sym (put ∙ ap (λ m. applied (point_change to h.depth h.id h.precision (form_of b.form) m) rs) same) in
-    record {
-      within = cut.within;
-      run = subst (λ s. StepRuns h (step_in h b) rs from (take used bytes) s more to) goes
-          (subst (λ l. StepRuns h (step_in h b) rs from (take used bytes) (shut (head_of h) (form_of b.form) (ids_of b.names) 0 lefts) l to) rows (point_runs h b rs from to bytes lefts used spot cut));
-    }
+-- there is no memory for one behind which the body goes on
+point_stops : (h : Head) (f : Form) (ids : Ids) (rs : List Row) (from to : Point) (bytes lefts : List ℕ) (used : ℕ) → PointInFront from bytes to used → IsPastEnds (shut (head_of h) f ids 0 lefts) → StepStops h (OnBody (head_of h) f ids (Wanted 0 lefts)) rs from bytes
+point_stops h f ids rs from to bytes lefts used cut past = step_judged h (OnBody (head_of h) f ids (Wanted 0 lefts)) _ rs _ from to bytes used cut.some cut.within past (point_runs h f ids rs from to bytes lefts used cut)
 
--- there is no memory for it
-pub point_stops : (h : Head) (b : Body) (rs : List Row) (from to : Point) (bytes lefts : List ℕ) (used : ℕ) → spot_of b.spot ≡ Wanted 0 lefts → PointInFront from bytes to used → IsPastEnds (shut (head_of h) (form_of b.form) (ids_of b.names) 0 lefts) → StopsWith h b rs from bytes
-point_stops h b rs from to bytes lefts used spot cut past = step_judged h (step_in h b) _ rs _ from to bytes used cut.some cut.within past (point_runs h b rs from to bytes lefts used spot cut)
+-- ---- a member of a multipoint
 
--- nor for one with others behind it
-pub one_stops : (h : Head) (b : Body) (rs : List Row) (from to : Point) (bytes lefts : List ℕ) (left used : ℕ) → spot_of b.spot ≡ Wanted 0 (left ∷ lefts) → 0 < left → PointInFront from bytes to used → StopsWith h b rs from bytes
-one_stops h b rs from to bytes lefts zero used spot some cut = absurd (omega (arith, some))
-one_stops h b rs from to bytes lefts (suc left) used spot some cut = point_stops h b rs from to bytes (suc left ∷ lefts) used spot cut tt
+-- there is no memory for one with others behind it
+pub member_stops : (h : Head) (b : Body) (rs : List Row) (from to : Point) (bytes : List ℕ) (left used : ℕ) → 0 < left → PointInFront from bytes to used → StopsWith h (at_spot b (X (One left))) rs from bytes
+member_stops h b rs from to bytes zero used some cut = absurd (omega (arith, some))
+member_stops h b rs from to bytes (suc left) used some cut = point_stops h (form_of b.form) (ids_of b.names) rs from to bytes (suc left ∷ []) used cut tt
 
--- a member of a multipoint, with others behind it
+-- one with others behind it
 pub member_leads : (h : Head) (b : Body) (next : Names) (rs more : List Row) (left used : ℕ) (from to : Point) (bytes : List ℕ) (member : Option ℤ) → b.form ≡ MultiPoint → 0 < left → PointInFront from bytes to used → member ≡ first_id (ids_of b.names)
     → ids_of next ≡ other_ids (ids_of b.names) → more ≡ rs ++ plain_row (h.depth + 1) Kind.Point member (to ∷ []) ∷ []
     → Leads h (at_spot b (X (One left))) rs from bytes (record { used = used; position = to }) (record { form = b.form; names = next; spot = X (One (left - 1)) }) more
@@ -124,14 +113,25 @@ member_leads h b next rs more zero used from to bytes member form some cut same 
 member_leads h b next rs more (suc left) used from to bytes member form some cut same ids put =
     let less : suc left - 1 ≡ left = omega arith in
     let deep : h.depth + 1 ≡ suc h.depth = omega arith in
-    rw less (point_leads h (at_spot b (X (One (suc left)))) (record { form = b.form; names = next; spot = X (One left) }) rs more from to bytes (suc left ∷ []) used member refl cut same
-    (put ∙ (ap (λ d. rs ++ plain_row d Kind.Point member (to ∷ []) ∷ []) deep ∙ ap (λ f. applied (point_change to h.depth h.id h.precision (form_of f) member) rs) (sym form)))
-    (ap (λ l. OnBody (head_of h) (form_of b.form) l (Wanted 0 (left ∷ []))) (sym ids)))
+    let f = form_of b.form in
+    let first = ids_of b.names in
+    let added : applied (point_change to h.depth h.id h.precision f (first_id first)) rs ≡ more = sym (put ∙ (ap (λ d. rs ++ plain_row d Kind.Point member (to ∷ []) ∷ []) deep
+    ∙ (ap (λ g. applied (point_change to h.depth h.id h.precision (form_of g) member) rs) (sym form) ∙ ap (λ m. applied (point_change to h.depth h.id h.precision f m) rs) same))) in
+    rw less (record {
+      within = cut.within;
+      run = subst (λ l. StepRuns h (step_in h (at_spot b (X (One (suc left))))) rs from (take used bytes) (OnBody (head_of h) f l (Wanted 0 (left ∷ []))) more to) (sym ids)
+          (subst (λ l. StepRuns h (step_in h (at_spot b (X (One (suc left))))) rs from (take used bytes) (shut (head_of h) f first 0 (suc left ∷ [])) l to) added (point_runs h f first rs from to bytes (suc left ∷ []) used cut));
+    })
 
 -- ---- a point of a list
 
+-- behind it others are to come, or the list is done
+behind_one : (k : machine.Head) (f : Form) (ids : Ids) (lefts : List ℕ) (left : ℕ) → next_ids lefts ids ≡ ids → shut k f ids 0 (left ∷ lefts) ≡ listing k f ids 0 left lefts
+behind_one k f ids lefts zero same = refl
+behind_one k f ids lefts (suc left) same = ap (λ l. OnBody k f l (Wanted 0 (left ∷ lefts))) same
+
 -- a point comes to the last row
-pub comes : (f : Form) (to : Point) (d : ℕ) (id : Option ℤ) (precision : ℤ) (member : Option ℤ) → HasLists f → point_change to d id precision f member ≡ NewPoint to
+comes : (f : Form) (to : Point) (d : ℕ) (id : Option ℤ) (precision : ℤ) (member : Option ℤ) → HasLists f → point_change to d id precision f member ≡ NewPoint to
 comes PointForm to d id precision member h = absurd h
 comes LineForm to d id precision member h = refl
 comes PolygonForm to d id precision member h = refl
@@ -139,28 +139,36 @@ comes MultiPointForm to d id precision member h = absurd h
 comes MultiLineForm to d id precision member h = refl
 comes MultiPolygonForm to d id precision member h = refl
 
--- the lists with another count
-pub lefts_left : (lefts : Lefts) (left n : ℕ) → lefts_of lefts ≡ left ∷ outer (lefts_of lefts) → lefts_of (left_in lefts n) ≡ n ∷ outer (lefts_of lefts)
-lefts_left Empty left n e = cc e
-lefts_left (One a) left n e = refl
-lefts_left (Two a b) left n e = refl
-lefts_left (Three a b c) left n e = refl
-
--- the lists with their own
-pub left_there : (lefts : Lefts) (left : ℕ) → lefts_of lefts ≡ left ∷ outer (lefts_of lefts) → left_in lefts left ≡ lefts
-left_there Empty left e = refl
-left_there (One a) left e = cc e
-left_there (Two a b) left e = cc e
-left_there (Three a b c) left e = cc e
-
--- a point of a list, with others behind it
-pub list_leads : (h : Head) (b : Body) (lefts : Lefts) (rs more : List Row) (most left used : ℕ) (from to : Point) (bytes : List ℕ) → lefts_of lefts ≡ most ∷ outer (lefts_of lefts) → HasLists (form_of b.form) → next_ids (outer (lefts_of lefts)) (ids_of b.names) ≡ ids_of b.names
-    → 0 < left → PointInFront from bytes to used → more ≡ point_added to rs → Leads h (at_spot b (X (left_in lefts left))) rs from bytes (record { used = used; position = to }) (at_spot b (X (left_in lefts (left - 1)))) more
-list_leads h b lefts rs more most zero used from to bytes begun lists same some cut added = absurd (omega (arith, some))
-list_leads h b lefts rs more most (suc left) used from to bytes begun lists same some cut added =
-    let less : suc left - 1 ≡ left = omega arith in
+-- one leads to where the others of its list are to come, or the list is done
+list_runs : (h : Head) (b : Body) (lists : Lefts) (rs more : List Row) (left used : ℕ) (from to : Point) (bytes : List ℕ) → HasLists (form_of b.form) → next_ids (outer (lefts_of lists)) (ids_of b.names) ≡ ids_of b.names
+    → PointInFront from bytes to used → more ≡ point_added to rs → StepRuns h (rest_in h b lists (suc left)) rs from (take used bytes) (rest_in h b lists left) more to
+list_runs h b lists rs more left used from to bytes listed same cut added =
     let f = form_of b.form in
-    let member = first_id (ids_of b.names) in
-    rw less (point_leads h (at_spot b (X (left_in lefts (suc left)))) (at_spot b (X (left_in lefts left))) rs more from to bytes (suc left ∷ outer (lefts_of lefts)) used member (ap (Wanted 0) (lefts_left lefts most (suc left) begun)) cut refl
-    (added ∙ ap (λ c. applied c rs) (sym (comes f to h.depth h.id h.precision member lists)))
-    (ap (λ l. OnBody (head_of h) f l (Wanted 0 (left ∷ outer (lefts_of lefts)))) same ∙ ap (λ l. OnBody (head_of h) f (ids_of b.names) (Wanted 0 l)) (sym (lefts_left lefts most left begun))))
+    let ids = ids_of b.names in
+    let lefts = outer (lefts_of lists) in
+    let Runs : Step → List Row → Type 0 = λ s l. StepRuns h (rest_in h b lists (suc left)) rs from (take used bytes) s l to in
+    let rows : applied (point_change to h.depth h.id h.precision f (first_id ids)) rs ≡ more = ap (λ c. applied c rs) (comes f to h.depth h.id h.precision (first_id ids) listed) ∙ sym added in
+    subst (λ s. Runs s more) (behind_one (head_of h) f ids lefts left same) (subst (λ l. Runs (shut (head_of h) f ids 0 (left ∷ lefts)) l) rows (point_runs h f ids rs from to bytes (left ∷ lefts) used cut))
+
+-- the body goes on where points are to come, if it does behind the list, or its last is kept
+pub goes_on : (h : Head) (b : Body) (lists : Lefts) (kept n : ℕ) → (kept ≡ 0 → IsPastEnds (rest_in h b lists 0)) → kept ≤ n → IsPastEnds (rest_in h b lists n)
+goes_on h b lists kept zero behind least = behind (omega (arith, least))
+goes_on h b lists kept (suc n) behind least = tt
+
+-- points of a list, and then one more
+pub list_more : (h : Head) (b : Body) (lists : Lefts) (rs mid more : List Row) (left kept used count : ℕ) (from at to : Point) (bytes : List ℕ) → HasLists (form_of b.form) → next_ids (outer (lefts_of lists)) (ids_of b.names) ≡ ids_of b.names
+    → StepRuns h (step_in h b) rs from (take used bytes) (rest_in h b lists (left + kept)) mid at → 0 < left → PointInFront at (take (length bytes - used) (drop used bytes)) to count → more ≡ point_added to mid
+    → StepRuns h (step_in h b) rs from (take (used + count) bytes) (rest_in h b lists (left - 1 + kept)) more to
+list_more h b lists rs mid more left kept used count from at to bytes listed same first some cut added =
+    let one : left + kept ≡ suc (left - 1 + kept) = omega (arith, some) in
+    step_more h (step_in h b) (rest_in h b lists (suc (left - 1 + kept))) (rest_in h b lists (left - 1 + kept)) rs mid more from at to bytes used count
+    (subst (λ n. StepRuns h (step_in h b) rs from (take used bytes) (rest_in h b lists n) mid at) one first) (list_runs h b lists mid more (left - 1 + kept) count at to _ listed same cut added)
+
+-- points of a list, and then one for which there is no memory
+pub list_stops : (h : Head) (b : Body) (lists : Lefts) (rs mid : List Row) (left kept used count : ℕ) (from at to : Point) (bytes : List ℕ) → used ≤ length bytes → StepRuns h (step_in h b) rs from (take used bytes) (rest_in h b lists (left + kept)) mid at
+    → 0 < left → PointInFront at (take (length bytes - used) (drop used bytes)) to count → HasLists (form_of b.form) → next_ids (outer (lefts_of lists)) (ids_of b.names) ≡ ids_of b.names → (kept ≡ 0 → IsPastEnds (rest_in h b lists 0)) → StopsWith h b rs from bytes
+list_stops h b lists rs mid left kept used count from at to bytes within first some cut listed same behind =
+    let one : left + kept ≡ suc (left - 1 + kept) = omega (arith, some) in
+    let n = left - 1 + kept in
+    step_stops h (step_in h b) (rest_in h b lists (suc n)) rs mid from at bytes used within (subst (λ k. StepRuns h (step_in h b) rs from (take used bytes) (rest_in h b lists k) mid at) one first)
+    (step_judged h (rest_in h b lists (suc n)) (rest_in h b lists n) mid (point_added to mid) at to _ count cut.some cut.within (goes_on h b lists kept n behind (omega arith)) (list_runs h b lists mid (point_added to mid) n count at to _ listed same cut refl))

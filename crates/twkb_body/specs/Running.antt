@@ -5,17 +5,17 @@ use Rattle.twkb_tree.specs.Limits.{Allowance}
 use Rattle.twkb_tree.specs.Rows.{Row}
 use Rattle.twkb_grammar.specs.Machine.{Form, PointForm, MultiPointForm, Many, Sums}
 use Rattle.twkb_grammar.specs.Noting.{Notes}
-use Rattle.twkb_outline.specs.Outline.{Group, Step, OnId}
+use Rattle.twkb_outline.specs.Outline.{Group, Step, OnId, listing}
 use Rattle.twkb_outline.specs.Growing.{id_in}
 use Rattle.twkb_outline.specs.Reading.{sums_past}
 use Rattle.twkb_outline.specs.Noting.{NotedOutline}
 use Rattle.twkb_outline.specs.Parts.{PartIn}
-use Rattle.twkb_body.specs.Body.{head_of, IsHeadAt}
+use Rattle.twkb_body.specs.Body.{head_of, form_of, lefts_of, IsHeadAt}
+use Rattle.twkb_body.specs.Names.{ids_of}
 use Rattle.twkb_body.specs.Steps.{step_in}
 use Rattle.twkb_body.specs.declared.head.Head.{Head}
 use Rattle.twkb_body.specs.declared.body.Body.{Body}
 use Rattle.twkb_body.specs.declared.lefts.Lefts.{Lefts}
-use Rattle.twkb_body.specs.declared.lefts.Lefts.TheVariants.{Empty, One, Two, Three}
 use Rattle.twkb_body.specs.declared.lefts.Spot.{Spot}
 use Rattle.twkb_body.specs.declared.runs.Taken.{Taken}
 
@@ -69,12 +69,9 @@ abbrev pub TakesPoints : {E : Type 0} → Head → Body → List Row → Point �
 TakesPoints h b rs from bytes (Ok t) c more = Leads h b rs from bytes t c more
 TakesPoints h b rs from bytes (Err e) c more = StopsWith h b rs from bytes
 
--- the lists with so many values left in the innermost
-abbrev pub left_in : Lefts → ℕ → Lefts
-left_in Empty left = Empty
-left_in (One a) left = One left
-left_in (Two a b) left = Two left b
-left_in (Three a b c) left = Three left b c
+-- what a body wants where so many points of the innermost of these lists are to come
+abbrev pub rest_in : Head → Body → Lefts → ℕ → Step
+rest_in h b lists n = listing (head_of h) (form_of b.form) (ids_of b.names) 0 n (outer (lefts_of lists))
 
 -- the body where it wants this next
 abbrev pub at_spot : Body → Spot → Body

@@ -1,15 +1,18 @@
 //! Points that stand whole in front of the bytes, taken many at a time.
-ghost use Rattle.std.specs.Prelude.{◌≡◌, ℕ, List, ◌∷◌, IfSome, true};
+ghost use Rattle.std.specs.Prelude.{◌≡◌, ◌≤◌, ℕ, List, ◌∷◌, length, IfSome, true};
+ghost use Rattle.twkb_tree.specs.Tree.{Ids};
 ghost use Rattle.twkb_tree.specs.Rows.{Row};
-ghost use Rattle.twkb_outline.specs.Outline.{next_ids};
+ghost use Rattle.twkb_grammar.specs.Machine as machine;
+ghost use Rattle.twkb_outline.specs.Outline.{next_ids, listing};
+ghost use Rattle.twkb_outline.specs.Parts.{IsPastEnds};
 ghost use Rattle.twkb_body.specs.Body.{form_of, spot_of, lefts_of};
 ghost use Rattle.twkb_body.specs.Names.{ids_of};
-ghost use Rattle.twkb_body.specs.Running.{Leads, HasLists, outer, left_in};
+ghost use Rattle.twkb_body.specs.Running.{Leads, HasLists, outer};
 
 use crate::body::Body;
 use crate::form::Form;
 use crate::head::Head;
-use crate::lefts::{Lefts, Spot, shut_point};
+use crate::lefts::{Lefts, Spot, open_line};
 use std::alloc::AllocError;
 use twkb_flat::Flat;
 use twkb_front::front_point;
@@ -44,15 +47,26 @@ fn first_left(lefts: Lefts) -> Option<u64>
     }
 }
 
-// The same lists, with so many values left in the innermost.
-fn with_left(lefts: Lefts, left: u64) -> Lefts
-    ensures { result ≡ left_in lefts left }
+// The lists round the innermost.
+fn around(lists: Lefts) -> Lefts
+    ensures value { lefts_of result ≡ outer (lefts_of lists) }
+    ensures most { length (lefts_of result) ≤ 2 }
 {
-    match lefts {
-        Lefts::Empty => Lefts::Empty,
-        Lefts::One(_) => Lefts::One(left),
-        Lefts::Two(_, lines) => Lefts::Two(left, lines),
-        Lefts::Three(_, lines, areas) => Lefts::Three(left, lines, areas),
+    match lists {
+        Lefts::Empty | Lefts::One(_) => Lefts::Empty,
+        Lefts::Two(_, lines) => Lefts::One(lines),
+        Lefts::Three(_, lines, areas) => Lefts::Two(lines, areas),
+    }
+}
+
+// How many points of the innermost list are not taken: its last, where the body ends with it.
+fn kept_of(lists: Lefts) -> u64
+    ensures most { result ≤ 1 }
+    ensures goes_on { result ≡ 0 → (h : machine.Head) (f : machine.Form) (ids : Ids) → IsPastEnds (listing h f ids 0 0 (outer (lefts_of lists))) }
+{
+    match open_line(around(lists), 0).spot {
+        Some(_) => 0,
+        None => 1,
     }
 }
 
@@ -72,8 +86,8 @@ fn keeps_row(body: &Body, lefts: Lefts) -> bool
 }
 
 impl Body {
-    ghost use Rattle.twkb_body.specs.Steps.{HasRun};
-    ghost use Rattle.twkb_body.specs.Running.{TakesPoints};
+    ghost use Rattle.twkb_body.specs.Steps.{HasRun, step_in};
+    ghost use Rattle.twkb_body.specs.Running.{TakesPoints, rest_in};
     ghost use Rattle.twkb_body.specs.declared.form.Form.TheVariants.{MultiPoint};
 
     // Takes members of a multipoint behind the first, but not its last, as far as they stand whole in front. Takes memory.
@@ -125,34 +139,14 @@ impl Body {
         }
     }
 
-    // Takes the last point of a list whose points come to its row, where it stands whole in front and the body goes on behind it. Takes
-    // memory.
-    fn take_last(
-        &mut self,
-        flat: &mut Flat,
-        head: Head,
-        from: Pt,
-        bytes: &[u8],
-    ) -> Result<Taken, AllocError>
-        requires { HasLists (form_of self.old.form) }
-        ensures { TakesPoints head self.old flat.old from bytes.now result self.new flat.new }
+    // Stands where so many points of the innermost of these lists are to come, if the body goes on there.
+    fn stand_in(&mut self, lists: Lefts, count: u64)
+        ensures { (h : Head) → IsPastEnds (rest_in h self.old lists count) → step_in h self.new ≡ rest_in h self.old lists count }
     {
-        let Spot::X(lefts) = self.spot else {
-            return Ok(none(from));
-        };
-        let after = shut_point(lefts);
-        let Some(spot) = after.spot else {
-            return Ok(none(from));
-        };
-        if !flat.takes_point() {
-            return Ok(none(from));
+        let after = open_line(around(lists), count);
+        if let Some(spot) = after.spot {
+            self.go_to(spot, after.next_member);
         }
-        let Some((to, used)) = front_point(from, bytes) else {
-            return Ok(none(from));
-        };
-        flat.add_point(to)?;
-        self.go_to(spot, after.next_member);
-        Ok(Taken { used, position: to })
     }
 
     /// Takes points of the list or multipoint that stands open as far as they stand whole in front, from this position on; not the
@@ -169,13 +163,15 @@ impl Body {
         if self.form == Form::MultiPoint {
             return self.take_members(flat, head, from, bytes);
         }
-        let Spot::X(lefts) = self.spot else {
+        let Spot::X(lists) = self.spot else {
             return Ok(none(from));
         };
-        let Some(most) = first_left(lefts) else {
+        let Some(behind) = first_left(lists) else {
             return Ok(none(from));
         };
-        if !keeps_row(self, lefts) || !flat.takes_points(most) {
+        let kept = kept_of(lists);
+        let most = behind.saturating_add(1) - kept;
+        if !keeps_row(self, lists) || !flat.takes_points(most) {
             return Ok(none(from));
         }
         let mut used = 0;
@@ -190,16 +186,7 @@ impl Body {
             position = to;
             used += count;
         }
-        self.spot = Spot::X(with_left(lefts, left));
-        if left > 0 {
-            return Ok(Taken { used, position });
-        }
-        match self.take_last(flat, head, position, &bytes[used..]) {
-            Ok(last) => Ok(Taken {
-                used: used + last.used,
-                position: last.position,
-            }),
-            Err(refused) => Err(refused),
-        }
+        self.stand_in(lists, left + kept);
+        Ok(Taken { used, position })
     }
 }

@@ -1,4 +1,4 @@
-use Rattle.std.proofs.Common.{◌≡◌, ◌+◌, ◌<◌, ◌∙◌, Bool, true, false, [], refl, sym, ap, subst, arith}
+use Rattle.std.proofs.Common.{◌≡◌, ◌+◌, ◌<◌, ◌∙◌, Bool, true, false, refl, sym, ap, subst, arith}
 use Rattle.std.proofs.Math.Bool.{not, beq}
 use Rattle.twkb_flat.specs.Members.{EndsInMember}
 use Rattle.twkb_flat.proofs.MemberLemmas.{member_added}
@@ -7,7 +7,7 @@ use Rattle.twkb_body.specs.declared.lefts.Lefts.TheVariants.{One}
 use Rattle.twkb_body.specs.declared.lefts.Spot.{Spot}
 use Rattle.twkb_body.specs.declared.lefts.Spot.TheVariants.{X}
 use Rattle.twkb_body.specs.declared.runs.Taken.{Taken}
-use Rattle.twkb_body.proofs.PointRuns.{takes_none, takes_more, takes_stop, takes_err, one_stops, member_leads}
+use Rattle.twkb_body.proofs.PointRuns.{takes_none, takes_more, takes_stop, takes_err, member_stops, member_leads}
 use Rattle.twkb_body.proofs.body.Body.take_members.Goals as goal
 
 -- flags that do not differ
@@ -45,7 +45,7 @@ returns-in_err-add_member c =
     let at = at_spot c.loop-left.self (X (One c.loop-left.left)) in
     takes_err _ c.args.head c.args.self.now _ c.args.flat.now _ c.args.from c.args.bytes.now c.from_residual.result c.from_residual.ensures.1
     (takes_stop c.args.head c.args.self.now at c.args.flat.now c.loop-left.flat c.args.from c.args.bytes.now _ c.loop-left.invariant.leads
-    (one_stops c.args.head at c.loop-left.flat c.loop-left.position _ _ [] c.loop-left.left _ refl (omega (arith, c.loop-left-test.true)) c.in-Some.ensures))
+    (member_stops c.args.head c.loop-left.self c.loop-left.flat c.loop-left.position _ _ c.loop-left.left _ (omega (arith, c.loop-left-test.true)) c.in-Some.ensures))
 
 pub loop-left-preserved : goal.loop-left-preserved
 loop-left-preserved c =
