@@ -1,27 +1,29 @@
 -- The test of a row by where it stands is the test by the open rows.
-use Rattle.std.proofs.Common.{◌≡◌, ℕ, ◌+◌, ◌<◌, ◌≤◌, ◌==◌, Bool, true, false, List, [], ◌∷◌, length, map, take, Option, refl, sym, ap, ◌∙◌, subst, arith}
-use Rattle.std.specs.Prelude.{reverse, ◌&&◌, is_none, nat_lt, nat_le}
+use Rattle.std.proofs.Common.{◌≡◌, ℕ, zero, suc, ◌+◌, ◌-◌, ◌<◌, ◌≤◌, ◌==◌, Bool, true, false, List, [], ◌∷◌, length, get_or, Option, Some, None, refl, sym, ap, ◌∙◌, subst, arith}
+use Rattle.std.specs.Prelude.{reverse, ◌&&◌, ◌↔◌, IsTrue, is_none, nat_lt, nat_le}
 use Rattle.std.proofs.lemmas.Bool.Decides.{nat_tests}
-use Rattle.twkb_points.specs.Point.{Point, AreInRange}
+use Rattle.twkb_points.specs.Point.{AreInRange}
 use Rattle.twkb_tree.specs.declared.open_rows.OpenRow.{OpenRow}
 use Rattle.twkb_tree.specs.declared.standing.Standing.{Standing}
 use Rattle.twkb_tree.specs.Limits.{Allowance, largest_limits}
 use Rattle.twkb_tree.specs.Rows.{Row, row_points}
 use Rattle.twkb_tree.specs.Admits.{has_place, id_in_range, id_allowed, has_same_ids, precision_in_range, precision_fits, is_whole, points_fit, fits}
-use Rattle.twkb_tree.specs.Accepted.{nest_kept}
-use Rattle.twkb_tree.specs.Open.{AreOpen, row_of, child_of, open_parent, count_at, open_refusal, is_next, open_continues}
+use Rattle.twkb_tree.specs.Accepted.{nest_kept, Continues}
+use Rattle.twkb_tree.specs.Open.{AreOpen, IsOpenAt, open_count, row_of, child_of, open_parent, count_at, open_refusal, is_next, open_continues}
 use Rattle.twkb_tree.specs.RowLists.{AreValidRowsOfOne}
 use Rattle.twkb_tree.specs.Refusal.{checks_under, first_failed, continues}
 use Rattle.twkb_tree.specs.Standing.{standing_at}
-use Rattle.twkb_tree.proofs.OpenRefusal.{stepless}
-use Rattle.twkb_tree.proofs.RefusalLaws.{passes, passed, joined, apart, none_is}
+use Rattle.twkb_tree.proofs.OpenRefusal.{stepless, no_open_parent, open_parent_at}
+use Rattle.twkb_tree.proofs.RefusalLaws.{passes, passed, joined, apart, none_is, continues_is, continues_true}
 use Rattle.twkb_tree.proofs.RowTests.{both_true, both, below_test, within_test, test_within}
 use Rattle.twkb_tree.proofs.RootLimits.{of_one}
 use Rattle.twkb_tree.proofs.RowPoints.{length-row_points}
-use Rattle.twkb_tree.proofs.RowsLocal.{continues_open}
-use Rattle.twkb_flat.specs.declared.entries.KeptNode.{KeptNode}
+use Rattle.twkb_tree.proofs.RowsLocal.{continues_open, open_rows}
+use Rattle.twkb_tree.proofs.RowLaws.{admitted_rows}
+use Rattle.twkb_tree.proofs.RootLaws.{as_list}
+use Rattle.twkb_tree.proofs.OpenLaws.{open_none}
+use Rattle.twkb_tree.proofs.OpenDecides.{open_at}
 use Rattle.twkb_flat.specs.Admitting.{is_admitted_at}
-use Rattle.twkb_flat.specs.Entries.{IsFlat, listed, span_of}
 
 -- two tests that hold together are one
 alike : (a b : Bool) → (a ≡ true → b ≡ true) → (b ≡ true → a ≡ true) → a ≡ b
@@ -110,13 +112,56 @@ fits_by_count p f r place range id precision =
     let two = both_true (precision_in_range r.precision) (precision_fits p r.precision) precision in
     sym (seventh (has_place p r.kind) (id_in_range r.id) (id_allowed p r.kind r.id) (has_same_ids f r.id) (precision_in_range r.precision) (precision_fits p r.precision) (points_fit r.kind (is_whole p) r.points) place range ids.0 ids.1 two.0 two.1)
 
--- the test by what is kept is the test by the rows
-pub kept_continues : (es : List KeptNode) (ps : List Point) (spine : List ℕ) (os : List OpenRow) (count nodes points : ℕ) (r : Row) (rows : List Row)
-    → IsFlat es ps spine os count → listed (map span_of es) ps ≡ rows → nodes ≡ length rows → points ≡ length (row_points rows)
-    → open_continues largest_limits (take count os) nodes points r ≡ continues largest_limits rows r
-kept_continues es ps spine os count nodes points r rows flat view all own =
-    let valid = subst (AreValidRowsOfOne largest_limits) view flat.valid in
-    let now_open = subst (λ rs. AreOpen (reverse rs) (take count os)) view flat.opened in
-    ap (λ n. open_continues largest_limits (take count os) n points r) all
-    ∙ ap (λ n. open_continues largest_limits (take count os) (length rows) n r) (own ∙ length-row_points rows)
-    ∙ continues_open largest_limits rows (take count os) r (of_one largest_limits rows valid) now_open
+-- ---- where a row stands
+
+-- an open row is what is kept of the last row at its depth
+open_alike : (d : ℕ) (before : List Row) (o p : OpenRow) → IsOpenAt d before o → IsOpenAt d before p → o ≡ p
+open_alike d before o p h k =
+    let kind : o.kind ≡ p.kind = cc (h.1, h.2, k.1, k.2) in
+    let ids : o.child_ids ≡ p.child_ids = h.3 ∙ sym k.3 in
+    ap (λ x. record { kind = x; child_ids = o.child_ids }) kind ∙ ap (λ x. record { kind = p.kind; child_ids = x }) ids
+
+-- so it is the one at that depth among all
+pub open_is : (d : ℕ) (before : List Row) (os : List OpenRow) (blank o : OpenRow) → AreOpen before os → d < length os → IsOpenAt d before o → get_or os d blank ≡ o
+open_is d before os blank o a lt h = open_alike d before (get_or os d blank) o (open_at d before os blank a lt) h
+
+-- a root stands under none
+pub root_stands : (d nodes points : ℕ) (os : List OpenRow) → d ≡ 0 → record { depth = d; parent = None; nodes = 0; points = 0 } ≡ standing_at d os nodes points
+root_stands zero nodes points os e = ap (λ (o : Option OpenRow). record { depth = 0; parent = o; nodes = 0; points = 0 }) (sym (no_open_parent os))
+root_stands (suc d) nodes points os e = absurd (omega (arith, e))
+
+-- another row under the open row above it
+child_stands : (d nodes points : ℕ) (before : List Row) (os : List OpenRow) (o : OpenRow) → 0 < d → AreOpen before os → d ≤ length os → IsOpenAt (d - 1) before o
+    → record { depth = d; parent = Some o; nodes = nodes; points = points } ≡ standing_at d os nodes points
+child_stands zero nodes points before os o some a le h = absurd (omega arith)
+child_stands (suc d) nodes points before os o some a le h =
+    let above : suc d - 1 ≡ d = omega arith in
+    let is = open_is d before os o o a (omega arith) (subst (λ (k : ℕ). IsOpenAt k before o) above h) in
+    ap (λ (p : Option OpenRow). record { depth = suc d; parent = p; nodes = nodes; points = points }) (ap (λ (p : OpenRow). Some p) (sym is) ∙ sym (open_parent_at d os o (omega arith)))
+
+-- in a geometry of so many rows and points
+pub other_stands : (d n m nodes points : ℕ) (before : List Row) (os : List OpenRow) (o : OpenRow) → (d ≡ 0 → ⊥) → AreOpen before os → d ≤ open_count before → IsOpenAt (d - 1) before o → n ≡ nodes → m ≡ points
+    → record { depth = d; parent = Some o; nodes = n; points = m } ≡ standing_at d os nodes points
+other_stands d n m nodes points before os o some a le h n_is m_is =
+    ap (λ (k : ℕ). record { depth = d; parent = Some o; nodes = k; points = m }) n_is
+    ∙ ap (λ (k : ℕ). record { depth = d; parent = Some o; nodes = nodes; points = k }) m_is
+    ∙ child_stands d nodes points before os o (omega (arith, some)) a (omega (arith, a.all, le)) h
+
+-- ---- the rows of a form
+
+-- rows of one geometry have open rows
+pub rows_open : (rows : List Row) → AreValidRowsOfOne largest_limits rows → (os : List OpenRow) × AreOpen (reverse rows) os
+rows_open [] valid = ([], open_none)
+rows_open (r ∷ rest) valid = open_rows (reverse (r ∷ rest)) (admitted_rows (r ∷ rest) (as_list r rest (of_one largest_limits (r ∷ rest) valid)))
+
+-- the test by open rows is the test by the rows
+pub kept_continues : (rows : List Row) (os : List OpenRow) (nodes points : ℕ) (r : Row) → AreValidRowsOfOne largest_limits rows → AreOpen (reverse rows) os → nodes ≡ length rows → points ≡ length (row_points rows)
+    → open_continues largest_limits os nodes points r ≡ continues largest_limits rows r
+kept_continues rows os nodes points r valid now_open all own =
+    ap (λ n. open_continues largest_limits os n points r) all
+    ∙ ap (λ n. open_continues largest_limits os (length rows) n r) (own ∙ length-row_points rows)
+    ∙ continues_open largest_limits rows os r (of_one largest_limits rows valid) now_open
+
+-- a test that says what the test by the rows says
+pub decides : (rows : List Row) (r : Row) (b : Bool) → b ≡ continues largest_limits rows r → IsTrue b ↔ Continues largest_limits rows r
+decides rows r b same = (λ yes. continues_is largest_limits rows r (sym same ∙ yes), λ h. same ∙ continues_true largest_limits rows r h)

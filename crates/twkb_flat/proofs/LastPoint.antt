@@ -1,21 +1,17 @@
 -- A point more of the last row, in entries and points.
 use Rattle.std.proofs.Common.{◌≡◌, ℕ, zero, suc, ◌+◌, ◌<◌, ◌≤◌, ◌^◌, List, [], ◌∷◌, ◌++◌, map, length, take, drop, set, get_or, refl, sym, ap, ◌∙◌, subst, arith, rules, Fits, w32}
-use Rattle.std.specs.Prelude.{reverse}
 use Rattle.std.proofs.lemmas.List.{length-append, length-drop, length-map, take_all, take-append-le, drop-append-le}
 use Rattle.twkb_points.specs.Point.{Point, IsInRange}
-use Rattle.twkb_tree.specs.declared.open_rows.OpenRow.{OpenRow}
 use Rattle.twkb_tree.specs.Limits.{largest_limits}
 use Rattle.twkb_tree.specs.Rows.{Row as TableRow, row_points}
 use Rattle.twkb_tree.specs.RowGrowth.{point_added, EndsInLine}
 use Rattle.twkb_tree.specs.RowLists.{AreValidRowsOfOne}
-use Rattle.twkb_tree.specs.Open.{AreOpen}
-use Rattle.twkb_tree.proofs.PointAdded.{open_point}
 use Rattle.twkb_tree.proofs.PointMore.{line_more}
 use Rattle.twkb_flat.specs.declared.entries.PlacedRow.{PlacedRow}
 use Rattle.twkb_flat.specs.declared.entries.KeptNode.{KeptNode}
 use Rattle.twkb_flat.specs.Links.{Linked}
 use Rattle.twkb_flat.specs.Rows.{row_with}
-use Rattle.twkb_flat.specs.Entries.{IsFlat, Laid, listed, span_of, next_of, span_depth, longer, last_longer, LastHasRoom}
+use Rattle.twkb_flat.specs.Entries.{IsFlat, Laid, listed, span_of, next_of, span_depth, depths_in, links_in, longer, last_longer, LastHasRoom}
 use Rattle.twkb_flat.proofs.FlatLaws.{few_points}
 use Rattle.twkb_flat.proofs.RowLemmas.{flat_points, laid_within}
 
@@ -42,10 +38,10 @@ longer_spans (e ∷ []) (suc i) d at = absurd (omega arith)
 longer_spans (e ∷ f ∷ es) zero d at = absurd (omega arith)
 longer_spans (e ∷ f ∷ es) (suc i) d at = ap (λ (ss : List PlacedRow). e.span ∷ ss) (longer_spans (f ∷ es) i d (omega arith))
 
-pub same_nexts : (es : List KeptNode) (i : ℕ) (d : KeptNode) → map next_of (set es i (entry_longer (get_or es i d))) ≡ map next_of es
-same_nexts [] i d = refl
-same_nexts (e ∷ es) zero d = refl
-same_nexts (e ∷ es) (suc i) d = ap (λ (ns : List ℕ). e.next.0 ∷ ns) (same_nexts es i d)
+pub same_links : (es : List KeptNode) (i : ℕ) (d : KeptNode) → links_in (set es i (entry_longer (get_or es i d))) ≡ links_in es
+same_links [] i d = refl
+same_links (e ∷ es) zero d = refl
+same_links (e ∷ es) (suc i) d = ap (λ (ns : List ℕ). e.next.0 ∷ ns) (same_links es i d)
 
 -- ---- spans and rows
 
@@ -86,45 +82,43 @@ some_spans [] ps rows view e = let t : [] ≡ e.front ++ e.last ∷ [] = view �
 some_spans (s ∷ ss) ps rows view e = omega arith
 
 -- there is an entry, and it has room
-pub point_fits : (es : List KeptNode) (ps : List Point) (spine : List ℕ) (os : List OpenRow) (count : ℕ) (rows : List TableRow)
-    → IsFlat es ps spine os count → listed (map span_of es) ps ≡ rows → EndsInLine rows → (0 < length es) × LastHasRoom es
-point_fits es ps spine os count rows flat view e = (
+pub point_fits : (es : List KeptNode) (ps : List Point) (rows : List TableRow)
+    → IsFlat es ps → listed (map span_of es) ps ≡ rows → EndsInLine rows → (0 < length es) × LastHasRoom es
+point_fits es ps rows flat view e = (
   omega (arith, some_spans (map span_of es) ps rows view e, length-map es span_of),
   laid_room 0 (length ps) es flat.laid (omega (arith, flat.most)),
 )
 
 -- the rows with a point more
-pub point_view : (es after : List KeptNode) (ps : List Point) (spine : List ℕ) (os : List OpenRow) (count : ℕ) (p : Point) (rows : List TableRow)
-    → IsFlat es ps spine os count → listed (map span_of es) ps ≡ rows → map span_of after ≡ last_longer (map span_of es)
+pub point_view : (es after : List KeptNode) (ps : List Point) (p : Point) (rows : List TableRow)
+    → IsFlat es ps → listed (map span_of es) ps ≡ rows → map span_of after ≡ last_longer (map span_of es)
     → listed (map span_of after) (ps ++ p ∷ []) ≡ point_added p rows
-point_view es after ps spine os count p rows flat view spans =
+point_view es after ps p rows flat view spans =
     ap (λ (ss : List PlacedRow). listed ss (ps ++ p ∷ [])) spans
     ∙ (longer_listed 0 (map span_of es) ps p (subst (λ (n : ℕ). Laid 0 (map span_of es) n) (omega arith) flat.laid)
     ∙ ap (point_added p) view)
 
 -- and what is kept of them
-pub point_flat : (es after : List KeptNode) (ps : List Point) (spine : List ℕ) (os : List OpenRow) (count : ℕ) (p : Point) (rows : List TableRow)
-    → IsFlat es ps spine os count → listed (map span_of es) ps ≡ rows → EndsInLine rows → AreValidRowsOfOne largest_limits (point_added p rows)
-    → map span_of after ≡ last_longer (map span_of es) → map next_of after ≡ map next_of es → IsFlat after (ps ++ p ∷ []) spine os count
-point_flat es after ps spine os count p rows flat view e valid spans nexts =
-    let now = point_view es after ps spine os count p rows flat view spans in
-    let depths : map span_depth (map span_of after) ≡ map span_depth (map span_of es) = ap (map span_depth) spans ∙ longer_depths (map span_of es) in
+pub point_flat : (es after : List KeptNode) (ps : List Point) (p : Point) (rows : List TableRow)
+    → IsFlat es ps → listed (map span_of es) ps ≡ rows → EndsInLine rows → AreValidRowsOfOne largest_limits (point_added p rows)
+    → map span_of after ≡ last_longer (map span_of es) → links_in after ≡ links_in es → IsFlat after (ps ++ p ∷ [])
+point_flat es after ps p rows flat view e valid spans links =
+    let now = point_view es after ps p rows flat view spans in
+    let depths : depths_in after ≡ depths_in es = ap (map span_depth) spans ∙ longer_depths (map span_of es) in
     let laid : Laid 0 (map span_of after) (length (ps ++ p ∷ [])) =
     subst (λ (ss : List PlacedRow). Laid 0 ss (length (ps ++ p ∷ []))) (sym spans)
     (subst (λ (n : ℕ). Laid 0 (last_longer (map span_of es)) n) (omega (arith, length-append ps (p ∷ []))) (longer_laid 0 (length ps) (map span_of es) (some_spans (map span_of es) ps rows view e) flat.laid)) in
     let points : length (row_points (point_added p rows)) ≡ length (ps ++ p ∷ []) = ap (λ (rs : List TableRow). length (row_points rs)) (sym now) ∙ ap (λ (qs : List Point). length qs) (flat_points (map span_of after) (ps ++ p ∷ []) laid) in
-    let total : length after ≡ length es = sym (length-map after next_of) ∙ (ap (λ (ns : List ℕ). length ns) nexts ∙ length-map es next_of) in
+    let total : length after ≡ length es = sym (length-map after next_of) ∙ (ap (λ (ns : List ℕ). length ns) links ∙ length-map es next_of) in
     record {
       laid = laid;
-      linked = subst (λ (ds : List ℕ). Linked ds (map next_of after) spine count) (sym depths) (subst (λ (ns : List ℕ). Linked (map span_depth (map span_of es)) ns spine count) (sym nexts) flat.linked);
+      linked = subst (λ (ds : List ℕ). Linked ds (links_in after)) (sym depths) (subst (λ (ls : List ℕ). Linked (depths_in es) ls) (sym links) flat.linked);
       valid = subst (AreValidRowsOfOne largest_limits) (sym now) valid;
-      opened = subst (λ (rs : List TableRow). AreOpen (reverse rs) (take count os)) (sym now) (open_point p rows (take count os) e (subst (λ (rs : List TableRow). AreOpen (reverse rs) (take count os)) view flat.opened));
-      room = flat.room;
       nodes = omega (arith, flat.nodes, total);
       most = omega (arith, points, few_points (point_added p rows) valid);
     }
 
 -- the rows with a point more are valid where there is room
-pub point_valid : (es : List KeptNode) (ps : List Point) (spine : List ℕ) (os : List OpenRow) (count : ℕ) (p : Point) (rows : List TableRow)
-    → IsFlat es ps spine os count → listed (map span_of es) ps ≡ rows → EndsInLine rows → length (row_points rows) < 2 ^ 24 → IsInRange p → AreValidRowsOfOne largest_limits (point_added p rows)
-point_valid es ps spine os count p rows flat view e room within = line_more largest_limits rows p e within room (subst (AreValidRowsOfOne largest_limits) view flat.valid)
+pub point_valid : (es : List KeptNode) (ps : List Point) (p : Point) (rows : List TableRow)
+    → IsFlat es ps → listed (map span_of es) ps ≡ rows → EndsInLine rows → length (row_points rows) < 2 ^ 24 → IsInRange p → AreValidRowsOfOne largest_limits (point_added p rows)
+point_valid es ps p rows flat view e room within = line_more largest_limits rows p e within room (subst (AreValidRowsOfOne largest_limits) view flat.valid)

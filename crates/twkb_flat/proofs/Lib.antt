@@ -1,13 +1,17 @@
 pub mod AdmitLemmas
+pub mod ClosingLemmas
 pub mod EntryLemmas
 pub mod FlatLaws
+pub mod FlatOpenLemmas
 pub mod FillLemmas
 pub mod GoingOn
 pub mod LastPoint
 mod LastKinds
+pub mod LastLinkLemmas
 pub mod LinkLemmas
 pub mod MemberLemmas
 pub mod NodeLemmas
+pub mod OpenPlaceLemmas
 pub mod OpenRowLemmas
 pub mod PushLemmas
 pub mod RowLemmas

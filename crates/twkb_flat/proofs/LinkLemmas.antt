@@ -1,39 +1,8 @@
 -- The links stay right as a row is appended.
-use Rattle.std.proofs.Common.{◌≡◌, ℕ, zero, suc, ◌+◌, ◌-◌, ◌<◌, ◌≤◌, ◌⊎◌, inl, inr, List, [], ◌∷◌, ◌++◌, length, take, drop, set, get_or, refl, sym, ap, ◌∙◌, subst, arith}
-use Rattle.std.proofs.lemmas.List.{length-set, length_push, get_or_append_left, get_or_push, get_or-set_same, get_or-set_other, get_or-take, get_or-drop}
+use Rattle.std.proofs.Common.{◌≡◌, ℕ, suc, ◌+◌, ◌-◌, ◌<◌, ◌≤◌, ◌⊎◌, inl, inr, List, [], ◌∷◌, ◌++◌, length, set, get_or, refl, sym, ap, ◌∙◌, subst, arith}
+use Rattle.std.proofs.lemmas.List.{length-set, length_push, get_or_append_left, get_or_push, get_or-set_same, get_or-set_other}
 use Rattle.std.proofs.lemmas.Bool.{cases_lt, cases_eq}
-use Rattle.std.proofs.lemmas.Grind.{common_steps}
-use Rattle.twkb_flat.specs.Links.{levels, IsNext, IsOpen, Linked}
-use Rattle.twkb_flat.specs.Entries.{closed}
-
--- as many links as before
-pub length-closed : (nexts places : List ℕ) (n : ℕ) → length (closed nexts places n) ≡ length nexts
-length-closed nexts [] n = refl
-length-closed nexts (p ∷ ps) n = length-closed (set nexts p n) ps n ∙ length-set nexts p n
-
--- a place that holds n already keeps it
-kept : (nexts places : List ℕ) (n i : ℕ) → get_or nexts i 0 ≡ n → i < length nexts → get_or (closed nexts places n) i 0 ≡ n
-kept nexts [] n i is within = is
-kept nexts (p ∷ ps) n i is within =
-    let longer : i < length (set nexts p n) = rw length-set within in
-    elim (cases_eq i p) [
-      | inl same ↦ kept (set nexts p n) ps n i (subst (λ (q : ℕ). get_or (set nexts q n) i 0 ≡ n) same (get_or-set_same nexts i n 0 within)) longer
-      | inr other ↦ kept (set nexts p n) ps n i (get_or-set_other nexts p i n 0 other ∙ is) longer
-    ]
-
--- a place that is not closed keeps its link
-closed_other : (nexts places : List ℕ) (n i : ℕ) → ((k : ℕ) → k < length places → get_or places k 0 ≡ i → ⊥) → get_or (closed nexts places n) i 0 ≡ get_or nexts i 0
-closed_other nexts [] n i apart = refl
-closed_other nexts (p ∷ ps) n i apart =
-    closed_other (set nexts p n) ps n i (λ k h e. apart (suc k) (omega arith) e)
-    ∙ get_or-set_other nexts p i n 0 (λ e. apart 0 (omega arith) (sym e))
-
--- a closed place has the new link
-closed_here : (nexts places : List ℕ) (n i k : ℕ) → k < length places → get_or places k 0 ≡ i → i < length nexts → get_or (closed nexts places n) i 0 ≡ n
-closed_here nexts [] n i k h e within = absurd (omega arith)
-closed_here nexts (p ∷ ps) n i zero h e within =
-    kept (set nexts p n) ps n i (subst (λ (q : ℕ). get_or (set nexts q n) i 0 ≡ n) (sym e) (get_or-set_same nexts i n 0 within)) (rw length-set within)
-closed_here nexts (p ∷ ps) n i (suc k) h e within = closed_here (set nexts p n) ps n i k (omega arith) e (rw length-set within)
+use Rattle.twkb_flat.specs.Links.{levels, IsNext, IsOpen, OpenPlace, IsUp, Linked, AreClosed, HasPlace}
 
 -- the last row tells how many rows are open
 pub levels-push : (ds : List ℕ) (d : ℕ) → levels (ds ++ d ∷ []) ≡ d + 1
@@ -105,102 +74,144 @@ next_closed ds d i h shallow is =
 pub open_next : (ds : List ℕ) (i : ℕ) → i < length ds → IsOpen ds i → IsNext ds i (length ds)
 open_next ds i h is = record { after = h; within = omega arith; deeper = λ j after before. is j after before; ends = λ e. absurd (omega arith) }
 
+-- ---- open rows
+
 -- the link of one row
-abbrev Link : List ℕ → ℕ → ℕ → Type 0
-Link ds i m = ((m ≡ 0) × IsOpen ds i) ⊎ (IsNext ds i m × (m < length ds))
+abbrev pub Link : List ℕ → ℕ → ℕ → Type 0
+Link ds i m = (IsOpen ds i × IsUp ds i m) ⊎ (IsNext ds i m × (m < length ds))
 
--- the open rows from a depth on
-abbrev part : List ℕ → ℕ → ℕ → List ℕ
-part spine d count = take (count - d) (drop d spine)
+-- the last row is open
+pub last_open : (ds : List ℕ) (i : ℕ) → i + 1 ≡ length ds → OpenPlace ds (get_or ds i 0) i
+last_open ds i at = record { within = omega arith; depth = refl; is_open = λ j after within. absurd (omega arith) }
 
--- how many they are
-length-part : (spine : List ℕ) (d count : ℕ) → d ≤ count → count ≤ length spine → length (part spine d count) ≡ count - d
-length-part spine d count h k = grind (arith, common_steps)
+-- its depth
+pub last_depth : (ds : List ℕ) (i : ℕ) → i + 1 ≡ length ds → levels ds ≡ get_or ds i 0 + 1
+last_depth ds i at = let same : length ds - 1 ≡ i = omega arith in levels_last ds (omega arith) ∙ ap (λ (k : ℕ). get_or ds k 0 + 1) same
 
--- each of them
-part_at : (spine : List ℕ) (d count k : ℕ) → k < count - d → get_or (part spine d count) k 0 ≡ get_or spine (d + k) 0
-part_at spine d count k h = get_or-take (count - d) (drop d spine) k 0 h ∙ get_or-drop d spine k 0
+-- that of an open row leads up
+open_up : (ds : List ℕ) (i m : ℕ) → IsOpen ds i → Link ds i m → IsUp ds i m
+open_up ds i m is (inl (open_i, up)) = up
+open_up ds i m is (inr (next, within)) = let deeper = is m next.after within in let shallow = next.ends within in absurd (omega arith)
 
-module _ (ds nexts spine : List ℕ) (count d : ℕ) (linked : Linked ds nexts spine count) (child : d ≤ count) (deep : d < 35) where
-  -- how many rows are closed
-  length_places : length (part spine d count) ≡ count - d
-  length_places = length-part spine d count child (omega (arith, linked.room, linked.most))
+-- to its parent
+pub up_from : (ds nexts : List ℕ) (d i : ℕ) → Linked ds nexts → OpenPlace ds (d + 1) i → OpenPlace ds d (get_or nexts i 0)
+up_from ds nexts d i linked at = (open_up ds i (get_or nexts i 0) at.is_open (linked.links i at.within)).parent d at.depth
 
-  -- each is open, at its depth
-  at_place : (k : ℕ) → k < length (part spine d count) → (get_or (part spine d count) k 0 < length ds) × (get_or ds (get_or (part spine d count) k 0) 0 ≡ d + k) × IsOpen ds (get_or (part spine d count) k 0)
-  at_place k h =
-      let small : k < count - d = omega (arith, length_places) in
-      subst (λ (p : ℕ). (p < length ds) × (get_or ds p 0 ≡ d + k) × IsOpen ds p) (sym (part_at spine d count k small)) (linked.open_at (d + k) (omega arith))
+-- and no further than its place
+pub up_before : (ds nexts : List ℕ) (d i : ℕ) → Linked ds nexts → OpenPlace ds d i → get_or nexts i 0 ≤ i
+up_before ds nexts d i linked at = (open_up ds i (get_or nexts i 0) at.is_open (linked.links i at.within)).before
 
-  -- a row that is not among the closed keeps its link
-  other : (i : ℕ) → i < length ds → ((k : ℕ) → k < length (part spine d count) → get_or (part spine d count) k 0 ≡ i → ⊥) → get_or (closed (nexts ++ 0 ∷ []) (part spine d count) (length ds)) i 0 ≡ get_or nexts i 0
-  other i h apart = closed_other (nexts ++ 0 ∷ []) (part spine d count) (length ds) i apart ∙ get_or_append_left nexts (0 ∷ []) 0 i (omega (arith, linked.same))
+-- which stands before it
+pub up_less : (ds nexts : List ℕ) (d i : ℕ) → Linked ds nexts → OpenPlace ds (d + 1) i → get_or nexts i 0 < i
+up_less ds nexts d i linked at =
+    let le = up_before ds nexts (d + 1) i linked at in
+    let up = up_from ds nexts d i linked at in
+    elim (cases_lt (get_or nexts i 0) i) [
+      | inl less ↦ less
+      | inr not_less ↦ (let same : get_or nexts i 0 ≡ i = omega arith in let e = ap (λ (k : ℕ). get_or ds k 0) same in absurd (omega (arith, up.depth, at.depth)))
+    ]
 
-  -- the new row is open
-  new_link : Link (ds ++ d ∷ []) (length ds) (get_or (closed (nexts ++ 0 ∷ []) (part spine d count) (length ds)) (length ds) 0)
-  new_link =
-      let apart : (k : ℕ) → k < length (part spine d count) → get_or (part spine d count) k 0 ≡ length ds → ⊥ = λ k h e. let p = (at_place k h).0 in omega arith in
-      let same : length nexts ≡ length ds = linked.same in
-      inl (
-        closed_other (nexts ++ 0 ∷ []) (part spine d count) (length ds) (length ds) apart ∙ get_or_push nexts 0 0 (length ds) same,
-        λ j before within. absurd (omega (arith, length_push ds d)),
-      )
+-- ---- closing
 
-  -- the others have the right links
-  old_link : (i : ℕ) → i < length ds → Link ds i (get_or nexts i 0) → Link (ds ++ d ∷ []) i (get_or (closed (nexts ++ 0 ∷ []) (part spine d count) (length ds)) i 0)
-  old_link i h (inr (is, within)) =
-      let apart : (k : ℕ) → k < length (part spine d count) → get_or (part spine d count) k 0 ≡ i → ⊥ =
-      λ k small e. let open_i = subst (λ (p : ℕ). IsOpen ds p) e (at_place k small).2 in let deeper = open_i (get_or nexts i 0) is.after within in let shallow = is.ends within in omega arith in
-      subst (λ (m : ℕ). Link (ds ++ d ∷ []) i m) (sym (other i h apart)) (inr (next_more ds d i (get_or nexts i 0) within is, omega (arith, length_push ds d)))
-  old_link i h (inl (none, is)) =
-      elim (cases_lt (get_or ds i 0) d) [
-        | inl shallow ↦
-            (let apart : (k : ℕ) → k < length (part spine d count) → get_or (part spine d count) k 0 ≡ i → ⊥ =
-            λ k small e. let at = (at_place k small).1 in let same = ap (λ (p : ℕ). get_or ds p 0) e in omega arith in
-            subst (λ (m : ℕ). Link (ds ++ d ∷ []) i m) (sym (other i h apart)) (inl (none, open_more ds d i h shallow is)))
-        | inr deep_enough ↦
-            (let below = open_depth ds i h is in
-            let k = get_or ds i 0 - d in
-            let small : get_or ds i 0 - d < length (part spine d count) = omega (arith, length_places, linked.count_is) in
-            let at = at_place (get_or ds i 0 - d) small in
-            let same : get_or (part spine d count) (get_or ds i 0 - d) 0 ≡ i = open_alike ds (get_or (part spine d count) (get_or ds i 0 - d) 0) i at.0 h at.2 is (omega (arith, at.1)) in
-            let shut = closed_here (nexts ++ 0 ∷ []) (part spine d count) (length ds) i (get_or ds i 0 - d) small same (omega (arith, linked.same, length_push nexts 0)) in
-            subst (λ (m : ℕ). Link (ds ++ d ∷ []) i m) (sym shut) (inr (next_closed ds d i h deep_enough is, omega (arith, length_push ds d))))
-      ]
+-- none is closed
+pub none_closed : (ds nexts : List ℕ) (d next : ℕ) → d ≡ levels ds → AreClosed ds nexts nexts d next
+none_closed ds nexts d next deep = record {
+  shut = λ i within is le. let below = open_depth ds i within is in absurd (omega arith);
+  kept = λ i within h. refl;
+}
 
-  -- the links with one row more
-  pub linked_push : Linked (ds ++ d ∷ []) (closed (nexts ++ 0 ∷ []) (part spine d count) (length ds)) (set spine d (length ds)) (d + 1)
-  linked_push = record {
-    same = length-closed (nexts ++ 0 ∷ []) (part spine d count) (length ds) ∙ omega (arith, linked.same, length_push nexts 0, length_push ds d);
-    links = λ i within. elim (cases_lt i (length ds)) [
-      | inl old ↦ old_link i old (linked.links i old)
-      | inr new ↦ (let at : length ds ≡ i = omega (arith, length_push ds d) in subst (λ (k : ℕ). Link (ds ++ d ∷ []) k (get_or (closed (nexts ++ 0 ∷ []) (part spine d count) (length ds)) k 0)) at new_link)
-    ];
-    steps = λ i within. elim (cases_lt (i + 1) (length ds)) [
-      | inl old ↦
-          (let here : i < length ds = omega arith in
-          rw (get_or_append_left ds (d ∷ []) 0 (i + 1) old, get_or_append_left ds (d ∷ []) 0 i here) (linked.steps i old))
-      | inr new ↦
-          (let here : i < length ds = omega (arith, length_push ds d) in
-          let at : length ds ≡ i + 1 = omega (arith, length_push ds d) in
-          let last = levels_last ds (omega arith) in
-          let same : length ds - 1 ≡ i = omega arith in
-          let value = ap (λ (k : ℕ). get_or ds k 0) same in
-          rw (get_or_push ds d 0 (i + 1) at, get_or_append_left ds (d ∷ []) 0 i here) (omega (arith, linked.count_is)))
-    ];
-    count_is = sym (levels-push ds d);
-    room = length-set spine d (length ds) ∙ linked.room;
-    most = omega arith;
-    open_at = λ k small. elim (cases_lt k d) [
-      | inl old ↦
-          (let at = linked.open_at k (omega arith) in
-          let same : get_or (set spine d (length ds)) k 0 ≡ get_or spine k 0 = get_or-set_other spine d k (length ds) 0 (λ e. omega arith) in
-          subst (λ (p : ℕ). (p < length (ds ++ d ∷ [])) × (get_or (ds ++ d ∷ []) p 0 ≡ k) × IsOpen (ds ++ d ∷ []) p) (sym same)
-          (omega (arith, at.0, length_push ds d), get_or_append_left ds (d ∷ []) 0 (get_or spine k 0) at.0 ∙ at.1, open_more ds d (get_or spine k 0) at.0 (omega (arith, at.1)) at.2))
-      | inr new ↦
-          (let is : d ≡ k = omega arith in
-          subst (λ (j : ℕ). (get_or (set spine d (length ds)) j 0 < length (ds ++ d ∷ [])) × (get_or (ds ++ d ∷ []) (get_or (set spine d (length ds)) j 0) 0 ≡ j) × IsOpen (ds ++ d ∷ []) (get_or (set spine d (length ds)) j 0)) is
-          (subst (λ (p : ℕ). (p < length (ds ++ d ∷ [])) × (get_or (ds ++ d ∷ []) p 0 ≡ d) × IsOpen (ds ++ d ∷ []) p) (sym (get_or-set_same spine d (length ds) 0 (omega (arith, linked.room))))
-          (omega (arith, length_push ds d), get_or_push ds d 0 (length ds) refl, λ j before within. absurd (omega (arith, length_push ds d)))))
-    ];
-  }
+-- one more is closed
+pub one_closed : (ds nexts after : List ℕ) (d at next : ℕ) → OpenPlace ds d at → length ds ≤ length after → AreClosed ds nexts after (d + 1) next → AreClosed ds nexts (set after at next) d next
+one_closed ds nexts after d at next is_at room so_far = record {
+  shut = λ i within is le. elim (cases_eq i at) [
+    | inl same ↦ subst (λ (k : ℕ). get_or (set after at next) k 0 ≡ next) (sym same) (get_or-set_same after at next 0 (omega (arith, is_at.within)))
+    | inr other ↦
+        (let deeper : d + 1 ≤ get_or ds i 0 = elim (cases_lt d (get_or ds i 0)) [
+          | inl less ↦ omega (arith, less)
+          | inr not_less ↦ absurd (other (open_alike ds i at within is_at.within is is_at.is_open (omega (arith, is_at.depth))))
+        ] in
+        get_or-set_other after at i next 0 other ∙ so_far.shut i within is deeper)
+  ];
+  kept = λ i within h.
+      (let other : i ≡ at → ⊥ = λ e. let same = ap (λ (k : ℕ). get_or ds k 0) e in let less = h (subst (λ (k : ℕ). IsOpen ds k) (sym e) is_at.is_open) in omega (arith, is_at.depth) in
+      get_or-set_other after at i next 0 other ∙ so_far.kept i within (λ is. let less = h is in omega arith));
+}
+
+-- the link of an open row that is not yet closed
+pub link_kept : (ds nexts after : List ℕ) (d at next : ℕ) → OpenPlace ds d at → AreClosed ds nexts after (d + 1) next → get_or after at 0 ≡ get_or nexts at 0
+link_kept ds nexts after d at next is_at so_far = so_far.kept at is_at.within (λ is. omega (arith, is_at.depth))
+
+-- ---- one more row
+
+-- an open row stays where a deeper row comes
+place_more : (ds : List ℕ) (d e i : ℕ) → e < d → OpenPlace ds e i → OpenPlace (ds ++ d ∷ []) e i
+place_more ds d e i lt at = record {
+  within = omega (arith, at.within, length_push ds d);
+  depth = get_or_append_left ds (d ∷ []) 0 i at.within ∙ at.depth;
+  is_open = open_more ds d i at.within (omega (arith, at.depth)) at.is_open;
+}
+
+-- and so does its parent
+up_more : (ds : List ℕ) (d i m : ℕ) → i < length ds → get_or ds i 0 < d → IsUp ds i m → IsUp (ds ++ d ∷ []) i m
+up_more ds d i m within shallow up =
+    let here = get_or_append_left ds (d ∷ []) 0 i within in
+    record { before = up.before; parent = λ e is. place_more ds d e m (omega (arith, here)) (up.parent e (sym here ∙ is)) }
+
+-- the rows before the new one have the right links
+old_link : (ds nexts after : List ℕ) (d i : ℕ) → i < length ds → AreClosed ds nexts after d (length ds) → Link ds i (get_or nexts i 0) → Link (ds ++ d ∷ []) i (get_or after i 0)
+old_link ds nexts after d i within closed (inr (next, less)) =
+    let same = closed.kept i within (λ is. let deeper = is (get_or nexts i 0) next.after less in let shallow = next.ends less in omega arith) in
+    subst (λ (m : ℕ). Link (ds ++ d ∷ []) i m) (sym same) (inr (next_more ds d i (get_or nexts i 0) less next, omega (arith, length_push ds d)))
+old_link ds nexts after d i within closed (inl (is, up)) =
+    elim (cases_lt (get_or ds i 0) d) [
+      | inl shallow ↦
+          (let same = closed.kept i within (λ _. shallow) in
+          subst (λ (m : ℕ). Link (ds ++ d ∷ []) i m) (sym same) (inl (open_more ds d i within shallow is, up_more ds d i (get_or nexts i 0) within shallow up)))
+      | inr deep ↦
+          (let same = closed.shut i within is (omega arith) in
+          subst (λ (m : ℕ). Link (ds ++ d ∷ []) i m) (sym same) (inr (next_closed ds d i within (omega arith) is, omega (arith, length_push ds d))))
+    ]
+
+-- the links with one row more
+pub linked_push : (ds nexts after : List ℕ) (d up : ℕ) → Linked ds nexts → HasPlace ds d → length after ≡ length ds + 1 → AreClosed ds nexts after d (length ds)
+    → get_or after (length ds) 0 ≡ up → up ≤ length ds → ((e : ℕ) → d ≡ e + 1 → OpenPlace ds e up) → Linked (ds ++ d ∷ []) after
+linked_push ds nexts after d up linked place size closed is_up before parent = record {
+  same = omega (arith, size, length_push ds d);
+  links = λ i within. elim (cases_lt i (length ds)) [
+    | inl old ↦ old_link ds nexts after d i old closed (linked.links i old)
+    | inr new ↦
+        (let at : length ds ≡ i = omega (arith, length_push ds d) in
+        let here = get_or_push ds d 0 (length ds) refl in
+        subst (λ (k : ℕ). Link (ds ++ d ∷ []) k (get_or after k 0)) at
+        (subst (λ (m : ℕ). Link (ds ++ d ∷ []) (length ds) m) (sym is_up) (inl (
+          λ j after_it inside. absurd (omega (arith, length_push ds d)),
+          record { before = before; parent = λ e is. place_more ds d e up (omega (arith, here)) (parent e (sym here ∙ is)) },
+        ))))
+  ];
+  steps = λ i within. elim (cases_lt (i + 1) (length ds)) [
+    | inl old ↦
+        (let here : i < length ds = omega arith in
+        rw (get_or_append_left ds (d ∷ []) 0 (i + 1) old, get_or_append_left ds (d ∷ []) 0 i here) (linked.steps i old))
+    | inr new ↦
+        (let here : i < length ds = omega (arith, length_push ds d) in
+        let at : length ds ≡ i + 1 = omega (arith, length_push ds d) in
+        let last = last_depth ds i (sym at) in
+        rw (get_or_push ds d 0 (i + 1) at, get_or_append_left ds (d ∷ []) 0 i here) (omega (arith, place.step)))
+  ];
+}
+
+-- the links with one row more that stands beside the last
+pub linked_beside : (ds nexts : List ℕ) (d last : ℕ) → Linked ds nexts → last + 1 ≡ length ds → get_or ds last 0 ≡ d → 0 < d → Linked (ds ++ d ∷ []) (set (nexts ++ get_or nexts last 0 ∷ []) last (length ds))
+linked_beside ds nexts d last linked end here deep =
+    let up = get_or nexts last 0 in
+    let more = nexts ++ up ∷ [] in
+    let size : length more ≡ length ds + 1 = omega (arith, linked.same, length_push nexts up) in
+    let is_last = subst (λ (k : ℕ). OpenPlace ds k last) here (last_open ds last end) in
+    let deepest = last_depth ds last end in
+    let shut = one_closed ds more more d last (length ds) is_last (omega (arith, size)) (none_closed ds more (d + 1) (length ds) (omega (arith, deepest, here))) in
+    let parent : (e : ℕ) → d ≡ e + 1 → OpenPlace ds e up = λ e is. up_from ds nexts e last linked (subst (λ (k : ℕ). OpenPlace ds k last) is is_last) in
+    let above = parent (d - 1) (omega (arith, deep)) in
+    let own : get_or (set more last (length ds)) (length ds) 0 ≡ up = get_or-set_other more last (length ds) (length ds) 0 (λ e. omega (arith, end, e)) ∙ get_or_push nexts up 0 (length ds) linked.same in
+    linked_push ds nexts (set more last (length ds)) d up linked (record { step = omega (arith, deepest, here); below = λ some. deep }) (length-set more last (length ds) ∙ size)
+    (record { shut = shut.shut; kept = λ i within h. shut.kept i within h ∙ get_or_append_left nexts (up ∷ []) 0 i (omega (arith, within, linked.same)) })
+    own (omega (arith, above.within)) parent

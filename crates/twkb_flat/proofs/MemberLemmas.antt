@@ -1,7 +1,7 @@
 -- A member of a multipoint that comes behind another.
-use Rattle.std.proofs.Common.{◌≡◌, ℕ, zero, suc, ◌+◌, ◌-◌, ◌<◌, ◌≤◌, ◌^◌, ℤ, Bool, true, List, [], ◌∷◌, ◌++◌, map, length, take, drop, set, get_or, Option, Some, None, refl, sym, ap, ◌∙◌, subst, arith}
+use Rattle.std.proofs.Common.{◌≡◌, ℕ, zero, suc, ◌+◌, ◌-◌, ◌<◌, ◌≤◌, ◌^◌, ℤ, Bool, true, List, [], ◌∷◌, ◌++◌, map, length, set, get_or, Option, Some, None, refl, sym, ap, ◌∙◌, subst, arith}
 use Rattle.std.specs.Prelude.{reverse, is_some, is_none, nat_le}
-use Rattle.std.proofs.lemmas.List.{length-append, length-map, length-take-le, length_push, reverse-append}
+use Rattle.std.proofs.lemmas.List.{length-append, length_push, map_push, reverse-append}
 use Rattle.twkb_points.specs.Point.{Point, IsInRange}
 use Rattle.twkb_tree.specs.declared.kind.Kind.{Kind}
 use Rattle.twkb_tree.specs.declared.open_rows.OpenRow.{OpenRow}
@@ -11,7 +11,7 @@ use Rattle.twkb_tree.specs.Admits.{id_in_range, has_same_ids, fits}
 use Rattle.twkb_tree.specs.Accepted.{Continues}
 use Rattle.twkb_tree.specs.RowLists.{AreValidRowsOfOne}
 use Rattle.twkb_tree.specs.Refusal.{checks_under, first_failed}
-use Rattle.twkb_tree.specs.Open.{AreOpen, AreOpenFrom, opened, open_parent, open_refusal, open_continues, is_next, row_of, child_of, child_by}
+use Rattle.twkb_tree.specs.Open.{AreOpen, IsOpenAt, opened, open_count, open_parent, open_refusal, open_continues, is_next, row_of, child_of, child_by}
 use Rattle.twkb_tree.proofs.OpenDecides.{steps_open}
 use Rattle.twkb_tree.proofs.OpenLaws.{open_more}
 use Rattle.twkb_tree.proofs.RefusalLaws.{apart, passed, continues_is}
@@ -21,12 +21,14 @@ use Rattle.twkb_tree.proofs.RowTests.{both, test_below, test_within}
 use Rattle.twkb_tree.proofs.RowsLocal.{continues_open}
 use Rattle.twkb_flat.specs.declared.node.Row.{Row}
 use Rattle.twkb_flat.specs.declared.entries.KeptNode.{KeptNode}
-use Rattle.twkb_flat.specs.Rows.{row_with}
-use Rattle.twkb_flat.specs.Entries.{IsFlat, closed, listed, next_of, span_depth, span_of}
+use Rattle.twkb_flat.specs.Links.{levels, Linked}
+use Rattle.twkb_flat.specs.Entries.{IsFlat, depths_in, links_in, listed, next_of, span_depth, span_of}
 use Rattle.twkb_flat.specs.Members.{with_member, OpenInMember, EndsInMember}
-use Rattle.twkb_flat.proofs.AdmitLemmas.{later_next}
-use Rattle.twkb_flat.proofs.GoingOn.{opened-take}
-use Rattle.twkb_flat.proofs.PushLemmas.{Opens, Pushed, flat_after, view_after}
+use Rattle.twkb_flat.proofs.AdmitLemmas.{later_next, open_is, rows_open}
+use Rattle.twkb_flat.proofs.ClosingLemmas.{length-depths_in, link_in, some_entry}
+use Rattle.twkb_flat.proofs.FlatOpenLemmas.{flat_levels}
+use Rattle.twkb_flat.proofs.LinkLemmas.{last_depth, linked_beside}
+use Rattle.twkb_flat.proofs.PushLemmas.{Pushed, depths_more, flat_after, view_after}
 
 -- ---- the open rows
 
@@ -55,16 +57,6 @@ ends_in_two n [] b blank size parent member = absurd (omega (arith, size))
 ends_in_two (suc n) (o ∷ os) b blank size parent member =
     let rest = ends_in_two n os b blank (omega (arith, size)) parent member in
     record { above = o ∷ rest.above; depth = ap suc rest.depth; whole = ap (λ xs. o ∷ xs) rest.whole }
-
--- the rows determine them
-same_open : (j : ℕ) (before : List TableRow) (os ps : List OpenRow) → AreOpenFrom j before os → AreOpenFrom j before ps → length os ≡ length ps → os ≡ ps
-same_open j before [] [] h k size = refl
-same_open j before [] (p ∷ ps) h k size = absurd (omega (arith, size))
-same_open j before (o ∷ os) [] h k size = absurd (omega (arith, size))
-same_open j before (o ∷ os) (p ∷ ps) (h, hs) (k, ks) size =
-    let kind : o.kind ≡ p.kind = cc (h.1, h.2, k.1, k.2) in
-    let ids : o.child_ids ≡ p.child_ids = h.3 ∙ sym k.3 in
-    ap (λ x. record { kind = x; child_ids = o.child_ids } ∷ os) kind ∙ (ap (λ x. record { kind = p.kind; child_ids = x } ∷ os) ids ∙ ap (λ xs. p ∷ xs) (same_open (suc j) before os ps hs ks (omega (arith, size))))
 
 -- ---- the row
 
@@ -116,67 +108,62 @@ ends_again rows r kind ends =
 
 -- ---- what is kept
 
--- the open rows that are kept serve again
-member_opens : (rows : List TableRow) (os : List OpenRow) (count : ℕ) (row : Row) → row.kind ≡ Kind.Point → AreOpen (reverse rows) (take count os) → count ≤ length os → EndsInMember row.depth (is_some row.id) rows
-    → (count ≡ row.depth + 1) × Opens os os row
-member_opens rows os count row kind kept room ends =
+-- the last row stands at the member's depth, below another
+pub member_last : (rows : List TableRow) (d : ℕ) (b : Bool) → EndsInMember d b rows → (0 < d) × (open_count (reverse rows) ≡ d + 1)
+member_last rows d b ends =
     let e = ends.ends in
-    let b = is_some row.id in
-    let same : take count os ≡ with_member e.above b = same_open 0 (reverse rows) (take count os) ends.os kept.each ends.are_open.each (kept.all ∙ sym ends.are_open.all) ∙ e.whole in
-    let levels : count ≡ row.depth + 1 = omega (arith, ap length same, length-take-le count os room, length-with_member e.above b, e.depth) in (
-      levels,
-      record {
-        now = λ own.
-            (let r = row_with row own in
-            ap (λ n. take n os) (sym levels) ∙ (same ∙ (sym (opened_member e.above r kind) ∙ (ap (λ xs. opened (suc (length e.above)) xs r) (sym same) ∙ (ap (λ d. opened d (take count os) r) (sym e.depth) ∙ opened-take row.depth count os r (omega (arith, levels)))))));
-        room = refl;
-      },
-    )
+    let size = length-with_member e.above b in
+    (omega (arith, e.depth), omega (arith, ends.are_open.all, ap length e.whole, size, e.depth))
 
--- one link is closed
-one_place : (n d : ℕ) (spine : List ℕ) → n ≡ 1 → d < length spine → take n (drop d spine) ≡ get_or spine d 0 ∷ []
-one_place n d [] one within = absurd (omega arith)
-one_place n zero (s ∷ ss) one within = rw one refl
-one_place n (suc d) (s ∷ ss) one within = one_place n d ss one (omega arith)
+-- the open rows at the last two depths tell that the rows end in a member
+pub in_member : (rows : List TableRow) (d count : ℕ) (b : Bool) (o p : OpenRow) → AreValidRowsOfOne largest_limits rows → count ≡ open_count (reverse rows) → 2 ≤ count → count - 1 ≡ d → IsOpenAt (d - 1) (reverse rows) o → IsOpenAt d (reverse rows) p
+    → o ≡ record { kind = Kind.MultiPoint; child_ids = Some b } → p ≡ record { kind = Kind.Point; child_ids = None } → EndsInMember d b rows
+in_member rows d count b o p valid counted some last parent member parent_is member_is =
+    let found = rows_open rows valid in
+    let deep : suc (d - 1) ≡ d = omega (arith, some, last) in
+    let above = open_is (d - 1) (reverse rows) found.0 o o found.1 (omega (arith, found.1.all, counted, some, last)) parent in
+    let below = open_is d (reverse rows) found.0 o p found.1 (omega (arith, found.1.all, counted, some, last)) member in
+    let two = ends_in_two (d - 1) found.0 b o (omega (arith, found.1.all, counted, some, last)) (above ∙ parent_is) (ap (λ (k : ℕ). get_or found.0 k o) deep ∙ (below ∙ member_is)) in
+    record { os = found.0; are_open = found.1; ends = subst (λ (k : ℕ). OpenInMember k b found.0) deep two }
 
--- the entries with the new member
-member_pushed : (es mid after : List KeptNode) (ps now : List Point) (p : Point) (spine : List ℕ) (count first total : ℕ) (row : Row) → count ≡ row.depth + 1 → row.depth < length spine → length ps ≡ first → length es ≡ total
-    → mid ≡ es ++ record { span = record { row = row; first = first; points = 1 }; next = record { 0 = 0 } } ∷ [] → now ≡ ps ++ p ∷ [] → map span_of after ≡ map span_of mid → map next_of after ≡ set (map next_of mid) (get_or spine row.depth 0) total
-    → Pushed es mid after ps (p ∷ []) now spine count first total row
-member_pushed es mid after ps now p spine count first total row levels deep first_is total_is mid_is now_is spans nexts = record {
-  first_is = first_is;
-  total_is = total_is;
-  mid_is = mid_is;
-  spans = spans;
-  nexts = nexts ∙ ap (λ places. closed (map next_of mid) places total) (sym (one_place (count - row.depth) row.depth spine (omega (arith, levels)) deep));
-  now_is = now_is;
-}
+-- there is a last entry, at the member's depth
+pub member_entry : (es : List KeptNode) (ps : List Point) (rows : List TableRow) (d : ℕ) (b : Bool) → listed (map span_of es) ps ≡ rows → EndsInMember d b rows → (0 < length es) × (levels (depths_in es) ≡ d + 1)
+member_entry es ps rows d b view ends =
+    let deepest : levels (depths_in es) ≡ d + 1 = sym (flat_levels es ps rows view) ∙ (member_last rows d b ends).1 in
+    (some_entry es d (omega (arith, deepest)), deepest)
+
+-- the entries with the new member, whose link was the last one's
+pub member_pushed : (es mid after : List KeptNode) (ps now : List Point) (p : Point) (e : KeptNode) (last first total d : ℕ) (id : Option ℤ) (rows : List TableRow) → IsFlat es ps → listed (map span_of es) ps ≡ rows → EndsInMember d (is_some id) rows
+    → last + 1 ≡ total → length es ≡ total → length ps ≡ first → e ≡ get_or es last e → mid ≡ es ++ record { span = record { row = record { depth = d; kind = Kind.Point; id = id; precision = None }; first = first; points = 1 }; next = e.next } ∷ [] → now ≡ ps ++ p ∷ []
+    → map span_of after ≡ map span_of mid → links_in after ≡ set (links_in mid) last total → Pushed es after ps (p ∷ []) now (record { depth = d; kind = Kind.Point; id = id; precision = None })
+member_pushed es mid after ps now p e last first total d id rows flat view ends last_is total_is first_is e_is mid_is now_is spans links =
+    let row : Row = record { depth = d; kind = Kind.Point; id = id; precision = None } in
+    let entry : KeptNode = record { span = record { row = row; first = first; points = 1 }; next = e.next } in
+    let deepest = (member_entry es ps rows d (is_some id) view ends).1 in
+    let size : length (depths_in es) ≡ total = length-depths_in es ∙ total_is in
+    let end : last + 1 ≡ length (depths_in es) = omega (arith, last_is, size) in
+    let here : get_or (depths_in es) last 0 ≡ d = omega (arith, last_depth (depths_in es) last end, deepest) in
+    let up : get_or (links_in es) last 0 ≡ e.next.0 = link_in es last e (omega (arith, last_is, total_is)) e_is in
+    let made : Linked (depths_in es ++ d ∷ []) (set (links_in es ++ get_or (links_in es) last 0 ∷ []) last (length (depths_in es))) = linked_beside (depths_in es) (links_in es) d last flat.linked end here (member_last rows d (is_some id) ends).0 in
+    let depths : depths_in after ≡ depths_in es ++ d ∷ [] = ap (map span_depth) spans ∙ (ap depths_in mid_is ∙ depths_more es entry) in
+    let nexts : links_in after ≡ set (links_in es ++ get_or (links_in es) last 0 ∷ []) last (length (depths_in es)) =
+    links ∙ (ap (λ (xs : List KeptNode). set (links_in xs) last total) mid_is ∙ (ap (λ (ls : List ℕ). set ls last total) (map_push next_of es entry)
+    ∙ (ap (λ (n : ℕ). set (links_in es ++ n ∷ []) last total) (sym up) ∙ ap (λ (n : ℕ). set (links_in es ++ get_or (links_in es) last 0 ∷ []) last n) (sym size)))) in
+    record {
+      spans = spans ∙ (ap (map span_of) mid_is ∙ (map_push span_of es entry ∙ ap (λ (n : ℕ). map span_of es ++ record { row = row; first = n; points = 1 } ∷ []) (sym first_is)));
+      linked = subst (λ (ds : List ℕ). Linked ds (links_in after)) (sym depths) (subst (λ (ls : List ℕ). Linked (depths_in es ++ d ∷ []) ls) (sym nexts) made);
+      now_is = now_is;
+    }
 
 -- what is kept after the member, and which rows that are
-pub member_kept : (es mid after : List KeptNode) (ps now : List Point) (p : Point) (spine : List ℕ) (os : List OpenRow) (count first total d : ℕ) (id : Option ℤ) (rows : List TableRow) → IsFlat es ps spine os count → listed (map span_of es) ps ≡ rows
-    → EndsInMember d (is_some id) rows → id_in_range id ≡ true → IsInRange p → length rows < 2 ^ 20 → length (row_points rows) < 2 ^ 24 → length ps ≡ first → length es ≡ total
-    → mid ≡ es ++ record { span = record { row = record { depth = d; kind = Kind.Point; id = id; precision = None }; first = first; points = 1 }; next = record { 0 = 0 } } ∷ [] → now ≡ ps ++ p ∷ []
-    → map span_of after ≡ map span_of mid → map next_of after ≡ set (map next_of mid) (get_or spine d 0) total
-    → IsFlat after now (set spine d total) os count × (listed (map span_of after) now ≡ rows ++ plain_row d Kind.Point id (p ∷ []) ∷ [])
-member_kept es mid after ps now p spine os count first total d id rows flat view ends range in_range few room first_is total_is mid_is now_is spans nexts =
+pub member_kept : (es after : List KeptNode) (ps now : List Point) (p : Point) (d : ℕ) (id : Option ℤ) (rows : List TableRow) → IsFlat es ps → listed (map span_of es) ps ≡ rows
+    → EndsInMember d (is_some id) rows → id_in_range id ≡ true → IsInRange p → length rows < 2 ^ 20 → length (row_points rows) < 2 ^ 24
+    → Pushed es after ps (p ∷ []) now (record { depth = d; kind = Kind.Point; id = id; precision = None })
+    → IsFlat after now × (listed (map span_of after) now ≡ rows ++ plain_row d Kind.Point id (p ∷ []) ∷ [])
+member_kept es after ps now p d id rows flat view ends range in_range few room pushed =
     let row : Row = record { depth = d; kind = Kind.Point; id = id; precision = None } in
-    let most = flat.linked.most in
-    let place = member_opens rows os count row refl (subst (λ xs. AreOpen (reverse xs) (take count os)) view flat.opened) (omega (arith, flat.room, most)) ends in
     let continues = member_continues rows d id p (subst (AreValidRowsOfOne largest_limits) view flat.valid) ends range in_range few room in
-    let pushed = member_pushed es mid after ps now p spine count first total row place.0 (omega (arith, place.0, most, flat.linked.room)) first_is total_is mid_is now_is spans nexts in (
-      subst (λ n. IsFlat after now (set spine d total) os n) (sym place.0) (flat_after es mid after ps (p ∷ []) now spine os os count first total row rows flat view continues place.1 pushed),
-      view_after es mid after ps (p ∷ []) now spine os count first total row rows flat view pushed,
-    )
-
--- the member has a place among the open rows, and the node that stands there is one of the entries
-pub member_place : (es : List KeptNode) (ps : List Point) (spine : List ℕ) (os : List OpenRow) (count d : ℕ) (id : Option ℤ) (rows : List TableRow) → IsFlat es ps spine os count → listed (map span_of es) ps ≡ rows
-    → EndsInMember d (is_some id) rows → (d < 35) × (get_or spine d 0 < length es)
-member_place es ps spine os count d id rows flat view ends =
-    let row : Row = record { depth = d; kind = Kind.Point; id = id; precision = None } in
-    let most = flat.linked.most in
-    let place = member_opens rows os count row refl (subst (λ xs. AreOpen (reverse xs) (take count os)) view flat.opened) (omega (arith, flat.room, most)) ends in
-    let kept = flat.linked.open_at d (omega (arith, place.0)) in
-    (omega (arith, place.0, most), omega (arith, kept.0, length-map (map span_of es) span_depth, length-map es span_of))
+    (flat_after es after ps (p ∷ []) now row rows flat view continues pushed, view_after es after ps (p ∷ []) now row rows flat view pushed)
 
 -- a row and a point more, behind which others may come
 pub member_added : (rows more : List TableRow) (d : ℕ) (id : Option ℤ) (p : Point) → more ≡ rows ++ plain_row d Kind.Point id (p ∷ []) ∷ [] → EndsInMember d (is_some id) rows

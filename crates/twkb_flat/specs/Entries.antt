@@ -1,16 +1,14 @@
 -- The nodes as they are kept, and the rows that they stand for.
-use Rattle.std.specs.Prelude.{ℕ, ◌≡◌, ◌+◌, ◌<◌, ◌≤◌, ◌^◌, ⊤, List, [], ◌∷◌, ◌++◌, map, length, slice_set, take, drop, reverse}
+use Rattle.std.specs.Prelude.{ℕ, ◌≡◌, ◌+◌, ◌<◌, ◌≤◌, ◌^◌, ⊤, List, [], ◌∷◌, ◌++◌, map, length, slice_index, take, drop}
 use Rattle.twkb_points.specs.Point.{Point}
-use Rattle.twkb_tree.specs.declared.open_rows.OpenRow.{OpenRow}
 use Rattle.twkb_tree.specs.Limits.{largest_limits}
 use Rattle.twkb_tree.specs.Rows.{Row as TableRow}
 use Rattle.twkb_tree.specs.RowLists.{AreValidRowsOfOne}
-use Rattle.twkb_tree.specs.Open.{AreOpen}
 use Rattle.twkb_flat.specs.declared.entries.PlacedRow.{PlacedRow}
 use Rattle.twkb_flat.specs.declared.entries.KeptNode.{KeptNode}
 use Rattle.twkb_flat.specs.declared.node.Row.{Row}
 use Rattle.twkb_flat.specs.Rows.{row_with}
-use Rattle.twkb_flat.specs.Links.{Linked}
+use Rattle.twkb_flat.specs.Links.{Linked, HasPlace}
 
 -- its span
 abbrev pub span_of : KeptNode → PlacedRow
@@ -20,7 +18,7 @@ span_of e = e.span
 abbrev pub next_of : KeptNode → ℕ
 next_of e = e.next.0
 
--- a node all rows after which are below it
+-- a node whose parent is not known yet
 abbrev pub open_node : PlacedRow → KeptNode
 open_node s = record { span = s; next = record { 0 = 0 } }
 
@@ -33,10 +31,19 @@ pub record IsPut (row : Row) (own : List Point) (es more : List KeptNode) (ps al
 abbrev pub span_depth : PlacedRow → ℕ
 span_depth s = s.row.depth
 
--- the links with each of these places set
-abbrev pub closed : List ℕ → List ℕ → ℕ → List ℕ
-closed nexts [] next = nexts
-closed nexts (at ∷ places) next = closed (slice_set nexts at next) places next
+-- how deep their rows stand
+abbrev pub depths_in : List KeptNode → List ℕ
+depths_in es = map span_depth (map span_of es)
+
+-- their links
+abbrev pub links_in : List KeptNode → List ℕ
+links_in es = map next_of es
+
+-- The entry at `at` is the last, of a row that may come behind the rows before it; of those the links are still as they were without it.
+pub record IsUnlinked (es : List KeptNode) (at : ℕ) : Type 0 where
+  pub last : length es ≡ at + 1
+  pub linked : Linked (take at (depths_in es)) (take at (links_in es))
+  pub place : HasPlace (take at (depths_in es)) (slice_index (depths_in es) at)
 
 -- the rows, each with its part of the points
 abbrev pub listed : List PlacedRow → List Point → List TableRow
@@ -49,12 +56,10 @@ Laid at [] total = at ≡ total
 Laid at (s ∷ ss) total = (s.first ≡ at) × Laid (at + s.points) ss total
 
 -- Entries and points are kept so that they stand for the rows of one valid geometry, or for none.
-pub record IsFlat (entries : List KeptNode) (points : List Point) (spine : List ℕ) (open_rows : List OpenRow) (count : ℕ) : Type 0 where
+pub record IsFlat (entries : List KeptNode) (points : List Point) : Type 0 where
   pub laid : Laid 0 (map span_of entries) (length points)
-  pub linked : Linked (map span_depth (map span_of entries)) (map next_of entries) spine count
+  pub linked : Linked (depths_in entries) (links_in entries)
   pub valid : AreValidRowsOfOne largest_limits (listed (map span_of entries) points)
-  pub opened : AreOpen (reverse (listed (map span_of entries) points)) (take count open_rows)
-  pub room : length open_rows ≡ 35
   pub nodes : length entries ≤ 2 ^ 20
   pub most : length points ≤ 2 ^ 24
 

@@ -1,4 +1,4 @@
--- Where the subtree of a row ends, by the depths of the rows.
+-- Where the subtree of a row ends, and which row an open one stands under, by the depths of the rows.
 use Rattle.std.specs.Prelude.{ℕ, ◌≡◌, ◌+◌, ◌<◌, ◌≤◌, List, [], ◌∷◌, length, slice_index, ◌⊎◌}
 
 -- one more than the last depth
@@ -18,12 +18,29 @@ pub record IsNext (ds : List ℕ) (i next : ℕ) : Type 0 where
 abbrev pub IsOpen : List ℕ → ℕ → Type 0
 IsOpen ds i = (j : ℕ) → i < j → j < length ds → slice_index ds i < slice_index ds j
 
--- Where each subtree ends, or 0 while it is open; and the open row at each depth.
-pub record Linked (ds nexts spine : List ℕ) (count : ℕ) : Type 0 where
+-- the open row at this depth stands at a place
+pub record OpenPlace (ds : List ℕ) (d i : ℕ) : Type 0 where
+  pub within : i < length ds
+  pub depth : slice_index ds i ≡ d
+  pub is_open : IsOpen ds i
+
+-- `up` is the place of the parent of the open row i; of a root's it is known that it is not behind the root
+pub record IsUp (ds : List ℕ) (i up : ℕ) : Type 0 where
+  pub before : up ≤ i
+  pub parent : (d : ℕ) → slice_index ds i ≡ d + 1 → OpenPlace ds d up
+
+-- Where each subtree ends; of an open row the place of its parent, which is not behind it.
+pub record Linked (ds nexts : List ℕ) : Type 0 where
   pub same : length nexts ≡ length ds
-  pub links : (i : ℕ) → i < length ds → ((slice_index nexts i ≡ 0) × IsOpen ds i) ⊎ (IsNext ds i (slice_index nexts i) × (slice_index nexts i < length ds))
+  pub links : (i : ℕ) → i < length ds → (IsOpen ds i × IsUp ds i (slice_index nexts i)) ⊎ (IsNext ds i (slice_index nexts i) × (slice_index nexts i < length ds))
   pub steps : (i : ℕ) → i + 1 < length ds → slice_index ds (i + 1) ≤ slice_index ds i + 1
-  pub count_is : count ≡ levels ds
-  pub room : length spine ≡ 35
-  pub most : count ≤ 35
-  pub open_at : (k : ℕ) → k < count → (slice_index spine k < length ds) × (slice_index ds (slice_index spine k) ≡ k) × IsOpen ds (slice_index spine k)
+
+-- the links with those of the open rows from a depth on set
+pub record AreClosed (ds nexts after : List ℕ) (d next : ℕ) : Type 0 where
+  pub shut : (i : ℕ) → i < length ds → IsOpen ds i → d ≤ slice_index ds i → slice_index after i ≡ next
+  pub kept : (i : ℕ) → i < length ds → (IsOpen ds i → slice_index ds i < d) → slice_index after i ≡ slice_index nexts i
+
+-- one more row at this depth may come behind these: under an open one, or first, where it is a root
+pub record HasPlace (ds : List ℕ) (d : ℕ) : Type 0 where
+  pub step : d ≤ levels ds
+  pub below : 0 < length ds → 0 < d

@@ -1,12 +1,11 @@
-//! The test of a row by the open rows, and the open rows after it.
-ghost use Rattle.std.specs.Prelude.{◌≡◌, ◌<◌, ◌≤◌, ◌+◌, ◌^◌, ◌&&◌, true, List, length, take, nat_lt, nat_le};
+//! The test of a row where it stands.
+ghost use Rattle.std.specs.Prelude.{◌≡◌, ◌≤◌, ◌+◌, ◌^◌, ◌&&◌, true, List, length, nat_lt, nat_le};
 ghost use Rattle.twkb_points.specs.Point.{Point, AreInRange};
-ghost use Rattle.twkb_tree.specs.Limits.{largest_limits};
 ghost use Rattle.twkb_tree.specs.Admits.{id_in_range, id_allowed, has_same_ids, precision_in_range, precision_fits, fits};
 ghost use Rattle.twkb_tree.specs.Rows.{Row as TableRow};
-ghost use Rattle.twkb_tree.specs.Open.{open_continues, opened, is_next, row_of, child_of};
+ghost use Rattle.twkb_tree.specs.declared.open_rows.OpenRow.{OpenRow};
+ghost use Rattle.twkb_tree.specs.Open.{is_next, row_of, child_of};
 ghost use Rattle.twkb_flat.specs.Admitting.{is_admitted_at};
-ghost use Rattle.twkb_flat.specs.Members.{OpenInMember};
 ghost use Rattle.twkb_flat.specs.Rows.{row_with};
 
 use crate::node::Row;
@@ -82,7 +81,7 @@ fn has_room(limits: &Limits, standing: &Standing, count: usize) -> bool
 }
 
 // Whether the row with so many points of its own may stand there.
-fn admits_at(limits: &Limits, standing: &Standing, row: &Row, count: usize) -> bool
+pub(crate) fn admits_at(limits: &Limits, standing: &Standing, row: &Row, count: usize) -> bool
     ensures { (own : List Point) → length own ≡ count → result ≡ is_admitted_at limits.now standing.now (row_with row.now own) }
 {
     row_rules::nest_kept(limits, standing.parent, standing.depth)
@@ -91,84 +90,20 @@ fn admits_at(limits: &Limits, standing: &Standing, row: &Row, count: usize) -> b
 }
 
 // Whether a row at this depth is the root where no row is open, and no root elsewhere.
-fn is_next(rows: &[OpenRow], depth: u32) -> bool
-    ensures { (r : TableRow) → r.depth ≡ depth → result ≡ is_next rows.now r }
+pub(crate) fn is_next(levels: u32, depth: u32) -> bool
+    ensures { (os : List OpenRow) (r : TableRow) → length os ≡ levels → r.depth ≡ depth → result ≡ is_next os r }
 {
-    if rows.is_empty() {
-        depth == 0
-    } else {
-        depth > 0
-    }
+    if levels == 0 { depth == 0 } else { depth > 0 }
 }
 
 // Tells a proof that the points are in range. It changes nothing.
-fn look(points: &[Pt])
+pub(crate) fn look(points: &[Pt])
     ensures { AreInRange points.now }
 {
     for point in points {
         // learnt: the point is in range
         let _learnt = point.x();
     }
-}
-
-// Whether the row with these points may come next after rows of one geometry, so many rows and
-// points, of which the first `levels` of `rows` are open.
-pub(crate) fn admits_under(
-    rows: &[OpenRow],
-    levels: u32,
-    nodes: u32,
-    points: u32,
-    row: &Row,
-    own: &[Pt],
-) -> bool
-    requires { levels ≤ length rows.now }
-    ensures { result ≡ open_continues largest_limits (take levels rows.now) nodes points (row_with row.now own.now) }
-{
-    look(own);
-    let rows = &rows[..levels as usize];
-    if !is_next(rows, row.depth) {
-        return false;
-    }
-    let Some(standing) = Standing::at(row.depth, rows, nodes, points) else {
-        return false;
-    };
-    admits_at(&Limits::largest(), &standing, row, own.len())
-}
-
-// Opens a row: its parent has had a child, and the row stands at its depth.
-pub(crate) fn open_row(rows: &mut [OpenRow], row: &Row)
-    requires { row.now.depth < length rows.old }
-    ensures opened { (own : List Point) → take (row.now.depth + 1) rows.new ≡ opened row.now.depth rows.old (row_with row.now own) }
-    ensures room { length rows.new ≡ length rows.old }
-{
-    let depth = row.depth as usize;
-    if depth > 0 {
-        let parent = rows[depth - 1];
-        rows[depth - 1] = parent.with_child(row.id.is_some());
-    }
-    rows[depth] = OpenRow {
-        kind: row.kind,
-        child_ids: None,
-    };
-}
-
-// Whether the open rows end in a multipoint, whose members have ids or have none, and a member of it at this depth.
-pub(crate) fn open_in_member(rows: &[OpenRow], depth: u32, named: bool) -> bool
-    ensures { result ≡ true → OpenInMember depth named rows.now }
-{
-    let depth = depth as usize;
-    if depth == 0 || rows.len() != depth + 1 {
-        return false;
-    }
-    let parent = OpenRow {
-        kind: Kind::MultiPoint,
-        child_ids: Some(named),
-    };
-    let member = OpenRow {
-        kind: Kind::Point,
-        child_ids: None,
-    };
-    rows[depth - 1] == parent && rows[depth] == member
 }
 
 // Whether so many rows of a point each may come to so many rows and points.

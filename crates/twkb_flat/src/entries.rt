@@ -1,7 +1,9 @@
 //! Nodes as they are kept.
-ghost use Rattle.std.specs.Prelude.{◌≡◌, ◌<◌, ◌≤◌, ◌+◌, ◌-◌, ◌^◌, ◌↔◌, ◌++◌, ◌∷◌, [], IsTrue, ℕ, List, length, map, take, drop, slice_set, slice_index, OnOk, OnErr, IfErr};
+ghost use Rattle.std.specs.Prelude.{◌≡◌, ◌<◌, ◌≤◌, ◌+◌, ◌^◌, ◌↔◌, ◌++◌, ◌∷◌, [], IsTrue, ℕ, List, length, map, take, slice_set, slice_index, slice_get, OnOk, OnErr, IfErr};
 ghost use Rattle.twkb_points.specs.Point.{Point};
-ghost use Rattle.twkb_flat.specs.Entries.{span_of, next_of, closed, last_longer, LastHasRoom, open_node, IsPut};
+ghost use Rattle.twkb_tree.specs.Open.{ids_by};
+ghost use Rattle.twkb_flat.specs.Entries.{span_of, depths_in, links_in, listed, last_longer, LastHasRoom, IsPut, IsUnlinked};
+ghost use Rattle.twkb_flat.specs.Links.{levels, OpenPlace, Linked, AreClosed, HasPlace};
 ghost use Rattle.twkb_flat.specs.Lasts.{IsLineKind, LastIsLine};
 
 use crate::node::{NodeId, Row};
@@ -18,7 +20,8 @@ pub(crate) struct PlacedRow {
     pub(crate) points: u32,
 }
 
-// A span, and the node after its subtree, or 0 while all rows after it are below it.
+// A span, and the node after its subtree. While all rows after it are below it, it is open, and its
+// link is the place of its parent instead, or 0 for the root: so it is no greater than its own place.
 #[derive(Clone, Copy)]
 pub(crate) struct KeptNode {
     pub(crate) span: PlacedRow,
@@ -31,10 +34,10 @@ pub(crate) struct KeptNode {
 pub(crate) fn put_point(
     entries: &mut Vec<KeptNode>,
     points: &mut Vec<Pt>,
-    span: PlacedRow,
+    node: KeptNode,
     point: Pt,
 ) -> Result<(), AllocError>
-    ensures node { OnOk result (entries.new.items ≡ entries.old.items ++ open_node span ∷ []) }
+    ensures node { OnOk result (entries.new.items ≡ entries.old.items ++ node ∷ []) }
     ensures point { OnOk result (points.new.items ≡ points.old.items ++ point ∷ []) }
     ensures no_node { OnErr result (entries.new.items ≡ entries.old.items) }
     ensures no_point { OnErr result (points.new.items ≡ points.old.items) }
@@ -43,10 +46,7 @@ pub(crate) fn put_point(
     if let Err(refused) = points.put(point) {
         return Err(refused);
     }
-    let Ok(()) = entries.push(KeptNode {
-        span,
-        next: NodeId(0),
-    }) else {
+    let Ok(()) = entries.push(node) else {
         points.truncate(before);
         return Err(AllocError);
     };
@@ -88,28 +88,77 @@ pub(crate) fn put_row<S: PointSource>(
     Ok(())
 }
 
-// Says where the subtree of one node ends.
+// Sets the link of one node.
 #[inline(always)]
-pub(crate) fn close(entries: &mut [KeptNode], at: u32, next: u32)
+pub(crate) fn link(entries: &mut [KeptNode], at: u32, to: u32)
     requires { at < length entries.old }
     ensures spans { map span_of entries.new ≡ map span_of entries.old }
-    ensures nexts { map next_of entries.new ≡ slice_set (map next_of entries.old) at next }
+    ensures links { links_in entries.new ≡ slice_set (links_in entries.old) at to }
 {
     let entry = &mut entries[at as usize];
-    entry.next = NodeId(next);
+    entry.next = NodeId(to);
 }
 
-// Says where the subtrees of the nodes at `spine[from..to]` end.
-pub(crate) fn close_all(entries: &mut [KeptNode], spine: &[u32], from: usize, to: usize, next: u32)
-    requires range { from ≤ to }
-    requires room { to ≤ length spine.now }
-    requires below { (k : ℕ) → k < to → slice_index spine.now k < length entries.old }
+// Says of the open ones of the nodes before `next`, at this depth and below it, that their subtrees
+// end at `next`; answers the open one above them.
+#[inline(always)]
+fn close_from(entries: &mut [KeptNode], depth: u32, next: u32) -> u32
+    requires some { 0 < next }
+    requires within { next ≤ length entries.old }
+    requires linked { Linked (take next (depths_in entries.old)) (take next (links_in entries.old)) }
+    requires place { HasPlace (take next (depths_in entries.old)) depth }
     ensures spans { map span_of entries.new ≡ map span_of entries.old }
-    ensures nexts { map next_of entries.new ≡ closed (map next_of entries.old) (take (to - from) (drop from spine.now)) next }
+    ensures links { AreClosed (take next (depths_in entries.old)) (take next (links_in entries.old)) (links_in entries.new) depth next }
+    ensures above { (e : ℕ) → depth ≡ e + 1 → OpenPlace (take next (depths_in entries.old)) e result }
 {
-    for at in &spine[from..to] {
-        close(entries, *at, next);
+    let mut at = next - 1;
+    while entries[at as usize].span.row.depth >= depth {
+        let up = entries[at as usize].next.0;
+        link(entries, at, next);
+        at = up;
     }
+    at
+}
+
+// Links the last node, which stands at this place, to its parent, and closes those whose subtrees
+// end there.
+#[inline(always)]
+pub(crate) fn link_last(entries: &mut [KeptNode], at: u32)
+    requires { IsUnlinked entries.old at }
+    ensures spans { map span_of entries.new ≡ map span_of entries.old }
+    ensures links { Linked (depths_in entries.old) (links_in entries.new) }
+{
+    if at == 0 {
+        return link(entries, 0, 0);
+    }
+    let depth = entries[at as usize].span.row.depth;
+    let parent = close_from(entries, depth, at);
+    link(entries, at, parent);
+}
+
+// The place of the open node at this depth.
+pub(crate) fn open_at(entries: &[KeptNode], depth: u32) -> usize
+    requires linked { Linked (depths_in entries.now) (links_in entries.now) }
+    requires within { depth < levels (depths_in entries.now) }
+    ensures { OpenPlace (depths_in entries.now) depth result }
+{
+    let mut at = entries.len() - 1;
+    while entries[at].span.row.depth > depth {
+        at = entries[at].next.0 as usize;
+    }
+    at
+}
+
+// Whether the first child of the node at this place has an id; none where the node is the last.
+pub(crate) fn child_ids(entries: &[KeptNode], at: usize) -> Option<bool>
+    requires { at < length entries.now }
+    ensures { (points : List Point) → result ≡ ids_by (slice_get (listed (map span_of entries.now) points) (at + 1)) }
+{
+    let behind = at + 1;
+    if behind == entries.len() {
+        return None;
+    }
+    Some(entries[behind].span.row.id.is_some())
 }
 
 // Counts a point more of the last node's.
@@ -118,7 +167,7 @@ pub(crate) fn count_point(entries: &mut [KeptNode])
     requires some { 0 < length entries.old }
     requires room { LastHasRoom entries.old }
     ensures spans { map span_of entries.new ≡ last_longer (map span_of entries.old) }
-    ensures nexts { map next_of entries.new ≡ map next_of entries.old }
+    ensures links { links_in entries.new ≡ links_in entries.old }
 {
     let last = entries.len() - 1;
     let entry = &mut entries[last];

@@ -10,11 +10,9 @@ ghost use Rattle.twkb_tree.specs.RowLists.{AreValidRowsOfOne};
 ghost use Rattle.twkb_flat.specs.Members.{EndsInMember};
 ghost use Rattle.twkb_flat.specs.Rows.{IsNode, row_with};
 
-use crate::admitting::{
-    MOST_POINTS, admits_under, leaves_room, look_at_id, open_in_member, open_row,
-};
+use crate::admitting::{MOST_POINTS, admits_at, is_next, leaves_room, look, look_at_id};
 use crate::entries::{
-    KeptNode, PlacedRow, close, close_all, count_point, ends_in_line, put_point, put_row,
+    KeptNode, PlacedRow, count_point, ends_in_line, link, link_last, put_point, put_row,
 };
 use crate::node::{Node, NodeId, PointId, Row};
 use crate::point_source::{Copied, PointSource};
@@ -23,11 +21,7 @@ use std::alloc::{AllocError, Global};
 use std::marker::Model;
 use std::mem::swap;
 use twkb_points::Pt;
-use twkb_tree::{Kind, OpenRow};
-
-// How many depths a row of a geometry within `Limits::largest()` may have: a root, a member in 32
-// collections, its parts and their rings.
-const LEVELS: usize = 35;
+use twkb_tree::{Kind, Limits};
 
 /// One geometry within `Limits::largest()`, or none: its rows in preorder, and the points of all
 /// rows one after another. A contract sees the list of its rows, each with its own points.
@@ -37,12 +31,6 @@ pub struct Flat {
     pub(crate) entries: Vec<KeptNode>,
     // The points of all rows.
     pub(crate) points: Vec<Pt>,
-    // Which row is open at each depth.
-    spine: [u32; LEVELS],
-    // What the test of the next row asks of the open rows.
-    open_rows: [OpenRow; LEVELS],
-    // How many rows are open.
-    levels: u32,
 }
 
 impl Model for Flat {
@@ -55,7 +43,7 @@ impl Model for Flat {
 
     ghost view = { λ f. listed (map span_of f.entries.items) f.points.items };
 
-    ghost invariant = { λ f. IsFlat f.entries.items f.points.items f.spine f.open_rows f.levels };
+    ghost invariant = { λ f. IsFlat f.entries.items f.points.items };
 }
 
 impl Flat {
@@ -63,16 +51,9 @@ impl Flat {
     pub fn new(alloc: Global) -> Flat
         ensures { result ≡ [] }
     {
-        let blank = OpenRow {
-            kind: Kind::Point,
-            child_ids: None,
-        };
         Flat {
             entries: Vec::new(alloc),
             points: Vec::new(alloc),
-            spine: [0; LEVELS],
-            open_rows: [blank; LEVELS],
-            levels: 0,
         }
     }
 
@@ -82,7 +63,6 @@ impl Flat {
     {
         self.entries.clear();
         self.points.clear();
-        self.levels = 0;
     }
 
     /// How many nodes there are, 0 to 2^20. Takes no memory.
@@ -114,14 +94,16 @@ impl Flat {
     pub fn admits(&self, row: &Row, points: &[Pt]) -> bool
         ensures { IsTrue result ↔ Continues largest_limits self.now (row_with row.now points.now) }
     {
-        admits_under(
-            &self.open_rows,
-            self.levels,
-            self.node_count(),
-            self.point_count(),
-            row,
-            points,
-        )
+        look(points);
+        let levels = self.levels();
+        if !is_next(levels, row.depth) {
+            return false;
+        }
+        if row.depth > levels {
+            return false;
+        }
+        let standing = self.standing(row.depth);
+        admits_at(&Limits::largest(), &standing, row, points.len())
     }
 
     /// Makes a row that may begin a geometry the root, in place of all rows, with the points that
@@ -148,12 +130,6 @@ impl Flat {
             return Err(refused.into());
         }
         swap(&mut self.points, points);
-        self.spine[0] = 0;
-        self.open_rows[0] = OpenRow {
-            kind: root.kind,
-            child_ids: None,
-        };
-        self.levels = 1;
         Ok(())
     }
 
@@ -179,15 +155,13 @@ impl Flat {
             first: 0,
             points: 1,
         };
-        if let Err(refused) = put_point(&mut self.entries, &mut self.points, span, point) {
+        let node = KeptNode {
+            span,
+            next: NodeId(0),
+        };
+        if let Err(refused) = put_point(&mut self.entries, &mut self.points, node, point) {
             return Err(refused);
         }
-        self.spine[0] = 0;
-        self.open_rows[0] = OpenRow {
-            kind: Kind::Point,
-            child_ids: None,
-        };
-        self.levels = 1;
         Ok(())
     }
 
@@ -250,7 +224,7 @@ impl Flat {
         if !leaves_room(self.node_count(), self.point_count(), count) {
             return false;
         }
-        open_in_member(&self.open_rows[..self.levels as usize], depth, named)
+        self.is_in_member(depth, named)
     }
 
     /// Appends a point as one more member of the multipoint that the last row is a member of, while
@@ -267,6 +241,7 @@ impl Flat {
         // learnt: the point is in range
         let _learnt = point.x();
         let next = self.entries.len() as u32;
+        let last = next - 1;
         let row = Row {
             depth,
             kind: Kind::Point,
@@ -278,12 +253,15 @@ impl Flat {
             first: self.points.len() as u32,
             points: 1,
         };
-        if let Err(refused) = put_point(&mut self.entries, &mut self.points, span, point) {
+        // the last node ends here, and the member stands under its parent
+        let node = KeptNode {
+            span,
+            next: self.entries[last as usize].next,
+        };
+        if let Err(refused) = put_point(&mut self.entries, &mut self.points, node, point) {
             return Err(refused);
         }
-        let at = depth as usize;
-        close(&mut self.entries, self.spine[at], next);
-        self.spine[at] = next;
+        link(&mut self.entries, last, next);
         Ok(())
     }
 
@@ -301,17 +279,7 @@ impl Flat {
         if let Err(fault) = put_row(&mut self.entries, &mut self.points, row, source) {
             return Err(fault);
         }
-        let depth = row.depth as usize;
-        close_all(
-            &mut self.entries,
-            &self.spine,
-            depth,
-            self.levels as usize,
-            next,
-        );
-        self.spine[depth] = next;
-        open_row(&mut self.open_rows, &row);
-        self.levels = row.depth + 1;
+        link_last(&mut self.entries, next);
         Ok(())
     }
 
@@ -324,7 +292,7 @@ impl Flat {
     {
         work.count_node();
         let entry = self.entries[id.0 as usize];
-        let next = if entry.next.0 == 0 {
+        let next = if entry.next.0 <= id.0 {
             self.node_count()
         } else {
             entry.next.0

@@ -8,6 +8,7 @@ mod filling;
 mod flat;
 pub mod laws;
 mod node;
+mod open_rows;
 mod parts;
 mod point_source;
 mod reading;

@@ -1,12 +1,37 @@
-use Rattle.std.proofs.Common.{sym, ◌∙◌}
-use Rattle.twkb_tree.specs.Limits.{largest_limits}
-use Rattle.twkb_tree.proofs.RefusalLaws.{continues_is, continues_true}
+use Rattle.std.proofs.Common.{◌∙◌, false, sym, ap, refl, length, arith}
+use Rattle.twkb_tree.specs.Limits.{Allowance, largest_limits}
+use Rattle.twkb_tree.specs.Rows.{row_points}
+use Rattle.twkb_flat.specs.Admitting.{is_admitted_at}
 use Rattle.twkb_flat.specs.Rows.{row_with}
-use Rattle.twkb_flat.proofs.AdmitLemmas.{kept_continues}
+use Rattle.twkb_flat.proofs.AdmitLemmas.{continues_there, decides, kept_continues, misplaced, rows_open, too_deep}
 use Rattle.twkb_flat.proofs.flat.Flat.admits.Goals as goal
+
+pub returns-then-not-is_next : goal.returns-then-not-is_next
+returns-then-not-is_next c =
+    let rows = c.args.self.now in
+    let r = row_with c.args.row.now c.args.points.now in
+    let os = rows_open rows c.levels-levels.ensures.sound in
+    decides rows r false (
+    misplaced largest_limits os.0 (length rows) (length (row_points rows)) r (sym (c.is_next.ensures os.0 r (os.1.all ∙ sym c.levels-levels.ensures.value) refl) ∙ c.if-not-is_next.true)
+    ∙ kept_continues rows os.0 (length rows) (length (row_points rows)) r c.levels-levels.ensures.sound os.1 refl refl)
+
+pub returns-then-row-levels : goal.returns-then-row-levels
+returns-then-row-levels c =
+    let rows = c.args.self.now in
+    let r = row_with c.args.row.now c.args.points.now in
+    let os = rows_open rows c.levels-levels.ensures.sound in
+    decides rows r false (
+    too_deep largest_limits os.0 (length rows) (length (row_points rows)) r (omega (arith, os.1.all, c.levels-levels.ensures.value, c.if-row-levels.true))
+    ∙ kept_continues rows os.0 (length rows) (length (row_points rows)) r c.levels-levels.ensures.sound os.1 refl refl)
 
 pub returns : goal.returns
 returns c =
+    let rows = c.args.self.now in
     let r = row_with c.args.row.now c.args.points.now in
-    let same = c.admits_under.ensures ∙ kept_continues _ _ _ _ _ c.node_count.result c.point_count.result r _ c.self.invariant c.self.view_is c.node_count.ensures.value c.point_count.ensures in
-    (λ yes. continues_is largest_limits c.args.self.now r (sym same ∙ yes), λ h. same ∙ continues_true largest_limits c.args.self.now r h)
+    let os = rows_open rows c.levels-levels.ensures.sound in
+    decides rows r c.admits_at.result (
+    c.admits_at.ensures c.args.points.now refl
+    ∙ ap (λ (l : Allowance). is_admitted_at l c.standing-standing.result r) c.largest.ensures
+    ∙ continues_there largest_limits os.0 (length rows) (length (row_points rows)) c.standing-standing.result r c.look.ensures (sym (c.is_next.ensures os.0 r (os.1.all ∙ sym c.levels-levels.ensures.value) refl) ∙ c.if-not-is_next.false)
+    (omega (arith, os.1.all, c.levels-levels.ensures.value, c.if-row-levels.false), c.standing-standing.ensures os.0 os.1)
+    ∙ kept_continues rows os.0 (length rows) (length (row_points rows)) r c.levels-levels.ensures.sound os.1 refl refl)

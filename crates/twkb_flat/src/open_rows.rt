@@ -1,0 +1,80 @@
+//! The open rows of a form, found by the links of its nodes.
+ghost use Rattle.std.specs.Prelude.{◌≡◌, ◌<◌, ◌≤◌, true, List, length, reverse};
+ghost use Rattle.twkb_tree.specs.declared.open_rows.OpenRow.{OpenRow};
+ghost use Rattle.twkb_tree.specs.Limits.{largest_limits};
+ghost use Rattle.twkb_tree.specs.RowLists.{AreValidRowsOfOne};
+ghost use Rattle.twkb_tree.specs.Open.{AreOpen, IsOpenAt, open_count};
+ghost use Rattle.twkb_tree.specs.Rows.{row_points};
+ghost use Rattle.twkb_tree.specs.Standing.{standing_at};
+ghost use Rattle.twkb_flat.specs.Members.{EndsInMember};
+
+use crate::entries::{child_ids, open_at};
+use crate::flat::Flat;
+use twkb_tree::{Kind, OpenRow, Standing};
+
+impl Flat {
+    // How many rows are open: one at each depth, down to that of the last row.
+    pub(crate) fn levels(&self) -> u32
+        ensures value { result ≡ open_count (reverse self.now) }
+        ensures sound { AreValidRowsOfOne largest_limits self.now }
+    {
+        let count = self.node_count() as usize;
+        if count == 0 {
+            return 0;
+        }
+        self.row(count - 1).depth + 1
+    }
+
+    // What the test of a row asks of the open row at this depth.
+    fn open_row(&self, depth: u32) -> OpenRow
+        requires { depth < open_count (reverse self.now) }
+        ensures { IsOpenAt depth (reverse self.now) result }
+    {
+        let at = open_at(&self.entries, depth);
+        OpenRow {
+            kind: self.entries[at].span.row.kind,
+            child_ids: child_ids(&self.entries, at),
+        }
+    }
+
+    // Where a row at this depth stands behind the rows.
+    pub(crate) fn standing(&self, depth: u32) -> Standing
+        requires { depth ≤ open_count (reverse self.now) }
+        ensures { (os : List OpenRow) → AreOpen (reverse self.now) os → result ≡ standing_at depth os (length self.now) (length (row_points self.now)) }
+    {
+        if depth == 0 {
+            return Standing {
+                depth,
+                parent: None,
+                nodes: 0,
+                points: 0,
+            };
+        }
+        Standing {
+            depth,
+            parent: Some(self.open_row(depth - 1)),
+            nodes: self.node_count(),
+            points: self.point_count(),
+        }
+    }
+
+    // Whether the last row stands at this depth and is a member of a multipoint, whose members have
+    // ids or have none.
+    pub(crate) fn is_in_member(&self, depth: u32, named: bool) -> bool
+        ensures { result ≡ true → EndsInMember depth named self.now }
+    {
+        let levels = self.levels();
+        if levels < 2 || levels - 1 != depth {
+            return false;
+        }
+        let parent = OpenRow {
+            kind: Kind::MultiPoint,
+            child_ids: Some(named),
+        };
+        let member = OpenRow {
+            kind: Kind::Point,
+            child_ids: None,
+        };
+        self.open_row(depth - 1) == parent && self.open_row(depth) == member
+    }
+}
