@@ -32,10 +32,12 @@ fn feed_engine(engine: &mut Engine, flat: &mut Flat, piece: &[u8]) -> Result<(us
     ensures within { IfOk result (λ fed. fed.0 ≤ length piece.now) }
     ensures fed { (bs : List ℕ) → StandsAt bs flat.old engine.old → IsFed (allowance_of engine.old) bs piece.now result flat.new engine.new }
 {
-    if piece.len() == 1 {
-        engine.take_byte(flat, piece)
-    } else {
-        engine.feed(flat, piece)
+    if piece.len() != 1 {
+        return engine.feed(flat, piece);
+    }
+    match engine.take_byte(flat, piece[0]) {
+        Ok(ended) => Ok((1, ended)),
+        Err(stop) => Err(stop),
     }
 }
 
