@@ -303,7 +303,12 @@ impl Builder {
     // Takes an item with this number, which has so many bytes, and the ends behind it, by all its steps; answers as `take` does. A frame
     // of its own, since `take` stands in its callers'.
     #[inline(never)]
-    fn take_any(&mut self, flat: &mut Flat, number: u64, length: u64) -> Result<bool, Stop>
+    pub(crate) fn take_any(
+        &mut self,
+        flat: &mut Flat,
+        number: u64,
+        length: u64,
+    ) -> Result<bool, Stop>
         requires byte { number < 256 ⊎ IsSpelled self.old.phase }
         requires room { self.old.bytes + length < 2 ^ 64 }
         ensures limits { self.new.limits ≡ self.old.limits }
@@ -336,5 +341,22 @@ impl Builder {
             Ok(false) => self.take_any(flat, number, length),
             Err(_) => Err(Stop::Memory),
         }
+    }
+
+    // The same in a frame of its own, for callers that seldom come to it.
+    #[inline(never)]
+    pub(crate) fn take_apart(
+        &mut self,
+        flat: &mut Flat,
+        number: u64,
+        length: u64,
+    ) -> Result<bool, Stop>
+        requires byte { number < 256 ⊎ IsSpelled self.old.phase }
+        requires room { self.old.bytes + length < 2 ^ 64 }
+        ensures limits { self.new.limits ≡ self.old.limits }
+        ensures bytes { self.new.bytes ≤ self.old.bytes + length }
+        ensures taken { Takes self.old number length flat.old result flat.new self.new }
+    {
+        self.take(flat, number, length)
     }
 }

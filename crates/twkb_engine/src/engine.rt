@@ -40,6 +40,8 @@ impl Engine {
     }
 
     /// Takes a byte, and answers whether a geometry ends behind it. It takes memory as `feed` does.
+    // In its callers' frames a byte behind which its number goes on costs no call.
+    #[inline(always)]
     pub fn take_byte(&mut self, flat: &mut Flat, byte: u8) -> Result<bool, Stop>
         requires room { count_of self.old < 2 ^ 63 }
         ensures limits { allowance_of self.new ≡ allowance_of self.old }
@@ -50,11 +52,11 @@ impl Engine {
         twkb_num::laws::long_varints();
         let length = self.partial.len() as u64 + 1;
         if wants_byte(&self.builder.phase) {
-            return self.builder.take(flat, u64::from(byte), 1);
+            return self.builder.take_any(flat, u64::from(byte), 1);
         }
         match self.partial.step(byte) {
             Step::More => Ok(false),
-            Step::Done { value, .. } => self.builder.take(flat, value, length),
+            Step::Done { value, .. } => self.builder.take_apart(flat, value, length),
             Step::TooLong => Err(Stop::Refused(BlobReason::BadVarint)),
             Step::BadUnit => Err(Stop::Refused(BlobReason::BadVarint)),
         }

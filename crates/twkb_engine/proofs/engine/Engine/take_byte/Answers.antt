@@ -7,14 +7,14 @@ use Rattle.twkb_engine.proofs.engine.Engine.take_byte.Goals as goal
 pub returns-then-wants_byte-clause-taken : goal.returns-then-wants_byte-clause-taken
 returns-then-wants_byte-clause-taken c = λ bs s.
     let same : c.args.byte ≡ c.from.result = search rules in
-    byte_stepped bs c.args.byte c.args.flat.now c.take.new.flat c.args.self.now (record { builder = c.take.new.self; partial = c.args.self.now.partial }) c.take.result s (c.wants_byte.ensures.byte c.if-wants_byte.true) c.ranges.byte.fits refl (subst (λ n. Takes c.args.self.now.builder n 1 c.args.flat.now c.take.result c.take.new.flat c.take.new.self) (sym same) c.take.ensures.taken)
+    byte_stepped bs c.args.byte c.args.flat.now c.take_any.new.flat c.args.self.now (record { builder = c.take_any.new.self; partial = c.args.self.now.partial }) c.take_any.result s (c.wants_byte.ensures.byte c.if-wants_byte.true) c.ranges.byte.fits refl (subst (λ n. Takes c.args.self.now.builder n 1 c.args.flat.now c.take_any.result c.take_any.new.flat c.take_any.new.self) (sym same) c.take_any.ensures.taken)
 
 pub returns-in-Done-clause-taken : goal.returns-in-Done-clause-taken
 returns-in-Done-clause-taken c = λ bs s.
     let d = c.args.self.now in
     let whole = (c.varints.ensures.whole (held_in d ++ c.args.byte ∷ []) c.in-Done.value).1 c.in-Done.ensures.answer.0 in
-    number_stepped bs c.args.byte c.in-Done.value c.args.flat.now c.take-in-Done.new.flat d (record { builder = c.take-in-Done.new.self; partial = c.step.new.self }) c.take-in-Done.result s (c.wants_byte.ensures.spelled c.if-wants_byte.false) whole c.in-Done.ensures.held
-    (λ front bytes role b says gives len. c.take-in-Done.ensures.taken front bytes role b says gives (len ∙ omega (arith, c.len.ensures.count)))
+    number_stepped bs c.args.byte c.in-Done.value c.args.flat.now c.take_apart.new.flat d (record { builder = c.take_apart.new.self; partial = c.step.new.self }) c.take_apart.result s (c.wants_byte.ensures.spelled c.if-wants_byte.false) whole c.in-Done.ensures.held
+    (λ front bytes role b says gives len. c.take_apart.ensures.taken front bytes role b says gives (len ∙ omega (arith, c.len.ensures.count)))
 
 pub returns-in-TooLong-clause-taken : goal.returns-in-TooLong-clause-taken
 returns-in-TooLong-clause-taken c = λ bs s more.
