@@ -79,7 +79,8 @@ fn shut_area(lefts: Lefts) -> After
     }
 }
 
-// A line or ring is done.
+// A line or ring is done. A call where `shut_point`, to which most points come, is none.
+#[inline(never)]
 fn shut_line(lefts: Lefts) -> After
     ensures { length (lefts_of lefts) ≤ 2 → (h : Head) (f : Form) (ids : Ids) → after_of h f ids result ≡ shut h f ids 1 (lefts_of lefts) }
 {
@@ -101,7 +102,7 @@ fn shut_line(lefts: Lefts) -> After
 }
 
 // A point is done.
-#[inline]
+#[inline(always)]
 pub(crate) fn shut_point(lefts: Lefts) -> After
     ensures { (h : Head) (f : Form) (ids : Ids) → after_of h f ids result ≡ shut h f ids 0 (lefts_of lefts) }
 {

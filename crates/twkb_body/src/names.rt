@@ -2,6 +2,9 @@
 ghost use Rattle.std.specs.Prelude.{◌≡◌, if◌then◌else◌, Some, None};
 ghost use Rattle.twkb_tree.specs.Rows.{first_id, other_ids};
 
+use std::alloc::Global;
+use std::mem;
+
 /// The ids of the members, if they have any, and how many of them were given.
 #[derive(Debug, Drop)]
 pub struct Names {
@@ -36,6 +39,18 @@ impl Names {
         } else {
             None
         }
+    }
+
+    /// Takes the list of ids away, if there is one: from then on no member has an id. Takes no memory.
+    #[inline]
+    pub fn take_list(&mut self, alloc: Global) -> Option<Vec<i64>>
+        ensures { ids_of self.new ≡ None }
+    {
+        if !self.named {
+            return None;
+        }
+        self.named = false;
+        Some(mem::replace(&mut self.ids, Vec::new(alloc)))
     }
 
     /// The next member begins. Takes no memory.

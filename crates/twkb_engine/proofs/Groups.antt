@@ -1,5 +1,7 @@
 -- Members that begin, and the ends of geometries in collections.
-use Rattle.std.proofs.Common.{◌≡◌, ℕ, zero, suc, ◌+◌, ◌-◌, ◌<◌, List, [], ◌∷◌, ◌++◌, length, get_or, Bool, true, false, refl, sym, subst, arith}
+use Rattle.std.proofs.Common.{◌≡◌, ℕ, zero, suc, ◌+◌, ◌-◌, ◌<◌, List, [], ◌∷◌, ◌++◌, length, take, get_or, Bool, true, false, refl, sym, ap, ◌∙◌, subst, arith}
+use Rattle.std.proofs.Math.Seq.{take-append_seam}
+use Rattle.std.proofs.lemmas.List.{length-take-le}
 use Rattle.std.specs.Prelude.{Result, Ok}
 use Rattle.twkb_tree.specs.Rows.{first_id, other_ids}
 use Rattle.twkb_grammar.specs.Fault.{Reason}
@@ -24,6 +26,13 @@ groups_pushed below (f ∷ fs) g = groups_pushed (group_of f ∷ below) fs g
 pub groups_length : (below : List outline.Group) (gs : List Group) → length (groups_from below gs) ≡ length below + length gs
 groups_length below [] = omega arith
 groups_length below (g ∷ gs) = omega (arith, groups_length (group_of g ∷ below) gs)
+
+-- those before the last, whatever that is
+pub front_of_last : (gs : List Group) (i : ℕ) (g : Group) → i + 1 ≡ length gs → take i (take i gs ++ g ∷ []) ≡ take i gs
+front_of_last gs i g at =
+    let front : List Group = take i gs in
+    let long : length front ≡ i = length-take-le i gs (omega (arith, at)) in
+    ap (λ n. take n (front ++ g ∷ [])) (sym long) ∙ take-append_seam front (g ∷ [])
 
 -- the first member of a collection begins
 pub collection_begun : (items gs : List Group) (g : Group) → items ≡ gs ++ g ∷ [] → (groups_of items, OnHeader) ≡ members_open ManyGeometries (head_of g.head) (groups_of gs) (ids_of g.names) (suc g.left)

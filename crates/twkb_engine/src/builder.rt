@@ -19,6 +19,7 @@ use crate::header::{Led, lead_on};
 use crate::items::{announced, announces_point};
 use crate::members::{next, past_end};
 use crate::phase::{Groups, Many, Optional, Phase};
+use crate::rooms::Rooms;
 use crate::stop::Stop;
 use smallvec::SmallVec;
 use std::alloc::Global;
@@ -30,7 +31,8 @@ use twkb_num::unzigzag;
 use twkb_points::Pt;
 use twkb_tree::Limits;
 
-// A geometry that is read item by item: the sums of its items, the collections that are open, and what comes next.
+// A geometry that is read item by item: the sums of its items, the collections that are open, and what comes next; and the rooms of
+// ids of members that are done.
 #[derive(Drop)]
 pub(crate) struct Builder {
     pub(crate) alloc: Global,
@@ -40,6 +42,7 @@ pub(crate) struct Builder {
     pub(crate) nodes: u64,
     pub(crate) points: u64,
     pub(crate) groups: Groups,
+    pub(crate) rooms: Rooms,
     pub(crate) phase: Phase,
     ghost nodes_kept: { nodes ≤ limits.nodes },
     ghost points_kept: { points ≤ limits.points },
@@ -67,6 +70,7 @@ impl Builder {
             nodes: 1,
             points: 0,
             groups: SmallVec::new(alloc),
+            rooms: Rooms::new(alloc),
             phase: Phase::Header,
         }
     }
@@ -199,7 +203,7 @@ impl Builder {
         ensures passes { OnOk result (Passes (outline_past_end (exact head.size (self.old.bytes - head.from)) self.old.bytes (groups_of self.old.groups.items))) }
         ensures placed { OnOk result (IsPlacedIn self.new.groups.items self.new.phase) }
     {
-        let whole = past_end(&mut self.groups, self.bytes, head)?;
+        let whole = past_end(&mut self.groups, &mut self.rooms, self.bytes, head)?;
         Ok(self.settle(whole))
     }
 
@@ -240,7 +244,14 @@ impl Builder {
             Led::Ends(head, kind) => return self.end(flat, head, kind),
             Led::Apart => {}
         }
-        let ended = next(flat, self.alloc, &mut self.groups, &mut self.phase, number)?;
+        let ended = next(
+            flat,
+            self.alloc,
+            &mut self.groups,
+            &mut self.rooms,
+            &mut self.phase,
+            number,
+        )?;
         let Some((head, kind)) = ended else {
             return Ok(false);
         };
@@ -264,8 +275,9 @@ impl Builder {
         if body.go_on(flat, head, number, self.position)? {
             return Ok(false);
         }
-        let whole = past_end(&mut self.groups, self.bytes, head)?;
+        let whole = past_end(&mut self.groups, &mut self.rooms, self.bytes, head)?;
         body.keep(flat, head, self.position)?;
+        self.rooms.keep(&mut body.names);
         Ok(self.settle(whole))
     }
 
@@ -303,7 +315,12 @@ impl Builder {
     // Takes an item with this number, which has so many bytes, and the ends behind it, by all its steps; answers as `take` does. A frame
     // of its own, since `take` stands in its callers'.
     #[inline(never)]
-    fn take_any(&mut self, flat: &mut Flat, number: u64, length: u64) -> Result<bool, Stop>
+    pub(crate) fn take_any(
+        &mut self,
+        flat: &mut Flat,
+        number: u64,
+        length: u64,
+    ) -> Result<bool, Stop>
         requires byte { number < 256 ⊎ IsSpelled self.old.phase }
         requires room { self.old.bytes + length < 2 ^ 64 }
         ensures limits { self.new.limits ≡ self.old.limits }
@@ -336,5 +353,22 @@ impl Builder {
             Ok(false) => self.take_any(flat, number, length),
             Err(_) => Err(Stop::Memory),
         }
+    }
+
+    // The same in a frame of its own, for callers that seldom come to it.
+    #[inline(never)]
+    pub(crate) fn take_apart(
+        &mut self,
+        flat: &mut Flat,
+        number: u64,
+        length: u64,
+    ) -> Result<bool, Stop>
+        requires byte { number < 256 ⊎ IsSpelled self.old.phase }
+        requires room { self.old.bytes + length < 2 ^ 64 }
+        ensures limits { self.new.limits ≡ self.old.limits }
+        ensures bytes { self.new.bytes ≤ self.old.bytes + length }
+        ensures taken { Takes self.old number length flat.old result flat.new self.new }
+    {
+        self.take(flat, number, length)
     }
 }

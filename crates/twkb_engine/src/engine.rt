@@ -39,22 +39,24 @@ impl Engine {
         }
     }
 
-    // Takes a byte; answers whether a geometry ends behind it.
-    fn step(&mut self, flat: &mut Flat, byte: u8) -> Result<bool, Stop>
+    /// Takes a byte, and answers whether a geometry ends behind it. It takes memory as `feed` does.
+    // In its callers' frames a byte behind which its number goes on costs no call.
+    #[inline(always)]
+    pub fn take_byte(&mut self, flat: &mut Flat, byte: u8) -> Result<bool, Stop>
         requires room { count_of self.old < 2 ^ 63 }
         ensures limits { allowance_of self.new ≡ allowance_of self.old }
         ensures count { count_of self.new ≤ count_of self.old + 1 }
-        ensures step { (bs : List ℕ) → StandsAt bs flat.old self.old → IsStep (allowance_of self.old) (bs ++ byte ∷ []) result flat.new self.new }
+        ensures taken { (bs : List ℕ) → StandsAt bs flat.old self.old → IsStep (allowance_of self.old) (bs ++ byte ∷ []) result flat.new self.new }
     {
         twkb_num::laws::varints();
         twkb_num::laws::long_varints();
         let length = self.partial.len() as u64 + 1;
         if wants_byte(&self.builder.phase) {
-            return self.builder.take(flat, u64::from(byte), 1);
+            return self.builder.take_any(flat, u64::from(byte), 1);
         }
         match self.partial.step(byte) {
             Step::More => Ok(false),
-            Step::Done { value, .. } => self.builder.take(flat, value, length),
+            Step::Done { value, .. } => self.builder.take_apart(flat, value, length),
             Step::TooLong => Err(Stop::Refused(BlobReason::BadVarint)),
             Step::BadUnit => Err(Stop::Refused(BlobReason::BadVarint)),
         }
@@ -139,11 +141,11 @@ impl Engine {
                 Err(stop) => Err(stop),
             };
         }
-        self.take_byte(flat, rest)
+        self.take_first(flat, rest)
     }
 
-    /// Takes the first of these bytes, and answers as `take_item` does. It takes memory as `feed` does.
-    pub fn take_byte(&mut self, flat: &mut Flat, rest: &[u8]) -> Result<(usize, bool), Stop>
+    // Takes the first of these bytes, and answers as `take_item` does.
+    fn take_first(&mut self, flat: &mut Flat, rest: &[u8]) -> Result<(usize, bool), Stop>
         requires some { 0 < length_of rest.now }
         requires room { count_of self.old < 2 ^ 63 }
         ensures limits { allowance_of self.new ≡ allowance_of self.old }
@@ -151,7 +153,7 @@ impl Engine {
         ensures one { IfOk result (λ taken. taken.0 ≡ 1) }
         ensures taken { (bs : List ℕ) → StandsAt bs flat.old self.old → IsTakenFrom (allowance_of self.old) bs rest.now result flat.new self.new }
     {
-        match self.step(flat, rest[0]) {
+        match self.take_byte(flat, rest[0]) {
             Ok(ended) => Ok((1, ended)),
             Err(stop) => Err(stop),
         }
@@ -169,10 +171,10 @@ impl Engine {
         ensures taken { (bs : List ℕ) → StandsAt bs flat.old self.old → IsTakenFrom (allowance_of self.old) bs rest.now result flat.new self.new }
     {
         if self.holds_some() {
-            return self.take_byte(flat, rest);
+            return self.take_first(flat, rest);
         }
         if rest.len() < SHORTEST {
-            return self.take_byte(flat, rest);
+            return self.take_first(flat, rest);
         }
         let led = self.builder.lead_ahead(rest);
         let used = match self.take_points(flat, &rest[led..]) {

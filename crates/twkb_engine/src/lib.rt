@@ -11,6 +11,7 @@ mod members;
 mod metadata;
 mod numbers;
 mod phase;
+mod rooms;
 mod stop;
 mod typed;
 

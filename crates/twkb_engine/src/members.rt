@@ -13,6 +13,7 @@ ghost use Rattle.twkb_engine.specs.Stops.{IsPast};
 
 use crate::blob_reason::BlobReason;
 use crate::phase::{DEEPEST, Group, Groups, Many, Phase};
+use crate::rooms::Rooms;
 use crate::stop::Stop;
 use std::alloc::{AllocError, Global};
 use std::mem;
@@ -110,6 +111,7 @@ pub(crate) fn next(
     flat: &mut Flat,
     alloc: Global,
     groups: &mut Groups,
+    rooms: &mut Rooms,
     phase: &mut Phase,
     number: u64,
 ) -> Result<Option<(Head, GeometryType)>, AllocError>
@@ -133,7 +135,7 @@ pub(crate) fn next(
                     many,
                     head,
                     others: left,
-                    ids: Vec::new(alloc),
+                    ids: rooms.take(),
                     left,
                 };
                 return Ok(None);
@@ -157,8 +159,14 @@ fn is_exact(head: Head, bytes: u64) -> bool
     }
 }
 
-// A geometry ends, and with it each collection of which it is the last member; answers whether it is the outermost one.
-pub(crate) fn past_end(groups: &mut Groups, bytes: u64, head: Head) -> Result<bool, Stop>
+// A geometry ends, and with it each collection of which it is the last member; answers whether it is the outermost one. The room of the
+// ids of such a collection's members is kept.
+pub(crate) fn past_end(
+    groups: &mut Groups,
+    rooms: &mut Rooms,
+    bytes: u64,
+    head: Head,
+) -> Result<bool, Stop>
     ensures landed { IsPast (outline_past_end (exact head.size (bytes - head.from)) bytes (groups_of groups.old.items)) groups.new.items result }
     ensures few { length groups.new.items ≤ length groups.old.items }
 {
@@ -168,14 +176,14 @@ pub(crate) fn past_end(groups: &mut Groups, bytes: u64, head: Head) -> Result<bo
     let Some(last) = groups.len().checked_sub(1) else {
         return Ok(true);
     };
-    let innermost = &groups[last];
-    if innermost.left == 0 {
-        let head = innermost.head;
-        groups.truncate(last);
-        return past_end(groups, bytes, head);
+    let innermost = &mut groups[last];
+    if innermost.left > 0 {
+        innermost.left -= 1;
+        innermost.names.go_on();
+        return Ok(false);
     }
-    let group = &mut groups[last];
-    group.left -= 1;
-    group.names.go_on();
-    Ok(false)
+    let head = innermost.head;
+    rooms.keep(&mut innermost.names);
+    groups.truncate(last);
+    past_end(groups, rooms, bytes, head)
 }

@@ -97,3 +97,39 @@ fn each_growth_of_a_session_may_be_refused(rt: HostRuntime) {
     let bytes = both_are_fed_or_lack(rt.alloc(), Way::Located);
     assert!(rt; trees & bytes & both_are_fed_or_lack(rt.alloc(), Way::Rows));
 }
+
+// A collection with ids, of a multipoint of two points with ids, and of a collection with an id of a multipoint of one with an id. Seven
+// rows.
+const ALL_NAMED: &[u8] =
+    b"\x07\x04\x02\x02\x04\x04\x04\x02\x02\x04\x02\x02\x02\x02\x07\x04\x01\x06\x04\x04\x01\x08\x02\x02";
+
+// Whether a session that was fed the blob takes it again, in one piece and byte by byte, without a growth.
+fn grows_no_more(alloc: Global, blob: &[u8]) -> bool {
+    let mut session = Session::new(alloc, Limits::standard());
+    match session.feed_flat(blob) {
+        Ok(_) => lends(&mut session, blob) & lends_bytewise(&mut session, blob),
+        Err(fault) => is_spent(&mut session, fault),
+    }
+}
+
+// Whether a session lends seven rows for the whole piece.
+fn lends(session: &mut Session, piece: &[u8]) -> bool {
+    let is_whole = session.feed_flat(piece) == Ok((piece.len(), true));
+    is_whole & (session.flat().node_count() == 7)
+}
+
+// Whether it does where it is fed the bytes one by one.
+fn lends_bytewise(session: &mut Session, bytes: &[u8]) -> bool {
+    for byte in bytes {
+        if session.feed_flat(&[*byte]).is_err() {
+            return false;
+        }
+    }
+    session.flat().node_count() == 7
+}
+
+#[test]
+fn a_session_whose_room_has_grown_grows_no_more(rt: HostRuntime) {
+    assert!(rt; grows_no_more(rt.alloc(), NAMED) & grows_no_more(rt.alloc(), DEEP));
+    assert!(rt; grows_no_more(rt.alloc(), ALL_NAMED));
+}

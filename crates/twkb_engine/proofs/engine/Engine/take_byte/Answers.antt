@@ -1,16 +1,24 @@
-use Rattle.std.proofs.Common.{Ok, Err, arith}
-use Rattle.twkb_engine.specs.Standing.{allowance_of}
-use Rattle.twkb_engine.proofs.Feeding.{stepped_first}
+use Rattle.std.proofs.Common.{rules, ◌≡◌, refl, sym, subst, ◌∙◌, ◌++◌, ◌∷◌, [], arith}
+use Rattle.twkb_engine.specs.Building.{Takes}
+use Rattle.twkb_engine.specs.Standing.{held_in}
+use Rattle.twkb_engine.proofs.Stepping.{byte_stepped, number_stepped, long_refused}
 use Rattle.twkb_engine.proofs.engine.Engine.take_byte.Goals as goal
 
-pub returns-in-Ok-clause-taken : goal.returns-in-Ok-clause-taken
-returns-in-Ok-clause-taken c = λ bs s.
-    stepped_first (allowance_of c.args.self.now) bs c.args.rest.now (Ok c.in-Ok.ended) c.step.new.flat c.step.new.self c.requires.some (c.in-Ok.ensures.step bs s)
+pub returns-then-wants_byte-clause-taken : goal.returns-then-wants_byte-clause-taken
+returns-then-wants_byte-clause-taken c = λ bs s.
+    let same : c.args.byte ≡ c.from.result = search rules in
+    byte_stepped bs c.args.byte c.args.flat.now c.take_any.new.flat c.args.self.now (record { builder = c.take_any.new.self; partial = c.args.self.now.partial }) c.take_any.result s (c.wants_byte.ensures.byte c.if-wants_byte.true) c.ranges.byte.fits refl (subst (λ n. Takes c.args.self.now.builder n 1 c.args.flat.now c.take_any.result c.take_any.new.flat c.take_any.new.self) (sym same) c.take_any.ensures.taken)
 
-pub returns-in-Err-clause-taken : goal.returns-in-Err-clause-taken
-returns-in-Err-clause-taken c = λ bs s. (
-  1,
-  omega arith,
-  c.requires.some,
-  stepped_first (allowance_of c.args.self.now) bs c.args.rest.now (Err c.in-Err.stop) c.step.new.flat c.step.new.self c.requires.some (c.in-Err.ensures.step bs s),
-)
+pub returns-in-Done-clause-taken : goal.returns-in-Done-clause-taken
+returns-in-Done-clause-taken c = λ bs s.
+    let d = c.args.self.now in
+    let whole = (c.varints.ensures.whole (held_in d ++ c.args.byte ∷ []) c.in-Done.value).1 c.in-Done.ensures.answer.0 in
+    number_stepped bs c.args.byte c.in-Done.value c.args.flat.now c.take_apart.new.flat d (record { builder = c.take_apart.new.self; partial = c.step.new.self }) c.take_apart.result s (c.wants_byte.ensures.spelled c.if-wants_byte.false) whole c.in-Done.ensures.held
+    (λ front bytes role b says gives len. c.take_apart.ensures.taken front bytes role b says gives (len ∙ omega (arith, c.len.ensures.count)))
+
+pub returns-in-TooLong-clause-taken : goal.returns-in-TooLong-clause-taken
+returns-in-TooLong-clause-taken c = λ bs s more.
+    let d = c.args.self.now in
+    let begun = (c.varints.ensures.begun (held_in d)).1 c.len.ensures.held in
+    let long = (c.long_varints.ensures (held_in d) c.args.byte begun c.ranges.byte.fits).0 c.in-TooLong.ensures.answer in
+    long_refused bs more c.args.byte c.args.flat.now d s (c.wants_byte.ensures.spelled c.if-wants_byte.false) begun long.0 long.1
