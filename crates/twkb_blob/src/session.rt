@@ -21,9 +21,9 @@ pub struct Session {
     alloc: Global,
     engine: Engine,
     flat: Flat,
+    start: u64,
     /// Whether the form still has the rows of the last geometry.
     is_whole: bool,
-    start: u64,
     spent: bool,
     ghost start_few: { start ≤ 2 ^ 62 },
     ghost taken_few: { count_of engine ≤ 2 ^ 62 },

@@ -5,26 +5,23 @@ ghost use Rattle.twkb_tree.specs.Rows.{first_id, other_ids};
 use std::alloc::Global;
 use std::mem;
 
-/// The ids of the members, if they have any, and how many of them were given.
+/// The ids of the members, if they have any, from the one on that stands open.
 #[derive(Debug, Drop)]
 pub struct Names {
-    pub(crate) named: bool,
+    // The last first, so that the first can leave.
     pub(crate) ids: Vec<i64>,
-    pub(crate) given: usize,
+    pub(crate) named: bool,
 }
 
 impl Names {
     ghost use Rattle.twkb_body.specs.Names.{ids_of};
 
     /// No ids, or these. Takes no memory.
-    pub fn new(named: bool, ids: Vec<i64>) -> Names
+    pub fn new(named: bool, mut ids: Vec<i64>) -> Names
         ensures { ids_of result ≡ (if named then Some ids.items else None) }
     {
-        Names {
-            named,
-            ids,
-            given: 0,
-        }
+        ids.reverse();
+        Names { ids, named }
     }
 
     /// The id of the member that stands open. Takes no memory.
@@ -34,11 +31,11 @@ impl Names {
         if !self.named {
             return None;
         }
-        if self.given < self.ids.len() {
-            Some(self.ids[self.given])
-        } else {
-            None
+        let left = self.ids.len();
+        if left == 0 {
+            return None;
         }
+        Some(self.ids[left - 1])
     }
 
     /// Takes the list of ids away, if there is one: from then on no member has an id. Takes no memory.
@@ -57,8 +54,7 @@ impl Names {
     pub fn go_on(&mut self)
         ensures { ids_of self.new ≡ other_ids (ids_of self.old) }
     {
-        if self.given < self.ids.len() {
-            self.given += 1;
-        }
+        // the id is that of the member that ended
+        let _ended = self.ids.pop();
     }
 }

@@ -5,7 +5,6 @@ pub mod Validity
 pub mod Outlined
 pub mod ExactOutlines
 pub mod Starts
-pub mod LeftIds
 pub mod LinePoints
 pub mod PointHeaders
 pub mod PointPairs
