@@ -2,11 +2,14 @@
 # Times a part of the workspace against a plain loop over the same data (bench/baseline/; wants rustc):
 #
 #   compare.sh reading [MB [ROUNDS]]
-#                             canonical streams of five kinds of tables (bench/plain; wants cargo too): by a reader of rows, by one of
-#                             trees, by a session that is fed whole pieces, by one that is fed byte by byte, by a reader of rows whose
-#                             rows are printed, and by `unpack` and `show` whole; the memory of 10,000 sessions in the middle of a line
+#                             canonical streams of five kinds of tables (bench/plain; wants cargo too): by a reader of rows, by
+#                             one that reads them through a session, by one of trees, by a session that is fed whole pieces, by one
+#                             that is fed byte by byte, by a reader of rows whose rows are printed, and by `unpack` and `show` whole;
+#                             the memory of 10,000 sessions in the middle of a line
 #   compare.sh rows [MB [ROUNDS]]
 #                             the same streams, by a program that reads rows and does nothing else
+#   compare.sh through [MB [ROUNDS]]
+#                             the same, by one that reads them through a session, as `unpack` does
 #   compare.sh writing        lines of 1000 points, held already, below 0, 8, 16 and 32 collections: measured and written
 #   compare.sh tables [MB [ROUNDS]]
 #                             single points, lines of 1000 points, multipolygons, collections 8 deep: by the reader of tables,
@@ -22,8 +25,8 @@ reading)
     libraries="twkb_blob twkb_convert twkb_geom twkb_io twkb_table" words="reader" loops="read_loop"
     bench/plain/build.sh bench/out/plain
     ;;
-rows)
-    libraries="twkb_blob twkb_geom twkb_io" words="" loops="read_loop"
+rows | through)
+    libraries="twkb_blob twkb_geom twkb_io" words="" loops="read_loop" measure=rows
     bench/plain/build.sh bench/out/plain
     ;;
 writing)
@@ -32,7 +35,7 @@ writing)
     ;;
 tables) libraries="csv twkb_io twkb_geom twkb_table" words="records" loops="table_loop" ;;
 *)
-    echo "compare.sh reading [MB [ROUNDS]], compare.sh rows [MB [ROUNDS]], compare.sh writing, or compare.sh tables [MB [ROUNDS]]" >&2
+    echo "compare.sh reading|rows|through [MB [ROUNDS]], compare.sh writing, or compare.sh tables [MB [ROUNDS]]" >&2
     exit 2
     ;;
 esac
@@ -50,4 +53,4 @@ for loop in $loops; do
     rustc -O "bench/baseline/$loop.rs" -o "$copy/$loop"
     built+=("$copy/$loop")
 done
-python3 "bench/measure_$name.py" "$copy/crates/$name/out/$name" "${built[@]}" "$copy" "${@:2}"
+python3 "bench/measure_${measure:-$name}.py" "$copy/crates/$name/out/$name" "${built[@]}" "$copy" "${@:2}"
