@@ -11,7 +11,7 @@ use Rattle.twkb_tree.proofs.RowRanges.{is_precision-true}
 use Rattle.twkb_flat.specs.declared.node.Row.{Row}
 use Rattle.twkb_flat.specs.declared.entries.KeptNode.{KeptNode}
 use Rattle.twkb_flat.specs.Rows.{row_with}
-use Rattle.twkb_flat.specs.Entries.{IsFlat, IsPut, listed, span_of, open_node}
+use Rattle.twkb_flat.specs.Entries.{IsFlat, IsPut, listed, span_of, new_node}
 use Rattle.twkb_flat.proofs.LastLinkLemmas.{root_linked}
 use Rattle.twkb_flat.proofs.PushLemmas.{Pushed, pushed_by, unlinked, flat_after, view_after}
 use Rattle.twkb_flat.proofs.RowLemmas.{flat_points, some_rows}
@@ -44,7 +44,7 @@ flat_none = record {
 
 -- the entry of a root with so many points
 abbrev pub root_entry : Row → ℕ → KeptNode
-root_entry row count = open_node (record { row = row; first = 0; points = count })
+root_entry row count = new_node (record { row = row; first = 0; points = count })
 
 -- it stands alone
 root_pushed : (row : Row) (qs : List Point) → Continues largest_limits [] (row_with row qs) → Pushed [] (root_entry row (length qs) ∷ []) [] qs qs row

@@ -2,7 +2,7 @@
 use Rattle.std.proofs.Common.{◌≡◌, ℕ, ◌+◌, ◌-◌, ◌<◌, ◌≤◌, List, [], ◌∷◌, map, length, take, set, get_or, refl, sym, ap, ◌∙◌, subst, arith}
 use Rattle.std.proofs.lemmas.List.{length-map, length-take-le, get_or-map, get_or-take, get_or_default}
 use Rattle.twkb_flat.specs.declared.entries.KeptNode.{KeptNode}
-use Rattle.twkb_flat.specs.Links.{levels, OpenPlace, Linked, AreClosed, HasPlace}
+use Rattle.twkb_flat.specs.Links.{levels, OpenPlace, Linked, AreClosed, MayFollow}
 use Rattle.twkb_flat.specs.Entries.{span_of, next_of, span_depth, depths_in, links_in}
 use Rattle.twkb_flat.proofs.LinkLemmas.{last_open, last_depth, up_from, up_less, none_closed, one_closed, link_kept}
 
@@ -63,7 +63,7 @@ pub record Closing (before es : List KeptNode) (depth at next : ℕ) : Type 0 wh
   pub closed : AreClosed (take next (depths_in before)) (take next (links_in before)) (links_in es) (get_or (take next (depths_in before)) at 0 + 1) next
 
 -- from the last on
-pub closing_last : (es : List KeptNode) (depth at next : ℕ) → at + 1 ≡ next → next ≤ length es → HasPlace (take next (depths_in es)) depth → Closing es es depth at next
+pub closing_last : (es : List KeptNode) (depth at next : ℕ) → at + 1 ≡ next → next ≤ length es → MayFollow (take next (depths_in es)) depth → Closing es es depth at next
 closing_last es depth at next last within place =
     let ds = take next (depths_in es) in
     let end : at + 1 ≡ length ds = omega (arith, last, within, length-depths_in es, length-take-le next (depths_in es)) in
@@ -96,7 +96,7 @@ pub record Closed (before es : List KeptNode) (depth at next up : ℕ) : Type 0 
   pub now : Closing before es depth up next
   pub less : up < at
 
-pub closing_up : (before es after : List KeptNode) (depth at next : ℕ) (e : KeptNode) → Linked (take next (depths_in before)) (take next (links_in before)) → HasPlace (take next (depths_in before)) depth → 0 < next → next ≤ length before
+pub closing_up : (before es after : List KeptNode) (depth at next : ℕ) (e : KeptNode) → Linked (take next (depths_in before)) (take next (links_in before)) → MayFollow (take next (depths_in before)) depth → 0 < next → next ≤ length before
     → Closing before es depth at next → at < length es → e ≡ get_or es at e → depth ≤ e.span.row.depth
     → map span_of after ≡ map span_of es → links_in after ≡ set (links_in es) at next → Closed before after depth at next e.next.0
 closing_up before es after depth at next e linked place some within so_far h is deep spans links =

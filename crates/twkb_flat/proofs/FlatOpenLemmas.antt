@@ -76,8 +76,3 @@ last_level rows i row last whole =
     let here : get_or (depths rows) i 0 ≡ found.0.depth = get_or-map depth_of rows i found.0 0 (omega (arith, last)) ∙ ap depth_of read in
     let end = last_depth (depths rows) i (last ∙ sym (length-map rows depth_of)) in
     omega (arith, open_levels rows, end, here, same)
-
--- where there is no row none is open
-pub no_levels : (rows : List TableRow) → length rows ≡ 0 → 0 ≡ open_count (reverse rows)
-no_levels [] none = refl
-no_levels (r ∷ rest) none = absurd (omega (arith, none))

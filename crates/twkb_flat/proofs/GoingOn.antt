@@ -12,14 +12,14 @@ use Rattle.twkb_tree.proofs.RootLimits.{continued, of_one, one_geometry_rows}
 use Rattle.twkb_tree.proofs.RowPoints.{length-row_points}
 use Rattle.twkb_tree.proofs.RowTests.{both_true}
 use Rattle.twkb_tree.proofs.RowsLocal.{point_count-reverse}
-use Rattle.twkb_flat.specs.Links.{HasPlace}
+use Rattle.twkb_flat.specs.Links.{MayFollow}
 use Rattle.twkb_flat.specs.Rows.{depths, depth_of}
 use Rattle.twkb_flat.proofs.FlatOpenLemmas.{open_levels}
 
 -- the row after these rows
 pub record GoesOn (rows : List Row) (r : Row) : Type 0 where
   pub valid : AreValidRowsOfOne largest_limits (rows ++ r ∷ [])
-  pub place : HasPlace (depths rows) r.depth
+  pub place : MayFollow (depths rows) r.depth
   pub nodes : length rows < 2 ^ 20
   pub most : length (row_points rows) + length r.points ≤ 2 ^ 24
 

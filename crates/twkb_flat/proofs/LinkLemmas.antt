@@ -2,15 +2,9 @@
 use Rattle.std.proofs.Common.{◌≡◌, ℕ, suc, ◌+◌, ◌-◌, ◌<◌, ◌≤◌, ◌⊎◌, inl, inr, List, [], ◌∷◌, ◌++◌, length, set, get_or, refl, sym, ap, ◌∙◌, subst, arith}
 use Rattle.std.proofs.lemmas.List.{length-set, length_push, get_or_append_left, get_or_push, get_or-set_same, get_or-set_other}
 use Rattle.std.proofs.lemmas.Bool.{cases_lt, cases_eq}
-use Rattle.twkb_flat.specs.Links.{levels, IsNext, IsOpen, OpenPlace, IsUp, Linked, AreClosed, HasPlace}
+use Rattle.twkb_flat.specs.Links.{levels, IsNext, IsOpen, OpenPlace, IsUp, Linked, AreClosed, MayFollow}
 
 -- the last row tells how many rows are open
-pub levels-push : (ds : List ℕ) (d : ℕ) → levels (ds ++ d ∷ []) ≡ d + 1
-levels-push [] d = refl
-levels-push (c ∷ []) d = refl
-levels-push (c ∷ e ∷ ds) d = levels-push (e ∷ ds) d
-
--- the same of a list that is there
 levels_last : (ds : List ℕ) → 0 < length ds → levels ds ≡ get_or ds (length ds - 1) 0 + 1
 levels_last [] h = absurd (omega arith)
 levels_last (d ∷ []) h = refl
@@ -173,7 +167,7 @@ old_link ds nexts after d i within closed (inl (is, up)) =
     ]
 
 -- the links with one row more
-pub linked_push : (ds nexts after : List ℕ) (d up : ℕ) → Linked ds nexts → HasPlace ds d → length after ≡ length ds + 1 → AreClosed ds nexts after d (length ds)
+pub linked_push : (ds nexts after : List ℕ) (d up : ℕ) → Linked ds nexts → MayFollow ds d → length after ≡ length ds + 1 → AreClosed ds nexts after d (length ds)
     → get_or after (length ds) 0 ≡ up → up ≤ length ds → ((e : ℕ) → d ≡ e + 1 → OpenPlace ds e up) → Linked (ds ++ d ∷ []) after
 linked_push ds nexts after d up linked place size closed is_up before parent = record {
   same = omega (arith, size, length_push ds d);

@@ -9,9 +9,9 @@ use Rattle.twkb_tree.specs.RowLists.{AreValidRowsOfOne}
 use Rattle.twkb_flat.specs.declared.node.Row.{Row}
 use Rattle.twkb_flat.specs.declared.entries.PlacedRow.{PlacedRow}
 use Rattle.twkb_flat.specs.declared.entries.KeptNode.{KeptNode}
-use Rattle.twkb_flat.specs.Links.{Linked, HasPlace}
+use Rattle.twkb_flat.specs.Links.{Linked, MayFollow}
 use Rattle.twkb_flat.specs.Rows.{row_with, depths}
-use Rattle.twkb_flat.specs.Entries.{IsFlat, IsPut, IsUnlinked, Laid, listed, span_of, next_of, span_depth, depths_in, links_in, open_node}
+use Rattle.twkb_flat.specs.Entries.{IsFlat, IsPut, IsUnlinked, Laid, listed, span_of, next_of, span_depth, depths_in, links_in, new_node}
 use Rattle.twkb_flat.proofs.ClosingLemmas.{length-depths_in}
 use Rattle.twkb_flat.proofs.GoingOn.{GoesOn, goes_on}
 use Rattle.twkb_flat.proofs.RowLemmas.{length-listed, depths-listed, flat_points, laid-push, listed-push}
@@ -32,7 +32,7 @@ pub depths_more : (es : List KeptNode) (e : KeptNode) → depths_in (es ++ e ∷
 depths_more es e = ap (map span_depth) (map_push span_of es e) ∙ map_push span_depth (map span_of es) e.span
 
 -- the last one is still to be linked
-unlinked_more : (es : List KeptNode) (e : KeptNode) (at : ℕ) → Linked (depths_in es) (links_in es) → HasPlace (depths_in es) e.span.row.depth → at ≡ length es → IsUnlinked (es ++ e ∷ []) at
+unlinked_more : (es : List KeptNode) (e : KeptNode) (at : ℕ) → Linked (depths_in es) (links_in es) → MayFollow (depths_in es) e.span.row.depth → at ≡ length es → IsUnlinked (es ++ e ∷ []) at
 unlinked_more es e at linked place at_end =
     let end : length (depths_in es) ≡ at = omega (arith, length-depths_in es, at_end) in
     let before : take at (depths_in (es ++ e ∷ [])) ≡ depths_in es = ap (take at) (depths_more es e) ∙ take_at (depths_in es) (e.span.row.depth ∷ []) at end in
@@ -41,7 +41,7 @@ unlinked_more es e at linked place at_end =
     record {
       last = omega (arith, length_push es e, at_end);
       linked = subst (λ (ds : List ℕ). Linked ds (take at (links_in (es ++ e ∷ [])))) (sym before) (subst (λ (ls : List ℕ). Linked (depths_in es) ls) (sym links) linked);
-      place = subst (λ (ds : List ℕ). HasPlace ds (get_or (depths_in (es ++ e ∷ [])) at 0)) (sym before) (subst (λ (d : ℕ). HasPlace (depths_in es) d) (sym here) place);
+      place = subst (λ (ds : List ℕ). MayFollow ds (get_or (depths_in (es ++ e ∷ [])) at 0)) (sym before) (subst (λ (d : ℕ). MayFollow (depths_in es) d) (sym here) place);
     }
 
 -- of a row that goes on
@@ -51,7 +51,7 @@ unlinked es mid ps qs now at row rows flat view continues put at_end =
     let place = (admitted es ps row qs rows flat view continues).place in
     let same : depths rows ≡ depths_in es = ap depths (sym view) ∙ depths-listed (map span_of es) ps in
     subst (λ (xs : List KeptNode). IsUnlinked xs at) (sym put.node)
-    (unlinked_more es (open_node (new_span row ps qs)) at flat.linked (subst (λ (ds : List ℕ). HasPlace ds row.depth) same place) at_end)
+    (unlinked_more es (new_node (new_span row ps qs)) at flat.linked (subst (λ (ds : List ℕ). MayFollow ds row.depth) same place) at_end)
 
 -- the entries with the new one, linked, and the points
 pub record Pushed (es after : List KeptNode) (ps qs now : List Point) (row : Row) : Type 0 where
@@ -62,7 +62,7 @@ pub record Pushed (es after : List KeptNode) (ps qs now : List Point) (row : Row
 -- of a node and points that were put
 pub pushed_by : (es mid after : List KeptNode) (ps qs now : List Point) (row : Row) → IsPut row qs es mid ps now → map span_of after ≡ map span_of mid → Linked (depths_in mid) (links_in after) → Pushed es after ps qs now row
 pushed_by es mid after ps qs now row put spans linked = record {
-  spans = spans ∙ ap (map span_of) put.node ∙ map_push span_of es (open_node (new_span row ps qs));
+  spans = spans ∙ ap (map span_of) put.node ∙ map_push span_of es (new_node (new_span row ps qs));
   linked = subst (λ (ds : List ℕ). Linked ds (links_in after)) (ap (map span_depth) (sym spans)) linked;
   now_is = put.points;
 }
@@ -100,11 +100,11 @@ flat_after es after ps qs now row rows flat view continues p =
 
 -- its points are counted by what all points became
 pub put_as : (es put : List KeptNode) (ps qs now : List Point) (first size : ℕ) (row : Row) → first ≡ length ps → size ≡ length now → now ≡ ps ++ qs
-    → put ≡ es ++ open_node (record { row = row; first = first; points = size - first }) ∷ [] → IsPut row qs es put ps now
+    → put ≡ es ++ new_node (record { row = row; first = first; points = size - first }) ∷ [] → IsPut row qs es put ps now
 put_as es put ps qs now first size row first_is size_is now_is put_is =
     let own : size - first ≡ length qs = omega (arith, size_is, first_is, ap length now_is, length-append ps qs) in
-    let counted = ap (λ (n : ℕ). es ++ open_node (record { row = row; first = first; points = n }) ∷ []) own in
-    let placed = ap (λ (n : ℕ). es ++ open_node (record { row = row; first = n; points = length qs }) ∷ []) first_is in
+    let counted = ap (λ (n : ℕ). es ++ new_node (record { row = row; first = first; points = n }) ∷ []) own in
+    let placed = ap (λ (n : ℕ). es ++ new_node (record { row = row; first = n; points = length qs }) ∷ []) first_is in
     record { node = put_is ∙ counted ∙ placed; points = now_is }
 
 -- points that were put are taken away again

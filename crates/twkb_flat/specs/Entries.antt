@@ -8,7 +8,7 @@ use Rattle.twkb_flat.specs.declared.entries.PlacedRow.{PlacedRow}
 use Rattle.twkb_flat.specs.declared.entries.KeptNode.{KeptNode}
 use Rattle.twkb_flat.specs.declared.node.Row.{Row}
 use Rattle.twkb_flat.specs.Rows.{row_with}
-use Rattle.twkb_flat.specs.Links.{Linked, HasPlace}
+use Rattle.twkb_flat.specs.Links.{Linked, MayFollow}
 
 -- its span
 abbrev pub span_of : KeptNode → PlacedRow
@@ -18,13 +18,13 @@ span_of e = e.span
 abbrev pub next_of : KeptNode → ℕ
 next_of e = e.next.0
 
--- a node whose parent is not known yet
-abbrev pub open_node : PlacedRow → KeptNode
-open_node s = record { span = s; next = record { 0 = 0 } }
+-- a node as it is put, with the link of a root
+abbrev pub new_node : PlacedRow → KeptNode
+new_node s = record { span = s; next = record { 0 = 0 } }
 
 -- a node of a row is one more behind others, and its own points are behind those of the others
 pub record IsPut (row : Row) (own : List Point) (es more : List KeptNode) (ps all : List Point) : Type 0 where
-  pub node : more ≡ es ++ open_node (record { row = row; first = length ps; points = length own }) ∷ []
+  pub node : more ≡ es ++ new_node (record { row = row; first = length ps; points = length own }) ∷ []
   pub points : all ≡ ps ++ own
 
 -- how deep its row stands
@@ -43,7 +43,7 @@ links_in es = map next_of es
 pub record IsUnlinked (es : List KeptNode) (at : ℕ) : Type 0 where
   pub last : length es ≡ at + 1
   pub linked : Linked (take at (depths_in es)) (take at (links_in es))
-  pub place : HasPlace (take at (depths_in es)) (slice_index (depths_in es) at)
+  pub place : MayFollow (take at (depths_in es)) (slice_index (depths_in es) at)
 
 -- the rows, each with its part of the points
 abbrev pub listed : List PlacedRow → List Point → List TableRow

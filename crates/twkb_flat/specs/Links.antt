@@ -41,6 +41,6 @@ pub record AreClosed (ds nexts after : List ℕ) (d next : ℕ) : Type 0 where
   pub kept : (i : ℕ) → i < length ds → (IsOpen ds i → slice_index ds i < d) → slice_index after i ≡ slice_index nexts i
 
 -- one more row at this depth may come behind these: under an open one, or first, where it is a root
-pub record HasPlace (ds : List ℕ) (d : ℕ) : Type 0 where
+pub record MayFollow (ds : List ℕ) (d : ℕ) : Type 0 where
   pub step : d ≤ levels ds
   pub below : 0 < length ds → 0 < d

@@ -3,7 +3,7 @@ ghost use Rattle.std.specs.Prelude.{◌≡◌, ◌<◌, ◌≤◌, ◌+◌, ◌^
 ghost use Rattle.twkb_points.specs.Point.{Point};
 ghost use Rattle.twkb_tree.specs.Open.{ids_by};
 ghost use Rattle.twkb_flat.specs.Entries.{span_of, depths_in, links_in, listed, last_longer, LastHasRoom, IsPut, IsUnlinked};
-ghost use Rattle.twkb_flat.specs.Links.{levels, OpenPlace, Linked, AreClosed, HasPlace};
+ghost use Rattle.twkb_flat.specs.Links.{levels, OpenPlace, Linked, AreClosed, MayFollow};
 ghost use Rattle.twkb_flat.specs.Lasts.{IsLineKind, LastIsLine};
 
 use crate::node::{NodeId, Row};
@@ -106,7 +106,7 @@ fn close_from(entries: &mut [KeptNode], depth: u32, next: u32) -> u32
     requires some { 0 < next }
     requires within { next ≤ length entries.old }
     requires linked { Linked (take next (depths_in entries.old)) (take next (links_in entries.old)) }
-    requires place { HasPlace (take next (depths_in entries.old)) depth }
+    requires place { MayFollow (take next (depths_in entries.old)) depth }
     ensures spans { map span_of entries.new ≡ map span_of entries.old }
     ensures links { AreClosed (take next (depths_in entries.old)) (take next (links_in entries.old)) (links_in entries.new) depth next }
     ensures above { (e : ℕ) → depth ≡ e + 1 → OpenPlace (take next (depths_in entries.old)) e result }
