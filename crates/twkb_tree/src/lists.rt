@@ -132,8 +132,9 @@ impl<T: Item> Item for Items<T> {
     }
 
     fn copy(&self, alloc: Global) -> Result<Items<T>, AllocError> {
-        let mut items = Vec::with_capacity(alloc, self.items.len())?;
-        for item in &self.items {
+        let own = self.as_slice();
+        let mut items = Vec::with_capacity(alloc, own.len())?;
+        for item in own {
             items.push_reserved(item.copy(alloc)?);
         }
         Ok(Items { items })

@@ -1,4 +1,6 @@
-use Rattle.std.proofs.Common.{rules, List, refl}
+use Rattle.twkb_tree.specs.Size.{member_smaller}
+use Rattle.std.proofs.lemmas.Grind.{common_steps}
+use Rattle.std.proofs.Common.{rules, List, refl, arith}
 use Rattle.twkb_tree.specs.Tree.{Tree, flat, flat_all, trees}
 use Rattle.twkb_tree.proofs.ExtentSteps.{extent_step}
 use Rattle.twkb_tree.proofs.geometry.+bounds.Goals as goal
@@ -8,3 +10,9 @@ Members::bounds-loop-member-preserved t c = extent_step (λ (xs : List Tree). fl
 
 pub Members::bounds-loop-member-init : goal.Members::bounds-loop-member-init
 Members::bounds-loop-member-init t c = search rules
+
+pub Members::bounds-bounds-requires : goal.Members::bounds-bounds-requires
+Members::bounds-bounds-requires t c = grind (arith, member_smaller)
+
+pub Members::bounds-returns : goal.Members::bounds-returns
+Members::bounds-returns t c = grind (arith, common_steps)

@@ -1,3 +1,4 @@
+use Rattle.twkb_tree.specs.Size.{member_smaller}
 use Rattle.std.proofs.Common.{◌∙◌, arith}
 use Rattle.twkb_tree.proofs.Copied.{copied_more, copied_all}
 use Rattle.twkb_tree.proofs.geometry.+copy.Goals as goal
@@ -30,3 +31,10 @@ Shape::copy-returns-in-MultiLine t c = rw c.in-MultiLine.is c.copy_lines.ensures
 
 pub Shape::copy-returns-in-MultiPolygon : goal.Shape::copy-returns-in-MultiPolygon
 Shape::copy-returns-in-MultiPolygon t c = rw c.in-MultiPolygon.is c.copy_areas.ensures
+
+pub Members::copy-copy-requires : goal.Members::copy-copy-requires
+Members::copy-copy-requires t c = grind (arith, member_smaller)
+
+pub Members::copy-invariant_of-result : goal.Members::copy-invariant_of-result
+Members::copy-invariant_of-result t c =
+    rw (copied_all _ _ _ c.loop-member.invariant.0 c.loop-member-test.false ∙ c.as_slice-members.ensures.items) (c.as_slice-members.ensures.trees, c.as_slice-members.ensures.in_range)

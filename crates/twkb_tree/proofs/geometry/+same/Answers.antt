@@ -1,3 +1,4 @@
+use Rattle.twkb_tree.specs.Size.{member_smaller}
 use Rattle.std.proofs.Common.{rules, ◌≡◌, refl, arith}
 use Rattle.twkb_tree.specs.Tree.{precision_of}
 use Rattle.twkb_tree.proofs.Pairs.{take_pair, lists_same, lists_apart, lists_of_two_lengths}
@@ -24,3 +25,6 @@ Members::same-returns-then-not-same t c =
 pub Members::same-returns : goal.Members::same-returns
 Members::same-returns t c =
     lists_same c.as_slice-members.result.now c.as_slice-others.result.now _ _ c.loop-index.index c.loop-index.invariant c.if-members-others.false c.loop-index-test.false c.as_slice-members.ensures.items c.as_slice-others.ensures.items
+
+pub Members::same-same-requires : goal.Members::same-same-requires
+Members::same-same-requires t c = grind (arith, member_smaller)

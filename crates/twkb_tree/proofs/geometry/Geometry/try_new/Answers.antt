@@ -1,5 +1,16 @@
+use Rattle.twkb_tree.proofs.Shapes.{IsTree-tree_of, IsTreeInRange-tree_of}
 use Rattle.std.proofs.Common.{rules}
 use Rattle.twkb_tree.proofs.geometry.Geometry.try_new.Goals as goal
 
-pub returns-then-not-has_fit_ids-clause-bad_ids : goal.returns-then-not-has_fit_ids-clause-bad_ids
-returns-then-not-has_fit_ids-clause-bad_ids c = search rules
+pub returns-then-precision-ltminus8 : goal.returns-then-precision-ltminus8
+returns-then-precision-ltminus8 c = search rules
+
+pub returns-then-not-has_fit_ids : goal.returns-then-not-has_fit_ids
+returns-then-not-has_fit_ids c = search rules
+
+pub returns : goal.returns
+returns c = search rules
+
+pub invariant_of-result : goal.invariant_of-result
+invariant_of-result c =
+    (IsTree-tree_of _ _ (search rules) (c.has_fit_ids.ensures.fit.0 c.if-not-has_fit_ids.false) c.has_fit_ids.ensures.trees, IsTreeInRange-tree_of _ _ c.has_fit_ids.ensures.in_range)

@@ -1,4 +1,5 @@
-use Rattle.std.proofs.Common.{subst}
+use Rattle.std.proofs.lemmas.Grind.{common_steps}
+use Rattle.std.proofs.Common.{subst, arith}
 use Rattle.std.proofs.lemmas.List.{take_more}
 use Rattle.twkb_tree.specs.Tree.{IsTree}
 use Rattle.twkb_tree.specs.InRange.{IsTreeInRange}
@@ -11,3 +12,6 @@ loop-member-preserved c =
       AreTrees-push _ _ c.loop-member.invariant.0 (subst IsTree c.member-item.is c.precision-learnt.ensures.sound),
       AreTreesInRange-push _ _ c.loop-member.invariant.1 (subst IsTreeInRange c.member-item.is c.precision-learnt.ensures.in_range),
     )
+
+pub invariant_of-result : goal.invariant_of-result
+invariant_of-result c = grind (arith, common_steps)

@@ -1,4 +1,5 @@
-use Rattle.std.proofs.Common.{rules, subst}
+use Rattle.std.proofs.lemmas.Grind.{common_steps}
+use Rattle.std.proofs.Common.{rules, subst, arith}
 use Rattle.std.proofs.lemmas.List.{take_more}
 use Rattle.twkb_tree.proofs.Forest.{all_push}
 use Rattle.twkb_tree.proofs.lists.Items.from_vec.Goals as goal
@@ -9,3 +10,6 @@ loop-item-preserved g c =
 
 pub returns : goal.returns
 returns g c = search rules
+
+pub invariant_of-result : goal.invariant_of-result
+invariant_of-result g c = grind (arith, common_steps)

@@ -4,4 +4,4 @@ use Rattle.twkb_tree.proofs.lists.ItemsItem.copy.Given as goal
 
 abbrev pub invariant-loop-item : goal.invariant-loop-item
 invariant-loop-item g l =
-    (l.items.items ≡ take l.item-index l.item-items) × (vec_len l.items ≡ l.item-index) × (length l.item-items ≤ vec_capacity l.items)
+    (l.items.items ≡ take l.item-index l.own) × (vec_len l.items ≡ l.item-index) × (length l.own ≤ vec_capacity l.items)
