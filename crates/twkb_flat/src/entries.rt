@@ -129,6 +129,7 @@ pub(crate) fn link_last(entries: &mut [KeptNode], at: u32)
     ensures links { Linked (depths_in entries.old) (links_in entries.new) }
 {
     if at == 0 {
+        // the root stands under none
         return link(entries, 0, 0);
     }
     let depth = entries[at as usize].span.row.depth;
