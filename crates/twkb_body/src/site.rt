@@ -85,7 +85,6 @@ pub(crate) fn put_point(
 }
 
 // The kind of the row of a type.
-#[inline(always)]
 fn row_kind(kind: GeometryType) -> Kind
     ensures { result ≡ row_kind (kind_of kind) }
 {

@@ -161,7 +161,8 @@ impl Engine {
         self.take_first(flat, rest)
     }
 
-    // Takes the first of these bytes, and answers as `take_item` does.
+    // Takes the first of these bytes, and answers as `take_item` does. A frame of its own: where pieces are long few bytes come to it.
+    #[inline(never)]
     fn take_first(&mut self, flat: &mut Flat, rest: &[u8]) -> Result<(usize, bool), Stop>
         requires some { 0 < length_of rest.now }
         requires room { count_of self.old < 2 ^ 63 }
