@@ -1,5 +1,5 @@
 -- Items of an input, one after another, make a geometry with its spans, or a fault.
-use Rattle.std.proofs.Common.{◌≡◌, ℕ, ◌+◌, ◌-◌, ◌<◌, ◌≤◌, List, ◌++◌, length, take, drop, refl, sym, ap, ◌∙◌, subst, Bool, Result, Ok, Err, IfOk, true, false, arith}
+use Rattle.std.proofs.Common.{◌≡◌, ℕ, ◌+◌, ◌-◌, ◌<◌, ◌≤◌, List, [], ◌∷◌, ◌++◌, length, take, drop, get_or, refl, sym, ap, ◌∙◌, subst, Bool, Result, Ok, Err, IfOk, true, false, arith}
 use Rattle.std.proofs.Math.Seq.{take-length}
 use Rattle.std.proofs.lemmas.List.{append-nil, length-take-le}
 use Rattle.std.specs.Prelude.{IfSome}
@@ -18,8 +18,8 @@ use Rattle.twkb_io.specs.Inputs.{given, rest_of, held_of, is_spent}
 use Rattle.twkb_outline.proofs.Pieces.{one_front}
 use Rattle.twkb_outline.specs.Parts.{PartIn}
 use Rattle.twkb_outline.proofs.Judging.{part_further}
-use Rattle.twkb_engine.proofs.Feeding.{refused}
-use Rattle.twkb_engine.specs.Standing.{IsFed, IsTakenFrom, StandsAt, offset_in}
+use Rattle.twkb_engine.proofs.Feeding.{refused, stepped_first}
+use Rattle.twkb_engine.specs.Standing.{IsFed, IsStep, IsTakenFrom, StandsAt, offset_in}
 use Rattle.twkb_engine.specs.Stops.{reason_of}
 use Rattle.twkb_engine.specs.declared.engine.Engine.{Engine}
 use Rattle.twkb_engine.specs.declared.stop.Stop.{Stop}
@@ -40,14 +40,20 @@ item_refused limits start bs held Memory rs d w (used, some, within, part) = rec
 item_refused limits start bs held (Refused r) rs d w (used, some, within, fault) = record { used = used; some = some; within = within; fault = fault }
 
 -- one byte that is taken is a piece that is fed
-pub one_fed : (limits : Allowance) (bs piece : List ℕ) (answer : Result (ℕ × Bool) Stop) (rs : List Row) (d : Engine) → length piece ≡ 1 → IfOk answer (λ taken. taken.0 ≡ 1)
-    → IsTakenFrom limits bs piece answer rs d → IsFed limits bs piece answer rs d
-one_fed limits bs piece (Ok (used, false)) rs d single one s =
-    let all : used ≡ length piece = omega (arith, single, one) in
-    (all, subst (λ l. StandsAt (bs ++ l) rs d) (ap (λ n. take n piece) all ∙ take-length piece) s)
-one_fed limits bs piece (Ok (used, true)) rs d single one (g, blob, made, s) = (record { some = omega (arith, one); within = omega (arith, single, one); geometry = g; blob = blob; made = made }, s)
-one_fed limits bs piece (Err Memory) rs d single one (used, more, fits, part) = record { used = used; some = more; within = fits; part = part }
-one_fed limits bs piece (Err (Refused r)) rs d single one (used, more, fits, fault) = record { used = used; some = more; within = fits; fault = fault }
+pub one_fed : (limits : Allowance) (bs piece : List ℕ) (ended : Bool) (rs : List Row) (d : Engine) → length piece ≡ 1 → IsStep limits (bs ++ get_or piece 0 0 ∷ []) (Ok ended) rs d → IsFed limits bs piece (Ok (1, ended)) rs d
+one_fed limits bs piece false rs d single h =
+    let s = stepped_first limits bs piece (Ok false) rs d (omega (arith, single)) h in
+    (sym single, subst (λ l. StandsAt (bs ++ l) rs d) (ap (λ n. take n piece) (sym single) ∙ take-length piece) s)
+one_fed limits bs piece true rs d single h =
+    let (g, blob, made, s) = stepped_first limits bs piece (Ok true) rs d (omega (arith, single)) h in
+    (record { some = omega arith; within = omega (arith, single); geometry = g; blob = blob; made = made }, s)
+
+-- or an engine stopped at
+pub one_stopped : (limits : Allowance) (bs piece : List ℕ) (stop : Stop) (rs : List Row) (d : Engine) → length piece ≡ 1 → IsStep limits (bs ++ get_or piece 0 0 ∷ []) (Err stop) rs d → IsFed limits bs piece (Err stop) rs d
+one_stopped limits bs piece Memory rs d single h =
+    record { used = 1; some = omega arith; within = omega (arith, single); part = stepped_first limits bs piece (Err Memory) rs d (omega (arith, single)) h }
+one_stopped limits bs piece (Refused r) rs d single h =
+    record { used = 1; some = omega arith; within = omega (arith, single); fault = stepped_first limits bs piece (Err (Refused r)) rs d (omega (arith, single)) h }
 
 -- no bytes were taken yet
 pub stands_behind : (start : ℕ) (bs held : List ℕ) (rs : List Row) (d : Engine) (w : Notes) (s : StandsAt bs rs d) → w ≡ notes_at start s → (t : StandsAt (bs ++ take 0 held) rs d) × (w ≡ notes_at start t)

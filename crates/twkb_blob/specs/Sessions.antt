@@ -6,11 +6,12 @@ use Rattle.twkb_tree.specs.Limits.{Allowance}
 use Rattle.twkb_grammar.specs.Roles.{Role, Header, End, Item}
 use Rattle.twkb_grammar.specs.Blob.{Stream}
 use Rattle.twkb_grammar.specs.Fault.{StreamFault, Truncated}
-use Rattle.twkb_engine.specs.Standing.{StandsAt, allowance_of, held_in, open_in}
+use Rattle.twkb_engine.specs.Standing.{StandsAt, allowance_of, held_in, offset_in, open_in}
 use Rattle.twkb_engine.specs.Stops.{reason_of}
 use Rattle.twkb_outline.specs.Parts.{PartIn}
 use Rattle.twkb_io.specs.declared.input.InFault.TheVariants.{TooLong}
-use Rattle.twkb_blob.specs.Faults.{RefusedAt}
+use Rattle.twkb_engine.specs.declared.stop.Stop.{Stop}
+use Rattle.twkb_blob.specs.Faults.{RefusedAt, fault_of}
 use Rattle.twkb_blob.specs.declared.session.Session.{Session}
 use Rattle.twkb_blob.specs.declared.fault.BlobFault.{BlobFault}
 use Rattle.twkb_blob.specs.declared.fault.BlobFault.TheVariants as fault
@@ -105,6 +106,11 @@ abbrev pub FedFlat : List ℕ → List Tree → List ℕ → Result (ℕ × Bool
 FedFlat bytes gs piece (Ok (used, false)) s = FedSession bytes gs piece (Ok (used, None)) s
 FedFlat bytes gs piece (Ok (used, true)) s = (g : Tree) × FedSession bytes gs piece (Ok (used, Some g)) s × (session_rows s ≡ rows 0 g)
 FedFlat bytes gs piece (Err why) s = FedSession bytes gs piece (Err why) s
+
+-- what a piece of one byte is answered, where an engine answered it
+abbrev pub byte_answer : Session → Result Bool Stop → Result (ℕ × Bool) BlobFault
+byte_answer s (Ok ended) = Ok (1, ended)
+byte_answer s (Err stop) = Err (fault_of (s.start + offset_in s.engine) stop)
 
 -- The bytes are a stream, or blobs and then a blob that they end in.
 abbrev pub Finished : {A : Type 0} → Allowance → List ℕ → List Tree → Result A BlobFault → Type 0

@@ -23,24 +23,7 @@ fn take_root(engine: &Engine, flat: &mut Flat, piece: &[u8]) -> Result<Option<us
     take_root_point(flat, engine.limits(), piece)
 }
 
-// Gives a piece of one byte to an engine, which needs no loop for it, nor looks for a whole number or blob in it.
-#[inline(always)]
-fn feed_byte(engine: &mut Engine, flat: &mut Flat, piece: &[u8]) -> Result<(usize, bool), Stop>
-    requires one { length piece.now ≡ 1 }
-    requires room { count_of engine.old + length piece.now ≤ 2 ^ 63 }
-    ensures limits { allowance_of engine.new ≡ allowance_of engine.old }
-    ensures count { count_of engine.new ≤ count_of engine.old + length piece.now }
-    ensures within { IfOk result (λ fed. fed.0 ≤ length piece.now) }
-    ensures fed { (bs : List ℕ) → StandsAt bs flat.old engine.old → IsFed (allowance_of engine.old) bs piece.now result flat.new engine.new }
-{
-    match engine.take_byte(flat, piece[0]) {
-        Ok(ended) => Ok((1, ended)),
-        Err(stop) => Err(stop),
-    }
-}
-
 // Gives bytes to an engine, which its `feed` takes; a blob that is a single point leaves it as it was. Takes memory as `feed` does.
-#[inline(always)]
 pub(crate) fn feed(
     engine: &mut Engine,
     flat: &mut Flat,
@@ -52,9 +35,6 @@ pub(crate) fn feed(
     ensures within { IfOk result (λ fed. fed.0 ≤ length piece.now) }
     ensures fed { (bs : List ℕ) → StandsAt bs flat.old engine.old → IsFed (allowance_of engine.old) bs piece.now result flat.new engine.new }
 {
-    if piece.len() == 1 {
-        return feed_byte(engine, flat, piece);
-    }
     match take_root(engine, flat, piece) {
         Ok(Some(used)) => Ok((used, true)),
         Ok(None) => engine.feed(flat, piece),

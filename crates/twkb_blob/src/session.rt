@@ -1,5 +1,5 @@
 //! A stream of blobs that comes in pieces.
-ghost use Rattle.std.specs.Prelude.{◌≡◌, ◌≤◌, ◌^◌, ◌↔◌, ◌+◌, [], List, ℕ, true, false, Ok, Err, None, is_err, length, IfOk, IfSome};
+ghost use Rattle.std.specs.Prelude.{◌≡◌, ◌<◌, ◌≤◌, ◌^◌, ◌↔◌, ◌+◌, [], List, ℕ, true, false, Ok, Err, None, is_err, length, IfOk, IfSome};
 ghost use Rattle.twkb_tree.specs.Tree.{Tree};
 ghost use Rattle.twkb_tree.specs.Rows.{rows};
 ghost use Rattle.twkb_tree.specs.Limits.{IsValid, largest_limits};
@@ -9,7 +9,7 @@ ghost use Rattle.twkb_blob.specs.Readers.{failed_by_read};
 use crate::fault::{BlobFault, fault_at};
 use crate::feeding::feed;
 use std::alloc::{AllocError, Global};
-use twkb_engine::{BlobReason, Engine};
+use twkb_engine::{BlobReason, Engine, Stop};
 use twkb_flat::Flat;
 use twkb_io::{InFault, MAX_BYTES};
 use twkb_tree::{Geometry, Limits};
@@ -30,7 +30,7 @@ pub struct Session {
 }
 
 impl Session {
-    ghost use Rattle.twkb_blob.specs.Sessions.{Stands, FedFlat, FedSession, Finished, HeldOf, FramesOf, is_spent, session_limits, session_held, session_open, session_rows};
+    ghost use Rattle.twkb_blob.specs.Sessions.{Stands, FedFlat, FedSession, Finished, HeldOf, FramesOf, byte_answer, is_spent, session_limits, session_held, session_open, session_rows};
 
     /// A session before the first byte. Takes no memory.
     pub fn new(alloc: Global, limits: Limits) -> Session
@@ -110,14 +110,78 @@ impl Session {
         ensures stays { is_spent self.new ≡ is_err result }
         ensures limits { session_limits self.new ≡ session_limits self.old }
     {
-        twkb_grammar::laws::one_stream();
-        twkb_outline::laws::reading();
         if self.spent {
             return Err(BlobFault::Spent);
         }
+        if piece.len() == 1 {
+            let taken = self.taken();
+            if taken < MAX_BYTES {
+                return match self.feed_byte(piece, taken) {
+                    Ok(ended) => Ok((1, ended)),
+                    Err(stop) => Err(fault_at(self.start + self.engine.offset(), stop)),
+                };
+            }
+        }
+        // told anew: an answer that a call wrote would be copied for single bytes too
+        match self.feed_piece(piece) {
+            Ok((used, ended)) => Ok((used, ended)),
+            Err(fault) => Err(fault),
+        }
+    }
+
+    // How many bytes it took of the stream.
+    #[inline(always)]
+    fn taken(&self) -> u64
+        ensures { result ≡ self.now.start + count_of self.now.engine }
+    {
+        self.start + self.engine.offset() + self.engine.held() as u64
+    }
+
+    // Takes a piece of one byte, which needs neither a cut nor a loop: so many were taken before, less than a stream may have. Answers
+    // whether a geometry ends behind it.
+    #[inline(always)]
+    fn feed_byte(&mut self, piece: &[u8], taken: u64) -> Result<bool, Stop>
+        requires one { length piece.now ≡ 1 }
+        requires live { self.old.spent ≡ false }
+        requires counted { taken ≡ self.old.start + count_of self.old.engine }
+        requires room { taken < 2 ^ 62 }
+        ensures fed { (bytes : List ℕ) (gs : List Tree) → Stands bytes gs self.old → FedFlat bytes gs piece.now (byte_answer self.new result) self.new }
+        ensures stays { is_spent self.new ≡ is_err result }
+        ensures limits { session_limits self.new ≡ session_limits self.old }
+    {
+        twkb_grammar::laws::one_stream();
+        twkb_outline::laws::reading();
+        self.begin();
+        match self.engine.take_byte(&mut self.flat, piece[0]) {
+            Ok(true) => {
+                self.is_whole = true;
+                self.start = taken + 1;
+                Ok(true)
+            }
+            Ok(false) => Ok(false),
+            Err(stop) => {
+                self.spent = true;
+                Err(stop)
+            }
+        }
+    }
+
+    // Takes a piece, up to where a stream may have no further byte. A frame of its own, which a single byte does without.
+    #[inline(never)]
+    fn feed_piece(&mut self, piece: &[u8]) -> Result<(usize, bool), BlobFault>
+        requires live { self.old.spent ≡ false }
+        ensures fed { (bytes : List ℕ) (gs : List Tree) → Stands bytes gs self.old → FedFlat bytes gs piece.now result self.new }
+        ensures within { IfOk result (λ fed. fed.0 ≤ length piece.now) }
+        ensures unread { failed_by_read result ≡ false }
+        ensures spent { (result ≡ Err BlobFault.Spent) ↔ (is_spent self.old ≡ true) }
+        ensures stays { is_spent self.new ≡ is_err result }
+        ensures limits { session_limits self.new ≡ session_limits self.old }
+    {
+        twkb_grammar::laws::one_stream();
+        twkb_outline::laws::reading();
         self.begin();
         self.spent = true;
-        let taken = self.start + self.engine.offset() + self.engine.held() as u64;
+        let taken = self.taken();
         let Some(room) = MAX_BYTES.checked_sub(taken) else {
             return Err(BlobFault::Device(InFault::TooLong));
         };

@@ -40,6 +40,7 @@ pub(crate) struct After {
 }
 
 // The next value of the outermost list begins.
+#[inline(always)]
 fn member(spot: Spot) -> After
     ensures { (h : Head) (f : Form) (ids : Ids) → after_of h f ids result ≡ OnBody h f (other_ids ids) (spot_of spot) }
 {
@@ -50,6 +51,7 @@ fn member(spot: Spot) -> After
 }
 
 // The next value of a list within others begins.
+#[inline(always)]
 pub(crate) fn part(spot: Spot) -> After
     ensures { (h : Head) (f : Form) (ids : Ids) → after_of h f ids result ≡ OnBody h f ids (spot_of spot) }
 {
@@ -60,6 +62,7 @@ pub(crate) fn part(spot: Spot) -> After
 }
 
 // The body is done.
+#[inline(always)]
 fn done() -> After
     ensures { (h : Head) (f : Form) (ids : Ids) → after_of h f ids result ≡ OnEnd h }
 {
@@ -70,6 +73,7 @@ fn done() -> After
 }
 
 // A polygon is done.
+#[inline(always)]
 fn shut_area(lefts: Lefts) -> After
     ensures { length (lefts_of lefts) ≤ 1 → (h : Head) (f : Form) (ids : Ids) → after_of h f ids result ≡ shut h f ids 2 (lefts_of lefts) }
 {
@@ -79,8 +83,8 @@ fn shut_area(lefts: Lefts) -> After
     }
 }
 
-// A line or ring is done. A call where `shut_point`, to which most points come, is none.
-#[inline(never)]
+// A line or ring is done.
+#[inline(always)]
 fn shut_line(lefts: Lefts) -> After
     ensures { length (lefts_of lefts) ≤ 2 → (h : Head) (f : Form) (ids : Ids) → after_of h f ids result ≡ shut h f ids 1 (lefts_of lefts) }
 {

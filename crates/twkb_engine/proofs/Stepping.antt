@@ -117,6 +117,10 @@ byte_stepped bs u rs more d e r s is_byte low same takes =
     let at : s.front ++ u ∷ [] ≡ bs ++ u ∷ [] = ap (λ l. l ++ u ∷ []) (sym (all_whole bs rs d none s)) in
     item_led bs (bs ++ u ∷ []) (u ∷ []) u 1 rs more d e r s at (omega arith) (same ∙ none) takes (byte_written (length (groups_of b.groups.items)) b.bytes b.phase b.waits u low is_byte)
 
+-- a byte of a header that led on by itself
+pub header_stepped : (bs : List ℕ) (u used : ℕ) (rs : List Row) (e : Engine) → 0 < used → used ≤ length (u ∷ []) → StandsAt (bs ++ take used (u ∷ [])) rs e → StandsAt (bs ++ u ∷ []) rs e
+header_stepped bs u used rs e some within s = let one : used ≡ 1 = omega (arith, some, within) in subst (λ n. StandsAt (bs ++ take n (u ∷ [])) rs e) one s
+
 -- the last byte of a number
 pub number_stepped : (bs : List ℕ) (u value : ℕ) (rs more : List Row) (d e : Engine) (r : Result Bool Stop) → StandsAt bs rs d → IsSpelled d.builder.phase → IsVarint (held_in d ++ u ∷ []) value → held_in e ≡ []
     → Takes d.builder value (length (held_in d) + 1) rs r more e.builder → IsStep (allowance_of d) (bs ++ u ∷ []) r more e

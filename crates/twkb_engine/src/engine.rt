@@ -2,6 +2,7 @@
 ghost use Rattle.std.specs.Prelude.{◌≡◌, IfOk, OnErr, false, ◌+◌, ◌<◌, ◌≤◌, ◌^◌, ◌++◌, ◌∷◌, [], List, ℕ, take, IfSome, length as length_of};
 ghost use Rattle.twkb_num.specs.Varint.{IsOpenVarint};
 ghost use Rattle.twkb_tree.specs.Rows.{Row};
+ghost use Rattle.twkb_engine.specs.State.{IsByte};
 ghost use Rattle.twkb_engine.specs.Standing.{StandsAt, LeadsOn, LeadsHeader, StopsIn, IsStep, IsTakenFrom, IsOneItem, ItemInFront, IsFed, IsEnd, count_of, offset_in, points_in, awaited_in, held_in, open_in, allowance_of};
 
 use crate::awaited::Awaited;
@@ -52,7 +53,7 @@ impl Engine {
         twkb_num::laws::long_varints();
         let length = self.partial.len() as u64 + 1;
         if wants_byte(&self.builder.phase) {
-            return self.builder.take_any(flat, u64::from(byte), 1);
+            return self.take_lead(flat, byte);
         }
         match self.partial.step(byte) {
             Step::More => Ok(false),
@@ -60,6 +61,21 @@ impl Engine {
             Step::TooLong => Err(Stop::Refused(BlobReason::BadVarint)),
             Step::BadUnit => Err(Stop::Refused(BlobReason::BadVarint)),
         }
+    }
+
+    // Takes a byte of a header, at once where it leads on; answers the same. A frame of its own, which other bytes do without.
+    #[inline(never)]
+    fn take_lead(&mut self, flat: &mut Flat, byte: u8) -> Result<bool, Stop>
+        requires byte { IsByte self.old.builder.phase }
+        requires room { count_of self.old < 2 ^ 63 }
+        ensures limits { allowance_of self.new ≡ allowance_of self.old }
+        ensures count { count_of self.new ≤ count_of self.old + 1 }
+        ensures taken { (bs : List ℕ) → StandsAt bs flat.old self.old → IsStep (allowance_of self.old) (bs ++ byte ∷ []) result flat.new self.new }
+    {
+        if self.lead_header(&[byte]) > 0 {
+            return Ok(false);
+        }
+        self.builder.take_any(flat, u64::from(byte), 1)
     }
 
     // Whether it holds bytes of a number that is not whole.
@@ -99,6 +115,7 @@ impl Engine {
         ensures within { result ≤ length_of rest.now }
         ensures alone { 0 < result → held_in self.new ≡ [] }
         ensures led { (rs : List Row) → LeadsHeader rs self.old (take result rest.now) self.new }
+        ensures same { result ≡ 0 → self.new ≡ self.old }
     {
         if self.holds_some() {
             return 0;
@@ -144,7 +161,8 @@ impl Engine {
         self.take_first(flat, rest)
     }
 
-    // Takes the first of these bytes, and answers as `take_item` does.
+    // Takes the first of these bytes, and answers as `take_item` does. A frame of its own: where pieces are long few bytes come to it.
+    #[inline(never)]
     fn take_first(&mut self, flat: &mut Flat, rest: &[u8]) -> Result<(usize, bool), Stop>
         requires some { 0 < length_of rest.now }
         requires room { count_of self.old < 2 ^ 63 }

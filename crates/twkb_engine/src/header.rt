@@ -266,7 +266,8 @@ impl Builder {
     fn lead_type(&mut self, rest: &[u8]) -> usize
         requires some { 0 < length rest.now }
         requires room { self.old.bytes + length rest.now < 2 ^ 64 }
-        ensures { HeaderLeads self.old rest.now result self.new }
+        ensures led { HeaderLeads self.old rest.now result self.new }
+        ensures same { result ≡ 0 → self.new ≡ self.old }
     {
         let Phase::Header = &self.phase else {
             return 0;
@@ -288,7 +289,8 @@ impl Builder {
     pub(crate) fn lead_header(&mut self, rest: &[u8]) -> usize
         requires some { 0 < length rest.now }
         requires room { self.old.bytes + length rest.now < 2 ^ 64 }
-        ensures { HeaderLeads self.old rest.now result self.new }
+        ensures led { HeaderLeads self.old rest.now result self.new }
+        ensures same { result ≡ 0 → self.new ≡ self.old }
     {
         let count = self.lead_metadata(rest);
         if count > 0 {

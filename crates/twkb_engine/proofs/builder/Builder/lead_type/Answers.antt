@@ -12,14 +12,14 @@ use Rattle.twkb_engine.proofs.Noting.{first_noted}
 use Rattle.twkb_engine.proofs.Taking.{added_sums, item_led}
 use Rattle.twkb_engine.proofs.builder.Builder.lead_type.Goals as goal
 
-pub returns-in_default : goal.returns-in_default
-returns-in_default c = header_none c.args.self.now c.args.self.now c.args.rest.now refl refl refl refl
+pub returns-in_default-clause-led : goal.returns-in_default-clause-led
+returns-in_default-clause-led c = header_none c.args.self.now c.args.self.now c.args.rest.now refl refl refl refl
 
-pub returns-in-Some : goal.returns-in-Some
-returns-in-Some c = header_none c.args.self.now c.args.self.now c.args.rest.now refl refl refl refl
+pub returns-in-Some-clause-led : goal.returns-in-Some-clause-led
+returns-in-Some-clause-led c = header_none c.args.self.now c.args.self.now c.args.rest.now refl refl refl refl
 
-pub returns : goal.returns
-returns c = record {
+pub returns-clause-led : goal.returns-clause-led
+returns-clause-led c = record {
   limits = refl;
   within = omega (arith, c.requires.some);
   bytes = refl;

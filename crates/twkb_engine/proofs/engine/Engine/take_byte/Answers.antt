@@ -1,13 +1,7 @@
-use Rattle.std.proofs.Common.{rules, ◌≡◌, refl, sym, subst, ◌∙◌, ◌++◌, ◌∷◌, [], arith}
-use Rattle.twkb_engine.specs.Building.{Takes}
+use Rattle.std.proofs.Common.{◌∙◌, ◌++◌, ◌∷◌, [], arith}
 use Rattle.twkb_engine.specs.Standing.{held_in}
-use Rattle.twkb_engine.proofs.Stepping.{byte_stepped, number_stepped, long_refused}
+use Rattle.twkb_engine.proofs.Stepping.{number_stepped, long_refused}
 use Rattle.twkb_engine.proofs.engine.Engine.take_byte.Goals as goal
-
-pub returns-then-wants_byte-clause-taken : goal.returns-then-wants_byte-clause-taken
-returns-then-wants_byte-clause-taken c = λ bs s.
-    let same : c.args.byte ≡ c.from.result = search rules in
-    byte_stepped bs c.args.byte c.args.flat.now c.take_any.new.flat c.args.self.now (record { builder = c.take_any.new.self; partial = c.args.self.now.partial }) c.take_any.result s (c.wants_byte.ensures.byte c.if-wants_byte.true) c.ranges.byte.fits refl (subst (λ n. Takes c.args.self.now.builder n 1 c.args.flat.now c.take_any.result c.take_any.new.flat c.take_any.new.self) (sym same) c.take_any.ensures.taken)
 
 pub returns-in-Done-clause-taken : goal.returns-in-Done-clause-taken
 returns-in-Done-clause-taken c = λ bs s.
