@@ -39,8 +39,6 @@ IsTreeInRange-tree_of p (MultiLine lines ids) h = h
 IsTreeInRange-tree_of p (MultiPolygon areas ids) h = h
 IsTreeInRange-tree_of p (Collection gs ids) h = h
 
-pub ruleset shapes = (IsTree-tree_of, IsTreeInRange-tree_of)
-
 -- the members of a list, as a list again
 members-trees : (gs : List Tree) → members (trees gs) ≡ gs
 members-trees [] = refl

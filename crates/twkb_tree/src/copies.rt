@@ -8,7 +8,6 @@ use std::alloc::{AllocError, Global};
 
 impl Members {
     #[cycle(copy)]
-    #[tactic(auto, using(crate::specs::Size::member_smaller))]
     fn copy(&self, alloc: Global) -> Result<Members, AllocError>
         ensures { IfOk result (λ copy. copy ≡ self.now) }
     {

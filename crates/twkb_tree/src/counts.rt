@@ -21,7 +21,6 @@ fn rows_of(areas: &Areas) -> u64
 
 impl Members {
     #[cycle(nodes)]
-    #[tactic(auto, using(crate::specs::Size::member_smaller))]
     fn count_nodes(&self) -> u64
         ensures { result ≡ saturated (nodes_all (trees self.now)) }
     {
@@ -33,7 +32,6 @@ impl Members {
     }
 
     #[cycle(points)]
-    #[tactic(auto, using(crate::specs::Size::member_smaller))]
     fn points(&self) -> u64
         ensures { result ≡ saturated (length (flat_all (trees self.now))) }
     {

@@ -34,7 +34,6 @@ fn same_with<T: Item>(a: &Items<T>, b: &Items<T>, ids: &Ids, others: &Ids) -> bo
 
 impl Members {
     #[cycle(same)]
-    #[tactic(auto, using(crate::specs::Size::member_smaller))]
     fn same(&self, other: &Members) -> bool
         ensures { IsTrue result ↔ (self.now ≡ other.now) }
     {

@@ -9,7 +9,7 @@ use twkb_points::{Bounds, merged};
 
 impl Members {
     #[cycle(bounds)]
-    #[tactic(auto, using(twkb_points::proofs::ExtentLemmas::extents, crate::specs::Size::member_smaller))]
+    #[tactic(auto, using(twkb_points::proofs::ExtentLemmas::extents))]
     fn bounds(&self) -> Option<Bounds>
         ensures { result ≡ extent (flat_all (trees self.now)) }
     {

@@ -175,7 +175,6 @@ impl Geometry {
     ghost use Rattle.twkb_tree.specs.InRange.{IsTreeInRange};
 
     /// The geometry of a precision, -8 to 7, and a shape. Hands the shape back where it refuses. Takes no memory.
-    #[tactic(auto, using(crate::proofs::Shapes::shapes))]
     pub fn try_new(precision: i8, shape: Shape) -> Result<Geometry, (Shape, GeomFault)>
         ensures accepted { IsOk result ↔ (IsPrecision precision × HasFitIds shape) }
         ensures tree { IfOk result (λ g. g ≡ tree_of precision shape) }

@@ -7,7 +7,6 @@ use crate::geometry::{Geometry, Members, Shape};
 
 impl Members {
     #[cycle(uniform)]
-    #[tactic(auto, using(crate::specs::Size::member_smaller))]
     fn have_precision(&self, precision: i8) -> bool
         ensures { result ≡ have_precision precision (trees self.now) }
     {

@@ -8,7 +8,6 @@ use crate::limits::Limits;
 
 impl Members {
     #[cycle(nest)]
-    #[tactic(auto, using(crate::specs::Size::member_smaller))]
     fn nest(&self) -> u64
         ensures { result ≡ saturated (nest_all (trees self.now)) }
     {
