@@ -4,7 +4,7 @@ use Rattle.std.specs.Prelude.{ℤ, Result, OnOk}
 use Rattle.std.proofs.lemmas.List.{drop_all}
 use Rattle.twkb_points.specs.Point.{Point}
 use Rattle.twkb_tree.specs.declared.kind.Kind.{Kind}
-use Rattle.twkb_tree.specs.Limits.{IsValid, largest_limits}
+use Rattle.twkb_tree.specs.Limits.{largest_limits}
 use Rattle.twkb_tree.specs.Tree.{Ids, Tree, trees}
 use Rattle.twkb_tree.specs.Shape.{tree_of}
 use Rattle.twkb_tree.specs.declared.geometry.Shape.{Shape}
@@ -146,10 +146,6 @@ none_under d p shape g old whole (inr (ps, e)) = sym (append-nil old) ∙ ap (λ
 -- members by their lists
 pub members_valid : (d : ℕ) (ids : Ids) (gs hs : List Tree) (old : List Row) → hs ≡ gs → AreFlatRows (old ++ member_rows d ids (trees gs)) → AreFlatRows (old ++ rows_of_each (λ id g. rows_with id d g) ids hs)
 members_valid d ids gs hs old e v = subst (λ rs. AreFlatRows (old ++ rs)) (sym (member_rows_each d ids hs ∙ ap (λ ks. member_rows d ids (trees ks)) e)) v
-
--- the rows of a valid geometry
-pub valid_alone : (g : Tree) → IsValid largest_limits g → AreFlatRows (rows 0 g)
-valid_alone g v = subst AreFlatRows (sym (own_row_first _ 0 g)) (g, v, own_row_first _ 0 g)
 
 -- a geometry that is no collection has no members
 pub is_simple : (p : ℤ) (shape : Shape) (g : Tree) → tree_of p shape ≡ g → ((gs : List Tree) (ids : Ids) → shape ≡ Shape.Collection gs ids → ⊥) → IsSimple g

@@ -12,7 +12,6 @@ pub mod LinkLemmas
 pub mod MemberLemmas
 pub mod NodeLemmas
 pub mod OpenPlaceLemmas
-pub mod OpenRowLemmas
 pub mod PushLemmas
 pub mod RowLemmas
 pub mod ReadLemmas

@@ -1,7 +1,7 @@
 -- The row at a place, by its entry.
 use Rattle.std.proofs.Common.{◌≡◌, ℕ, ◌+◌, ◌-◌, ◌<◌, ◌≤◌, List, [], ◌∷◌, ◌++◌, map, length, take, drop, get_or, refl, sym, ap, ◌∙◌, subst, arith, eq-eqb}
 use Rattle.std.specs.Prelude.{IsTrue, ◌↔◌, ◌==◌, slice_get, Some}
-use Rattle.std.proofs.lemmas.List.{length-map, length-append, length-drop, get_or-drop, get_or-map, take-append-drop, take_at, drop_at, drop_all}
+use Rattle.std.proofs.lemmas.List.{length-map, length-append, length-drop, get_or-drop, get_or-map, take-append-drop, take_at, drop_at}
 use Rattle.std.proofs.lemmas.Option.{slice_get_read}
 use Rattle.std.proofs.lemmas.Bool.{eqb-true}
 use Rattle.std.proofs.lemmas.Grind.{flat_map-append}
@@ -85,10 +85,6 @@ shallow_here es ps i e rows v laid within is =
     omega (arith, most)
 
 -- ---- by the rows alone
-
--- behind the last row there is none
-pub none_at : (rows : List TableRow) (i d : ℕ) → length rows ≤ i → IsAt d (drop i rows) → ⊥
-none_at rows i d past at = subst (IsAt d) (drop_all i rows past) at
 
 -- a row that is there is at its depth
 pub by_test : (rows : List TableRow) (i d k : ℕ) (r : TableRow) (rest : List TableRow) → drop i rows ≡ r ∷ rest → k ≡ r.depth → IsTrue (k == d) ↔ IsAt d (drop i rows)

@@ -1,5 +1,5 @@
 //! Nodes as they are kept.
-ghost use Rattle.std.specs.Prelude.{◌≡◌, ◌<◌, ◌≤◌, ◌+◌, ◌^◌, ◌↔◌, ◌++◌, ◌∷◌, [], IsTrue, ℕ, List, length, map, take, slice_set, slice_index, slice_get, OnOk, OnErr, IfErr};
+ghost use Rattle.std.specs.Prelude.{◌≡◌, ◌<◌, ◌≤◌, ◌+◌, ◌^◌, ◌↔◌, ◌++◌, ◌∷◌, [], IsTrue, ℕ, List, length, map, take, slice_set, slice_get, OnOk, OnErr, IfErr};
 ghost use Rattle.twkb_points.specs.Point.{Point};
 ghost use Rattle.twkb_tree.specs.Open.{ids_by};
 ghost use Rattle.twkb_flat.specs.Entries.{span_of, depths_in, links_in, listed, last_longer, LastHasRoom, IsPut, IsUnlinked};

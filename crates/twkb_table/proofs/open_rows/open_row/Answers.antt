@@ -2,8 +2,7 @@ use Rattle.std.proofs.Common.{◌≡◌, ◌∷◌, [], ◌++◌, List, take, sy
 use Rattle.std.proofs.lemmas.Bool.{false≢true}
 use Rattle.twkb_tree.specs.declared.open_rows.OpenRow.{OpenRow}
 use Rattle.twkb_flat.specs.Rows.{row_with}
-use Rattle.twkb_flat.proofs.OpenRowLemmas.{entered, noted_by}
-use Rattle.twkb_table.proofs.OpenedLemmas.{opened_some, opened_none, nothing}
+use Rattle.twkb_table.proofs.OpenedLemmas.{entered, noted_by, opened_some, opened_none, nothing}
 use Rattle.twkb_table.proofs.open_rows.open_row.Goals as goal
 use Rattle.twkb_table.proofs.open_rows.open_row.Goals.{in-Some, in_default}
 

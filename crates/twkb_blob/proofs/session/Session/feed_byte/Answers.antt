@@ -1,4 +1,4 @@
-use Rattle.std.proofs.Common.{◌≡◌, ◌+◌, length, take, refl, sym, true, false, arith}
+use Rattle.std.proofs.Common.{◌≡◌, ◌+◌, length, refl, sym, true, false, arith}
 use Rattle.std.proofs.Math.Seq.{take-length}
 use Rattle.twkb_engine.specs.Standing.{allowance_of, count_of}
 use Rattle.twkb_blob.proofs.Bytes.{one_fed, one_stopped}
