@@ -1,4 +1,4 @@
-use Rattle.std.proofs.Common.{ap, refl, sym}
+use Rattle.std.proofs.Common.{rules, ap, refl, sym}
 use Rattle.std.proofs.lemmas.Result.{err_from_is_err_and}
 use Rattle.twkb_io.specs.Inputs.{held_of}
 use Rattle.twkb_io.proofs.FaultLemmas.{both_ok, ok_no_err, same_fault}
@@ -45,3 +45,6 @@ returns-in_default g c =
       stays = filled.stays;
       unchanged = filled.unchanged;
     }
+
+pub returns : goal.returns
+returns g c = search rules

@@ -31,9 +31,6 @@ loop-rest-preserved g c =
       front = (front ++ take n rest, regroup _ front rest n whole, took_join g.W.Write.contents _ _ _ front (take n rest) took next);
     }
 
-pub returns-then-bytes-self-clause-err : goal.returns-then-bytes-self-clause-err
-returns-then-bytes-self-clause-err g c = front_cut g.W.Write.contents _ _ c.args.bytes.now _ (search rules)
-
 pub returns-in_err-taken : goal.returns-in_err-taken
 returns-in_err-taken g c =
     let p = err_from_is_err_and c.from_residual.result c.from_residual.ensures.1 in
@@ -52,3 +49,22 @@ returns-in_err-taken g c =
       told = λ _. told.told;
       short = λ _. cut_short g.W.Write.contents _ _ _ c.args.bytes.now front c.loop-rest.rest.now _ whole some took told.err.0;
     }
+
+pub returns-then-self : goal.returns-then-self
+returns-then-self g c = search rules
+
+pub returns-then-bytes-self : goal.returns-then-bytes-self
+returns-then-bytes-self g c = record {
+  ok = search rules;
+  err = front_cut g.W.Write.contents _ _ c.args.bytes.now _ (search rules);
+  cut = search rules;
+  spent = search rules;
+  too_long = search rules;
+  untouched = search rules;
+  unchanged = search rules;
+  told = search rules;
+  short = search rules;
+}
+
+pub send-requires : goal.send-requires
+send-requires g c = search rules
