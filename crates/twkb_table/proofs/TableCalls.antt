@@ -195,19 +195,10 @@ goes_on over before tells going fresh (inr e) = absurd (true≢false (sym e ∙ 
 pub not_spent : {A E : Type 0} (a : A) (f : E) (spent : Bool) → spent ≡ false → (◌≡◌ {A = Result A E} (Ok a) (Err f)) ↔ (spent ≡ true)
 not_spent a f spent fresh = (λ e. cc e, λ e. absurd (true≢false (sym e ∙ fresh)))
 
--- a reader that is not spent, and is told so once more
-unspent : {R : Type 0} (reader : TableReader R) (spent : Bool) → spent ≡ false → is_spent reader ≡ false → reader ≡ record reader { spent = spent }
-unspent reader spent e fresh = ap (λ (s : Bool). record reader { spent = s }) (fresh ∙ sym e)
-
-pub gives_unspent : {R : Type 0} (remaining : R → Option (List ℕ)) (old new : TableReader R) (flat : List Row) (spent : Bool) (r : Result Bool TableFault) → spent ≡ false → is_spent new ≡ false
-    → IfOk r (λ found. found ≡ true → Gives remaining old flat new) → IfOk r (λ found. found ≡ true → Gives remaining old flat (record new { spent = spent }))
-gives_unspent remaining old new flat spent (Ok found) e fresh h = λ is. subst (λ n. Gives remaining old flat n) (unspent new spent e fresh) (h is)
-gives_unspent remaining old new flat spent (Err f) e fresh h = tt
-
-pub ends_unspent : {R : Type 0} (remaining : R → Option (List ℕ)) (old new : TableReader R) (spent : Bool) (r : Result Bool TableFault) → spent ≡ false → is_spent new ≡ false
-    → IfOk r (λ found. found ≡ false → Ends remaining old new) → IfOk r (λ found. found ≡ false → Ends remaining old (record new { spent = spent }))
-ends_unspent remaining old new spent (Ok found) e fresh h = λ is. subst (λ n. Ends remaining old n) (unspent new spent e fresh) (h is)
-ends_unspent remaining old new spent (Err f) e fresh h = tt
+-- a form has rows only where they were given
+pub given_or_none : {E : Type 0} (found : Bool) (flat : List Row) → (◌≡◌ {A = Result Bool E} (Ok found) (Ok false) → flat ≡ []) → (◌≡◌ {A = Result Bool E} (Ok found) (Ok true)) ⊎ (flat ≡ [])
+given_or_none true flat none = inl refl
+given_or_none false flat none = inr (none refl)
 
 -- the geometry of the rows that were given
 pub tree_given : {R : Type 0} (l : Allowance) (remaining : R → Option (List ℕ)) (told : Option (List ℕ)) (records : List Record) (given : List Tree) (flat : List Row) (reader : TableReader R) (tree : Tree) → GivesNext l remaining told records given flat reader → rows 0 tree ≡ flat → IsTree tree

@@ -89,12 +89,14 @@ impl<'a, R: Read> TableReader<'a, R> {
         if self.is_over() {
             return Ok(false);
         }
-        let found = self.read_geometry(flat);
-        self.spent = found.is_err();
-        if self.spent {
-            flat.clear();
+        match self.read_geometry(flat) {
+            Ok(found) => Ok(found),
+            Err(fault) => {
+                self.spent = true;
+                flat.clear();
+                Err(fault)
+            }
         }
-        found
     }
 
     /// The next geometry, or `None` at the table's end, as `next_flat` reads them; calls of the two

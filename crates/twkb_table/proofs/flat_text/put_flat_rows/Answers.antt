@@ -1,4 +1,4 @@
-use Rattle.std.proofs.Common.{arith, refl}
+use Rattle.std.proofs.Common.{rules, arith, refl}
 use Rattle.std.proofs.lemmas.Grind.{common_steps}
 use Rattle.twkb_flat.specs.Rows.{row_with}
 use Rattle.twkb_table.specs.Printing.{Grows, row_lines}
@@ -11,16 +11,21 @@ loop-index-init c = rows_put_none _ _ _
 pub loop-index-preserved : goal.loop-index-preserved
 loop-index-preserved c = rows_put_more _ _ (row_with c.row_at.result.0 c.row_at.result.1.now) _ _ _ _ _ _ c.loop-index.invariant c.row_at.ensures.row c.row_at.ensures.counted c.in-Ok.ensures.appended
 
-pub returns-clause-appended : goal.returns-clause-appended
+pub returns-in_default : goal.returns-in_default
+returns-in_default c = record {
+  appended = search rules;
+  same = (let grown : Grows c.args.text.now.items c.put_row.new.text.items = grows_on _ _ _ (grows_by _ _ _ c.loop-index.invariant.lines) c.in_default.ensures.grown in
+      grind (arith, common_steps));
+  nodes = search rules;
+  points = (let read = rows_put_more _ _ (row_with c.row_at.result.0 c.row_at.result.1.now) _ _ _ _ _ _ c.loop-index.invariant c.row_at.ensures.row c.row_at.ensures.counted refl in
+      few_points _ _ _ _ _ _ read);
+}
+
+pub returns : goal.returns
 unfolding row_lines
-returns-clause-appended c = all_lines _ _ _ _ _ _ c.loop-index.invariant (omega (arith, c.node_count-index-end.ensures.value))
-
-pub returns-in_default-clause-same : goal.returns-in_default-clause-same
-returns-in_default-clause-same c =
-    let grown : Grows c.args.text.now.items c.put_row.new.text.items = grows_on _ _ _ (grows_by _ _ _ c.loop-index.invariant.lines) c.in_default.ensures.grown in
-    grind (arith, common_steps)
-
-pub returns-in_default-clause-points : goal.returns-in_default-clause-points
-returns-in_default-clause-points c =
-    let read = rows_put_more _ _ (row_with c.row_at.result.0 c.row_at.result.1.now) _ _ _ _ _ _ c.loop-index.invariant c.row_at.ensures.row c.row_at.ensures.counted refl in
-    few_points _ _ _ _ _ _ read
+returns c = record {
+  appended = all_lines _ _ _ _ _ _ c.loop-index.invariant (omega (arith, c.node_count-index-end.ensures.value));
+  same = search rules;
+  nodes = search rules;
+  points = few_points _ _ _ _ _ _ c.loop-index.invariant;
+}

@@ -1,30 +1,61 @@
-use Rattle.std.proofs.Common.{◌∙◌, refl}
-use Rattle.twkb_table.proofs.TableCalls.{ends_unspent, gives_unspent, not_spent}
+use Rattle.std.proofs.Common.{◌∙◌, Ok, refl, sym, inl, inr}
+use Rattle.std.proofs.lemmas.Bool.{false≢true, true≢false}
+use Rattle.twkb_table.proofs.TableCalls.{given_or_none, goes_on, not_spent}
 use Rattle.twkb_table.proofs.TableSteps.{over_meets}
 use Rattle.twkb_table.proofs.table_reader.TableReader.next_flat.Goals as goal
 
-pub returns-then-is_over-clause-ends : goal.returns-then-is_over-clause-ends
-returns-then-is_over-clause-ends g c found l told records given s = over_meets l g.R.Read.remaining told records given c.args.self.now s (c.is_over.ensures.0 c.if-is_over.true)
+pub returns-then-self : goal.returns-then-self
+returns-then-self g c = record {
+  gives = tt;
+  ends = tt;
+  fault = λ l told records given s. absurd (true≢false (sym c.if-self.true ∙ s.unspent));
+  cleared = inr c.clear.ensures;
+  some = λ e. cc e;
+  over = λ over fresh. absurd (true≢false (sym c.if-self.true ∙ fresh));
+  ended = λ e. cc e;
+  spent = (λ e. c.if-self.true, λ spent. refl);
+  unchanged = λ either. refl;
+  stays = c.if-self.true;
+}
 
-pub returns-then-is_over-clause-ended : goal.returns-then-is_over-clause-ended
-returns-then-is_over-clause-ended g c found = c.is_over.ensures.0 c.if-is_over.true
+pub returns-then-is_over : goal.returns-then-is_over
+returns-then-is_over g c = record {
+  gives = λ e. absurd (false≢true e);
+  ends = λ found l told records given s. over_meets l g.R.Read.remaining told records given c.args.self.now s (c.is_over.ensures.0 c.if-is_over.true);
+  fault = tt;
+  cleared = inr c.clear.ensures;
+  some = λ e. cc e;
+  over = λ over fresh. refl;
+  ended = λ found. c.is_over.ensures.0 c.if-is_over.true;
+  spent = not_spent _ _ c.args.self.now.spent c.if-self.false;
+  unchanged = λ either. refl;
+  stays = c.if-self.false;
+}
 
-pub returns-then-is_over-clause-spent : goal.returns-then-is_over-clause-spent
-returns-then-is_over-clause-spent g c = not_spent _ _ c.args.self.now.spent c.if-self.false
+pub returns-in-Ok : goal.returns-in-Ok
+returns-in-Ok g c = record {
+  gives = c.in-Ok.ensures.gives;
+  ends = c.in-Ok.ensures.ends;
+  fault = tt;
+  cleared = given_or_none c.in-Ok.found _ c.in-Ok.ensures.none;
+  some = c.in-Ok.ensures.some;
+  over = λ over fresh. goes_on c.is_over.result c.args.self.now.spent c.is_over.ensures c.if-is_over.false c.if-self.false (inl over);
+  ended = c.in-Ok.ensures.ended;
+  spent = not_spent _ _ c.args.self.now.spent c.if-self.false;
+  unchanged = goes_on c.is_over.result c.args.self.now.spent c.is_over.ensures c.if-is_over.false c.if-self.false;
+  stays = c.read_geometry.ensures.same ∙ c.if-self.false;
+}
 
-pub returns-then-is_over-clause-unchanged : goal.returns-then-is_over-clause-unchanged
-returns-then-is_over-clause-unchanged g c over = refl
-
-pub returns-then-is_over-clause-stays : goal.returns-then-is_over-clause-stays
-returns-then-is_over-clause-stays g c = c.if-self.false
-
-pub returns-then-self-2-clause-stays : goal.returns-then-self-2-clause-stays
-returns-then-self-2-clause-stays g c = c.is_err-self.ensures.value
-
-pub returns-else-self-2-clause-gives : goal.returns-else-self-2-clause-gives
-returns-else-self-2-clause-gives g c =
-    gives_unspent g.R.Read.remaining c.args.self.now c.read_geometry-found.new.self c.read_geometry-found.new.flat c.is_err-self.result c.read_geometry-found.result c.if-self-2.false (c.read_geometry-found.ensures.same ∙ c.if-self.false) c.read_geometry-found.ensures.gives
-
-pub returns-else-self-2-clause-ends : goal.returns-else-self-2-clause-ends
-returns-else-self-2-clause-ends g c =
-    ends_unspent g.R.Read.remaining c.args.self.now c.read_geometry-found.new.self c.is_err-self.result c.read_geometry-found.result c.if-self-2.false (c.read_geometry-found.ensures.same ∙ c.if-self.false) c.read_geometry-found.ensures.ends
+pub returns-in-Err : goal.returns-in-Err
+returns-in-Err g c = record {
+  gives = tt;
+  ends = tt;
+  fault = c.in-Err.ensures.fault;
+  cleared = inr c.clear-in-Err.ensures;
+  some = λ e. cc e;
+  over = λ over fresh. goes_on c.is_over.result c.args.self.now.spent c.is_over.ensures c.if-is_over.false c.if-self.false (inl over);
+  ended = λ e. cc e;
+  spent = (λ e. absurd (c.in-Err.ensures.fresh (cc e)), λ spent. absurd (true≢false (sym spent ∙ c.if-self.false)));
+  unchanged = goes_on c.is_over.result c.args.self.now.spent c.is_over.ensures c.if-is_over.false c.if-self.false;
+  stays = refl;
+}

@@ -1,4 +1,4 @@
-use Rattle.std.proofs.Common.{◌∙◌, [], ◌∷◌, ◌++◌, Ok, ap, refl, sym, subst, inl, inr}
+use Rattle.std.proofs.Common.{rules, ◌∙◌, [], ◌∷◌, ◌++◌, Ok, ap, refl, sym, subst, inl, inr}
 use Rattle.std.proofs.lemmas.Bool.{false≢true}
 use Rattle.csv.specs.Records.{fields_of}
 use Rattle.twkb_table.specs.TableReading.{GivesNext}
@@ -9,69 +9,57 @@ use Rattle.twkb_table.proofs.TableSteps.{reads_more, reads_next, reads_end, read
 use Rattle.twkb_table.proofs.TableCalls.{explained, fault_fresh, missed_fresh, no_record, reads_by, some_row}
 use Rattle.twkb_table.proofs.table_reader.TableReader.read_row.Goals as goal
 
-pub returns-in-Err-clause-reads : goal.returns-in-Err-clause-reads
-returns-in-Err-clause-reads g c l told records given r =
-    no_record l told records given (given ++ r.geometry ∷ []) c.args.self.now.number c.in-Err.fault r.named (sym (all_but_last-last given r.geometry)) r.count
-    (elim c.in-Err.ensures.fault [ inl source ↦ inl source | inr many ↦ inr (many.0, many.1, many.2 told records r.source) ])
+pub returns-in-Ok-false : goal.returns-in-Ok-false
+returns-in-Ok-false g c = record {
+  reads = λ l told records given r. (let end = c.in-Ok-false.ensures.end c.in-Ok-false.field-0-test in
+      let over = c.in-Ok-false.ensures.ended (ap Ok c.in-Ok-false.field-0-test) in
+      reads_end l g.R.Read.remaining told records given c.args.flat.now c.args.self.now (record c.args.self.now { reader = c.next_record.new.reader; held = c.next_record.new.held; ended = c.next_record.new.ended; number = c.next_record.new.number }) r (end told records r.source).0 over (c.in-Ok-false.ensures.uncounted c.in-Ok-false.field-0-test) refl refl c.requires.keeps.none);
+  keeps = λ on. absurd (false≢true on);
+  counts = λ on. absurd (false≢true on);
+  some = c.requires.keeps.some;
+  fresh = search rules;
+  same = refl;
+}
 
-pub returns-in-Ok-clause-reads : goal.returns-in-Ok-clause-reads
-returns-in-Ok-clause-reads g c l told records given r =
-    let here = fields_of c.next_record.new.held in
-    let source = (c.in-Ok-true.ensures.more c.in-Ok-true.field-0-test told records r.source).0 in
-    let counted = c.in-Ok-true.ensures.counted c.in-Ok-true.field-0-test in
-    let new : TableReader _ = record c.args.self.now { reader = c.next_record.new.reader; held = c.next_record.new.held; ended = c.next_record.new.ended; number = c.next_record.new.number; rows = c.read_row.new.self } in
-    reads_by l g.R.Read.remaining told records given c.read_row.new.flat new c.in-Ok.more
-    (λ on. (here, reads_more l g.R.Read.remaining told records given c.args.flat.now c.read_row.new.flat here c.args.self.now new r source counted.0 counted.1 c.read_row.ensures.limits refl (c.in-Ok.ensures.more on)))
-    (λ over. (let (ends, same) = c.in-Ok.ensures.root over in
-    subst (λ fl. GivesNext l g.R.Read.remaining told records given fl new) (sym same) (reads_next l g.R.Read.remaining told records given c.args.flat.now here c.args.self.now new r source counted.0 counted.1 c.read_row.ensures.limits refl (c.in-Ok-true.ensures.going c.in-Ok-true.field-0-test) ends)))
+pub returns-in-Err : goal.returns-in-Err
+returns-in-Err g c = record {
+  reads = λ l told records given r. (no_record l told records given (given ++ r.geometry ∷ []) c.args.self.now.number c.in-Err.fault r.named (sym (all_but_last-last given r.geometry)) r.count
+      (elim c.in-Err.ensures.fault [ inl source ↦ inl source | inr many ↦ inr (many.0, many.1, many.2 told records r.source) ]));
+  keeps = search rules;
+  counts = search rules;
+  some = search rules;
+  fresh = missed_fresh g.R.Read.remaining c.args.self.now.ended c.args.self.now.reader c.args.self.now.number c.in-Err.fault c.in-Err.ensures.fault;
+  same = refl;
+}
 
-pub returns-in-Err-read_row-clause-reads : goal.returns-in-Err-read_row-clause-reads
-returns-in-Err-read_row-clause-reads g c l told records given r =
-    let here = fields_of c.next_record.new.held in
-    let source = (c.in-Ok-true.ensures.more c.in-Ok-true.field-0-test told records r.source).0 in
-    let number = (c.in-Ok-true.ensures.counted c.in-Ok-true.field-0-test).0 in
-    let refused = c.in-Err-read_row.ensures.refused in
-    rw c.fault_at.ensures.value (explained l told records given c.next_record.new.number c.in-Err-read_row.stop
-    (if_refused _ _ c.in-Err-read_row.stop (λ reason j. reads_refused l g.R.Read.remaining told records given c.args.flat.now here c.args.self.now (record c.args.self.now { reader = c.next_record.new.reader; held = c.next_record.new.held; ended = c.next_record.new.ended; number = c.next_record.new.number }) reason r source number c.read_row.ensures.sound j) refused))
+pub returns-in-Ok : goal.returns-in-Ok
+returns-in-Ok g c = record {
+  reads = λ l told records given r. (let here = fields_of c.next_record.new.held in
+      let source = (c.in-Ok-true.ensures.more c.in-Ok-true.field-0-test told records r.source).0 in
+      let counted = c.in-Ok-true.ensures.counted c.in-Ok-true.field-0-test in
+      let new : TableReader _ = record c.args.self.now { reader = c.next_record.new.reader; held = c.next_record.new.held; ended = c.next_record.new.ended; number = c.next_record.new.number; rows = c.read_row.new.self } in
+      reads_by l g.R.Read.remaining told records given c.read_row.new.flat new c.in-Ok.more
+      (λ on. (here, reads_more l g.R.Read.remaining told records given c.args.flat.now c.read_row.new.flat here c.args.self.now new r source counted.0 counted.1 c.read_row.ensures.limits refl (c.in-Ok.ensures.more on)))
+      (λ over. (let (ends, same) = c.in-Ok.ensures.root over in
+      subst (λ fl. GivesNext l g.R.Read.remaining told records given fl new) (sym same) (reads_next l g.R.Read.remaining told records given c.args.flat.now here c.args.self.now new r source counted.0 counted.1 c.read_row.ensures.limits refl (c.in-Ok-true.ensures.going c.in-Ok-true.field-0-test) ends))));
+  keeps = λ on. (c.in-Ok.ensures.more on).keeps;
+  counts = λ on. c.in-Ok-true.ensures.counted c.in-Ok-true.field-0-test;
+  some = some_row c.in-Ok.more c.args.flat.now c.read_row.new.flat c.requires.keeps.some (λ on. (c.in-Ok.ensures.more on).keeps.some) (λ over. (c.in-Ok.ensures.root over).1);
+  fresh = search rules;
+  same = refl;
+}
 
-pub returns-in-Ok-false-clause-reads : goal.returns-in-Ok-false-clause-reads
-returns-in-Ok-false-clause-reads g c l told records given r =
-    let end = c.in-Ok-false.ensures.end c.in-Ok-false.field-0-test in
-    let over = c.in-Ok-false.ensures.ended (ap Ok c.in-Ok-false.field-0-test) in
-    reads_end l g.R.Read.remaining told records given c.args.flat.now c.args.self.now (record c.args.self.now { reader = c.next_record.new.reader; held = c.next_record.new.held; ended = c.next_record.new.ended; number = c.next_record.new.number }) r (end told records r.source).0 over (c.in-Ok-false.ensures.uncounted c.in-Ok-false.field-0-test) refl refl c.requires.keeps.none
-
-pub returns-in-Ok-false-clause-keeps : goal.returns-in-Ok-false-clause-keeps
-returns-in-Ok-false-clause-keeps g c on = absurd (false≢true on)
-
-pub returns-in-Ok-false-clause-counts : goal.returns-in-Ok-false-clause-counts
-returns-in-Ok-false-clause-counts g c on = absurd (false≢true on)
-
-pub returns-in-Ok-false-clause-some : goal.returns-in-Ok-false-clause-some
-returns-in-Ok-false-clause-some g c = c.requires.keeps.some
-
-pub returns-in-Ok-false-clause-same : goal.returns-in-Ok-false-clause-same
-returns-in-Ok-false-clause-same g c = refl
-
-pub returns-in-Err-clause-fresh : goal.returns-in-Err-clause-fresh
-returns-in-Err-clause-fresh g c = missed_fresh g.R.Read.remaining c.args.self.now.ended c.args.self.now.reader c.args.self.now.number c.in-Err.fault c.in-Err.ensures.fault
-
-pub returns-in-Err-clause-same : goal.returns-in-Err-clause-same
-returns-in-Err-clause-same g c = refl
-
-pub returns-in-Ok-clause-keeps : goal.returns-in-Ok-clause-keeps
-returns-in-Ok-clause-keeps g c on = (c.in-Ok.ensures.more on).keeps
-
-pub returns-in-Ok-clause-counts : goal.returns-in-Ok-clause-counts
-returns-in-Ok-clause-counts g c on = c.in-Ok-true.ensures.counted c.in-Ok-true.field-0-test
-
-pub returns-in-Ok-clause-some : goal.returns-in-Ok-clause-some
-returns-in-Ok-clause-some g c = some_row c.in-Ok.more c.args.flat.now c.read_row.new.flat c.requires.keeps.some (λ on. (c.in-Ok.ensures.more on).keeps.some) (λ over. (c.in-Ok.ensures.root over).1)
-
-pub returns-in-Ok-clause-same : goal.returns-in-Ok-clause-same
-returns-in-Ok-clause-same g c = refl
-
-pub returns-in-Err-read_row-clause-fresh : goal.returns-in-Err-read_row-clause-fresh
-returns-in-Err-read_row-clause-fresh g c e = fault_fresh c.next_record.new.number c.in-Err-read_row.stop (sym c.fault_at.ensures.value ∙ e)
-
-pub returns-in-Err-read_row-clause-same : goal.returns-in-Err-read_row-clause-same
-returns-in-Err-read_row-clause-same g c = refl
+pub returns-in-Err-read_row : goal.returns-in-Err-read_row
+returns-in-Err-read_row g c = record {
+  reads = λ l told records given r. (let here = fields_of c.next_record.new.held in
+      let source = (c.in-Ok-true.ensures.more c.in-Ok-true.field-0-test told records r.source).0 in
+      let number = (c.in-Ok-true.ensures.counted c.in-Ok-true.field-0-test).0 in
+      let refused = c.in-Err-read_row.ensures.refused in
+      rw c.fault_at.ensures.value (explained l told records given c.next_record.new.number c.in-Err-read_row.stop
+      (if_refused _ _ c.in-Err-read_row.stop (λ reason j. reads_refused l g.R.Read.remaining told records given c.args.flat.now here c.args.self.now (record c.args.self.now { reader = c.next_record.new.reader; held = c.next_record.new.held; ended = c.next_record.new.ended; number = c.next_record.new.number }) reason r source number c.read_row.ensures.sound j) refused)));
+  keeps = search rules;
+  counts = search rules;
+  some = search rules;
+  fresh = λ e. fault_fresh c.next_record.new.number c.in-Err-read_row.stop (sym c.fault_at.ensures.value ∙ e);
+  same = refl;
+}
