@@ -105,12 +105,34 @@ fn send_blobs<R: Read, W: Write>(
     ensures err { IfErr result (λ stop. CutText (blobs_text what) W.contents reader.old output.old reader.new output.new stop) }
     ensures stops { IfErr result (λ stop. StopsRead reader.old stop.why reader.new) }
 {
-    twkb_grammar::laws::some_byte();
     let mut session = Session::new(alloc, limits);
     let mut room = TextRoom::new(alloc);
+    send_each(what, alloc, reader, &mut session, &mut room, output)
+}
+
+// The same through a session that is ready. It and the room are kept from one blob to the next.
+fn send_each<R: Read, W: Write>(
+    what: Listing,
+    alloc: Global,
+    reader: &mut Reader<'_, R>,
+    session: &mut Session,
+    room: &mut TextRoom,
+    output: &mut Output<'_, W>,
+) -> Result<u64, Unfinished<StreamObstacle>>
+    requires reader { is_spent reader.old ≡ false }
+    requires going_on { has_ended reader.old ≡ false }
+    requires input { is_input_spent reader.old ≡ false }
+    requires session { IsReady what reader.old session.old }
+    requires output { Outputs.is_spent output.old ≡ false }
+    ensures ok { IfOk result (λ done. SentText (blobs_text what) W.contents reader.old output.old output.new done) }
+    ensures unfailed { IfOk result (λ done. Follows reader.old reader.new false × IsEnded R.remaining reader.old reader.new) }
+    ensures err { IfErr result (λ stop. CutText (blobs_text what) W.contents reader.old output.old reader.new output.new stop) }
+    ensures stops { IfErr result (λ stop. StopsRead reader.old stop.why reader.new) }
+{
+    twkb_grammar::laws::some_byte();
     let mut done = 0;
     loop {
-        match send_blob(what, alloc, reader, &mut session, &mut room, output) {
+        match send_blob(what, alloc, reader, session, room, output) {
             Ok(true) => done += 1,
             Ok(false) => return Ok(done),
             Err(why) => return Err(Unfinished { done, why }),

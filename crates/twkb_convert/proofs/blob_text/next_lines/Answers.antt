@@ -3,16 +3,52 @@ use Rattle.twkb_convert.proofs.BlobTexts.{follows_stop, lines_given, text_stoppe
 use Rattle.twkb_convert.proofs.SessionLemmas.{ended_blobs}
 use Rattle.twkb_convert.proofs.blob_text.next_lines.Goals as goal
 
-pub returns-clause-more : goal.returns-clause-more
-returns-clause-more g c = λ found.
-    lines_given c.args.reader.now c.next_spans.new.self c.in-Ok-true.field-0 c.next_spans.new.flat c.next_spans.new.spans c.put_lines.new.text.items (c.in-Ok-true.ensures.next c.requires.reader c.requires.going_on) (search rules) (search rules)
+pub returns-in-Ok-false : goal.returns-in-Ok-false
+returns-in-Ok-false g c = record {
+  more = search rules;
+  fresh = search rules;
+  going_on = search rules;
+  input = search rules;
+  end = (λ none.
+      ended_blobs c.args.reader.now c.next_spans.new.self [] (rw c.in-Ok-false.field-0-test at (c.in-Ok-false.ensures.next c.requires.reader c.requires.going_on)));
+  follows = search rules;
+  err = tt;
+  stops = tt;
+}
 
-pub returns-in-Err-clause-err : goal.returns-in-Err-clause-err
-returns-in-Err-clause-err g c = text_stopped c.args.reader.now c.next_spans.new.self c.in-Err.fault (c.in-Err.ensures.next c.requires.reader c.requires.going_on) c.requires.input
+pub returns-in-Err : goal.returns-in-Err
+returns-in-Err g c = record {
+  more = tt;
+  fresh = tt;
+  going_on = tt;
+  input = tt;
+  end = tt;
+  follows = tt;
+  err = text_stopped c.args.reader.now c.next_spans.new.self c.in-Err.fault (c.in-Err.ensures.next c.requires.reader c.requires.going_on) c.requires.input;
+  stops = follows_stop c.args.reader.now c.next_spans.new.self Bool c.in-Err.fault c.next_spans.ensures.same_tap c.next_spans.ensures.limits c.in-Err.ensures.failures c.next_spans.new.self.input.within;
+}
 
-pub returns-in-Err-clause-stops : goal.returns-in-Err-clause-stops
-returns-in-Err-clause-stops g c = follows_stop c.args.reader.now c.next_spans.new.self Bool c.in-Err.fault c.next_spans.ensures.same_tap c.next_spans.ensures.limits c.in-Err.ensures.failures c.next_spans.new.self.input.within
+pub returns-then-is_err : goal.returns-then-is_err
+returns-then-is_err g c = record {
+  more = tt;
+  fresh = tt;
+  going_on = tt;
+  input = tt;
+  end = tt;
+  follows = tt;
+  err = search rules;
+  stops = search rules;
+}
 
-pub returns-in-Ok-false-clause-end : goal.returns-in-Ok-false-clause-end
-returns-in-Ok-false-clause-end g c = λ none.
-    ended_blobs c.args.reader.now c.next_spans.new.self [] (rw c.in-Ok-false.field-0-test at (c.in-Ok-false.ensures.next c.requires.reader c.requires.going_on))
+pub returns : goal.returns
+returns g c = record {
+  more = (λ found.
+      lines_given c.args.reader.now c.next_spans.new.self c.in-Ok-true.field-0 c.next_spans.new.flat c.next_spans.new.spans c.put_lines.new.text.items (c.in-Ok-true.ensures.next c.requires.reader c.requires.going_on) (search rules) (search rules));
+  fresh = search rules;
+  going_on = search rules;
+  input = search rules;
+  end = search rules;
+  follows = search rules;
+  err = tt;
+  stops = tt;
+}

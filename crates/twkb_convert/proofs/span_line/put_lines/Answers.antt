@@ -4,3 +4,6 @@ use Rattle.twkb_convert.proofs.span_line.put_lines.Goals as goal
 
 pub returns : goal.returns
 returns c = grind (arith, common_steps)
+
+pub loop-span-preserved : goal.loop-span-preserved
+loop-span-preserved c = grind (arith, common_steps)

@@ -3,7 +3,7 @@ use Rattle.twkb_io.specs.Outputs as Outputs
 use Rattle.twkb_blob.specs.Readers.{has_ended, is_spent}
 use Rattle.twkb_convert.specs.BlobReading.{given, is_input_spent}
 use Rattle.twkb_convert.specs.BlobSending.{Follows, IsReady, SentBlobs}
-use Rattle.twkb_convert.proofs.blob_sending.send_blobs.Given as goal
+use Rattle.twkb_convert.proofs.blob_sending.send_each.Given as goal
 
 -- the texts of the blobs so far were sent, and nothing was refused
 abbrev pub invariant-loop-done : goal.invariant-loop-done
