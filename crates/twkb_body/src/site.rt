@@ -100,7 +100,6 @@ fn row_kind(kind: GeometryType) -> Kind
 }
 
 /// A geometry's own row, without points. Takes no memory.
-#[inline(always)]
 pub fn whole_row(head: Head, kind: GeometryType) -> Row
     ensures { row_with result [] ≡ own_of head.depth head.id (kind_of kind) head.precision }
 {
@@ -113,7 +112,6 @@ pub fn whole_row(head: Head, kind: GeometryType) -> Row
 }
 
 // A row of a geometry's part.
-#[inline(always)]
 fn part_row(depth: u32, kind: Kind, id: Option<i64>) -> Row
     ensures { row_with result [] ≡ plain_row depth kind id [] }
 {
@@ -126,7 +124,6 @@ fn part_row(depth: u32, kind: Kind, id: Option<i64>) -> Row
 }
 
 // The row of a list of points that begins.
-#[inline(always)]
 pub(crate) fn line_row(head: Head, form: Form, member: Option<i64>) -> Row
     ensures { row_with result [] ≡ list_row head.depth head.id head.precision (form_of form) member 0 }
 {
@@ -139,7 +136,6 @@ pub(crate) fn line_row(head: Head, form: Form, member: Option<i64>) -> Row
 }
 
 // The row of a list of lines or rings that begins.
-#[inline(always)]
 pub(crate) fn area_row(head: Head, form: Form, member: Option<i64>) -> Row
     ensures { row_with result [] ≡ list_row head.depth head.id head.precision (form_of form) member 1 }
 {
