@@ -16,7 +16,7 @@ use Rattle.twkb_table.specs.CsvRecords.{AreRecordsOf, BeginWith, standing}
 use Rattle.twkb_table.specs.Numbering.{MissesRecord, fault_of}
 use Rattle.twkb_table.specs.Standing.{IfRefused}
 use Rattle.twkb_table.specs.RowReading.{limits_of, waiting}
-use Rattle.twkb_table.specs.TableReading.{HaveGiven, StandsAfter, Gives, GivesGeometry, Ends, Extends, GivesNext, GivesTree, MeetsEnd, IsRefusedAt, Explains, IsReading, HasHeader, BeginsNext, ReadsRoot, ReadsOn, HasRead, is_ended, is_spent}
+use Rattle.twkb_table.specs.TableReading.{HaveGiven, StandsAfter, GivesGeometry, Ends, Extends, GivesNext, GivesTree, MeetsEnd, IsRefusedAt, Explains, IsReading, HasHeader, BeginsNext, ReadsRoot, ReadsOn, HasRead, is_ended, is_spent}
 use Rattle.twkb_table.specs.declared.judging.JudgeFault.{JudgeFault}
 use Rattle.twkb_table.specs.declared.judging.JudgeFault.TheVariants.{Memory, Refused}
 use Rattle.twkb_table.specs.declared.reason.RowReason.TheVariants.{BadHeader}

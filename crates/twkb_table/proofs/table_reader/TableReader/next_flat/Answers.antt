@@ -1,4 +1,4 @@
-use Rattle.std.proofs.Common.{◌∙◌, Ok, refl, sym, inl, inr}
+use Rattle.std.proofs.Common.{◌∙◌, refl, sym, inl, inr}
 use Rattle.std.proofs.lemmas.Bool.{false≢true, true≢false}
 use Rattle.twkb_table.proofs.TableCalls.{given_or_none, goes_on, not_spent}
 use Rattle.twkb_table.proofs.TableSteps.{over_meets}
