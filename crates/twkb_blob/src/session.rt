@@ -166,8 +166,8 @@ impl Session {
         }
     }
 
-    // Takes a piece, up to where a stream may have no further byte. A frame of its own, which a single byte does without.
-    #[inline(never)]
+    // Takes a piece, up to where a stream may have no further byte.
+    #[inline(always)]
     fn feed_piece(&mut self, piece: &[u8]) -> Result<(usize, bool), BlobFault>
         requires live { self.old.spent ≡ false }
         ensures fed { (bytes : List ℕ) (gs : List Tree) → Stands bytes gs self.old → FedFlat bytes gs piece.now result self.new }
