@@ -24,6 +24,7 @@ fn take_root(engine: &Engine, flat: &mut Flat, piece: &[u8]) -> Result<Option<us
 }
 
 // Gives bytes to an engine, which its `feed` takes; a blob that is a single point leaves it as it was. Takes memory as `feed` does.
+#[inline(always)]
 pub(crate) fn feed(
     engine: &mut Engine,
     flat: &mut Flat,
