@@ -2,10 +2,9 @@
 # Times a part of the workspace against a plain loop over the same data (bench/baseline/; wants rustc):
 #
 #   compare.sh reading [MB [ROUNDS]]
-#                             canonical streams of five kinds of tables (bench/plain; wants cargo too): by a reader of rows, by
-#                             one that reads them through a session, by one of trees, by a session that is fed whole pieces, by one
-#                             that is fed byte by byte, by a reader of rows whose rows are printed, and by `unpack` and `show` whole;
-#                             the memory of 10,000 sessions in the middle of a line
+#                             canonical streams of five kinds of tables (bench/plain; wants cargo too): by a reader of rows, by one of
+#                             trees, by a session that is fed whole pieces, by one that is fed byte by byte, by a reader of rows whose
+#                             rows are printed, and by `unpack` and `show` whole; the memory of 10,000 sessions in the middle of a line
 #   compare.sh rows [MB [ROUNDS]]
 #                             the same streams, by a program that reads rows and does nothing else
 #   compare.sh through [MB [ROUNDS]]

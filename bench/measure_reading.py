@@ -4,9 +4,9 @@ import subprocess
 import sys
 
 MEGABYTE = 1_000_000
-WAYS = ("rows", "through", "reader", "whole", "bytes", "text", "unpack", "show")
+WAYS = ("rows", "reader", "whole", "bytes", "text", "unpack", "show")
 LOOPS = ("read", "keep")
-TELLING = ("rows", "through", "reader", "whole", "bytes", "text")
+TELLING = ("rows", "reader", "whole", "bytes", "text")
 KINDS = ("points", "lines", "multipolygons", "multipoints", "collections")
 
 
