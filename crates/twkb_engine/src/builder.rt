@@ -21,7 +21,6 @@ use crate::members::{next, past_end};
 use crate::phase::{Groups, Many, Optional, Phase};
 use crate::rooms::Rooms;
 use crate::stop::Stop;
-use smallvec::SmallVec;
 use std::alloc::Global;
 use twkb_body::{GeometryType, Head, Spot, push_row, whole_row};
 use twkb_flat::Flat;
@@ -69,7 +68,7 @@ impl Builder {
             position: origin(),
             nodes: 1,
             points: 0,
-            groups: SmallVec::new(alloc),
+            groups: Vec::new(alloc),
             rooms: Rooms::new(alloc),
             phase: Phase::Header,
         }

@@ -3,9 +3,6 @@ ghost use Rattle.std.specs.Prelude.{◌≡◌, true, false};
 ghost use Rattle.twkb_engine.specs.State.{IsSpelled, IsByte};
 
 use crate::typed::Typed;
-use smallvec::SmallVec;
-use std::alloc::Global;
-use std::default::MadeWith;
 use twkb_body::{Body, GeometryType, Head, Names};
 
 // What the count of a geometry with members counts.
@@ -40,28 +37,8 @@ pub(crate) struct Group {
 // More collections than can be open.
 pub(crate) const DEEPEST: usize = 64;
 
-// How many open collections take no memory of their own.
-pub(crate) const INLINE: usize = 1;
-
 // The open collections, the innermost last.
-pub(crate) type Groups = SmallVec<Group, INLINE>;
-
-impl MadeWith<Global> for Group {
-    fn made_with(alloc: Global) -> Group {
-        Group {
-            head: Head {
-                precision: 0,
-                metadata: 0,
-                size: None,
-                from: 0,
-                depth: 0,
-                id: None,
-            },
-            names: Names::new(false, Vec::new(alloc)),
-            left: 0,
-        }
-    }
-}
+pub(crate) type Groups = Vec<Group>;
 
 // What comes next.
 #[derive(Drop)]

@@ -1,4 +1,4 @@
-use Rattle.std.proofs.Common.{◌-◌, ◌∙◌, sym, ap, get_or, List, [], arith}
+use Rattle.std.proofs.Common.{◌-◌, ◌∙◌, sym, ap, [], arith}
 use Rattle.twkb_tree.specs.Rows.{first_id}
 use Rattle.twkb_body.specs.Names.{ids_of}
 use Rattle.twkb_engine.specs.declared.phase.Group.{Group}
@@ -8,5 +8,5 @@ use Rattle.twkb_engine.proofs.header.id_within.Goals as goal
 pub returns : goal.returns
 returns c =
     c.next.ensures
-    ∙ (ap (λ (gs : List Group). first_id (ids_of (get_or gs (c.len-depth.result - 1) c.index-deref-depth.result).names)) c.deref.ensures
-    ∙ sym (last_id [] c.args.groups.now.items (c.len-depth.result - 1) _ (omega (arith, c.len-depth.ensures.value, c.if-depth-eq0.false))))
+    ∙ (ap (λ (g : Group). first_id (ids_of g.names)) c.index.ensures
+    ∙ sym (last_id [] c.args.groups.now.items (c.len-depth.result - 1) _ (omega (arith, c.len-depth.ensures, c.args.groups.now.ok.0, c.if-depth-eq0.false))))
