@@ -246,7 +246,6 @@ impl Builder {
         }
         let ended = next(
             flat,
-            self.alloc,
             &mut self.groups,
             &mut self.rooms,
             &mut self.phase,
