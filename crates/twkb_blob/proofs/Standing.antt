@@ -1,5 +1,5 @@
 -- A session goes on, gives a geometry, refuses or ends.
-use Rattle.std.proofs.Common.{◌≡◌, ℕ, zero, suc, ◌+◌, ◌-◌, ◌<◌, ◌≤◌, ◌^◌, inl, inr, List, [], ◌∷◌, ◌++◌, length, take, refl, sym, ap, ◌∙◌, subst, append_assoc, length-append, Bool, true, false, Some, Ok, Err, arith}
+use Rattle.std.proofs.Common.{◌≡◌, ℕ, zero, suc, ◌+◌, ◌-◌, ◌<◌, ◌≤◌, ◌^◌, inl, inr, List, [], ◌∷◌, ◌++◌, length, take, refl, sym, ap, ◌∙◌, subst, append_assoc, length-append, Bool, true, false, Option, Some, None, IfSome, Ok, Err, arith}
 use Rattle.std.proofs.lemmas.List.{append-nil, append_cancel_left, length-take-le}
 use Rattle.std.specs.Prelude.{if◌then◌else◌}
 use Rattle.twkb_tree.specs.Tree.{Tree}
@@ -24,7 +24,7 @@ use Rattle.twkb_blob.specs.Faults.{fault_of}
 use Rattle.twkb_blob.specs.Sessions.{Stands, PartAt, FedSession, FedFlat, AreBegun, IsTooLong, begun_rows, session_limits, session_rows}
 use Rattle.twkb_blob.specs.declared.session.Session.{Session}
 use Rattle.twkb_blob.specs.declared.fault.BlobFault.TheVariants as fault
-use Rattle.twkb_blob.proofs.Trees.{TreeLaw, last_tree, tree_made}
+use Rattle.twkb_blob.proofs.Trees.{TreeLaw, last_tree, tree_made, not_none}
 
 -- the law that says how many bytes were taken
 abbrev pub OffsetLaw : Type 0
@@ -190,6 +190,12 @@ pub gave_tree : TreeLaw → (bytes : List ℕ) (gs : List Tree) (piece : List �
     → FedSession bytes gs piece (Ok (used, Some h)) new
 gave_tree law bytes gs piece new used h (g, fed, is) made valid =
     subst (λ t. FedSession bytes gs piece (Ok (used, Some t)) new) (tree_made law (session_rows new) g h (last_tree (session_limits new) (bytes ++ take used piece) gs g fed.2) is made valid) fed
+
+-- and so there is one
+pub gave_found : TreeLaw → (bytes : List ℕ) (gs : List Tree) (piece : List ℕ) (new : Session) (used : ℕ) (found : Option Tree) → FedFlat bytes gs piece (Ok (used, true)) new → (found ≡ None → session_rows new ≡ []) → IfSome found (λ h. rows 0 h ≡ session_rows new)
+    → IfSome found (λ h. IsValid largest_limits h) → FedSession bytes gs piece (Ok (used, found)) new
+gave_found law bytes gs piece new used None (g, fed, is) none made valid = absurd (not_none (session_rows new) g is (none refl))
+gave_found law bytes gs piece new used (Some h) fed none made valid = gave_tree law bytes gs piece new used h fed made valid
 
 -- there is no memory for that tree
 pub no_tree : (bytes : List ℕ) (gs : List Tree) (piece : List ℕ) (old new : Session) (used : ℕ) → Stands bytes gs old → session_limits new ≡ session_limits old → FedFlat bytes gs piece (Ok (used, true)) new → PartAt (session_limits new) bytes gs piece

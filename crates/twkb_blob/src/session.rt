@@ -1,5 +1,5 @@
 //! A stream of blobs that comes in pieces.
-ghost use Rattle.std.specs.Prelude.{◌≡◌, ◌<◌, ◌≤◌, ◌^◌, ◌↔◌, ◌+◌, [], List, ℕ, true, false, Ok, Err, None, is_err, length, IfOk, IfSome};
+ghost use Rattle.std.specs.Prelude.{◌≡◌, ◌<◌, ◌≤◌, ◌^◌, ◌↔◌, ◌+◌, [], List, ℕ, true, false, Ok, Err, None, is_err, length, IfOk, IfErr, IfSome};
 ghost use Rattle.twkb_tree.specs.Tree.{Tree};
 ghost use Rattle.twkb_tree.specs.Rows.{rows};
 ghost use Rattle.twkb_tree.specs.Limits.{IsValid, largest_limits};
@@ -27,6 +27,22 @@ pub struct Session {
     spent: bool,
     ghost start_few: { start ≤ 2 ^ 62 },
     ghost taken_few: { count_of engine ≤ 2 ^ 62 },
+}
+
+// What a feed answers where no geometry ends behind so many bytes. Made in a call of its own, it is written where it is wanted, with no copy.
+#[inline(always)]
+fn none_behind(used: usize) -> Result<(usize, Option<Geometry>), BlobFault>
+    ensures { result ≡ Ok (used, None) }
+{
+    Ok((used, None))
+}
+
+// The same of a fault.
+#[inline(always)]
+fn refused(fault: BlobFault) -> Result<(usize, Option<Geometry>), BlobFault>
+    ensures { result ≡ Err fault }
+{
+    Err(fault)
 }
 
 impl Session {
@@ -58,21 +74,31 @@ impl Session {
         ensures stays { is_spent self.new ≡ is_err result }
         ensures limits { session_limits self.new ≡ session_limits self.old }
     {
-        twkb_tree::laws::one_reading();
         let used = match self.feed_flat(piece) {
             Ok((used, true)) => used,
-            Ok((used, false)) => return Ok((used, None)),
-            Err(fault) => return Err(fault),
+            Ok((used, false)) => return none_behind(used),
+            Err(fault) => return refused(fault),
         };
-        match self.tree() {
-            Ok(Some(geometry)) => Ok((used, Some(geometry))),
-            // a geometry has rows: no session that stands for a stream comes here
-            Ok(None) => Ok((used, None)),
-            Err(_) => {
-                self.give_up();
-                Err(BlobFault::Memory)
-            }
-        }
+        self.give_tree(used)
+    }
+
+    // What a feed answers behind so many bytes with which a geometry ended. In the frame of `feed`, but with places of its own for what it
+    // moves: those of `feed` would be cleared for each byte.
+    #[inline(always)]
+    fn give_tree(&mut self, used: usize) -> Result<(usize, Option<Geometry>), BlobFault>
+        requires live { self.old.spent ≡ false }
+        ensures fed { (bytes : List ℕ) (gs : List Tree) (piece : List ℕ) (first : Session) → Stands bytes gs first → session_limits self.old ≡ session_limits first → FedFlat bytes gs piece (Ok (used, true)) self.old → FedSession bytes gs piece result self.new }
+        ensures memory { IfErr result (λ fault. fault ≡ BlobFault.Memory) }
+        ensures stays { is_spent self.new ≡ is_err result }
+        ensures limits { session_limits self.new ≡ session_limits self.old }
+    {
+        twkb_tree::laws::one_reading();
+        let Ok(found) = self.tree() else {
+            self.give_up();
+            return refused(BlobFault::Memory);
+        };
+        // a geometry has rows: where a session stands for a stream there is a tree
+        Ok((used, found))
     }
 
     // The tree of the rows in the form, if there are any.

@@ -35,6 +35,11 @@ TakesNumber h n to b rs (Ok true) c more = (more ≡ applied (change_by to h b) 
 TakesNumber h n to b rs (Ok false) c more = (c ≡ b) × (more ≡ rs) × (BodyFits b → step_behind h n b ≡ OnEnd (head_of h))
 TakesNumber h n to b rs (Err e) c more = BodyFits b → IsPastEnds (step_behind h n b)
 
+-- the same of a call that may leave the number
+abbrev pub GoesOn : {E : Type 0} → Head → (n : ℕ) → Point → Body → List Row → Result Bool E → Body → List Row → Type 0
+GoesOn h n to b rs (Ok false) c more = ⊤
+GoesOn h n to b rs r c more = TakesNumber h n to b rs r c more
+
 -- a point is wanted, and others are left behind it in its list
 abbrev pub HasRun : Spot → Type 0
 HasRun (Wanted zero (suc left ∷ lefts)) = ⊤

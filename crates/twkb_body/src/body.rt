@@ -1,5 +1,5 @@
 //! A body that is read into a flat form.
-ghost use Rattle.std.specs.Prelude.{◌≡◌, ℕ, OnOk, true};
+ghost use Rattle.std.specs.Prelude.{◌≡◌, ℕ, OnOk, Ok, true, false};
 ghost use Rattle.twkb_tree.specs.Tree.{Ids};
 ghost use Rattle.twkb_grammar.specs.Machine as machine;
 ghost use Rattle.twkb_grammar.specs.Machine.{depth_of};
@@ -13,6 +13,7 @@ use crate::form::Form;
 use crate::head::Head;
 use crate::lefts::{After, Lefts, Spot, open_area, open_line, part, shut_point};
 use crate::names::Names;
+use crate::runs::has_lists;
 use crate::site::{area_row, line_row, push_row, put_point};
 use std::alloc::AllocError;
 use twkb_flat::Flat;
@@ -30,7 +31,8 @@ pub struct Body {
 }
 
 impl Body {
-    ghost use Rattle.twkb_body.specs.Steps.{change_by, TakesNumber};
+    ghost use Rattle.twkb_body.specs.Steps.{change_by, TakesNumber, GoesOn};
+    ghost use Rattle.twkb_body.specs.declared.head.Head as place;
 
     /// Whether it ends with its next number. Takes no memory.
     #[inline]
@@ -107,6 +109,34 @@ impl Body {
             return Err(refused);
         }
         self.go_to(spot, after.next_member);
+        Ok(true)
+    }
+
+    /// Takes the next number, a coordinate that leads to this position, where few steps tell that the body goes on behind it: an x, or the y of a
+    /// point of a list with others behind it; answers whether it did, and else changes nothing. A point takes memory.
+    #[inline(always)]
+    pub fn take_coordinate(&mut self, flat: &mut Flat, position: Pt) -> Result<bool, AllocError>
+        ensures goes_on { (head : place.Head) (number : ℕ) → GoesOn head number position self.old flat.old result self.new flat.new }
+        ensures same { result ≡ Ok false → (self.new ≡ self.old) × (flat.new ≡ flat.old) }
+    {
+        if let Spot::X(lefts) = self.spot {
+            self.spot = Spot::Y(lefts);
+            return Ok(true);
+        }
+        let Spot::Y(lefts) = self.spot else {
+            return Ok(false);
+        };
+        if !has_lists(self.form) || !flat.takes_point() {
+            return Ok(false);
+        }
+        let after = shut_point(lefts);
+        let Some(Spot::X(further)) = after.spot else {
+            return Ok(false);
+        };
+        if let Err(refused) = flat.add_point(position) {
+            return Err(refused);
+        }
+        self.go_to(Spot::X(further), after.next_member);
         Ok(true)
     }
 }

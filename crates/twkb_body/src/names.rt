@@ -1,5 +1,5 @@
 //! The ids of the members of a body.
-ghost use Rattle.std.specs.Prelude.{◌≡◌, if◌then◌else◌, Some, None};
+ghost use Rattle.std.specs.Prelude.{◌≡◌, ◌↔◌, if◌then◌else◌, Some, None, IsSome};
 ghost use Rattle.twkb_tree.specs.Rows.{first_id, other_ids};
 
 use std::alloc::Global;
@@ -41,7 +41,8 @@ impl Names {
     /// Takes the list of ids away, if there is one: from then on no member has an id. Takes no memory.
     #[inline]
     pub fn take_list(&mut self, alloc: Global) -> Option<Vec<i64>>
-        ensures { ids_of self.new ≡ None }
+        ensures none_left { ids_of self.new ≡ None }
+        ensures given { IsSome result ↔ IsSome (ids_of self.old) }
     {
         if !self.named {
             return None;

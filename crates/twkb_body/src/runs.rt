@@ -70,18 +70,28 @@ fn kept_of(lists: Lefts) -> u64
     }
 }
 
+// Whether a form has its points in lists, each of them in a row.
+pub(crate) fn has_lists(form: Form) -> bool
+    ensures { result ≡ true → HasLists (form_of form) }
+{
+    match form {
+        Form::Point | Form::MultiPoint => false,
+        Form::Line | Form::Polygon | Form::MultiLine | Form::MultiPolygon => true,
+    }
+}
+
 // Whether the next point of the innermost list comes to the last row: each list is in a row, and the ids stay where it begins.
 fn keeps_row(body: &Body, lefts: Lefts) -> bool
     ensures lists { result ≡ true → HasLists (form_of body.now.form) }
     ensures ids { result ≡ true → next_ids (outer (lefts_of lefts)) (ids_of body.now.names) ≡ ids_of body.now.names }
 {
-    match body.form {
-        Form::Point | Form::MultiPoint => false,
-        Form::Line | Form::Polygon | Form::MultiLine | Form::MultiPolygon => match lefts {
-            Lefts::Empty => false,
-            Lefts::One(_) => !body.names.named,
-            Lefts::Two(_, _) | Lefts::Three(_, _, _) => true,
-        },
+    if !has_lists(body.form) {
+        return false;
+    }
+    match lefts {
+        Lefts::Empty => false,
+        Lefts::One(_) => !body.names.named,
+        Lefts::Two(_, _) | Lefts::Three(_, _, _) => true,
     }
 }
 

@@ -19,7 +19,7 @@ use Rattle.twkb_outline.specs.Parts.{IsJudged, IsPastEnds}
 use Rattle.twkb_body.specs.Steps.{BodyFits, step_behind}
 use Rattle.twkb_engine.specs.State.{groups_of, step_of, IsPlacedIn}
 use Rattle.twkb_engine.specs.Stops.{reason_of}
-use Rattle.twkb_engine.specs.Building.{sums_of, outline_in, refusal, objection_at, StandsBehind, IsAt, IsTaken, Says}
+use Rattle.twkb_engine.specs.Building.{sums_of, outline_in, refusal, objection_at, StandsBehind, IsAt, IsTaken, Says, Takes}
 use Rattle.twkb_body.specs.declared.head.Head as place
 use Rattle.twkb_engine.specs.declared.phase.Phase.TheVariants as phase
 use Rattle.twkb_body.specs.declared.body.Body.{Body}
@@ -143,3 +143,11 @@ item_refused front bytes rs more b new role n x s says gives objects same = λ r
 -- the bytes of an item say its number in its role, whichever that is
 pub says_in : (b : Builder) (bytes : List ℕ) (role : Role) (n : ℕ) → outline_role (sums_of b) (outline_in b) ≡ Some role → Gives role n bytes → Says b bytes n
 says_in b bytes role n says gives = λ r wanted. let same : Some role ≡ Some r = sym says ∙ wanted in subst (λ q. Gives q n bytes) (cc same) gives
+
+-- what few steps led on is taken so
+pub led_taken : (b c : Builder) (n count : ℕ) (rs more : List Row) → ((bytes : List ℕ) → Says b bytes n → length bytes ≡ count → RunsBehind b rs bytes c more) → Takes b n count rs (Ok false) more c
+led_taken b c n count rs more steps = λ front bytes role s says gives len. (steps bytes (says_in b bytes role n says gives) len front s).0
+
+-- and where there is no memory for it
+pub unled_taken : (b c : Builder) (n count : ℕ) (rs more : List Row) → ((bytes front : List ℕ) → Says b bytes n → StandsBehind front rs b → IsJudged b.limits (front ++ bytes)) → Takes b n count rs (Err Memory) more c
+unled_taken b c n count rs more steps = λ front bytes role s says gives len. steps bytes front (says_in b bytes role n says gives) s

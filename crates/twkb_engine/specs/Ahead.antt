@@ -1,5 +1,5 @@
 -- A builder behind items that stood whole in front, or that has no memory for one of them.
-use Rattle.std.specs.Prelude.{◌≡◌, ◌+◌, ◌<◌, ◌≤◌, ℕ, List, ◌++◌, length, take, Bool, true, false, Result, Ok, Err, IfOk, OnErr}
+use Rattle.std.specs.Prelude.{◌≡◌, ◌+◌, ◌<◌, ◌≤◌, ⊤, ℕ, List, ◌++◌, length, take, Bool, true, false, Result, Ok, Err, IfOk, OnErr}
 use Rattle.twkb_tree.specs.Rows.{Row}
 use Rattle.twkb_grammar.specs.Noting.{Notes}
 use Rattle.twkb_outline.specs.Outline.{begins}
@@ -11,6 +11,8 @@ use Rattle.twkb_body.specs.declared.head.Head.{Head}
 use Rattle.twkb_body.specs.declared.form.GeometryType.{GeometryType}
 use Rattle.twkb_engine.specs.State.{groups_of, step_of}
 use Rattle.twkb_engine.specs.Building.{StandsBehind, Says}
+use Rattle.twkb_engine.specs.declared.short.Short.{Short}
+use Rattle.twkb_engine.specs.declared.short.Short.TheVariants.{Taken, Left, NoMemory}
 use Rattle.twkb_engine.specs.declared.builder.Builder.{Builder}
 
 -- wherever it stands, the bytes lead it on, and make this of what was noted
@@ -69,3 +71,9 @@ abbrev pub StepsOn : {E : Type 0} → Builder → (n count : ℕ) → List Row �
 StepsOn b n count rs (Ok true) more c = (bytes : List ℕ) → Says b bytes n → length bytes ≡ count → RunsBehind b rs bytes c more
 StepsOn b n count rs (Ok false) more c = (c ≡ b) × (more ≡ rs)
 StepsOn b n count rs (Err e) more c = (bytes front : List ℕ) → Says b bytes n → StandsBehind front rs b → IsJudged b.limits (front ++ bytes)
+
+-- the same of few steps, by what came of them
+abbrev pub StepsShortly : Builder → (n count : ℕ) → List Row → Short → List Row → Builder → Type 0
+StepsShortly b n count rs Taken more c = StepsOn {E = ⊤} b n count rs (Ok true) more c
+StepsShortly b n count rs Left more c = StepsOn {E = ⊤} b n count rs (Ok false) more c
+StepsShortly b n count rs NoMemory more c = StepsOn {E = ⊤} b n count rs (Err tt) more c

@@ -245,7 +245,6 @@ impl Builder {
         }
         let ended = next(
             flat,
-            self.alloc,
             &mut self.groups,
             &mut self.rooms,
             &mut self.phase,

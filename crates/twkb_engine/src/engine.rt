@@ -9,6 +9,7 @@ use crate::awaited::Awaited;
 use crate::blob_reason::BlobReason;
 use crate::builder::Builder;
 use crate::phase::{Phase, wants_byte};
+use crate::short::Short;
 use crate::stop::Stop;
 use std::alloc::{AllocError, Global};
 use twkb_flat::Flat;
@@ -57,7 +58,11 @@ impl Engine {
         }
         match self.partial.step(byte) {
             Step::More => Ok(false),
-            Step::Done { value, .. } => self.builder.take_apart(flat, value, length),
+            Step::Done { value, .. } => match self.builder.take_coordinate(flat, value, length) {
+                Short::Taken => Ok(false),
+                Short::Left => self.builder.take_left(flat, value, length),
+                Short::NoMemory => Err(Stop::Memory),
+            },
             Step::TooLong => Err(Stop::Refused(BlobReason::BadVarint)),
             Step::BadUnit => Err(Stop::Refused(BlobReason::BadVarint)),
         }

@@ -12,6 +12,7 @@ mod metadata;
 mod numbers;
 mod phase;
 mod rooms;
+mod short;
 mod stop;
 mod typed;
 

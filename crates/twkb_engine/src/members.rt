@@ -109,7 +109,6 @@ fn next_id(
 // members, and whose row is still to come. It takes memory for a row, an id and a group, a count reserves nothing.
 pub(crate) fn next(
     flat: &mut Flat,
-    alloc: Global,
     groups: &mut Groups,
     rooms: &mut Rooms,
     phase: &mut Phase,
@@ -140,10 +139,10 @@ pub(crate) fn next(
                 };
                 return Ok(None);
             }
-            let names = Names::new(false, Vec::new(alloc));
+            let names = Names::new(false, Vec::new(rooms.alloc));
             begin_members(flat, groups, phase, many, Group { head, names, left })?;
         }
-        Phase::Id { .. } => next_id(flat, alloc, groups, phase, number)?,
+        Phase::Id { .. } => next_id(flat, rooms.alloc, groups, phase, number)?,
         _ => unreachable!(),
     }
     Ok(None)

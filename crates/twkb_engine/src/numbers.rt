@@ -1,9 +1,12 @@
 //! Numbers of a body, where it goes on with them, and ids: one by one, and many at a time where they stand whole in front.
-ghost use Rattle.std.specs.Prelude.{◌≡◌, ◌+◌, ◌≤◌, ◌<◌, ◌^◌, List, IfSome, Ok, None, true, length as length_of};
+ghost use Rattle.std.specs.Prelude.{◌≡◌, ◌+◌, ◌≤◌, ◌<◌, ◌^◌, ◌⊎◌, List, IfSome, Ok, None, true, length as length_of};
 ghost use Rattle.twkb_tree.specs.Rows.{Row};
+ghost use Rattle.twkb_engine.specs.State.{IsSpelled};
 
 use crate::builder::Builder;
 use crate::phase::Phase;
+use crate::short::Short;
+use crate::stop::Stop;
 use std::alloc::AllocError;
 use twkb_body::{Spot, take_ids};
 use twkb_flat::Flat;
@@ -19,9 +22,60 @@ fn in_run(phase: &Phase) -> bool {
     }
 }
 
+// Whether a number of a body comes next, but not its last.
+#[inline(always)]
+fn in_body(phase: &Phase) -> bool {
+    match phase {
+        Phase::Body(_, body) => !body.is_last(),
+        _ => false,
+    }
+}
+
 impl Builder {
-    ghost use Rattle.twkb_engine.specs.Building.{sums_of, outline_in, refusal, AreBehind, SaysNext};
-    ghost use Rattle.twkb_engine.specs.Ahead.{StepsOn, TakesAhead};
+    ghost use Rattle.twkb_engine.specs.Building.{sums_of, outline_in, refusal, AreBehind, SaysNext, Takes};
+    ghost use Rattle.twkb_engine.specs.Ahead.{StepsOn, StepsShortly, TakesAhead};
+
+    // Where the next number of a body leads, where that is a coordinate and nothing objects to it.
+    #[inline(always)]
+    fn coordinate(&self, number: u64) -> Option<Pt>
+        ensures free { IfSome result (λ to. refusal self.now.limits (sums_of self.now) (outline_in self.now) number ≡ None) }
+        ensures added { IfSome result (λ to. AreBehind self.now number to self.now.nodes self.now.points) }
+    {
+        let Phase::Body(_, body) = &self.phase else {
+            return None;
+        };
+        match body.spot {
+            Spot::X(_) => moved_x(self.position, unzigzag(number)),
+            Spot::Y(_) => moved_y(self.position, unzigzag(number)),
+            Spot::LineCount(_) | Spot::AreaCount(_) => None,
+        }
+    }
+
+    // Takes a coordinate that has so many bytes, where few steps tell that the body goes on behind it; else changes nothing. A point
+    // takes memory. A frame of its own, with an answer that fits a register.
+    #[inline(never)]
+    pub(crate) fn take_coordinate(&mut self, flat: &mut Flat, number: u64, length: u64) -> Short
+        requires room { self.old.bytes + length < 2 ^ 64 }
+        ensures limits { self.new.limits ≡ self.old.limits }
+        ensures few { self.new.bytes ≤ self.old.bytes + length }
+        ensures steps { StepsShortly self.old number length flat.old result flat.new self.new }
+    {
+        let Some(position) = self.coordinate(number) else {
+            return Short::Left;
+        };
+        let Phase::Body(_, body) = &mut self.phase else {
+            return Short::Left;
+        };
+        match body.take_coordinate(flat, position) {
+            Ok(true) => {
+                self.bytes += length;
+                self.position = position;
+                Short::Taken
+            }
+            Ok(false) => Short::Left,
+            Err(_) => Short::NoMemory,
+        }
+    }
 
     // Where the next number of a body leads, and how many points are announced behind it, where nothing objects to it; none of a count of
     // rings.
@@ -47,6 +101,28 @@ impl Builder {
                 Some((self.position, self.points + number))
             }
             Spot::AreaCount(_) => None,
+        }
+    }
+
+    // Takes an item as `take` does, where few steps did not take it. The number of a body that ends with it, and what is no number of a body,
+    // goes by all steps at once.
+    #[inline(always)]
+    pub(crate) fn take_left(
+        &mut self,
+        flat: &mut Flat,
+        number: u64,
+        length: u64,
+    ) -> Result<bool, Stop>
+        requires byte { number < 256 ⊎ IsSpelled self.old.phase }
+        requires room { self.old.bytes + length < 2 ^ 64 }
+        ensures limits { self.new.limits ≡ self.old.limits }
+        ensures bytes { self.new.bytes ≤ self.old.bytes + length }
+        ensures taken { Takes self.old number length flat.old result flat.new self.new }
+    {
+        if in_body(&self.phase) {
+            self.take_apart(flat, number, length)
+        } else {
+            self.take_any(flat, number, length)
         }
     }
 

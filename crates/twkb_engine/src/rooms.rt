@@ -7,7 +7,7 @@ use twkb_body::Names;
 // The rooms of lists of ids that are done, for those of further geometries: as many at most as were open at once.
 #[derive(Drop)]
 pub(crate) struct Rooms {
-    alloc: Global,
+    pub(crate) alloc: Global,
     lists: Vec<Vec<i64>>,
 }
 
