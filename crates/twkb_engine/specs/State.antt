@@ -1,5 +1,5 @@
 -- The fields as an outline.
-use Rattle.std.specs.Prelude.{◌≤◌, Bool, true, false, ℕ, zero, suc, List, [], ◌∷◌, ◌++◌, length, ℤ, Option, Some, None, ⊤}
+use Rattle.std.specs.Prelude.{◌≡◌, ◌≤◌, Bool, true, false, ℕ, zero, suc, List, [], ◌∷◌, ◌++◌, length, ℤ, Option, Some, None, ⊤}
 use Rattle.twkb_grammar.specs.Bits.{bit}
 use Rattle.twkb_grammar.specs.Roles as role
 use Rattle.twkb_grammar.specs.Roles.{Role, where_set}
@@ -10,7 +10,7 @@ use Rattle.twkb_outline.specs.Outline.{OnHeader, OnMetadata, OnOption, OnCount, 
 use Rattle.twkb_outline.specs.Growing.{Change, Nothing, NewRow, own_of, id_in}
 use Rattle.twkb_body.specs.Body.{head_of, kind_of, IsHeadAt}
 use Rattle.twkb_body.specs.Names.{ids_of}
-use Rattle.twkb_body.specs.Steps.{step_in}
+use Rattle.twkb_body.specs.Steps.{step_in, step_behind, BodyFits}
 use Rattle.twkb_engine.specs.declared.phase.Many.{Many}
 use Rattle.twkb_engine.specs.declared.phase.Many.TheVariants as many
 use Rattle.twkb_engine.specs.declared.phase.Optional.{Optional}
@@ -88,6 +88,11 @@ own_change _ = Nothing
 abbrev pub goes_on : Phase → Bool
 goes_on (phase.End head kind) = false
 goes_on _ = true
+
+-- a body comes next, and ends with this number
+abbrev pub EndsBody : Phase → (n : ℕ) → Type 0
+EndsBody (phase.Body head body) n = BodyFits body → step_behind head n body ≡ OnEnd (head_of head)
+EndsBody _ n = ⊥
 
 -- an item comes next that is in no body
 abbrev pub stands_apart : Phase → Bool

@@ -180,7 +180,7 @@ impl Builder {
     }
 
     // Goes on behind the ends of geometries, and answers the same: whether the outermost one has ended.
-    fn settle(&mut self, whole: bool) -> bool
+    pub(crate) fn settle(&mut self, whole: bool) -> bool
         ensures limits { self.new.limits ≡ self.old.limits }
         ensures bytes { self.new.bytes ≤ self.old.bytes }
         ensures landed { (way : Result Outline fault.Reason) → IsPast way self.old.groups.items (Ok whole) → IsAt way (sums_of self.old) (Ok result) self.new }
@@ -269,14 +269,10 @@ impl Builder {
         let Phase::Body(head, body) = &mut self.phase else {
             return self.advance(flat, number);
         };
-        let head = *head;
-        if body.go_on(flat, head, number, self.position)? {
+        if body.go_on(flat, *head, number, self.position)? {
             return Ok(false);
         }
-        let whole = past_end(&mut self.groups, &mut self.rooms, self.bytes, head)?;
-        body.keep(flat, head, self.position)?;
-        self.rooms.keep(&mut body.names);
-        Ok(self.settle(whole))
+        self.end_body(flat, number)
     }
 
     // The place behind the next item, where that is in range.
@@ -348,7 +344,7 @@ impl Builder {
     {
         match self.take_number(flat, number, length) {
             Ok(true) => Ok(false),
-            Ok(false) => self.take_any(flat, number, length),
+            Ok(false) => self.take_other(flat, number, length),
             Err(_) => Err(Stop::Memory),
         }
     }

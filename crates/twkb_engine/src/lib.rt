@@ -7,6 +7,7 @@ mod builder;
 mod engine;
 mod header;
 mod items;
+mod last;
 mod members;
 mod metadata;
 mod numbers;

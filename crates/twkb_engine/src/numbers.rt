@@ -37,7 +37,7 @@ impl Builder {
 
     // Where the next number of a body leads, where that is a coordinate and nothing objects to it.
     #[inline(always)]
-    fn coordinate(&self, number: u64) -> Option<Pt>
+    pub(crate) fn coordinate(&self, number: u64) -> Option<Pt>
         ensures free { IfSome result (λ to. refusal self.now.limits (sums_of self.now) (outline_in self.now) number ≡ None) }
         ensures added { IfSome result (λ to. AreBehind self.now number to self.now.nodes self.now.points) }
     {
@@ -122,7 +122,7 @@ impl Builder {
         if in_body(&self.phase) {
             self.take_apart(flat, number, length)
         } else {
-            self.take_any(flat, number, length)
+            self.take_other(flat, number, length)
         }
     }
 
