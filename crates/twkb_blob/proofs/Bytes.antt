@@ -25,7 +25,7 @@ use Rattle.twkb_engine.specs.declared.engine.Engine.{Engine}
 use Rattle.twkb_engine.specs.declared.stop.Stop.{Stop}
 use Rattle.twkb_engine.specs.declared.stop.Stop.TheVariants.{Memory, Refused}
 use Rattle.twkb_blob.specs.Readers.{Left, IsNextFlat, fed_as}
-use Rattle.twkb_blob.specs.Located.{IsAsked, IsSpanned, IsNotedFed, IsPieceFed, IsPieceRead, notes_at}
+use Rattle.twkb_blob.specs.Located.{IsAsked, IsSpanned, IsNotedFed, IsPieceFed, IsPieceRead, TakesAll, notes_at}
 use Rattle.twkb_blob.specs.declared.fault.BlobFault.{BlobFault}
 use Rattle.twkb_blob.specs.declared.reading.Fed.{Fed}
 use Rattle.twkb_blob.specs.declared.reading.Fed.TheVariants as piece
@@ -35,9 +35,9 @@ use Rattle.twkb_blob.proofs.Blobs.{left_join}
 use Rattle.twkb_blob.proofs.Parts.{part_known}
 
 -- an item that is refused in bytes, or for which there is no memory
-pub item_refused : (limits : Allowance) (start : ℕ) (bs held : List ℕ) (stop : Stop) (rs : List Row) (d : Engine) (w : Notes) → IsTakenFrom limits bs held (Err stop) rs d → IsNotedFed limits start bs held (Err stop) rs d w
-item_refused limits start bs held Memory rs d w (used, some, within, part) = record { used = used; some = some; within = within; part = part }
-item_refused limits start bs held (Refused r) rs d w (used, some, within, fault) = record { used = used; some = some; within = within; fault = fault }
+pub item_refused : (limits : Allowance) (told : Type 0) (start : ℕ) (bs held : List ℕ) (stop : Stop) (rs : List Row) (d : Engine) (w : Notes) → IsTakenFrom limits bs held (Err stop) rs d → IsNotedFed limits told start bs held (Err stop) rs d w
+item_refused limits told start bs held Memory rs d w (used, some, within, part) = record { used = used; some = some; within = within; part = part }
+item_refused limits told start bs held (Refused r) rs d w (used, some, within, fault) = record { used = used; some = some; within = within; fault = fault }
 
 -- one byte that is taken is a piece that is fed
 pub one_fed : (limits : Allowance) (bs piece : List ℕ) (ended : Bool) (rs : List Row) (d : Engine) → length piece ≡ 1 → IsStep limits (bs ++ get_or piece 0 0 ∷ []) (Ok ended) rs d → IsFed limits bs piece (Ok (1, ended)) rs d
@@ -55,52 +55,62 @@ one_stopped limits bs piece Memory rs d single h =
 one_stopped limits bs piece (Refused r) rs d single h =
     record { used = 1; some = omega arith; within = omega (arith, single); fault = stepped_first limits bs piece (Err (Refused r)) rs d (omega (arith, single)) h }
 
+-- notes that were told by others
+pub told_by : (limits : Allowance) (told first : Type 0) → (told → first) → (start : ℕ) (bs held : List ℕ) (answer : Result (ℕ × Bool) Stop) (rs : List Row) (d : Engine) (w : Notes) → IsNotedFed limits first start bs held answer rs d w
+    → IsNotedFed limits told start bs held answer rs d w
+told_by limits told first by start bs held (Ok (used, false)) rs d w (s, says) = (s, λ t. says (by t))
+told_by limits told first by start bs held (Ok (used, true)) rs d w (g, blob, says, made, more) = (g, blob, (λ t. says (by t)), made, more)
+told_by limits told first by start bs held (Err Memory) rs d w h = h
+told_by limits told first by start bs held (Err (Refused r)) rs d w h = h
+
 -- no bytes were taken yet
-pub stands_behind : (start : ℕ) (bs held : List ℕ) (rs : List Row) (d : Engine) (w : Notes) (s : StandsAt bs rs d) → w ≡ notes_at start s → (t : StandsAt (bs ++ take 0 held) rs d) × (w ≡ notes_at start t)
-stands_behind start bs held rs d w s told = (record { front = s.front; whole = append-nil bs ∙ s.whole; outlined = s.outlined; placed = s.placed; spelled = s.spelled }, told)
+pub stands_behind : (start : ℕ) (bs held : List ℕ) (rs : List Row) (d : Engine) (w : Notes) (s : StandsAt bs rs d) → (t : StandsAt (bs ++ take 0 held) rs d) × (w ≡ notes_at start s → w ≡ notes_at start t)
+stands_behind start bs held rs d w s = (record { front = s.front; whole = append-nil bs ∙ s.whole; outlined = s.outlined; placed = s.placed; spelled = s.spelled }, λ told. told)
 
 -- bytes were taken, and then some of those that are left
-pub went_on : (own : Allowance) (start : ℕ) (bs held : List ℕ) (used : ℕ) (taken : ℕ × Bool) (rs : List Row) (d : Engine) (w : Notes) → taken.1 ≡ false
-    → IsNotedFed own start (bs ++ take used held) (take (length held - used) (drop used held)) (Ok taken) rs d w → (t : StandsAt (bs ++ take (used + taken.0) held) rs d) × (w ≡ notes_at start t)
-went_on own start bs held used (count, true) rs d w off h = absurd cc
-went_on own start bs held used (count, false) rs d w off h = subst (λ l. (t : StandsAt l rs d) × (w ≡ notes_at start t)) (one_front bs held used count) h
+pub went_on : (own : Allowance) (told first : Type 0) → (told → first) → (start : ℕ) (bs held : List ℕ) (used : ℕ) (taken : ℕ × Bool) (rs : List Row) (d : Engine) (w : Notes) → taken.1 ≡ false
+    → IsNotedFed own first start (bs ++ take used held) (take (length held - used) (drop used held)) (Ok taken) rs d w → (t : StandsAt (bs ++ take (used + taken.0) held) rs d) × (told → w ≡ notes_at start t)
+went_on own told first by start bs held used (count, true) rs d w off h = absurd cc
+went_on own told first by start bs held used (count, false) rs d w off (s, says) = subst (λ l. (t : StandsAt l rs d) × (told → w ≡ notes_at start t)) (one_front bs held used count) (s, λ t. says (by t))
 
 -- a blob ends in them
-pub made_behind : (limits own : Allowance) (start : ℕ) (bs held : List ℕ) (used : ℕ) (taken : ℕ × Bool) (rs : List Row) (d : Engine) (w : Notes) → own ≡ limits → taken.1 ≡ true
-    → IsNotedFed own start (bs ++ take used held) (take (length held - used) (drop used held)) (Ok taken) rs d w → IsNotedFed limits start bs held (Ok (used + taken.0, true)) rs d w
-made_behind limits own start bs held used (count, false) rs d w same on h = absurd cc
-made_behind limits own start bs held used (count, true) rs d w same on h =
-    subst (λ l. (g : Tree) × (b : Blob l (bs ++ take (used + count) held) g) × (w.spans ≡ spans_of_blob start b) × (rs ≡ rows 0 g)) same
-    (subst (λ l. (g : Tree) × (b : Blob own l g) × (w.spans ≡ spans_of_blob start b) × (rs ≡ rows 0 g)) (one_front bs held used count) h)
+pub made_behind : (limits own : Allowance) (told first : Type 0) → (told → first) → (start : ℕ) (bs held : List ℕ) (used : ℕ) (taken : ℕ × Bool) (rs : List Row) (d : Engine) (w : Notes) → own ≡ limits → taken.1 ≡ true
+    → IsNotedFed own first start (bs ++ take used held) (take (length held - used) (drop used held)) (Ok taken) rs d w → IsNotedFed limits told start bs held (Ok (used + taken.0, true)) rs d w
+made_behind limits own told first by start bs held used (count, false) rs d w same on h = absurd cc
+made_behind limits own told first by start bs held used (count, true) rs d w same on (g, blob, says, made, more) =
+    subst (λ l. (g : Tree) × (b : Blob l (bs ++ take (used + count) held) g) × (told → w.spans ≡ spans_of_blob start b) × (rs ≡ rows 0 g) × StandsAt [] [] d) same
+    (subst (λ l. (g : Tree) × (b : Blob own l g) × (told → w.spans ≡ spans_of_blob start b) × (rs ≡ rows 0 g) × StandsAt [] [] d) (one_front bs held used count) (g, blob, (λ t. says (by t)), made, more))
 
 -- the engine stopped in them
-pub stopped_behind : (limits own : Allowance) (start : ℕ) (bs held : List ℕ) (used : ℕ) (stop : Stop) (rs : List Row) (d : Engine) (w : Notes) → own ≡ limits → used ≤ length held
-    → IsNotedFed own start (bs ++ take used held) (take (length held - used) (drop used held)) (Err stop) rs d w → IsNotedFed limits start bs held (Err stop) rs d w
-stopped_behind limits own start bs held used Memory rs d w same within h = subst (λ l. PartIn l bs held) same (part_further own bs held used within h)
-stopped_behind limits own start bs held used (Refused r) rs d w same within h =
+pub stopped_behind : (limits own : Allowance) (told first : Type 0) (start : ℕ) (bs held : List ℕ) (used : ℕ) (stop : Stop) (rs : List Row) (d : Engine) (w : Notes) → own ≡ limits → used ≤ length held
+    → IsNotedFed own first start (bs ++ take used held) (take (length held - used) (drop used held)) (Err stop) rs d w → IsNotedFed limits told start bs held (Err stop) rs d w
+stopped_behind limits own told first start bs held used Memory rs d w same within h = subst (λ l. PartIn l bs held) same (part_further own bs held used within h)
+stopped_behind limits own told first start bs held used (Refused r) rs d w same within h =
     refused limits own bs held used (Refused r) rs d same within (h.used, h.some, h.within, h.fault)
 
--- what was noted is what was asked for
-pub fed_noted : (limits : Allowance) (asked : Bool) (start : ℕ) (bs held : List ℕ) (answer : Result (ℕ × Bool) Stop) (rs : List Row) (d : Engine) (w : Notes) → IfOk answer (λ taken. (0 < taken.0) × (taken.0 ≤ length held))
-    → IsNotedFed limits start bs held answer rs d w → IsPieceFed limits asked start bs held answer rs d w
-fed_noted limits asked start bs held (Ok (used, false)) rs d w some (s, told) = (some.0, s, λ on. told)
-fed_noted limits asked start bs held (Ok (used, true)) rs d w some (g, blob, told, made) = (g, blob, (λ on. told), made)
-fed_noted limits asked start bs held (Err Memory) rs d w some h = h
-fed_noted limits asked start bs held (Err (Refused r)) rs d w some h = h
+-- what an engine is fed where notes are made, it is fed
+pub fed_noted : (limits : Allowance) (told : Type 0) (start : ℕ) (bs held : List ℕ) (answer : Result (ℕ × Bool) Stop) (rs : List Row) (d : Engine) (w : Notes) → IfOk answer (λ taken. TakesAll (length held) taken)
+    → IsNotedFed limits told start bs held answer rs d w → IsFed limits bs held answer rs d
+fed_noted limits told start bs held (Ok (used, false)) rs d w all (s, says) = (all, subst (λ l. StandsAt (bs ++ l) rs d) (ap (λ n. take n held) all ∙ take-length held) s)
+fed_noted limits told start bs held (Ok (used, true)) rs d w all (g, blob, says, made, more) = (record { some = all.0; within = all.1; geometry = g; blob = blob; made = made }, more)
+fed_noted limits told start bs held (Err Memory) rs d w all h = h
+fed_noted limits told start bs held (Err (Refused r)) rs d w all h = h
 
--- where no spans are asked for, nothing has to be noted
-pub fed_plain : (limits : Allowance) (asked : Bool) (start : ℕ) (bs held : List ℕ) (answer : Result (ℕ × Bool) Stop) (rs : List Row) (d : Engine) (w : Notes) → asked ≡ false → 0 < length held
-    → IsFed limits bs held answer rs d → IsPieceFed limits asked start bs held answer rs d w
-fed_plain limits asked start bs held (Ok (used, false)) rs d w off some (all, s) =
+-- a reader's bytes were fed: where spans are asked for, they were noted
+pub piece_fed : (limits : Allowance) (asked : Bool) (told : Type 0) (start : ℕ) (bs held : List ℕ) (answer : Result (ℕ × Bool) Stop) (rs : List Row) (d : Engine) (w : Notes) → 0 < length held → IsFed limits bs held answer rs d
+    → (asked ≡ true → IsNotedFed limits told start bs held answer rs d w) → (asked ≡ true → told) → IsPieceFed limits asked start bs held answer rs d w
+piece_fed limits true told start bs held (Ok (used, false)) rs d w some fed noted known = let (s, says) = noted refl in (omega (arith, fed.0, some), s, λ on. says (known on))
+piece_fed limits true told start bs held (Ok (used, true)) rs d w some fed noted known = let (g, blob, says, made, more) = noted refl in (g, blob, (λ on. says (known on)), made)
+piece_fed limits false told start bs held (Ok (used, false)) rs d w some (all, s) noted known =
     let is : held ≡ take used held = sym (ap (λ n. take n held) all ∙ take-length held) in
-    (omega (arith, all, some), subst (λ l. StandsAt (bs ++ l) rs d) is s, λ on. absurd (cc (on, off)))
-fed_plain limits asked start bs held (Ok (used, true)) rs d w off some (m, s) = (m.geometry, m.blob, (λ on. absurd (cc (on, off))), m.made)
-fed_plain limits asked start bs held (Err Memory) rs d w off some h = h
-fed_plain limits asked start bs held (Err (Refused r)) rs d w off some h = h
+    (omega (arith, all, some), subst (λ l. StandsAt (bs ++ l) rs d) is s, λ on. absurd cc)
+piece_fed limits false told start bs held (Ok (used, true)) rs d w some (m, s) noted known = (m.geometry, m.blob, (λ on. absurd cc), m.made)
+piece_fed limits asked told start bs held (Err Memory) rs d w some h noted known = h
+piece_fed limits asked told start bs held (Err (Refused r)) rs d w some h noted known = h
 
 module _ {R : Type 0} {read : Ghosts R} where
   -- held bytes leave
-  held_left : (a b c : Input R read) (held : List ℕ) (used : ℕ) → Keeps (rest_of a) (rest_of b) → given b ≡ given a → held ≡ held_of b → used ≤ length held → Consumes (rest_of b) (rest_of c) (take used (held_of b)) → given c ≡ given b + used
+  pub held_left : (a b c : Input R read) (held : List ℕ) (used : ℕ) → Keeps (rest_of a) (rest_of b) → given b ≡ given a → held ≡ held_of b → used ≤ length held → Consumes (rest_of b) (rest_of c) (take used (held_of b)) → given c ≡ given b + used
       → Left a c (take used held)
   held_left a b c held used keeps same is within loses counted =
       left_after a b c (take used held) keeps same (subst (λ l. Consumes (rest_of b) (rest_of c) (take used l)) (sym is) loses) (omega (arith, counted, length-take-le used held within))

@@ -18,3 +18,4 @@ pub mod Rooted
 pub mod Handed
 pub mod Onward
 pub mod Abreast
+pub mod Spanned

@@ -82,33 +82,34 @@ module _ (laws : NoteLaws) (start : ℕ) (bs bytes : List ℕ) (used : ℕ) (ps 
   joined = append_assoc bs (take (used - 1) bytes) (last_of bytes used ∷ []) ∙ ap (λ l. bs ++ l) (sym (with_last bytes used some within))
 
   -- by the code
-  module _ (a : Awaited) (o p : ℕ) (w v : Notes) (awaits : a ≡ awaited_in d) (at : o ≡ offset_in d) (many : p ≡ points_in d) (old : w ≡ notes_at start s) (first : v ≡ note_awaited a (start + o) p (get_or bytes 0 0) w) where
-    by_last : v ≡ note_awaited a (start + o) p (last_of bytes used) w
-    by_last = first ∙ (ap (λ x. note_awaited x (start + o) p (get_or bytes 0 0) w) awaits ∙ (as_last bytes used d (start + o) p w one ∙ sym (ap (λ x. note_awaited x (start + o) p (last_of bytes used) w) awaits)))
+  module _ (a : Awaited) (o p : ℕ) (w v : Notes) (awaits : a ≡ awaited_in d) (at : o ≡ offset_in d) (many : p ≡ points_in d) (first : w ≡ notes_at start s → v ≡ note_awaited a (start + o) p (get_or bytes 0 0) w) where
+    by_last : w ≡ notes_at start s → v ≡ note_awaited a (start + o) p (last_of bytes used) w
+    by_last old = first old ∙ (ap (λ x. note_awaited x (start + o) p (get_or bytes 0 0) w) awaits ∙ (as_last bytes used d (start + o) p w one ∙ sym (ap (λ x. note_awaited x (start + o) p (last_of bytes used) w) awaits)))
 
     -- a blob goes on
     item_on : (rs : List Row) (after : Engine) (left q r : ℕ) (u : Notes) → IsOpenVarint (held_in after) → allowance_of after ≡ allowance_of d → left ≡ open_in after → q ≡ offset_in after → r ≡ points_in after
-        → u ≡ note_ends_to left (start + q) r v → (t : StandsAt (bs ++ take used bytes) rs after) → u ≡ notes_at start t
-    item_on rs after left q r u few same open_now now many_now last t =
-        fed_on laws start (last_of bytes used) before ps (before_last bytes used d) (stands_before bytes used d bs ps one s) (begun_before bytes used d one held) a o p w v awaits at many old by_last
+        → u ≡ note_ends_to left (start + q) r v → (t : StandsAt (bs ++ take used bytes) rs after) → w ≡ notes_at start s → u ≡ notes_at start t
+    item_on rs after left q r u few same open_now now many_now last t old =
+        fed_on laws start (last_of bytes used) before ps (before_last bytes used d) (stands_before bytes used d bs ps one s) (begun_before bytes used d one held) a o p w v awaits at many old (by_last old)
         rs after left q r u few same open_now now many_now last (record { front = t.front; whole = joined ∙ t.whole; outlined = t.outlined; placed = t.placed; spelled = t.spelled })
 
     -- a blob ends with the item
     item_blob : (rs : List Row) (end many_now : ℕ) (u : Notes) (g : Tree) → Blob (allowance_of d) (bs ++ take used bytes) g → rs ≡ rows 0 g → ((g : Tree) → row_points (rows 0 g) ≡ flat g) → many_now ≡ length (row_points rs)
-        → u ≡ note_ends_to 0 end many_now v → end ≡ start + length (bs ++ take used bytes) → (x : Blob (allowance_of d) (bs ++ take used bytes) g) × (u.spans ≡ spans_of_blob start x)
+        → u ≡ note_ends_to 0 end many_now v → end ≡ start + length (bs ++ take used bytes)
+        → (x : Blob (allowance_of d) (bs ++ take used bytes) g) × (w ≡ notes_at start s → u.spans ≡ spans_of_blob start x)
     item_blob rs end many_now u g b made flat_law counts last ends =
         let whole : Blob (allowance_of d) (before ++ last_of bytes used ∷ []) g = subst (λ l. Blob (allowance_of d) l g) (sym joined) b in
-        let told = fed_blob laws start (last_of bytes used) before ps (before_last bytes used d) (stands_before bytes used d bs ps one s) (begun_before bytes used d one held) a o p w v awaits at many old by_last
+        let told : w ≡ notes_at start s → u.spans ≡ spans_of_blob start whole = λ old. fed_blob laws start (last_of bytes used) before ps (before_last bytes used d) (stands_before bytes used d bs ps one s) (begun_before bytes used d one held) a o p w v awaits at many old (by_last old)
         rs end many_now u g whole made flat_law counts last (ends ∙ ap (λ l. start + length l) (sym joined)) in
-        subst (λ l. (x : Blob (allowance_of d) l g) × (u.spans ≡ spans_of_blob start x)) joined (whole, told)
+        subst (λ l. (x : Blob (allowance_of d) l g) × (w ≡ notes_at start s → u.spans ≡ spans_of_blob start x)) joined (whole, told)
 
     -- the item was taken
     pub item_fed : (whole : Bool) (rs : List Row) (after : Engine) (end : ℕ) (u : Notes) → IsTakenFrom (allowance_of d) bs bytes (Ok (used, whole)) rs after → IsOpenVarint (held_in after) → allowance_of after ≡ allowance_of d
         → ((g : Tree) → row_points (rows 0 g) ≡ flat g) → end ≡ start + length (bs ++ take used bytes)
         → (whole ≡ true → u ≡ note_ends_to 0 end (length (row_points rs)) v) → (whole ≡ false → u ≡ note_ends_to (open_in after) (start + offset_in after) (points_in after) v)
-        → IsNotedFed (allowance_of d) start bs bytes (Ok (used, whole)) rs after u
+        → IsNotedFed (allowance_of d) (w ≡ notes_at start s) start bs bytes (Ok (used, whole)) rs after u
     item_fed false rs after end u taken few same flat_law ends all some_left =
         (taken, item_on rs after (open_in after) (offset_in after) (points_in after) u few same refl refl refl (some_left refl) taken)
     item_fed true rs after end u (g, blob, made, more) few same flat_law ends all some_left =
         let told = item_blob rs end (length (row_points rs)) u g blob made flat_law refl (all refl) ends in
-        (g, told.0, told.1, made)
+        (g, told.0, told.1, made, more)

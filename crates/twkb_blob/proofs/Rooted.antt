@@ -22,3 +22,9 @@ root_taken bs piece rs more d own (Ok (Some used)) none s same made =
     (subst (λ l. MadeIn (allowance_of d) l piece used more) (sym none) (subst (λ l. MadeIn l [] piece used more) same made), subst (λ l. StandsAt [] l d) (no_rows rs d here) here)
 root_taken bs piece rs more d own (Ok None) none s same made = tt
 root_taken bs piece rs more d own (Err e) none s same made = tt
+
+-- a fact holds of whatever was found
+pub each_found : {E : Type 0} (r : Result (Option ℕ) E) (fact : Type 0) → fact → IfOk r (λ found. IfSome found (λ used. fact))
+each_found (Ok (Some used)) fact holds = holds
+each_found (Ok None) fact holds = tt
+each_found (Err e) fact holds = tt

@@ -3,3 +3,4 @@ pub mod Sessions
 pub mod Readers
 pub mod Located
 pub mod Through
+pub mod Spanned

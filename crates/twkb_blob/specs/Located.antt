@@ -1,9 +1,12 @@
 -- What a reader of geometries with their spans answers.
-use Rattle.std.specs.Prelude.{◌≡◌, ℕ, ◌-◌, ◌<◌, Bool, true, false, length, take, List, [], ◌++◌, Option, Some, None, IfOk, IfSome, Result, Ok, Err}
+use Rattle.std.specs.Prelude.{◌≡◌, ℕ, ℤ, get_or, ◌-◌, ◌/◌, ◌<◌, ◌≤◌, Bool, true, false, length, take, List, [], ◌∷◌, ◌++◌, Option, Some, None, IfOk, IfSome, Result, Ok, Err}
 use Rattle.std.specs.declared.io.traits.Read.{Ghosts}
+use Rattle.twkb_num.specs.Zigzag.{unzigzag_of}
+use Rattle.twkb_points.specs.Point.{Point}
 use Rattle.twkb_tree.specs.Tree.{Tree}
-use Rattle.twkb_tree.specs.Rows.{Row, rows}
+use Rattle.twkb_tree.specs.Rows.{Row, rows, whole_row}
 use Rattle.twkb_tree.specs.Limits.{Allowance}
+use Rattle.twkb_tree.specs.declared.kind.Kind.TheVariants as kind
 use Rattle.twkb_grammar.specs.Blob.{Blob}
 use Rattle.twkb_grammar.specs.Machine.{nothing}
 use Rattle.twkb_grammar.specs.Spans.{spans_of_blob}
@@ -48,6 +51,18 @@ IsSpanned limits old new (Ok true) rs spans = (g : Tree) × HasSpans limits old 
 IsSpanned limits old new (Ok false) rs spans = IsNext limits old new (Ok None)
 IsSpanned limits old new (Err why) rs spans = IsNext limits old new (Err why)
 
+-- the precision that the first byte tells, a header's
+abbrev pub first_precision : List ℕ → ℤ
+first_precision bytes = unzigzag_of (get_or bytes 0 0 / 16)
+
+-- the only row is that of a point, of the precision that the first byte tells
+abbrev pub HasPointRow : List ℕ → List Row → Type 0
+HasPointRow bytes rs = (to : Point) × (rs ≡ whole_row 0 kind.Point None (first_precision bytes) (to ∷ []) ∷ [])
+
+-- the span of a point whose blob has these bytes and begins at this offset
+abbrev pub point_span : (start : ℕ) (bytes : List ℕ) → Span
+point_span start bytes = record { level = 0; offset = start; kind = kind.Point; precision = first_precision bytes; metadata = get_or bytes 1 0; length = length bytes; points = 1 }
+
 -- a span whose geometry ends at this offset, with so many points so far
 abbrev pub measured : (offset points : ℕ) → Span → Span
 measured offset points s = record s { length = offset - s.offset; points = points - s.points }
@@ -62,19 +77,29 @@ note_awaited awaited.Other offset points byte w = w
 abbrev pub notes_at : {bytes : List ℕ} {rs : List Row} {d : Engine} → (start : ℕ) → StandsAt bytes rs d → Notes
 notes_at start s = noted start nothing no_notes s.outlined.reached.items
 
--- the engine stands for the bytes with those of these that were taken, and the notes are those of their items; or they are a blob, and
--- the notes are its spans; or there was no memory behind a part that ends in them; or an item was refused
-abbrev pub IsNotedFed : Allowance → (start : ℕ) → List ℕ → (held : List ℕ) → Result (ℕ × Bool) Stop → List Row → Engine → Notes → Type 0
-IsNotedFed limits start bs held (Ok (used, false)) rs d w = (s : StandsAt (bs ++ take used held) rs d) × (w ≡ notes_at start s)
-IsNotedFed limits start bs held (Ok (used, true)) rs d w = (g : Tree) × (b : Blob limits (bs ++ take used held) g) × (w.spans ≡ spans_of_blob start b) × (rs ≡ rows 0 g)
-IsNotedFed limits start bs held (Err Memory) rs d w = PartIn limits bs held
-IsNotedFed limits start bs held (Err (Refused r)) rs d w = RefusedIn limits bs held (offset_in d) (reason_of r)
+-- The engine stands for the bytes with those of these that were taken, and the notes are those of their items, where they were told so far; or they
+-- are a blob, and the notes are then its spans; or there was no memory behind a part that ends in them; or an item was refused.
+abbrev pub IsNotedFed : Allowance → (told : Type 0) → (start : ℕ) → List ℕ → (held : List ℕ) → Result (ℕ × Bool) Stop → List Row → Engine → Notes → Type 0
+IsNotedFed limits told start bs held (Ok (used, false)) rs d w = (s : StandsAt (bs ++ take used held) rs d) × (told → w ≡ notes_at start s)
+IsNotedFed limits told start bs held (Ok (used, true)) rs d w =
+    (g : Tree) × (b : Blob limits (bs ++ take used held) g) × (told → w.spans ≡ spans_of_blob start b) × (rs ≡ rows 0 g) × StandsAt [] [] d
+IsNotedFed limits told start bs held (Err Memory) rs d w = PartIn limits bs held
+IsNotedFed limits told start bs held (Err (Refused r)) rs d w = RefusedIn limits bs held (offset_in d) (reason_of r)
 
--- wherever the engine stands with the notes of its items, that is the answer to the held bytes
+-- wherever the engine stands, that is the answer to the held bytes; the notes were told so far where they were those of its items
 abbrev pub TakesNoted : (start : ℕ) → List ℕ → Result (ℕ × Bool) Stop → (rs more : List Row) (d e : Engine) (w v : Notes) → Type 0
-TakesNoted start held answer rs more d e w v = (bs : List ℕ) (s : StandsAt bs rs d) → w ≡ notes_at start s → IsNotedFed (allowance_of d) start bs held answer more e v
+TakesNoted start held answer rs more d e w v = (bs : List ℕ) (s : StandsAt bs rs d) → IsNotedFed (allowance_of d) (w ≡ notes_at start s) start bs held answer more e v
 
--- The same, of bytes that a reader holds, one at least of them taken, whether or not spans are asked for: where none are, nothing is known of the notes.
+-- of so many bytes all were taken, or up to the end of a blob
+abbrev pub TakesAll : ℕ → ℕ × Bool → Type 0
+TakesAll many (used, false) = used ≡ many
+TakesAll many (used, true) = (0 < used) × (used ≤ many)
+
+-- the same, of bytes that are taken up to the end of a blob, else all
+abbrev pub FeedsNoted : (start : ℕ) → List ℕ → Result (ℕ × Bool) Stop → (rs more : List Row) (d e : Engine) (w v : Notes) → Type 0
+FeedsNoted start held answer rs more d e w v = IfOk answer (λ taken. TakesAll (length held) taken) × TakesNoted start held answer rs more d e w v
+
+-- The answer to bytes that a reader holds, one at least of them taken, whether or not spans are asked for: where none are, nothing is known of the notes.
 abbrev pub IsPieceFed : Allowance → (asked : Bool) → (start : ℕ) → List ℕ → (held : List ℕ) → Result (ℕ × Bool) Stop → List Row → Engine → Notes → Type 0
 IsPieceFed limits asked start bs held (Ok (used, false)) rs d w = (0 < used) × (s : StandsAt (bs ++ take used held) rs d) × (asked ≡ true → w ≡ notes_at start s)
 IsPieceFed limits asked start bs held (Ok (used, true)) rs d w =
@@ -99,12 +124,7 @@ IsAsked limits asked old new (Ok true) rs spans = (g : Tree) × (made : Makes li
 IsAsked limits asked old new (Ok false) rs spans = IsNext limits old new (Ok None)
 IsAsked limits asked old new (Err why) rs spans = IsNext limits old new (Err why)
 
--- wherever the engine stands, with the notes of its items where spans are asked for, that is the answer to the held bytes
-abbrev pub TakesPiece : (asked : Bool) → (start : ℕ) → List ℕ → Result (ℕ × Bool) Stop → (rs more : List Row) (d e : Engine) (w v : Notes) → Type 0
-TakesPiece asked start held answer rs more d e w v =
-    (bs : List ℕ) (s : StandsAt bs rs d) → (asked ≡ true → w ≡ notes_at start s) → IsPieceFed (allowance_of d) asked start bs held answer more e v
-
--- the same, of an input
+-- wherever the engine stands, with the notes of its items where spans are asked for, that is the answer of an input
 abbrev pub ReadsPiece :
     {R : Type 0} {read : Ghosts R} → (asked : Bool) → (start : ℕ) → Input R read → Input R read → Result Fed Halt
     → (rs more : List Row) (d e : Engine) (w v : Notes) → Type 0

@@ -7,8 +7,8 @@ ghost use Rattle.twkb_blob.specs.Located.{IsSpanned};
 
 use crate::fault::BlobFault;
 use crate::point::read_point;
-use crate::reading::read_with_engine;
-use crate::spans::Spans;
+use crate::reading::{keep_made, read_with_engine};
+use crate::spans::{Spans, keep_spans};
 use std::alloc::{AllocError, Global};
 use std::io::Read;
 use twkb_flat::Flat;
@@ -62,23 +62,5 @@ pub(crate) fn read_spans<R: Read>(
         }
     }
     let found = read_with_engine(input, alloc, limits, flat, &mut spans.notes, true);
-    keep_spanned(found, flat, spans)
-}
-
-// Leaves rows in a form, and spans in a list, only where this is the answer that a geometry was read; answers the same.
-fn keep_spanned(
-    found: Result<bool, BlobFault>,
-    flat: &mut Flat,
-    spans: &mut Spans,
-) -> Result<bool, BlobFault>
-    ensures same { result ≡ found }
-    ensures made { found ≡ Ok true → (flat.new ≡ flat.old) × (spans.new ≡ spans.old) }
-    ensures cleared { (found ≡ Ok true) ⊎ ((flat.new ≡ []) × (spans.new ≡ [])) }
-{
-    if let Ok(true) = found {
-        return found;
-    }
-    flat.clear();
-    spans.clear();
-    found
+    keep_spans(keep_made(found, flat), spans)
 }

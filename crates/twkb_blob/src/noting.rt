@@ -1,9 +1,9 @@
 //! An engine that is fed, and notes of what its items tell of spans.
-ghost use Rattle.std.specs.Prelude.{◌≡◌, ◌≤◌, ◌<◌, ◌+◌, ◌^◌, List, true, false, Ok, Err, length, IfOk, OnErr};
+ghost use Rattle.std.specs.Prelude.{◌≡◌, ◌≤◌, ◌<◌, ◌+◌, ◌^◌, ℕ, List, true, false, Ok, Err, length, IfOk, OnErr};
 ghost use Rattle.twkb_tree.specs.Rows.{Row, row_points};
 ghost use Rattle.twkb_grammar.specs.Noting.{note_ends_to};
-ghost use Rattle.twkb_engine.specs.Standing.{allowance_of, count_of, offset_in, open_in, points_in};
-ghost use Rattle.twkb_blob.specs.Located.{TakesNoted, TakesPiece};
+ghost use Rattle.twkb_engine.specs.Standing.{StandsAt, IsFed, allowance_of, count_of, offset_in, open_in, points_in};
+ghost use Rattle.twkb_blob.specs.Located.{FeedsNoted, TakesAll, TakesNoted};
 
 use crate::notes::SpanNotes;
 use std::alloc::AllocError;
@@ -158,7 +158,7 @@ fn take_noted(
     feed_item(engine, flat, notes, start, held)
 }
 
-// Gives the held bytes to an engine, up to the end of a blob, and notes what they tell; answers how many were taken, and whether a blob
+// Gives held bytes to an engine, up to the end of a blob, and notes what they tell; answers how many were taken, and whether a blob
 // ends behind them.
 fn feed_noted(
     engine: &mut Engine,
@@ -167,12 +167,11 @@ fn feed_noted(
     start: u64,
     held: &[u8],
 ) -> Result<(usize, bool), Stop>
-    requires some { 0 < length held.now }
     requires room { count_of engine.old + length held.now ≤ 2 ^ 63 }
     requires begin { start ≤ 2 ^ 62 }
     ensures limits { allowance_of engine.new ≡ allowance_of engine.old }
     ensures few { count_of engine.new ≤ count_of engine.old + length held.now }
-    ensures within { IfOk result (λ taken. (0 < taken.0) × (taken.0 ≤ length held.now)) }
+    ensures all { IfOk result (λ taken. TakesAll (length held.now) taken) }
     ensures fed { TakesNoted start held.now result flat.old flat.new engine.old engine.new notes.old notes.new }
 {
     let mut used = 0;
@@ -189,7 +188,8 @@ fn feed_noted(
     Ok((used, false))
 }
 
-// Gives the held bytes to an engine, up to the end of a blob, and notes what they tell where spans are asked for; answers as `feed_noted`.
+// Gives held bytes to an engine, up to the end of a blob, and notes what they tell where spans are asked for; answers as `feed_noted`.
+#[inline(always)]
 pub(crate) fn feed_piece(
     engine: &mut Engine,
     flat: &mut Flat,
@@ -198,13 +198,13 @@ pub(crate) fn feed_piece(
     held: &[u8],
     asked: bool,
 ) -> Result<(usize, bool), Stop>
-    requires some { 0 < length held.now }
     requires room { count_of engine.old + length held.now ≤ 2 ^ 63 }
     requires begin { start ≤ 2 ^ 62 }
     ensures limits { allowance_of engine.new ≡ allowance_of engine.old }
     ensures few { count_of engine.new ≤ count_of engine.old + length held.now }
     ensures within { IfOk result (λ taken. taken.0 ≤ length held.now) }
-    ensures fed { TakesPiece asked start held.now result flat.old flat.new engine.old engine.new notes.old notes.new }
+    ensures fed { (bs : List ℕ) → StandsAt bs flat.old engine.old → IsFed (allowance_of engine.old) bs held.now result flat.new engine.new }
+    ensures noted { asked ≡ true → FeedsNoted start held.now result flat.old flat.new engine.old engine.new notes.old notes.new }
 {
     if asked {
         feed_noted(engine, flat, notes, start, held)

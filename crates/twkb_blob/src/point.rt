@@ -1,8 +1,8 @@
 //! A blob that is a single point, read at once.
-ghost use Rattle.std.specs.Prelude.{◌≡◌, ◌∷◌, [], true, false, Ok, None, IfOk, IfSome, OnErr};
+ghost use Rattle.std.specs.Prelude.{◌≡◌, ◌≤◌, length, ◌∷◌, [], true, false, Ok, None, IfOk, IfSome, OnErr};
 ghost use Rattle.twkb_io.specs.Inputs.{input_failures, input_tap, is_spent};
 ghost use Rattle.twkb_blob.specs.Readers.{PartAhead};
-ghost use Rattle.twkb_blob.specs.Located.{IsSpanned};
+ghost use Rattle.twkb_blob.specs.Located.{IsSpanned, point_span};
 
 use crate::root::take_root_point;
 use std::alloc::AllocError;
@@ -12,6 +12,23 @@ use twkb_grammar::Span;
 use twkb_header::TypeByte;
 use twkb_io::Input;
 use twkb_tree::{Kind, Limits};
+
+// The span of a blob that is a single point, of these bytes, which begins at this offset.
+#[inline(always)]
+pub(crate) fn span_of_point(offset: u64, blob: &[u8]) -> Span
+    requires long { 2 ≤ length blob.now }
+    ensures { result ≡ point_span offset blob.now }
+{
+    Span {
+        level: 0,
+        offset,
+        kind: Kind::Point,
+        precision: TypeByte::from_byte(blob[0]).precision(),
+        metadata: blob[1],
+        length: blob.len() as u64,
+        points: 1,
+    }
+}
 
 // Whether an input holds bytes and was not refused. It stays as it is.
 #[inline(always)]
@@ -48,15 +65,7 @@ pub(crate) fn read_point<R: Read>(
     let Some(used) = take_root_point(flat, limits, held)? else {
         return Ok(None);
     };
-    let span = Span {
-        level: 0,
-        offset,
-        kind: Kind::Point,
-        precision: TypeByte::from_byte(held[0]).precision(),
-        metadata: held[1],
-        length: used as u64,
-        points: 1,
-    };
+    let span = span_of_point(offset, &held[..used]);
     input.advance(used);
     Ok(Some(span))
 }

@@ -1,13 +1,10 @@
 //! A blob that is a single point, in front of bytes.
-ghost use Rattle.std.specs.Prelude.{◌≡◌, ◌-◌, ◌/◌, ◌≤◌, ◌∷◌, [], true, IfOk, IfSome, OnErr, Ok, None, get_or};
-ghost use Rattle.twkb_num.specs.Zigzag.{unzigzag_of};
-ghost use Rattle.twkb_points.specs.Point.{Point};
-ghost use Rattle.twkb_tree.specs.Rows.{whole_row};
-ghost use Rattle.twkb_tree.specs.declared.kind.Kind.TheVariants as kind;
+ghost use Rattle.std.specs.Prelude.{◌≡◌, ◌-◌, ◌≤◌, [], true, IfOk, IfSome, OnErr, Ok, None};
 ghost use Rattle.twkb_grammar.specs.PlainReader.{is_exact};
 ghost use Rattle.twkb_front.specs.Whole.{WholePoint};
 ghost use Rattle.twkb_outline.specs.Parts.{PartIn};
 ghost use Rattle.twkb_engine.specs.Standing.{MadeIn};
+ghost use Rattle.twkb_blob.specs.Located.{HasPointRow};
 
 use std::alloc::AllocError;
 use twkb_flat::Flat;
@@ -41,7 +38,7 @@ pub(crate) fn take_root_point(
 ) -> Result<Option<usize>, AllocError>
     ensures long { IfOk result (λ found. IfSome found (λ used. 3 ≤ used)) }
     ensures made { IfOk result (λ found. IfSome found (λ used. MadeIn limits [] bytes.now used flat.new)) }
-    ensures row { IfOk result (λ found. IfSome found (λ used. (to : Point) × (flat.new ≡ whole_row 0 kind.Point None (unzigzag_of (get_or bytes.now 0 0 / 16)) (to ∷ []) ∷ []))) }
+    ensures row { IfOk result (λ found. IfSome found (λ used. HasPointRow bytes.now flat.new)) }
     ensures none { result ≡ Ok None → flat.new ≡ flat.old }
     ensures memory { OnErr result (PartIn limits [] bytes.now) }
 {

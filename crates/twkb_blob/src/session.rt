@@ -1,13 +1,14 @@
 //! A stream of blobs that comes in pieces.
-ghost use Rattle.std.specs.Prelude.{◌≡◌, ◌<◌, ◌≤◌, ◌^◌, ◌↔◌, ◌+◌, [], List, ℕ, true, false, Ok, Err, None, is_err, length, IfOk, IfErr, IfSome};
+ghost use Rattle.std.specs.Prelude.{◌≡◌, ◌<◌, ◌≤◌, ◌^◌, ◌↔◌, ◌+◌, [], List, ℕ, true, false, Ok, Err, None, is_err, length, IfOk, IfErr, IfSome, OnErr, Bool};
 ghost use Rattle.twkb_tree.specs.Tree.{Tree};
-ghost use Rattle.twkb_tree.specs.Rows.{rows};
+ghost use Rattle.twkb_tree.specs.Rows.{Row, rows};
 ghost use Rattle.twkb_tree.specs.Limits.{IsValid, largest_limits};
-ghost use Rattle.twkb_engine.specs.Standing.{count_of};
+ghost use Rattle.twkb_engine.specs.Standing.{StandsAt, IsEnd, count_of, offset_in};
 ghost use Rattle.twkb_blob.specs.Readers.{failed_by_read};
 
 use crate::fault::{BlobFault, fault_at};
 use crate::feeding::feed;
+use crate::notes::SpanNotes;
 use std::alloc::{AllocError, Global};
 use twkb_engine::{BlobReason, Engine, Stop};
 use twkb_flat::Flat;
@@ -46,7 +47,9 @@ fn refused(fault: BlobFault) -> Result<(usize, Option<Geometry>), BlobFault>
 }
 
 impl Session {
-    ghost use Rattle.twkb_blob.specs.Sessions.{Stands, FedFlat, FedSession, Finished, HeldOf, FramesOf, byte_answer, is_spent, session_limits, session_held, session_open, session_rows};
+    ghost use Rattle.twkb_grammar.specs.Noting.{no_notes};
+    ghost use Rattle.twkb_blob.specs.Spanned.{FedSpans};
+    ghost use Rattle.twkb_blob.specs.Sessions.{Stands, FedFlat, FedSession, Finished, HeldOf, FramesOf, begun_rows, byte_answer, is_spent, session_limits, session_held, session_open, session_rows};
 
     /// A session before the first byte. Takes no memory.
     pub fn new(alloc: Global, limits: Limits) -> Session
@@ -148,11 +151,42 @@ impl Session {
                 };
             }
         }
+        let mut notes = self.no_notes();
         // told anew: an answer that a call wrote would be copied for single bytes too
-        match self.feed_piece(piece) {
+        match self.feed_piece(piece, &mut notes, false) {
             Ok((used, ended)) => Ok((used, ended)),
             Err(fault) => Err(fault),
         }
+    }
+
+    // Takes bytes as `feed_flat` does, and notes what they tell of spans, whose offsets count from the stream's start: where these were the
+    // notes of the geometry that is read, as far as it came, they stay so, and behind it they are its spans. A span takes memory.
+    #[inline(always)]
+    pub(crate) fn feed_spans(
+        &mut self,
+        piece: &[u8],
+        notes: &mut SpanNotes,
+    ) -> Result<(usize, bool), BlobFault>
+        ensures fed { (bytes : List ℕ) (gs : List Tree) → Stands bytes gs self.old → FedFlat bytes gs piece.now result self.new }
+        ensures within { IfOk result (λ fed. fed.0 ≤ length piece.now) }
+        ensures unread { failed_by_read result ≡ false }
+        ensures spent { (result ≡ Err BlobFault.Spent) ↔ (is_spent self.old ≡ true) }
+        ensures stays { is_spent self.new ≡ is_err result }
+        ensures limits { session_limits self.new ≡ session_limits self.old }
+        ensures noted { IfOk result (λ fed. FedSpans piece.now fed self.old self.new notes.old notes.new) }
+    {
+        if self.spent {
+            return Err(BlobFault::Spent);
+        }
+        self.feed_piece(piece, notes, true)
+    }
+
+    // Notes of nothing. Takes no memory.
+    #[inline(always)]
+    pub(crate) fn no_notes(&self) -> SpanNotes
+        ensures { result ≡ no_notes }
+    {
+        SpanNotes::new(self.alloc)
     }
 
     // How many bytes it took of the stream.
@@ -192,9 +226,14 @@ impl Session {
         }
     }
 
-    // Takes a piece, up to where a stream may have no further byte.
+    // Takes a piece, up to where a stream may have no further byte, and notes what it tells where spans are asked for.
     #[inline(always)]
-    fn feed_piece(&mut self, piece: &[u8]) -> Result<(usize, bool), BlobFault>
+    fn feed_piece(
+        &mut self,
+        piece: &[u8],
+        notes: &mut SpanNotes,
+        asked: bool,
+    ) -> Result<(usize, bool), BlobFault>
         requires live { self.old.spent ≡ false }
         ensures fed { (bytes : List ℕ) (gs : List Tree) → Stands bytes gs self.old → FedFlat bytes gs piece.now result self.new }
         ensures within { IfOk result (λ fed. fed.0 ≤ length piece.now) }
@@ -202,17 +241,17 @@ impl Session {
         ensures spent { (result ≡ Err BlobFault.Spent) ↔ (is_spent self.old ≡ true) }
         ensures stays { is_spent self.new ≡ is_err result }
         ensures limits { session_limits self.new ≡ session_limits self.old }
+        ensures noted { asked ≡ true → IfOk result (λ fed. FedSpans piece.now fed self.old self.new notes.old notes.new) }
     {
         twkb_grammar::laws::one_stream();
         twkb_outline::laws::reading();
         self.begin();
         self.spent = true;
         let taken = self.taken();
-        let Some(room) = MAX_BYTES.checked_sub(taken) else {
-            return Err(BlobFault::Device(InFault::TooLong));
-        };
-        let count = room.min(piece.len() as u64) as usize;
-        match feed(&mut self.engine, &mut self.flat, &piece[..count]) {
+        let count = room_in(taken, piece)?;
+        let start = self.start;
+        let front = &piece[..count];
+        match feed(&mut self.engine, &mut self.flat, notes, start, front, asked) {
             Ok((used, true)) => {
                 self.is_whole = true;
                 self.start = taken + used as u64;
@@ -221,15 +260,23 @@ impl Session {
             }
             Ok((used, false)) => {
                 if count < piece.len() {
-                    // learnt: the engine stands behind bytes that it took
-                    let _learnt = self.engine.is_between();
-                    return Err(BlobFault::Device(InFault::TooLong));
+                    return Err(self.too_long());
                 }
                 self.spent = false;
                 Ok((used, false))
             }
             Err(stop) => Err(fault_at(self.start + self.engine.offset(), stop)),
         }
+    }
+
+    // The refusal of bytes past the most that a stream may have: those before are whole blobs, or are cut inside one.
+    fn too_long(&self) -> BlobFault
+        ensures fault { result ≡ BlobFault.Device InFault.TooLong }
+        ensures within { (bs : List ℕ) (rs : List Row) → StandsAt bs rs self.now.engine → (between : Bool) × IsEnd (session_limits self.now) bs (offset_in self.now.engine) between }
+    {
+        // learnt: the engine stands behind bytes that it took
+        let _learnt = self.engine.is_between();
+        BlobFault::Device(InFault::TooLong)
     }
 
     // Clears the form where it still has the rows of the last geometry.
@@ -239,6 +286,7 @@ impl Session {
         ensures engine { self.new.engine ≡ self.old.engine }
         ensures start { self.new.start ≡ self.old.start }
         ensures spent { self.new.spent ≡ self.old.spent }
+        ensures rows { session_rows self.new ≡ begun_rows self.old }
     {
         if self.is_whole {
             self.flat.clear();
@@ -300,4 +348,18 @@ impl Session {
         let _learnt = self.engine.is_between();
         self.engine.open_geometries()
     }
+}
+
+// How many bytes of a piece a stream may have behind so many.
+#[inline(always)]
+fn room_in(taken: u64, piece: &[u8]) -> Result<usize, BlobFault>
+    ensures fits { IfOk result (λ count. (taken + count ≤ 2 ^ 62) × (count ≤ length piece.now)) }
+    ensures full { IfOk result (λ count. count < length piece.now → taken + count ≡ 2 ^ 62) }
+    ensures past { OnErr result (2 ^ 62 < taken) }
+    ensures fault { IfErr result (λ why. why ≡ BlobFault.Device InFault.TooLong) }
+{
+    let Some(room) = MAX_BYTES.checked_sub(taken) else {
+        return Err(BlobFault::Device(InFault::TooLong));
+    };
+    Ok(room.min(piece.len() as u64) as usize)
 }

@@ -1,6 +1,7 @@
 //! Geometries with the place and the header of each.
-ghost use Rattle.std.specs.Prelude.{◌≡◌, ◌∷◌, [], OnOk};
+ghost use Rattle.std.specs.Prelude.{◌≡◌, ◌⊎◌, ◌∷◌, [], true, Ok, OnOk};
 
+use crate::fault::BlobFault;
 use crate::notes::SpanNotes;
 use std::alloc::{AllocError, Global};
 use std::marker::Model;
@@ -77,4 +78,20 @@ pub struct Located {
     pub geometry: Geometry,
     /// Where it and its members stand, and what their headers say.
     pub spans: Spans,
+}
+
+// Leaves spans in a list only where this is the answer that a geometry was read; answers the same.
+pub(crate) fn keep_spans(
+    found: Result<bool, BlobFault>,
+    spans: &mut Spans,
+) -> Result<bool, BlobFault>
+    ensures same { result ≡ found }
+    ensures made { found ≡ Ok true → spans.new ≡ spans.old }
+    ensures cleared { (found ≡ Ok true) ⊎ (spans.new ≡ []) }
+{
+    if let Ok(true) = found {
+        return found;
+    }
+    spans.clear();
+    found
 }

@@ -14,8 +14,6 @@ use Rattle.twkb_blob.specs.declared.session.Session.{Session}
 use Rattle.twkb_tree.specs.Rows.{Row}
 use Rattle.twkb_convert.specs.BlobReading.{given, limits_of, reader_tap, rest_of}
 use Rattle.twkb_convert.specs.BlobSending.{EndsBlobs, IsReady}
-use Rattle.twkb_convert.specs.declared.listing.Listing.{Listing}
-use Rattle.twkb_convert.specs.declared.listing.Listing.TheVariants as listing
 
 -- where nothing was left and nothing was lost, a device tells nothing
 told_none : (known told : Option (List ℕ)) (held : List ℕ) → IsAtEnd known → Consumes known (prepend_known held told) [] → IfSome known (λ bytes. IsAtEnd told)
@@ -27,9 +25,8 @@ told_none (Some xs) (Some ys) held end loses =
 
 module _ {R : Type 0} {read : Ghosts R} where
   -- a new session, where the reader has read nothing
-  pub ready_first : (what : Listing) (reader : Reader R read) (s : Session) (limits : Allowance) → Stands [] [] s → session_limits s ≡ limits → limits_of reader ≡ limits → given reader ≡ 0 → IsReady what reader s
-  ready_first listing.Table reader s limits stands own same none = record { bytes = []; gs = []; stands = stands; blobs = refl; same_limits = own ∙ sym same; as_many = none }
-  ready_first listing.Headers reader s limits stands own same none = tt
+  pub ready_first : (reader : Reader R read) (s : Session) (limits : Allowance) → Stands [] [] s → session_limits s ≡ limits → limits_of reader ≡ limits → given reader ≡ 0 → IsReady reader s
+  ready_first reader s limits stands own same none = record { bytes = []; gs = []; stands = stands; blobs = refl; same_limits = own ∙ sym same; as_many = none }
 
   -- no blob is left
   pub ended_blobs : (from to : Reader R read) (rs : List Row) → IsNextFlat (limits_of from) (reader_input from) (reader_input to) (Ok false) rs → EndsBlobs read.remaining from to

@@ -21,7 +21,6 @@ use Rattle.twkb_convert.specs.Fronts.{FrontOfText}
 use Rattle.twkb_convert.specs.LocatedBlobs.{LocatedStream}
 use Rattle.twkb_convert.specs.Listings.{blob_text, blobs_text}
 use Rattle.twkb_convert.specs.declared.listing.Listing.{Listing}
-use Rattle.twkb_convert.specs.declared.listing.Listing.TheVariants as listing
 use Rattle.twkb_convert.specs.declared.obstacle.StreamObstacle.{StreamObstacle}
 use Rattle.twkb_convert.specs.declared.obstacle.StreamObstacle.TheVariants as obstacle
 use Rattle.twkb_convert.specs.declared.obstacle.Unfinished.{Unfinished}
@@ -67,10 +66,9 @@ pub record StopsRead {R : Type 0} {read : Ghosts R} (from : Reader R read) (why 
   pub follows : Follows from to has_failed
   pub told : (has_failed ≡ is_read why) ⊎ (is_write why ≡ true)
 
--- Where a table is written, the session reads what the reader reads: it stands between two blobs, behind as many bytes.
-abbrev pub IsReady : {R : Type 0} {read : Ghosts R} → Listing → Reader R read → Session → Type 0
-IsReady listing.Table reader s = IsAbreast (limits_of reader) (reader_input reader) s
-IsReady listing.Headers reader s = ⊤
+-- The session reads what the reader reads: it stands between two blobs, behind as many bytes.
+abbrev pub IsReady : {R : Type 0} {read : Ghosts R} → Reader R read → Session → Type 0
+IsReady reader s = IsAbreast (limits_of reader) (reader_input reader) s
 
 -- No bytes are left for another blob.
 pub record EndsBlobs {R : Type 0} {read : Ghosts R} (remaining : R → Option (List ℕ)) (from to : Reader R read) : Type 0 where

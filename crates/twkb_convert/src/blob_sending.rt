@@ -107,13 +107,12 @@ fn send_blobs<R: Read, W: Write>(
 {
     let mut session = Session::new(alloc, limits);
     let mut room = TextRoom::new(alloc);
-    send_each(what, alloc, reader, &mut session, &mut room, output)
+    send_each(what, reader, &mut session, &mut room, output)
 }
 
 // The same through a session that is ready. It and the room are kept from one blob to the next.
 fn send_each<R: Read, W: Write>(
     what: Listing,
-    alloc: Global,
     reader: &mut Reader<'_, R>,
     session: &mut Session,
     room: &mut TextRoom,
@@ -122,7 +121,7 @@ fn send_each<R: Read, W: Write>(
     requires reader { is_spent reader.old ≡ false }
     requires going_on { has_ended reader.old ≡ false }
     requires input { is_input_spent reader.old ≡ false }
-    requires session { IsReady what reader.old session.old }
+    requires session { IsReady reader.old session.old }
     requires output { Outputs.is_spent output.old ≡ false }
     ensures ok { IfOk result (λ done. SentText (blobs_text what) W.contents reader.old output.old output.new done) }
     ensures unfailed { IfOk result (λ done. Follows reader.old reader.new false × IsEnded R.remaining reader.old reader.new) }
@@ -132,7 +131,7 @@ fn send_each<R: Read, W: Write>(
     twkb_grammar::laws::some_byte();
     let mut done = 0;
     loop {
-        match send_blob(what, alloc, reader, session, room, output) {
+        match send_blob(what, reader, session, room, output) {
             Ok(true) => done += 1,
             Ok(false) => return Ok(done),
             Err(why) => return Err(Unfinished { done, why }),
@@ -143,7 +142,6 @@ fn send_each<R: Read, W: Write>(
 // Sends the text of the next blob in one piece, and answers whether there was one.
 fn send_blob<R: Read, W: Write>(
     what: Listing,
-    alloc: Global,
     reader: &mut Reader<'_, R>,
     session: &mut Session,
     room: &mut TextRoom,
@@ -152,19 +150,19 @@ fn send_blob<R: Read, W: Write>(
     requires reader { is_spent reader.old ≡ false }
     requires going_on { has_ended reader.old ≡ false }
     requires input { is_input_spent reader.old ≡ false }
-    requires session { IsReady what reader.old session.old }
+    requires session { IsReady reader.old session.old }
     requires output { Outputs.is_spent output.old ≡ false }
     ensures more { IfOk result (λ found. found ≡ true → SentBlob what W.contents reader.old output.old reader.new output.new) }
     ensures fresh { IfOk result (λ found. is_spent reader.new ≡ false) }
     ensures going_on { IfOk result (λ found. found ≡ true → has_ended reader.new ≡ false) }
     ensures input { IfOk result (λ found. found ≡ true → is_input_spent reader.new ≡ false) }
-    ensures session { IfOk result (λ found. found ≡ true → IsReady what reader.new session.new) }
+    ensures session { IfOk result (λ found. found ≡ true → IsReady reader.new session.new) }
     ensures end { IfOk result (λ found. found ≡ false → EndsBlobs R.remaining reader.old reader.new × (output.new ≡ output.old)) }
     ensures follows { IfOk result (λ found. Follows reader.old reader.new false) }
     ensures err { IfErr result (λ why. StopsBlob what W.contents reader.old output.old why reader.new output.new) }
     ensures stops { IfErr result (λ why. StopsRead reader.old why reader.new) }
 {
-    match next_text(what, alloc, reader, session, room) {
+    match next_text(what, reader, session, room) {
         Ok(true) => {}
         Ok(false) => return Ok(false),
         Err(fault) => return Err(StreamObstacle::Stream(fault)),

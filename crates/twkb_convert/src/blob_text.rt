@@ -9,14 +9,13 @@ use crate::span_line::put_lines;
 use std::alloc::Global;
 use std::io::Read;
 use twkb_blob::{BlobFault, Reader, Session, Spans};
-use twkb_flat::{Flat, Work};
+use twkb_flat::Work;
 use twkb_table::put_flat_rows;
 
-// What is kept from one blob to the next: room for the rows and the spans of which lines are made, and
-// the text of a blob.
+// What is kept from one blob to the next: room for the spans of which lines are made, and the text of
+// a blob.
 #[derive(Drop)]
 pub(crate) struct TextRoom {
-    form: Flat,
     spans: Spans,
     pub(crate) text: Vec<u8>,
 }
@@ -25,18 +24,16 @@ impl TextRoom {
     // Takes no memory.
     pub(crate) fn new(alloc: Global) -> TextRoom {
         TextRoom {
-            form: Flat::new(alloc),
             spans: Spans::new(alloc),
             text: Vec::new(alloc),
         }
     }
 }
 
-// Reads the next blob, if there is one, and makes the room's text what is written of it. A table's
-// rows come through the session.
+// Reads the next blob through the session, if there is one, and makes the room's text what is written
+// of it.
 pub(crate) fn next_text<R: Read>(
     what: Listing,
-    alloc: Global,
     reader: &mut Reader<'_, R>,
     session: &mut Session,
     room: &mut TextRoom,
@@ -44,12 +41,12 @@ pub(crate) fn next_text<R: Read>(
     requires reader { is_spent reader.old ≡ false }
     requires going_on { has_ended reader.old ≡ false }
     requires input { is_input_spent reader.old ≡ false }
-    requires session { IsReady what reader.old session.old }
+    requires session { IsReady reader.old session.old }
     ensures more { IfOk result (λ found. found ≡ true → GivesText what reader.old reader.new room.new.text.items) }
     ensures fresh { IfOk result (λ found. is_spent reader.new ≡ false) }
     ensures going_on { IfOk result (λ found. found ≡ true → has_ended reader.new ≡ false) }
     ensures input { IfOk result (λ found. found ≡ true → is_input_spent reader.new ≡ false) }
-    ensures session { IfOk result (λ found. found ≡ true → IsReady what reader.new session.new) }
+    ensures session { IfOk result (λ found. found ≡ true → IsReady reader.new session.new) }
     ensures end { IfOk result (λ found. found ≡ false → EndsBlobs R.remaining reader.old reader.new) }
     ensures follows { IfOk result (λ found. Follows reader.old reader.new false) }
     ensures err { IfErr result (λ fault. StopsText reader.old fault reader.new) }
@@ -57,7 +54,7 @@ pub(crate) fn next_text<R: Read>(
 {
     match what {
         Listing::Table => next_rows(reader, session, &mut room.text),
-        Listing::Headers => next_lines(alloc, reader, room),
+        Listing::Headers => next_lines(reader, session, room),
     }
 }
 
@@ -70,12 +67,12 @@ fn next_rows<R: Read>(
     requires reader { is_spent reader.old ≡ false }
     requires going_on { has_ended reader.old ≡ false }
     requires input { is_input_spent reader.old ≡ false }
-    requires session { IsReady Listing.Table reader.old session.old }
+    requires session { IsReady reader.old session.old }
     ensures more { IfOk result (λ found. found ≡ true → GivesText Listing.Table reader.old reader.new text.new.items) }
     ensures fresh { IfOk result (λ found. is_spent reader.new ≡ false) }
     ensures going_on { IfOk result (λ found. found ≡ true → has_ended reader.new ≡ false) }
     ensures input { IfOk result (λ found. found ≡ true → is_input_spent reader.new ≡ false) }
-    ensures session { IfOk result (λ found. found ≡ true → IsReady Listing.Table reader.new session.new) }
+    ensures session { IfOk result (λ found. found ≡ true → IsReady reader.new session.new) }
     ensures end { IfOk result (λ found. found ≡ false → EndsBlobs R.remaining reader.old reader.new) }
     ensures follows { IfOk result (λ found. Follows reader.old reader.new false) }
     ensures err { IfErr result (λ fault. StopsText reader.old fault reader.new) }
@@ -95,23 +92,25 @@ fn next_rows<R: Read>(
 
 // Makes the room's text that of the headers of the next blob.
 fn next_lines<R: Read>(
-    alloc: Global,
     reader: &mut Reader<'_, R>,
+    session: &mut Session,
     room: &mut TextRoom,
 ) -> Result<bool, BlobFault>
     requires reader { is_spent reader.old ≡ false }
     requires going_on { has_ended reader.old ≡ false }
     requires input { is_input_spent reader.old ≡ false }
+    requires session { IsReady reader.old session.old }
     ensures more { IfOk result (λ found. found ≡ true → GivesText Listing.Headers reader.old reader.new room.new.text.items) }
     ensures fresh { IfOk result (λ found. is_spent reader.new ≡ false) }
     ensures going_on { IfOk result (λ found. found ≡ true → has_ended reader.new ≡ false) }
     ensures input { IfOk result (λ found. found ≡ true → is_input_spent reader.new ≡ false) }
+    ensures session { IfOk result (λ found. found ≡ true → IsReady reader.new session.new) }
     ensures end { IfOk result (λ found. found ≡ false → EndsBlobs R.remaining reader.old reader.new) }
     ensures follows { IfOk result (λ found. Follows reader.old reader.new false) }
     ensures err { IfErr result (λ fault. StopsText reader.old fault reader.new) }
     ensures stops { IfErr result (λ fault. Follows reader.old reader.new (is_read_stop fault)) }
 {
-    match reader.next_spans(alloc, &mut room.form, &mut room.spans) {
+    match reader.next_spans(session, &mut room.spans) {
         Ok(true) => {}
         Ok(false) => return Ok(false),
         Err(fault) => return Err(fault),

@@ -2,7 +2,7 @@
 use super::ways::fault_of;
 use std::alloc::Global;
 use std::io::Read;
-use twkb_blob::{BlobFault, BlobReason, Reader, Session};
+use twkb_blob::{BlobFault, BlobReason, Reader, Session, Spans};
 use twkb_geom::{Limits, NodeId, Work};
 use twkb_io::{Fuse, FuseEnd, InFault, Input, Tap};
 
@@ -53,6 +53,42 @@ fn gives_all<R: Read>(alloc: Global, tap: &mut Tap<R>) -> bool {
 #[test]
 fn blobs_of_an_input_come_through_one_session(rt: HostRuntime) {
     assert!(rt; gives_all(rt.alloc(), &mut Tap::new(KINDS)));
+}
+
+// Whether the next geometry comes with so many spans, of which the last begins here.
+fn gives_spans<R: Read>(
+    reader: &mut Reader<'_, R>,
+    session: &mut Session,
+    spans: &mut Spans,
+    count: usize,
+    offset: u64,
+) -> bool {
+    let answer = reader.next_spans(session, spans);
+    let told = spans.as_slice();
+    if count == 0 || told.len() != count {
+        return false;
+    }
+    (answer == Ok(true)) & (told[count - 1].offset == offset)
+}
+
+// Whether the spans of the first two come, in one list, the third without, and at the end none.
+fn tells_spans<R: Read>(alloc: Global, tap: &mut Tap<R>) -> bool {
+    let mut reader = Reader::new(Input::new(tap), Limits::standard());
+    let mut session = Session::new(alloc, Limits::standard());
+    let mut spans = Spans::new(alloc);
+    let are_told = gives_spans(&mut reader, &mut session, &mut spans, 1, 0)
+        & gives_spans(&mut reader, &mut session, &mut spans, 3, 18)
+        & gives(&mut reader, &mut session, 1, 1, None);
+    let is_ended = reader.next_spans(&mut session, &mut spans) == Ok(false);
+    are_told & is_ended & spans.as_slice().is_empty()
+}
+
+#[test]
+fn spans_come_through_the_same_session_whatever_the_reads(rt: HostRuntime) {
+    for step in 1..12 {
+        let mut tap = Tap::new(Fuse::new(KINDS, 99, step, FuseEnd::Fail, false));
+        assert!(rt; tells_spans(rt.alloc(), &mut tap), "{step} bytes");
+    }
 }
 
 // The input ends inside the second blob, at its byte 12.

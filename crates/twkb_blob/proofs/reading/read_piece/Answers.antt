@@ -1,10 +1,11 @@
-use Rattle.std.proofs.Common.{refl, ◌^◌, ◌≡◌, ap, ◌∙◌, sym, [], arith}
+use Rattle.std.proofs.Common.{refl, ◌^◌, ◌≡◌, ap, ◌∙◌, sym, [], Ok, Err, arith}
 use Rattle.std.proofs.lemmas.List.{nil_from_length}
 use Rattle.twkb_io.specs.Taps.{count_failure}
 use Rattle.twkb_io.specs.Inputs.{given, held_of, input_failures, unused}
 use Rattle.twkb_engine.specs.Standing.{allowance_of}
+use Rattle.twkb_blob.specs.Located.{notes_at}
 use Rattle.twkb_blob.proofs.Pieces.{end_read, halted, read_halted, room_left, name_kept, failures_kept}
-use Rattle.twkb_blob.proofs.Bytes.{item_taken, item_stopped}
+use Rattle.twkb_blob.proofs.Bytes.{item_taken, item_stopped, piece_fed}
 use Rattle.twkb_blob.proofs.reading.read_piece.Goals as goal
 
 pub returns-in-Err-clause-read : goal.returns-in-Err-clause-read
@@ -20,12 +21,16 @@ pub returns-clause-read : goal.returns-clause-read
 returns-clause-read g c = λ bs s told.
     item_taken (allowance_of c.args.engine.now) c.args.asked c.args.start bs c.held-held.result.now c.args.input.now c.fill.new.self c.advance.new.self c.in-Ok.taken c.made_of.result c.feed_piece.new.flat c.feed_piece.new.engine c.feed_piece.new.notes
     c.fill.ensures.keeps c.fill.ensures.given c.held-held.ensures.held c.in-Ok.ensures.within c.advance.ensures.gives c.advance.ensures.given
-    (c.advance.ensures.stays ∙ c.in_default.ensures.stays) c.made_of.ensures (c.in-Ok.ensures.fed bs s told)
+    (c.advance.ensures.stays ∙ c.in_default.ensures.stays) c.made_of.ensures
+    (piece_fed (allowance_of c.args.engine.now) c.args.asked (c.args.notes.now ≡ notes_at c.args.start s) c.args.start bs c.held-held.result.now (Ok c.in-Ok.taken) c.feed_piece.new.flat c.feed_piece.new.engine c.feed_piece.new.notes
+    (omega (arith, c.if-count-eq0.false)) (c.in-Ok.ensures.fed bs s) (λ on. (c.in-Ok.ensures.noted on).1 bs s) told)
 
 pub returns-in-Err-feed_piece-clause-read : goal.returns-in-Err-feed_piece-clause-read
 returns-in-Err-feed_piece-clause-read g c = λ bs s told.
     item_stopped (allowance_of c.args.engine.now) c.args.asked c.args.start bs c.held-held.result.now c.args.input.now c.fill.new.self c.in-Err-feed_piece.stop c.feed_piece.new.flat c.feed_piece.new.engine c.feed_piece.new.notes
-    c.fill.ensures.keeps c.held-held.ensures.front (c.in-Err-feed_piece.ensures.fed bs s told)
+    c.fill.ensures.keeps c.held-held.ensures.front
+    (piece_fed (allowance_of c.args.engine.now) c.args.asked (c.args.notes.now ≡ notes_at c.args.start s) c.args.start bs c.held-held.result.now (Err c.in-Err-feed_piece.stop) c.feed_piece.new.flat c.feed_piece.new.engine c.feed_piece.new.notes
+    (omega (arith, c.if-count-eq0.false)) (c.in-Err-feed_piece.ensures.fed bs s) (λ on. (c.in-Err-feed_piece.ensures.noted on).1 bs s) told)
 
 pub returns-in-Err-clause-failures : goal.returns-in-Err-clause-failures
 returns-in-Err-clause-failures g c = c.fill.ensures.failures ∙ ap (λ is. count_failure is (input_failures c.args.input.now)) (read_halted c.fill.result c.in-Err.fault c.in-Err.is)

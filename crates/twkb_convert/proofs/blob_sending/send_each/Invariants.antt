@@ -14,7 +14,7 @@ invariant-loop-done g l =
       reader : is_spent l.reader ≡ false;
       going_on : has_ended l.reader ≡ false;
       input : is_input_spent l.reader ≡ false;
-      session : IsReady l.what l.reader l.session;
+      session : IsReady l.reader l.session;
       output : Outputs.is_spent l.output ≡ false;
     }
 

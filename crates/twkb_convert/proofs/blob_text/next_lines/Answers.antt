@@ -1,4 +1,5 @@
-use Rattle.std.proofs.Common.{Bool, [], rules}
+use Rattle.std.proofs.Common.{Bool, rules}
+use Rattle.twkb_blob.specs.Sessions.{session_rows}
 use Rattle.twkb_convert.proofs.BlobTexts.{follows_stop, lines_given, text_stopped}
 use Rattle.twkb_convert.proofs.SessionLemmas.{ended_blobs}
 use Rattle.twkb_convert.proofs.blob_text.next_lines.Goals as goal
@@ -9,8 +10,9 @@ returns-in-Ok-false g c = record {
   fresh = search rules;
   going_on = search rules;
   input = search rules;
+  session = search rules;
   end = (λ none.
-      ended_blobs c.args.reader.now c.next_spans.new.self [] (rw c.in-Ok-false.field-0-test at (c.in-Ok-false.ensures.next c.requires.reader c.requires.going_on)));
+      ended_blobs c.args.reader.now c.next_spans.new.self (session_rows c.next_spans.new.session) (rw c.in-Ok-false.field-0-test at (c.in-Ok-false.ensures.next c.requires.session c.requires.reader c.requires.going_on)));
   follows = search rules;
   err = tt;
   stops = tt;
@@ -22,9 +24,10 @@ returns-in-Err g c = record {
   fresh = tt;
   going_on = tt;
   input = tt;
+  session = tt;
   end = tt;
   follows = tt;
-  err = text_stopped c.args.reader.now c.next_spans.new.self c.in-Err.fault (c.in-Err.ensures.next c.requires.reader c.requires.going_on) c.requires.input;
+  err = text_stopped c.args.reader.now c.next_spans.new.self c.in-Err.fault (c.in-Err.ensures.next c.requires.session c.requires.reader c.requires.going_on) c.requires.input;
   stops = follows_stop c.args.reader.now c.next_spans.new.self Bool c.in-Err.fault c.next_spans.ensures.same_tap c.next_spans.ensures.limits c.in-Err.ensures.failures c.next_spans.new.self.input.within;
 }
 
@@ -34,6 +37,7 @@ returns-then-is_err g c = record {
   fresh = tt;
   going_on = tt;
   input = tt;
+  session = tt;
   end = tt;
   follows = tt;
   err = search rules;
@@ -43,10 +47,11 @@ returns-then-is_err g c = record {
 pub returns : goal.returns
 returns g c = record {
   more = (λ found.
-      lines_given c.args.reader.now c.next_spans.new.self c.in-Ok-true.field-0 c.next_spans.new.flat c.next_spans.new.spans c.put_lines.new.text.items (c.in-Ok-true.ensures.next c.requires.reader c.requires.going_on) (search rules) (search rules));
+      lines_given c.args.reader.now c.next_spans.new.self c.in-Ok-true.field-0 (session_rows c.next_spans.new.session) c.next_spans.new.spans c.put_lines.new.text.items (c.in-Ok-true.ensures.next c.requires.session c.requires.reader c.requires.going_on) (search rules) (search rules));
   fresh = search rules;
   going_on = search rules;
   input = search rules;
+  session = search rules;
   end = search rules;
   follows = search rules;
   err = tt;
