@@ -45,7 +45,12 @@ impl PointSource for Copied<'_> {
 
     #[inline(always)]
     fn append_to<L: PointTail>(&self, points: &mut L) -> Result<(), AllocError> {
-        points.put_all(self.points)
+        // most rows have one point, or none
+        match self.points {
+            [] => Ok(()),
+            [point] => points.put(*point),
+            _ => points.put_all(self.points),
+        }
     }
 
     #[inline(always)]
