@@ -145,10 +145,11 @@ impl Session {
         if piece.len() == 1 {
             let taken = self.taken();
             if taken < MAX_BYTES {
-                return match self.feed_byte(piece, taken) {
-                    Ok(ended) => Ok((1, ended)),
-                    Err(stop) => Err(fault_at(self.start + self.engine.offset(), stop)),
+                let ended = match self.feed_byte(piece, taken) {
+                    Ok(ended) => ended,
+                    Err(stop) => return Err(fault_at(self.start + self.engine.offset(), stop)),
                 };
+                return Ok((1, ended));
             }
         }
         let mut notes = self.no_notes();

@@ -40,6 +40,11 @@ abbrev pub GoesOn : {E : Type 0} → Head → (n : ℕ) → Point → Body → L
 GoesOn h n to b rs (Ok false) c more = ⊤
 GoesOn h n to b rs r c more = TakesNumber h n to b rs r c more
 
+-- the first coordinate of a point is wanted
+abbrev pub WantsX : Spot → Type 0
+WantsX (Wanted zero lefts) = ⊤
+WantsX _ = ⊥
+
 -- a point is wanted, and others are left behind it in its list
 abbrev pub HasRun : Spot → Type 0
 HasRun (Wanted zero (suc left ∷ lefts)) = ⊤

@@ -1,10 +1,11 @@
 //! A body that is read into a flat form.
-ghost use Rattle.std.specs.Prelude.{◌≡◌, ℕ, OnOk, Ok, true, false};
+ghost use Rattle.std.specs.Prelude.{◌≡◌, ◌↔◌, ℕ, OnOk, Ok, IsTrue, true, false};
+ghost use Rattle.twkb_points.specs.Point.{Point};
 ghost use Rattle.twkb_tree.specs.Tree.{Ids};
 ghost use Rattle.twkb_grammar.specs.Machine as machine;
 ghost use Rattle.twkb_grammar.specs.Machine.{depth_of};
 ghost use Rattle.twkb_outline.specs.Outline.{spot_after, OnEnd};
-ghost use Rattle.twkb_outline.specs.Growing.{applied};
+ghost use Rattle.twkb_outline.specs.Growing.{applied, Nothing};
 ghost use Rattle.twkb_outline.specs.Reading.{SpotFits};
 ghost use Rattle.twkb_body.specs.Body.{form_of, spot_of, after_of, ids_at};
 ghost use Rattle.twkb_body.specs.Names.{ids_of};
@@ -31,7 +32,7 @@ pub struct Body {
 }
 
 impl Body {
-    ghost use Rattle.twkb_body.specs.Steps.{change_by, TakesNumber, GoesOn};
+    ghost use Rattle.twkb_body.specs.Steps.{change_by, step_in, step_behind, TakesNumber, GoesOn, WantsX};
     ghost use Rattle.twkb_body.specs.declared.head.Head as place;
 
     /// Whether it ends with its next number. Takes no memory.
@@ -97,8 +98,7 @@ impl Body {
     ) -> Result<bool, AllocError>
         ensures { TakesNumber head number position self.old flat.old result self.new flat.new }
     {
-        if let Spot::X(lefts) = self.spot {
-            self.spot = Spot::Y(lefts);
+        if self.take_x() {
             return Ok(true);
         }
         let after = self.after(number);
@@ -112,17 +112,28 @@ impl Body {
         Ok(true)
     }
 
-    /// Takes the next number, a coordinate that leads to this position, where few steps tell that the body goes on behind it: an x, or the y of a
-    /// point of a list with others behind it; answers whether it did, and else changes nothing. A point takes memory.
+    /// Takes the next number, if that is an x, wherever it leads; answers whether it is, and else changes nothing. Takes no memory.
     #[inline(always)]
-    pub fn take_coordinate(&mut self, flat: &mut Flat, position: Pt) -> Result<bool, AllocError>
+    pub fn take_x(&mut self) -> bool
+        ensures is_x { IsTrue result ↔ WantsX (spot_of self.old.spot) }
+        ensures goes_on { result ≡ true → (head : place.Head) (number : ℕ) → step_behind head number self.old ≡ step_in head self.new }
+        ensures rows { result ≡ true → (head : place.Head) (position : Point) → change_by position head self.old ≡ Nothing }
+        ensures same { result ≡ false → self.new ≡ self.old }
+    {
+        let Spot::X(lefts) = self.spot else {
+            return false;
+        };
+        self.spot = Spot::Y(lefts);
+        true
+    }
+
+    /// Takes the next number, if that is a y, which leads to this position, of a point that has others of its list behind it, as few steps
+    /// tell; answers whether it did, and else changes nothing. The point takes memory.
+    #[inline(always)]
+    pub fn take_y(&mut self, flat: &mut Flat, position: Pt) -> Result<bool, AllocError>
         ensures goes_on { (head : place.Head) (number : ℕ) → GoesOn head number position self.old flat.old result self.new flat.new }
         ensures same { result ≡ Ok false → (self.new ≡ self.old) × (flat.new ≡ flat.old) }
     {
-        if let Spot::X(lefts) = self.spot {
-            self.spot = Spot::Y(lefts);
-            return Ok(true);
-        }
         let Spot::Y(lefts) = self.spot else {
             return Ok(false);
         };

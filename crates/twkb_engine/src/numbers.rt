@@ -66,7 +66,13 @@ impl Builder {
         let Phase::Body(_, body) = &mut self.phase else {
             return Short::Left;
         };
-        match body.take_coordinate(flat, position) {
+        // an end of its own: so the way of an x saves no registers
+        if body.take_x() {
+            self.bytes += length;
+            self.position = position;
+            return Short::Taken;
+        }
+        match body.take_y(flat, position) {
             Ok(true) => {
                 self.bytes += length;
                 self.position = position;
