@@ -77,7 +77,7 @@ impl Engine {
         ensures count { count_of self.new ≤ count_of self.old + 1 }
         ensures taken { (bs : List ℕ) → StandsAt bs flat.old self.old → IsStep (allowance_of self.old) (bs ++ byte ∷ []) result flat.new self.new }
     {
-        if self.lead_header(&[byte]) > 0 {
+        if self.builder.lead_type(&[byte]) > 0 {
             return Ok(false);
         }
         self.builder.take_any(flat, u64::from(byte), 1)

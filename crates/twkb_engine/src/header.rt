@@ -263,7 +263,7 @@ impl Builder {
 
     // Takes a type byte in front, where it names a type; answers how many bytes it had, or 0. Takes no memory.
     #[inline(always)]
-    fn lead_type(&mut self, rest: &[u8]) -> usize
+    pub(crate) fn lead_type(&mut self, rest: &[u8]) -> usize
         requires some { 0 < length rest.now }
         requires room { self.old.bytes + length rest.now < 2 ^ 64 }
         ensures led { HeaderLeads self.old rest.now result self.new }

@@ -1,20 +1,29 @@
-use Rattle.std.proofs.Common.{rules, ◌≡◌, refl, sym, subst, arith}
-use Rattle.twkb_engine.specs.State.{IsByte}
+use Rattle.std.proofs.Common.{rules, ◌≡◌, [], ◌∷◌, take, refl, sym, subst, arith}
+use Rattle.twkb_engine.specs.Ahead.{note_next}
 use Rattle.twkb_engine.specs.Building.{Takes}
-use Rattle.twkb_engine.specs.Standing.{StandsAt}
+use Rattle.twkb_engine.specs.declared.builder.Builder.{Builder}
 use Rattle.twkb_engine.specs.declared.engine.Engine.{Engine}
-use Rattle.twkb_engine.proofs.Stepping.{byte_stepped, header_stepped}
+use Rattle.twkb_engine.proofs.Roles.{byte_alone}
+use Rattle.twkb_engine.proofs.Stepping.{builder_leads, byte_stepped, header_stepped}
 use Rattle.twkb_engine.proofs.engine.Engine.take_lead.Goals as goal
 
-pub returns-then-lead_header-gt0-clause-taken : goal.returns-then-lead_header-gt0-clause-taken
-returns-then-lead_header-gt0-clause-taken c = λ bs s.
-    header_stepped bs c.args.byte c.lead_header.result c.args.flat.now c.lead_header.new.self c.if-lead_header-gt0.true c.lead_header.ensures.within (c.lead_header.ensures.led c.args.flat.now bs s).0
+pub returns-then-lead_type-gt0-clause-taken : goal.returns-then-lead_type-gt0-clause-taken
+returns-then-lead_type-gt0-clause-taken c = λ bs s.
+    let d = c.args.self.now in
+    let rs = c.args.flat.now in
+    let used = c.lead_type.result in
+    let by = c.lead_type.ensures.led in
+    let bytes = take used (c.args.byte ∷ []) in
+    let e : Engine = record { builder = c.lead_type.new.self; partial = d.partial } in
+    header_stepped bs c.args.byte used rs e c.if-lead_type-gt0.true by.within
+    (builder_leads (note_next d.builder bytes) d c.lead_type.new.self bytes rs rs (byte_alone d.builder.phase c.requires.byte s.spelled) (by.led rs) bs s).0
 
 pub returns-clause-taken : goal.returns-clause-taken
 returns-clause-taken c = λ bs s.
-    let d : Engine = c.lead_header.new.self in
-    let same : d ≡ c.args.self.now = c.lead_header.ensures.same (omega (arith, c.if-lead_header-gt0.false)) in
+    let d = c.args.self.now in
+    let b : Builder = c.lead_type.new.self in
+    let same : b ≡ d.builder = c.lead_type.ensures.same (omega (arith, c.if-lead_type-gt0.false)) in
     let number : c.args.byte ≡ c.from.result = search rules in
-    rw c.lead_header.ensures.limits at
-    (byte_stepped bs c.args.byte c.args.flat.now c.take_any.new.flat d (record { builder = c.take_any.new.self; partial = d.partial }) c.take_any.result (subst (λ e. StandsAt bs c.args.flat.now e) (sym same) s)
-    (subst (λ (e : Engine). IsByte e.builder.phase) (sym same) c.requires.byte) c.ranges.byte.fits refl (subst (λ n. Takes d.builder n 1 c.args.flat.now c.take_any.result c.take_any.new.flat c.take_any.new.self) (sym number) c.take_any.ensures.taken))
+    byte_stepped bs c.args.byte c.args.flat.now c.take_any.new.flat d (record { builder = c.take_any.new.self; partial = d.partial }) c.take_any.result s
+    c.requires.byte c.ranges.byte.fits refl (subst (λ f. Takes f c.args.byte 1 c.args.flat.now c.take_any.result c.take_any.new.flat c.take_any.new.self) same
+    (subst (λ n. Takes b n 1 c.args.flat.now c.take_any.result c.take_any.new.flat c.take_any.new.self) (sym number) c.take_any.ensures.taken))
