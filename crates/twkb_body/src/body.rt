@@ -36,7 +36,7 @@ impl Body {
     ghost use Rattle.twkb_body.specs.declared.head.Head as place;
 
     /// Whether it ends with its next number. Takes no memory.
-    #[inline]
+    #[inline(always)]
     pub fn is_last(&self) -> bool
         ensures { result ≡ true → (h : machine.Head) (ids : Ids) (n : ℕ) → spot_after h (form_of self.now.form) ids n (spot_of self.now.spot) ≡ OnEnd h }
     {

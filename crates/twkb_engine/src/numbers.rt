@@ -8,7 +8,7 @@ use crate::phase::Phase;
 use crate::short::Short;
 use crate::stop::Stop;
 use std::alloc::AllocError;
-use twkb_body::{Spot, take_ids};
+use twkb_body::{Lefts, Spot, take_ids};
 use twkb_flat::Flat;
 use twkb_front::{front_number, moved_x, moved_y};
 use twkb_num::unzigzag;
@@ -35,7 +35,8 @@ impl Builder {
     ghost use Rattle.twkb_engine.specs.Building.{sums_of, outline_in, refusal, AreBehind, SaysNext, Takes};
     ghost use Rattle.twkb_engine.specs.Ahead.{StepsOn, StepsShortly, TakesAhead};
 
-    // Where the next number of a body leads, where that is a coordinate and nothing objects to it.
+    // Where the next number of a body leads, where that is a coordinate and nothing objects to it; `None` says nothing, and is the answer for
+    // the y of a single point, which ends it.
     #[inline(always)]
     pub(crate) fn coordinate(&self, number: u64) -> Option<Pt>
         ensures free { IfSome result (λ to. refusal self.now.limits (sums_of self.now) (outline_in self.now) number ≡ None) }
@@ -46,8 +47,8 @@ impl Builder {
         };
         match body.spot {
             Spot::X(_) => moved_x(self.position, unzigzag(number)),
+            Spot::Y(Lefts::Empty) | Spot::LineCount(_) | Spot::AreaCount(_) => None,
             Spot::Y(_) => moved_y(self.position, unzigzag(number)),
-            Spot::LineCount(_) | Spot::AreaCount(_) => None,
         }
     }
 
