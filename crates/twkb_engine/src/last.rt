@@ -9,7 +9,10 @@ use crate::builder::Builder;
 use crate::members::past_end;
 use crate::phase::Phase;
 use crate::stop::Stop;
+use twkb_body::Spot;
 use twkb_flat::Flat;
+use twkb_front::moved_y;
+use twkb_num::unzigzag;
 use twkb_points::Pt;
 
 impl Builder {
@@ -43,8 +46,14 @@ impl Builder {
         ensures free { IfSome result (λ to. refusal self.now.limits (sums_of self.now) (outline_in self.now) number ≡ None) }
         ensures added { IfSome result (λ to. AreBehind self.now number to self.now.nodes self.now.points) }
     {
-        match &self.phase {
-            Phase::Body(_, body) if body.is_last() => self.coordinate(number),
+        let Phase::Body(_, body) = &self.phase else {
+            return None;
+        };
+        if !body.is_last() {
+            return None;
+        }
+        match body.spot {
+            Spot::Y(_) => moved_y(self.position, unzigzag(number)),
             _ => None,
         }
     }

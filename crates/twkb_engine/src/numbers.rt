@@ -38,7 +38,7 @@ impl Builder {
     // Where the next number of a body leads, where that is a coordinate and nothing objects to it; `None` says nothing, and is the answer for
     // the y of a single point, which ends it.
     #[inline(always)]
-    pub(crate) fn coordinate(&self, number: u64) -> Option<Pt>
+    fn coordinate(&self, number: u64) -> Option<Pt>
         ensures free { IfSome result (λ to. refusal self.now.limits (sums_of self.now) (outline_in self.now) number ≡ None) }
         ensures added { IfSome result (λ to. AreBehind self.now number to self.now.nodes self.now.points) }
     {
