@@ -90,7 +90,7 @@ impl Session {
     #[inline(always)]
     fn give_tree(&mut self, used: usize) -> Result<(usize, Option<Geometry>), BlobFault>
         requires live { self.old.spent ≡ false }
-        ensures fed { (bytes : List ℕ) (gs : List Tree) (piece : List ℕ) (first : Session) → Stands bytes gs first → session_limits self.old ≡ session_limits first → FedFlat bytes gs piece (Ok (used, true)) self.old → FedSession bytes gs piece result self.new }
+        ensures fed { (bytes piece : List ℕ) (gs : List Tree) (was : Session) → Stands bytes gs was → session_limits self.old ≡ session_limits was → FedFlat bytes gs piece (Ok (used, true)) self.old → FedSession bytes gs piece result self.new }
         ensures memory { IfErr result (λ fault. fault ≡ BlobFault.Memory) }
         ensures stays { is_spent self.new ≡ is_err result }
         ensures limits { session_limits self.new ≡ session_limits self.old }
