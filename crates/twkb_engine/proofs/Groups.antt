@@ -1,10 +1,9 @@
 -- Members that begin, and the ends of geometries in collections.
-use Rattle.std.proofs.Common.{◌≡◌, ℕ, zero, suc, ◌+◌, ◌-◌, ◌<◌, List, [], ◌∷◌, ◌++◌, length, take, get_or, Bool, true, false, refl, sym, ap, ◌∙◌, subst, arith}
+use Rattle.std.proofs.Common.{◌≡◌, ℕ, zero, suc, ◌+◌, ◌-◌, ◌<◌, List, [], ◌∷◌, ◌++◌, length, take, get_or, true, refl, sym, ap, ◌∙◌, arith}
 use Rattle.std.proofs.Math.Seq.{take-append_seam}
 use Rattle.std.proofs.lemmas.List.{length-take-le}
-use Rattle.std.specs.Prelude.{Result, Ok}
+use Rattle.std.specs.Prelude.{Ok}
 use Rattle.twkb_tree.specs.Rows.{first_id, other_ids}
-use Rattle.twkb_grammar.specs.Fault.{Reason}
 use Rattle.twkb_grammar.specs.Machine as machine
 use Rattle.twkb_grammar.specs.Machine.{ManyGeometries}
 use Rattle.twkb_grammar.specs.PlainReader.{is_exact as exact}
@@ -12,10 +11,8 @@ use Rattle.twkb_outline.specs.Outline as outline
 use Rattle.twkb_outline.specs.Outline.{OnHeader, members_open, outline_past_end}
 use Rattle.twkb_outline.specs.Growing.{id_in}
 use Rattle.twkb_body.specs.Names.{ids_of}
-use Rattle.twkb_outline.specs.Parts.{Passes}
 use Rattle.twkb_body.specs.Body.{head_of}
 use Rattle.twkb_engine.specs.State.{group_of, groups_from, groups_of}
-use Rattle.twkb_engine.specs.Stops.{IsPast}
 use Rattle.twkb_engine.specs.declared.phase.Group.{Group}
 
 -- the last group is the innermost
@@ -45,11 +42,6 @@ pub going_on : (bytes : ℕ) (h : machine.Head) (old rest items : List Group) (f
 going_on bytes h old rest items f k x o i z l hd ids =
     let one : f.left ≡ suc k.left = omega (arith, z, l) in
     rw (x, o, i, groups_pushed [] rest f, groups_pushed [] rest k, one, hd, ids) refl
-
--- where they were passed, they pass
-pub past_passes : (way : Result outline.Outline Reason) (left : List Group) (whole : Bool) → IsPast way left (Ok whole) → Passes way
-past_passes way left true past = subst Passes (sym past) tt
-past_passes way left false past = subst Passes (sym past) tt
 
 -- the end of the last member is followed by that of its collection
 pub going_up : (bytes : ℕ) (h : machine.Head) (old rest : List Group) (f : Group) (up : machine.Head) → exact h.size (bytes - h.from) ≡ true → old ≡ rest ++ f ∷ [] → f.left ≡ 0
