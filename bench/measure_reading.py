@@ -4,7 +4,7 @@ import subprocess
 import sys
 
 MEGABYTE = 1_000_000
-WAYS = ("rows", "reader", "whole", "bytes", "text", "unpack", "show")
+WAYS = ("rows", "reader", "whole", "bytes", "text", "written", "unpack", "show")
 LOOPS = ("read", "keep")
 TELLING = ("rows", "reader", "whole", "bytes", "text")
 KINDS = ("points", "lines", "multipolygons", "multipoints", "collections")

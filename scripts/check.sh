@@ -1,42 +1,61 @@
 #!/usr/bin/env bash
-# The short round: one proof of each crate, the stored runs of the command and of `vectors`, the tests run without a proof, and the
-# smoke of the program. Wrong bodies and the proofs of tests are left to `make test`. The proofs are those of `rt ci`, over a copy that
-# has neither: what one of the two rounds has proved on this machine the other does not prove again.
+# The short round: one proof of each crate, the stored run of the command, the tests and `vectors` run without a proof, and the smoke of
+# the program. Wrong bodies and the proofs of what tests are left to `make test`. The proofs are those of `rt ci`, over a copy without
+# these: what one of the two rounds has proved on this machine the other does not prove again.
 set -euo pipefail
 cd "$(dirname "$0")/.."
 
 copy=$(mktemp -d)
-trap 'rm -rf "$copy"' EXIT
+trap 'kill $(jobs -p) 2> /dev/null; rm -rf "$copy"' EXIT
 mapfile -t tests < <(grep -rl --include='*.rt' '#\[test\]' crates/*/src | cut -d/ -f2 | sort -u)
+unproved=("${tests[@]}" vectors)
 mkdir "$copy/repo"
-tar -c --exclude=out --exclude=must-fail "${tests[@]/#/--exclude=crates/}" HANDLES crates | tar -x -C "$copy/repo"
-grep -v "$(printf '^%s:\n' "${tests[@]}")" crates.txt > "$copy/repo/crates.txt"
+tar -c --exclude=out --exclude=must-fail "${unproved[@]/#/--exclude=crates/}" HANDLES crates | tar -x -C "$copy/repo"
+grep -v "$(printf '^%s:\n' "${unproved[@]}")" crates.txt > "$copy/repo/crates.txt"
+
+# ended PROCESS LOG PATTERN WHAT: waits for it, and prints the lines of its log that match, or where it failed all of it.
+ended() {
+  if wait "$1"; then
+    grep "$3" "$2"
+  else
+    cat "$2"
+    echo "check: $4 failed"
+    exit 1
+  fi
+}
+
+run_vectors() {
+  (cd crates/vectors && rt try < stdin > "$copy/vectors.out") && diff -u crates/vectors/stdout "$copy/vectors.out" && echo "tests: vectors as stored"
+}
 
 run_tests() {
   local name
   for name in "${tests[@]}"; do
     (cd "crates/$name" && rt try --test) || return 1
   done
+  run_vectors
 }
 
-# told FILE PATTERN STATUS WHAT: the lines of a log that match, or where the status is not 0 all of it.
-told() {
-  if [ "$3" -ne 0 ]; then
-    cat "$1"
-    echo "check: $4 failed"
-    exit 1
-  fi
-  grep "$2" "$1"
+# All else waits for a chain of crates. Runs of their own, which come first, give each of these more processors than it has beside all
+# others; what one run has proved the others take.
+prove_chain() {
+  local name
+  for name in twkb_flat twkb_engine twkb_blob; do
+    (cd "$copy/repo" && rt ci "$name") || return 1
+  done
 }
 
-# Crates wait for those below them, which leaves processors free for the tests.
+prove_chain > "$copy/chain.log" 2>&1 &
+chain=$!
+sleep 5
+(cd "$copy/repo" && nice rt ci) > "$copy/proofs.log" 2>&1 &
+proofs=$!
+ended $chain "$copy/chain.log" '^rt: .* and the crates below passed' "a proof"
+# Few proofs are left that do not wait for others, so processors are free.
 run_tests > "$copy/tests.log" 2>&1 &
-status=0
-(cd "$copy/repo" && rt ci) > "$copy/proofs.log" 2>&1 || status=$?
-told "$copy/proofs.log" '^rt: ok' $status "a proof or a stored run"
-status=0
-wait $! || status=$?
-told "$copy/tests.log" '^tests: ' $status "a test"
+tests_run=$!
+ended $proofs "$copy/proofs.log" '^rt: ok' "a proof or a stored run"
+ended $tests_run "$copy/tests.log" '^tests: ' "a test"
 
 if command -v python3 > /dev/null; then
   python3 tests/vectors/make.py --check

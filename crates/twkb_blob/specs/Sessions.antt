@@ -112,6 +112,11 @@ abbrev pub byte_answer : Session → Result Bool Stop → Result (ℕ × Bool) B
 byte_answer s (Ok ended) = Ok (1, ended)
 byte_answer s (Err stop) = Err (fault_of (s.start + offset_in s.engine) stop)
 
+-- what a call answers that tells how many bytes it took, where it is told beside whether a geometry ended
+abbrev pub with_end : Bool → Result ℕ BlobFault → Result (ℕ × Bool) BlobFault
+with_end ended (Ok used) = Ok (used, ended)
+with_end ended (Err why) = Err why
+
 -- The bytes are a stream, or blobs and then a blob that they end in.
 abbrev pub Finished : {A : Type 0} → Allowance → List ℕ → List Tree → Result A BlobFault → Type 0
 Finished limits bytes gs (Ok done) = Stream limits bytes gs

@@ -49,7 +49,7 @@ fn refused(fault: BlobFault) -> Result<(usize, Option<Geometry>), BlobFault>
 impl Session {
     ghost use Rattle.twkb_grammar.specs.Noting.{no_notes};
     ghost use Rattle.twkb_blob.specs.Spanned.{FedSpans};
-    ghost use Rattle.twkb_blob.specs.Sessions.{Stands, FedFlat, FedSession, Finished, HeldOf, FramesOf, begun_rows, byte_answer, is_spent, session_limits, session_held, session_open, session_rows};
+    ghost use Rattle.twkb_blob.specs.Sessions.{Stands, FedFlat, FedSession, Finished, HeldOf, FramesOf, begun_rows, byte_answer, with_end, is_spent, session_limits, session_held, session_open, session_rows};
 
     /// A session before the first byte. Takes no memory.
     pub fn new(alloc: Global, limits: Limits) -> Session
@@ -131,9 +131,27 @@ impl Session {
 
     /// Takes bytes as `feed` does, and answers how many, and whether a geometry ends behind them, whose rows `flat` then lends until the next
     /// call. Calls of it and of `feed` may be mixed. It takes memory for what it keeps, and none once that has room.
+    #[inline(always)]
     pub fn feed_flat(&mut self, piece: &[u8]) -> Result<(usize, bool), BlobFault>
         ensures fed { (bytes : List ℕ) (gs : List Tree) → Stands bytes gs self.old → FedFlat bytes gs piece.now result self.new }
         ensures within { IfOk result (λ fed. fed.0 ≤ length piece.now) }
+        ensures unread { failed_by_read result ≡ false }
+        ensures spent { (result ≡ Err BlobFault.Spent) ↔ (is_spent self.old ≡ true) }
+        ensures stays { is_spent self.new ≡ is_err result }
+        ensures limits { session_limits self.new ≡ session_limits self.old }
+    {
+        match self.feed_apart(piece) {
+            Ok(used) => Ok((used, self.is_whole)),
+            Err(fault) => Err(fault),
+        }
+    }
+
+    // Takes bytes as `feed_flat` does, and answers how many. A frame of its own, whose answer is one number: where a geometry ended is read
+    // off the session.
+    #[inline(never)]
+    fn feed_apart(&mut self, piece: &[u8]) -> Result<usize, BlobFault>
+        ensures fed { (bytes : List ℕ) (gs : List Tree) → Stands bytes gs self.old → FedFlat bytes gs piece.now (with_end self.new.is_whole result) self.new }
+        ensures within { IfOk result (λ used. used ≤ length piece.now) }
         ensures unread { failed_by_read result ≡ false }
         ensures spent { (result ≡ Err BlobFault.Spent) ↔ (is_spent self.old ≡ true) }
         ensures stays { is_spent self.new ≡ is_err result }
@@ -145,28 +163,28 @@ impl Session {
         if piece.len() == 1 {
             let taken = self.taken();
             if taken < MAX_BYTES {
-                let ended = match self.feed_byte(piece, taken) {
-                    Ok(ended) => ended,
-                    Err(stop) => return Err(fault_at(self.start + self.engine.offset(), stop)),
+                return match self.feed_byte(piece, taken) {
+                    Ok(_) => Ok(1),
+                    Err(stop) => Err(fault_at(self.start + self.engine.offset(), stop)),
                 };
-                return Ok((1, ended));
             }
         }
         let mut notes = self.no_notes();
-        // told anew: an answer that a call wrote would be copied for single bytes too
         match self.feed_piece(piece, &mut notes, false) {
-            Ok((used, ended)) => Ok((used, ended)),
+            Ok((used, _)) => Ok(used),
             Err(fault) => Err(fault),
         }
     }
 
-    // Takes bytes as `feed_flat` does, and notes what they tell of spans, whose offsets count from the stream's start: where these were the
-    // notes of the geometry that is read, as far as it came, they stay so, and behind it they are its spans. A span takes memory.
+    // Takes bytes as `feed_flat` does, and notes what they tell of spans where these are asked for, whose offsets count from the stream's
+    // start: where these were the notes of the geometry that is read, as far as it came, they stay so, and behind it they are its spans.
+    // A span takes memory. In its callers' frames: they feed long pieces.
     #[inline(always)]
     pub(crate) fn feed_spans(
         &mut self,
         piece: &[u8],
         notes: &mut SpanNotes,
+        asked: bool,
     ) -> Result<(usize, bool), BlobFault>
         ensures fed { (bytes : List ℕ) (gs : List Tree) → Stands bytes gs self.old → FedFlat bytes gs piece.now result self.new }
         ensures within { IfOk result (λ fed. fed.0 ≤ length piece.now) }
@@ -174,12 +192,12 @@ impl Session {
         ensures spent { (result ≡ Err BlobFault.Spent) ↔ (is_spent self.old ≡ true) }
         ensures stays { is_spent self.new ≡ is_err result }
         ensures limits { session_limits self.new ≡ session_limits self.old }
-        ensures noted { IfOk result (λ fed. FedSpans piece.now fed self.old self.new notes.old notes.new) }
+        ensures noted { asked ≡ true → IfOk result (λ fed. FedSpans piece.now fed self.old self.new notes.old notes.new) }
     {
         if self.spent {
             return Err(BlobFault::Spent);
         }
-        self.feed_piece(piece, notes, true)
+        self.feed_piece(piece, notes, asked)
     }
 
     // Notes of nothing. Takes no memory.
@@ -207,6 +225,7 @@ impl Session {
         requires counted { taken ≡ self.old.start + count_of self.old.engine }
         requires room { taken < 2 ^ 62 }
         ensures fed { (bytes : List ℕ) (gs : List Tree) → Stands bytes gs self.old → FedFlat bytes gs piece.now (byte_answer self.new result) self.new }
+        ensures whole { IfOk result (λ ended. self.new.is_whole ≡ ended) }
         ensures stays { is_spent self.new ≡ is_err result }
         ensures limits { session_limits self.new ≡ session_limits self.old }
     {
@@ -243,6 +262,7 @@ impl Session {
         ensures stays { is_spent self.new ≡ is_err result }
         ensures limits { session_limits self.new ≡ session_limits self.old }
         ensures noted { asked ≡ true → IfOk result (λ fed. FedSpans piece.now fed self.old self.new notes.old notes.new) }
+        ensures whole { IfOk result (λ fed. self.new.is_whole ≡ fed.1) }
     {
         twkb_grammar::laws::one_stream();
         twkb_outline::laws::reading();

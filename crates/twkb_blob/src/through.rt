@@ -1,12 +1,12 @@
 //! A blob of an input, read through a session that is lent.
-ghost use Rattle.std.specs.Prelude.{◌≡◌, ◌<◌, ◌≤◌, ◌⊎◌, ℕ, List, [], true, false, length, Ok, IfOk};
+ghost use Rattle.std.specs.Prelude.{◌≡◌, ◌<◌, ◌⊎◌, ℕ, List, [], true, Ok, IfOk};
 ghost use Rattle.twkb_tree.specs.Tree.{Tree};
 ghost use Rattle.twkb_io.specs.Taps.{count_failure};
 ghost use Rattle.twkb_io.specs.Inputs.{given, input_failures, input_tap};
 ghost use Rattle.twkb_blob.specs.Readers.{failed_by_read};
-ghost use Rattle.twkb_blob.specs.Sessions.{FedFlat, Stands, is_spent, session_limits, session_rows};
+ghost use Rattle.twkb_blob.specs.Sessions.{Stands, is_spent, session_limits, session_rows};
 ghost use Rattle.twkb_blob.specs.Through.{IsHanded, IsThrough};
-ghost use Rattle.twkb_blob.specs.Spanned.{FedSpans, NotesEnd, ReadsSpans};
+ghost use Rattle.twkb_blob.specs.Spanned.{NotesEnd, ReadsSpans};
 
 use crate::fault::BlobFault;
 use crate::notes::SpanNotes;
@@ -14,27 +14,6 @@ use crate::reading::Fed;
 use crate::session::Session;
 use std::io::Read;
 use twkb_io::Input;
-
-// Feeds bytes to a session, and notes what they tell where spans are asked for.
-#[inline(always)]
-fn feed_session(
-    session: &mut Session,
-    piece: &[u8],
-    notes: &mut SpanNotes,
-    asked: bool,
-) -> Result<(usize, bool), BlobFault>
-    ensures fed { (bytes : List ℕ) (gs : List Tree) → Stands bytes gs session.old → FedFlat bytes gs piece.now result session.new }
-    ensures within { IfOk result (λ fed. fed.0 ≤ length piece.now) }
-    ensures unread { failed_by_read result ≡ false }
-    ensures limits { session_limits session.new ≡ session_limits session.old }
-    ensures noted { asked ≡ true → IfOk result (λ fed. FedSpans piece.now fed session.old session.new notes.old notes.new) }
-{
-    if asked {
-        session.feed_spans(piece, notes)
-    } else {
-        session.feed_flat(piece)
-    }
-}
 
 // Feeds the held bytes of an input to a session, up to the end of a geometry, and notes what they tell where spans are asked for.
 #[inline(always)]
@@ -59,7 +38,7 @@ fn feed_held<R: Read>(
     if count == 0 {
         return Ok(Fed::End);
     }
-    match feed_session(session, piece, notes, asked) {
+    match session.feed_spans(piece, notes, asked) {
         Ok((used, true)) => {
             input.advance(used);
             Ok(Fed::Made)

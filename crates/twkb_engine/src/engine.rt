@@ -68,7 +68,7 @@ impl Engine {
         }
     }
 
-    // Takes a byte of a header, at once where it leads on; answers the same. A frame of its own, which other bytes do without.
+    // Takes a byte of a header, a type byte at once; answers the same. A frame of its own, which other bytes do without.
     #[inline(never)]
     fn take_lead(&mut self, flat: &mut Flat, byte: u8) -> Result<bool, Stop>
         requires byte { IsByte self.old.builder.phase }

@@ -111,8 +111,7 @@ impl Builder {
         }
     }
 
-    // Takes an item as `take` does, where few steps did not take it. The number of a body that ends with it, and what is no number of a body,
-    // goes by all steps at once.
+    // Takes an item as `take` does, where few steps did not take it: a number with which its body goes on, or another item.
     #[inline(always)]
     pub(crate) fn take_left(
         &mut self,

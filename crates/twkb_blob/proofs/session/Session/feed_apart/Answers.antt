@@ -1,7 +1,7 @@
 use Rattle.std.proofs.Common.{ℕ, ◌+◌, Err, sym, subst}
 use Rattle.twkb_blob.specs.Faults.{fault_of}
 use Rattle.twkb_blob.specs.Sessions.{FedSession}
-use Rattle.twkb_blob.proofs.session.Session.feed_flat.Goals as goal
+use Rattle.twkb_blob.proofs.session.Session.feed_apart.Goals as goal
 
 pub returns-in-Err-clause-fed : goal.returns-in-Err-clause-fed
 returns-in-Err-clause-fed c = λ bytes gs s.
