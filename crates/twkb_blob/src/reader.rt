@@ -5,6 +5,7 @@ ghost use Rattle.twkb_io.specs.Taps.{count_failure};
 ghost use Rattle.twkb_io.specs.Inputs.{input_failures, input_tap};
 
 use crate::fault::BlobFault;
+use crate::located::read_spans;
 use crate::made::{read_located, read_tree};
 use crate::reading::read_into;
 use crate::session::Session;
@@ -143,11 +144,47 @@ impl<'a, R: Read> Reader<'a, R> {
         found
     }
 
+    /// Reads the next geometry, as `next_flat` does, into a flat form, and the spans of its headers, as `next_located` gives them, into a list,
+    /// in place of what these hold, and answers whether there was one; after a false and after an `Err` both are empty. It takes memory as
+    /// `next_flat` does, and for spans past the room of the list.
+    pub fn next_spans(
+        &mut self,
+        alloc: Global,
+        flat: &mut Flat,
+        spans: &mut Spans,
+    ) -> Result<bool, BlobFault>
+        ensures same_tap { (input_tap (reader_input self.new)).ghost_name ≡ (input_tap (reader_input self.old)).ghost_name }
+        ensures limits { reader_limits self.new ≡ reader_limits self.old }
+        ensures next { is_spent self.old ≡ false → has_ended self.old ≡ false → IsSpanned (reader_limits self.old) (reader_input self.old) (reader_input self.new) result flat.new spans.new }
+        ensures memory { result ≡ Err BlobFault.Memory → PartAhead (reader_limits self.old) [] (reader_input self.old) }
+        ensures failures { input_failures (reader_input self.new) ≡ count_failure (failed_by_read result) (input_failures (reader_input self.old)) }
+        ensures cleared { (result ≡ Ok true) ⊎ ((flat.new ≡ []) × (spans.new ≡ [])) }
+        ensures some { result ≡ Ok true → 0 < length flat.new }
+
+        ensures spent { (result ≡ Err BlobFault.Spent) ↔ (is_spent self.old ≡ true) }
+        ensures stays { is_spent self.new ≡ is_err result }
+        ensures unchanged { is_spent self.old ≡ true → self.new ≡ self.old }
+        ensures end { result ≡ Ok false → has_ended self.new ≡ true }
+        ensures going_on { result ≡ Ok true → has_ended self.new ≡ false }
+        ensures for_good { has_ended self.old ≡ true → (result ≡ Ok false) × (self.new ≡ self.old) }
+    {
+        flat.clear();
+        spans.clear();
+        match self.state {
+            State::Ready => {}
+            State::Ended => return Ok(false),
+            State::Spent => return Err(BlobFault::Spent),
+        }
+        let found = read_spans(&mut self.input, alloc, self.limits, flat, spans);
+        self.state = state_past(found);
+        found
+    }
+
     /// Reads the next geometry through a session, as `next_through` does, and puts the spans of its headers, as `next_located` gives them,
     /// into a list, in place of what that holds; after a false and after an `Err` both are empty. The spans are told where the session stood
     /// between two geometries; where it stood inside a blob, nothing is said of them. It takes memory as `next_through` does, and for spans
     /// past the room of the list.
-    pub fn next_spans(
+    pub fn next_spans_through(
         &mut self,
         session: &mut Session,
         spans: &mut Spans,

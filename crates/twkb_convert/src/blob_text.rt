@@ -110,7 +110,7 @@ fn next_lines<R: Read>(
     ensures err { IfErr result (λ fault. StopsText reader.old fault reader.new) }
     ensures stops { IfErr result (λ fault. Follows reader.old reader.new (is_read_stop fault)) }
 {
-    match reader.next_spans(session, &mut room.spans) {
+    match reader.next_spans_through(session, &mut room.spans) {
         Ok(true) => {}
         Ok(false) => return Ok(false),
         Err(fault) => return Err(fault),

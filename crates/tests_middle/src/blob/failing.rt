@@ -25,5 +25,6 @@ fn tells_each(alloc: Global, way: Way) -> bool {
 fn each_read_that_fails_is_a_device_fault(rt: HostRuntime) {
     let alloc = rt.alloc();
     let are_told = tells_each(alloc, Way::Tree) & tells_each(alloc, Way::Located);
-    assert!(rt; are_told & tells_each(alloc, Way::Rows));
+    let are_rows_told = tells_each(alloc, Way::Rows) & tells_each(alloc, Way::Spans);
+    assert!(rt; are_told & are_rows_told);
 }

@@ -36,7 +36,8 @@ fn both_give_or_lack(alloc: Global, way: Way, named: u64, deep: u64) -> bool {
 fn each_growth_of_a_reader_may_be_refused(rt: HostRuntime) {
     let trees = both_give_or_lack(rt.alloc(), Way::Tree, 7, 7);
     let rows = both_give_or_lack(rt.alloc(), Way::Rows, 7, 7);
-    assert!(rt; trees & rows & both_give_or_lack(rt.alloc(), Way::Located, 3, 7));
+    let spans = both_give_or_lack(rt.alloc(), Way::Spans, 3, 7);
+    assert!(rt; trees & rows & spans & both_give_or_lack(rt.alloc(), Way::Located, 3, 7));
 }
 
 // Whether this is want of memory, and the session is spent.
@@ -80,7 +81,7 @@ fn is_fed_or_lacks(alloc: Global, way: Way, bytes: &[u8]) -> bool {
     let is_fed = match way {
         Way::Tree => feeds_or_lacks(&mut session, bytes),
         Way::Located => takes_or_lacks(&mut session, bytes),
-        Way::Rows => lends_or_lacks(&mut session, bytes),
+        Way::Rows | Way::Spans => lends_or_lacks(&mut session, bytes),
     };
     drop(session);
     is_fed

@@ -63,7 +63,7 @@ fn gives_spans<R: Read>(
     count: usize,
     offset: u64,
 ) -> bool {
-    let answer = reader.next_spans(session, spans);
+    let answer = reader.next_spans_through(session, spans);
     let told = spans.as_slice();
     if count == 0 || told.len() != count {
         return false;
@@ -79,7 +79,7 @@ fn tells_spans<R: Read>(alloc: Global, tap: &mut Tap<R>) -> bool {
     let are_told = gives_spans(&mut reader, &mut session, &mut spans, 1, 0)
         & gives_spans(&mut reader, &mut session, &mut spans, 3, 18)
         & gives(&mut reader, &mut session, 1, 1, None);
-    let is_ended = reader.next_spans(&mut session, &mut spans) == Ok(false);
+    let is_ended = reader.next_spans_through(&mut session, &mut spans) == Ok(false);
     are_told & is_ended & spans.as_slice().is_empty()
 }
 

@@ -1,16 +1,17 @@
 //! The ways to read a geometry, and to feed a piece.
 use std::alloc::Global;
 use std::io::Read;
-use twkb_blob::{BlobFault, Located, Reader, Session};
+use twkb_blob::{BlobFault, Located, Reader, Session, Spans};
 use twkb_geom::{Flat, Limits};
 use twkb_io::{Input, Tap};
 
-/// As a tree, as a tree with its spans, or as rows.
+/// As a tree, as a tree with its spans, as rows, or as rows with their spans.
 #[derive(Clone, Copy)]
 pub enum Way {
     Tree,
     Located,
     Rows,
+    Spans,
 }
 
 // How many rows there are in a form that was read.
@@ -57,6 +58,22 @@ fn read_rows<R: Read>(
     rows_in(flat, answer)
 }
 
+// How many spans come with the next rows, 0 where there are no rows.
+fn read_spanned_rows<R: Read>(
+    alloc: Global,
+    reader: &mut Reader<'_, R>,
+    flat: &mut Flat,
+) -> Result<u64, BlobFault> {
+    let mut spans = Spans::new(alloc);
+    let answer = reader.next_spans(alloc, flat, &mut spans);
+    let count = spans.as_slice().len() as u64;
+    drop(spans);
+    match answer {
+        Ok(_) => Ok(if flat.is_empty() { 0 } else { count }),
+        Err(fault) => Err(fault),
+    }
+}
+
 // Reads a geometry: how many rows it has, or spans where it comes with them, 0 where there is none; or the fault.
 fn read<R: Read>(
     alloc: Global,
@@ -68,6 +85,7 @@ fn read<R: Read>(
         Way::Tree => read_tree(alloc, reader),
         Way::Located => read_spans(alloc, reader),
         Way::Rows => read_rows(alloc, reader, flat),
+        Way::Spans => read_spanned_rows(alloc, reader, flat),
     }
 }
 

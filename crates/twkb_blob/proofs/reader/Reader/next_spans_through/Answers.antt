@@ -4,7 +4,7 @@ use Rattle.twkb_blob.specs.Sessions.{session_rows}
 use Rattle.twkb_blob.specs.Readers.{reader_input, reader_limits}
 use Rattle.twkb_blob.proofs.Abreast.{memory_abreast, rows_abreast, still_abreast}
 use Rattle.twkb_blob.proofs.Spanned.{spans_abreast}
-use Rattle.twkb_blob.proofs.reader.Reader.next_spans.Goals as goal
+use Rattle.twkb_blob.proofs.reader.Reader.next_spans_through.Goals as goal
 
 pub returns-clause-next : goal.returns-clause-next
 returns-clause-next g c = λ k going live.
