@@ -123,6 +123,15 @@ member_leads h b next rs more (suc left) used from to bytes member form some cut
           (subst (λ l. StepRuns h (step_in h (at_spot b (X (One (suc left))))) rs from (take used bytes) (shut (head_of h) f first 0 (suc left ∷ [])) l to) added (point_runs h f first rs from to bytes (suc left ∷ []) used cut));
     })
 
+-- put as a point is
+pub member_put : (h : Head) (b : Body) (next : Names) (rs more : List Row) (left used : ℕ) (from to : Point) (bytes : List ℕ) (member : Option ℤ) → b.form ≡ MultiPoint → b.spot ≡ X (One left) → 0 < left → PointInFront from bytes to used
+    → member ≡ first_id (ids_of b.names) → ids_of next ≡ other_ids (ids_of b.names) → more ≡ applied (point_change to h.depth h.id h.precision MultiPointForm member) rs
+    → Leads h b rs from bytes (record { used = used; position = to }) (record { form = b.form; names = next; spot = X (One (left - 1)) }) more
+member_put h b next rs more left used from to bytes member form here some cut same ids put =
+    let deep : suc h.depth ≡ h.depth + 1 = omega arith in
+    subst (λ s. Leads h (at_spot b s) rs from bytes (record { used = used; position = to }) (record { form = b.form; names = next; spot = X (One (left - 1)) }) more) (sym here)
+    (member_leads h b next rs more left used from to bytes member form some cut same ids (put ∙ ap (λ d. rs ++ plain_row d Kind.Point member (to ∷ []) ∷ []) deep))
+
 -- ---- a point of a list
 
 -- behind it others are to come, or the list is done

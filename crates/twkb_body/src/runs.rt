@@ -13,9 +13,10 @@ use crate::body::Body;
 use crate::form::Form;
 use crate::head::Head;
 use crate::lefts::{Lefts, Spot, open_line};
+use crate::site::put_point;
 use std::alloc::AllocError;
 use twkb_flat::Flat;
-use twkb_front::front_point;
+use twkb_front::{far_point, front_point};
 use twkb_points::Pt;
 
 /// Points that were taken.
@@ -100,7 +101,37 @@ impl Body {
     ghost use Rattle.twkb_body.specs.Running.{TakesPoints, rest_in};
     ghost use Rattle.twkb_body.specs.declared.form.Form.TheVariants.{MultiPoint};
 
-    // Takes members of a multipoint behind the first, but not its last, as far as they stand whole in front. Takes memory.
+    // Takes the first member of a multipoint, if others are behind it and it stands whole in front. Takes memory.
+    #[inline(never)]
+    fn take_member(
+        &mut self,
+        flat: &mut Flat,
+        head: Head,
+        from: Pt,
+        bytes: &[u8],
+    ) -> Result<Taken, AllocError>
+        requires { self.old.form ≡ MultiPoint }
+        ensures { TakesPoints head self.old flat.old from bytes.now result self.new flat.new }
+    {
+        let Spot::X(Lefts::One(left)) = self.spot else {
+            return Ok(none(from));
+        };
+        if left == 0 {
+            return Ok(none(from));
+        }
+        let Some((position, used)) = far_point(from, bytes) else {
+            return Ok(none(from));
+        };
+        let member = self.names.next();
+        if let Err(refused) = put_point(flat, head, Form::MultiPoint, member, position) {
+            return Err(refused);
+        }
+        self.names.go_on();
+        self.spot = Spot::X(Lefts::One(left - 1));
+        Ok(Taken { used, position })
+    }
+
+    // Takes members of a multipoint, but not its last, as far as they stand whole in front: the first, or those behind it. Takes memory.
     fn take_members(
         &mut self,
         flat: &mut Flat,
@@ -116,21 +147,22 @@ impl Body {
         };
         let named = self.names.named;
         if !flat.takes_members(head.depth + 1, named, most) {
-            return Ok(none(from));
+            return self.take_member(flat, head, from, bytes);
         }
         let mut used = 0;
         let mut position = from;
         let mut left = most;
         while left > 0 {
-            let Some((to, count)) = front_point(position, &bytes[used..]) else {
+            // members stand anywhere, and not beside one another as points of a line do
+            let Some((to, count)) = far_point(position, &bytes[used..]) else {
                 break;
             };
             let member = self.names.next();
             if member.is_some() != named {
                 break;
             }
-            flat.add_member(head.depth + 1, member, to)?;
             self.names.go_on();
+            flat.add_member(head.depth + 1, member, to)?;
             left -= 1;
             position = to;
             used += count;

@@ -27,6 +27,8 @@ fn push_with(flat: &mut Flat, row: Row, points: &[Pt]) -> Result<(), AllocError>
 
 /// Appends a row without points, if it goes on with the rows: wherever a reader stands it does. Takes memory; an `Err` changes
 /// nothing.
+// A frame of its own for the test and the push of a row, which are large.
+#[inline(never)]
 pub fn push_row(flat: &mut Flat, row: Row) -> Result<(), AllocError>
     ensures pushed { OnOk result (flat.new ≡ flat.old ++ row_with row [] ∷ []) }
     ensures same { OnErr result (flat.new ≡ flat.old) }
@@ -35,7 +37,7 @@ pub fn push_row(flat: &mut Flat, row: Row) -> Result<(), AllocError>
 }
 
 // The same of a row with one point.
-#[inline(always)]
+#[inline(never)]
 fn push_point(flat: &mut Flat, row: Row, point: Pt) -> Result<(), AllocError>
     ensures pushed { OnOk result (flat.new ≡ flat.old ++ row_with row (point ∷ []) ∷ []) }
     ensures same { OnErr result (flat.new ≡ flat.old) }

@@ -91,6 +91,8 @@ impl Flat {
     /// Whether the row with these points of its own may be pushed: it is a root where there is no
     /// row yet, and else goes on with the geometry, by the rules of the table and within
     /// `Limits::largest()` (profile). Takes no memory.
+    // In its callers' frames, which push what they ask about.
+    #[inline(always)]
     pub fn admits(&self, row: &Row, points: &[Pt]) -> bool
         ensures { IsTrue result ↔ Continues largest_limits self.now (row_with row.now points.now) }
     {

@@ -62,10 +62,10 @@ fn short_point(from: Pt, bytes: &[u8]) -> Option<(Pt, usize)>
     ensures { IfSome result (λ front. PointInFront from bytes.now front.0 front.1) }
 {
     let Some((x, width)) = short_number(bytes) else {
-        return long_point(from, bytes);
+        return far_point(from, bytes);
     };
     let Some((y, height)) = short_number(&bytes[width..]) else {
-        return long_point(from, bytes);
+        return far_point(from, bytes);
     };
     let to = near(from, x, y)?;
     Some((to, width + height))
@@ -82,9 +82,9 @@ fn wide_point(from: Pt, bytes: &[u8]) -> Option<(Pt, usize)>
     Some((to, width + height))
 }
 
-// The same, by longer numbers than two bytes spell.
+/// The same, by fewer steps where the point is far from the one before, and by more where both numbers are of one or two bytes.
 #[inline(always)]
-fn long_point(from: Pt, bytes: &[u8]) -> Option<(Pt, usize)>
+pub fn far_point(from: Pt, bytes: &[u8]) -> Option<(Pt, usize)>
     ensures { IfSome result (λ front. PointInFront from bytes.now front.0 front.1) }
 {
     if let Some(front) = wide_point(from, bytes) {

@@ -21,7 +21,7 @@ pub returns-in_default : goal.returns-in_default
 returns-in_default c = c.none.ensures c.args.head c.args.self.now c.args.flat.now c.args.bytes.now
 
 pub returns-then-not-takes_members : goal.returns-then-not-takes_members
-returns-then-not-takes_members c = c.none-then-not-takes_members.ensures c.args.head c.args.self.now c.args.flat.now c.args.bytes.now
+returns-then-not-takes_members c = c.take_member.ensures
 
 pub loop-left-init : goal.loop-left-init
 loop-left-init c =
