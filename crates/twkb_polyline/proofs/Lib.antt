@@ -1,7 +1,9 @@
 pub mod CharacterLemmas
 pub mod DecodeLemmas
 pub mod EncodeLemmas
+pub mod FarLemmas
 pub mod GroupLemmas
+pub mod LaneLemmas
 pub mod NumberLemmas
 pub mod PointLemmas
 pub mod ScanLemmas
@@ -9,4 +11,5 @@ pub mod StopLemmas
 pub mod OneFault
 pub mod TextOrFault
 pub mod WholeLemmas
+pub mod WordLemmas
 pub mod OnePoint

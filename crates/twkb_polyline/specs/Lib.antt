@@ -1,3 +1,4 @@
 pub mod Polyline
 pub mod Fault
 pub mod Reading
+pub mod Spelling

@@ -1,15 +1,11 @@
 //! Points to text.
-ghost use Rattle.std.specs.Prelude.{◌≡◌, ◌<◌, ◌≤◌, [], ◌∷◌, ℕ, List, ◌++◌, IfOk, OnOk, OnErr};
-ghost use Rattle.twkb_num.specs.Alphabet.{five_unit};
-ghost use Rattle.twkb_num.specs.Spelling.{shortest};
-ghost use Rattle.twkb_polyline.specs.Polyline.{number_text, polyline};
+ghost use Rattle.std.specs.Prelude.{◌≡◌, [], ◌∷◌, ℕ, List, ◌++◌, IfOk, OnOk, OnErr};
+ghost use Rattle.twkb_polyline.specs.Polyline.{polyline, polyline_from, last_after};
 
+use crate::spelling::{put_four, put_two};
 use std::alloc::{AllocError, Global};
-use twkb_num::{Five, Groups, NumBuf, zigzag};
+use twkb_num::zigzag;
 use twkb_points::{Cursor, Pt};
-
-// How many groups of five bits there are.
-const BASE: u64 = 1 << 5;
 
 /// The polyline of the points, in a vector of its own (Encoded Polyline Algorithm Format). Takes
 /// memory for the text alone.
@@ -34,62 +30,49 @@ pub fn encode_into(points: &[Pt], text: &mut Vec<u8>) -> Result<(), AllocError>
     result
 }
 
-// Appends the polyline of the points, or a front of it where memory is refused.
+// Appends the polyline of the points, or a front of it where memory is refused: two points at a time,
+// whose four numbers fill a vector.
 fn put_points(points: &[Pt], text: &mut Vec<u8>) -> Result<(), AllocError>
     ensures appended { OnOk result (text.new.items ≡ text.old.items ++ polyline points.now) }
     ensures grown { (more : List ℕ) × (text.new.items ≡ text.old.items ++ more) }
 {
     let mut cursor = Cursor::origin();
-    for point in points {
-        let (dx, dy) = cursor.delta(*point);
-        put(dy, text)?;
-        put(dx, text)?;
+    let (pairs, rest) = points.as_chunks::<2>();
+    for pair in pairs {
+        put_pair(&mut cursor, pair, text)?;
+    }
+    for point in rest {
+        put_point(&mut cursor, *point, text)?;
     }
     Ok(())
 }
 
-// Appends a number's characters, or none where memory is refused.
+// Appends the characters of two points, or a front of them where memory is refused.
 #[inline(always)]
-fn put(number: i64, text: &mut Vec<u8>) -> Result<(), AllocError>
-    ensures appended { OnOk result (text.new.items ≡ text.old.items ++ number_text number) }
-    ensures same { OnErr result (text.new.items ≡ text.old.items) }
+fn put_pair(cursor: &mut Cursor, pair: &[Pt; 2], text: &mut Vec<u8>) -> Result<(), AllocError>
+    ensures appended { OnOk result (text.new.items ≡ text.old.items ++ polyline_from cursor.old pair.now) }
+    ensures moved { cursor.new ≡ last_after cursor.old pair.now }
+    ensures grown { (more : List ℕ) × (text.new.items ≡ text.old.items ++ more) }
 {
-    put_unsigned(zigzag(number), text)
+    let [first, second] = *pair;
+    let (first_dx, first_dy) = cursor.delta(first);
+    let (second_dx, second_dy) = cursor.delta(second);
+    put_four(
+        zigzag(first_dy),
+        zigzag(first_dx),
+        zigzag(second_dy),
+        zigzag(second_dx),
+        text,
+    )
 }
 
-// Appends the characters of a zigzag form, or none where memory is refused: one or two as they are,
-// as most numbers have.
+// Appends the characters of a point, or a front of them where memory is refused.
 #[inline(always)]
-fn put_unsigned(unsigned: u64, text: &mut Vec<u8>) -> Result<(), AllocError>
-    ensures appended { OnOk result (text.new.items ≡ text.old.items ++ shortest five_unit 32 unsigned) }
-    ensures same { OnErr result (text.new.items ≡ text.old.items) }
+fn put_point(cursor: &mut Cursor, point: Pt, text: &mut Vec<u8>) -> Result<(), AllocError>
+    ensures appended { OnOk result (text.new.items ≡ text.old.items ++ polyline_from cursor.old (point ∷ [])) }
+    ensures moved { cursor.new ≡ point }
+    ensures grown { (more : List ℕ) × (text.new.items ≡ text.old.items ++ more) }
 {
-    if unsigned < BASE {
-        return text.extend_from_slice(&[one_character(unsigned)]);
-    }
-    if unsigned < BASE * BASE {
-        return text.extend_from_slice(&two_characters(unsigned));
-    }
-    text.extend_from_slice(NumBuf::put::<Five>(unsigned).as_slice())
-}
-
-// The character of a number of one group.
-#[inline(always)]
-fn one_character(unsigned: u64) -> u8
-    requires { unsigned < 32 }
-    ensures { shortest five_unit 32 unsigned ≡ result ∷ [] }
-{
-    Five::to_unit(unsigned as u8, false)
-}
-
-// The characters of a number of two groups.
-#[inline(always)]
-fn two_characters(unsigned: u64) -> [u8; 2]
-    requires two { 32 ≤ unsigned }
-    requires few { unsigned < 1024 }
-    ensures { shortest five_unit 32 unsigned ≡ result }
-{
-    let low = (unsigned % BASE) as u8;
-    let high = (unsigned / BASE) as u8;
-    [Five::to_unit(low, true), Five::to_unit(high, false)]
+    let (dx, dy) = cursor.delta(point);
+    put_two(zigzag(dy), zigzag(dx), text)
 }

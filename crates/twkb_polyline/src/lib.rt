@@ -5,6 +5,7 @@ mod decoding;
 mod encoding;
 mod fault;
 pub mod laws;
+mod spelling;
 mod whole;
 
 pub use decoding::{decode, decode_into, decode_one};

@@ -1,0 +1,82 @@
+-- Numbers of up to eight groups: how many groups they have, and their characters in a word of 64 bits.
+use Rattle.std.proofs.Common.{◌≡◌, ℕ, zero, suc, ◌+◌, ◌*◌, ◌/◌, ◌%◌, ◌-◌, ◌<◌, ◌≤◌, ◌^◌, inl, inr, refl, arith, lit<, bit_or}
+use lib.Count.{count_leading_zeros}
+use Rattle.std.proofs.Math.Nat.{pow-suc, pow-le-pow_right}
+use Rattle.std.proofs.lemmas.Bool.{cases_lt}
+use Rattle.std.proofs.lemmas.Nat.{leading_top, le_or_l, le_or_r, or_lt, pow-add}
+use Rattle.twkb_polyline.specs.Spelling.{spread, HasGroups}
+use Rattle.twkb_num.specs.Alphabet.{five_unit}
+use Rattle.twkb_num.specs.Digits.{low_digits}
+use Rattle.twkb_num.specs.Spelling.{shortest}
+use Rattle.twkb_polyline.proofs.WordLemmas.{marks, spelled}
+
+-- five bits a group
+fives : (k : ℕ) → 2 ^ (5 * k) ≡ 32 ^ k
+fives zero = refl
+fives (suc k) =
+    let next : 5 * suc k ≡ 5 * k + 5 = omega arith in
+    rw (next, pow-add 2 (5 * k) 5, fives k, pow-suc 32 k) refl
+
+-- a number with its top bit at j
+groups_by_top : (n j : ℕ) → n < 2 ^ suc j → (0 < j → 2 ^ j ≤ n) → HasGroups n (j / 5 + 1)
+groups_by_top n j below above = record {
+  some = omega arith;
+  below =
+      let most : 2 ^ suc j ≤ 2 ^ (5 * (j / 5 + 1)) = pow-le-pow_right {n = 2} (lit< tt) (let q : suc j ≤ 5 * (j / 5 + 1) = omega arith in q) in
+      omega (arith, fives (j / 5 + 1));
+  above = λ two.
+      let least : 2 ^ (5 * (j / 5 + 1 - 1)) ≤ 2 ^ j = pow-le-pow_right {n = 2} (lit< tt) (let q : 5 * (j / 5 + 1 - 1) ≤ j = omega arith in q) in
+      omega (arith, fives (j / 5 + 1 - 1), above (omega arith));
+}
+
+-- at or above a power, with the lowest bit set or not
+above_power : (n j : ℕ) → 0 < j → 2 ^ j ≤ bit_or n 1 → 2 ^ j ≤ n
+above_power n j some h =
+    elim (cases_lt n (2 ^ j)) [
+      | inl below ↦ absurd (let small : bit_or n 1 < 2 ^ j = or_lt j n 1 below (let two : 2 ^ 1 ≤ 2 ^ j = pow-le-pow_right {n = 2} (lit< tt) some in omega arith) in omega arith)
+      | inr large ↦ large
+    ]
+
+-- as code counts groups
+pub group_count : (n z : ℕ) → n < 2 ^ 40 → z ≡ count_leading_zeros 64 (bit_or n 1) → HasGroups n ((68 - z) / 5)
+group_count n z small e =
+    let m = bit_or n 1 in
+    let fits : m < 2 ^ 40 = or_lt 40 n 1 small (lit< tt) in
+    let one : 1 ≤ m = le_or_r n 1 in
+    let top = leading_top 64 m (omega arith) (omega arith) in
+    let j = top.0 in
+    let place : count_leading_zeros 64 m + suc j ≡ 64 = top.1 in
+    let count : (68 - z) / 5 ≡ j / 5 + 1 = omega arith in
+    let below : n < 2 ^ suc j = omega (arith, le_or_l n 1, top.3) in
+    rw count (groups_by_top n j below (λ some. above_power n j some top.2))
+
+-- below 2 ^ 40 they are eight at most
+pub few_groups : (n c : ℕ) → n < 2 ^ 40 → HasGroups n c → c ≤ 8
+few_groups n c small h =
+    elim (cases_lt 8 c) [
+      | inl many ↦
+          let power : 32 ^ 8 ≤ 32 ^ (c - 1) = pow-le-pow_right {n = 32} (lit< tt) (let q : 8 ≤ c - 1 = omega arith in q) in
+          absurd (omega (arith, h.above (omega arith)))
+      | inr few ↦ few
+    ]
+
+-- the marks of all groups but the last
+pub marks_cut : (c : ℕ) → 1 ≤ c → c ≤ 8 → 2314885530818453536 % ((1 * 2 ^ (8 * c - 8)) % 2 ^ 64) ≡ marks c
+marks_cut zero some few = absurd (omega arith)
+marks_cut (suc zero) some few = refl
+marks_cut (suc (suc zero)) some few = refl
+marks_cut (suc (suc (suc zero))) some few = refl
+marks_cut (suc (suc (suc (suc zero)))) some few = refl
+marks_cut (suc (suc (suc (suc (suc zero))))) some few = refl
+marks_cut (suc (suc (suc (suc (suc (suc zero)))))) some few = refl
+marks_cut (suc (suc (suc (suc (suc (suc (suc zero))))))) some few = refl
+marks_cut (suc (suc (suc (suc (suc (suc (suc (suc zero)))))))) some few = refl
+marks_cut (suc (suc (suc (suc (suc (suc (suc (suc (suc c))))))))) some few = absurd (omega arith)
+
+-- the groups of a number in a word of 64 bits, each with its marks, are its characters
+pub spelled_far : (n c groups : ℕ) → HasGroups n c → c ≤ 8 → groups ≡ spread 8 n
+    → low_digits 256 c (groups + 2314885530818453536 % ((1 * 2 ^ (8 * c - 8)) % 2 ^ 64) + 4557430888798830399) ≡ shortest five_unit 32 n
+spelled_far n zero groups h few e = absurd (omega (arith, h.some))
+spelled_far n (suc c) groups h few e =
+    let above : 0 < c → 32 ^ c ≤ n = λ some. let power : suc c - 1 ≡ c = omega arith in rw power at (h.above (omega arith)) in
+    rw (marks_cut (suc c) (omega arith) few, e) (spelled 8 c n few h.below above)

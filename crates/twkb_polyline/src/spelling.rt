@@ -1,0 +1,231 @@
+//! Several numbers as characters at once, with no branch on how many characters each has: in tracks
+//! numbers of one, two and three characters are mixed, and no processor foresees which comes next.
+ghost use Rattle.std.specs.Prelude.{◌≡◌, ◌<◌, ◌≤◌, ◌^◌, [], ◌∷◌, ℕ, List, ◌++◌, OnOk, OnErr};
+ghost use Rattle.twkb_num.specs.Alphabet.{five_unit};
+ghost use Rattle.twkb_num.specs.Digits.{low_digits};
+ghost use Rattle.twkb_num.specs.Spelling.{shortest};
+ghost use Rattle.twkb_polyline.specs.Spelling.{spread, HasGroups, AreSpelled};
+
+use std::alloc::AllocError;
+use std::simd::u32x4;
+use twkb_num::{Five, Groups, NumBuf};
+
+// The bytes of a word.
+const WORD: usize = 8;
+
+// Numbers below it have one group of five bits.
+const TWO_GROUPS: u64 = 1 << 5;
+
+// Numbers below it have at most four groups, which a lane of 32 bits holds.
+const FOUR_GROUPS: u64 = 1 << 20;
+
+// Numbers below it have at most eight, which a word of 64 bits holds.
+const EIGHT_GROUPS: u64 = 1 << 40;
+
+// Appends the characters of four numbers, or a front of them where memory is refused. Nearly all
+// numbers of a track are below 2^20.
+#[inline(always)]
+#[tactic(auto, using(std::proofs::lemmas::Nat::le_or_l, std::proofs::lemmas::Nat::le_or_r))]
+pub(crate) fn put_four(
+    first: u64,
+    second: u64,
+    third: u64,
+    fourth: u64,
+    text: &mut Vec<u8>,
+) -> Result<(), AllocError>
+    ensures appended { OnOk result (text.new.items ≡ text.old.items
+        ++ ((shortest five_unit 32 first ++ shortest five_unit 32 second)
+        ++ (shortest five_unit 32 third ++ shortest five_unit 32 fourth))) }
+    ensures grown { (more : List ℕ) × (text.new.items ≡ text.old.items ++ more) }
+{
+    let all = first | second | third | fourth;
+    if all < TWO_GROUPS {
+        return put_characters(first, second, third, fourth, text);
+    }
+    if all >= FOUR_GROUPS {
+        put_two(first, second, text)?;
+        return put_two(third, fourth, text);
+    }
+    let (units, counts) = spell_four(first as u32, second as u32, third as u32, fourth as u32);
+    put_lanes(units[0], counts[0], units[1], counts[1], text)?;
+    put_lanes(units[2], counts[2], units[3], counts[3], text)
+}
+
+// Appends the characters of four numbers that have one each, as those of short steps have all, or none where memory is refused.
+#[inline(always)]
+fn put_characters(
+    first: u64,
+    second: u64,
+    third: u64,
+    fourth: u64,
+    text: &mut Vec<u8>,
+) -> Result<(), AllocError>
+    requires first_few { first < 32 }
+    requires second_few { second < 32 }
+    requires third_few { third < 32 }
+    requires fourth_few { fourth < 32 }
+    ensures appended { OnOk result (text.new.items ≡ text.old.items
+        ++ ((shortest five_unit 32 first ++ shortest five_unit 32 second)
+        ++ (shortest five_unit 32 third ++ shortest five_unit 32 fourth))) }
+    ensures same { OnErr result (text.new.items ≡ text.old.items) }
+{
+    text.extend_from_slice(&[
+        one_character(first),
+        one_character(second),
+        one_character(third),
+        one_character(fourth),
+    ])
+}
+
+// The character of a number of one group.
+#[inline(always)]
+fn one_character(number: u64) -> u8
+    requires { number < 32 }
+    ensures { shortest five_unit 32 number ≡ result ∷ [] }
+{
+    Five::to_unit(number as u8, false)
+}
+
+// Appends the characters of two numbers, or a front of them where memory is refused. Each fills two
+// lanes by its lower and its upper four groups.
+#[inline(always)]
+#[tactic(auto, using(std::proofs::lemmas::Nat::le_or_l, std::proofs::lemmas::Nat::le_or_r))]
+pub(crate) fn put_two(first: u64, second: u64, text: &mut Vec<u8>) -> Result<(), AllocError>
+    ensures appended { OnOk result (text.new.items ≡ text.old.items
+        ++ (shortest five_unit 32 first ++ shortest five_unit 32 second)) }
+    ensures grown { (more : List ℕ) × (text.new.items ≡ text.old.items ++ more) }
+{
+    if first | second >= EIGHT_GROUPS {
+        put_one(first, text)?;
+        return put_one(second, text);
+    }
+    let [low, high, second_low, second_high] = spread_four(
+        (first % FOUR_GROUPS) as u32,
+        (first / FOUR_GROUPS) as u32,
+        (second % FOUR_GROUPS) as u32,
+        (second / FOUR_GROUPS) as u32,
+    )
+    .to_array();
+    put_spread(first, u64::from(low) + (u64::from(high) << 32), text)?;
+    put_spread(
+        second,
+        u64::from(second_low) + (u64::from(second_high) << 32),
+        text,
+    )
+}
+
+// Appends the characters of a number of any size, or none where memory is refused.
+fn put_one(number: u64, text: &mut Vec<u8>) -> Result<(), AllocError>
+    ensures appended { OnOk result (text.new.items ≡ text.old.items ++ shortest five_unit 32 number) }
+    ensures same { OnErr result (text.new.items ≡ text.old.items) }
+{
+    text.extend_from_slice(NumBuf::put::<Five>(number).as_slice())
+}
+
+// The groups of four numbers, each group in a byte of its number's lane.
+#[inline(always)]
+fn spread_four(first: u32, second: u32, third: u32, fourth: u32) -> u32x4
+    requires first_few { first < 2 ^ 20 }
+    requires second_few { second < 2 ^ 20 }
+    requires third_few { third < 2 ^ 20 }
+    requires fourth_few { fourth < 2 ^ 20 }
+    ensures { result ≡ spread 4 first ∷ spread 4 second ∷ spread 4 third ∷ spread 4 fourth ∷ [] }
+{
+    let numbers = u32x4::from_array([first, second, third, fourth]);
+    let group = u32x4::splat(31);
+    (numbers & group)
+        + ((numbers >> 5 & group) << 8)
+        + ((numbers >> 10 & group) << 16)
+        + ((numbers >> 15) << 24)
+}
+
+// The characters of four numbers, each number's in the low bytes of its lane, and how many they are.
+// A group but the last is marked by 32, and 63 stands in each byte.
+#[inline(always)]
+fn spell_four(first: u32, second: u32, third: u32, fourth: u32) -> ([u32; 4], [u32; 4])
+    requires first_few { first < 2 ^ 20 }
+    requires second_few { second < 2 ^ 20 }
+    requires third_few { third < 2 ^ 20 }
+    requires fourth_few { fourth < 2 ^ 20 }
+    ensures { AreSpelled (first ∷ second ∷ third ∷ fourth ∷ []) result.0 result.1 }
+{
+    let numbers = u32x4::from_array([first, second, third, fourth]);
+    let none = u32x4::splat(0);
+    let one = u32x4::splat(1);
+    let has_two = numbers.simd_ge(u32x4::splat(1 << 5));
+    let has_three = numbers.simd_ge(u32x4::splat(1 << 10));
+    let has_four = numbers.simd_ge(u32x4::splat(1 << 15));
+    let units = spread_four(first, second, third, fourth)
+        + u32x4::splat(0x3f3f_3f3f)
+        + has_two.select(u32x4::splat(0x20), none)
+        + has_three.select(u32x4::splat(0x2000), none)
+        + has_four.select(u32x4::splat(0x20_0000), none);
+    let counts = one
+        + has_two.select(one, none)
+        + has_three.select(one, none)
+        + has_four.select(one, none);
+    (units.to_array(), counts.to_array())
+}
+
+// Appends the characters of a number whose groups stand in a word, each in a byte, or none where
+// memory is refused.
+#[inline(always)]
+fn put_spread(number: u64, groups: u64, text: &mut Vec<u8>) -> Result<(), AllocError>
+    requires few { number < 2 ^ 40 }
+    requires groups { groups ≡ spread 8 number }
+    ensures appended { OnOk result (text.new.items ≡ text.old.items ++ shortest five_unit 32 number) }
+    ensures same { OnErr result (text.new.items ≡ text.old.items) }
+{
+    let count = group_count(number);
+    let marks = 0x2020_2020_2020_2020 % (1 << (8 * count - 8));
+    put_low(groups + marks + 0x3f3f_3f3f_3f3f_3f3f, count, text)
+}
+
+// How many groups a number has: one for 0.
+#[inline(always)]
+fn group_count(number: u64) -> u32
+    requires { number < 2 ^ 40 }
+    ensures groups { HasGroups number result }
+    ensures few { result ≤ 8 }
+{
+    (68 - (number | 1).leading_zeros()) / 5
+}
+
+// Appends the low bytes of one lane, and then those of another, or none where memory is refused.
+#[inline(always)]
+fn put_lanes(
+    first: u32,
+    count: u32,
+    second: u32,
+    more: u32,
+    text: &mut Vec<u8>,
+) -> Result<(), AllocError>
+    requires few { count ≤ 4 }
+    requires few_more { more ≤ 4 }
+    ensures appended { OnOk result (text.new.items ≡ text.old.items
+        ++ (low_digits 256 count first ++ low_digits 256 more second)) }
+    ensures same { OnErr result (text.new.items ≡ text.old.items) }
+{
+    let width = 8 * count;
+    let word = u64::from(first) % (1 << width) + (u64::from(second) << width);
+    put_low(word, count + more, text)
+}
+
+// Appends the low `count` bytes of a word, or none where memory is refused: all eight by one store of
+// a fixed size, and what is too much is cut. Where there is no room for eight, just those that are
+// wanted, so that no text asks for more memory than its characters do.
+#[inline(always)]
+fn put_low(word: u64, count: u32, text: &mut Vec<u8>) -> Result<(), AllocError>
+    requires { count ≤ 8 }
+    ensures appended { OnOk result (text.new.items ≡ text.old.items ++ low_digits 256 count word) }
+    ensures same { OnErr result (text.new.items ≡ text.old.items) }
+{
+    let bytes = word.to_le_bytes();
+    if text.capacity().saturating_sub(text.len()) < WORD {
+        return text.extend_from_slice(&bytes[..count as usize]);
+    }
+    let end = text.len() + count as usize;
+    text.extend_from_slice(&bytes)?;
+    text.truncate(end);
+    Ok(())
+}
