@@ -2,6 +2,7 @@ pub mod AnswerLemmas
 pub mod BufferLemmas
 pub mod DigitLemmas
 pub mod LawLemmas
+pub mod LengthLemmas
 pub mod PartialLemmas
 pub mod SpellingLemmas
 pub mod VarintLemmas

@@ -26,20 +26,16 @@ pub(crate) fn short_len(number: u64) -> usize
 
 // The bytes of a number.
 #[tactic(auto, unfolding(crate::specs::Tails::number_len))]
+#[inline(always)]
 pub(crate) fn number_len(number: u64) -> u64
     ensures value { result ≡ number_len number }
     ensures most { result ≤ 10 }
 {
-    if number < THREE_BYTES {
-        short_len(number) as u64
-    } else if number < FIVE_BYTES {
-        2 + short_len(number / TWO_BYTES / TWO_BYTES) as u64
-    } else {
-        varint_len(number) as u64
-    }
+    varint_len(number) as u64
 }
 
 // The bytes of a whole number.
+#[inline(always)]
 pub(crate) fn signed_len(number: i64) -> u64
     ensures value { result ≡ signed_len number }
     ensures most { result ≤ 10 }

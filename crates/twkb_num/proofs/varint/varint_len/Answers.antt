@@ -1,6 +1,5 @@
-use Rattle.std.proofs.Common.{rules}
-use Rattle.twkb_num.proofs.VarintLemmas.{varint_lengths}
+use Rattle.twkb_num.proofs.LengthLemmas.{length_by_zeros}
 use Rattle.twkb_num.proofs.varint.varint_len.Goals as goal
 
-pub loop-rest-preserved : goal.loop-rest-preserved
-loop-rest-preserved c = search (rules, varint_lengths)
+pub returns-clause-value : goal.returns-clause-value
+returns-clause-value c = length_by_zeros c.args.number c.ranges.number.fits
