@@ -6,11 +6,14 @@ ghost use Rattle.twkb_convert.specs.BlobSending.{EndsBlobs, Follows, GivesText, 
 
 use crate::listing::Listing;
 use crate::span_line::put_lines;
-use std::alloc::Global;
+use std::alloc::{AllocError, Global};
 use std::io::Read;
 use twkb_blob::{BlobFault, Reader, Session, Spans};
 use twkb_flat::Work;
 use twkb_table::put_flat_rows;
+
+// The bytes for which a text has room at first.
+const FIRST_ROOM: usize = 128;
 
 // What is kept from one blob to the next: room for the spans of which lines are made, and the text of
 // a blob.
@@ -28,6 +31,17 @@ impl TextRoom {
             text: Vec::new(alloc),
         }
     }
+}
+
+// Makes room for the text of a small blob, where there is less: from nothing on a text would grow by steps, each a request for memory.
+#[inline(always)]
+fn make_room(text: &mut Vec<u8>) -> Result<(), AllocError>
+    ensures same { text.new.items ≡ text.old.items }
+{
+    if text.capacity() < FIRST_ROOM {
+        text.reserve(FIRST_ROOM)?;
+    }
+    Ok(())
 }
 
 // Reads the next blob through the session, if there is one, and makes the room's text what is written
@@ -84,6 +98,9 @@ fn next_rows<R: Read>(
         Err(fault) => return Err(fault),
     }
     text.clear();
+    if make_room(text).is_err() {
+        return Err(BlobFault::Memory);
+    }
     if put_flat_rows(session.flat(), &mut Work::new(), text).is_err() {
         return Err(BlobFault::Memory);
     }
@@ -116,6 +133,9 @@ fn next_lines<R: Read>(
         Err(fault) => return Err(fault),
     }
     room.text.clear();
+    if make_room(&mut room.text).is_err() {
+        return Err(BlobFault::Memory);
+    }
     if put_lines(room.spans.as_slice(), &mut room.text).is_err() {
         return Err(BlobFault::Memory);
     }
