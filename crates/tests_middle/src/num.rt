@@ -1,7 +1,7 @@
 //! The units of both alphabets, and the laws. Vectors of numbers are those of the program `vectors`.
 ghost use Rattle.std.specs.Prelude.{◌<◌, ◌^◌};
 
-use twkb_num::{Five, Groups, Leb128, laws};
+use twkb_num::{Five, Four, Groups, Leb128, four_characters, four_varints, laws, zigzag};
 
 // Whether this is the unit of a group behind which more follow, both ways, and the alphabet has groups of so many bits and
 // spellings of so many units at most.
@@ -16,6 +16,37 @@ fn is_unit<G: Groups>(group: u8, unit: u8, bits: u32, units: usize) -> bool
 #[test]
 fn units_and_sizes_of_both_alphabets(rt: HostRuntime) {
     assert!(rt; is_unit::<Leb128>(44, 0xac, 7, 10) & is_unit::<Five>(31, b'~', 5, 13));
+}
+
+// The way from point to point of Google's worked example, longitude before latitude, as varints of zigzag forms.
+const STEPS: &[u8] =
+    b"\xBF\xA4\xBB\x0B\xA0\xFC\xD5\x03\xEF\x93\x09\xC0\xED\x1A\xB7\x96\x43\xC0\x93\x1F";
+
+// The numbers 1, 1, 4 and 4 as characters, four times.
+const TEXT: &[u8] = b"AAGGAAGGAAGGAAGG";
+
+// Whether these numbers stand in front, in so many bytes.
+fn are_in_front(found: Option<Four>, numbers: [i64; 4], used: usize) -> bool {
+    let [first, second, third, fourth] = numbers;
+    let four = Four {
+        first: zigzag(first),
+        second: zigzag(second),
+        third: zigzag(third),
+        fourth: zigzag(fourth),
+        used,
+    };
+    found == Some(four)
+}
+
+#[test]
+fn four_numbers_stand_in_front(rt: HostRuntime) {
+    let are_steps = are_in_front(
+        four_varints(STEPS),
+        [-12020000, 3850000, -75000, 220000],
+        14,
+    );
+    let are_characters = are_in_front(four_characters(TEXT), [1, 1, 4, 4], 4);
+    assert!(rt; are_steps & are_characters & four_varints(b"\x02\x02\x08\x08").is_none());
 }
 
 // The laws do nothing when they run.

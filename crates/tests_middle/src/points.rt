@@ -28,6 +28,18 @@ fn points_are_in_range_and_a_cursor_stays_there(rt: HostRuntime) {
     assert!(rt; are_in_range() & stays_and_moves());
 }
 
+// Whether a cursor moves by steps that a coordinate could be, and stays where it would leave the range.
+fn moves_near() -> bool {
+    let mut cursor = Cursor::origin();
+    let moves = cursor.add_near(ABOVE - 1, -1) == Pt::try_new(ABOVE - 1, -1);
+    moves & cursor.add_near(1, 0).is_none() & (cursor.add_near(-1, 1) == Pt::try_new(ABOVE - 2, 0))
+}
+
+#[test]
+fn a_cursor_moves_by_near_steps(rt: HostRuntime) {
+    assert!(rt; moves_near());
+}
+
 // The text of Google's worked example, the differences of its points, as the page lists them, longitude before latitude, and
 // their box.
 const EXAMPLE: &[u8] = b"_p~iF~ps|U_ulLnnqC_mqNvxq`@";

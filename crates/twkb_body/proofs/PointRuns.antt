@@ -1,11 +1,12 @@
 -- Points that stand whole in front lead a body on; and the bytes up to one for which there is no memory are a part.
 use Rattle.std.proofs.Common.{Result, Ok, Err, ◌≡◌, ℕ, zero, suc, ◌+◌, ◌-◌, ◌<◌, ◌≤◌, List, [], ◌∷◌, ◌++◌, length, take, drop, refl, sym, ap, ◌∙◌, subst, arith}
 use Rattle.std.specs.Prelude.{Option, ℤ, IsErrAnd}
+use Rattle.std.proofs.lemmas.List.{drop-drop, take_rest}
 use Rattle.twkb_points.specs.Point.{Point}
 use Rattle.twkb_tree.specs.declared.kind.Kind.{Kind}
 use Rattle.twkb_tree.specs.Tree.{Ids}
-use Rattle.twkb_tree.specs.Rows.{Row, plain_row, first_id, other_ids}
-use Rattle.twkb_tree.specs.RowGrowth.{point_added}
+use Rattle.twkb_tree.specs.Rows.{Row, plain_row, row_points, first_id, other_ids}
+use Rattle.twkb_tree.specs.RowGrowth.{EndsInLine, point_added}
 use Rattle.twkb_grammar.specs.Machine as machine
 use Rattle.twkb_grammar.specs.Machine.{Form, PointForm, LineForm, PolygonForm, MultiPointForm, MultiLineForm, MultiPolygonForm}
 use Rattle.twkb_outline.specs.Outline.{Group, Step, OnBody, Wanted, shut, listing, next_ids}
@@ -16,12 +17,13 @@ use Rattle.twkb_outline.specs.Parts.{IsPastEnds}
 use Rattle.twkb_outline.proofs.NotedPairs.{noted_point}
 use Rattle.twkb_outline.proofs.NotedJoins.{noted_still, noted_join}
 use Rattle.twkb_outline.proofs.Judging.{outlined_judged, part_further}
+use Rattle.twkb_outline.proofs.LinePoints.{ends_again, one_point_more}
 use Rattle.twkb_outline.proofs.Pieces.{used_join, one_within}
-use Rattle.twkb_front.specs.Front.{PointInFront}
-use Rattle.twkb_body.specs.Body.{head_of, form_of, lefts_of, IsHeadAt}
+use Rattle.twkb_front.specs.Front.{PointInFront, TwoInFront}
+use Rattle.twkb_body.specs.Body.{head_of, form_of, spot_of, lefts_of, IsHeadAt}
 use Rattle.twkb_body.specs.Names.{ids_of}
 use Rattle.twkb_body.specs.Steps.{step_in}
-use Rattle.twkb_body.specs.Running.{HasLists, StepRuns, StepStops, StopsWith, Leads, TakesPoints, rest_in, at_spot, outer}
+use Rattle.twkb_body.specs.Running.{HasLists, StepRuns, StepStops, StopsWith, Leads, ListLeads, ListStops, TakesPoints, TakesRow, rest_in, at_spot, outer}
 use Rattle.twkb_body.specs.declared.head.Head.{Head}
 use Rattle.twkb_body.specs.declared.runs.Taken.{Taken}
 use Rattle.twkb_body.specs.declared.names.Names.{Names}
@@ -164,20 +166,78 @@ pub goes_on : (h : Head) (b : Body) (lists : Lefts) (kept n : ℕ) → (kept ≡
 goes_on h b lists kept zero behind least = behind (omega (arith, least))
 goes_on h b lists kept (suc n) behind least = tt
 
--- points of a list, and then one more
-pub list_more : (h : Head) (b : Body) (lists : Lefts) (rs mid more : List Row) (left kept used count : ℕ) (from at to : Point) (bytes : List ℕ) → HasLists (form_of b.form) → next_ids (outer (lefts_of lists)) (ids_of b.names) ≡ ids_of b.names
-    → StepRuns h (step_in h b) rs from (take used bytes) (rest_in h b lists (left + kept)) mid at → 0 < left → PointInFront at (take (length bytes - used) (drop used bytes)) to count → more ≡ point_added to mid
-    → StepRuns h (step_in h b) rs from (take (used + count) bytes) (rest_in h b lists (left - 1 + kept)) more to
-list_more h b lists rs mid more left kept used count from at to bytes listed same first some cut added =
-    let one : left + kept ≡ suc (left - 1 + kept) = omega (arith, some) in
-    step_more h (step_in h b) (rest_in h b lists (suc (left - 1 + kept))) (rest_in h b lists (left - 1 + kept)) rs mid more from at to bytes used count
-    (subst (λ n. StepRuns h (step_in h b) rs from (take used bytes) (rest_in h b lists n) mid at) one first) (list_runs h b lists mid more (left - 1 + kept) count at to _ listed same cut added)
+-- the last row is a line's again, with a point more
+pub line_longer : (p : Point) (rs more : List Row) → more ≡ point_added p rs → EndsInLine rs → EndsInLine more × (length (row_points more) ≡ length (row_points rs) + 1)
+line_longer p rs more added line = (subst EndsInLine (sym added) (ends_again p rs line), ap (λ (l : List Row). length (row_points l)) added ∙ one_point_more p rs line)
 
--- points of a list, and then one for which there is no memory
-pub list_stops : (h : Head) (b : Body) (lists : Lefts) (rs mid : List Row) (left kept used count : ℕ) (from at to : Point) (bytes : List ℕ) → used ≤ length bytes → StepRuns h (step_in h b) rs from (take used bytes) (rest_in h b lists (left + kept)) mid at
-    → 0 < left → PointInFront at (take (length bytes - used) (drop used bytes)) to count → HasLists (form_of b.form) → next_ids (outer (lefts_of lists)) (ids_of b.names) ≡ ids_of b.names → (kept ≡ 0 → IsPastEnds (rest_in h b lists 0)) → StopsWith h b rs from bytes
-list_stops h b lists rs mid left kept used count from at to bytes within first some cut listed same behind =
-    let one : left + kept ≡ suc (left - 1 + kept) = omega (arith, some) in
+-- and with two
+pub line_longer_by_two : (p q : Point) (rs more : List Row) → more ≡ point_added q (point_added p rs) → EndsInLine rs → EndsInLine more × (length (row_points more) ≡ length (row_points rs) + 2)
+line_longer_by_two p q rs more added line =
+    let one = line_longer p rs (point_added p rs) refl line in
+    let two = line_longer q (point_added p rs) more added one.0 in
+    (two.0, omega (arith, one.1, two.1))
+
+-- no points of a list
+pub list_none : (rs : List Row) (from : Point) (bytes : List ℕ) (most : ℕ) → ListLeads rs from bytes most (record { used = 0; position = from }) most rs
+list_none rs from bytes most = record { within = omega arith; few = omega arith; run = λ h b lists kept listed same. step_none h (rest_in h b lists (most + kept)) rs from }
+
+-- some, and then one more
+pub list_more : (rs mid more : List Row) (most left count : ℕ) (from to : Point) (bytes : List ℕ) (t : Taken) → ListLeads rs from bytes most t left mid → 0 < left → PointInFront t.position (take (length bytes - t.used) (drop t.used bytes)) to count → more ≡ point_added to mid
+    → ListLeads rs from bytes most (record { used = t.used + count; position = to }) (left - 1) more
+list_more rs mid more most left count from to bytes t l some cut added = record {
+  within = one_within bytes t.used count l.within cut.within;
+  few = omega (arith, l.few);
+  run = λ h b lists kept listed same.
+      let n = left - 1 + kept in
+      let one : left + kept ≡ suc n = omega (arith, some) in
+      step_more h (rest_in h b lists (most + kept)) (rest_in h b lists (suc n)) (rest_in h b lists n) rs mid more from t.position to bytes t.used count
+      (subst (λ k. StepRuns h (rest_in h b lists (most + kept)) rs from (take t.used bytes) (rest_in h b lists k) mid t.position) one (l.run h b lists kept listed same)) (list_runs h b lists mid more n count t.position to _ listed same cut added);
+}
+
+-- some, and then two more
+pub list_two_more : (rs mid more : List Row) (most left count : ℕ) (from first second : Point) (bytes : List ℕ) (t : Taken) → ListLeads rs from bytes most t left mid → 1 < left → TwoInFront t.position (take (length bytes - t.used) (drop t.used bytes)) first second count
+    → more ≡ point_added second (point_added first mid) → ListLeads rs from bytes most (record { used = t.used + count; position = second }) (left - 2) more
+list_two_more rs mid more most left count from first second bytes t l some two added =
+    let w = two.first_count in
+    let less : left - 1 - 1 ≡ left - 2 = omega arith in
+    let both : (t.used + w) + two.second_count ≡ t.used + count = omega (arith, two.all) in
+    let behind : drop w (take (length bytes - t.used) (drop t.used bytes)) ≡ take (length bytes - (t.used + w)) (drop (t.used + w) bytes) = ap (drop w) (take_rest bytes t.used) ∙ (drop-drop w t.used bytes ∙ sym (take_rest bytes (t.used + w))) in
+    let one = list_more rs mid (point_added first mid) most left w from first bytes t l (omega (arith, some)) two.leads refl in
+    subst (λ k. ListLeads rs from bytes most (record { used = t.used + count; position = second }) k more) less
+    (subst (λ u. ListLeads rs from bytes most (record { used = u; position = second }) (left - 1 - 1) more) both
+    (list_more rs (point_added first mid) more most (left - 1) two.second_count from second bytes (record { used = t.used + w; position = first }) one (omega (arith, some)) (subst (λ l. PointInFront first l second two.second_count) behind two.goes_on) added))
+
+-- some, and then one for which there is no memory
+pub list_stops : (rs mid : List Row) (most left count : ℕ) (from to : Point) (bytes : List ℕ) (t : Taken) → ListLeads rs from bytes most t left mid → 0 < left → PointInFront t.position (take (length bytes - t.used) (drop t.used bytes)) to count → ListStops rs from most bytes
+list_stops rs mid most left count from to bytes t l some cut = λ h b lists kept listed same behind.
     let n = left - 1 + kept in
-    step_stops h (step_in h b) (rest_in h b lists (suc n)) rs mid from at bytes used within (subst (λ k. StepRuns h (step_in h b) rs from (take used bytes) (rest_in h b lists k) mid at) one first)
-    (step_judged h (rest_in h b lists (suc n)) (rest_in h b lists n) mid (point_added to mid) at to _ count cut.some cut.within (goes_on h b lists kept n behind (omega arith)) (list_runs h b lists mid (point_added to mid) n count at to _ listed same cut refl))
+    let one : left + kept ≡ suc n = omega (arith, some) in
+    step_stops h (rest_in h b lists (most + kept)) (rest_in h b lists (suc n)) rs mid from t.position bytes t.used l.within
+    (subst (λ k. StepRuns h (rest_in h b lists (most + kept)) rs from (take t.used bytes) (rest_in h b lists k) mid t.position) one (l.run h b lists kept listed same))
+    (step_judged h (rest_in h b lists (suc n)) (rest_in h b lists n) mid (point_added to mid) t.position to _ count cut.some cut.within (goes_on h b lists kept n behind (omega arith)) (list_runs h b lists mid (point_added to mid) n count t.position to _ listed same cut refl))
+
+-- the same of a call
+pub row_err : {E : Type 0} (Q : E → Type 0) (rs more : List Row) (from : Point) (bytes : List ℕ) (most : ℕ) (r : Result (Taken × ℕ) E) → IsErrAnd r Q → ListStops rs from most bytes → TakesRow rs from bytes most r more
+row_err Q rs more from bytes most (Ok t) is stops = absurd is
+row_err Q rs more from bytes most (Err e) is stops = stops
+
+-- ---- the list that stands open
+
+-- its points are to come, but those that are kept
+stands_in : (h : Head) (b : Body) (lists : Lefts) (left most kept : ℕ) → b.spot ≡ X lists → lefts_of lists ≡ left ∷ outer (lefts_of lists) → most + kept ≡ suc left → rest_in h b lists (most + kept) ≡ step_in h b
+stands_in h b lists left most kept here stands all =
+    sym (ap (λ s. OnBody (head_of h) (form_of b.form) (ids_of b.names) (spot_of s)) here ∙ (ap (λ l. OnBody (head_of h) (form_of b.form) (ids_of b.names) (Wanted 0 l)) stands ∙ ap (rest_in h b lists) (sym all)))
+
+-- points of it lead the body on
+pub list_taken : (h : Head) (b c : Body) (lists : Lefts) (rs more : List Row) (left most kept rest : ℕ) (from : Point) (bytes : List ℕ) (t : Taken) → b.spot ≡ X lists → lefts_of lists ≡ left ∷ outer (lefts_of lists) → most + kept ≡ suc left → HasLists (form_of b.form)
+    → next_ids (outer (lefts_of lists)) (ids_of b.names) ≡ ids_of b.names → step_in h c ≡ rest_in h b lists (rest + kept) → ListLeads rs from bytes most t rest more → Leads h b rs from bytes t c more
+list_taken h b c lists rs more left most kept rest from bytes t here stands all listed same there l = record {
+  within = l.within;
+  run = subst (λ s. StepRuns h s rs from (take t.used bytes) (step_in h c) more t.position) (stands_in h b lists left most kept here stands all)
+      (subst (λ s. StepRuns h (rest_in h b lists (most + kept)) rs from (take t.used bytes) s more t.position) (sym there) (l.run h b lists kept listed same));
+}
+
+-- there is no memory for one of them
+pub list_stopped : (h : Head) (b : Body) (lists : Lefts) (rs : List Row) (left most kept : ℕ) (from : Point) (bytes : List ℕ) → b.spot ≡ X lists → lefts_of lists ≡ left ∷ outer (lefts_of lists) → most + kept ≡ suc left → HasLists (form_of b.form)
+    → next_ids (outer (lefts_of lists)) (ids_of b.names) ≡ ids_of b.names → (kept ≡ 0 → IsPastEnds (rest_in h b lists 0)) → ListStops rs from most bytes → StopsWith h b rs from bytes
+list_stopped h b lists rs left most kept from bytes here stands all listed same behind stops = subst (λ s. StepStops h s rs from bytes) (stands_in h b lists left most kept here stands all) (stops h b lists kept listed same behind)

@@ -1,15 +1,15 @@
 -- Bodies and ids that are read on in front of bytes, or for which there is no memory.
-use Rattle.std.specs.Prelude.{◌≡◌, ◌≤◌, ⊤, ℕ, ℤ, List, [], ◌∷◌, ◌++◌, length, take, Result, Ok, Err}
+use Rattle.std.specs.Prelude.{◌≡◌, ◌+◌, ◌≤◌, ⊤, ℕ, ℤ, List, [], ◌∷◌, ◌++◌, length, take, Result, Ok, Err}
 use Rattle.twkb_points.specs.Point.{Point}
 use Rattle.twkb_tree.specs.Limits.{Allowance}
 use Rattle.twkb_tree.specs.Rows.{Row}
 use Rattle.twkb_grammar.specs.Machine.{Form, PointForm, MultiPointForm, Many, Sums}
 use Rattle.twkb_grammar.specs.Noting.{Notes}
-use Rattle.twkb_outline.specs.Outline.{Group, Step, OnId, listing}
+use Rattle.twkb_outline.specs.Outline.{Group, Step, OnId, listing, next_ids}
 use Rattle.twkb_outline.specs.Growing.{id_in}
 use Rattle.twkb_outline.specs.Reading.{sums_past}
 use Rattle.twkb_outline.specs.Noting.{NotedOutline}
-use Rattle.twkb_outline.specs.Parts.{PartIn}
+use Rattle.twkb_outline.specs.Parts.{PartIn, IsPastEnds}
 use Rattle.twkb_body.specs.Body.{head_of, form_of, lefts_of, IsHeadAt}
 use Rattle.twkb_body.specs.Names.{ids_of}
 use Rattle.twkb_body.specs.Steps.{step_in}
@@ -72,6 +72,27 @@ TakesPoints h b rs from bytes (Err e) c more = StopsWith h b rs from bytes
 -- what a body wants where so many points of the innermost of these lists are to come
 abbrev pub rest_in : Head → Body → Lefts → ℕ → Step
 rest_in h b lists n = listing (head_of h) (form_of b.form) (ids_of b.names) 0 n (outer (lefts_of lists))
+
+-- wherever so many points of a list are to come for the last row, and some that are kept behind them, the bytes lead on to where so many are left before those
+abbrev pub ListRuns : List Row → Point → ℕ → List ℕ → ℕ → List Row → Point → Type 0
+ListRuns rs from most bytes left more to = (h : Head) (b : Body) (lists : Lefts) (kept : ℕ) → HasLists (form_of b.form) → next_ids (outer (lefts_of lists)) (ids_of b.names) ≡ ids_of b.names
+    → StepRuns h (rest_in h b lists (most + kept)) rs from bytes (rest_in h b lists (left + kept)) more to
+
+-- wherever so many are to come, and some are kept or the body goes on behind them, a front of the bytes ends a part that was judged
+abbrev pub ListStops : List Row → Point → ℕ → List ℕ → Type 0
+ListStops rs from most bytes = (h : Head) (b : Body) (lists : Lefts) (kept : ℕ) → HasLists (form_of b.form) → next_ids (outer (lefts_of lists)) (ids_of b.names) ≡ ids_of b.names → (kept ≡ 0 → IsPastEnds (rest_in h b lists 0))
+    → StepStops h (rest_in h b lists (most + kept)) rs from bytes
+
+-- these points of a list were taken, so many at most, and so many are left
+pub record ListLeads (rs : List Row) (from : Point) (bytes : List ℕ) (most : ℕ) (t : Taken) (left : ℕ) (more : List Row) : Type 0 where
+  pub within : t.used ≤ length bytes
+  pub few : left ≤ most
+  pub run : ListRuns rs from most (take t.used bytes) left more t.position
+
+-- what a call answers that takes points of a list
+abbrev pub TakesRow : {E : Type 0} → List Row → Point → List ℕ → ℕ → Result (Taken × ℕ) E → List Row → Type 0
+TakesRow rs from bytes most (Ok r) more = ListLeads rs from bytes most r.0 r.1 more
+TakesRow rs from bytes most (Err e) more = ListStops rs from most bytes
 
 -- the body where it wants this next
 abbrev pub at_spot : Body → Spot → Body

@@ -1,13 +1,14 @@
 //! Points that stand whole in front of the bytes, taken many at a time.
-ghost use Rattle.std.specs.Prelude.{◌≡◌, ◌≤◌, ℕ, List, ◌∷◌, length, IfSome, true};
+ghost use Rattle.std.specs.Prelude.{◌≡◌, ◌≤◌, ◌+◌, ◌^◌, ℕ, List, ◌∷◌, length, IfSome, OnOk, true};
 ghost use Rattle.twkb_tree.specs.Tree.{Ids};
-ghost use Rattle.twkb_tree.specs.Rows.{Row};
+ghost use Rattle.twkb_tree.specs.Rows.{Row, row_points};
+ghost use Rattle.twkb_tree.specs.RowGrowth.{EndsInLine, point_added};
 ghost use Rattle.twkb_grammar.specs.Machine as machine;
 ghost use Rattle.twkb_outline.specs.Outline.{next_ids, listing};
 ghost use Rattle.twkb_outline.specs.Parts.{IsPastEnds};
 ghost use Rattle.twkb_body.specs.Body.{form_of, spot_of, lefts_of};
 ghost use Rattle.twkb_body.specs.Names.{ids_of};
-ghost use Rattle.twkb_body.specs.Running.{Leads, HasLists, outer};
+ghost use Rattle.twkb_body.specs.Running.{Leads, HasLists, TakesRow, outer};
 
 use crate::body::Body;
 use crate::form::Form;
@@ -16,7 +17,7 @@ use crate::lefts::{Lefts, Spot, open_line};
 use crate::site::put_point;
 use std::alloc::AllocError;
 use twkb_flat::Flat;
-use twkb_front::{far_point, front_point};
+use twkb_front::{far_point, front_point, front_two};
 use twkb_points::Pt;
 
 /// Points that were taken.
@@ -94,6 +95,49 @@ fn keeps_row(body: &Body, lefts: Lefts) -> bool
         Lefts::One(_) => !body.names.named,
         Lefts::Two(_, _) | Lefts::Three(_, _, _) => true,
     }
+}
+
+// Appends two points to those of the last row, as `Flat::add_point` does one; an `Err` may stand behind the first. Takes memory.
+#[inline(always)]
+fn add_two(flat: &mut Flat, first: Pt, second: Pt) -> Result<(), AllocError>
+    requires line { EndsInLine flat.old }
+    requires room { length (row_points flat.old) + 2 ≤ 2 ^ 24 }
+    ensures { OnOk result (flat.new ≡ point_added second (point_added first flat.old)) }
+{
+    flat.add_point(first)?;
+    flat.add_point(second)
+}
+
+// Takes points of a list to the last row as far as they stand whole in front, so many at most; and how many of these are left.
+// Takes memory. Two at a time where that goes: the numbers of points that lie near one another are found four at once.
+#[inline(always)]
+fn take_row(flat: &mut Flat, from: Pt, bytes: &[u8], most: u64) -> Result<(Taken, u64), AllocError>
+    requires line { EndsInLine flat.old }
+    requires room { length (row_points flat.old) + most ≤ 2 ^ 24 }
+    ensures { TakesRow flat.old from bytes.now most result flat.new }
+{
+    let mut used = 0;
+    let mut position = from;
+    let mut left = most;
+    while left > 0 {
+        if left > 1 {
+            if let Some((first, second, count)) = front_two(position, &bytes[used..]) {
+                add_two(flat, first, second)?;
+                left -= 2;
+                position = second;
+                used += count;
+                continue;
+            }
+        }
+        let Some((to, count)) = front_point(position, &bytes[used..]) else {
+            break;
+        };
+        flat.add_point(to)?;
+        left -= 1;
+        position = to;
+        used += count;
+    }
+    Ok((Taken { used, position }, left))
 }
 
 impl Body {
@@ -216,19 +260,8 @@ impl Body {
         if !keeps_row(self, lists) || !flat.takes_points(most) {
             return Ok(none(from));
         }
-        let mut used = 0;
-        let mut position = from;
-        let mut left = most;
-        while left > 0 {
-            let Some((to, count)) = front_point(position, &bytes[used..]) else {
-                break;
-            };
-            flat.add_point(to)?;
-            left -= 1;
-            position = to;
-            used += count;
-        }
+        let (taken, left) = take_row(flat, from, bytes, most)?;
         self.stand_in(lists, left + kept);
-        Ok(Taken { used, position })
+        Ok(taken)
     }
 }

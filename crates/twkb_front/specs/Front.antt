@@ -1,5 +1,5 @@
 -- What stands in front of bytes.
-use Rattle.std.specs.Prelude.{◌≡◌, true, ◌+ℤ◌, ℕ, ◌<◌, ◌≤◌, List, length, take}
+use Rattle.std.specs.Prelude.{◌≡◌, true, ◌+ℤ◌, ℕ, ◌+◌, ◌<◌, ◌≤◌, List, length, take, drop}
 use Rattle.twkb_num.specs.Varint.{IsVarint}
 use Rattle.twkb_num.specs.Zigzag.{unzigzag_of}
 use Rattle.twkb_points.specs.Point.{Point, point_at}
@@ -17,6 +17,14 @@ pub record PointInFront (from : Point) (bytes : List ℕ) (to : Point) (count : 
   pub some : 0 < count
   pub within : count ≤ length bytes
   pub pair : Pair from (take count bytes) to
+
+-- so many of the bytes are two points, the second by its steps from the first
+pub record TwoInFront (from : Point) (bytes : List ℕ) (first second : Point) (count : ℕ) : Type 0 where
+  pub first_count : ℕ
+  pub second_count : ℕ
+  pub all : count ≡ first_count + second_count
+  pub leads : PointInFront from bytes first first_count
+  pub goes_on : PointInFront first (drop first_count bytes) second second_count
 
 -- two numbers spell the steps from one point to another, both in range
 pub record StepsTo (from : Point) (x y : ℕ) (to : Point) : Type 0 where

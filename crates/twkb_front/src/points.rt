@@ -2,11 +2,11 @@
 ghost use Rattle.std.specs.Prelude.{◌≡◌, ◌<◌, ◌^◌, ◌+ℤ◌, IfSome};
 ghost use Rattle.twkb_num.specs.Zigzag.{unzigzag_of};
 ghost use Rattle.twkb_points.specs.Point.{IsCoordinate};
-ghost use Rattle.twkb_front.specs.Front.{PointInFront, StepsTo};
+ghost use Rattle.twkb_front.specs.Front.{PointInFront, StepsTo, TwoInFront};
 
 use crate::motion::{moved_x, moved_y};
 use crate::numbers::{any_number, byte_number, short_number, wide_number};
-use twkb_num::unzigzag;
+use twkb_num::{four_varints, unzigzag};
 use twkb_points::Pt;
 
 // The step that a number of five bytes or fewer spells.
@@ -104,4 +104,16 @@ fn any_point(from: Pt, bytes: &[u8]) -> Option<(Pt, usize)>
     let beside = moved_x(from, unzigzag(x))?;
     let to = moved_y(beside, unzigzag(y))?;
     Some((to, width + height))
+}
+
+/// Two points, each by its steps from the one before it, and how many bytes both have. `None` says nothing: they are found only
+/// where all four numbers are short and spelled no longer than they need be, in sixteen bytes or more.
+#[inline(always)]
+pub fn front_two(from: Pt, bytes: &[u8]) -> Option<(Pt, Pt, usize)>
+    ensures { IfSome result (λ front. TwoInFront from bytes.now front.0 front.1 front.2) }
+{
+    let four = four_varints(bytes)?;
+    let first = near(from, four.first, four.second)?;
+    let second = near(first, four.third, four.fourth)?;
+    Some((first, second, four.used))
 }

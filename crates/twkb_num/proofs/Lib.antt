@@ -1,9 +1,14 @@
 pub mod AnswerLemmas
 pub mod BufferLemmas
 pub mod DigitLemmas
+pub mod FoundLemmas
+pub mod FourLemmas
+pub mod LaneLemmas
 pub mod LawLemmas
 pub mod LengthLemmas
+pub mod MarkLemmas
 pub mod PartialLemmas
+pub mod PlaceLemmas
 pub mod SpellingLemmas
 pub mod VarintLemmas
 pub mod ZigzagLemmas

@@ -59,6 +59,21 @@ impl Cursor {
         Some(to)
     }
 
+    /// The same by steps that a coordinate could be, so that no sum passes 64 bits: one test of the point serves.
+    #[inline(always)]
+    pub fn add_near(&mut self, dx: i64, dy: i64) -> Option<Pt>
+        requires near_x { IsCoordinate dx }
+        requires near_y { IsCoordinate dy }
+        ensures range { IsSome result ↔ IsInRange (moved_by self.old dx dy) }
+        ensures point { IfSome result (λ p. p ≡ moved_by self.old dx dy) }
+        ensures moved { IfSome result (λ p. self.new ≡ p) }
+        ensures unmoved { IfNone result (self.new ≡ self.old) }
+    {
+        let to = Pt::try_new(self.at.x() + dx, self.at.y() + dy)?;
+        self.at = to;
+        Some(to)
+    }
+
     /// Whether x would stay in -2^62 to 2^62 - 1 after a move by `dx`. Takes no memory.
     pub fn x_in_range(&self, dx: i64) -> bool
         ensures { IsTrue result ↔ IsCoordinate (self.now.x +ℤ dx) }

@@ -5,6 +5,7 @@ pub mod FarLemmas
 pub mod GroupLemmas
 pub mod LaneLemmas
 pub mod NumberLemmas
+pub mod PairLemmas
 pub mod PointLemmas
 pub mod ScanLemmas
 pub mod StopLemmas

@@ -10,7 +10,8 @@ use Rattle.twkb_polyline.specs.declared.fault.PolyReason.TheVariants.{Half, Rang
 use Rattle.twkb_polyline.specs.declared.fault.PolyFault.{PolyFault}
 use Rattle.twkb_polyline.specs.declared.fault.PolyFault.TheVariants.{Memory, At}
 
-back : (a b d : ℤ) → a ≡ b +ℤ d → a -ℤ b ≡ d
+-- a step, from where it leads
+pub back : (a b d : ℤ) → a ≡ b +ℤ d → a -ℤ b ≡ d
 back a b d e = omega (arith, ints)
 
 -- a latitude and a longitude are a point

@@ -34,6 +34,12 @@ pub record IsPointAt (text : List ℕ) (start : ℕ) (p q : Point) (end : ℕ) :
   pub further : start < end
   pub within : end ≤ length text
 
+-- Two points stand from `start` on, q after p and r after q, and the text goes on at `end`.
+pub record IsPairAt (text : List ℕ) (start : ℕ) (p q r : Point) (end : ℕ) : Type 0 where
+  pub middle : ℕ
+  pub first : IsPointAt text start p q middle
+  pub second : IsPointAt text middle q r end
+
 -- the fault of what stands from `start` on, with its offset in the text
 abbrev pub IsRefusedFrom : ℕ → (ℕ → PolyReason → Type 0) → PolyFault → Type 0
 IsRefusedFrom start is_fault Memory = ⊥

@@ -6,6 +6,7 @@ ghost use Rattle.twkb_polyline.specs.Fault.{IsNumberFault, IsPointFault, IsTextF
 ghost use Rattle.twkb_polyline.specs.Reading.{IsNumberAt, IsPointAt, IsRefusedFrom};
 
 use crate::fault::{PolyFault, PolyReason};
+use crate::pairs::two_points;
 use crate::whole::whole_point;
 use std::alloc::Global;
 use twkb_num::{Five, Partial, Step, unzigzag};
@@ -73,7 +74,13 @@ fn read_points<L: PointTail>(text: &[u8], max: u32, points: &mut L) -> Result<()
     let mut cursor = Cursor::origin();
     let mut at = 0;
     while at < text.len() {
-        if points.count() - held == max as usize {
+        let read = points.count() - held;
+        if let Some(pair) = two_points(text, at, max as usize - read, &mut cursor) {
+            points.put_all(&[pair.first, pair.second])?;
+            at = pair.end;
+            continue;
+        }
+        if read == max as usize {
             return Err(PolyReason::TooMany.at(at));
         }
         let (point, end) = next_point(text, at, &mut cursor)?;

@@ -5,6 +5,7 @@ mod decoding;
 mod encoding;
 mod fault;
 pub mod laws;
+mod pairs;
 mod spelling;
 mod whole;
 

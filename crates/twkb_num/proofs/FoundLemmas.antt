@@ -1,0 +1,182 @@
+-- Four numbers that are found among sixteen units.
+use Rattle.std.proofs.Common.{◌≡◌, ℕ, zero, suc, ◌+◌, ◌-◌, ◌*◌, ◌%◌, ◌<◌, ◌≤◌, ◌^◌, ◌⊎◌, Bool, true, false, inl, inr, List, [], ◌∷◌, ◌++◌, length, take, drop, map, get_or, refl, sym, ◌∙◌, ap, arith, add-one}
+use Rattle.std.specs.Prelude.{nat_lt}
+use Rattle.std.proofs.Math.Nat.{pow-suc, pow-le-pow_right, one-le-pow}
+use Rattle.std.proofs.lemmas.Bool.{cases_lt, lt-ltb, le-ltb}
+use Rattle.std.proofs.lemmas.List.{drop-map, take-map, drop-drop, get_or-drop, length-drop, length-map, map-append, take-take}
+use Rattle.std.proofs.lemmas.Nat.{mod_below, mul-le}
+use Rattle.twkb_num.specs.Four.{unit_over, number_in_front, run_of, AreUnits, AreFourEnds, FourInFront}
+use Rattle.twkb_num.specs.Alphabet.{leb_unit}
+use Rattle.twkb_num.specs.Digits.{digits}
+use Rattle.twkb_num.specs.Spelling.{shortest, units_of}
+use Rattle.twkb_num.proofs.FourLemmas.{marks_of, number_spelled}
+
+-- units before the first that ends a number say that more follow
+before_run : (radix : ℕ) (us : List ℕ) (k : ℕ) → k < run_of (marks_of radix us) → radix ≤ get_or us k 0
+before_run radix [] k h = absurd (omega arith)
+before_run radix (u ∷ us) zero h =
+    elim (cases_lt u radix) [
+      | inl small ↦ let none = rw (lt-ltb u radix small) at h in absurd (omega arith)
+      | inr large ↦ large
+    ]
+before_run radix (u ∷ us) (suc k) h =
+    elim (cases_lt u radix) [
+      | inl small ↦ let none = rw (lt-ltb u radix small) at h in absurd (omega arith)
+      | inr large ↦ let more = rw (le-ltb u radix large) at h in before_run radix us k (omega arith)
+    ]
+
+-- four groups have 28 bits at most
+number_below : (radix more : ℕ) (us : List ℕ) → 1 ≤ radix → radix ≤ 128 → number_in_front radix more us < 128 ^ suc more
+number_below radix more [] p q = one-le-pow (suc more) 128 (omega arith)
+number_below radix zero (u ∷ us) p q = let digit : u % radix < radix = mod_below u radix p in omega arith
+number_below radix (suc more) (u ∷ us) p q =
+    let rest = number_below radix more us p q in
+    let digit : u % radix < radix = mod_below u radix p in
+    let product : radix * number_in_front radix more us ≤ 128 * number_in_front radix more us = mul-le radix (number_in_front radix more us) 128 (number_in_front radix more us) q (omega arith) in
+    rw (pow-suc 128 (suc more)) (omega arith)
+
+-- so has a number of four units
+pub number_small : (radix more : ℕ) (us : List ℕ) → (radix ≡ 128) ⊎ (radix ≡ 32) → more ≤ 3 → number_in_front radix more us < 2 ^ 28
+number_small radix more us alphabet short =
+    let above : 1 ≤ radix = elim alphabet [ inl e ↦ omega arith | inr e ↦ omega arith ] in
+    let within : radix ≤ 128 = elim alphabet [ inl e ↦ omega arith | inr e ↦ omega arith ] in
+    let power : 128 ^ suc more ≤ 128 ^ 4 = pow-le-pow_right {n = 128} (omega arith) (let q : suc more ≤ 4 = omega arith in q) in
+    omega (arith, number_below radix more us above within)
+
+-- ---- one number among the units
+
+-- the units from `at` to the next that ends a number spell it
+pub spelled_at : (base radix at : ℕ) (bytes us : List ℕ) (ends more n : ℕ) → (radix ≡ 128) ⊎ (radix ≡ 32) → AreUnits base radix bytes us ends
+    → more ≡ run_of (drop at (marks_of radix us)) → at + more < 16 → n ≡ number_in_front radix more (drop at us)
+    → map (λ u. u + base) (take (suc more) (drop at us)) ≡ shortest (unit_over base radix) radix n
+spelled_at base radix at bytes us ends more n alphabet read more_is within n_is =
+    let p : 2 ≤ radix = elim alphabet [ inl e ↦ omega arith | inr e ↦ omega arith ] in
+    let count = read.count in
+    let rest = drop at us in
+    let marks_are : drop at (marks_of radix us) ≡ marks_of radix rest = drop-map (λ u. nat_lt u radix) at us in
+    let run : more ≡ run_of (marks_of radix rest) = more_is ∙ ap run_of marks_are in
+    let long : length rest ≡ 16 - at = length-drop at us ∙ ap (λ n. n - at) count in
+    let below : (k : ℕ) → get_or rest k 0 < 2 * radix = λ k. omega (arith, get_or-drop at us k 0, read.below (at + k)) in
+    let last : 0 < run_of (marks_of radix rest) → 0 < get_or rest (run_of (marks_of radix rest)) 0 = λ some. last_at base radix at bytes us ends more read run within (omega arith) in
+    let number : n ≡ number_in_front radix (run_of (marks_of radix rest)) rest =
+    n_is ∙ ap (λ m. number_in_front radix m rest) run in
+    rw (number, run) (number_spelled base radix rest p below (omega arith) last)
+  where
+    last_at : (base radix at : ℕ) (bytes us : List ℕ) (ends more : ℕ) → AreUnits base radix bytes us ends → more ≡ run_of (marks_of radix (drop at us))
+        → at + more < 16 → 0 < more → 0 < get_or (drop at us) (run_of (marks_of radix (drop at us))) 0
+    last_at base radix at bytes us ends zero read run within some = absurd (omega arith)
+    last_at base radix at bytes us ends (suc more) read run within some =
+        elim (cases_lt 0 (get_or us (suc (at + more)) 0)) [
+          | inl above ↦
+              let place : at + suc more ≡ suc (at + more) = omega arith in
+              let same = get_or-drop at us (suc more) 0 in
+              let there = rw place at same in
+              rw (sym run) (omega arith)
+          | inr none ↦
+              let is_zero : get_or us (suc (at + more)) 0 ≡ 0 = omega arith in
+              let ended = read.shortest (at + more) (omega arith) is_zero in
+              let goes_on = before_run radix (drop at us) more (omega arith) in
+              let same = get_or-drop at us more 0 in
+              absurd (omega arith)
+        ]
+
+-- none of no units
+take_none : (j : ℕ) (us : List ℕ) → us ≡ [] → take j us ≡ []
+take_none zero us none = refl
+take_none (suc j) [] none = refl
+take_none (suc j) (u ∷ us) none = absurd (cc)
+
+-- a list up to a place, and from there on
+take_apart : (i j k : ℕ) (us : List ℕ) → k ≡ i + j → take k us ≡ take i us ++ take j (drop i us)
+take_apart zero j k us is = ap (λ n. take n us) (let e : k ≡ j = omega arith in e)
+take_apart (suc i) j k [] is = take_none k [] refl ∙ sym (take_none j [] refl)
+take_apart (suc i) j zero (u ∷ us) is = absurd (omega arith)
+take_apart (suc i) j (suc k) (u ∷ us) is = ap (λ xs. u ∷ xs) (take_apart i j k us (omega arith))
+
+-- the units of one number, and those behind it
+piece : (at more next rest whole : ℕ) (us : List ℕ) → next ≡ at + suc more → whole ≡ suc more + rest
+    → take whole (drop at us) ≡ take (suc more) (drop at us) ++ take rest (drop next us)
+piece at more next rest whole us next_is whole_is =
+    take_apart (suc more) rest whole (drop at us) whole_is
+    ∙ ap (λ xs. take (suc more) (drop at us) ++ take rest xs) (drop-drop (suc more) at us ∙ ap (λ n. drop n us) (sym next_is))
+
+-- the units of four numbers
+four_pieces : (f : ℕ → ℕ) (first second third fourth : ℕ) (us ks bs cs ds : List ℕ) → first < second → second < third → third < fourth
+    → map f (take (suc first) (drop 0 us)) ≡ ks
+    → map f (take (suc (second - first - 1)) (drop (first + 1) us)) ≡ bs
+    → map f (take (suc (third - second - 1)) (drop (second + 1) us)) ≡ cs
+    → map f (take (suc (fourth - third - 1)) (drop (third + 1) us)) ≡ ds
+    → map f (take (fourth + 1) us) ≡ ks ++ (bs ++ (cs ++ ds))
+four_pieces f first second third fourth us ks bs cs ds h i j one two three four =
+    let p = piece 0 first (first + 1) (fourth - first) (fourth + 1) us (omega arith) (omega arith) in
+    let q = piece (first + 1) (second - first - 1) (second + 1) (fourth - second) (fourth - first) us (omega arith) (omega arith) in
+    let r = piece (second + 1) (third - second - 1) (third + 1) (fourth - third) (fourth - second) us (omega arith) (omega arith) in
+    let last : fourth - third ≡ suc (fourth - third - 1) = omega arith in
+    let s : take (fourth - third) (drop (third + 1) us) ≡ take (suc (fourth - third - 1)) (drop (third + 1) us) = ap (λ n. take n (drop (third + 1) us)) last in
+    ap (map f) p ∙ map-append f (take (suc first) us) (take (fourth - first) (drop (first + 1) us))
+    ∙ rw one (ap (λ xs. ks ++ xs) (
+    ap (map f) q ∙ map-append f (take (suc (second - first - 1)) (drop (first + 1) us)) (take (fourth - second) (drop (second + 1) us))
+    ∙ rw two (ap (λ xs. bs ++ xs) (
+    ap (map f) r ∙ map-append f (take (suc (third - second - 1)) (drop (second + 1) us)) (take (fourth - third) (drop (third + 1) us))
+    ∙ rw three (ap (λ xs. cs ++ xs) (ap (map f) s ∙ four))))))
+
+-- Four numbers, each by the marks.
+pub four_found : (base radix : ℕ) (bytes us : List ℕ) (ends first second third fourth a b c d : ℕ)
+    → (radix ≡ 128) ⊎ (radix ≡ 32) → AreUnits base radix bytes us ends → AreFourEnds (marks_of radix us) first second third fourth
+    → first ≤ 3 → second - first - 1 ≤ 3 → third - second - 1 ≤ 3 → fourth - third - 1 ≤ 3
+    → a ≡ number_in_front radix first (drop 0 us)
+    → b ≡ number_in_front radix (second - first - 1) (drop (first + 1) us)
+    → c ≡ number_in_front radix (third - second - 1) (drop (second + 1) us)
+    → d ≡ number_in_front radix (fourth - third - 1) (drop (third + 1) us)
+    → FourInFront (unit_over base radix) radix bytes a b c d (fourth + 1)
+four_found base radix bytes us ends first second third fourth a b c d alphabet read are h i j k a_is b_is c_is d_is =
+    let at_first = are.first_is in
+    let at_second = are.second_is in
+    let at_third = are.third_is in
+    let at_fourth = are.fourth_is in
+    let marks_long = length-map us (λ u. nat_lt u radix) in
+    let count = read.count in
+    let fits = are.within in
+    let bytes_long = read.long in
+    let second_run : second - first - 1 ≡ run_of (drop (first + 1) (marks_of radix us)) = rw (add-one first) (omega arith) in
+    let third_run : third - second - 1 ≡ run_of (drop (second + 1) (marks_of radix us)) = rw (add-one second) (omega arith) in
+    let fourth_run : fourth - third - 1 ≡ run_of (drop (third + 1) (marks_of radix us)) = rw (add-one third) (omega arith) in
+    let one = spelled_at base radix 0 bytes us ends first a alphabet read at_first (omega arith) a_is in
+    let two = spelled_at base radix (first + 1) bytes us ends (second - first - 1) b alphabet read second_run (omega arith) b_is in
+    let three = spelled_at base radix (second + 1) bytes us ends (third - second - 1) c alphabet read third_run (omega arith) c_is in
+    let four = spelled_at base radix (third + 1) bytes us ends (fourth - third - 1) d alphabet read fourth_run (omega arith) d_is in
+    record {
+      within = omega arith;
+      spelled = sym (take-take (fourth + 1) 16 bytes (omega arith)) ∙ ap (take (fourth + 1)) read.same ∙ take-map (λ u. u + base) (fourth + 1) us
+          ∙ four_pieces (λ u. u + base) first second third fourth us _ _ _ _ (omega arith) (omega arith) (omega arith) one two three four;
+      first_small = rw a_is (number_small radix first (drop 0 us) alphabet h);
+      second_small = rw b_is (number_small radix (second - first - 1) (drop (first + 1) us) alphabet i);
+      third_small = rw c_is (number_small radix (third - second - 1) (drop (second + 1) us) alphabet j);
+      fourth_small = rw d_is (number_small radix (fourth - third - 1) (drop (third + 1) us) alphabet k);
+    }
+
+-- ---- units that are written in two ways
+
+-- as units of digits
+units_same : (unit other : ℕ → Bool → ℕ) → ((d : ℕ) (more : Bool) → unit d more ≡ other d more) → (ds : List ℕ) → units_of unit ds ≡ units_of other ds
+units_same unit other same [] = refl
+units_same unit other same (d ∷ []) = ap (λ u. u ∷ []) (same d false)
+units_same unit other same (d ∷ e ∷ ds) = ap (λ u. u ∷ units_of unit (e ∷ ds)) (same d true) ∙ ap (λ us. other d true ∷ us) (units_same unit other same (e ∷ ds))
+
+-- as the bytes of varints
+leb_same : (d : ℕ) (more : Bool) → unit_over 0 128 d more ≡ leb_unit d more
+leb_same d true = omega arith
+leb_same d false = omega arith
+
+-- so four numbers that are found are four varints
+pub four_as_varints : (bytes : List ℕ) (a b c d count : ℕ) → FourInFront (unit_over 0 128) 128 bytes a b c d count → FourInFront leb_unit 128 bytes a b c d count
+four_as_varints bytes a b c d count found =
+    let same : (n : ℕ) → shortest (unit_over 0 128) 128 n ≡ shortest leb_unit 128 n = λ n. units_same (unit_over 0 128) leb_unit leb_same (digits 128 n) in
+    record {
+      within = found.within;
+      spelled = rw (sym (same a), sym (same b), sym (same c), sym (same d)) found.spelled;
+      first_small = found.first_small;
+      second_small = found.second_small;
+      third_small = found.third_small;
+      fourth_small = found.fourth_small;
+    }

@@ -1,0 +1,341 @@
+-- The places from which units are brought into words, and the numbers that these words hold.
+use Rattle.std.proofs.Common.{◌≡◌, ℕ, zero, suc, ◌+◌, ◌*◌, ◌/◌, ◌%◌, ◌<◌, ◌≤◌, ◌⊎◌, Bool, true, false, inl, inr, List, [], ◌∷◌, length, drop, get_or, refl, sym, subst, ◌∙◌, ap, arith}
+use lib.Bits.{bit_or}
+use lib.Dec.{T, leb, ltb}
+use lib.Lanes.{number_l, digits_l, Each1}
+use mathlib.Core.Bool.{cond, ◌||◌}
+use mir.Syntax.{w8}
+use mir.Val.{zeroes}
+use Rattle.std.proofs.lemmas.Bool.{cases_lt, lt-ltb, le-leb, lt-leb}
+use Rattle.std.proofs.lemmas.List.{drop_more}
+use Rattle.std.proofs.lemmas.Nat.{le_or_l, le_or_r}
+use Rattle.std.proofs.lemmas.Simd.{swz_l, SwzOk, SwzOk-from_Each1}
+use Rattle.twkb_num.specs.Four.{number_in_front, place_in, places_in, joined_groups}
+use Rattle.twkb_num.proofs.DigitLemmas.{low_digit, high_digits}
+
+-- none of four has a bit above the lowest two
+pub each_short : (a b c d : ℕ) → bit_or (bit_or (bit_or a b) c) d ≤ 3 → (a ≤ 3) × (b ≤ 3) × (c ≤ 3) × (d ≤ 3)
+each_short a b c d few =
+    let one = le_or_l a b in
+    let two = le_or_r a b in
+    let three = le_or_l (bit_or a b) c in
+    let four = le_or_r (bit_or a b) c in
+    let five = le_or_l (bit_or (bit_or a b) c) d in
+    let six = le_or_r (bit_or (bit_or a b) c) d in
+    (omega arith, omega arith, omega arith, omega arith)
+
+-- ---- words and their bytes
+
+-- the digits of the number that they stand for
+digits-number : (p n : ℕ) (xs : List ℕ) → length xs ≡ n → Each1 (λ x. x < p) xs → digits_l p n (number_l p xs) ≡ xs
+digits-number p zero [] long below = refl
+digits-number p (suc n) [] long below = absurd (omega arith)
+digits-number p zero (x ∷ xs) long below = absurd (omega arith)
+digits-number p (suc n) (x ∷ xs) long below =
+    rw (low_digit p x (number_l p xs) below.0, high_digits p x (number_l p xs) below.0) (ap (λ ys. x ∷ ys) (digits-number p n xs (omega arith) below.1))
+
+-- the word of four bytes
+abbrev pub word_of : ℕ → ℕ → ℕ → ℕ → ℕ
+word_of a b c d = number_l 256 (a ∷ b ∷ c ∷ d ∷ [])
+
+-- four bytes in front of others
+front_word : (a b c d : ℕ) (xs : List ℕ) → number_l 256 (a ∷ b ∷ c ∷ d ∷ xs) ≡ word_of a b c d + 4294967296 * number_l 256 xs
+front_word a b c d xs = omega arith
+
+-- sixteen bytes as four words
+pub four_words : (a b c d e f g h i j k l m n o p : ℕ)
+    → number_l 256 (a ∷ b ∷ c ∷ d ∷ e ∷ f ∷ g ∷ h ∷ i ∷ j ∷ k ∷ l ∷ m ∷ n ∷ o ∷ p ∷ [])
+    ≡ number_l 4294967296 (word_of a b c d ∷ word_of e f g h ∷ word_of i j k l ∷ word_of m n o p ∷ [])
+four_words a b c d e f g h i j k l m n o p =
+    front_word a b c d (e ∷ f ∷ g ∷ h ∷ i ∷ j ∷ k ∷ l ∷ m ∷ n ∷ o ∷ p ∷ []) ∙ ap (λ x. word_of a b c d + 4294967296 * x)
+    (front_word e f g h (i ∷ j ∷ k ∷ l ∷ m ∷ n ∷ o ∷ p ∷ []) ∙ ap (λ x. word_of e f g h + 4294967296 * x)
+    (front_word i j k l (m ∷ n ∷ o ∷ p ∷ []) ∙ ap (λ x. word_of i j k l + 4294967296 * x)
+    (front_word m n o p [])))
+
+-- a word has 32 bits
+word_below : (a b c d : ℕ) → a < 256 → b < 256 → c < 256 → d < 256 → word_of a b c d < 4294967296
+word_below a b c d p q r s = omega arith
+
+-- ---- places
+
+-- a place is within the sixteen units, or read as no unit
+place_is : (at more k : ℕ) → at + more ≤ 15 → ((k ≤ more) × (place_in at more k ≡ at + k)) ⊎ ((more < k) × (place_in at more k ≡ at + 128))
+place_is at more k within = elim (cases_lt more k) [
+  | inl above ↦ inr (above, rw (lt-leb k more above) refl)
+  | inr short ↦ inl (short, rw (le-leb k more short) refl)
+]
+
+-- it fits a byte
+place_below : (at more k : ℕ) → at + more ≤ 15 → place_in at more k < 256
+place_below at more k within = elim (place_is at more k within) [
+  | inl here ↦ let e = here.1 in let short = here.0 in omega arith
+  | inr none ↦ let e = none.1 in omega arith
+]
+
+-- what `swizzle_dyn` asks of it
+place_ok : (at more k : ℕ) → at + more ≤ 15 → T (zeroes 16 w8 (place_in at more k) || ltb (place_in at more k) 16)
+place_ok at more k within = elim (place_is at more k within) [
+  | inl here ↦ let short = here.0 in rw here.1 (second (leb 128 (at + k)) (ltb (at + k) 16) (lt-ltb (at + k) 16 (omega arith)))
+  | inr none ↦ rw none.1 (first (leb 128 (at + 128)) (ltb (at + 128) 16) (le-leb 128 (at + 128) (omega arith)))
+]
+  where
+    first : (p q : Bool) → p ≡ true → T (p || q)
+    first p q e = rw e tt
+
+    second : (p q : Bool) → q ≡ true → T (p || q)
+    second true q e = tt
+    second false q e = rw e tt
+
+-- the unit that it brings
+abbrev pub lane : List ℕ → ℕ → ℕ
+lane us place = cond (leb 128 place) 0 (get_or us (0 + place) 0)
+
+-- a unit that the number has
+lane_here : (us : List ℕ) (at more k : ℕ) → at + more ≤ 15 → k ≤ more → lane us (place_in at more k) ≡ get_or us (at + k) 0
+lane_here us at more k within short =
+    let same : place_in at more k ≡ at + k = rw (le-leb k more short) refl in
+    let place : 0 + (at + k) ≡ at + k = omega arith in
+    rw (same, lt-leb 128 (at + k) (let q : at + k < 128 = omega arith in q), place) refl
+
+-- 0 where the number has none
+lane_none : (us : List ℕ) (at more k : ℕ) → at + more ≤ 15 → more < k → lane us (place_in at more k) ≡ 0
+lane_none us at more k within above =
+    let same : place_in at more k ≡ at + 128 = rw (lt-leb k more above) refl in
+    rw (same, le-leb 128 (at + 128) (let q : 128 ≤ at + 128 = omega arith in q)) refl
+
+-- a byte
+lane_below : (us : List ℕ) (place : ℕ) → ((k : ℕ) → get_or us k 0 < 256) → lane us place < 256
+lane_below us place fit = small (leb 128 place) (get_or us (0 + place) 0) (fit (0 + place))
+  where
+    small : (b : Bool) (x : ℕ) → x < 256 → cond b 0 x < 256
+    small true x h = omega arith
+    small false x h = h
+
+-- ---- numbers
+
+-- the groups of a word's bytes
+groups_128 : (a b c d : ℕ) → a < 256 → b < 256 → c < 256 → d < 256 → joined_groups 128 (word_of a b c d) ≡ a % 128 + 128 * (b % 128 + 128 * (c % 128 + 128 * (d % 128)))
+groups_128 a b c d p q r s =
+    let second : word_of a b c d / 256 ≡ b + 256 * (c + 256 * (d + 256 * 0)) = high_digits 256 a (b + 256 * (c + 256 * (d + 256 * 0))) p in
+    let third : (b + 256 * (c + 256 * (d + 256 * 0))) / 256 ≡ c + 256 * (d + 256 * 0) = high_digits 256 b (c + 256 * (d + 256 * 0)) q in
+    let fourth : (c + 256 * (d + 256 * 0)) / 256 ≡ d + 256 * 0 = high_digits 256 c (d + 256 * 0) r in
+    rw (second, third, fourth) (omega arith)
+
+-- the same by five bits
+groups_32 : (a b c d : ℕ) → a < 256 → b < 256 → c < 256 → d < 256 → joined_groups 32 (word_of a b c d) ≡ a % 32 + 32 * (b % 32 + 32 * (c % 32 + 32 * (d % 32)))
+groups_32 a b c d p q r s =
+    let second : word_of a b c d / 256 ≡ b + 256 * (c + 256 * (d + 256 * 0)) = high_digits 256 a (b + 256 * (c + 256 * (d + 256 * 0))) p in
+    let third : (b + 256 * (c + 256 * (d + 256 * 0))) / 256 ≡ c + 256 * (d + 256 * 0) = high_digits 256 b (c + 256 * (d + 256 * 0)) q in
+    let fourth : (c + 256 * (d + 256 * 0)) / 256 ≡ d + 256 * 0 = high_digits 256 c (d + 256 * 0) r in
+    rw (second, third, fourth) (omega arith)
+
+-- one unit of a number
+last_unit : (radix at : ℕ) (us : List ℕ) → at < length us → number_in_front radix 0 (drop at us) ≡ get_or us at 0 % radix
+last_unit radix at us h = rw (drop_more us at 0 h) refl
+
+-- a unit with others behind it
+next_unit : (radix at more : ℕ) (us : List ℕ) → at < length us → number_in_front radix (suc more) (drop at us) ≡ get_or us at 0 % radix + radix * number_in_front radix more (drop (at + 1) us)
+next_unit radix at more us h = rw (drop_more us at 0 h) refl
+
+-- the word of the units that a number's places bring
+abbrev pub word_at : List ℕ → ℕ → ℕ → ℕ
+word_at us at more = word_of (lane us (place_in at more 0)) (lane us (place_in at more 1)) (lane us (place_in at more 2)) (lane us (place_in at more 3))
+
+-- in each of the two alphabets
+groups_are : (radix a b c d : ℕ) → (radix ≡ 128) ⊎ (radix ≡ 32) → a < 256 → b < 256 → c < 256 → d < 256
+    → joined_groups radix (word_of a b c d) ≡ a % radix + radix * (b % radix + radix * (c % radix + radix * (d % radix)))
+groups_are radix a b c d alphabet p q r s = elim alphabet [
+  | inl e ↦ rw e (groups_128 a b c d p q r s)
+  | inr e ↦ rw e (groups_32 a b c d p q r s)
+]
+
+-- no unit adds nothing
+closes_one : (radix a : ℕ) → (radix ≡ 128) ⊎ (radix ≡ 32) → a % radix ≡ a % radix + radix * (0 % radix + radix * (0 % radix + radix * (0 % radix)))
+closes_one radix a alphabet = elim alphabet [
+  | inl e ↦ rw e (omega arith)
+  | inr e ↦ rw e (omega arith)
+]
+
+-- behind two units
+closes_two : (radix a b : ℕ) → (radix ≡ 128) ⊎ (radix ≡ 32) → a % radix + radix * (b % radix) ≡ a % radix + radix * (b % radix + radix * (0 % radix + radix * (0 % radix)))
+closes_two radix a b alphabet = elim alphabet [
+  | inl e ↦ rw e (omega arith)
+  | inr e ↦ rw e (omega arith)
+]
+
+-- behind three
+closes_three : (radix a b c : ℕ) → (radix ≡ 128) ⊎ (radix ≡ 32)
+    → a % radix + radix * (b % radix + radix * (c % radix)) ≡ a % radix + radix * (b % radix + radix * (c % radix + radix * (0 % radix)))
+closes_three radix a b c alphabet = elim alphabet [
+  | inl e ↦ rw e (omega arith)
+  | inr e ↦ rw e (omega arith)
+]
+
+-- The word of a number's units holds its groups.
+pub word_found : (radix at more : ℕ) (us : List ℕ) → (radix ≡ 128) ⊎ (radix ≡ 32) → length us ≡ 16 → ((k : ℕ) → get_or us k 0 < 256)
+    → at + more ≤ 15 → more ≤ 3 → joined_groups radix (word_at us at more) ≡ number_in_front radix more (drop at us)
+word_found radix at more us alphabet long fit within short =
+    groups_are radix (lane us (place_in at more 0)) (lane us (place_in at more 1)) (lane us (place_in at more 2)) (lane us (place_in at more 3)) alphabet
+    (lane_below us (place_in at more 0) fit) (lane_below us (place_in at more 1) fit) (lane_below us (place_in at more 2) fit) (lane_below us (place_in at more 3) fit)
+    ∙ sym (found radix at more us alphabet long within short)
+  where
+    found : (radix at more : ℕ) (us : List ℕ) → (radix ≡ 128) ⊎ (radix ≡ 32) → length us ≡ 16 → at + more ≤ 15 → more ≤ 3
+        → number_in_front radix more (drop at us)
+        ≡ lane us (place_in at more 0) % radix + radix * (lane us (place_in at more 1) % radix + radix * (lane us (place_in at more 2) % radix + radix * (lane us (place_in at more 3) % radix)))
+    found radix at zero us alphabet long within short =
+        let here : at + 0 ≡ at = omega arith in
+        let last = last_unit radix at us (omega arith) in
+        rw (lane_here us at 0 0 within (omega arith), lane_none us at 0 1 within (omega arith), here, last)
+        (closes_one radix (get_or us at 0) alphabet)
+    found radix at (suc zero) us alphabet long within short =
+        let here : at + 0 ≡ at = omega arith in
+        let next = next_unit radix at 0 us (omega arith) in
+        let last = last_unit radix (at + 1) us (omega arith) in
+        rw (lane_here us at 1 0 within (omega arith), lane_here us at 1 1 within (omega arith), lane_none us at 1 2 within (omega arith), here, next, last)
+        (closes_two radix (get_or us at 0) (get_or us (at + 1) 0) alphabet)
+    found radix at (suc (suc zero)) us alphabet long within short =
+        let here : at + 0 ≡ at = omega arith in
+        let later : at + 1 + 1 ≡ at + 2 = omega arith in
+        let next = next_unit radix at 1 us (omega arith) in
+        let second = next_unit radix (at + 1) 0 us (omega arith) in
+        let last = last_unit radix (at + 2) us (omega arith) in
+        rw (lane_here us at 2 0 within (omega arith), lane_here us at 2 1 within (omega arith), lane_here us at 2 2 within (omega arith), lane_none us at 2 3 within (omega arith), here, next, second, later, last)
+        (closes_three radix (get_or us at 0) (get_or us (at + 1) 0) (get_or us (at + 2) 0) alphabet)
+    found radix at (suc (suc (suc zero))) us alphabet long within short =
+        let here : at + 0 ≡ at = omega arith in
+        let later : at + 1 + 1 ≡ at + 2 = omega arith in
+        let last_place : at + 2 + 1 ≡ at + 3 = omega arith in
+        let next = next_unit radix at 2 us (omega arith) in
+        let second = next_unit radix (at + 1) 1 us (omega arith) in
+        let third = next_unit radix (at + 2) 0 us (omega arith) in
+        let last = last_unit radix (at + 3) us (omega arith) in
+        rw (lane_here us at 3 0 within (omega arith), lane_here us at 3 1 within (omega arith), lane_here us at 3 2 within (omega arith), lane_here us at 3 3 within (omega arith), here, next, second, later, third, last_place, last)
+        refl
+    found radix at (suc (suc (suc (suc more)))) us alphabet long within short = absurd (omega arith)
+
+-- ---- four words at once
+
+-- the places of four numbers
+abbrev pub sixteen_places : (a b c d i j k l : ℕ) → List ℕ
+sixteen_places a b c d i j k l =
+    place_in a i 0 ∷ place_in a i 1 ∷ place_in a i 2 ∷ place_in a i 3
+    ∷ place_in b j 0 ∷ place_in b j 1 ∷ place_in b j 2 ∷ place_in b j 3
+    ∷ place_in c k 0 ∷ place_in c k 1 ∷ place_in c k 2 ∷ place_in c k 3
+    ∷ place_in d l 0 ∷ place_in d l 1 ∷ place_in d l 2 ∷ place_in d l 3 ∷ []
+
+-- in the bytes of four words
+places_are : (p q r s a b c d i j k l : ℕ) → a + i ≤ 15 → b + j ≤ 15 → c + k ≤ 15 → d + l ≤ 15
+    → p ≡ number_l 256 (places_in a i) → q ≡ number_l 256 (places_in b j) → r ≡ number_l 256 (places_in c k) → s ≡ number_l 256 (places_in d l)
+    → digits_l 256 16 (number_l 4294967296 (p ∷ q ∷ r ∷ s ∷ [])) ≡ sixteen_places a b c d i j k l
+places_are p q r s a b c d i j k l f g h m p_is q_is r_is s_is =
+    let joined = four_words (place_in a i 0) (place_in a i 1) (place_in a i 2) (place_in a i 3) (place_in b j 0) (place_in b j 1) (place_in b j 2) (place_in b j 3)
+    (place_in c k 0) (place_in c k 1) (place_in c k 2) (place_in c k 3) (place_in d l 0) (place_in d l 1) (place_in d l 2) (place_in d l 3) in
+    let words : number_l 4294967296 (p ∷ q ∷ r ∷ s ∷ []) ≡ number_l 256 (sixteen_places a b c d i j k l) = rw (p_is, q_is, r_is, s_is) (sym joined) in
+    ap (digits_l 256 16) words
+    ∙ digits-number 256 16 (sixteen_places a b c d i j k l) refl (
+      place_below a i 0 f,
+      (
+        place_below a i 1 f,
+        (
+          place_below a i 2 f,
+          (
+            place_below a i 3 f,
+            (
+              place_below b j 0 g,
+              (
+                place_below b j 1 g,
+                (
+                  place_below b j 2 g,
+                  (
+                    place_below b j 3 g,
+                    (
+                      place_below c k 0 h,
+                      (
+                        place_below c k 1 h,
+                        (
+                          place_below c k 2 h,
+                          (
+                            place_below c k 3 h,
+                            (place_below d l 0 m, (place_below d l 1 m, (place_below d l 2 m, (place_below d l 3 m, tt)))),
+                          ),
+                        ),
+                      ),
+                    ),
+                  ),
+                ),
+              ),
+            ),
+          ),
+        ),
+      ),
+    )
+
+-- `swizzle_dyn` may read them
+pub places_ok : (p q r s a b c d i j k l : ℕ) → a + i ≤ 15 → b + j ≤ 15 → c + k ≤ 15 → d + l ≤ 15
+    → p ≡ number_l 256 (places_in a i) → q ≡ number_l 256 (places_in b j) → r ≡ number_l 256 (places_in c k) → s ≡ number_l 256 (places_in d l)
+    → SwzOk w8 16 16 0 (digits_l 256 16 (number_l 4294967296 (p ∷ q ∷ r ∷ s ∷ [])))
+places_ok p q r s a b c d i j k l f g h m p_is q_is r_is s_is =
+    subst (λ xs. SwzOk w8 16 16 0 xs) (sym (places_are p q r s a b c d i j k l f g h m p_is q_is r_is s_is))
+    (SwzOk-from_Each1 w8 16 1 16 0 (sixteen_places a b c d i j k l) (omega arith) (omega arith) (
+      place_ok a i 0 f,
+      (
+        place_ok a i 1 f,
+        (
+          place_ok a i 2 f,
+          (
+            place_ok a i 3 f,
+            (
+              place_ok b j 0 g,
+              (
+                place_ok b j 1 g,
+                (
+                  place_ok b j 2 g,
+                  (
+                    place_ok b j 3 g,
+                    (
+                      place_ok c k 0 h,
+                      (
+                        place_ok c k 1 h,
+                        (
+                          place_ok c k 2 h,
+                          (
+                            place_ok c k 3 h,
+                            (place_ok d l 0 m, (place_ok d l 1 m, (place_ok d l 2 m, (place_ok d l 3 m, tt)))),
+                          ),
+                        ),
+                      ),
+                    ),
+                  ),
+                ),
+              ),
+            ),
+          ),
+        ),
+      ),
+    ))
+
+-- a word of units has 32 bits
+word_at_below : (us : List ℕ) (at more : ℕ) → ((k : ℕ) → get_or us k 0 < 256) → word_at us at more < 4294967296
+word_at_below us at more fit =
+    word_below (lane us (place_in at more 0)) (lane us (place_in at more 1)) (lane us (place_in at more 2)) (lane us (place_in at more 3))
+    (lane_below us (place_in at more 0) fit) (lane_below us (place_in at more 1) fit) (lane_below us (place_in at more 2) fit) (lane_below us (place_in at more 3) fit)
+
+-- it brings the units of four numbers into four words
+pub words_are : (us : List ℕ) (p q r s a b c d i j k l : ℕ) → ((n : ℕ) → get_or us n 0 < 256) → a + i ≤ 15 → b + j ≤ 15 → c + k ≤ 15 → d + l ≤ 15
+    → p ≡ number_l 256 (places_in a i) → q ≡ number_l 256 (places_in b j) → r ≡ number_l 256 (places_in c k) → s ≡ number_l 256 (places_in d l)
+    → digits_l 4294967296 4 (number_l 256 (swz_l w8 16 us 0 (digits_l 256 16 (number_l 4294967296 (p ∷ q ∷ r ∷ s ∷ [])))))
+    ≡ word_at us a i ∷ word_at us b j ∷ word_at us c k ∷ word_at us d l ∷ []
+words_are us p q r s a b c d i j k l fit f g h m p_is q_is r_is s_is =
+    let brought = ap (swz_l w8 16 us 0) (places_are p q r s a b c d i j k l f g h m p_is q_is r_is s_is) in
+    let joined = four_words (lane us (place_in a i 0)) (lane us (place_in a i 1)) (lane us (place_in a i 2)) (lane us (place_in a i 3))
+    (lane us (place_in b j 0)) (lane us (place_in b j 1)) (lane us (place_in b j 2)) (lane us (place_in b j 3))
+    (lane us (place_in c k 0)) (lane us (place_in c k 1)) (lane us (place_in c k 2)) (lane us (place_in c k 3))
+    (lane us (place_in d l 0)) (lane us (place_in d l 1)) (lane us (place_in d l 2)) (lane us (place_in d l 3)) in
+    ap (λ xs. digits_l 4294967296 4 (number_l 256 xs)) brought
+    ∙ ap (digits_l 4294967296 4) joined
+    ∙ digits-number 4294967296 4 (word_at us a i ∷ word_at us b j ∷ word_at us c k ∷ word_at us d l ∷ []) refl
+    (word_at_below us a i fit, (word_at_below us b j fit, (word_at_below us c k fit, (word_at_below us d l fit, tt))))
+
+-- a unit is a byte
+pub unit_fits : (radix u : ℕ) → (radix ≡ 128) ⊎ (radix ≡ 32) → u < 2 * radix → u < 256
+unit_fits radix u alphabet below = elim alphabet [ inl e ↦ omega arith | inr e ↦ omega arith ]

@@ -1,0 +1,60 @@
+-- Four numbers in front of units, each in its shortest spelling.
+use Rattle.std.specs.Prelude.{◌≡◌, ℕ, zero, suc, ◌+◌, ◌*◌, ◌/◌, ◌%◌, ◌<◌, ◌≤◌, ◌^◌, Bool, true, false, List, [], ◌∷◌, ◌++◌, length, take, drop, map, get_or, nat_lt, nat_le, if◌then◌else◌}
+use lib.Lanes.{mask_l}
+use Rattle.twkb_num.specs.Spelling.{shortest}
+
+-- the first `count` units are the shortest spellings of four numbers, one behind the other, none of more than 28 bits
+pub record FourInFront (unit : ℕ → Bool → ℕ) (base : ℕ) (units : List ℕ) (a b c d count : ℕ) : Type 0 where
+  pub within : count ≤ length units
+  pub spelled : take count units ≡ shortest unit base a ++ (shortest unit base b ++ (shortest unit base c ++ shortest unit base d))
+  pub first_small : a < 2 ^ 28
+  pub second_small : b < 2 ^ 28
+  pub third_small : c < 2 ^ 28
+  pub fourth_small : d < 2 ^ 28
+
+-- the unit of a group in an alphabet that begins at `base`: `radix` more where more follow
+abbrev pub unit_over : ℕ → ℕ → ℕ → Bool → ℕ
+unit_over base radix d more = (if more then d + radix else d) + base
+
+-- the number whose groups are those of the first unit and of `more` units behind it, low first
+abbrev pub number_in_front : ℕ → ℕ → List ℕ → ℕ
+number_in_front radix more [] = 0
+number_in_front radix zero (u ∷ us) = u % radix
+number_in_front radix (suc more) (u ∷ us) = u % radix + radix * number_in_front radix more us
+
+-- the place of a number's unit k, where it begins at `at` and has `more` units behind the first; 128 or above where it has none
+abbrev pub place_in : ℕ → ℕ → ℕ → ℕ
+place_in at more k = if nat_le k more then at + k else at + 128
+
+-- the four of these
+abbrev pub places_in : ℕ → ℕ → List ℕ
+places_in at more = place_in at more 0 ∷ place_in at more 1 ∷ place_in at more 2 ∷ place_in at more 3 ∷ []
+
+-- the number of four groups that stand in the bytes of a word, low first
+abbrev pub joined_groups : ℕ → ℕ → ℕ
+joined_groups radix word =
+    word % radix + radix * (word / 256 % radix + radix * (word / 256 / 256 % radix + radix * (word / 256 / 256 / 256 % radix)))
+
+-- how many marks are not set before the first that is
+abbrev pub run_of : List Bool → ℕ
+run_of [] = 0
+run_of (true ∷ marks) = 0
+run_of (false ∷ marks) = suc (run_of marks)
+
+-- the units are the first sixteen without the base, all of the alphabet, no last group of 0 stands behind others, and a bit
+-- of `ends` is set for each last one
+pub record AreUnits (base radix : ℕ) (bytes units : List ℕ) (ends : ℕ) : Type 0 where
+  pub long : 16 ≤ length bytes
+  pub count : length units ≡ 16
+  pub same : take 16 bytes ≡ map (λ u. u + base) units
+  pub below : (k : ℕ) → get_or units k 0 < 2 * radix
+  pub shortest : (k : ℕ) → k < 15 → get_or units (suc k) 0 ≡ 0 → get_or units k 0 < radix
+  pub marks : ends ≡ mask_l (map (λ u. nat_lt u radix) units)
+
+-- the first four marks that are set
+pub record AreFourEnds (marks : List Bool) (first second third fourth : ℕ) : Type 0 where
+  pub first_is : first ≡ run_of marks
+  pub second_is : second ≡ suc (first + run_of (drop (suc first) marks))
+  pub third_is : third ≡ suc (second + run_of (drop (suc second) marks))
+  pub fourth_is : fourth ≡ suc (third + run_of (drop (suc third) marks))
+  pub within : fourth < length marks

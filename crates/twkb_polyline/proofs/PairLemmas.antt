@@ -1,0 +1,69 @@
+-- Four numbers of a text: two points.
+use Rattle.std.proofs.Common.{◌≡◌, ℕ, ℤ, pos, negsuc, take, drop, ◌+◌, ◌<◌, ◌≤◌, ◌^◌, List, ◌++◌, length, sym, ◌∙◌, ap, arith, append_assoc, length-append, length-drop}
+use Rattle.std.proofs.lemmas.Int.{ints}
+use Rattle.std.proofs.lemmas.List.{take-append-drop, drop-drop, drop_at}
+use Rattle.twkb_num.specs.Alphabet.{five_unit}
+use Rattle.twkb_num.specs.Four.{FourInFront}
+use Rattle.twkb_num.specs.Zigzag.{zigzag_of}
+use Rattle.twkb_points.specs.Point.{Point, IsCoordinate, moved_by}
+use Rattle.twkb_polyline.specs.Polyline.{number_text}
+use Rattle.twkb_polyline.specs.Reading.{IsPairAt}
+use Rattle.twkb_polyline.proofs.OneFault.{number_text_length}
+use Rattle.twkb_polyline.proofs.PointLemmas.{back}
+
+-- a number of a small form could be a coordinate
+pub near : (n : ℤ) (form : ℕ) → zigzag_of n ≡ form → form < 2 ^ 28 → IsCoordinate n
+near (pos n) form e small = omega (arith, ints)
+near (negsuc n) form e small = omega (arith, ints)
+
+-- Four lists stand from `start` on, in `used` characters.
+module _ (text : List ℕ) (start used : ℕ) (a b c d : List ℕ) (spelled : take used (drop start text) ≡ a ++ (b ++ (c ++ d))) where
+  four_split : drop start text ≡ a ++ (b ++ (c ++ (d ++ drop (start + used) text)))
+  four_split =
+      let rest = drop used (drop start text) in
+      sym (take-append-drop used (drop start text))
+      ∙ ap (λ t. t ++ rest) spelled
+      ∙ append_assoc a (b ++ (c ++ d)) rest
+      ∙ ap (λ t. a ++ t) (append_assoc b (c ++ d) rest ∙ ap (λ t. b ++ t) (append_assoc c d rest))
+      ∙ ap (λ t. a ++ (b ++ (c ++ (d ++ t)))) (drop-drop used start text)
+
+  -- and behind two of them the others
+  two_split : drop (start + (length a + length b)) text ≡ c ++ (d ++ drop (start + used) text)
+  two_split =
+      let others = c ++ (d ++ drop (start + used) text) in
+      sym (drop-drop (length a + length b) start text)
+      ∙ ap (drop (length a + length b)) (four_split ∙ sym (append_assoc a b others))
+      ∙ drop_at (a ++ b) others (length a + length b) (length-append a b)
+
+  -- as long as all four
+  four_length : start ≤ length text → used ≤ length (drop start text) → used ≡ (length a + length b) + (length c + length d)
+  four_length before within =
+      let rest = drop (start + used) text in
+      let whole = ap length four_split in
+      omega (arith, length-append a (b ++ (c ++ (d ++ rest))), length-append b (c ++ (d ++ rest)), length-append c (d ++ rest), length-append d rest, length-drop start text, length-drop (start + used) text)
+
+-- the forms of a latitude and a longitude, and of those of the point behind it
+pub pair_read : (text : List ℕ) (start used a b c d : ℕ) (dx dy ex ey : ℤ) (p q r : Point) → start ≤ length text → FourInFront five_unit 32 (drop start text) a b c d used
+    → zigzag_of dy ≡ a → zigzag_of dx ≡ b → zigzag_of ey ≡ c → zigzag_of ex ≡ d → q ≡ moved_by p dx dy → r ≡ moved_by q ex ey → IsPairAt text start p q r (start + used)
+pair_read text start used a b c d dx dy ex ey p q r before four is_a is_b is_c is_d to_q to_r =
+    let spelled : take used (drop start text) ≡ number_text dy ++ (number_text dx ++ (number_text ey ++ number_text ex)) = rw (is_a, is_b, is_c, is_d) four.spelled in
+    let behind = two_split text start used (number_text dy) (number_text dx) (number_text ey) (number_text ex) spelled in
+    let count = four_length text start used (number_text dy) (number_text dx) (number_text ey) (number_text ex) spelled before four.within in
+    let whole = length-drop start text in
+    let some = number_text_length dy in
+    let others = number_text_length ey in
+    record {
+      middle = start + (length (number_text dy) + length (number_text dx));
+      first = record {
+        split =
+            rw (back q.x p.x dx (ap (λ (s : Point). s.x) to_q), back q.y p.y dy (ap (λ (s : Point). s.y) to_q), behind)
+            (four_split text start used (number_text dy) (number_text dx) (number_text ey) (number_text ex) spelled);
+        further = omega arith;
+        within = omega (arith, four.within);
+      };
+      second = record {
+        split = rw (back r.x q.x ex (ap (λ (s : Point). s.x) to_r), back r.y q.y ey (ap (λ (s : Point). s.y) to_r)) behind;
+        further = omega arith;
+        within = omega (arith, four.within);
+      };
+    }

@@ -1,0 +1,45 @@
+//! Two points whose numbers stand whole in a text, read at once.
+ghost use Rattle.std.specs.Prelude.{◌≡◌, ◌≤◌, IfSome, IfNone, length};
+ghost use Rattle.twkb_points.specs.Point.{IsInRange};
+ghost use Rattle.twkb_polyline.specs.Reading.{IsPairAt};
+
+use twkb_num::{four_characters, unzigzag};
+use twkb_points::{Cursor, Pt};
+
+// Two points, one behind the other, and where the text goes on.
+#[derive(Clone, Copy)]
+pub(crate) struct Pair {
+    pub(crate) first: Pt,
+    pub(crate) second: Pt,
+    pub(crate) end: usize,
+}
+
+// The points whose four numbers begin at `start`, where there is room for both. `None` says nothing.
+#[inline(always)]
+pub(crate) fn two_points(
+    text: &[u8],
+    start: usize,
+    room: usize,
+    cursor: &mut Cursor,
+) -> Option<Pair>
+    requires { start ≤ length text.now }
+    ensures read { IfSome result (λ pair. IsPairAt text.now start cursor.old pair.first pair.second pair.end) }
+    ensures in_range { IfSome result (λ pair. IsInRange pair.first × IsInRange pair.second) }
+    ensures fits { IfSome result (λ _. 2 ≤ room) }
+    ensures moved { IfSome result (λ pair. cursor.new ≡ pair.second) }
+    ensures unmoved { IfNone result (cursor.new ≡ cursor.old) }
+{
+    if room < 2 {
+        return None;
+    }
+    let four = four_characters(&text[start..])?;
+    let mut moved = *cursor;
+    let first = moved.add_near(unzigzag(four.second), unzigzag(four.first))?;
+    let second = moved.add_near(unzigzag(four.fourth), unzigzag(four.third))?;
+    *cursor = moved;
+    Some(Pair {
+        first,
+        second,
+        end: start + four.used,
+    })
+}
