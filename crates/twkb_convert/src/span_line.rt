@@ -48,6 +48,7 @@ fn put_precision(precision: i8, text: &mut Vec<u8>) -> Result<(), AllocError>
 }
 
 // Appends a count in decimals, and a byte behind it. Most counts have a digit or two.
+#[inline(always)]
 fn put_count(count: u64, behind: u8, text: &mut Vec<u8>) -> Result<(), AllocError>
     ensures appended { OnOk result (text.new.items ≡ text.old.items ++ (decimal count ++ behind ∷ [])) }
 {
@@ -116,6 +117,7 @@ fn kind_field(kind: Kind) -> &'static [u8]
 }
 
 // Appends a byte as two upper-case hexadecimal digits, and a space.
+#[inline(always)]
 fn put_byte(byte: u8, text: &mut Vec<u8>) -> Result<(), AllocError>
     ensures appended { OnOk result (text.new.items ≡ text.old.items ++ (hex_of byte ++ 32 ∷ [])) }
 {
