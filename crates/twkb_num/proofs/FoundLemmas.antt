@@ -1,15 +1,16 @@
 -- Four numbers that are found among sixteen units.
-use Rattle.std.proofs.Common.{◌≡◌, ℕ, zero, suc, ◌+◌, ◌-◌, ◌*◌, ◌%◌, ◌<◌, ◌≤◌, ◌^◌, ◌⊎◌, Bool, true, false, inl, inr, List, [], ◌∷◌, ◌++◌, length, take, drop, map, get_or, refl, sym, ◌∙◌, ap, arith, add-one}
+use Rattle.std.proofs.Common.{◌≡◌, ℕ, zero, suc, ◌+◌, ◌-◌, ◌*◌, ◌%◌, ◌<◌, ◌≤◌, ◌^◌, ◌⊎◌, Bool, true, false, inl, inr, List, [], ◌∷◌, ◌++◌, length, take, drop, map, get_or, refl, sym, ◌∙◌, ap, arith}
 use Rattle.std.specs.Prelude.{nat_lt}
 use Rattle.std.proofs.Math.Nat.{pow-suc, pow-le-pow_right, one-le-pow}
 use Rattle.std.proofs.lemmas.Bool.{cases_lt, lt-ltb, le-ltb}
 use Rattle.std.proofs.lemmas.List.{drop-map, take-map, drop-drop, get_or-drop, length-drop, length-map, map-append, take-take}
 use Rattle.std.proofs.lemmas.Nat.{mod_below, mul-le}
-use Rattle.twkb_num.specs.Four.{unit_over, number_in_front, run_of, AreUnits, AreFourEnds, FourInFront}
+use Rattle.twkb_num.specs.Four.{unit_over, number_in_front, run_of, AreUnits, FourInFront}
 use Rattle.twkb_num.specs.Alphabet.{leb_unit}
 use Rattle.twkb_num.specs.Digits.{digits}
 use Rattle.twkb_num.specs.Spelling.{shortest, units_of}
 use Rattle.twkb_num.proofs.FourLemmas.{marks_of, number_spelled}
+use Rattle.twkb_num.proofs.TwoLemmas.{AreFour}
 
 -- units before the first that ends a number say that more follow
 before_run : (radix : ℕ) (us : List ℕ) (k : ℕ) → k < run_of (marks_of radix us) → radix ≤ get_or us k 0
@@ -101,58 +102,51 @@ piece at more next rest whole us next_is whole_is =
     ∙ ap (λ xs. take (suc more) (drop at us) ++ take rest xs) (drop-drop (suc more) at us ∙ ap (λ n. drop n us) (sym next_is))
 
 -- the units of four numbers
-four_pieces : (f : ℕ → ℕ) (first second third fourth : ℕ) (us ks bs cs ds : List ℕ) → first < second → second < third → third < fourth
-    → map f (take (suc first) (drop 0 us)) ≡ ks
-    → map f (take (suc (second - first - 1)) (drop (first + 1) us)) ≡ bs
-    → map f (take (suc (third - second - 1)) (drop (second + 1) us)) ≡ cs
-    → map f (take (suc (fourth - third - 1)) (drop (third + 1) us)) ≡ ds
-    → map f (take (fourth + 1) us) ≡ ks ++ (bs ++ (cs ++ ds))
-four_pieces f first second third fourth us ks bs cs ds h i j one two three four =
-    let p = piece 0 first (first + 1) (fourth - first) (fourth + 1) us (omega arith) (omega arith) in
-    let q = piece (first + 1) (second - first - 1) (second + 1) (fourth - second) (fourth - first) us (omega arith) (omega arith) in
-    let r = piece (second + 1) (third - second - 1) (third + 1) (fourth - third) (fourth - second) us (omega arith) (omega arith) in
-    let last : fourth - third ≡ suc (fourth - third - 1) = omega arith in
-    let s : take (fourth - third) (drop (third + 1) us) ≡ take (suc (fourth - third - 1)) (drop (third + 1) us) = ap (λ n. take n (drop (third + 1) us)) last in
-    ap (map f) p ∙ map-append f (take (suc first) us) (take (fourth - first) (drop (first + 1) us))
+four_pieces : (f : ℕ → ℕ) (i j k l second third fourth count : ℕ) (us ks bs cs ds : List ℕ)
+    → second ≡ suc i → third ≡ second + suc j → fourth ≡ third + suc k → count ≡ fourth + suc l
+    → map f (take (suc i) (drop 0 us)) ≡ ks → map f (take (suc j) (drop second us)) ≡ bs
+    → map f (take (suc k) (drop third us)) ≡ cs → map f (take (suc l) (drop fourth us)) ≡ ds
+    → map f (take count us) ≡ ks ++ (bs ++ (cs ++ ds))
+four_pieces f i j k l second third fourth count us ks bs cs ds second_is third_is fourth_is count_is one two three four =
+    let p = piece 0 i second (count - second) count us (omega arith) (omega arith) in
+    let q = piece second j third (count - third) (count - second) us (omega arith) (omega arith) in
+    let r = piece third k fourth (count - fourth) (count - third) us (omega arith) (omega arith) in
+    let last : count - fourth ≡ suc l = omega arith in
+    let s : take (count - fourth) (drop fourth us) ≡ take (suc l) (drop fourth us) = ap (λ n. take n (drop fourth us)) last in
+    ap (map f) p ∙ map-append f (take (suc i) us) (take (count - second) (drop second us))
     ∙ rw one (ap (λ xs. ks ++ xs) (
-    ap (map f) q ∙ map-append f (take (suc (second - first - 1)) (drop (first + 1) us)) (take (fourth - second) (drop (second + 1) us))
+    ap (map f) q ∙ map-append f (take (suc j) (drop second us)) (take (count - third) (drop third us))
     ∙ rw two (ap (λ xs. bs ++ xs) (
-    ap (map f) r ∙ map-append f (take (suc (third - second - 1)) (drop (second + 1) us)) (take (fourth - third) (drop (third + 1) us))
+    ap (map f) r ∙ map-append f (take (suc k) (drop third us)) (take (count - fourth) (drop fourth us))
     ∙ rw three (ap (λ xs. cs ++ xs) (ap (map f) s ∙ four))))))
 
 -- Four numbers, each by the marks.
-pub four_found : (base radix : ℕ) (bytes us : List ℕ) (ends first second third fourth a b c d : ℕ)
-    → (radix ≡ 128) ⊎ (radix ≡ 32) → AreUnits base radix bytes us ends → AreFourEnds (marks_of radix us) first second third fourth
-    → first ≤ 3 → second - first - 1 ≤ 3 → third - second - 1 ≤ 3 → fourth - third - 1 ≤ 3
-    → a ≡ number_in_front radix first (drop 0 us)
-    → b ≡ number_in_front radix (second - first - 1) (drop (first + 1) us)
-    → c ≡ number_in_front radix (third - second - 1) (drop (second + 1) us)
-    → d ≡ number_in_front radix (fourth - third - 1) (drop (third + 1) us)
-    → FourInFront (unit_over base radix) radix bytes a b c d (fourth + 1)
-four_found base radix bytes us ends first second third fourth a b c d alphabet read are h i j k a_is b_is c_is d_is =
-    let at_first = are.first_is in
-    let at_second = are.second_is in
-    let at_third = are.third_is in
-    let at_fourth = are.fourth_is in
+pub four_found : (base radix : ℕ) (bytes us : List ℕ) (ends i j k l second third fourth count a b c d : ℕ)
+    → (radix ≡ 128) ⊎ (radix ≡ 32) → AreUnits base radix bytes us ends → AreFour (marks_of radix us) i j k l second third fourth count
+    → a ≡ number_in_front radix i (drop 0 us) → b ≡ number_in_front radix j (drop second us)
+    → c ≡ number_in_front radix k (drop third us) → d ≡ number_in_front radix l (drop fourth us)
+    → FourInFront (unit_over base radix) radix bytes a b c d count
+four_found base radix bytes us ends i j k l second third fourth count a b c d alphabet read are a_is b_is c_is d_is =
+    let second_at = are.second_at in
+    let third_at = are.third_at in
+    let fourth_at = are.fourth_at in
+    let count_is = are.count_is in
     let marks_long = length-map us (λ u. nat_lt u radix) in
-    let count = read.count in
+    let sixteen = read.count in
     let fits = are.within in
     let bytes_long = read.long in
-    let second_run : second - first - 1 ≡ run_of (drop (first + 1) (marks_of radix us)) = rw (add-one first) (omega arith) in
-    let third_run : third - second - 1 ≡ run_of (drop (second + 1) (marks_of radix us)) = rw (add-one second) (omega arith) in
-    let fourth_run : fourth - third - 1 ≡ run_of (drop (third + 1) (marks_of radix us)) = rw (add-one third) (omega arith) in
-    let one = spelled_at base radix 0 bytes us ends first a alphabet read at_first (omega arith) a_is in
-    let two = spelled_at base radix (first + 1) bytes us ends (second - first - 1) b alphabet read second_run (omega arith) b_is in
-    let three = spelled_at base radix (second + 1) bytes us ends (third - second - 1) c alphabet read third_run (omega arith) c_is in
-    let four = spelled_at base radix (third + 1) bytes us ends (fourth - third - 1) d alphabet read fourth_run (omega arith) d_is in
+    let one = spelled_at base radix 0 bytes us ends i a alphabet read are.first_run (omega arith) a_is in
+    let two = spelled_at base radix second bytes us ends j b alphabet read are.second_run (omega arith) b_is in
+    let three = spelled_at base radix third bytes us ends k c alphabet read are.third_run (omega arith) c_is in
+    let four = spelled_at base radix fourth bytes us ends l d alphabet read are.fourth_run (omega arith) d_is in
     record {
       within = omega arith;
-      spelled = sym (take-take (fourth + 1) 16 bytes (omega arith)) ∙ ap (take (fourth + 1)) read.same ∙ take-map (λ u. u + base) (fourth + 1) us
-          ∙ four_pieces (λ u. u + base) first second third fourth us _ _ _ _ (omega arith) (omega arith) (omega arith) one two three four;
-      first_small = rw a_is (number_small radix first (drop 0 us) alphabet h);
-      second_small = rw b_is (number_small radix (second - first - 1) (drop (first + 1) us) alphabet i);
-      third_small = rw c_is (number_small radix (third - second - 1) (drop (second + 1) us) alphabet j);
-      fourth_small = rw d_is (number_small radix (fourth - third - 1) (drop (third + 1) us) alphabet k);
+      spelled = sym (take-take count 16 bytes (omega arith)) ∙ ap (take count) read.same ∙ take-map (λ u. u + base) count us
+          ∙ four_pieces (λ u. u + base) i j k l second third fourth count us _ _ _ _ second_at third_at fourth_at count_is one two three four;
+      first_small = rw a_is (number_small radix i (drop 0 us) alphabet are.first_short);
+      second_small = rw b_is (number_small radix j (drop second us) alphabet are.second_short);
+      third_small = rw c_is (number_small radix k (drop third us) alphabet are.third_short);
+      fourth_small = rw d_is (number_small radix l (drop fourth us) alphabet are.fourth_short);
     }
 
 -- ---- units that are written in two ways

@@ -3,6 +3,7 @@ pub mod BufferLemmas
 pub mod DigitLemmas
 pub mod FoundLemmas
 pub mod FourLemmas
+pub mod JoinLemmas
 pub mod LaneLemmas
 pub mod LawLemmas
 pub mod LengthLemmas
@@ -10,5 +11,7 @@ pub mod MarkLemmas
 pub mod PartialLemmas
 pub mod PlaceLemmas
 pub mod SpellingLemmas
+pub mod TableLemmas
+pub mod TwoLemmas
 pub mod VarintLemmas
 pub mod ZigzagLemmas

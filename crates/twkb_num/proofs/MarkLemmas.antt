@@ -1,14 +1,14 @@
 -- Marks as the bits of a number: the lowest that is set, and the number without it.
-use Rattle.std.proofs.Common.{◌≡◌, ℕ, zero, suc, ◌+◌, ◌-◌, ◌*◌, ◌%◌, ◌<◌, ◌≤◌, ◌^◌, Bool, true, false, inl, inr, List, [], ◌∷◌, length, drop, map, refl, ◌∙◌, ap, arith, bit_and}
+use Rattle.std.proofs.Common.{◌≡◌, ℕ, zero, suc, ◌+◌, ◌-◌, ◌*◌, ◌/◌, ◌%◌, ◌<◌, ◌≤◌, ◌^◌, Bool, true, false, inl, inr, List, [], ◌∷◌, length, drop, map, refl, sym, ◌∙◌, ap, arith, bit_and}
 use lib.Count.{count_trailing_zeros}
 use lib.Lanes.{mask_l}
 use Rattle.std.specs.List.{prefix_len}
 use Rattle.std.proofs.lemmas.Bool.{cases_lt}
-use Rattle.std.proofs.lemmas.Nat.{and_block, and_le_l}
+use Rattle.std.proofs.lemmas.Nat.{and_block, and_le_l, shr-shr}
 use Rattle.std.proofs.lemmas.Simd.{trailing_mask_l, mask_l-lt}
 use Rattle.std.proofs.Math.Nat.{pow-le-pow_right}
-use Rattle.twkb_num.specs.Four.{run_of, AreFourEnds}
-use mathlib.Core.Bool.{not}
+use Rattle.twkb_num.specs.Four.{run_of}
+use mathlib.Core.Bool.{cond, not}
 
 -- the marks without the first that is set
 abbrev pub cleared : List Bool → List Bool
@@ -93,47 +93,23 @@ zeros_below marks short some =
     let run = rw same at (run_is marks) in
     counted ∙ run
 
--- a mark that is set stands within
-pub run_within : (marks : List Bool) → 0 < mask_l marks → run_of marks < length marks
-run_within [] some = absurd (omega arith)
-run_within (true ∷ marks) some = omega arith
-run_within (false ∷ marks) some = let rest = run_within marks (omega arith) in omega arith
-
 -- the second mark
-run_of-cleared : (marks : List Bool) → 0 < mask_l (cleared marks) → run_of (cleared marks) ≡ suc (run_of marks + run_of (drop (suc (run_of marks)) marks))
+pub run_of-cleared : (marks : List Bool) → 0 < mask_l (cleared marks) → run_of (cleared marks) ≡ suc (run_of marks + run_of (drop (suc (run_of marks)) marks))
 run_of-cleared [] some = absurd (omega arith)
 run_of-cleared (true ∷ marks) some = omega arith
 run_of-cleared (false ∷ marks) some = let rest = run_of-cleared marks (omega arith) in omega arith
 
--- behind the first mark nothing is changed
-drop-cleared : (k : ℕ) (marks : List Bool) → run_of marks < k → drop k (cleared marks) ≡ drop k marks
-drop-cleared k [] p = refl
-drop-cleared zero (mark ∷ marks) p = absurd (omega arith)
-drop-cleared (suc k) (true ∷ marks) p = refl
-drop-cleared (suc k) (false ∷ marks) p = drop-cleared k marks (omega arith)
+-- ---- the marks behind others
 
--- the four lowest bits are the first four marks
-pub lowest_four : (marks : List Bool) → length marks ≤ 16 → 0 < mask_l (cleared (cleared (cleared marks)))
-    → AreFourEnds marks (count_trailing_zeros 64 (mask_l marks)) (count_trailing_zeros 64 (mask_l (cleared marks))) (count_trailing_zeros 64 (mask_l (cleared (cleared marks)))) (count_trailing_zeros 64 (mask_l (cleared (cleared (cleared marks)))))
-lowest_four marks short some =
-    let twice = cleared (cleared marks) in
-    let some_third : 0 < mask_l twice = omega (arith, cleared_le twice) in
-    let some_second : 0 < mask_l (cleared marks) = omega (arith, cleared_le (cleared marks)) in
-    let some_first : 0 < mask_l marks = omega (arith, cleared_le marks) in
-    let length_second = length-cleared marks in
-    let length_third = length-cleared (cleared marks) in
-    let length_fourth = length-cleared twice in
-    let second = run_of-cleared marks some_second in
-    let third = run_of-cleared (cleared marks) some_third in
-    let fourth = run_of-cleared twice some in
-    let third_rest = drop-cleared (suc (run_of (cleared marks))) marks (omega arith) in
-    let fourth_rest = drop-cleared (suc (run_of twice)) (cleared marks) (omega arith) ∙ drop-cleared (suc (run_of twice)) marks (omega arith) in
-    let within = run_within (cleared twice) some in
-    rw (zeros_below marks short some_first, zeros_below (cleared marks) (omega arith) some_second, zeros_below twice (omega arith) some_third, zeros_below (cleared twice) (omega arith) some)
-    (record {
-      first_is = refl;
-      second_is = second;
-      third_is = rw third_rest at third;
-      fourth_is = rw fourth_rest at fourth;
-      within = omega arith;
-    })
+-- what a shift to the right leaves
+pub mask_l-drop : (k : ℕ) (marks : List Bool) → mask_l marks / 2 ^ k ≡ mask_l (drop k marks)
+mask_l-drop zero marks = omega arith
+mask_l-drop (suc k) [] = omega arith
+mask_l-drop (suc k) (mark ∷ marks) =
+    let apart : suc k ≡ 1 + k = omega arith in
+    let first : mask_l (mark ∷ marks) / 2 ^ 1 ≡ mask_l marks = half mark (mask_l marks) in
+    ap (λ n. mask_l (mark ∷ marks) / 2 ^ n) apart ∙ sym (shr-shr (mask_l (mark ∷ marks)) 1 k) ∙ ap (λ n. n / 2 ^ k) first ∙ mask_l-drop k marks
+  where
+    half : (mark : Bool) (n : ℕ) → (cond mark 1 0 + 2 * n) / 2 ^ 1 ≡ n
+    half true n = omega arith
+    half false n = omega arith

@@ -1,6 +1,5 @@
 -- The places from which units are brought into words, and the numbers that these words hold.
-use Rattle.std.proofs.Common.{◌≡◌, ℕ, zero, suc, ◌+◌, ◌*◌, ◌/◌, ◌%◌, ◌<◌, ◌≤◌, ◌⊎◌, Bool, true, false, inl, inr, List, [], ◌∷◌, length, drop, get_or, refl, sym, subst, ◌∙◌, ap, arith}
-use lib.Bits.{bit_or}
+use Rattle.std.proofs.Common.{◌≡◌, ℕ, zero, suc, ◌+◌, ◌*◌, ◌/◌, ◌%◌, ◌<◌, ◌≤◌, ◌⊎◌, Bool, true, false, inl, inr, List, [], ◌∷◌, ◌++◌, length, drop, get_or, refl, sym, subst, ◌∙◌, ap, arith}
 use lib.Dec.{T, leb, ltb}
 use lib.Lanes.{number_l, digits_l, Each1}
 use mathlib.Core.Bool.{cond, ◌||◌}
@@ -8,31 +7,23 @@ use mir.Syntax.{w8}
 use mir.Val.{zeroes}
 use Rattle.std.proofs.lemmas.Bool.{cases_lt, lt-ltb, le-leb, lt-leb}
 use Rattle.std.proofs.lemmas.List.{drop_more}
-use Rattle.std.proofs.lemmas.Nat.{le_or_l, le_or_r}
 use Rattle.std.proofs.lemmas.Simd.{swz_l, SwzOk, SwzOk-from_Each1}
 use Rattle.twkb_num.specs.Four.{number_in_front, place_in, places_in, joined_groups}
 use Rattle.twkb_num.proofs.DigitLemmas.{low_digit, high_digits}
 
--- none of four has a bit above the lowest two
-pub each_short : (a b c d : ℕ) → bit_or (bit_or (bit_or a b) c) d ≤ 3 → (a ≤ 3) × (b ≤ 3) × (c ≤ 3) × (d ≤ 3)
-each_short a b c d few =
-    let one = le_or_l a b in
-    let two = le_or_r a b in
-    let three = le_or_l (bit_or a b) c in
-    let four = le_or_r (bit_or a b) c in
-    let five = le_or_l (bit_or (bit_or a b) c) d in
-    let six = le_or_r (bit_or (bit_or a b) c) d in
-    (omega arith, omega arith, omega arith, omega arith)
-
 -- ---- words and their bytes
 
 -- the digits of the number that they stand for
-digits-number : (p n : ℕ) (xs : List ℕ) → length xs ≡ n → Each1 (λ x. x < p) xs → digits_l p n (number_l p xs) ≡ xs
+pub digits-number : (p n : ℕ) (xs : List ℕ) → length xs ≡ n → Each1 (λ x. x < p) xs → digits_l p n (number_l p xs) ≡ xs
 digits-number p zero [] long below = refl
 digits-number p (suc n) [] long below = absurd (omega arith)
 digits-number p zero (x ∷ xs) long below = absurd (omega arith)
 digits-number p (suc n) (x ∷ xs) long below =
     rw (low_digit p x (number_l p xs) below.0, high_digits p x (number_l p xs) below.0) (ap (λ ys. x ∷ ys) (digits-number p n xs (omega arith) below.1))
+
+-- lists of four that are the same at each place
+pub four_same : (a b c d e f g h : ℕ) → a ≡ e → b ≡ f → c ≡ g → d ≡ h → a ∷ b ∷ c ∷ d ∷ [] ≡ e ∷ f ∷ g ∷ h ∷ []
+four_same a b c d e f g h i j k l = cc
 
 -- the word of four bytes
 abbrev pub word_of : ℕ → ℕ → ℕ → ℕ → ℕ
@@ -111,6 +102,36 @@ lane_below us place fit = small (leb 128 place) (get_or us (0 + place) 0) (fit (
     small true x h = omega arith
     small false x h = h
 
+-- ---- places that are moved
+
+-- behind others
+place_moved : (used at more k : ℕ) → place_in (used + at) more k ≡ used + place_in at more k
+place_moved used at more k = elim (cases_lt more k) [
+  | inl above ↦ rw (lt-leb k more above) (omega arith)
+  | inr short ↦ rw (le-leb k more short) (omega arith)
+]
+
+-- the places of two numbers behind `used` units: so much more in each byte
+pub places_moved : (used first second i j : ℕ)
+    → number_l 256 (places_in first i ++ places_in second j) + used * 72340172838076673 ≡ number_l 256 (places_in (used + first) i ++ places_in (used + second) j)
+places_moved used first second i j =
+    rw (place_moved used first i 0, place_moved used first i 1, place_moved used first i 2, place_moved used first i 3, place_moved used second j 0, place_moved used second j 1, place_moved used second j 2, place_moved used second j 3)
+    (sum (place_in first i 0) (place_in first i 1) (place_in first i 2) (place_in first i 3) (place_in second j 0) (place_in second j 1) (place_in second j 2) (place_in second j 3) used)
+  where
+    sum : (a b c d e f g h u : ℕ) → number_l 256 (a ∷ b ∷ c ∷ d ∷ e ∷ f ∷ g ∷ h ∷ []) + u * 72340172838076673
+        ≡ number_l 256 ((u + a) ∷ (u + b) ∷ (u + c) ∷ (u + d) ∷ (u + e) ∷ (u + f) ∷ (u + g) ∷ (u + h) ∷ [])
+    sum a b c d e f g h u = omega arith
+
+-- eight bytes have 64 bits
+pub places_below : (a b i j : ℕ) → a + i ≤ 15 → b + j ≤ 15 → number_l 256 (places_in a i ++ places_in b j) < 18446744073709551616
+places_below a b i j f g =
+    below (place_in a i 0) (place_in a i 1) (place_in a i 2) (place_in a i 3) (place_in b j 0) (place_in b j 1) (place_in b j 2) (place_in b j 3)
+    (place_below a i 0 f) (place_below a i 1 f) (place_below a i 2 f) (place_below a i 3 f) (place_below b j 0 g) (place_below b j 1 g) (place_below b j 2 g) (place_below b j 3 g)
+  where
+    below : (a b c d e f g h : ℕ) → a < 256 → b < 256 → c < 256 → d < 256 → e < 256 → f < 256 → g < 256 → h < 256
+        → number_l 256 (a ∷ b ∷ c ∷ d ∷ e ∷ f ∷ g ∷ h ∷ []) < 18446744073709551616
+    below a b c d e f g h i j k l m n o p = omega arith
+
 -- ---- numbers
 
 -- the groups of a word's bytes
@@ -142,7 +163,7 @@ abbrev pub word_at : List ℕ → ℕ → ℕ → ℕ
 word_at us at more = word_of (lane us (place_in at more 0)) (lane us (place_in at more 1)) (lane us (place_in at more 2)) (lane us (place_in at more 3))
 
 -- in each of the two alphabets
-groups_are : (radix a b c d : ℕ) → (radix ≡ 128) ⊎ (radix ≡ 32) → a < 256 → b < 256 → c < 256 → d < 256
+pub groups_are : (radix a b c d : ℕ) → (radix ≡ 128) ⊎ (radix ≡ 32) → a < 256 → b < 256 → c < 256 → d < 256
     → joined_groups radix (word_of a b c d) ≡ a % radix + radix * (b % radix + radix * (c % radix + radix * (d % radix)))
 groups_are radix a b c d alphabet p q r s = elim alphabet [
   | inl e ↦ rw e (groups_128 a b c d p q r s)
@@ -223,15 +244,26 @@ sixteen_places a b c d i j k l =
     ∷ place_in c k 0 ∷ place_in c k 1 ∷ place_in c k 2 ∷ place_in c k 3
     ∷ place_in d l 0 ∷ place_in d l 1 ∷ place_in d l 2 ∷ place_in d l 3 ∷ []
 
--- in the bytes of four words
-places_are : (p q r s a b c d i j k l : ℕ) → a + i ≤ 15 → b + j ≤ 15 → c + k ≤ 15 → d + l ≤ 15
-    → p ≡ number_l 256 (places_in a i) → q ≡ number_l 256 (places_in b j) → r ≡ number_l 256 (places_in c k) → s ≡ number_l 256 (places_in d l)
-    → digits_l 256 16 (number_l 4294967296 (p ∷ q ∷ r ∷ s ∷ [])) ≡ sixteen_places a b c d i j k l
-places_are p q r s a b c d i j k l f g h m p_is q_is r_is s_is =
-    let joined = four_words (place_in a i 0) (place_in a i 1) (place_in a i 2) (place_in a i 3) (place_in b j 0) (place_in b j 1) (place_in b j 2) (place_in b j 3)
-    (place_in c k 0) (place_in c k 1) (place_in c k 2) (place_in c k 3) (place_in d l 0) (place_in d l 1) (place_in d l 2) (place_in d l 3) in
-    let words : number_l 4294967296 (p ∷ q ∷ r ∷ s ∷ []) ≡ number_l 256 (sixteen_places a b c d i j k l) = rw (p_is, q_is, r_is, s_is) (sym joined) in
-    ap (digits_l 256 16) words
+-- in two words of eight bytes
+pub places_of_two : (p q a b c d i j k l : ℕ) → p ≡ number_l 256 (places_in a i ++ places_in b j) → q ≡ number_l 256 (places_in c k ++ places_in d l)
+    → number_l 18446744073709551616 (p ∷ q ∷ []) ≡ number_l 256 (sixteen_places a b c d i j k l)
+places_of_two p q a b c d i j k l p_is q_is =
+    rw (p_is, q_is) (sym (
+    front_word (place_in a i 0) (place_in a i 1) (place_in a i 2) (place_in a i 3) (places_in b j ++ (places_in c k ++ places_in d l))
+    ∙ ap (λ x. word_of (place_in a i 0) (place_in a i 1) (place_in a i 2) (place_in a i 3) + 4294967296 * x)
+    (front_word (place_in b j 0) (place_in b j 1) (place_in b j 2) (place_in b j 3) (places_in c k ++ places_in d l))
+    ∙ eight (word_of (place_in a i 0) (place_in a i 1) (place_in a i 2) (place_in a i 3)) (word_of (place_in b j 0) (place_in b j 1) (place_in b j 2) (place_in b j 3))
+    (number_l 256 (places_in a i ++ places_in b j)) (number_l 256 (places_in c k ++ places_in d l))
+    (front_word (place_in a i 0) (place_in a i 1) (place_in a i 2) (place_in a i 3) (places_in b j))))
+  where
+    eight : (x y p q : ℕ) → p ≡ x + 4294967296 * y → x + 4294967296 * (y + 4294967296 * q) ≡ number_l 18446744073709551616 (p ∷ q ∷ [])
+    eight x y p q is = omega arith
+
+-- in the bytes of a number
+places_are : (n a b c d i j k l : ℕ) → a + i ≤ 15 → b + j ≤ 15 → c + k ≤ 15 → d + l ≤ 15
+    → n ≡ number_l 256 (sixteen_places a b c d i j k l) → digits_l 256 16 n ≡ sixteen_places a b c d i j k l
+places_are n a b c d i j k l f g h m is =
+    ap (digits_l 256 16) is
     ∙ digits-number 256 16 (sixteen_places a b c d i j k l) refl (
       place_below a i 0 f,
       (
@@ -271,11 +303,10 @@ places_are p q r s a b c d i j k l f g h m p_is q_is r_is s_is =
     )
 
 -- `swizzle_dyn` may read them
-pub places_ok : (p q r s a b c d i j k l : ℕ) → a + i ≤ 15 → b + j ≤ 15 → c + k ≤ 15 → d + l ≤ 15
-    → p ≡ number_l 256 (places_in a i) → q ≡ number_l 256 (places_in b j) → r ≡ number_l 256 (places_in c k) → s ≡ number_l 256 (places_in d l)
-    → SwzOk w8 16 16 0 (digits_l 256 16 (number_l 4294967296 (p ∷ q ∷ r ∷ s ∷ [])))
-places_ok p q r s a b c d i j k l f g h m p_is q_is r_is s_is =
-    subst (λ xs. SwzOk w8 16 16 0 xs) (sym (places_are p q r s a b c d i j k l f g h m p_is q_is r_is s_is))
+pub places_ok : (n a b c d i j k l : ℕ) → a + i ≤ 15 → b + j ≤ 15 → c + k ≤ 15 → d + l ≤ 15
+    → n ≡ number_l 256 (sixteen_places a b c d i j k l) → SwzOk w8 16 16 0 (digits_l 256 16 n)
+places_ok n a b c d i j k l f g h m is =
+    subst (λ xs. SwzOk w8 16 16 0 xs) (sym (places_are n a b c d i j k l f g h m is))
     (SwzOk-from_Each1 w8 16 1 16 0 (sixteen_places a b c d i j k l) (omega arith) (omega arith) (
       place_ok a i 0 f,
       (
@@ -321,12 +352,11 @@ word_at_below us at more fit =
     (lane_below us (place_in at more 0) fit) (lane_below us (place_in at more 1) fit) (lane_below us (place_in at more 2) fit) (lane_below us (place_in at more 3) fit)
 
 -- it brings the units of four numbers into four words
-pub words_are : (us : List ℕ) (p q r s a b c d i j k l : ℕ) → ((n : ℕ) → get_or us n 0 < 256) → a + i ≤ 15 → b + j ≤ 15 → c + k ≤ 15 → d + l ≤ 15
-    → p ≡ number_l 256 (places_in a i) → q ≡ number_l 256 (places_in b j) → r ≡ number_l 256 (places_in c k) → s ≡ number_l 256 (places_in d l)
-    → digits_l 4294967296 4 (number_l 256 (swz_l w8 16 us 0 (digits_l 256 16 (number_l 4294967296 (p ∷ q ∷ r ∷ s ∷ [])))))
-    ≡ word_at us a i ∷ word_at us b j ∷ word_at us c k ∷ word_at us d l ∷ []
-words_are us p q r s a b c d i j k l fit f g h m p_is q_is r_is s_is =
-    let brought = ap (swz_l w8 16 us 0) (places_are p q r s a b c d i j k l f g h m p_is q_is r_is s_is) in
+pub words_are : (us : List ℕ) (n a b c d i j k l : ℕ) → ((at : ℕ) → get_or us at 0 < 256) → a + i ≤ 15 → b + j ≤ 15 → c + k ≤ 15 → d + l ≤ 15
+    → n ≡ number_l 256 (sixteen_places a b c d i j k l)
+    → digits_l 4294967296 4 (number_l 256 (swz_l w8 16 us 0 (digits_l 256 16 n))) ≡ word_at us a i ∷ word_at us b j ∷ word_at us c k ∷ word_at us d l ∷ []
+words_are us n a b c d i j k l fit f g h m is =
+    let brought = ap (swz_l w8 16 us 0) (places_are n a b c d i j k l f g h m is) in
     let joined = four_words (lane us (place_in a i 0)) (lane us (place_in a i 1)) (lane us (place_in a i 2)) (lane us (place_in a i 3))
     (lane us (place_in b j 0)) (lane us (place_in b j 1)) (lane us (place_in b j 2)) (lane us (place_in b j 3))
     (lane us (place_in c k 0)) (lane us (place_in c k 1)) (lane us (place_in c k 2)) (lane us (place_in c k 3))

@@ -1,5 +1,5 @@
 -- Four numbers in front of units, each in its shortest spelling.
-use Rattle.std.specs.Prelude.{◌≡◌, ℕ, zero, suc, ◌+◌, ◌*◌, ◌/◌, ◌%◌, ◌<◌, ◌≤◌, ◌^◌, Bool, true, false, List, [], ◌∷◌, ◌++◌, length, take, drop, map, get_or, nat_lt, nat_le, if◌then◌else◌}
+use Rattle.std.specs.Prelude.{◌≡◌, ℕ, zero, suc, ◌+◌, ◌*◌, ◌/◌, ◌%◌, ◌<◌, ◌≤◌, ◌^◌, Bool, true, false, List, [], ◌∷◌, ◌++◌, length, take, map, get_or, nat_lt, nat_le, if◌then◌else◌}
 use lib.Lanes.{mask_l}
 use Rattle.twkb_num.specs.Spelling.{shortest}
 
@@ -50,11 +50,3 @@ pub record AreUnits (base radix : ℕ) (bytes units : List ℕ) (ends : ℕ) : T
   pub below : (k : ℕ) → get_or units k 0 < 2 * radix
   pub shortest : (k : ℕ) → k < 15 → get_or units (suc k) 0 ≡ 0 → get_or units k 0 < radix
   pub marks : ends ≡ mask_l (map (λ u. nat_lt u radix) units)
-
--- the first four marks that are set
-pub record AreFourEnds (marks : List Bool) (first second third fourth : ℕ) : Type 0 where
-  pub first_is : first ≡ run_of marks
-  pub second_is : second ≡ suc (first + run_of (drop (suc first) marks))
-  pub third_is : third ≡ suc (second + run_of (drop (suc second) marks))
-  pub fourth_is : fourth ≡ suc (third + run_of (drop (suc third) marks))
-  pub within : fourth < length marks

@@ -1,0 +1,142 @@
+-- Two numbers in front, and two behind them.
+use Rattle.std.proofs.Common.{◌≡◌, ℕ, suc, ◌+◌, ◌*◌, ◌/◌, ◌<◌, ◌≤◌, ◌^◌, ◌⊎◌, Bool, List, [], ◌∷◌, ◌++◌, length, drop, map, get_or, refl, ◌∙◌, ap, arith}
+use lib.Lanes.{mask_l, number_l, digits_l}
+use mir.Syntax.{w8}
+use Rattle.std.specs.Prelude.{nat_lt}
+use Rattle.std.proofs.lemmas.List.{drop-drop, length-drop, length-map}
+use Rattle.std.proofs.lemmas.Simd.{swz_l, SwzOk}
+use Rattle.twkb_num.specs.Four.{number_in_front, places_in, joined_groups, run_of, AreUnits}
+use Rattle.twkb_num.specs.Places.{run_behind, AreTwo}
+use Rattle.twkb_num.proofs.FourLemmas.{marks_of}
+use Rattle.twkb_num.proofs.MarkLemmas.{mask_l-drop}
+use Rattle.twkb_num.proofs.PlaceLemmas.{sixteen_places, places_moved, places_of_two, places_below, places_ok, words_are, word_found, unit_fits, four_same}
+
+-- two numbers in front, and two behind them
+pub record AreTwice (marks : List Bool) (places used later_places later_used : ℕ) : Type 0 where
+  pub low : AreTwo marks places used
+  pub high : AreTwo (drop used marks) later_places later_used
+
+-- as they are found by the bits of the units, and by those behind the first two
+pub twice_found : (base radix : ℕ) (bytes us : List ℕ) (ends places used later_places later_used : ℕ) → AreUnits base radix bytes us ends
+    → ((marks : List Bool) → 8 ≤ length marks → length marks ≤ 16 → ends ≡ mask_l marks → AreTwo marks places used)
+    → ((marks : List Bool) → 8 ≤ length marks → length marks ≤ 16 → ends / 2 ^ used ≡ mask_l marks → AreTwo marks later_places later_used)
+    → AreTwice (marks_of radix us) places used later_places later_used
+twice_found base radix bytes us ends places used later_places later_used read first later =
+    let marks = marks_of radix us in
+    let sixteen : length marks ≡ 16 = length-map us (λ u. nat_lt u radix) ∙ read.count in
+    let two = first marks (omega arith) (omega arith) read.marks in
+    let first_short = two.first_short in
+    let second_short = two.second_short in
+    let used_is = two.used_is in
+    let rest_long = length-drop used marks in
+    record {
+      low = two;
+      high = later (drop used marks) (omega arith) (omega arith) (ap (λ n. n / 2 ^ used) read.marks ∙ mask_l-drop used marks);
+    }
+
+-- four numbers by the marks of their last units: how many units each has behind its first, at most three, where all but the
+-- first begin, and how many units these are
+pub record AreFour (marks : List Bool) (i j k l second third fourth count : ℕ) : Type 0 where
+  pub second_at : second ≡ suc i
+  pub third_at : third ≡ second + suc j
+  pub fourth_at : fourth ≡ third + suc k
+  pub count_is : count ≡ fourth + suc l
+  pub within : count ≤ length marks
+  pub first_run : i ≡ run_of (drop 0 marks)
+  pub second_run : j ≡ run_of (drop second marks)
+  pub third_run : k ≡ run_of (drop third marks)
+  pub fourth_run : l ≡ run_of (drop fourth marks)
+  pub first_short : i ≤ 3
+  pub second_short : j ≤ 3
+  pub third_short : k ≤ 3
+  pub fourth_short : l ≤ 3
+
+-- twice two are four
+pub twice_two : (marks : List Bool) (places used later_places later_used : ℕ) → AreTwice marks places used later_places later_used
+    → AreFour marks (run_of marks) (run_behind marks) (run_of (drop used marks)) (run_behind (drop used marks))
+    (suc (run_of marks)) used (used + suc (run_of (drop used marks))) (used + later_used)
+twice_two marks places used later_places later_used twice =
+    let low = twice.low in
+    let high = twice.high in
+    let low_used = low.used_is in
+    let high_used = high.used_is in
+    let low_within = low.within in
+    let high_within = high.within in
+    let rest_long = length-drop used marks in
+    record {
+      second_at = refl;
+      third_at = omega arith;
+      fourth_at = refl;
+      count_is = omega arith;
+      within = omega arith;
+      first_run = refl;
+      second_run = refl;
+      third_run = refl;
+      fourth_run = ap run_of (drop-drop (suc (run_of (drop used marks))) used marks);
+      first_short = low.first_short;
+      second_short = low.second_short;
+      third_short = high.first_short;
+      fourth_short = high.second_short;
+    }
+
+-- ---- the places of all four
+
+-- those of the two behind, moved
+later_places_are : (marks : List Bool) (used moved later_places later_used : ℕ) → moved ≡ used → AreTwo marks later_places later_used
+    → later_places + moved * 72340172838076673 ≡ number_l 256 (places_in used (run_of marks) ++ places_in (used + suc (run_of marks)) (run_behind marks))
+later_places_are marks used moved later_places later_used same high =
+    let none : used + 0 ≡ used = omega arith in
+    rw (same, high.places_are)
+    (places_moved used 0 (suc (run_of marks)) (run_of marks) (run_behind marks)
+    ∙ ap (λ at. number_l 256 (places_in at (run_of marks) ++ places_in (used + suc (run_of marks)) (run_behind marks))) none)
+
+-- they fit
+pub later_places_below : (marks : List Bool) (places used moved later_places later_used : ℕ) → moved ≡ used → AreTwice marks places used later_places later_used
+    → later_places + moved * 72340172838076673 < 18446744073709551616
+later_places_below marks places used moved later_places later_used same twice =
+    let four = twice_two marks places used later_places later_used twice in
+    let is = later_places_are (drop used marks) used moved later_places later_used same twice.high in
+    omega (arith, places_below used (used + suc (run_of (drop used marks))) (run_of (drop used marks)) (run_behind (drop used marks)) (omega arith) (omega arith))
+
+-- the number of all sixteen bytes
+abbrev pub both_places : ℕ → ℕ → ℕ → ℕ
+both_places places moved later_places = number_l 18446744073709551616 (places ∷ (later_places + moved * 72340172838076673) ∷ [])
+
+-- these are the places of the four
+four_places : (marks : List Bool) (places used moved later_places later_used : ℕ) → moved ≡ used → AreTwice marks places used later_places later_used
+    → both_places places moved later_places
+    ≡ number_l 256 (sixteen_places 0 (suc (run_of marks)) used (used + suc (run_of (drop used marks))) (run_of marks) (run_behind marks) (run_of (drop used marks)) (run_behind (drop used marks)))
+four_places marks places used moved later_places later_used same twice =
+    places_of_two places (later_places + moved * 72340172838076673)
+    0 (suc (run_of marks)) used (used + suc (run_of (drop used marks))) (run_of marks) (run_behind marks) (run_of (drop used marks)) (run_behind (drop used marks))
+    twice.low.places_are (later_places_are (drop used marks) used moved later_places later_used same twice.high)
+
+-- `swizzle_dyn` may read them
+pub four_places_ok : (marks : List Bool) (places used moved later_places later_used : ℕ) → moved ≡ used → AreTwice marks places used later_places later_used
+    → SwzOk w8 16 16 0 (digits_l 256 16 (both_places places moved later_places))
+four_places_ok marks places used moved later_places later_used same twice =
+    let four = twice_two marks places used later_places later_used twice in
+    places_ok (both_places places moved later_places)
+    0 (suc (run_of marks)) used (used + suc (run_of (drop used marks))) (run_of marks) (run_behind marks) (run_of (drop used marks)) (run_behind (drop used marks))
+    (omega arith) (omega arith) (omega arith) (omega arith) (four_places marks places used moved later_places later_used same twice)
+
+-- The groups that they bring are those of the four numbers.
+pub numbers_found : (base radix : ℕ) (bytes us : List ℕ) (ends places used moved later_places later_used : ℕ)
+    → (radix ≡ 128) ⊎ (radix ≡ 32) → AreUnits base radix bytes us ends → moved ≡ used → AreTwice (marks_of radix us) places used later_places later_used
+    → map (joined_groups radix) (digits_l 4294967296 4 (number_l 256 (swz_l w8 16 us 0 (digits_l 256 16 (both_places places moved later_places)))))
+    ≡ number_in_front radix (run_of (marks_of radix us)) (drop 0 us)
+    ∷ number_in_front radix (run_behind (marks_of radix us)) (drop (suc (run_of (marks_of radix us))) us)
+    ∷ number_in_front radix (run_of (drop used (marks_of radix us))) (drop used us)
+    ∷ number_in_front radix (run_behind (drop used (marks_of radix us))) (drop (used + suc (run_of (drop used (marks_of radix us)))) us) ∷ []
+numbers_found base radix bytes us ends places used moved later_places later_used alphabet read same twice =
+    let marks = marks_of radix us in
+    let four = twice_two marks places used later_places later_used twice in
+    let second = suc (run_of marks) in
+    let fourth = used + suc (run_of (drop used marks)) in
+    let fit : (n : ℕ) → get_or us n 0 < 256 = λ n. unit_fits radix (get_or us n 0) alphabet (read.below n) in
+    let number = λ (at more : ℕ) (inside : at + more ≤ 15) (short : more ≤ 3). word_found radix at more us alphabet read.count fit inside short in
+    ap (map (joined_groups radix)) (words_are us (both_places places moved later_places)
+    0 second used fourth (run_of marks) (run_behind marks) (run_of (drop used marks)) (run_behind (drop used marks))
+    fit (omega arith) (omega arith) (omega arith) (omega arith) (four_places marks places used moved later_places later_used same twice))
+    ∙ four_same _ _ _ _ _ _ _ _ (number 0 (run_of marks) (omega arith) four.first_short) (number second (run_behind marks) (omega arith) four.second_short)
+    (number used (run_of (drop used marks)) (omega arith) four.third_short) (number fourth (run_behind (drop used marks)) (omega arith) four.fourth_short)
