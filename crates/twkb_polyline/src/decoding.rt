@@ -76,7 +76,8 @@ fn read_points<L: PointTail>(text: &[u8], max: u32, points: &mut L) -> Result<()
     while at < text.len() {
         let read = points.count() - held;
         if let Some(pair) = two_points(text, at, max as usize - read, &mut cursor) {
-            points.put_all(&[pair.first, pair.second])?;
+            points.put(pair.first)?;
+            points.put(pair.second)?;
             at = pair.end;
             continue;
         }

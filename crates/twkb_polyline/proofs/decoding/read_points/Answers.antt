@@ -1,6 +1,6 @@
-use Rattle.std.proofs.Common.{◌≡◌, ◌∙◌, ◌+◌, ◌<◌, ◌≤◌, length, refl, arith}
+use Rattle.std.proofs.Common.{◌≡◌, ◌∙◌, ◌+◌, ◌<◌, ◌≤◌, [], ◌∷◌, ◌++◌, length, refl, ap, append_assoc, arith}
 use Rattle.std.proofs.lemmas.Result.{err_from_is_err_and}
-use Rattle.twkb_polyline.proofs.DecodeLemmas.{read_count, has_read_all, has_read_none, has_read_more, has_read_pair, one_too_many, text_refused, no_memory}
+use Rattle.twkb_polyline.proofs.DecodeLemmas.{read_count, has_read_all, has_read_none, has_read_more, has_read_pair, one_too_many, text_refused, no_memory, no_memory_between}
 use Rattle.twkb_polyline.proofs.decoding.read_points.Goals as goal
 
 pub loop-at-init : goal.loop-at-init
@@ -15,7 +15,7 @@ loop-at-preserved g c =
     let room : length read.ps < c.args.max =
     omega (arith, c.count.ensures, c.if-read-max.false, read_count c.args.text.now c.args.max c.loop-at.at c.loop-at.cursor old held read) in
     let point = rw c.in_default.ensures.unmoved at c.in_ok-point.ensures.read in
-    rw (c.in_ok-put.ensures.appended, c.in_ok-point.ensures.moved) (record {
+    rw (c.in_ok-put-3.ensures.appended, c.in_ok-point.ensures.moved) (record {
       read = has_read_more c.args.text.now c.args.max c.loop-at.at c.loop-at.cursor old held read c.in_ok-point.point c.in_ok-point.end _ point c.in_ok-point.ensures.in_range room refl;
       held = c.loop-at.invariant.held;
     })
@@ -25,15 +25,16 @@ loop-at-preserved-in-Some g c =
     let old = g.L.PointTail.held c.args.points.now in
     let held = g.L.PointTail.held c.loop-at.points in
     let read = c.loop-at.invariant.read in
+    let both = c.in_ok-put-2.ensures.appended ∙ ap (λ ps. ps ++ c.in-Some.pair.second ∷ []) c.in_ok-put.ensures.appended ∙ append_assoc held (c.in-Some.pair.first ∷ []) (c.in-Some.pair.second ∷ []) in
     let room : length read.ps + 2 ≤ c.args.max =
     omega (arith, c.count.ensures, c.in-Some.ensures.fits, read_count c.args.text.now c.args.max c.loop-at.at c.loop-at.cursor old held read) in
-    rw (c.in_ok-put_all.ensures.appended, c.in-Some.ensures.moved) (record {
+    rw (both, c.in-Some.ensures.moved) (record {
       read = has_read_pair c.args.text.now c.args.max c.loop-at.at c.loop-at.cursor old held read c.in-Some.pair.first c.in-Some.pair.second c.in-Some.pair.end _ c.in-Some.ensures.read c.in-Some.ensures.in_range room refl;
       held = c.loop-at.invariant.held;
     })
 
-pub returns-in_err-put_all-clause-refuses : goal.returns-in_err-put_all-clause-refuses
-returns-in_err-put_all-clause-refuses g c =
+pub returns-in_err-put-clause-refuses : goal.returns-in_err-put-clause-refuses
+returns-in_err-put-clause-refuses g c =
     let p = err_from_is_err_and c.from_residual.result c.from_residual.ensures.1 in
     let old = g.L.PointTail.held c.args.points.now in
     let held = g.L.PointTail.held c.loop-at.points in
@@ -42,6 +43,16 @@ returns-in_err-put_all-clause-refuses g c =
     let room : length read.ps < c.args.max =
     omega (arith, c.count.ensures, c.in-Some.ensures.fits, read_count c.args.text.now c.args.max c.loop-at.at c.loop-at.cursor old held read) in
     rw (p.1, p.2) (no_memory c.args.text.now c.args.max c.loop-at.at c.loop-at.cursor old held read c.in-Some.pair.first pair.middle pair.first c.in-Some.ensures.in_range.0 room)
+
+pub returns-in_err-put-2-clause-refuses : goal.returns-in_err-put-2-clause-refuses
+returns-in_err-put-2-clause-refuses g c =
+    let p = err_from_is_err_and c.from_residual-in_err-put-2.result c.from_residual-in_err-put-2.ensures.1 in
+    let old = g.L.PointTail.held c.args.points.now in
+    let held = g.L.PointTail.held c.loop-at.points in
+    let read = c.loop-at.invariant.read in
+    let room : length read.ps + 2 ≤ c.args.max =
+    omega (arith, c.count.ensures, c.in-Some.ensures.fits, read_count c.args.text.now c.args.max c.loop-at.at c.loop-at.cursor old held read) in
+    rw (p.1, p.2) (no_memory_between c.args.text.now c.args.max c.loop-at.at c.loop-at.cursor old held read c.in-Some.pair.first c.in-Some.pair.second c.in-Some.pair.end c.in-Some.ensures.read c.in-Some.ensures.in_range room)
 
 pub returns-in_err-point-clause-refuses : goal.returns-in_err-point-clause-refuses
 returns-in_err-point-clause-refuses g c =
@@ -53,9 +64,9 @@ returns-in_err-point-clause-refuses g c =
     omega (arith, c.count.ensures, c.if-read-max.false, read_count c.args.text.now c.args.max c.loop-at.at c.loop-at.cursor old held read) in
     rw (p.1, p.2) (text_refused c.args.text.now c.args.max c.loop-at.at c.loop-at.cursor old held read c.in_err-point.field-0.0 c.loop-at-test.true room (rw c.in_default.ensures.unmoved at c.in_err-point.ensures.refused))
 
-pub returns-in_err-put-clause-refuses : goal.returns-in_err-put-clause-refuses
-returns-in_err-put-clause-refuses g c =
-    let p = err_from_is_err_and c.from_residual-in_err-put.result c.from_residual-in_err-put.ensures.1 in
+pub returns-in_err-put-3-clause-refuses : goal.returns-in_err-put-3-clause-refuses
+returns-in_err-put-3-clause-refuses g c =
+    let p = err_from_is_err_and c.from_residual-in_err-put-3.result c.from_residual-in_err-put-3.ensures.1 in
     let old = g.L.PointTail.held c.args.points.now in
     let held = g.L.PointTail.held c.loop-at.points in
     let read = c.loop-at.invariant.read in
@@ -78,8 +89,8 @@ returns-then-read-max-clause-grown g c = (c.loop-at.invariant.read.ps, c.loop-at
 pub returns-in_err-point-clause-grown : goal.returns-in_err-point-clause-grown
 returns-in_err-point-clause-grown g c = (c.loop-at.invariant.read.ps, c.loop-at.invariant.read.held_is)
 
-pub returns-in_err-put-clause-grown : goal.returns-in_err-put-clause-grown
-returns-in_err-put-clause-grown g c = (c.loop-at.invariant.read.ps, c.in_err-put.ensures.same ∙ c.loop-at.invariant.read.held_is)
+pub returns-in_err-put-3-clause-grown : goal.returns-in_err-put-3-clause-grown
+returns-in_err-put-3-clause-grown g c = (c.loop-at.invariant.read.ps, c.in_err-put-3.ensures.same ∙ c.loop-at.invariant.read.held_is)
 
 pub returns-clause-decodes : goal.returns-clause-decodes
 returns-clause-decodes g c =
