@@ -9,6 +9,7 @@ pub mod LawLemmas
 pub mod LengthLemmas
 pub mod MarkLemmas
 pub mod PartialLemmas
+pub mod PieceLemmas
 pub mod PlaceLemmas
 pub mod SpellingLemmas
 pub mod TableLemmas
