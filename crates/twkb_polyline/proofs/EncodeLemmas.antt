@@ -1,16 +1,18 @@
 -- The text of points, put in parts, one behind the other.
-use Rattle.std.proofs.Common.{arith, ◌≡◌, ℕ, ℤ, zero, suc, ◌+◌, ◌*◌, ◌<◌, ◌-ℤ◌, List, [], ◌∷◌, ◌++◌, length, take, drop, get_or, refl, sym, ◌∙◌, ap, append_assoc, append-nil, drop-cons, drop-drop, add-one}
+use Rattle.std.proofs.Common.{arith, ◌≡◌, ℕ, ℤ, zero, suc, ◌+◌, ◌*◌, ◌<◌, ◌-ℤ◌, List, [], ◌∷◌, ◌++◌, length, take, drop, get_or, refl, sym, subst, ◌∙◌, ap, append_assoc, append-nil, drop-cons, drop-drop, add-one}
 use Rattle.std.proofs.lemmas.List.{take-append-drop}
 use Rattle.std.specs.Simd.{first_chunks}
-use Rattle.twkb_points.specs.Point.{Point, origin}
-use Rattle.twkb_polyline.specs.Polyline.{number_text, polyline, polyline_from, last_after}
+use Rattle.twkb_points.specs.Point.{Point}
+use Rattle.twkb_polyline.specs.Polyline.{number_text, polyline_from, last_after}
+use Rattle.twkb_polyline.specs.Spelling.{points_of}
 
--- Of the points those in `left` are to come: the text of the others was put behind `old`, and the cursor stands at the
--- last of them.
-pub record HasPut (points left : List Point) (cursor : Point) (old text : List ℕ) : Type 0 where
+-- Of the points behind `start` those in `left` are to come: the text of the others was put behind `old`, and the cursor
+-- stands at the last of them.
+pub record HasPut (start : Point) (points left : List Point) (cursor : Point) (old text : List ℕ) : Type 0 where
   pub put : List ℕ
   pub held : text ≡ old ++ put
-  pub told : put ++ polyline_from cursor left ≡ polyline points
+  pub told : put ++ polyline_from cursor left ≡ polyline_from start points
+  pub ends : last_after cursor left ≡ last_after start points
 
 -- the text of some points, and of those after them
 polyline_from-append : (p : Point) (ps qs : List Point) → polyline_from p (ps ++ qs) ≡ polyline_from p ps ++ polyline_from (last_after p ps) qs
@@ -23,14 +25,19 @@ polyline_from-append p (r ∷ ps) qs =
     ∙ ap (λ t. dy ++ t) (sym (append_assoc dx (polyline_from r ps) tail))
     ∙ sym (append_assoc dy (dx ++ polyline_from r ps) tail)
 
+-- the last of some points, and of those after them
+last_after-append : (p : Point) (ps qs : List Point) → last_after p (ps ++ qs) ≡ last_after (last_after p ps) qs
+last_after-append p [] qs = refl
+last_after-append p (r ∷ ps) qs = last_after-append r ps qs
+
 -- before the first point nothing was put
-pub has_put_none : (points : List Point) (old : List ℕ) → HasPut points points origin old old
-has_put_none points old = record { put = []; held = sym (append-nil old); told = refl }
+pub has_put_none : (start : Point) (points : List Point) (old : List ℕ) → HasPut start points points start old old
+has_put_none start points old = record { put = []; held = sym (append-nil old); told = refl; ends = refl }
 
 -- some points more
-pub has_put_more : (points part left : List Point) (p q : Point) (old text after : List ℕ) → HasPut points (part ++ left) p old text
-    → q ≡ last_after p part → after ≡ text ++ polyline_from p part → HasPut points left q old after
-has_put_more points part left p q old text after has moved e = record {
+pub has_put_more : (start : Point) (points part left : List Point) (p q : Point) (old text after : List ℕ) → HasPut start points (part ++ left) p old text
+    → q ≡ last_after p part → after ≡ text ++ polyline_from p part → HasPut start points left q old after
+has_put_more start points part left p q old text after has moved e = record {
   put = has.put ++ polyline_from p part;
   held = e ∙ ap (λ t. t ++ polyline_from p part) has.held ∙ append_assoc old has.put (polyline_from p part);
   told =
@@ -38,12 +45,23 @@ has_put_more points part left p q old text after has moved e = record {
       ∙ ap (λ r. has.put ++ (polyline_from p part ++ polyline_from r left)) moved
       ∙ ap (λ t. has.put ++ t) (sym (polyline_from-append p part left))
       ∙ has.told;
+  ends = ap (λ r. last_after r left) moved ∙ sym (last_after-append p part left) ∙ has.ends;
 }
 
+-- the first points of all
+pub has_put_first : (start : Point) (points part left : List Point) (q : Point) (old after : List ℕ) → points ≡ part ++ left
+    → q ≡ last_after start part → after ≡ old ++ polyline_from start part → HasPut start points left q old after
+has_put_first start points part left q old after split moved e =
+    has_put_more start points part left start q old old after (subst (λ ps. HasPut start points ps start old old) split (has_put_none start points old)) moved e
+
 -- after the last point all was put
-pub has_put_all : (points left : List Point) (p : Point) (old text : List ℕ) → HasPut points left p old text → left ≡ [] → text ≡ old ++ polyline points
-has_put_all points left p old text has done =
+pub has_put_all : (start : Point) (points left : List Point) (p : Point) (old text : List ℕ) → HasPut start points left p old text → left ≡ [] → text ≡ old ++ polyline_from start points
+has_put_all start points left p old text has done =
     has.held ∙ ap (λ t. old ++ t) (sym (append-nil has.put) ∙ ap (λ qs. has.put ++ polyline_from p qs) (sym done) ∙ has.told)
+
+-- and the cursor stands at it
+pub has_put_last : (start : Point) (points left : List Point) (p : Point) (old text : List ℕ) → HasPut start points left p old text → left ≡ [] → p ≡ last_after start points
+has_put_last start points left p old text has done = sym (ap (last_after p) done) ∙ has.ends
 
 -- a text behind what was put
 pub put_behind : (old put more text middle : List ℕ) → text ≡ old ++ put → middle ≡ text ++ more → middle ≡ old ++ (put ++ more)
@@ -63,29 +81,25 @@ pair_text p middle (q ∷ r ∷ []) d e ax ay bx by two em eax eay ebx eby =
 
 -- ---- points in pairs
 
--- each pair stands at twice its place
-pair_at : (points : List Point) (k i : ℕ) (d : List Point) → i < k → get_or (first_chunks 2 k points) i d ≡ take 2 (drop (i * 2) points)
-pair_at points zero i d within = absurd (omega arith)
-pair_at points (suc k) zero d within = refl
-pair_at points (suc k) (suc i) d within =
-    let place : suc i * 2 ≡ 2 + i * 2 = omega arith in
-    pair_at (drop 2 points) k i d (omega arith)
-    ∙ ap (take 2) (drop-drop (i * 2) 2 points ∙ ap (λ j. drop j points) (sym place))
+-- the pairs are the points, but for the rest behind them
+points_split : (points : List Point) (k : ℕ) → points_of (first_chunks 2 k points) ++ drop (k * 2) points ≡ points
+points_split points zero = refl
+points_split points (suc k) =
+    let place : suc k * 2 ≡ 2 + k * 2 = omega arith in
+    let pairs = points_of (first_chunks 2 k (drop 2 points)) in
+    append_assoc (take 2 points) pairs (drop (suc k * 2) points)
+    ∙ ap (λ ps. take 2 points ++ (pairs ++ ps)) (ap (λ j. drop j points) place ∙ sym (drop-drop (k * 2) 2 points))
+    ∙ ap (λ ps. take 2 points ++ ps) (points_split (drop 2 points) k)
+    ∙ take-append-drop 2 points
 
--- and before what is left behind it
-pub left_pair : (points : List Point) (pairs : List (List Point)) (k i : ℕ) (pair : List Point) → pairs ≡ first_chunks 2 k points → length pairs ≡ k → i < length pairs
-    → pair ≡ get_or pairs i pair → drop (i * 2) points ≡ pair ++ drop ((i + 1) * 2) points
-left_pair points pairs k i pair chunks many within read =
-    let place : (i + 1) * 2 ≡ i * 2 + 2 = omega arith in
-    let item : pair ≡ take 2 (drop (i * 2) points) = read ∙ ap (λ ps. get_or ps i pair) chunks ∙ pair_at points k i pair (omega arith) in
-    sym (take-append-drop 2 (drop (i * 2) points))
-    ∙ ap (λ ps. take 2 (drop (i * 2) points) ++ ps) (drop-drop 2 (i * 2) points ∙ ap (λ j. drop j points) (sym place))
-    ∙ ap (λ ps. ps ++ drop ((i + 1) * 2) points) (sym item)
+-- the points are those of the pairs and the rest behind them
+pub points_are : (points rest : List Point) (pairs : List (List Point)) (k : ℕ) → pairs ≡ first_chunks 2 k points → rest ≡ drop (k * 2) points → points ≡ points_of pairs ++ rest
+points_are points rest pairs k chunks behind = sym (points_split points k) ∙ ap (λ ps. ps ++ drop (k * 2) points) (ap points_of (sym chunks)) ∙ ap (λ ps. points_of pairs ++ ps) (sym behind)
 
--- behind the last pair stands the rest
-pub left_rest : (points rest : List Point) (k i : ℕ) → rest ≡ drop (k * 2) points → i ≡ k → drop (i * 2) points ≡ rest
-left_rest points rest k i behind last = ap (λ j. drop (j * 2) points) last ∙ sym behind
+-- one of a list, and those after it
+pub left_one : {X : Type 0} (xs : List X) (i : ℕ) (x : X) → i < length xs → x ≡ get_or xs i x → drop i xs ≡ x ∷ drop (i + 1) xs
+left_one xs i x within read = drop-cons xs i x within ∙ ap (λ y. y ∷ drop (suc i) xs) (sym read) ∙ ap (λ j. x ∷ drop j xs) (sym (add-one i))
 
--- one point of a list, and those after it
-pub left_point : (points : List Point) (i : ℕ) (p : Point) → i < length points → p ≡ get_or points i p → drop i points ≡ (p ∷ []) ++ drop (i + 1) points
-left_point points i p within read = drop-cons points i p within ∙ ap (λ y. y ∷ drop (suc i) points) (sym read) ∙ ap (λ j. p ∷ drop j points) (sym (add-one i))
+-- one pair more of those that are left
+pub left_pair : (pairs : List (List Point)) (i : ℕ) (pair : List Point) → i < length pairs → pair ≡ get_or pairs i pair → points_of (drop i pairs) ≡ pair ++ points_of (drop (i + 1) pairs)
+left_pair pairs i pair within read = ap points_of (left_one pairs i pair within read)

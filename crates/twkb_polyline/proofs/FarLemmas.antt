@@ -4,11 +4,11 @@ use lib.Count.{count_leading_zeros}
 use Rattle.std.proofs.Math.Nat.{pow-suc, pow-le-pow_right}
 use Rattle.std.proofs.lemmas.Bool.{cases_lt}
 use Rattle.std.proofs.lemmas.Nat.{leading_top, le_or_l, le_or_r, or_lt, pow-add}
-use Rattle.twkb_polyline.specs.Spelling.{spread, HasGroups}
+use Rattle.twkb_polyline.specs.Spelling.{spread, marks, HasGroups}
 use Rattle.twkb_num.specs.Alphabet.{five_unit}
 use Rattle.twkb_num.specs.Digits.{low_digits}
 use Rattle.twkb_num.specs.Spelling.{shortest}
-use Rattle.twkb_polyline.proofs.WordLemmas.{marks, spelled}
+use Rattle.twkb_polyline.proofs.WordLemmas.{spelled_groups}
 
 -- five bits a group
 fives : (k : ℕ) → 2 ^ (5 * k) ≡ 32 ^ k
@@ -76,7 +76,4 @@ marks_cut (suc (suc (suc (suc (suc (suc (suc (suc (suc c))))))))) some few = abs
 -- the groups of a number in a word of 64 bits, each with its marks, are its characters
 pub spelled_far : (n c groups : ℕ) → HasGroups n c → c ≤ 8 → groups ≡ spread 8 n
     → low_digits 256 c (groups + 2314885530818453536 % ((1 * 2 ^ (8 * c - 8)) % 2 ^ 64) + 4557430888798830399) ≡ shortest five_unit 32 n
-spelled_far n zero groups h few e = absurd (omega (arith, h.some))
-spelled_far n (suc c) groups h few e =
-    let above : 0 < c → 32 ^ c ≤ n = λ some. let power : suc c - 1 ≡ c = omega arith in rw power at (h.above (omega arith)) in
-    rw (marks_cut (suc c) (omega arith) few, e) (spelled 8 c n few h.below above)
+spelled_far n c groups h few e = rw (marks_cut c h.some few, e) (spelled_groups 8 8 n c h few few)

@@ -1,8 +1,12 @@
--- Numbers' characters as the low bytes of a word, the first one lowest, for the steps of a writer.
-use Rattle.std.specs.Prelude.{◌≡◌, ℕ, ◌-◌, ◌<◌, ◌≤◌, ◌^◌, List, [], ◌∷◌}
-use Rattle.twkb_num.specs.Alphabet.{five_unit}
+-- For the steps of a writer: points by pairs, and numbers' characters as the low bytes of a word, the first one lowest.
+use Rattle.std.specs.Prelude.{◌≡◌, ℕ, zero, suc, ◌+◌, ◌*◌, ◌-◌, ◌<◌, ◌≤◌, ◌^◌, List, [], ◌∷◌, ◌++◌}
 use Rattle.twkb_num.specs.Digits.{low_digits, number_of}
-use Rattle.twkb_num.specs.Spelling.{shortest}
+use Rattle.twkb_points.specs.Point.{Point}
+
+-- the points of a list of pairs
+abbrev pub points_of : List (List Point) → List Point
+points_of [] = []
+points_of (pair ∷ pairs) = pair ++ points_of pairs
 
 -- the lowest `count` groups of n, each in a byte
 abbrev pub spread : ℕ → ℕ → ℕ
@@ -14,14 +18,23 @@ pub record HasGroups (n count : ℕ) : Type 0 where
   pub below : n < 32 ^ count
   pub above : 2 ≤ count → 32 ^ (count - 1) ≤ n
 
--- The low `count` bytes of a lane of four are the characters of n.
-pub record IsSpelled (n lane count : ℕ) : Type 0 where
-  pub few : count ≤ 4
-  pub characters : low_digits 256 count lane ≡ shortest five_unit 32 n
+-- a mark for each of `count` groups but the last: 32 in its byte
+abbrev pub marks : ℕ → ℕ
+marks zero = 0
+marks (suc zero) = 0
+marks (suc (suc k)) = 32 + 256 * marks (suc k)
 
--- the characters of each number stand in the lane at its place, as many as its count
-abbrev pub AreSpelled : List ℕ → List ℕ → List ℕ → Type 0
-AreSpelled [] lanes counts = Unit
-AreSpelled (n ∷ ns) [] counts = ⊥
-AreSpelled (n ∷ ns) (lane ∷ lanes) [] = ⊥
-AreSpelled (n ∷ ns) (lane ∷ lanes) (count ∷ counts) = IsSpelled n lane count × AreSpelled ns lanes counts
+-- The groups of n stand in a lane of four bytes, each with its mark.
+pub record IsMarked (n lane : ℕ) : Type 0 where
+  pub count : ℕ
+  pub groups : HasGroups n count
+  pub few : count ≤ 4
+  pub marked : lane ≡ spread 4 n + marks count
+
+-- The groups of two numbers stand in the lower and in the upper lane of a word.
+pub record AreMarked (first second word : ℕ) : Type 0 where
+  pub low : ℕ
+  pub high : ℕ
+  pub lanes : word ≡ low + 2 ^ 32 * high
+  pub lower : IsMarked first low
+  pub upper : IsMarked second high

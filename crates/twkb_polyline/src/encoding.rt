@@ -1,10 +1,12 @@
 //! Points to text.
 ghost use Rattle.std.specs.Prelude.{◌≡◌, [], ◌∷◌, ℕ, List, ◌++◌, IfOk, OnOk, OnErr};
 ghost use Rattle.twkb_polyline.specs.Polyline.{polyline, polyline_from, last_after};
+ghost use Rattle.twkb_polyline.specs.Spelling.{points_of};
 
-use crate::spelling::{put_four, put_two};
+use crate::piece::flush;
+use crate::spelling::{push_four, put_two};
 use std::alloc::{AllocError, Global};
-use twkb_num::zigzag;
+use twkb_num::{Piece, zigzag};
 use twkb_points::{Cursor, Pt};
 
 /// The polyline of the points, in a vector of its own (Encoded Polyline Algorithm Format). Takes
@@ -38,8 +40,8 @@ fn put_points(points: &[Pt], text: &mut Vec<u8>) -> Result<(), AllocError>
 {
     let mut cursor = Cursor::origin();
     let (pairs, rest) = points.as_chunks::<2>();
-    for pair in pairs {
-        put_pair(&mut cursor, pair, text)?;
+    if !pairs.is_empty() {
+        put_pairs(pairs, &mut cursor, text)?;
     }
     for point in rest {
         put_point(&mut cursor, *point, text)?;
@@ -47,21 +49,45 @@ fn put_points(points: &[Pt], text: &mut Vec<u8>) -> Result<(), AllocError>
     Ok(())
 }
 
-// Appends the characters of two points, or a front of them where memory is refused.
+// Appends the characters of some pairs of points, or a front of them where memory is refused. A function
+// of its own, so that a single point does not pay for a piece.
+#[inline(never)]
+fn put_pairs(pairs: &[[Pt; 2]], cursor: &mut Cursor, text: &mut Vec<u8>) -> Result<(), AllocError>
+    ensures appended { OnOk result (text.new.items ≡ text.old.items ++ polyline_from cursor.old (points_of pairs.now)) }
+    ensures moved { OnOk result (cursor.new ≡ last_after cursor.old (points_of pairs.now)) }
+    ensures grown { (more : List ℕ) × (text.new.items ≡ text.old.items ++ more) }
+{
+    let mut moved = *cursor;
+    let mut piece = Piece::new();
+    for pair in pairs {
+        push_pair(&mut moved, pair, &mut piece, text)?;
+    }
+    *cursor = moved;
+    flush(&mut piece, text)
+}
+
+// Appends the characters of two points to what the piece holds, or a front of all that to the text where
+// memory is refused.
 #[inline(always)]
-fn put_pair(cursor: &mut Cursor, pair: &[Pt; 2], text: &mut Vec<u8>) -> Result<(), AllocError>
-    ensures appended { OnOk result (text.new.items ≡ text.old.items ++ polyline_from cursor.old pair.now) }
+fn push_pair(
+    cursor: &mut Cursor,
+    pair: &[Pt; 2],
+    piece: &mut Piece,
+    text: &mut Vec<u8>,
+) -> Result<(), AllocError>
+    ensures appended { OnOk result (text.new.items ++ piece.new ≡ text.old.items ++ piece.old ++ polyline_from cursor.old pair.now) }
     ensures moved { cursor.new ≡ last_after cursor.old pair.now }
     ensures grown { (more : List ℕ) × (text.new.items ≡ text.old.items ++ more) }
 {
     let [first, second] = *pair;
     let (first_dx, first_dy) = cursor.delta(first);
     let (second_dx, second_dy) = cursor.delta(second);
-    put_four(
+    push_four(
         zigzag(first_dy),
         zigzag(first_dx),
         zigzag(second_dy),
         zigzag(second_dx),
+        piece,
         text,
     )
 }

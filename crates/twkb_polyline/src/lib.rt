@@ -6,6 +6,7 @@ mod encoding;
 mod fault;
 pub mod laws;
 mod pairs;
+mod piece;
 mod spelling;
 mod whole;
 

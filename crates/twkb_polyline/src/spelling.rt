@@ -1,14 +1,15 @@
 //! Several numbers as characters at once, with no branch on how many characters each has: in tracks
 //! numbers of one, two and three characters are mixed, and no processor foresees which comes next.
-ghost use Rattle.std.specs.Prelude.{◌≡◌, ◌<◌, ◌≤◌, ◌^◌, [], ◌∷◌, ℕ, List, ◌++◌, OnOk, OnErr};
+ghost use Rattle.std.specs.Prelude.{◌≡◌, ◌+◌, ◌<◌, ◌≤◌, ◌^◌, [], ◌∷◌, ℕ, List, ◌++◌, length, OnOk, OnErr};
 ghost use Rattle.twkb_num.specs.Alphabet.{five_unit};
 ghost use Rattle.twkb_num.specs.Digits.{low_digits};
 ghost use Rattle.twkb_num.specs.Spelling.{shortest};
-ghost use Rattle.twkb_polyline.specs.Spelling.{spread, HasGroups, AreSpelled};
+ghost use Rattle.twkb_polyline.specs.Spelling.{spread, HasGroups, AreMarked};
 
+use crate::piece::{flush, make_room};
 use std::alloc::AllocError;
-use std::simd::u32x4;
-use twkb_num::{Five, Groups, NumBuf};
+use std::simd::{u32x4, u64x2};
+use twkb_num::{Five, Groups, NumBuf, Piece};
 
 // The bytes of a word.
 const WORD: usize = 8;
@@ -22,59 +23,78 @@ const FOUR_GROUPS: u64 = 1 << 20;
 // Numbers below it have at most eight, which a word of 64 bits holds.
 const EIGHT_GROUPS: u64 = 1 << 40;
 
-// Appends the characters of four numbers, or a front of them where memory is refused. Nearly all
-// numbers of a track are below 2^20.
+// The marks of a lane of four groups: 32 in each byte.
+const MARKS: u64 = 0x2020_2020;
+
+// Appends the characters of four numbers to what the piece holds, or a front of all that to the text
+// where memory is refused. Nearly all numbers of a track are below 2^20.
 #[inline(always)]
 #[tactic(auto, using(std::proofs::lemmas::Nat::le_or_l, std::proofs::lemmas::Nat::le_or_r))]
-pub(crate) fn put_four(
+pub(crate) fn push_four(
     first: u64,
     second: u64,
     third: u64,
     fourth: u64,
+    piece: &mut Piece,
     text: &mut Vec<u8>,
 ) -> Result<(), AllocError>
-    ensures appended { OnOk result (text.new.items ≡ text.old.items
+    ensures appended { OnOk result (text.new.items ++ piece.new ≡ text.old.items ++ piece.old
         ++ ((shortest five_unit 32 first ++ shortest five_unit 32 second)
         ++ (shortest five_unit 32 third ++ shortest five_unit 32 fourth))) }
     ensures grown { (more : List ℕ) × (text.new.items ≡ text.old.items ++ more) }
 {
+    make_room(piece, text)?;
     let all = first | second | third | fourth;
     if all < TWO_GROUPS {
-        return put_characters(first, second, third, fourth, text);
+        push_characters(first, second, third, fourth, piece);
+        return Ok(());
     }
     if all >= FOUR_GROUPS {
+        flush(piece, text)?;
         put_two(first, second, text)?;
         return put_two(third, fourth, text);
     }
-    let (units, counts) = spell_four(first as u32, second as u32, third as u32, fourth as u32);
-    put_lanes(units[0], counts[0], units[1], counts[1], text)?;
-    put_lanes(units[2], counts[2], units[3], counts[3], text)
+    let (low, high) = mark_four(first as u32, second as u32, third as u32, fourth as u32);
+    push_marked(first, second, low, piece);
+    push_marked(third, fourth, high, piece);
+    Ok(())
 }
 
-// Appends the characters of four numbers that have one each, as those of short steps have all, or none where memory is refused.
+// Appends the characters of four numbers that have one each, as those of short steps have all: four
+// bytes of one word.
 #[inline(always)]
-fn put_characters(
-    first: u64,
-    second: u64,
-    third: u64,
-    fourth: u64,
-    text: &mut Vec<u8>,
-) -> Result<(), AllocError>
+fn push_characters(first: u64, second: u64, third: u64, fourth: u64, piece: &mut Piece)
     requires first_few { first < 32 }
     requires second_few { second < 32 }
     requires third_few { third < 32 }
     requires fourth_few { fourth < 32 }
-    ensures appended { OnOk result (text.new.items ≡ text.old.items
+    requires room { length piece.old + 8 ≤ 128 }
+    ensures { piece.new ≡ piece.old
         ++ ((shortest five_unit 32 first ++ shortest five_unit 32 second)
-        ++ (shortest five_unit 32 third ++ shortest five_unit 32 fourth))) }
-    ensures same { OnErr result (text.new.items ≡ text.old.items) }
+        ++ (shortest five_unit 32 third ++ shortest five_unit 32 fourth)) }
 {
-    text.extend_from_slice(&[
+    let characters = [
         one_character(first),
         one_character(second),
         one_character(third),
         one_character(fourth),
-    ])
+    ];
+    piece.push_low(u64::from(u32::from_le_bytes(characters)), 4);
+}
+
+// Appends the characters of two numbers whose groups stand in a word with their marks. A number has a
+// group more than marks, and 63 more in each byte makes it a character.
+#[inline(always)]
+fn push_marked(first: u64, second: u64, word: u64, piece: &mut Piece)
+    requires marked { AreMarked first second word }
+    requires room { length piece.old + 8 ≤ 128 }
+    ensures appended { piece.new ≡ piece.old ++ (shortest five_unit 32 first ++ shortest five_unit 32 second) }
+    ensures few { length piece.new ≤ length piece.old + 8 }
+{
+    let count = (word & MARKS).count_ones() + 1;
+    let more = ((word >> 32) & MARKS).count_ones() + 1;
+    let joined = word % (1 << 32) + ((word >> 32) << (8 * count));
+    piece.push_low(joined + 0x3f3f_3f3f_3f3f_3f3f, count + more);
 }
 
 // The character of a number of one group.
@@ -139,32 +159,27 @@ fn spread_four(first: u32, second: u32, third: u32, fourth: u32) -> u32x4
         + ((numbers >> 15) << 24)
 }
 
-// The characters of four numbers, each number's in the low bytes of its lane, and how many they are.
-// A group but the last is marked by 32, and 63 stands in each byte.
+// The groups of four numbers, two numbers in each word, each group but a number's last marked by 32.
 #[inline(always)]
-fn spell_four(first: u32, second: u32, third: u32, fourth: u32) -> ([u32; 4], [u32; 4])
+fn mark_four(first: u32, second: u32, third: u32, fourth: u32) -> (u64, u64)
     requires first_few { first < 2 ^ 20 }
     requires second_few { second < 2 ^ 20 }
     requires third_few { third < 2 ^ 20 }
     requires fourth_few { fourth < 2 ^ 20 }
-    ensures { AreSpelled (first ∷ second ∷ third ∷ fourth ∷ []) result.0 result.1 }
+    ensures low { AreMarked first second result.0 }
+    ensures high { AreMarked third fourth result.1 }
 {
     let numbers = u32x4::from_array([first, second, third, fourth]);
     let none = u32x4::splat(0);
-    let one = u32x4::splat(1);
     let has_two = numbers.simd_ge(u32x4::splat(1 << 5));
     let has_three = numbers.simd_ge(u32x4::splat(1 << 10));
     let has_four = numbers.simd_ge(u32x4::splat(1 << 15));
-    let units = spread_four(first, second, third, fourth)
-        + u32x4::splat(0x3f3f_3f3f)
+    let lanes = spread_four(first, second, third, fourth)
         + has_two.select(u32x4::splat(0x20), none)
         + has_three.select(u32x4::splat(0x2000), none)
         + has_four.select(u32x4::splat(0x20_0000), none);
-    let counts = one
-        + has_two.select(one, none)
-        + has_three.select(one, none)
-        + has_four.select(one, none);
-    (units.to_array(), counts.to_array())
+    let [low, high] = u64x2::from_le_bytes(lanes.to_le_bytes()).to_array();
+    (low, high)
 }
 
 // Appends the characters of a number whose groups stand in a word, each in a byte, or none where
@@ -189,26 +204,6 @@ fn group_count(number: u64) -> u32
     ensures few { result ≤ 8 }
 {
     (68 - (number | 1).leading_zeros()) / 5
-}
-
-// Appends the low bytes of one lane, and then those of another, or none where memory is refused.
-#[inline(always)]
-fn put_lanes(
-    first: u32,
-    count: u32,
-    second: u32,
-    more: u32,
-    text: &mut Vec<u8>,
-) -> Result<(), AllocError>
-    requires few { count ≤ 4 }
-    requires few_more { more ≤ 4 }
-    ensures appended { OnOk result (text.new.items ≡ text.old.items
-        ++ (low_digits 256 count first ++ low_digits 256 more second)) }
-    ensures same { OnErr result (text.new.items ≡ text.old.items) }
-{
-    let width = 8 * count;
-    let word = u64::from(first) % (1 << width) + (u64::from(second) << width);
-    put_low(word, count + more, text)
 }
 
 // Appends the low `count` bytes of a word, or none where memory is refused: all eight by one store of

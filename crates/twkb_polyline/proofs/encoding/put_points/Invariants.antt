@@ -1,10 +1,8 @@
 -- The points so far were put behind the text, and the cursor stands at the last of them.
-use Rattle.std.proofs.Common.{◌*◌, drop}
+use Rattle.std.proofs.Common.{drop}
+use Rattle.twkb_points.specs.Point.{origin}
 use Rattle.twkb_polyline.proofs.EncodeLemmas.{HasPut}
 use Rattle.twkb_polyline.proofs.encoding.put_points.Given as goal
 
-abbrev pub invariant-loop-pair : goal.invariant-loop-pair
-invariant-loop-pair l = HasPut l.points (drop (l.pair-index * 2) l.points) l.cursor l.fn.text.items l.text.items
-
 abbrev pub invariant-loop-point : goal.invariant-loop-point
-invariant-loop-point l = HasPut l.points (drop l.point-index l.rest) l.cursor l.fn.text.items l.text.items
+invariant-loop-point l = HasPut origin l.points (drop l.point-index l.rest) l.cursor l.fn.text.items l.text.items

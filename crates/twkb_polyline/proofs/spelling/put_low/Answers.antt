@@ -1,5 +1,6 @@
 use Rattle.std.proofs.Common.{arith, rules}
-use Rattle.twkb_polyline.proofs.WordLemmas.{put_cut, take-le_bytes}
+use Rattle.twkb_num.proofs.PieceLemmas.{take-le_bytes}
+use Rattle.twkb_polyline.proofs.WordLemmas.{put_cut}
 use Rattle.twkb_polyline.proofs.spelling.put_low.Goals as goal
 
 pub returns-then-saturating_sub-lt-WORD-clause-appended : goal.returns-then-saturating_sub-lt-WORD-clause-appended

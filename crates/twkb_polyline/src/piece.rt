@@ -1,0 +1,33 @@
+//! Characters that are gathered on the stack, and appended to the text when their piece is full.
+ghost use Rattle.std.specs.Prelude.{◌≡◌, ◌≤◌, ◌+◌, ◌++◌, [], ℕ, List, length, OnOk, OnErr};
+
+use std::alloc::AllocError;
+use twkb_num::Piece;
+
+// The room that four numbers of two words take, each word stored whole.
+const STEP: usize = 16;
+
+// Appends what the piece holds to the text and empties it, or changes nothing where memory is refused.
+#[inline(always)]
+pub(crate) fn flush(piece: &mut Piece, text: &mut Vec<u8>) -> Result<(), AllocError>
+    ensures appended { OnOk result (text.new.items ≡ text.old.items ++ piece.old) }
+    ensures emptied { OnOk result (piece.new ≡ []) }
+    ensures same { OnErr result (text.new.items ≡ text.old.items) }
+{
+    text.extend_from_slice(piece.as_slice())?;
+    piece.clear();
+    Ok(())
+}
+
+// Has room for a step more, after a flush where there was none.
+#[inline(always)]
+pub(crate) fn make_room(piece: &mut Piece, text: &mut Vec<u8>) -> Result<(), AllocError>
+    ensures held { OnOk result (text.new.items ++ piece.new ≡ text.old.items ++ piece.old) }
+    ensures room { OnOk result (length piece.new + 16 ≤ 128) }
+    ensures grown { (more : List ℕ) × (text.new.items ≡ text.old.items ++ more) }
+{
+    if !piece.has_room(STEP) {
+        return flush(piece, text);
+    }
+    Ok(())
+}
