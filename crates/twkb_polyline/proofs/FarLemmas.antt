@@ -1,13 +1,15 @@
 -- Numbers of up to eight groups: how many groups they have, and their characters in a word of 64 bits.
-use Rattle.std.proofs.Common.{◌≡◌, ℕ, zero, suc, ◌+◌, ◌*◌, ◌/◌, ◌%◌, ◌-◌, ◌<◌, ◌≤◌, ◌^◌, inl, inr, refl, arith, lit<, bit_or}
+use Rattle.std.proofs.Common.{◌≡◌, ℕ, zero, suc, ◌+◌, ◌*◌, ◌/◌, ◌%◌, ◌-◌, ◌<◌, ◌≤◌, ◌^◌, inl, inr, length, refl, arith, lit≤, lit<, bit_or}
 use lib.Count.{count_leading_zeros}
 use Rattle.std.proofs.Math.Nat.{pow-suc, pow-le-pow_right}
 use Rattle.std.proofs.lemmas.Bool.{cases_lt}
 use Rattle.std.proofs.lemmas.Nat.{leading_top, le_or_l, le_or_r, or_lt, pow-add}
 use Rattle.twkb_polyline.specs.Spelling.{spread, marks, HasGroups}
 use Rattle.twkb_num.specs.Alphabet.{five_unit}
-use Rattle.twkb_num.specs.Digits.{low_digits}
+use Rattle.twkb_num.specs.Digits.{digits, low_digits}
 use Rattle.twkb_num.specs.Spelling.{shortest}
+use Rattle.twkb_num.proofs.DigitLemmas.{length-digits-le}
+use Rattle.twkb_num.proofs.SpellingLemmas.{length-units_of}
 use Rattle.twkb_polyline.proofs.WordLemmas.{spelled_groups}
 
 -- five bits a group
@@ -77,3 +79,7 @@ marks_cut (suc (suc (suc (suc (suc (suc (suc (suc (suc c))))))))) some few = abs
 pub spelled_far : (n c groups : ℕ) → HasGroups n c → c ≤ 8 → groups ≡ spread 8 n
     → low_digits 256 c (groups + 2314885530818453536 % ((1 * 2 ^ (8 * c - 8)) % 2 ^ 64) + 4557430888798830399) ≡ shortest five_unit 32 n
 spelled_far n c groups h few e = rw (marks_cut c h.some few, e) (spelled_groups 8 8 n c h few few)
+
+-- a number of 64 bits has 13 characters at most
+pub few_characters : (n : ℕ) → n < 2 ^ 64 → length (shortest five_unit 32 n) ≤ 13
+few_characters n fits = rw (length-units_of five_unit (digits 32 n)) (length-digits-le 32 12 n (lit≤ tt) (omega arith))

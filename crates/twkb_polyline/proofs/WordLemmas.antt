@@ -1,13 +1,10 @@
 -- The characters of numbers in the bytes of a word.
-use Rattle.std.proofs.Common.{◌≡◌, ℕ, zero, suc, ◌+◌, ◌*◌, ◌/◌, ◌%◌, ◌-◌, ◌<◌, ◌≤◌, ◌^◌, true, List, [], ◌∷◌, ◌++◌, length, take, refl, sym, ◌∙◌, ap, arith, lit≤, w64}
+use Rattle.std.proofs.Common.{◌≡◌, ℕ, zero, suc, ◌+◌, ◌*◌, ◌/◌, ◌%◌, ◌-◌, ◌<◌, ◌≤◌, ◌^◌, true, [], ◌∷◌, ◌++◌, refl, sym, ◌∙◌, ap, arith, lit≤}
 use Rattle.std.proofs.Math.Nat.{pow-suc, pow-zero, add-mul-div_right, add-mul-mod_self_right, one-le-pow}
-use Rattle.std.proofs.Math.Seq.{take-append-add}
 use Rattle.std.proofs.lemmas.Nat.{div_below, le-div, pow-add}
-use Rattle.std.specs.Int.{to_le_bytes}
 use Rattle.twkb_num.specs.Alphabet.{five_unit}
 use Rattle.twkb_num.specs.Digits.{low_digits}
 use Rattle.twkb_num.specs.Spelling.{shortest}
-use Rattle.twkb_num.proofs.PieceLemmas.{take-le_bytes}
 use Rattle.twkb_num.proofs.SpellingLemmas.{shortest_more, shortest_one}
 use Rattle.twkb_polyline.specs.Spelling.{spread, marks, HasGroups}
 
@@ -31,17 +28,6 @@ eights zero = refl
 eights (suc k) =
     let next : 8 * suc k ≡ 8 * k + 8 = omega arith in
     rw (next, pow-add 2 (8 * k) 8, eights k, pow-suc 256 k) refl
-
--- the lowest bytes of a word, behind a text
-pub put_cut : (old bytes text after : List ℕ) (held count word : ℕ) → length old ≡ held → count ≤ 8 → bytes ≡ to_le_bytes w64 word
-    → text ≡ old ++ bytes → after ≡ take (held + count) text → after ≡ old ++ low_digits 256 count word
-put_cut old bytes text after held count word eh few eb et ea =
-    let place : held + count ≡ length old + count = omega arith in
-    ea
-    ∙ ap (take (held + count)) (et ∙ ap (λ bs. old ++ bs) eb)
-    ∙ ap (λ e. take e (old ++ to_le_bytes w64 word)) place
-    ∙ take-append-add old (to_le_bytes w64 word) count
-    ∙ ap (λ bs. old ++ bs) (take-le_bytes count word few)
 
 -- ---- one number
 

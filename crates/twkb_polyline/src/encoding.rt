@@ -1,10 +1,10 @@
 //! Points to text.
-ghost use Rattle.std.specs.Prelude.{◌≡◌, [], ◌∷◌, ℕ, List, ◌++◌, IfOk, OnOk, OnErr};
+ghost use Rattle.std.specs.Prelude.{◌≡◌, ◌≤◌, ◌+◌, [], ◌∷◌, ℕ, List, ◌++◌, length, IfOk, OnOk, OnErr};
 ghost use Rattle.twkb_polyline.specs.Polyline.{polyline, polyline_from, last_after};
 ghost use Rattle.twkb_polyline.specs.Spelling.{points_of};
 
 use crate::piece::flush;
-use crate::spelling::{push_four, put_two};
+use crate::spelling::{push_four, push_two};
 use std::alloc::{AllocError, Global};
 use twkb_num::{Piece, zigzag};
 use twkb_points::{Cursor, Pt};
@@ -32,6 +32,17 @@ pub fn encode_into(points: &[Pt], text: &mut Vec<u8>) -> Result<(), AllocError>
     result
 }
 
+/// Appends the polyline of one point to a piece (Encoded Polyline Algorithm Format): at most 26 characters. Takes no memory.
+#[inline(always)]
+pub fn encode_point(point: Pt, piece: &mut Piece)
+    requires room { length piece.old + 32 ≤ 128 }
+    ensures appended { piece.new ≡ piece.old ++ polyline (point ∷ []) }
+    ensures most { length piece.new ≤ length piece.old + 26 }
+{
+    let mut cursor = Cursor::origin();
+    push_point(&mut cursor, point, piece);
+}
+
 // Appends the polyline of the points, or a front of it where memory is refused: two points at a time,
 // whose four numbers fill a vector.
 fn put_points(points: &[Pt], text: &mut Vec<u8>) -> Result<(), AllocError>
@@ -50,7 +61,7 @@ fn put_points(points: &[Pt], text: &mut Vec<u8>) -> Result<(), AllocError>
 }
 
 // Appends the characters of some pairs of points, or a front of them where memory is refused. A function
-// of its own, so that a single point does not pay for a piece.
+// of its own, so that a list of one point does not pay for it.
 #[inline(never)]
 fn put_pairs(pairs: &[[Pt; 2]], cursor: &mut Cursor, text: &mut Vec<u8>) -> Result<(), AllocError>
     ensures appended { OnOk result (text.new.items ≡ text.old.items ++ polyline_from cursor.old (points_of pairs.now)) }
@@ -92,13 +103,26 @@ fn push_pair(
     )
 }
 
-// Appends the characters of a point, or a front of them where memory is refused.
+// Appends the characters of a point, or none where memory is refused.
 #[inline(always)]
 fn put_point(cursor: &mut Cursor, point: Pt, text: &mut Vec<u8>) -> Result<(), AllocError>
     ensures appended { OnOk result (text.new.items ≡ text.old.items ++ polyline_from cursor.old (point ∷ [])) }
     ensures moved { cursor.new ≡ point }
-    ensures grown { (more : List ℕ) × (text.new.items ≡ text.old.items ++ more) }
+    ensures same { OnErr result (text.new.items ≡ text.old.items) }
+{
+    let mut characters = Piece::new();
+    push_point(cursor, point, &mut characters);
+    flush(&mut characters, text)
+}
+
+// Appends the characters of a point to what the piece holds.
+#[inline(always)]
+fn push_point(cursor: &mut Cursor, point: Pt, piece: &mut Piece)
+    requires room { length piece.old + 32 ≤ 128 }
+    ensures appended { piece.new ≡ piece.old ++ polyline_from cursor.old (point ∷ []) }
+    ensures most { length piece.new ≤ length piece.old + 26 }
+    ensures moved { cursor.new ≡ point }
 {
     let (dx, dy) = cursor.delta(point);
-    put_two(zigzag(dy), zigzag(dx), text)
+    push_two(zigzag(dy), zigzag(dx), piece);
 }

@@ -11,5 +11,5 @@ mod spelling;
 mod whole;
 
 pub use decoding::{decode, decode_into, decode_one};
-pub use encoding::{encode, encode_into};
+pub use encoding::{encode, encode_into, encode_point};
 pub use fault::{PolyFault, PolyReason};

@@ -4,9 +4,6 @@ ghost use Rattle.std.specs.Prelude.{◌≡◌, ◌≤◌, ◌+◌, ◌++◌, [],
 use std::alloc::AllocError;
 use twkb_num::Piece;
 
-// The room that four numbers of two words take, each word stored whole.
-const STEP: usize = 16;
-
 // Appends what the piece holds to the text and empties it, or changes nothing where memory is refused.
 #[inline(always)]
 pub(crate) fn flush(piece: &mut Piece, text: &mut Vec<u8>) -> Result<(), AllocError>
@@ -19,14 +16,19 @@ pub(crate) fn flush(piece: &mut Piece, text: &mut Vec<u8>) -> Result<(), AllocEr
     Ok(())
 }
 
-// Has room for a step more, after a flush where there was none.
+// Has room for so many characters more, after a flush where there was none.
 #[inline(always)]
-pub(crate) fn make_room(piece: &mut Piece, text: &mut Vec<u8>) -> Result<(), AllocError>
+pub(crate) fn make_room(
+    count: usize,
+    piece: &mut Piece,
+    text: &mut Vec<u8>,
+) -> Result<(), AllocError>
+    requires { count ≤ 128 }
     ensures held { OnOk result (text.new.items ++ piece.new ≡ text.old.items ++ piece.old) }
-    ensures room { OnOk result (length piece.new + 16 ≤ 128) }
+    ensures room { OnOk result (length piece.new + count ≤ 128) }
     ensures grown { (more : List ℕ) × (text.new.items ≡ text.old.items ++ more) }
 {
-    if !piece.has_room(STEP) {
+    if !piece.has_room(count) {
         return flush(piece, text);
     }
     Ok(())

@@ -2,17 +2,19 @@
 //! numbers of one, two and three characters are mixed, and no processor foresees which comes next.
 ghost use Rattle.std.specs.Prelude.{◌≡◌, ◌+◌, ◌<◌, ◌≤◌, ◌^◌, [], ◌∷◌, ℕ, List, ◌++◌, length, OnOk, OnErr};
 ghost use Rattle.twkb_num.specs.Alphabet.{five_unit};
-ghost use Rattle.twkb_num.specs.Digits.{low_digits};
 ghost use Rattle.twkb_num.specs.Spelling.{shortest};
 ghost use Rattle.twkb_polyline.specs.Spelling.{spread, HasGroups, AreMarked};
 
-use crate::piece::{flush, make_room};
+use crate::piece::make_room;
 use std::alloc::AllocError;
 use std::simd::{u32x4, u64x2};
 use twkb_num::{Five, Groups, NumBuf, Piece};
 
-// The bytes of a word.
-const WORD: usize = 8;
+// The room that four numbers of two words take, each word stored whole.
+const STEP: usize = 16;
+
+// Room enough for four numbers of any size: 13 characters each, the last words stored whole.
+const FAR_STEP: usize = 64;
 
 // Numbers below it have one group of five bits.
 const TWO_GROUPS: u64 = 1 << 5;
@@ -43,16 +45,17 @@ pub(crate) fn push_four(
         ++ (shortest five_unit 32 third ++ shortest five_unit 32 fourth))) }
     ensures grown { (more : List ℕ) × (text.new.items ≡ text.old.items ++ more) }
 {
-    make_room(piece, text)?;
+    make_room(STEP, piece, text)?;
     let all = first | second | third | fourth;
     if all < TWO_GROUPS {
         push_characters(first, second, third, fourth, piece);
         return Ok(());
     }
     if all >= FOUR_GROUPS {
-        flush(piece, text)?;
-        put_two(first, second, text)?;
-        return put_two(third, fourth, text);
+        make_room(FAR_STEP, piece, text)?;
+        push_two(first, second, piece);
+        push_two(third, fourth, piece);
+        return Ok(());
     }
     let (low, high) = mark_four(first as u32, second as u32, third as u32, fourth as u32);
     push_marked(first, second, low, piece);
@@ -106,18 +109,19 @@ fn one_character(number: u64) -> u8
     Five::to_unit(number as u8, false)
 }
 
-// Appends the characters of two numbers, or a front of them where memory is refused. Each fills two
-// lanes by its lower and its upper four groups.
+// Appends the characters of two numbers to what the piece holds: at most 13 each. Each fills two lanes by
+// its lower and its upper four groups.
 #[inline(always)]
 #[tactic(auto, using(std::proofs::lemmas::Nat::le_or_l, std::proofs::lemmas::Nat::le_or_r))]
-pub(crate) fn put_two(first: u64, second: u64, text: &mut Vec<u8>) -> Result<(), AllocError>
-    ensures appended { OnOk result (text.new.items ≡ text.old.items
-        ++ (shortest five_unit 32 first ++ shortest five_unit 32 second)) }
-    ensures grown { (more : List ℕ) × (text.new.items ≡ text.old.items ++ more) }
+pub(crate) fn push_two(first: u64, second: u64, piece: &mut Piece)
+    requires room { length piece.old + 32 ≤ 128 }
+    ensures appended { piece.new ≡ piece.old ++ (shortest five_unit 32 first ++ shortest five_unit 32 second) }
+    ensures most { length piece.new ≤ length piece.old + 26 }
 {
     if first | second >= EIGHT_GROUPS {
-        put_one(first, text)?;
-        return put_one(second, text);
+        push_one(first, piece);
+        push_one(second, piece);
+        return;
     }
     let [low, high, second_low, second_high] = spread_four(
         (first % FOUR_GROUPS) as u32,
@@ -126,20 +130,22 @@ pub(crate) fn put_two(first: u64, second: u64, text: &mut Vec<u8>) -> Result<(),
         (second / FOUR_GROUPS) as u32,
     )
     .to_array();
-    put_spread(first, u64::from(low) + (u64::from(high) << 32), text)?;
-    put_spread(
+    push_spread(first, u64::from(low) + (u64::from(high) << 32), piece);
+    push_spread(
         second,
         u64::from(second_low) + (u64::from(second_high) << 32),
-        text,
-    )
+        piece,
+    );
 }
 
-// Appends the characters of a number of any size, or none where memory is refused.
-fn put_one(number: u64, text: &mut Vec<u8>) -> Result<(), AllocError>
-    ensures appended { OnOk result (text.new.items ≡ text.old.items ++ shortest five_unit 32 number) }
-    ensures same { OnErr result (text.new.items ≡ text.old.items) }
+// Appends the characters of a number of any size: at most 13. Few texts have one that needs this.
+#[inline(never)]
+fn push_one(number: u64, piece: &mut Piece)
+    requires room { length piece.old + 13 ≤ 128 }
+    ensures appended { piece.new ≡ piece.old ++ shortest five_unit 32 number }
+    ensures most { length piece.new ≤ length piece.old + 13 }
 {
-    text.extend_from_slice(NumBuf::put::<Five>(number).as_slice())
+    piece.push_all(NumBuf::put::<Five>(number).as_slice());
 }
 
 // The groups of four numbers, each group in a byte of its number's lane.
@@ -182,18 +188,18 @@ fn mark_four(first: u32, second: u32, third: u32, fourth: u32) -> (u64, u64)
     (low, high)
 }
 
-// Appends the characters of a number whose groups stand in a word, each in a byte, or none where
-// memory is refused.
+// Appends the characters of a number whose groups stand in a word, each in a byte.
 #[inline(always)]
-fn put_spread(number: u64, groups: u64, text: &mut Vec<u8>) -> Result<(), AllocError>
+fn push_spread(number: u64, groups: u64, piece: &mut Piece)
     requires few { number < 2 ^ 40 }
     requires groups { groups ≡ spread 8 number }
-    ensures appended { OnOk result (text.new.items ≡ text.old.items ++ shortest five_unit 32 number) }
-    ensures same { OnErr result (text.new.items ≡ text.old.items) }
+    requires room { length piece.old + 8 ≤ 128 }
+    ensures appended { piece.new ≡ piece.old ++ shortest five_unit 32 number }
+    ensures most { length piece.new ≤ length piece.old + 8 }
 {
     let count = group_count(number);
     let marks = 0x2020_2020_2020_2020 % (1 << (8 * count - 8));
-    put_low(groups + marks + 0x3f3f_3f3f_3f3f_3f3f, count, text)
+    piece.push_low(groups + marks + 0x3f3f_3f3f_3f3f_3f3f, count);
 }
 
 // How many groups a number has: one for 0.
@@ -204,23 +210,4 @@ fn group_count(number: u64) -> u32
     ensures few { result ≤ 8 }
 {
     (68 - (number | 1).leading_zeros()) / 5
-}
-
-// Appends the low `count` bytes of a word, or none where memory is refused: all eight by one store of
-// a fixed size, and what is too much is cut. Where there is no room for eight, just those that are
-// wanted, so that no text asks for more memory than its characters do.
-#[inline(always)]
-fn put_low(word: u64, count: u32, text: &mut Vec<u8>) -> Result<(), AllocError>
-    requires { count ≤ 8 }
-    ensures appended { OnOk result (text.new.items ≡ text.old.items ++ low_digits 256 count word) }
-    ensures same { OnErr result (text.new.items ≡ text.old.items) }
-{
-    let bytes = word.to_le_bytes();
-    if text.capacity().saturating_sub(text.len()) < WORD {
-        return text.extend_from_slice(&bytes[..count as usize]);
-    }
-    let end = text.len() + count as usize;
-    text.extend_from_slice(&bytes)?;
-    text.truncate(end);
-    Ok(())
 }
