@@ -29,9 +29,6 @@ no_lines = refl
 pub grows_none : (t : List ℕ) → Grows t t
 grows_none t = ([], sym (append-nil t))
 
-pub grows_same : (old new : List ℕ) → new ≡ old → Grows old new
-grows_same old new e = ([], e ∙ sym (append-nil old))
-
 pub grows_by : (old new xs : List ℕ) → new ≡ old ++ xs → Grows old new
 grows_by old new xs e = (xs, e)
 
@@ -44,16 +41,13 @@ grows_on old mid new g h = (g.0 ++ h.0, h.1 ∙ ap (λ t. t ++ h.0) g.1 ∙ appe
 cons_append : (x : ℕ) (xs ys : List ℕ) → (x ∷ xs) ++ ys ≡ x ∷ (xs ++ ys)
 cons_append x xs ys = refl
 
--- the word of a kind between two commas, put behind
-pub kind_put : (old word field new : List ℕ) → field ≡ word → new ≡ old ++ field → new ≡ old ++ word
-kind_put old word field new same put = put ∙ ap (λ t. old ++ t) same
-
--- five fields, each put behind the other, the second and the fourth between two commas
-pub fields_put : (old depth kind id precision line a b c d e f : List ℕ) → a ≡ old ++ depth → b ≡ a ++ (44 ∷ (kind ++ 44 ∷ [])) → c ≡ b ++ id → d ≡ c ++ (44 ∷ (precision ++ 44 ∷ [])) → e ≡ d ++ line → f ≡ e ++ (10 ∷ [])
-    → f ≡ old ++ csvtext ((depth ∷ kind ∷ id ∷ precision ∷ line ∷ []) ∷ [])
-fields_put old depth kind id precision line a b c d e f ea eb ec ed ee ef =
-    let whole : f ≡ (((((old ++ depth) ++ (44 ∷ (kind ++ 44 ∷ []))) ++ id) ++ (44 ∷ (precision ++ 44 ∷ []))) ++ line) ++ (10 ∷ []) = cc in
-    whole ∙ simp (append_assoc, append-nil, cons_append)
+-- four fields, the second between two commas and a comma behind the others, put behind at once, then the fifth
+pub fields_put : {T E : Type 0} (result : Result T E) (old depth kind id precision line head field a b c : List ℕ) → head ≡ ((depth ++ 44 ∷ (kind ++ 44 ∷ [])) ++ id) ++ 44 ∷ (precision ++ 44 ∷ []) → field ≡ head → a ≡ old ++ field → b ≡ a ++ line
+    → OnOk result (c ≡ b ++ 10 ∷ []) → OnOk result (c ≡ old ++ csvtext ((depth ∷ kind ∷ id ∷ precision ∷ line ∷ []) ∷ []))
+fields_put result old depth kind id precision line head field a b c gathered same ea eb told =
+    let whole : b ≡ (old ++ (((depth ++ 44 ∷ (kind ++ 44 ∷ [])) ++ id) ++ 44 ∷ (precision ++ 44 ∷ []))) ++ line = cc in
+    let text : b ++ 10 ∷ [] ≡ old ++ csvtext ((depth ∷ kind ∷ id ∷ precision ∷ line ∷ []) ∷ []) = ap (λ t. t ++ 10 ∷ []) whole ∙ simp (append_assoc, append-nil, cons_append) in
+    subst (λ u. OnOk result (c ≡ u)) text told
 
 -- one row before others
 pub row_before : (r : Row) (rs : List Row) (old : List ℕ) → (old ++ row_lines (r ∷ [])) ++ row_lines rs ≡ old ++ row_lines (r ∷ rs)

@@ -1,92 +1,123 @@
 //! One row of a table as a line.
-ghost use Rattle.std.specs.Prelude.{◌≡◌, [], ◌∷◌, ◌++◌, OnOk, OnErr, decimal};
+ghost use Rattle.std.specs.Prelude.{◌≡◌, ◌≤◌, ◌+◌, [], ◌∷◌, ◌++◌, OnOk, decimal, length, take};
 ghost use Rattle.std.specs.Fmt.{signed_decimal};
 ghost use Rattle.twkb_tree.specs.Kind.{word_of};
 ghost use Rattle.twkb_flat.specs.Rows.{row_with};
 ghost use Rattle.twkb_table.specs.Fields.{optional};
 ghost use Rattle.twkb_table.specs.Printing.{row_lines, Grows};
 
-use crate::decimal::{one_digit, push_decimal};
+use crate::decimal::one_digit;
+use itoa::Buffer;
 use std::alloc::AllocError;
 use twkb_flat::Row;
+use twkb_num::Piece;
 use twkb_points::Pt;
 use twkb_polyline::encode_into;
 use twkb_tree::Kind;
 
-// Appends the line of a row with its points, or a front of it where memory is refused.
+// Appends the line of a row with its points, or a front of it where memory is refused. What stands
+// before the points is gathered first and appended at once, behind one test for memory.
 pub(crate) fn put_row(row: &Row, points: &[Pt], text: &mut Vec<u8>) -> Result<(), AllocError>
     ensures appended { OnOk result (text.new.items ≡ text.old.items ++ row_lines (row_with row.now points.now ∷ [])) }
     ensures grown { Grows text.old.items text.new.items }
 {
-    put_depth(row.depth, text)?;
-    text.extend_from_slice(kind_field(row.kind))?;
-    put_id(row.id, text)?;
-    put_precision(row.precision, text)?;
+    let mut head = Piece::new();
+    push_head(row, &mut head);
+    text.extend_from_slice(head.as_slice())?;
     encode_into(points, text)?;
-    text.extend_from_slice(b"\n")?;
-    Ok(())
+    text.extend_from_slice(b"\n")
 }
 
-// Appends the canonical decimal of a depth.
+// Gathers the depth, the kind, the id and the precision of a row, each with the comma behind it.
 #[inline(always)]
-fn put_depth(depth: u32, text: &mut Vec<u8>) -> Result<(), AllocError>
-    ensures appended { OnOk result (text.new.items ≡ text.old.items ++ decimal depth) }
-    ensures same { OnErr result (text.new.items ≡ text.old.items) }
+fn push_head(row: &Row, head: &mut Piece)
+    requires empty { head.old ≡ [] }
+    ensures { head.new ≡ ((decimal row.now.depth ++ 44 ∷ (word_of row.now.kind ++ 44 ∷ [])) ++ optional row.now.id) ++ 44 ∷ (optional row.now.precision ++ 44 ∷ []) }
 {
-    push_decimal(text, i64::from(depth))
+    push_number(i64::from(row.depth), head);
+    push_kind(row.kind, head);
+    push_id(row.id, head);
+    head.push(b',');
+    push_precision(row.precision, head);
+    head.push(b',');
 }
 
-// The word of a kind between two commas.
+// Gathers the canonical decimal of a number.
 #[inline(always)]
-fn kind_field(kind: Kind) -> &'static [u8]
-    ensures { result.now ≡ 44 ∷ (word_of kind ++ 44 ∷ []) }
+fn push_number(number: i64, head: &mut Piece)
+    requires room { length head.old + 20 ≤ 128 }
+    ensures pushed { head.new ≡ head.old ++ signed_decimal number }
+    ensures short { length head.new ≤ length head.old + 20 }
+{
+    match one_digit(number) {
+        Some(digit) => head.push(digit),
+        None => push_digits(number, head),
+    }
+}
+
+// The same by itoa's printer.
+#[inline(never)]
+fn push_digits(number: i64, head: &mut Piece)
+    requires room { length head.old + 20 ≤ 128 }
+    ensures pushed { head.new ≡ head.old ++ signed_decimal number }
+    ensures short { length head.new ≤ length head.old + 20 }
+{
+    let mut buffer = Buffer::new();
+    head.push_all(buffer.format(number).as_bytes());
+}
+
+// Gathers the word of a kind between two commas.
+#[inline(always)]
+fn push_kind(kind: Kind, head: &mut Piece)
+    requires room { length head.old + 17 ≤ 128 }
+    ensures pushed { head.new ≡ head.old ++ 44 ∷ (word_of kind ++ 44 ∷ []) }
+    ensures short { length head.new ≤ length head.old + 17 }
+{
+    let (field, count) = kind_field(kind);
+    head.push_front(field, count);
+}
+
+// The word of a kind between two commas, and how many bytes these are. What is behind them is copied
+// along, so that each copy is of the same size.
+#[inline(always)]
+fn kind_field(kind: Kind) -> (&'static [u8; 17], usize)
+    ensures few { result.1 ≤ 17 }
+    ensures word { take result.1 result.0.now ≡ 44 ∷ (word_of kind ++ 44 ∷ []) }
 {
     match kind {
-        Kind::Point => b",point,",
-        Kind::Linestring => b",linestring,",
-        Kind::Polygon => b",polygon,",
-        Kind::Ring => b",ring,",
-        Kind::MultiPoint => b",multipoint,",
-        Kind::MultiLinestring => b",multilinestring,",
-        Kind::MultiPolygon => b",multipolygon,",
-        Kind::Collection => b",collection,",
+        Kind::Point => (b",point,          ", 7),
+        Kind::Linestring => (b",linestring,     ", 12),
+        Kind::Polygon => (b",polygon,        ", 9),
+        Kind::Ring => (b",ring,           ", 6),
+        Kind::MultiPoint => (b",multipoint,     ", 12),
+        Kind::MultiLinestring => (b",multilinestring,", 17),
+        Kind::MultiPolygon => (b",multipolygon,   ", 14),
+        Kind::Collection => (b",collection,     ", 12),
     }
 }
 
-// Appends the canonical decimal of an id where there is one.
+// Gathers the canonical decimal of an id where there is one.
 #[inline(always)]
-fn put_id(id: Option<i64>, text: &mut Vec<u8>) -> Result<(), AllocError>
-    ensures appended { OnOk result (text.new.items ≡ text.old.items ++ optional id) }
-    ensures same { OnErr result (text.new.items ≡ text.old.items) }
+fn push_id(id: Option<i64>, head: &mut Piece)
+    requires room { length head.old + 20 ≤ 128 }
+    ensures pushed { head.new ≡ head.old ++ optional id }
+    ensures short { length head.new ≤ length head.old + 20 }
 {
     match id {
-        Some(id) => push_decimal(text, id),
-        None => Ok(()),
+        Some(id) => push_number(id, head),
+        None => {}
     }
 }
 
-// Appends the canonical decimal of a precision, where there is one, between two commas.
+// Gathers the canonical decimal of a precision where there is one.
 #[inline(always)]
-fn put_precision(precision: Option<i8>, text: &mut Vec<u8>) -> Result<(), AllocError>
-    ensures appended { OnOk result (text.new.items ≡ text.old.items ++ (44 ∷ (optional precision ++ 44 ∷ []))) }
-    ensures grown { Grows text.old.items text.new.items }
+fn push_precision(precision: Option<i8>, head: &mut Piece)
+    requires room { length head.old + 20 ≤ 128 }
+    ensures pushed { head.new ≡ head.old ++ optional precision }
+    ensures short { length head.new ≤ length head.old + 20 }
 {
-    let Some(precision) = precision else {
-        return text.extend_from_slice(b",,");
-    };
-    let number = i64::from(precision);
-    match one_digit(number) {
-        Some(digit) => text.extend_from_slice(&[b',', digit, b',']),
-        None => put_between(number, text),
+    match precision {
+        Some(precision) => push_number(i64::from(precision), head),
+        None => {}
     }
-}
-
-// Appends the canonical decimal of a number between two commas.
-fn put_between(number: i64, text: &mut Vec<u8>) -> Result<(), AllocError>
-    ensures appended { OnOk result (text.new.items ≡ text.old.items ++ (44 ∷ (signed_decimal number ++ 44 ∷ []))) }
-    ensures grown { Grows text.old.items text.new.items }
-{
-    text.extend_from_slice(b",")?;
-    push_decimal(text, number)?;
-    text.extend_from_slice(b",")
 }
