@@ -49,6 +49,18 @@ fields_put result old depth kind id precision line head field a b c gathered sam
     let text : b ++ 10 ∷ [] ≡ old ++ csvtext ((depth ∷ kind ∷ id ∷ precision ∷ line ∷ []) ∷ []) = ap (λ t. t ++ 10 ∷ []) whole ∙ simp (append_assoc, append-nil, cons_append) in
     subst (λ u. OnOk result (c ≡ u)) text told
 
+-- a list of one element is that element
+pub just_one : {A : Type 0} (xs : List A) (x : A) → 1 ≤ length xs → length xs < 2 → x ≡ get_or xs 0 x → xs ≡ x ∷ []
+just_one xs x some few first = sym (take_all 1 xs (omega (arith, some, few))) ∙ take_more xs 0 x (omega (arith, some)) ∙ ap (λ y. y ∷ []) (sym first)
+
+-- the five fields and the line feed, put behind at once
+pub line_put : {T E : Type 0} (result : Result T E) (old depth kind id precision line head fields whole given new : List ℕ) → head ≡ ((depth ++ 44 ∷ (kind ++ 44 ∷ [])) ++ id) ++ 44 ∷ (precision ++ 44 ∷ []) → fields ≡ head ++ line → whole ≡ fields ++ 10 ∷ [] → given ≡ whole
+    → OnOk result (new ≡ old ++ given) → OnOk result (new ≡ old ++ csvtext ((depth ∷ kind ∷ id ∷ precision ∷ line ∷ []) ∷ []))
+line_put result old depth kind id precision line head fields whole given new gathered spelled ended same told =
+    let all : given ≡ ((((depth ++ 44 ∷ (kind ++ 44 ∷ [])) ++ id) ++ 44 ∷ (precision ++ 44 ∷ [])) ++ line) ++ 10 ∷ [] = cc in
+    let text : old ++ given ≡ old ++ csvtext ((depth ∷ kind ∷ id ∷ precision ∷ line ∷ []) ∷ []) = ap (λ t. old ++ t) all ∙ simp (append_assoc, append-nil, cons_append) in
+    subst (λ u. OnOk result (new ≡ u)) text told
+
 -- one row before others
 pub row_before : (r : Row) (rs : List Row) (old : List ℕ) → (old ++ row_lines (r ∷ [])) ++ row_lines rs ≡ old ++ row_lines (r ∷ rs)
 row_before r rs old = append_assoc old (row_lines (r ∷ [])) (row_lines rs) ∙ ap (λ t. old ++ t) (sym (row_lines-append (r ∷ []) rs))

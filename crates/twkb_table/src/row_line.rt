@@ -12,18 +12,24 @@ use std::alloc::AllocError;
 use twkb_flat::Row;
 use twkb_num::Piece;
 use twkb_points::Pt;
-use twkb_polyline::encode_into;
+use twkb_polyline::{encode_into, encode_point};
 use twkb_tree::Kind;
 
 // Appends the line of a row with its points, or a front of it where memory is refused. What stands
-// before the points is gathered first and appended at once, behind one test for memory.
+// before the points is gathered first and appended at once, behind one test for memory; the line of a
+// row of one point is gathered whole.
 pub(crate) fn put_row(row: &Row, points: &[Pt], text: &mut Vec<u8>) -> Result<(), AllocError>
     ensures appended { OnOk result (text.new.items ≡ text.old.items ++ row_lines (row_with row.now points.now ∷ [])) }
     ensures grown { Grows text.old.items text.new.items }
 {
-    let mut head = Piece::new();
-    push_head(row, &mut head);
-    text.extend_from_slice(head.as_slice())?;
+    let mut line = Piece::new();
+    push_head(row, &mut line);
+    if let [point] = points {
+        encode_point(*point, &mut line);
+        line.push(b'\n');
+        return text.extend_from_slice(line.as_slice());
+    }
+    text.extend_from_slice(line.as_slice())?;
     encode_into(points, text)?;
     text.extend_from_slice(b"\n")
 }
@@ -32,7 +38,8 @@ pub(crate) fn put_row(row: &Row, points: &[Pt], text: &mut Vec<u8>) -> Result<()
 #[inline(always)]
 fn push_head(row: &Row, head: &mut Piece)
     requires empty { head.old ≡ [] }
-    ensures { head.new ≡ ((decimal row.now.depth ++ 44 ∷ (word_of row.now.kind ++ 44 ∷ [])) ++ optional row.now.id) ++ 44 ∷ (optional row.now.precision ++ 44 ∷ []) }
+    ensures gathered { head.new ≡ ((decimal row.now.depth ++ 44 ∷ (word_of row.now.kind ++ 44 ∷ [])) ++ optional row.now.id) ++ 44 ∷ (optional row.now.precision ++ 44 ∷ []) }
+    ensures short { length head.new ≤ 79 }
 {
     push_number(i64::from(row.depth), head);
     push_kind(row.kind, head);
