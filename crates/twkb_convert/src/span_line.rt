@@ -1,5 +1,5 @@
 //! The lines of TWKB headers.
-ghost use Rattle.std.specs.Prelude.{◌≡◌, ◌<◌, ◌≤◌, [], ◌∷◌, ◌++◌, IfSome, IfNone, OnOk, decimal, true};
+ghost use Rattle.std.specs.Prelude.{◌≡◌, ◌<◌, ◌≤◌, ◌+◌, [], ◌∷◌, ◌++◌, IfSome, IfNone, OnOk, decimal, length, take, true};
 ghost use Rattle.std.specs.Fmt.{digit_glyph, signed_decimal};
 ghost use Rattle.twkb_tree.specs.Kind.{word_of};
 ghost use Rattle.twkb_convert.specs.SpanLines.{hex_of, span_line, span_lines};
@@ -7,6 +7,7 @@ ghost use Rattle.twkb_convert.specs.SpanLines.{hex_of, span_line, span_lines};
 use itoa::{Buffer, Integer};
 use std::alloc::AllocError;
 use twkb_blob::Span;
+use twkb_num::Piece;
 use twkb_tree::Kind;
 
 // The greatest number of one digit.
@@ -22,50 +23,65 @@ pub(crate) fn put_lines(spans: &[Span], text: &mut Vec<u8>) -> Result<(), AllocE
     Ok(())
 }
 
-// Appends the line of a span.
+// Appends the line of a span. Its seven words and their ends have at most 124 bytes.
 fn put_line(span: &Span, text: &mut Vec<u8>) -> Result<(), AllocError>
     ensures appended { OnOk result (text.new.items ≡ text.old.items ++ span_line span.now) }
 {
-    put_count(u64::from(span.level), b' ', text)?;
-    put_decimal(span.offset, text)?;
-    text.extend_from_slice(kind_field(span.kind))?;
-    put_precision(span.precision, text)?;
-    put_byte(span.metadata, text)?;
-    put_count(span.length, b' ', text)?;
-    put_count(span.points, b'\n', text)
+    let mut line = Piece::new();
+    push_count(u64::from(span.level), b' ', &mut line);
+    push_number(span.offset, &mut line);
+    let (word, count) = kind_field(span.kind);
+    line.push_front(word, count);
+    push_precision(span.precision, &mut line);
+    push_byte(span.metadata, &mut line);
+    push_count(span.length, b' ', &mut line);
+    push_count(span.points, b'\n', &mut line);
+    text.extend_from_slice(line.as_slice())
 }
 
 // Appends a precision in decimals, and a space. Few are negative.
 #[inline(always)]
-fn put_precision(precision: i8, text: &mut Vec<u8>) -> Result<(), AllocError>
-    ensures appended { OnOk result (text.new.items ≡ text.old.items ++ (signed_decimal precision ++ 32 ∷ [])) }
+fn push_precision(precision: i8, line: &mut Piece)
+    requires room { length line.old + 21 ≤ 128 }
+    ensures appended { line.new ≡ line.old ++ (signed_decimal precision ++ 32 ∷ []) }
+    ensures most { length line.new ≤ length line.old + 21 }
 {
     if 0 <= precision {
-        put_count(precision as u64, b' ', text)
+        push_count(precision as u64, b' ', line);
     } else {
-        put_number(precision, b' ', text)
+        push_number(precision, line);
+        line.push(b' ');
     }
 }
 
 // Appends a count in decimals, and a byte behind it. Most counts have a digit or two.
 #[inline(always)]
-fn put_count(count: u64, behind: u8, text: &mut Vec<u8>) -> Result<(), AllocError>
-    ensures appended { OnOk result (text.new.items ≡ text.old.items ++ (decimal count ++ behind ∷ [])) }
+fn push_count(count: u64, behind: u8, line: &mut Piece)
+    requires room { length line.old + 21 ≤ 128 }
+    ensures appended { line.new ≡ line.old ++ (decimal count ++ behind ∷ []) }
+    ensures most { length line.new ≤ length line.old + 21 }
 {
     match one_digit(count) {
-        Some(digit) => text.extend_from_slice(&[digit, behind]),
-        None => put_digits(count, behind, text),
+        Some(digit) => line.push(digit),
+        None => push_digits(count, line),
     }
+    line.push(behind);
 }
 
-// Appends a count of two digits or more in decimals, and a byte behind it.
-fn put_digits(count: u64, behind: u8, text: &mut Vec<u8>) -> Result<(), AllocError>
-    requires { 10 ≤ count }
-    ensures appended { OnOk result (text.new.items ≡ text.old.items ++ (decimal count ++ behind ∷ [])) }
+// Appends a count of two digits or more in decimals.
+#[inline(always)]
+fn push_digits(count: u64, line: &mut Piece)
+    requires some { 10 ≤ count }
+    requires room { length line.old + 20 ≤ 128 }
+    ensures appended { line.new ≡ line.old ++ decimal count }
+    ensures most { length line.new ≤ length line.old + 20 }
 {
     match one_digit(count / 10) {
-        Some(tens) => text.extend_from_slice(&[tens, b'0' + (count % 10) as u8, behind]),
-        None => put_number(count, behind, text),
+        Some(tens) => {
+            line.push(tens);
+            line.push(b'0' + (count % 10) as u8);
+        }
+        None => push_number(count, line),
     }
 }
 
@@ -82,46 +98,45 @@ fn one_digit(number: u64) -> Option<u8>
     }
 }
 
-// Appends a number in decimals, and a byte behind it.
-fn put_number<I: Integer>(number: I, behind: u8, text: &mut Vec<u8>) -> Result<(), AllocError>
-    ensures appended { OnOk result (text.new.items ≡ text.old.items ++ (I.text number ++ behind ∷ [])) }
-{
-    put_decimal(number, text)?;
-    text.extend_from_slice(&[behind])
-}
-
 // Appends a number in decimals. A caller's frame is spared the buffer.
 #[inline(never)]
-fn put_decimal<I: Integer>(number: I, text: &mut Vec<u8>) -> Result<(), AllocError>
-    ensures appended { OnOk result (text.new.items ≡ text.old.items ++ I.text number) }
+fn push_number<I: Integer>(number: I, line: &mut Piece)
+    requires room { length line.old + I.MAX_STR_LEN ≤ 128 }
+    ensures appended { line.new ≡ line.old ++ I.text number }
+    ensures most { length line.new ≤ length line.old + I.MAX_STR_LEN }
 {
     let mut buffer = Buffer::new();
-    text.extend_from_slice(buffer.format(number).as_bytes())
+    line.push_all(buffer.format(number).as_bytes());
 }
 
-// The word of a kind between two spaces.
+// The word of a kind between two spaces, and how many bytes these are: what is behind them is not counted.
 #[inline(always)]
-fn kind_field(kind: Kind) -> &'static [u8]
-    ensures { result.now ≡ 32 ∷ (word_of kind ++ 32 ∷ []) }
+fn kind_field(kind: Kind) -> (&'static [u8; 17], usize)
+    ensures few { result.1 ≤ 17 }
+    ensures word { take result.1 result.0.now ≡ 32 ∷ (word_of kind ++ 32 ∷ []) }
 {
     match kind {
-        Kind::Point => b" point ",
-        Kind::Linestring => b" linestring ",
-        Kind::Polygon => b" polygon ",
-        Kind::Ring => b" ring ",
-        Kind::MultiPoint => b" multipoint ",
-        Kind::MultiLinestring => b" multilinestring ",
-        Kind::MultiPolygon => b" multipolygon ",
-        Kind::Collection => b" collection ",
+        Kind::Point => (b" point           ", 7),
+        Kind::Linestring => (b" linestring      ", 12),
+        Kind::Polygon => (b" polygon         ", 9),
+        Kind::Ring => (b" ring            ", 6),
+        Kind::MultiPoint => (b" multipoint      ", 12),
+        Kind::MultiLinestring => (b" multilinestring ", 17),
+        Kind::MultiPolygon => (b" multipolygon    ", 14),
+        Kind::Collection => (b" collection      ", 12),
     }
 }
 
 // Appends a byte as two upper-case hexadecimal digits, and a space.
 #[inline(always)]
-fn put_byte(byte: u8, text: &mut Vec<u8>) -> Result<(), AllocError>
-    ensures appended { OnOk result (text.new.items ≡ text.old.items ++ (hex_of byte ++ 32 ∷ [])) }
+fn push_byte(byte: u8, line: &mut Piece)
+    requires room { length line.old + 3 ≤ 128 }
+    ensures appended { line.new ≡ line.old ++ (hex_of byte ++ 32 ∷ []) }
+    ensures most { length line.new ≤ length line.old + 3 }
 {
-    text.extend_from_slice(&[hex_digit(byte / 16), hex_digit(byte % 16), b' '])
+    line.push(hex_digit(byte / 16));
+    line.push(hex_digit(byte % 16));
+    line.push(b' ');
 }
 
 // The hexadecimal digit of a number below 16.

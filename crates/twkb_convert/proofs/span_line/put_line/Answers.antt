@@ -1,18 +1,19 @@
-use Rattle.std.proofs.Common.{◌≡◌, List, [], ◌∷◌, ℕ, OnOk, SFits, subst, rules, w8}
+use Rattle.std.proofs.Common.{◌≡◌, ◌∙◌, List, [], ◌∷◌, ◌++◌, ℕ, OnOk, SFits, ap, subst, rules, w8}
 use Rattle.std.proofs.lemmas.Int.{to_z-of_z}
 use Rattle.twkb_convert.proofs.BlobTexts.{words_put}
+use Rattle.twkb_convert.specs.SpanLines.{span_line}
 use Rattle.twkb_convert.proofs.span_line.put_line.Goals as goal
 
 pub returns : goal.returns
 returns c =
     let fits : SFits w8 c.args.span.now.precision = search rules in
-    let level = rw c.from.ensures at c.in_ok-put_count.ensures.appended in
-    let kind = rw c.kind_field.ensures at c.in_ok-extend_from_slice.ensures.items in
-    let precision = simp (to_z-of_z w8 c.args.span.now.precision fits) at c.in_ok-put_precision.ensures.appended in
-    record {
-      appended = subst (λ (t : List ℕ). OnOk c.put_count-3.result (c.put_count-3.new.text.items ≡ t))
-          (words_put c.args.text.now.items (32 ∷ []) _ _ _ _ _ _ _ _ _ _ _ _ _
-          level c.in_ok-put_decimal.ensures.appended kind
-          precision c.in_ok-put_byte.ensures.appended c.in_ok-put_count-2.ensures.appended)
-          c.put_count-3.ensures.appended;
-    }
+    let level = rw c.from.ensures at c.push_count.ensures.appended in
+    let kind = rw c.kind_field-count.ensures.word at c.push_front.ensures in
+    let precision = simp (to_z-of_z w8 c.args.span.now.precision fits) at c.push_precision.ensures.appended in
+    let line : c.push_count-3.new.line ≡ c.new-line.result ++ span_line c.args.span.now = c.push_count-3.ensures.appended
+    ∙ words_put c.new-line.result (32 ∷ []) _ _ _ _ _ _ _ _ _ _ _ _ _
+    level c.push_number.ensures.appended kind
+    precision c.push_byte.ensures.appended c.push_count-2.ensures.appended in
+    let whole = c.as_slice.ensures ∙ line ∙ ap (λ (t : List ℕ). t ++ span_line c.args.span.now) c.new-line.ensures in
+    let copied : OnOk c.extend_from_slice.result (c.extend_from_slice.new.self.items ≡ c.args.text.now.items ++ c.as_slice.result.now) = search rules in
+    record { appended = subst (λ (t : List ℕ). OnOk c.extend_from_slice.result (c.extend_from_slice.new.self.items ≡ c.args.text.now.items ++ t)) whole copied }
