@@ -1,7 +1,7 @@
 //! The units of both alphabets, and the laws. Vectors of numbers are those of the program `vectors`.
 ghost use Rattle.std.specs.Prelude.{◌<◌, ◌^◌};
 
-use twkb_num::{Five, Four, Groups, Leb128, four_characters, four_varints, laws, zigzag};
+use twkb_num::{Five, Four, Groups, Leb128, Piece, four_characters, four_varints, laws, zigzag};
 
 // Whether this is the unit of a group behind which more follow, both ways, and the alphabet has groups of so many bits and
 // spellings of so many units at most.
@@ -47,6 +47,21 @@ fn four_numbers_stand_in_front(rt: HostRuntime) {
     );
     let are_characters = are_in_front(four_characters(TEXT), [1, 1, 4, 4], 4);
     assert!(rt; are_steps & are_characters & four_varints(b"\x02\x02\x08\x08").is_none());
+}
+
+// A word of two bytes, two bytes of three, and others behind a first one.
+#[test]
+fn a_piece_gathers_bytes(rt: HostRuntime) {
+    let mut piece = Piece::new();
+    piece.push(b'1');
+    piece.push_low(0x3332, 2);
+    piece.push_front(b"45 ", 2);
+    piece.push_all(b"678");
+    let wanted: &[u8] = b"12345678";
+    let is_gathered = piece.as_slice() == wanted;
+    let has_room = piece.has_room(120) & !piece.has_room(121);
+    piece.clear();
+    assert!(rt; is_gathered & has_room & piece.as_slice().is_empty());
 }
 
 // The laws do nothing when they run.

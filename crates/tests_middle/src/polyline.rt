@@ -1,12 +1,17 @@
 //! Want of memory, the text of its fault, and the laws. Vectors of polylines are those of the program `vectors`.
 use std::alloc::Global;
+use twkb_num::Piece;
 use twkb_points::Pt;
-use twkb_polyline::{PolyFault, decode, decode_into, encode, encode_into, laws};
+use twkb_polyline::{PolyFault, decode, decode_into, encode, encode_into, encode_point, laws};
 
 // Far points, whose text grows more than once, and near ones, of which there are more.
 const FAR: &[u8] = b"A____________CA~~~~~~~~~~~~FA____________G";
 
 const NEAR: &[u8] = b"AAAAAAAAAAAAAAAAAA";
+
+// Numbers of one to four characters, which fill a piece of the text and more.
+const MIXED: &[u8] =
+    b"A_C__C___CA_C__C___CA_C__C___CA_C__C___CA_C__C___CA_C__C___CA_C__C___CA_C__C___CA_C__C___CA_C__C___CA_C__C___CA_C__C___CA_C__C___CA_C__C___C";
 
 // Whether the text is written of these points, or memory is refused; and by a lent vector that is then empty.
 fn is_written(alloc: Global, points: &[Pt], text: &[u8]) -> bool {
@@ -21,14 +26,15 @@ fn is_written(alloc: Global, points: &[Pt], text: &[u8]) -> bool {
     }
 }
 
-// Whether the points of the text are read and give it again, or memory is refused; and by a lent vector that is then empty.
-fn is_read(alloc: Global, text: &[u8]) -> bool {
+// Whether the points of the text, of which there are so many at most, are read and give it again, or memory is refused; and by a
+// lent vector that is then empty.
+fn is_read(alloc: Global, text: &[u8], most: u32) -> bool {
     let mut lent = Vec::new(alloc);
-    let is_lent = match decode_into(text, 9, &mut lent) {
+    let is_lent = match decode_into(text, most, &mut lent) {
         Ok(()) => is_written(alloc, &lent, text),
         Err(fault) => (fault == PolyFault::Memory) & lent.is_empty(),
     };
-    match decode(alloc, text, 9) {
+    match decode(alloc, text, most) {
         Ok(points) => is_lent & (points.len() > 2),
         Err(fault) => is_lent & (fault == PolyFault::Memory),
     }
@@ -36,7 +42,20 @@ fn is_read(alloc: Global, text: &[u8]) -> bool {
 
 #[test]
 fn each_growth_may_be_refused(rt: HostRuntime) {
-    assert!(rt; is_read(rt.alloc(), NEAR) & is_read(rt.alloc(), FAR));
+    let alloc = rt.alloc();
+    assert!(rt; is_read(alloc, NEAR, 9) & is_read(alloc, FAR, 9) & is_read(alloc, MIXED, 28));
+}
+
+// The first point of Google's worked example, behind a byte.
+#[test]
+fn one_point_is_encoded_behind_a_byte(rt: HostRuntime) {
+    let mut piece = Piece::new();
+    piece.push(b',');
+    if let Some(point) = Pt::try_new(-12020000, 3850000) {
+        encode_point(point, &mut piece);
+    }
+    let wanted: &[u8] = b",_p~iF~ps|U";
+    assert!(rt; piece.as_slice() == wanted);
 }
 
 #[test]

@@ -84,7 +84,7 @@ impl Piece {
         ensures { self.new ≡ self.old ++ low_digits 256 count word }
     {
         let at = self.len;
-        // A vector is stored without a look at whether both places overlap, as a copied slice is not.
+        // stored as a vector: to copy a slice asks first whether both places overlap
         u8x8::from_array(word.to_le_bytes()).copy_to_slice(&mut self.bytes[at..at + WORD]);
         self.len = at + count as usize;
     }

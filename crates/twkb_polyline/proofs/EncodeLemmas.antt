@@ -54,12 +54,7 @@ pub has_put_first : (start : Point) (points part left : List Point) (q : Point) 
 has_put_first start points part left q old after split moved e =
     has_put_more start points part left start q old old after (subst (λ ps. HasPut start points ps start old old) split (has_put_none start points old)) moved e
 
--- after the last point all was put
-pub has_put_all : (start : Point) (points left : List Point) (p : Point) (old text : List ℕ) → HasPut start points left p old text → left ≡ [] → text ≡ old ++ polyline_from start points
-has_put_all start points left p old text has done =
-    has.held ∙ ap (λ t. old ++ t) (sym (append-nil has.put) ∙ ap (λ qs. has.put ++ polyline_from p qs) (sym done) ∙ has.told)
-
--- and the cursor stands at it
+-- after the last point the cursor stands at it
 pub has_put_last : (start : Point) (points left : List Point) (p : Point) (old text : List ℕ) → HasPut start points left p old text → left ≡ [] → p ≡ last_after start points
 has_put_last start points left p old text has done = sym (ap (last_after p) done) ∙ has.ends
 
