@@ -1,8 +1,8 @@
 //! Points that stand whole in front of the bytes, taken many at a time.
-ghost use Rattle.std.specs.Prelude.{◌≡◌, ◌≤◌, ◌+◌, ◌^◌, ℕ, List, ◌∷◌, length, IfSome, OnOk, true};
+ghost use Rattle.std.specs.Prelude.{◌≡◌, ◌≤◌, ◌+◌, ◌^◌, ℕ, List, ◌∷◌, length, IfSome, true};
 ghost use Rattle.twkb_tree.specs.Tree.{Ids};
 ghost use Rattle.twkb_tree.specs.Rows.{Row, row_points};
-ghost use Rattle.twkb_tree.specs.RowGrowth.{EndsInLine, point_added};
+ghost use Rattle.twkb_tree.specs.RowGrowth.{EndsInLine};
 ghost use Rattle.twkb_grammar.specs.Machine as machine;
 ghost use Rattle.twkb_outline.specs.Outline.{next_ids, listing};
 ghost use Rattle.twkb_outline.specs.Parts.{IsPastEnds};

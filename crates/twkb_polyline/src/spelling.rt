@@ -1,6 +1,6 @@
 //! Several numbers as characters at once, with no branch on how many characters each has: in tracks
 //! numbers of one, two and three characters are mixed, and no processor foresees which comes next.
-ghost use Rattle.std.specs.Prelude.{◌≡◌, ◌+◌, ◌<◌, ◌≤◌, ◌^◌, [], ◌∷◌, ℕ, List, ◌++◌, length, OnOk, OnErr};
+ghost use Rattle.std.specs.Prelude.{◌≡◌, ◌+◌, ◌<◌, ◌≤◌, ◌^◌, [], ◌∷◌, ℕ, List, ◌++◌, length, OnOk};
 ghost use Rattle.twkb_num.specs.Alphabet.{five_unit};
 ghost use Rattle.twkb_num.specs.Spelling.{shortest};
 ghost use Rattle.twkb_polyline.specs.Spelling.{spread, HasGroups, AreMarked};
