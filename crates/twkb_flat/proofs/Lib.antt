@@ -1,6 +1,5 @@
 pub mod AdmitLemmas
 pub mod ClosingLemmas
-pub mod CountedPoints
 pub mod EntryLemmas
 pub mod FlatLaws
 pub mod FlatOpenLemmas

@@ -216,26 +216,6 @@ impl Flat {
         Ok(())
     }
 
-    /// Appends two points to those of the last row, which is a linestring's or ring's, while there is room, behind one test for
-    /// memory. Takes memory; an `Err` changes nothing.
-    #[inline(always)]
-    pub fn add_two(&mut self, first: Pt, second: Pt) -> Result<(), AllocError>
-        requires line { EndsInLine self.old }
-        requires room { length (row_points self.old) + 2 ≤ 2 ^ 24 }
-        ensures added { OnOk result (self.new ≡ point_added second (point_added first self.old)) }
-        ensures same { OnErr result (self.new ≡ self.old) }
-    {
-        // learnt: the points are in range
-        let _learnt = first.x();
-        let _learnt = second.x();
-        self.points.reserve(2)?;
-        self.points.push_reserved(first);
-        self.points.push_reserved(second);
-        count_point(&mut self.entries);
-        count_point(&mut self.entries);
-        Ok(())
-    }
-
     /// Whether so many members may be added to the multipoint that the last row is a member of, at
     /// this depth, each with an id or each without; `false` says nothing. Takes no memory.
     pub fn takes_members(&self, depth: u32, named: bool, count: u64) -> bool
