@@ -29,10 +29,10 @@ const TEXT: &[u8] = b"AAGGAAGGAAGGAAGG";
 fn are_in_front(found: Option<Four>, numbers: [i64; 4], used: usize) -> bool {
     let [first, second, third, fourth] = numbers;
     let four = Four {
-        first: zigzag(first),
-        second: zigzag(second),
-        third: zigzag(third),
-        fourth: zigzag(fourth),
+        first,
+        second,
+        third,
+        fourth,
         used,
     };
     found == Some(four)
@@ -47,6 +47,14 @@ fn four_numbers_stand_in_front(rt: HostRuntime) {
     );
     let are_characters = are_in_front(four_characters(TEXT), [1, 1, 4, 4], 4);
     assert!(rt; are_steps & are_characters & four_varints(b"\x02\x02\x08\x08").is_none());
+}
+
+// The table of the Protocol Buffers documentation, to which the TWKB specification refers for zigzag.
+#[test]
+fn numbers_have_their_zigzag_forms(rt: HostRuntime) {
+    let are_near = (zigzag(0) == 0) & (zigzag(-1) == 1) & (zigzag(1) == 2) & (zigzag(-2) == 3);
+    let are_far = (zigzag(2147483647) == 4294967294) & (zigzag(-2147483648) == 4294967295);
+    assert!(rt; are_near & are_far);
 }
 
 // A word of two bytes, two bytes of three, and others behind a first one.

@@ -11,6 +11,6 @@ pub unzigzag_back : (z : ℤ) (n : ℕ) → zigzag_of z ≡ n → unzigzag_of n 
 unzigzag_back z n e = ap unzigzag_of (sym e) ∙ unzigzag_of-zigzag_of z
 
 -- a small form is that of a small number
-pub small_step : (z : ℤ) (n : ℕ) → zigzag_of z ≡ n → n < 2 ^ 35 → IsCoordinate z
-small_step (pos k) n e h = let low : k < 2 ^ 62 = omega (arith, e, h) in (omega (arith, ints), omega (arith, ints, low))
-small_step (negsuc k) n e h = let low : k < 2 ^ 62 = omega (arith, e, h) in (omega (arith, ints, low), omega (arith, ints))
+pub small_step : (z : ℤ) → zigzag_of z < 2 ^ 35 → IsCoordinate z
+small_step (pos k) h = let low : k < 2 ^ 62 = omega (arith, h) in (omega (arith, ints), omega (arith, ints, low))
+small_step (negsuc k) h = let low : k < 2 ^ 62 = omega (arith, h) in (omega (arith, ints, low), omega (arith, ints))

@@ -1,7 +1,7 @@
 -- Two points whose four numbers are each spelled in the shortest way.
-use Rattle.std.proofs.Common.{◌≡◌, ℕ, ◌<◌, ◌≤◌, ◌^◌, List, ◌++◌, length, take, drop, sym, ap, ◌∙◌, subst, append_assoc, length-append, arith}
+use Rattle.std.proofs.Common.{◌≡◌, ℕ, ◌<◌, ◌^◌, List, ◌++◌, length, take, drop, sym, ap, ◌∙◌, subst, append_assoc, length-append, arith}
 use Rattle.std.proofs.Math.Seq.{take-append_seam, drop-append_seam}
-use Rattle.std.proofs.lemmas.List.{length-take-le, take-append-drop, length-drop}
+use Rattle.std.proofs.lemmas.List.{length-take-le, take-append-drop}
 use Rattle.twkb_num.specs.Alphabet.{leb_unit}
 use Rattle.twkb_num.specs.Four.{FourInFront}
 use Rattle.twkb_num.specs.Varint.{varint_of}
@@ -46,7 +46,3 @@ two_in_front from first second bytes a b c d count four there on =
       leads = subst (λ l. PointInFront from l first (length front)) whole (shortest_pair from first a b (next ++ rest) four.first_small four.second_small there);
       goes_on = subst (λ l. PointInFront first l second (length next)) behind (shortest_pair first second c d rest four.third_small four.fourth_small on);
     }
-
--- they stand within the bytes
-pub two_within : (from first second : Point) (bytes : List ℕ) (count : ℕ) → TwoInFront from bytes first second count → count ≤ length bytes
-two_within from first second bytes count two = omega (arith, two.all, two.leads.within, two.goes_on.within, length-drop two.first_count bytes)

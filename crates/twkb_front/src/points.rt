@@ -1,6 +1,6 @@
 //! Points that stand whole in front of bytes, by the two steps to them.
-ghost use Rattle.std.specs.Prelude.{◌≡◌, ◌<◌, ◌^◌, ◌+ℤ◌, IfSome};
-ghost use Rattle.twkb_num.specs.Zigzag.{unzigzag_of};
+ghost use Rattle.std.specs.Prelude.{◌≡◌, ◌<◌, ◌^◌, IfSome};
+ghost use Rattle.twkb_num.specs.Zigzag.{zigzag_of};
 ghost use Rattle.twkb_points.specs.Point.{IsCoordinate};
 ghost use Rattle.twkb_front.specs.Front.{PointInFront, StepsTo, TwoInFront};
 
@@ -13,31 +13,31 @@ use twkb_points::Pt;
 #[inline(always)]
 fn short_step(number: u64) -> i64
     requires { number < 2 ^ 35 }
-    ensures value { result ≡ unzigzag_of number }
+    ensures form { zigzag_of result ≡ number }
     ensures near { IsCoordinate result }
 {
     unzigzag(number)
 }
 
-// The coordinate behind such a step.
+// The point behind two steps that a coordinate could be, or `None` where that is out of range.
 #[inline(always)]
-fn near_coordinate(from: i64, number: u64) -> i64
-    requires in_range { IsCoordinate from }
-    requires small { number < 2 ^ 35 }
-    ensures { result ≡ from +ℤ unzigzag_of number }
+fn near_steps(from: Pt, dx: i64, dy: i64) -> Option<Pt>
+    requires near_x { IsCoordinate dx }
+    requires near_y { IsCoordinate dy }
+    ensures { IfSome result (λ to. StepsTo from (zigzag_of dx) (zigzag_of dy) to) }
 {
-    from + short_step(number)
+    let to = Pt::try_new(from.x() + dx, from.y() + dy)?;
+    Some(to)
 }
 
-// The point behind two such steps, or `None` where that is out of range.
+// The same, by two numbers of five bytes or fewer.
 #[inline(always)]
 fn near(from: Pt, x: u64, y: u64) -> Option<Pt>
     requires x_small { x < 2 ^ 35 }
     requires y_small { y < 2 ^ 35 }
     ensures { IfSome result (λ to. StepsTo from x y to) }
 {
-    let to = Pt::try_new(near_coordinate(from.x(), x), near_coordinate(from.y(), y))?;
-    Some(to)
+    near_steps(from, short_step(x), short_step(y))
 }
 
 /// The point that two steps in front lead to, and how many bytes they have; `None` where they are not whole, or lead out of
@@ -113,7 +113,7 @@ pub fn front_two(from: Pt, bytes: &[u8]) -> Option<(Pt, Pt, usize)>
     ensures { IfSome result (λ front. TwoInFront from bytes.now front.0 front.1 front.2) }
 {
     let four = four_varints(bytes)?;
-    let first = near(from, four.first, four.second)?;
-    let second = near(first, four.third, four.fourth)?;
+    let first = near_steps(from, four.first, four.second)?;
+    let second = near_steps(first, four.third, four.fourth)?;
     Some((first, second, four.used))
 }

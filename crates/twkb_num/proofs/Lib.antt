@@ -14,5 +14,6 @@ pub mod PlaceLemmas
 pub mod SpellingLemmas
 pub mod TableLemmas
 pub mod TwoLemmas
+pub mod UnzigzagLemmas
 pub mod VarintLemmas
 pub mod ZigzagLemmas

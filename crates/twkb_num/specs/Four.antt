@@ -1,7 +1,9 @@
 -- Four numbers in front of units, each in its shortest spelling.
 use Rattle.std.specs.Prelude.{◌≡◌, ℕ, zero, suc, ◌+◌, ◌*◌, ◌/◌, ◌%◌, ◌<◌, ◌≤◌, ◌^◌, Bool, true, false, List, [], ◌∷◌, ◌++◌, length, take, map, get_or, nat_lt, nat_le, if◌then◌else◌}
+use Rattle.std.specs.Int.{w32, cast_unsigned}
 use lib.Lanes.{mask_l}
 use Rattle.twkb_num.specs.Spelling.{shortest}
+use Rattle.twkb_num.specs.Zigzag.{unzigzag_of}
 
 -- the first `count` units are the shortest spellings of four numbers, one behind the other, none of more than 28 bits
 pub record FourInFront (unit : ℕ → Bool → ℕ) (base : ℕ) (units : List ℕ) (a b c d count : ℕ) : Type 0 where
@@ -34,6 +36,10 @@ places_in at more = place_in at more 0 ∷ place_in at more 1 ∷ place_in at mo
 abbrev pub joined_groups : ℕ → ℕ → ℕ
 joined_groups radix word =
     word % radix + radix * (word / 256 % radix + radix * (word / 256 / 256 % radix + radix * (word / 256 / 256 / 256 % radix)))
+
+-- the 32 bits of the number whose zigzag form this is
+abbrev pub unzigzagged_bits : ℕ → ℕ
+unzigzagged_bits form = cast_unsigned w32 (unzigzag_of form)
 
 -- how many marks are not set before the first that is
 abbrev pub run_of : List Bool → ℕ

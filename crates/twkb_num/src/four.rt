@@ -2,36 +2,38 @@
 ghost use Rattle.std.specs.Prelude.{IfSome, ◌≡◌, ◌+◌, ◌*◌, ◌<◌, ◌^◌, ◌⊎◌, map};
 ghost use lib.Lanes.{digits_l, number_l};
 ghost use Rattle.twkb_num.specs.Alphabet.{five_unit, leb_unit};
-ghost use Rattle.twkb_num.specs.Four.{FourInFront, unit_over, joined_groups, AreUnits};
+ghost use Rattle.twkb_num.specs.Zigzag.{zigzag_of};
+ghost use Rattle.twkb_num.specs.Four.{FourInFront, unit_over, joined_groups, unzigzagged_bits, AreUnits};
 
 use crate::places::two_in_front;
 use std::simd::{u8x16, u16x8, u32x4, u64x2};
 
-/// Four numbers in front of bytes, and how many bytes these are.
+/// Four whole numbers in front of bytes, and how many bytes these are.
 #[derive(Clone, Copy, Debug, PartialEq, Eq)]
 pub struct Four {
-    pub first: u64,
-    pub second: u64,
-    pub third: u64,
-    pub fourth: u64,
+    pub first: i64,
+    pub second: i64,
+    pub third: i64,
+    pub fourth: i64,
     pub used: usize,
 }
 
-/// Four varints in front, each in its shortest spelling of four bytes at most (TWKB specification; LEB128). `None` says
-/// nothing: such numbers are not found where there are fewer than sixteen bytes. Takes no memory.
+/// Four whole numbers in front, each by the varint of its zigzag form, in its shortest spelling of four bytes at most (TWKB
+/// specification; LEB128). `None` says nothing: such numbers are not found where there are fewer than sixteen bytes. Takes no
+/// memory.
 #[inline(always)]
 pub fn four_varints(bytes: &[u8]) -> Option<Four>
-    ensures { IfSome result (λ f. FourInFront leb_unit 128 bytes.now f.first f.second f.third f.fourth f.used) }
+    ensures { IfSome result (λ f. FourInFront leb_unit 128 bytes.now (zigzag_of f.first) (zigzag_of f.second) (zigzag_of f.third) (zigzag_of f.fourth) f.used) }
 {
     four_in_front(bytes, 0, 128, 255)
 }
 
-/// Four numbers of a polyline in front, each below 2^28 and in its shortest spelling (Encoded Polyline Algorithm Format). `None`
-/// says nothing: such numbers are not found where one has more than four characters, or where there are fewer than sixteen in
-/// all. Takes no memory.
+/// Four whole numbers of a polyline in front, each by the characters of its zigzag form, which is below 2^28 and in its shortest
+/// spelling (Encoded Polyline Algorithm Format). `None` says nothing: such numbers are not found where one has more than four
+/// characters, or where there are fewer than sixteen in all. Takes no memory.
 #[inline(always)]
 pub fn four_characters(text: &[u8]) -> Option<Four>
-    ensures { IfSome result (λ f. FourInFront five_unit 32 text.now f.first f.second f.third f.fourth f.used) }
+    ensures { IfSome result (λ f. FourInFront five_unit 32 text.now (zigzag_of f.first) (zigzag_of f.second) (zigzag_of f.third) (zigzag_of f.fourth) f.used) }
 {
     four_in_front(text, 63, 32, 63)
 }
@@ -39,25 +41,27 @@ pub fn four_characters(text: &[u8]) -> Option<Four>
 // A number below 0x100, times this, stands in each of eight bytes.
 const EACH_PLACE: u64 = 0x0101_0101_0101_0101;
 
-// Four numbers in an alphabet whose last units are `base` and less than `radix` more, and whose others are `radix` above these.
+// Four whole numbers in an alphabet whose last units are `base` and less than `radix` more, and whose others are `radix` above
+// these.
 #[inline(always)]
 fn four_in_front(bytes: &[u8], base: u8, radix: u8, most: u8) -> Option<Four>
     requires alphabet { (radix ≡ 128) ⊎ (radix ≡ 32) }
     requires bound { most < 2 * radix }
     requires in_bytes { most + base < 256 }
-    ensures { IfSome result (λ f. FourInFront (unit_over base radix) radix bytes.now f.first f.second f.third f.fourth f.used) }
+    ensures { IfSome result (λ f. FourInFront (unit_over base radix) radix bytes.now (zigzag_of f.first) (zigzag_of f.second) (zigzag_of f.third) (zigzag_of f.fourth) f.used) }
 {
     let front = front_units(bytes, base, radix, most)?;
     let low = two_in_front(front.ends)?;
     let high = two_in_front(front.ends >> low.used)?;
     let high_places = high.places + u64::from(low.used) * EACH_PLACE;
     let places = u64x2::from_array([low.places, high_places]).to_le_bytes();
-    let [first, second, third, fourth] = joined(front.units.swizzle_dyn(places), radix);
+    let numbers = joined(front.units.swizzle_dyn(places), radix);
+    let [first, second, third, fourth] = unzigzagged(numbers).to_array();
     Some(Four {
-        first: u64::from(first),
-        second: u64::from(second),
-        third: u64::from(third),
-        fourth: u64::from(fourth),
+        first: i64::from(first.cast_signed()),
+        second: i64::from(second.cast_signed()),
+        third: i64::from(third.cast_signed()),
+        fourth: i64::from(fourth.cast_signed()),
         used: (low.used + high.used) as usize,
     })
 }
@@ -91,16 +95,26 @@ fn front_units(bytes: &[u8], base: u8, radix: u8, most: u8) -> Option<Front>
 
 // The numbers whose groups the bytes hold, four bytes for each. The groups of two bytes are joined first, then the twos.
 #[inline(always)]
-fn joined(units: u8x16, radix: u8) -> [u32; 4]
+fn joined(units: u8x16, radix: u8) -> u32x4
     requires alphabet { (radix ≡ 128) ⊎ (radix ≡ 32) }
     ensures { result ≡ map (joined_groups radix) (digits_l (2 ^ 32) 4 (number_l 256 units)) }
 {
     let square = u32x4::splat(u32::from(radix) * u32::from(radix));
-    let radix = u16x8::splat(u16::from(radix));
-    let words = u16x8::from_le_bytes(units);
-    let twos = words % radix + words / u16x8::splat(0x100) % radix * radix;
+    let groups = units % u8x16::splat(radix);
+    let words = u16x8::from_le_bytes(groups);
+    let byte = u16x8::splat(0x100);
+    let twos = words % byte + words / byte * u16x8::splat(u16::from(radix));
     let lanes = u32x4::from_le_bytes(twos.to_le_bytes());
     let low = u32x4::splat(0x1_0000);
-    let numbers = lanes % low + lanes / low * square;
-    numbers.to_array()
+    lanes % low + lanes / low * square
+}
+
+// The numbers whose zigzag forms these are, in 32 bits each.
+#[inline(always)]
+fn unzigzagged(forms: u32x4) -> u32x4
+    ensures { result ≡ map unzigzagged_bits forms }
+{
+    let half = forms / u32x4::splat(2);
+    let even = (forms % u32x4::splat(2)).simd_eq(u32x4::splat(0));
+    even.select(half, u32x4::splat(0xffff_ffff) - half)
 }

@@ -12,9 +12,9 @@ use Rattle.twkb_polyline.proofs.OneFault.{number_text_length}
 use Rattle.twkb_polyline.proofs.PointLemmas.{back}
 
 -- a number of a small form could be a coordinate
-pub near : (n : ℤ) (form : ℕ) → zigzag_of n ≡ form → form < 2 ^ 28 → IsCoordinate n
-near (pos n) form e small = omega (arith, ints)
-near (negsuc n) form e small = omega (arith, ints)
+pub near : (n : ℤ) → zigzag_of n < 2 ^ 28 → IsCoordinate n
+near (pos n) small = omega (arith, ints)
+near (negsuc n) small = omega (arith, ints)
 
 -- Four lists stand from `start` on, in `used` characters.
 module _ (text : List ℕ) (start used : ℕ) (a b c d : List ℕ) (spelled : take used (drop start text) ≡ a ++ (b ++ (c ++ d))) where
@@ -43,12 +43,11 @@ module _ (text : List ℕ) (start used : ℕ) (a b c d : List ℕ) (spelled : ta
       omega (arith, length-append a (b ++ (c ++ (d ++ rest))), length-append b (c ++ (d ++ rest)), length-append c (d ++ rest), length-append d rest, length-drop start text, length-drop (start + used) text)
 
 -- the forms of a latitude and a longitude, and of those of the point behind it
-pub pair_read : (text : List ℕ) (start used a b c d : ℕ) (dx dy ex ey : ℤ) (p q r : Point) → start ≤ length text → FourInFront five_unit 32 (drop start text) a b c d used
-    → zigzag_of dy ≡ a → zigzag_of dx ≡ b → zigzag_of ey ≡ c → zigzag_of ex ≡ d → q ≡ moved_by p dx dy → r ≡ moved_by q ex ey → IsPairAt text start p q r (start + used)
-pair_read text start used a b c d dx dy ex ey p q r before four is_a is_b is_c is_d to_q to_r =
-    let spelled : take used (drop start text) ≡ number_text dy ++ (number_text dx ++ (number_text ey ++ number_text ex)) = rw (is_a, is_b, is_c, is_d) four.spelled in
-    let behind = two_split text start used (number_text dy) (number_text dx) (number_text ey) (number_text ex) spelled in
-    let count = four_length text start used (number_text dy) (number_text dx) (number_text ey) (number_text ex) spelled before four.within in
+pub pair_read : (text : List ℕ) (start used : ℕ) (dx dy ex ey : ℤ) (p q r : Point) → start ≤ length text → FourInFront five_unit 32 (drop start text) (zigzag_of dy) (zigzag_of dx) (zigzag_of ey) (zigzag_of ex) used
+    → q ≡ moved_by p dx dy → r ≡ moved_by q ex ey → IsPairAt text start p q r (start + used)
+pair_read text start used dx dy ex ey p q r before four to_q to_r =
+    let behind = two_split text start used (number_text dy) (number_text dx) (number_text ey) (number_text ex) four.spelled in
+    let count = four_length text start used (number_text dy) (number_text dx) (number_text ey) (number_text ex) four.spelled before four.within in
     let whole = length-drop start text in
     let some = number_text_length dy in
     let others = number_text_length ey in
@@ -57,7 +56,7 @@ pair_read text start used a b c d dx dy ex ey p q r before four is_a is_b is_c i
       first = record {
         split =
             rw (back q.x p.x dx (ap (λ (s : Point). s.x) to_q), back q.y p.y dy (ap (λ (s : Point). s.y) to_q), behind)
-            (four_split text start used (number_text dy) (number_text dx) (number_text ey) (number_text ex) spelled);
+            (four_split text start used (number_text dy) (number_text dx) (number_text ey) (number_text ex) four.spelled);
         further = omega arith;
         within = omega (arith, four.within);
       };

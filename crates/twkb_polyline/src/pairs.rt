@@ -3,7 +3,7 @@ ghost use Rattle.std.specs.Prelude.{◌≡◌, ◌≤◌, IfSome, IfNone, length
 ghost use Rattle.twkb_points.specs.Point.{IsInRange};
 ghost use Rattle.twkb_polyline.specs.Reading.{IsPairAt};
 
-use twkb_num::{four_characters, unzigzag};
+use twkb_num::four_characters;
 use twkb_points::{Cursor, Pt};
 
 // Two points, one behind the other, and where the text goes on.
@@ -34,8 +34,8 @@ pub(crate) fn two_points(
     }
     let four = four_characters(&text[start..])?;
     let mut moved = *cursor;
-    let first = moved.add_near(unzigzag(four.second), unzigzag(four.first))?;
-    let second = moved.add_near(unzigzag(four.fourth), unzigzag(four.third))?;
+    let first = moved.add_near(four.second, four.first)?;
+    let second = moved.add_near(four.fourth, four.third)?;
     *cursor = moved;
     Some(Pair {
         first,

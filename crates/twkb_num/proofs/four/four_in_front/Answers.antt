@@ -1,9 +1,10 @@
-use Rattle.std.proofs.Common.{arith, ◌≡◌, ◌∙◌, ap, ℕ, suc, ◌+◌, drop, get_or}
-use Rattle.twkb_num.specs.Four.{run_of}
+use Rattle.std.proofs.Common.{arith, ◌∙◌, ap, ℕ, suc, ◌+◌, ◌≤◌, drop, get_or, map}
+use Rattle.twkb_num.specs.Four.{run_of, unzigzagged_bits}
 use Rattle.twkb_num.specs.Places.{run_behind}
 use Rattle.twkb_num.proofs.FourLemmas.{marks_of}
-use Rattle.twkb_num.proofs.FoundLemmas.{four_found}
+use Rattle.twkb_num.proofs.FoundLemmas.{four_found, number_small}
 use Rattle.twkb_num.proofs.TwoLemmas.{twice_found, twice_two, later_places_below, four_places_ok, numbers_found}
+use Rattle.twkb_num.proofs.UnzigzagLemmas.{form_found}
 use Rattle.twkb_num.proofs.four.four_in_front.Goals as goal
 
 pub overflow_add-high_places : goal.overflow_add-high_places
@@ -32,16 +33,18 @@ returns c =
     let low = c.in_ok-low.low in
     let high = c.in_ok-high.high in
     let read = c.in_ok-front.ensures in
+    let units = c.in_ok-front.front.units in
     let twice = twice_found _ _ _ _ _ low.places low.used high.places high.used read c.in_ok-low.ensures c.in_ok-high.ensures in
-    let marks = marks_of c.args.radix c.in_ok-front.front.units in
+    let marks = marks_of c.args.radix units in
+    let four = twice_two marks low.places low.used high.places high.used twice in
     let found = numbers_found _ _ _ _ _ low.places low.used c.from.result high.places high.used c.requires.alphabet read c.from.ensures twice in
-    let at = λ (k : ℕ). ap (λ xs. get_or xs k 0) (c.joined.ensures ∙ found) in
-    let one : c.from-2.result ≡ get_or c.joined.result 0 0 = c.from-2.ensures in
-    let two : c.from-3.result ≡ get_or c.joined.result 1 0 = c.from-3.ensures in
-    let three : c.from-4.result ≡ get_or c.joined.result 2 0 = c.from-4.ensures in
-    let last : c.from-5.result ≡ get_or c.joined.result 3 0 = c.from-5.ensures in
-    four_found c.args.base c.args.radix c.args.bytes.now c.in_ok-front.front.units c.in_ok-front.front.ends
+    let at = λ (k : ℕ). ap (λ xs. get_or xs k 0) (c.unzigzagged.ensures ∙ ap (map unzigzagged_bits) (c.joined-numbers.ensures ∙ found)) in
+    let small = λ (more begin : ℕ) (short : more ≤ 3). number_small c.args.radix more (drop begin units) c.requires.alphabet short in
+    let one = form_found _ _ c.cast_signed.result c.from-2.result (small _ 0 four.first_short) (at 0) c.cast_signed.ensures c.from-2.ensures in
+    let two = form_found _ _ c.cast_signed-2.result c.from-3.result (small _ (suc (run_of marks)) four.second_short) (at 1) c.cast_signed-2.ensures c.from-3.ensures in
+    let three = form_found _ _ c.cast_signed-3.result c.from-4.result (small _ low.used four.third_short) (at 2) c.cast_signed-3.ensures c.from-4.ensures in
+    let last = form_found _ _ c.cast_signed-4.result c.from-5.result (small _ (low.used + suc (run_of (drop low.used marks))) four.fourth_short) (at 3) c.cast_signed-4.ensures c.from-5.ensures in
+    four_found c.args.base c.args.radix c.args.bytes.now units c.in_ok-front.front.ends
     (run_of marks) (run_behind marks) (run_of (drop low.used marks)) (run_behind (drop low.used marks))
     (suc (run_of marks)) low.used (low.used + suc (run_of (drop low.used marks))) (low.used + high.used)
-    c.from-2.result c.from-3.result c.from-4.result c.from-5.result c.requires.alphabet read
-    (twice_two marks low.places low.used high.places high.used twice) (one ∙ at 0) (two ∙ at 1) (three ∙ at 2) (last ∙ at 3)
+    _ _ _ _ c.requires.alphabet read four one two three last

@@ -7,35 +7,34 @@ use Rattle.twkb_polyline.proofs.pairs.two_points.Goals as goal
 
 pub add_near-requires-clause-near_x : goal.add_near-requires-clause-near_x
 add_near-requires-clause-near_x c =
-    let fits : FitsSigned w64 c.unzigzag.result = search rules in
-    simp to_z-of_z (near c.unzigzag.result c.in_ok-four.four.second c.unzigzag.ensures c.in_ok-four.ensures.second_small)
+    let fits : FitsSigned w64 c.in_ok-four.four.second = search rules in
+    simp to_z-of_z (near c.in_ok-four.four.second c.in_ok-four.ensures.second_small)
 
 pub add_near-requires-clause-near_y : goal.add_near-requires-clause-near_y
 add_near-requires-clause-near_y c =
-    let fits : FitsSigned w64 c.unzigzag-2.result = search rules in
-    simp to_z-of_z (near c.unzigzag-2.result c.in_ok-four.four.first c.unzigzag-2.ensures c.in_ok-four.ensures.first_small)
+    let fits : FitsSigned w64 c.in_ok-four.four.first = search rules in
+    simp to_z-of_z (near c.in_ok-four.four.first c.in_ok-four.ensures.first_small)
 
 pub add_near-requires-2-clause-near_x : goal.add_near-requires-2-clause-near_x
 add_near-requires-2-clause-near_x c =
-    let fits : FitsSigned w64 c.unzigzag-3.result = search rules in
-    simp to_z-of_z (near c.unzigzag-3.result c.in_ok-four.four.fourth c.unzigzag-3.ensures c.in_ok-four.ensures.fourth_small)
+    let fits : FitsSigned w64 c.in_ok-four.four.fourth = search rules in
+    simp to_z-of_z (near c.in_ok-four.four.fourth c.in_ok-four.ensures.fourth_small)
 
 pub add_near-requires-2-clause-near_y : goal.add_near-requires-2-clause-near_y
 add_near-requires-2-clause-near_y c =
-    let fits : FitsSigned w64 c.unzigzag-4.result = search rules in
-    simp to_z-of_z (near c.unzigzag-4.result c.in_ok-four.four.third c.unzigzag-4.ensures c.in_ok-four.ensures.third_small)
+    let fits : FitsSigned w64 c.in_ok-four.four.third = search rules in
+    simp to_z-of_z (near c.in_ok-four.four.third c.in_ok-four.ensures.third_small)
 
 pub returns-clause-read : goal.returns-clause-read
 returns-clause-read c =
     let four = c.in_ok-four.four in
     let in_front = rw (take_rest c.args.text.now c.args.start) at c.in_ok-four.ensures in
-    let dx_fits : FitsSigned w64 c.unzigzag.result = search rules in
-    let dy_fits : FitsSigned w64 c.unzigzag-2.result = search rules in
-    let ex_fits : FitsSigned w64 c.unzigzag-3.result = search rules in
-    let ey_fits : FitsSigned w64 c.unzigzag-4.result = search rules in
+    let dx_fits : FitsSigned w64 four.second = search rules in
+    let dy_fits : FitsSigned w64 four.first = search rules in
+    let ex_fits : FitsSigned w64 four.fourth = search rules in
+    let ey_fits : FitsSigned w64 four.third = search rules in
     let to_first = simp to_z-of_z at c.in_ok-first.ensures.point in
     let from_first = simp to_z-of_z at c.in_ok-second.ensures.point in
-    let to_second = from_first ∙ ap (λ (p : Point). moved_by p c.unzigzag-3.result c.unzigzag-4.result) c.in_ok-first.ensures.moved in
-    pair_read c.args.text.now c.args.start four.used four.first four.second four.third four.fourth
-    c.unzigzag.result c.unzigzag-2.result c.unzigzag-3.result c.unzigzag-4.result c.args.cursor.now c.in_ok-first.first c.in_ok-second.second
-    c.requires in_front c.unzigzag-2.ensures c.unzigzag.ensures c.unzigzag-4.ensures c.unzigzag-3.ensures to_first to_second
+    let to_second = from_first ∙ ap (λ (p : Point). moved_by p four.fourth four.third) c.in_ok-first.ensures.moved in
+    pair_read c.args.text.now c.args.start four.used four.second four.first four.fourth four.third
+    c.args.cursor.now c.in_ok-first.first c.in_ok-second.second c.requires in_front to_first to_second
