@@ -1,8 +1,8 @@
 //! Points that stand whole in front of the bytes, taken many at a time.
-ghost use Rattle.std.specs.Prelude.{◌≡◌, ◌≤◌, ◌+◌, ◌^◌, ℕ, List, ◌∷◌, length, IfSome, OnOk, true};
+ghost use Rattle.std.specs.Prelude.{◌≡◌, ◌≤◌, ◌+◌, ◌^◌, ℕ, List, ◌∷◌, length, IfSome, true};
 ghost use Rattle.twkb_tree.specs.Tree.{Ids};
 ghost use Rattle.twkb_tree.specs.Rows.{Row, row_points};
-ghost use Rattle.twkb_tree.specs.RowGrowth.{EndsInLine, point_added};
+ghost use Rattle.twkb_tree.specs.RowGrowth.{EndsInLine};
 ghost use Rattle.twkb_grammar.specs.Machine as machine;
 ghost use Rattle.twkb_outline.specs.Outline.{next_ids, listing};
 ghost use Rattle.twkb_outline.specs.Parts.{IsPastEnds};
@@ -97,17 +97,6 @@ fn keeps_row(body: &Body, lefts: Lefts) -> bool
     }
 }
 
-// Appends two points to those of the last row, as `Flat::add_point` does one; an `Err` may stand behind the first. Takes memory.
-#[inline(always)]
-fn add_two(flat: &mut Flat, first: Pt, second: Pt) -> Result<(), AllocError>
-    requires line { EndsInLine flat.old }
-    requires room { length (row_points flat.old) + 2 ≤ 2 ^ 24 }
-    ensures { OnOk result (flat.new ≡ point_added second (point_added first flat.old)) }
-{
-    flat.add_point(first)?;
-    flat.add_point(second)
-}
-
 // Takes points of a list to the last row as far as they stand whole in front, so many at most; and how many of these are left.
 // Takes memory. Two at a time where that goes: the numbers of points that lie near one another are found four at once.
 #[inline(always)]
@@ -122,7 +111,7 @@ fn take_row(flat: &mut Flat, from: Pt, bytes: &[u8], most: u64) -> Result<(Taken
     while left > 0 {
         if left > 1 {
             if let Some((first, second, count)) = front_two(position, &bytes[used..]) {
-                add_two(flat, first, second)?;
+                flat.add_two(first, second)?;
                 left -= 2;
                 position = second;
                 used += count;

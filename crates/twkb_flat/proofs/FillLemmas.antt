@@ -8,7 +8,7 @@ use Rattle.twkb_tree.specs.Limits.{largest_limits}
 use Rattle.twkb_tree.specs.Tree.{Ids, Tree, trees}
 use Rattle.twkb_tree.specs.Shape.{tree_of}
 use Rattle.twkb_tree.specs.declared.geometry.Shape.{Shape}
-use Rattle.twkb_tree.specs.Rows.{Row, plain_row, rows, first_id, ids_from, rows_of_each, rows_with, rows_under, own_row, member_rows}
+use Rattle.twkb_tree.specs.Rows.{Row, plain_row, first_id, ids_from, rows_of_each, rows_with, rows_under, own_row, member_rows}
 use Rattle.twkb_tree.specs.Accepted.{Continues}
 use Rattle.twkb_tree.specs.RowLists.{AreValidRowsOfOne, AreShallow}
 use Rattle.twkb_tree.proofs.RootLimits.{valid_list, continues_row, one_valid_front}

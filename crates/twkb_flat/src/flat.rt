@@ -16,6 +16,7 @@ use crate::entries::{
 };
 use crate::node::{Node, NodeId, PointId, Row};
 use crate::point_source::{Copied, PointSource};
+use crate::room::make_room;
 use crate::work::Work;
 use std::alloc::{AllocError, Global};
 use std::marker::Model;
@@ -212,6 +213,26 @@ impl Flat {
         if let Err(refused) = self.points.push(point) {
             return Err(refused.into());
         }
+        count_point(&mut self.entries);
+        Ok(())
+    }
+
+    /// Appends two points to those of the last row, which is a linestring's or ring's, while there is room, behind one test for
+    /// memory. Takes memory where there is no room for both; an `Err` changes nothing.
+    #[inline(always)]
+    pub fn add_two(&mut self, first: Pt, second: Pt) -> Result<(), AllocError>
+        requires line { EndsInLine self.old }
+        requires room { length (row_points self.old) + 2 ≤ 2 ^ 24 }
+        ensures added { OnOk result (self.new ≡ point_added second (point_added first self.old)) }
+        ensures same { OnErr result (self.new ≡ self.old) }
+    {
+        // learnt: the points are in range
+        let _learnt = first.x();
+        let _learnt = second.x();
+        make_room(&mut self.points)?;
+        self.points.push_reserved(first);
+        self.points.push_reserved(second);
+        count_point(&mut self.entries);
         count_point(&mut self.entries);
         Ok(())
     }

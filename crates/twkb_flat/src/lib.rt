@@ -12,6 +12,7 @@ mod open_rows;
 mod parts;
 mod point_source;
 mod reading;
+mod room;
 mod work;
 
 pub use filling::own_row;

@@ -14,6 +14,10 @@ const NAMED: &[u8] =
 const DEEP: &[u8] =
     b"\x07\x00\x01\x07\x00\x01\x07\x00\x01\x07\x00\x01\x07\x00\x01\x07\x00\x01\x01\x10";
 
+// A line of twenty points, each near the one before it, so that they are taken two at a time where they come in one piece. One row, one span.
+const NEAR: &[u8] =
+    b"\x02\x00\x14\x02\x02\x02\x02\x02\x02\x02\x02\x02\x02\x02\x02\x02\x02\x02\x02\x02\x02\x02\x02\x02\x02\x02\x02\x02\x02\x02\x02\x02\x02\x02\x02\x02\x02\x02\x02\x02\x02\x02\x02";
+
 // Whether so many rows or spans were given, or memory lacked and the reader was spent.
 fn are_given_or_lack(answers: [Result<u64, BlobFault>; 2], count: u64) -> bool {
     let [first, second] = answers;
@@ -26,18 +30,18 @@ fn gives_or_lacks(alloc: Global, way: Way, blob: &[u8], count: u64) -> bool {
     are_given_or_lack(read_twice(alloc, way, &mut Tap::new(blob)), count)
 }
 
-// Whether that is so of both blobs.
-fn both_give_or_lack(alloc: Global, way: Way, named: u64, deep: u64) -> bool {
+// Whether that is so of all blobs.
+fn all_give_or_lack(alloc: Global, way: Way, named: u64, deep: u64) -> bool {
     let are_named = gives_or_lacks(alloc, way, NAMED, named);
-    are_named & gives_or_lacks(alloc, way, DEEP, deep)
+    are_named & gives_or_lacks(alloc, way, DEEP, deep) & gives_or_lacks(alloc, way, NEAR, 1)
 }
 
 #[test]
 fn each_growth_of_a_reader_may_be_refused(rt: HostRuntime) {
-    let trees = both_give_or_lack(rt.alloc(), Way::Tree, 7, 7);
-    let rows = both_give_or_lack(rt.alloc(), Way::Rows, 7, 7);
-    let spans = both_give_or_lack(rt.alloc(), Way::Spans, 3, 7);
-    assert!(rt; trees & rows & spans & both_give_or_lack(rt.alloc(), Way::Located, 3, 7));
+    let trees = all_give_or_lack(rt.alloc(), Way::Tree, 7, 7);
+    let rows = all_give_or_lack(rt.alloc(), Way::Rows, 7, 7);
+    let spans = all_give_or_lack(rt.alloc(), Way::Spans, 3, 7);
+    assert!(rt; trees & rows & spans & all_give_or_lack(rt.alloc(), Way::Located, 3, 7));
 }
 
 // Whether this is want of memory, and the session is spent.
@@ -57,10 +61,10 @@ fn feeds_or_lacks(session: &mut Session, piece: &[u8]) -> bool {
     }
 }
 
-// Whether a session lends seven rows for the whole piece, or lacks memory and is spent.
-fn lends_or_lacks(session: &mut Session, piece: &[u8]) -> bool {
+// Whether a session lends so many rows for the whole piece, or lacks memory and is spent.
+fn lends_or_lacks(session: &mut Session, piece: &[u8], rows: u32) -> bool {
     match session.feed_flat(piece) {
-        Ok(answer) => (answer == (piece.len(), true)) & (session.flat().node_count() == 7),
+        Ok(answer) => (answer == (piece.len(), true)) & (session.flat().node_count() == rows),
         Err(fault) => is_spent(session, fault),
     }
 }
@@ -76,27 +80,28 @@ fn takes_or_lacks(session: &mut Session, bytes: &[u8]) -> bool {
 }
 
 // Whether a session that is fed the blob in this way, a tree at once, bytes or rows, gives its geometry, or lacks memory.
-fn is_fed_or_lacks(alloc: Global, way: Way, bytes: &[u8]) -> bool {
+fn is_fed_or_lacks(alloc: Global, way: Way, bytes: &[u8], rows: u32) -> bool {
     let mut session = Session::new(alloc, Limits::standard());
     let is_fed = match way {
         Way::Tree => feeds_or_lacks(&mut session, bytes),
         Way::Located => takes_or_lacks(&mut session, bytes),
-        Way::Rows | Way::Spans => lends_or_lacks(&mut session, bytes),
+        Way::Rows | Way::Spans => lends_or_lacks(&mut session, bytes, rows),
     };
     drop(session);
     is_fed
 }
 
-// Whether that is so of both blobs.
-fn both_are_fed_or_lack(alloc: Global, way: Way) -> bool {
-    is_fed_or_lacks(alloc, way, NAMED) & is_fed_or_lacks(alloc, way, DEEP)
+// Whether that is so of all blobs.
+fn all_are_fed_or_lack(alloc: Global, way: Way) -> bool {
+    let are_deep = is_fed_or_lacks(alloc, way, NAMED, 7) & is_fed_or_lacks(alloc, way, DEEP, 7);
+    are_deep & is_fed_or_lacks(alloc, way, NEAR, 1)
 }
 
 #[test]
 fn each_growth_of_a_session_may_be_refused(rt: HostRuntime) {
-    let trees = both_are_fed_or_lack(rt.alloc(), Way::Tree);
-    let bytes = both_are_fed_or_lack(rt.alloc(), Way::Located);
-    assert!(rt; trees & bytes & both_are_fed_or_lack(rt.alloc(), Way::Rows));
+    let trees = all_are_fed_or_lack(rt.alloc(), Way::Tree);
+    let bytes = all_are_fed_or_lack(rt.alloc(), Way::Located);
+    assert!(rt; trees & bytes & all_are_fed_or_lack(rt.alloc(), Way::Rows));
 }
 
 // A collection with ids, of a multipoint of two points with ids, and of a collection with an id of a multipoint of one with an id. Seven
@@ -105,32 +110,44 @@ const ALL_NAMED: &[u8] =
     b"\x07\x04\x02\x02\x04\x04\x04\x02\x02\x04\x02\x02\x02\x02\x07\x04\x01\x06\x04\x04\x01\x08\x02\x02";
 
 // Whether a session that was fed the blob takes it again, in one piece and byte by byte, without a growth.
-fn grows_no_more(alloc: Global, blob: &[u8]) -> bool {
+fn grows_no_more(alloc: Global, blob: &[u8], rows: u32) -> bool {
     let mut session = Session::new(alloc, Limits::standard());
     match session.feed_flat(blob) {
-        Ok(_) => lends(&mut session, blob) & lends_bytewise(&mut session, blob),
+        Ok(_) => lends(&mut session, blob, rows) & lends_bytewise(&mut session, blob, rows),
         Err(fault) => is_spent(&mut session, fault),
     }
 }
 
-// Whether a session lends seven rows for the whole piece.
-fn lends(session: &mut Session, piece: &[u8]) -> bool {
+// Whether a session that was fed the bytes one by one takes the blob in one piece without a growth.
+fn grows_no_more_behind_bytes(alloc: Global, blob: &[u8], rows: u32) -> bool {
+    let mut session = Session::new(alloc, Limits::standard());
+    for byte in blob {
+        if let Err(fault) = session.feed_flat(&[*byte]) {
+            return is_spent(&mut session, fault);
+        }
+    }
+    lends(&mut session, blob, rows)
+}
+
+// Whether a session lends so many rows for the whole piece.
+fn lends(session: &mut Session, piece: &[u8], rows: u32) -> bool {
     let is_whole = session.feed_flat(piece) == Ok((piece.len(), true));
-    is_whole & (session.flat().node_count() == 7)
+    is_whole & (session.flat().node_count() == rows)
 }
 
 // Whether it does where it is fed the bytes one by one.
-fn lends_bytewise(session: &mut Session, bytes: &[u8]) -> bool {
+fn lends_bytewise(session: &mut Session, bytes: &[u8], rows: u32) -> bool {
     for byte in bytes {
         if session.feed_flat(&[*byte]).is_err() {
             return false;
         }
     }
-    session.flat().node_count() == 7
+    session.flat().node_count() == rows
 }
 
 #[test]
 fn a_session_whose_room_has_grown_grows_no_more(rt: HostRuntime) {
-    assert!(rt; grows_no_more(rt.alloc(), NAMED) & grows_no_more(rt.alloc(), DEEP));
-    assert!(rt; grows_no_more(rt.alloc(), ALL_NAMED));
+    assert!(rt; grows_no_more(rt.alloc(), NAMED, 7) & grows_no_more(rt.alloc(), DEEP, 7));
+    assert!(rt; grows_no_more(rt.alloc(), ALL_NAMED, 7) & grows_no_more(rt.alloc(), NEAR, 1));
+    assert!(rt; grows_no_more_behind_bytes(rt.alloc(), NEAR, 1));
 }

@@ -18,9 +18,9 @@ returns-in_err-add_point c =
 pub loop-left-preserved-in-Some : goal.loop-left-preserved-in-Some
 loop-left-preserved-in-Some c =
     let some : 1 < c.loop-left.left = omega (arith, c.if-left-gt1.true) in
-    let longer = line_longer_by_two _ _ c.loop-left.flat c.add_two.new.flat c.in_ok-add_two.ensures c.loop-left.invariant.line in
+    let longer = line_longer_by_two _ _ c.loop-left.flat c.add_two.new.self c.in_ok-add_two.ensures.added c.loop-left.invariant.line in
     record {
-      leads = list_two_more c.args.flat.now c.loop-left.flat c.add_two.new.flat c.args.most c.loop-left.left _ c.args.from _ _ c.args.bytes.now _ c.loop-left.invariant.leads some c.in-Some.ensures c.in_ok-add_two.ensures;
+      leads = list_two_more c.args.flat.now c.loop-left.flat c.add_two.new.self c.args.most c.loop-left.left _ c.args.from _ _ c.args.bytes.now _ c.loop-left.invariant.leads some c.in-Some.ensures c.in_ok-add_two.ensures.added;
       line = longer.0;
       room = omega (arith, longer.1, some, c.loop-left.invariant.room);
     }
