@@ -6,7 +6,7 @@ use Rattle.std.proofs.lemmas.List.{take_more_set, take-set-le, length-set, lengt
 use Rattle.twkb_num.specs.Alphabet.{leb_unit}
 use Rattle.twkb_num.specs.Varint.{varint_of}
 use Rattle.twkb_num.proofs.SpellingLemmas.{shortest_one, shortest_more}
-use Rattle.twkb_num.proofs.VarintLemmas.{one_byte_more, some_byte, length-varint_of}
+use Rattle.twkb_num.proofs.VarintLemmas.{some_byte, length-varint_of}
 
 -- a number below 128 is its one byte
 pub last_byte : (n : ℕ) → n < 128 → varint_of n ≡ n ∷ []
@@ -15,10 +15,6 @@ last_byte n h = shortest_one leb_unit 128 n h
 -- any other has a byte that says that more follow, and those of its quotient
 pub byte_more : (n : ℕ) → 128 ≤ n → varint_of n ≡ (n % 128 + 128) ∷ varint_of (n / 128)
 byte_more n h = shortest_more leb_unit 128 n (lit< tt) h
-
--- a number of three bytes or more has two more than what is left behind its first two
-pub two_more : (n : ℕ) → 2 ^ 14 ≤ n → length (varint_of n) ≡ 2 + length (varint_of (n / 128 / 128))
-two_more n large = omega (arith, one_byte_more n (omega arith), one_byte_more (n / 128) (omega arith))
 
 -- two bytes are written, and one counts where the number has one
 pub both_written : (bytes : List ℕ) (at n lead len : ℕ) → at + 2 ≤ length bytes → n < 2 ^ 14 → lead ≡ (if nat_lt n 128 then n else n % 128 + 128) → len ≡ length (varint_of n)
