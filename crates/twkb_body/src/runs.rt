@@ -97,8 +97,12 @@ fn keeps_row(body: &Body, lefts: Lefts) -> bool
     }
 }
 
+// The most bytes of a point whose numbers are short, four bytes each.
+const NEAR: usize = 8;
+
 // Takes points of a list to the last row as far as they stand whole in front, so many at most; and how many of these are left.
-// Takes memory. Two at a time where that goes: the numbers of points that lie near one another are found four at once.
+// Takes memory. Two at a time where that goes: the numbers of points that lie near one another are found four at once, and not
+// looked for behind a point that lies far.
 #[inline(always)]
 fn take_row(flat: &mut Flat, from: Pt, bytes: &[u8], most: u64) -> Result<(Taken, u64), AllocError>
     requires line { EndsInLine flat.old }
@@ -108,8 +112,9 @@ fn take_row(flat: &mut Flat, from: Pt, bytes: &[u8], most: u64) -> Result<(Taken
     let mut used = 0;
     let mut position = from;
     let mut left = most;
+    let mut is_near = true;
     while left > 0 {
-        if left > 1 {
+        if is_near && left > 1 {
             if let Some((first, second, count)) = front_two(position, &bytes[used..]) {
                 flat.add_two(first, second)?;
                 left -= 2;
@@ -125,6 +130,7 @@ fn take_row(flat: &mut Flat, from: Pt, bytes: &[u8], most: u64) -> Result<(Taken
         left -= 1;
         position = to;
         used += count;
+        is_near = count <= NEAR;
     }
     Ok((Taken { used, position }, left))
 }
