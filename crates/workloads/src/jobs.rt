@@ -153,13 +153,12 @@ impl Job {
         let blobs = self.mixed_blobs()?;
         let source = self.sized(drawn(Shape::Short, Writing::Bare, 3000, 350));
         let mut listed = Tap::new(Drawing::new(&[], &blobs, self.random(3), source.drawn));
-        read_rows(self.alloc, &mut listed, digest);
+        read_rows(self.alloc, &mut listed, digest)?;
         let mut grown = Tap::new(Drawing::new(&[], &blobs, self.random(4), source.drawn));
-        read_trees(self.alloc, &mut grown, digest);
+        read_trees(self.alloc, &mut grown, digest)?;
         let rows = rows_of(self.alloc, self.seed, source)?;
         let table = Drawing::new(header_text(), &rows, self.random(5), source.drawn);
-        read_table(self.alloc, &mut Tap::new(table), digest);
-        Ok(())
+        read_table(self.alloc, &mut Tap::new(table), digest)
     }
 
     // Packs, unpacks and shows a kind of input, behind which something is refused.
