@@ -4,14 +4,15 @@ use crate::digest::Digest;
 use std::alloc::Global;
 use std::io::Read;
 use twkb_blob::Reader;
-use twkb_geom::{Flat, Geometry, Limits, NodeId, Work};
+use twkb_geom::{Flat, Geometry, Limits, Node, NodeId, PointId, Work};
 use twkb_io::{Input, Tap};
-use twkb_points::Pt;
 use twkb_table::TableReader;
 
-// Takes the points of a row.
-fn fold_points(points: &[Pt], digest: &mut Digest) {
-    for point in points {
+// Takes the points of a node.
+fn fold_points(flat: &Flat, node: &Node, work: &mut Work, digest: &mut Digest) {
+    let first = node.first.0;
+    for index in first..first + node.points {
+        let point = flat.point(PointId(index), work);
         digest.fold_signed(point.x());
         digest.fold_signed(point.y());
     }
@@ -22,9 +23,9 @@ pub(crate) fn fold_rows(flat: &Flat, digest: &mut Digest) {
     let mut work = Work::new();
     digest.fold(u64::from(flat.node_count()));
     for index in 0..flat.node_count() {
-        let (row, points) = flat.row_at(NodeId(index), &mut work);
-        digest.fold(u64::from(row.depth));
-        fold_points(points, digest);
+        let node = flat.node(NodeId(index), &mut work);
+        digest.fold(u64::from(node.row.depth));
+        fold_points(flat, &node, &mut work, digest);
     }
 }
 
