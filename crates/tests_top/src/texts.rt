@@ -3,7 +3,7 @@ use std::alloc::Global;
 use std::fmt::Display;
 use twkb_convert::{BlobReason, Cause, ConvertFault};
 use twkb_polyline::PolyReason;
-use twkb_table::{RowReason, SourceFault, TableFault};
+use twkb_table::{JudgeFault, RowReason, SourceFault, TableFault};
 
 // Whether a fault is told so.
 fn tells<D: Display>(alloc: Global, fault: &D, text: &str) -> bool {
@@ -75,6 +75,11 @@ const SOURCE_FAULTS: [(SourceFault, &str); 2] = [
     (SourceFault::Spent, "the table was refused before"),
 ];
 
+const JUDGE_FAULTS: [(JudgeFault, &str); 2] = [
+    (JudgeFault::Memory, "out of memory"),
+    (JudgeFault::Refused(RowReason::BadId), "bad id"),
+];
+
 // Whether causes are told so, and a fault by its cause.
 fn conversions_tell(alloc: Global) -> bool {
     all_tell(alloc, &CAUSES) && tells(alloc, &STOP, "byte 12: size mismatch")
@@ -82,7 +87,7 @@ fn conversions_tell(alloc: Global) -> bool {
 
 // Whether faults of tables are told so.
 fn tables_tell(alloc: Global) -> bool {
-    all_tell(alloc, &FAULTS) && all_tell(alloc, &SOURCE_FAULTS)
+    all_tell(alloc, &FAULTS) && all_tell(alloc, &SOURCE_FAULTS) && all_tell(alloc, &JUDGE_FAULTS)
 }
 
 #[test]

@@ -34,11 +34,11 @@ session_open s = open_in s.engine
 
 -- the rows in its form
 abbrev pub session_rows : Session → List Row
-session_rows s = s.flat
+session_rows s = s.rows.flat
 
 -- the rows of the geometry that is read: none where the form still has those of the last one
 abbrev pub begun_rows : Session → List Row
-begun_rows s = if s.is_whole then [] else s.flat
+begun_rows s = if s.is_whole then [] else s.rows.flat
 
 -- it is not spent, and the bytes, at most 2^62, are blobs of these geometries, and then a part and the bytes that it holds of a number
 pub record Stands (bytes : List ℕ) (gs : List Tree) (s : Session) : Type 0 where

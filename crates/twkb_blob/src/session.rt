@@ -11,7 +11,7 @@ use crate::feeding::feed;
 use crate::notes::SpanNotes;
 use std::alloc::{AllocError, Global};
 use twkb_engine::{BlobReason, Engine, Stop};
-use twkb_flat::Flat;
+use twkb_flat::{Flat, Rows};
 use twkb_io::{InFault, MAX_BYTES};
 use twkb_tree::{Geometry, Limits};
 
@@ -21,7 +21,7 @@ use twkb_tree::{Geometry, Limits};
 pub struct Session {
     alloc: Global,
     engine: Engine,
-    flat: Flat,
+    rows: Rows,
     start: u64,
     /// Whether the form still has the rows of the last geometry.
     is_whole: bool,
@@ -61,7 +61,9 @@ impl Session {
         Session {
             alloc,
             engine: Engine::new(alloc, limits),
-            flat: Flat::new(alloc),
+            rows: Rows {
+                flat: Flat::new(alloc),
+            },
             is_whole: false,
             start: 0,
             spent: false,
@@ -110,10 +112,10 @@ impl Session {
         ensures valid { IfOk result (λ found. IfSome found (λ g. IsValid largest_limits g)) }
         ensures none { result ≡ Ok None → session_rows self.now ≡ [] }
     {
-        if self.flat.is_empty() {
+        if self.rows.flat.is_empty() {
             return Ok(None);
         }
-        match self.flat.to_geometry(self.alloc) {
+        match self.rows.flat.to_geometry(self.alloc) {
             Ok(geometry) => Ok(Some(geometry)),
             Err(refused) => Err(refused),
         }
@@ -125,7 +127,7 @@ impl Session {
         ensures engine { self.new.engine ≡ self.old.engine }
         ensures rows { session_rows self.new ≡ [] }
     {
-        self.flat.clear();
+        self.rows.flat.clear();
         self.spent = true;
     }
 
@@ -232,7 +234,7 @@ impl Session {
         twkb_grammar::laws::one_stream();
         twkb_outline::laws::reading();
         self.begin();
-        match self.engine.take_byte(&mut self.flat, piece[0]) {
+        match self.engine.take_byte(&mut self.rows.flat, piece[0]) {
             Ok(true) => {
                 self.is_whole = true;
                 self.start = taken + 1;
@@ -272,7 +274,8 @@ impl Session {
         let count = room_in(taken, piece)?;
         let start = self.start;
         let front = &piece[..count];
-        match feed(&mut self.engine, &mut self.flat, notes, start, front, asked) {
+        let flat = &mut self.rows.flat;
+        match feed(&mut self.engine, flat, notes, start, front, asked) {
             Ok((used, true)) => {
                 self.is_whole = true;
                 self.start = taken + used as u64;
@@ -310,7 +313,7 @@ impl Session {
         ensures rows { session_rows self.new ≡ begun_rows self.old }
     {
         if self.is_whole {
-            self.flat.clear();
+            self.rows.flat.clear();
             self.is_whole = false;
         }
     }
@@ -320,7 +323,14 @@ impl Session {
     pub fn flat(&self) -> &Flat
         ensures { result.now ≡ session_rows self.now }
     {
-        &self.flat
+        &self.rows.flat
+    }
+
+    /// The form that `flat` gives, whose rows give their points as slices. Takes no memory.
+    pub fn rows(&self) -> &Rows
+        ensures { result.now.flat ≡ session_rows self.now }
+    {
+        &self.rows
     }
 
     /// The stream ends here: `Ok` between two blobs, else `Truncated`. Afterwards each call answers `Spent`. Takes no memory.

@@ -7,4 +7,5 @@ mod runs;
 mod words;
 
 pub use runs::run;
+pub use twkb_request::status;
 pub use words::read_words;

@@ -101,7 +101,7 @@ fn next_rows<R: Read>(
     if make_room(text).is_err() {
         return Err(BlobFault::Memory);
     }
-    if put_flat_rows(session.flat(), &mut Work::new(), text).is_err() {
+    if put_flat_rows(session.rows(), &mut Work::new(), text).is_err() {
         return Err(BlobFault::Memory);
     }
     Ok(true)

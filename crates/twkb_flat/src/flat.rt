@@ -338,18 +338,4 @@ impl Flat {
         work.count_point();
         self.points[id.0 as usize]
     }
-
-    /// The row at a place and its own points, counted as one read of the node and one of each of
-    /// the points. Takes no memory.
-    pub fn row_at(&self, id: NodeId, work: &mut Work) -> (Row, &[Pt])
-        requires { id.0 < length self.now }
-        ensures row { slice_get self.now id.0 ≡ Some (row_with result.0 result.1.now) }
-        ensures counted { work.new ≡ record work.old { node_reads = saturated (work.old.node_reads + 1); point_reads = saturated (work.old.point_reads + length result.1.now) } }
-    {
-        let at = id.0 as usize;
-        let row = self.row(at);
-        let points = self.own_points(at);
-        work.count_row(points.len() as u64);
-        (row, points)
-    }
 }

@@ -13,10 +13,12 @@ mod parts;
 mod point_source;
 mod reading;
 mod room;
+mod rows;
 mod work;
 
 pub use filling::own_row;
 pub use flat::Flat;
 pub use node::{Node, NodeId, PointId, Row};
 pub use point_source::PointSource;
+pub use rows::Rows;
 pub use work::Work;

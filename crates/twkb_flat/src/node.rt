@@ -8,10 +8,10 @@ pub struct Row {
     pub depth: u32,
     /// What it holds.
     pub kind: Kind,
-    /// The decimals of its coordinates, -8 to 7, where it is a geometry of its own.
-    pub precision: Option<i8>,
     /// Its id, if it has one.
     pub id: Option<i64>,
+    /// The decimals of its coordinates, -8 to 7, where it is a geometry of its own.
+    pub precision: Option<i8>,
 }
 
 /// The place of a node in preorder, from 0.

@@ -1,7 +1,7 @@
 //! Geometries, their limits, and their flat forms: what callers of the formats pass and are given.
 #![tactic(auto)]
 
-pub use twkb_flat::{Flat, Node, NodeId, PointId, PointSource, Row, Work};
+pub use twkb_flat::{Flat, Node, NodeId, PointId, PointSource, Row, Rows, Work};
 pub use twkb_tree::{
     Areas, GeomFault, Geometry, IdList, Ids, Kind, Limits, Lines, Members, Pts, Shape,
 };

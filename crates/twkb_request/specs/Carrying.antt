@@ -13,7 +13,7 @@ use Rattle.twkb_request.specs.declared.request.Conversion.TheVariants as convers
 use Rattle.twkb_request.specs.declared.request.Request.{Request}
 use Rattle.twkb_request.specs.Lines.{line_of}
 use Rattle.twkb_request.specs.Printing.{IsPrinted}
-use Rattle.twkb_request.specs.Status.{status_of}
+use Rattle.twkb_request.specs.ExitCode.{status_of}
 use Rattle.twkb_request.specs.Conversions.{Packs, Shows, Unpacks}
 
 -- the status of an answer

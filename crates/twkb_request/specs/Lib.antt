@@ -1,5 +1,5 @@
 pub mod Lines
 pub mod Printing
-pub mod Status
+pub mod ExitCode
 pub mod Conversions
 pub mod Carrying

@@ -4,10 +4,10 @@ ghost use Rattle.twkb_request.specs.Carrying.{CarriesOut, Converts, Refuses};
 ghost use Rattle.twkb_request.specs.Lines.{line_of, no_text_line};
 ghost use Rattle.twkb_request.specs.Printing.{IsPrinted};
 
+use crate::exit_code::{DONE, MEMORY, USAGE, status};
 use crate::lines::{print_line, print_text};
 use crate::refusal::Refusal;
 use crate::request::{Conversion, Request};
-use crate::status::{DONE, MEMORY, USAGE, exit_status};
 use std::alloc::Global;
 use std::io::{ErrorKind, Read, Write};
 use twkb_convert::{Cause, ConvertFault, Report, pack_styled, show, unpack};
@@ -45,7 +45,7 @@ pub fn carry_out<R: Read, W: Write, E: Write>(
         Ok(_) => DONE,
         Err(stop) => {
             print_line(errors, stop.cause);
-            exit_status(&stop.cause)
+            status(&stop.cause)
         }
     }
 }

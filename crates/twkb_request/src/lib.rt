@@ -2,13 +2,13 @@
 #![tactic(auto)]
 
 mod carrying;
+mod exit_code;
 mod lines;
 mod refusal;
 mod request;
-mod status;
 
 pub use carrying::{carry_out, lack_memory, lack_words, refuse};
+pub use exit_code::status;
 pub use lines::print_line;
 pub use refusal::Refusal;
 pub use request::{Conversion, Request, nested_limits, style_named};
-pub use status::exit_status;

@@ -6,22 +6,22 @@ ghost use Rattle.twkb_table.specs.Text.{csvtext};
 
 use crate::row_line::put_row;
 use std::alloc::AllocError;
-use twkb_flat::{Flat, NodeId, Work};
+use twkb_flat::{NodeId, Rows, Work};
 
 /// Appends the lines of the rows of a flat form, each ended by LF and none of them the header (profile;
 /// their polylines: Encoded Polyline Algorithm Format), and counts in `work` what it reads. Takes memory
 /// for the text alone; where that is refused, the text is as it was.
-pub fn put_flat_rows(flat: &Flat, work: &mut Work, text: &mut Vec<u8>) -> Result<(), AllocError>
-    ensures appended { OnOk result (text.new.items ≡ text.old.items ++ csvtext (map record_of flat.now)) }
+pub fn put_flat_rows(rows: &Rows, work: &mut Work, text: &mut Vec<u8>) -> Result<(), AllocError>
+    ensures appended { OnOk result (text.new.items ≡ text.old.items ++ csvtext (map record_of rows.now.flat)) }
     ensures same { OnErr result (text.new.items ≡ text.old.items) }
 
     // each row and each point is read once at most
-    ensures nodes { work.new.node_reads ≤ work.old.node_reads + length flat.now }
-    ensures points { work.new.point_reads ≤ work.old.point_reads + length (row_points flat.now) }
+    ensures nodes { work.new.node_reads ≤ work.old.node_reads + length rows.now.flat }
+    ensures points { work.new.point_reads ≤ work.old.point_reads + length (row_points rows.now.flat) }
 {
     let held = text.len();
-    for index in 0..flat.node_count() {
-        let (row, points) = flat.row_at(NodeId(index), work);
+    for index in 0..rows.flat.node_count() {
+        let (row, points) = rows.row_at(NodeId(index), work);
         let Ok(()) = put_row(&row, points, text) else {
             text.truncate(held);
             return Err(AllocError);

@@ -15,16 +15,19 @@ use crate::kind_word::parse_kind;
 use crate::places::{check_place, read_id, read_precision};
 use crate::reason::RowReason;
 use csv::ByteRecord;
+use thiserror::Error;
 use twkb_flat::{PointSource, Row};
 use twkb_points::Pt;
 use twkb_tree::{Kind, Limits, OpenRow, Standing};
 
 /// Why a record gave no row.
-#[derive(Clone, Copy, Debug, PartialEq, Eq)]
+#[derive(Clone, Copy, Debug, PartialEq, Eq, Error)]
 pub enum JudgeFault {
     /// No memory for its points.
+    #[error("out of memory")]
     Memory,
     /// The record is refused.
+    #[error("{0}")]
     Refused(RowReason),
 }
 

@@ -3,7 +3,7 @@ use super::conversions::{Conversion, put_conversion};
 use super::text::{put, put_lines, put_stop, table_of};
 use std::alloc::Global;
 use std::io::Read;
-use twkb_geom::{Flat, Geometry, Limits, Work};
+use twkb_geom::{Flat, Geometry, Limits, Rows, Work};
 use twkb_io::Tap;
 use twkb_table::{TableFault, TableReader, header_text, put_flat_rows, put_rows};
 
@@ -40,11 +40,11 @@ fn read_tree<R: Read>(
 // The same of a flat form.
 fn read_form<R: Read>(
     reader: &mut TableReader<'_, R>,
-    flat: &mut Flat,
+    form: &mut Rows,
     rows: &mut Vec<u8>,
 ) -> Result<bool, TableFault> {
-    let read = reader.next_flat(flat);
-    let _is_put = put_flat_rows(flat, &mut Work::new(), rows).is_ok();
+    let read = reader.next_flat(&mut form.flat);
+    let _is_put = put_flat_rows(form, &mut Work::new(), rows).is_ok();
     read
 }
 
@@ -58,13 +58,15 @@ fn read_by(
 ) -> Option<TableFault> {
     let mut tap = Tap::new(table);
     let mut reader = TableReader::new(alloc, &mut tap, limits);
-    let mut flat = Flat::new(alloc);
+    let mut form = Rows {
+        flat: Flat::new(alloc),
+    };
     let mut answer = Ok(true);
     for _ in 0..table.len().saturating_add(1) {
         if answer == Ok(true) {
             answer = match way {
                 Way::Trees => read_tree(&mut reader, rows),
-                Way::Forms => read_form(&mut reader, &mut flat, rows),
+                Way::Forms => read_form(&mut reader, &mut form, rows),
             };
         }
     }

@@ -1,9 +1,10 @@
 //! The line and the status of causes, as docs/FORMATS.md has them. Those of other records and items are rows of the program `vectors`.
 use std::alloc::Global;
+use twkb_command::status;
 use twkb_convert::{BlobReason, Cause};
 use twkb_io::Tap;
 use twkb_polyline::PolyReason;
-use twkb_request::{exit_status, print_line};
+use twkb_request::print_line;
 use twkb_table::RowReason;
 
 // A cause, its status and its line.
@@ -79,7 +80,7 @@ const CAUSES: [Told; 8] = [
 fn is_told(alloc: Global, row: &Told) -> bool {
     let mut errors = Tap::new(Vec::new(alloc));
     print_line(&mut errors, row.cause);
-    errors.into_inner().as_slice() == row.line && exit_status(&row.cause) == row.status
+    errors.into_inner().as_slice() == row.line && status(&row.cause) == row.status
 }
 
 #[test]

@@ -3,4 +3,4 @@ use Rattle.twkb_table.proofs.LineLemmas.{RowsPut}
 use Rattle.twkb_table.proofs.flat_text.put_flat_rows.Given as goal
 
 abbrev pub invariant-loop-index : goal.invariant-loop-index
-invariant-loop-index l = RowsPut l.flat l.index l.fn.text.items l.text.items l.fn.work l.work
+invariant-loop-index l = RowsPut l.rows.flat l.index l.fn.text.items l.text.items l.fn.work l.work

@@ -1,6 +1,6 @@
 //! The status with which a run ends.
 ghost use Rattle.std.specs.Prelude.{◌≡◌};
-ghost use Rattle.twkb_request.specs.Status.{status_of};
+ghost use Rattle.twkb_request.specs.ExitCode.{status_of};
 
 use twkb_convert::Cause;
 
@@ -21,7 +21,7 @@ pub(crate) const MEMORY: u8 = 4;
 
 /// The status of a conversion that stopped: 1 where the input is refused or a length passes its
 /// bound, 3 where a device failed, 4 for want of memory.
-pub fn exit_status(cause: &Cause) -> u8
+pub fn status(cause: &Cause) -> u8
     ensures { result ≡ status_of cause.now }
 {
     match cause {
