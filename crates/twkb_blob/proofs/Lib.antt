@@ -19,3 +19,4 @@ pub mod Handed
 pub mod Onward
 pub mod Abreast
 pub mod Spanned
+pub mod Alive

@@ -69,7 +69,7 @@ by_engine start byte d a o p w v told awaits at many old first = first ∙ (ap (
 -- where an engine stands, a reader of a stream of one blob does
 abbrev pub stands_of : NoteLaws → (bs : List ℕ) (rs : List Row) (d : Engine) → IsOpenVarint (held_in d) → (s : StandsAt bs rs d) → Stands (allowance_of d) bs [] (sums_of d.builder) s.outlined.stack (held_in d)
 stands_of laws bs rs d o s =
-    let level = length (groups_of d.builder.groups.items) in
+    let level = length (groups_of d.builder.groups) in
     let r = has_role level d.builder.bytes d.builder.phase d.builder.waits in
     record {
       front = [];

@@ -1,7 +1,7 @@
 //! An engine that is fed, but for blobs that are single points, and notes of what its items tell of spans.
 ghost use Rattle.std.specs.Prelude.{◌≡◌, ◌+◌, ◌≤◌, ◌^◌, ◌∷◌, [], List, ℕ, true, Ok, None, IfOk, IfSome, OnOk, OnErr, length};
 ghost use Rattle.twkb_outline.specs.Parts.{PartIn};
-ghost use Rattle.twkb_engine.specs.Standing.{StandsAt, MadeIn, IsFed, allowance_of, count_of};
+ghost use Rattle.twkb_engine.specs.Standing.{StandsAt, IsAlive, MadeIn, IsFed, allowance_of, count_of};
 ghost use Rattle.twkb_blob.specs.Located.{FeedsNoted, HasPointRow, point_span};
 
 use crate::notes::SpanNotes;
@@ -55,6 +55,7 @@ pub(crate) fn feed(
 ) -> Result<(usize, bool), Stop>
     requires room { count_of engine.old + length piece.now ≤ 2 ^ 63 }
     requires begin { start ≤ 2 ^ 62 }
+    requires alive { IsAlive flat.old engine.old }
     ensures limits { allowance_of engine.new ≡ allowance_of engine.old }
     ensures count { count_of engine.new ≤ count_of engine.old + length piece.now }
     ensures within { IfOk result (λ fed. fed.0 ≤ length piece.now) }

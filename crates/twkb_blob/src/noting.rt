@@ -2,7 +2,7 @@
 ghost use Rattle.std.specs.Prelude.{◌≡◌, ◌≤◌, ◌<◌, ◌+◌, ◌^◌, ℕ, List, true, false, Ok, Err, length, IfOk, OnErr};
 ghost use Rattle.twkb_tree.specs.Rows.{Row, row_points};
 ghost use Rattle.twkb_grammar.specs.Noting.{note_ends_to};
-ghost use Rattle.twkb_engine.specs.Standing.{StandsAt, IsFed, allowance_of, count_of, offset_in, open_in, points_in};
+ghost use Rattle.twkb_engine.specs.Standing.{StandsAt, IsAlive, IsFed, allowance_of, count_of, offset_in, open_in, points_in};
 ghost use Rattle.twkb_blob.specs.Located.{FeedsNoted, TakesAll, TakesNoted};
 
 use crate::notes::SpanNotes;
@@ -44,6 +44,7 @@ fn feed_item(
     requires some { 0 < length held.now }
     requires room { count_of engine.old + length held.now ≤ 2 ^ 63 }
     requires begin { start ≤ 2 ^ 62 }
+    requires alive { IsAlive flat.old engine.old }
     ensures limits { allowance_of engine.new ≡ allowance_of engine.old }
     ensures count { IfOk result (λ taken. count_of engine.new ≤ count_of engine.old + taken.0) }
     ensures few { count_of engine.new ≤ count_of engine.old + length held.now }
@@ -117,6 +118,7 @@ fn take_in_front(
     requires some { 0 < length held.now }
     requires room { count_of engine.old + length held.now ≤ 2 ^ 63 }
     requires begin { start ≤ 2 ^ 62 }
+    requires alive { IsAlive flat.old engine.old }
     ensures limits { allowance_of engine.new ≡ allowance_of engine.old }
     ensures count { IfOk result (λ used. count_of engine.new ≡ count_of engine.old + used) }
     ensures few { count_of engine.new ≤ count_of engine.old + length held.now }
@@ -142,6 +144,7 @@ fn take_noted(
     requires some { 0 < length held.now }
     requires room { count_of engine.old + length held.now ≤ 2 ^ 63 }
     requires begin { start ≤ 2 ^ 62 }
+    requires alive { IsAlive flat.old engine.old }
     ensures limits { allowance_of engine.new ≡ allowance_of engine.old }
     ensures count { IfOk result (λ taken. count_of engine.new ≤ count_of engine.old + taken.0) }
     ensures few { count_of engine.new ≤ count_of engine.old + length held.now }
@@ -169,6 +172,7 @@ fn feed_noted(
 ) -> Result<(usize, bool), Stop>
     requires room { count_of engine.old + length held.now ≤ 2 ^ 63 }
     requires begin { start ≤ 2 ^ 62 }
+    requires alive { IsAlive flat.old engine.old }
     ensures limits { allowance_of engine.new ≡ allowance_of engine.old }
     ensures few { count_of engine.new ≤ count_of engine.old + length held.now }
     ensures all { IfOk result (λ taken. TakesAll (length held.now) taken) }
@@ -200,6 +204,7 @@ pub(crate) fn feed_piece(
 ) -> Result<(usize, bool), Stop>
     requires room { count_of engine.old + length held.now ≤ 2 ^ 63 }
     requires begin { start ≤ 2 ^ 62 }
+    requires alive { IsAlive flat.old engine.old }
     ensures limits { allowance_of engine.new ≡ allowance_of engine.old }
     ensures few { count_of engine.new ≤ count_of engine.old + length held.now }
     ensures within { IfOk result (λ taken. taken.0 ≤ length held.now) }

@@ -2,7 +2,7 @@
 ghost use Rattle.std.specs.Prelude.{◌≡◌, ◌≤◌, ◌<◌, ◌^◌, ◌⊎◌, [], true, Ok, Err, length};
 ghost use Rattle.twkb_io.specs.Taps.{count_failure};
 ghost use Rattle.twkb_io.specs.Inputs.{input_failures, input_tap};
-ghost use Rattle.twkb_engine.specs.Standing.{StandsAt, allowance_of, count_of, offset_in};
+ghost use Rattle.twkb_engine.specs.Standing.{StandsAt, IsAlive, allowance_of, count_of, offset_in};
 ghost use Rattle.twkb_grammar.specs.Noting.{no_notes};
 ghost use Rattle.twkb_blob.specs.Readers.{IsNextFlat, PartAhead, fed_as, halted_by_read, failed_by_read};
 ghost use Rattle.twkb_blob.specs.Located.{IsAsked, ReadsPiece};
@@ -54,6 +54,7 @@ fn read_piece<R: Read>(
 ) -> Result<Fed, Halt>
     requires few { count_of engine.old ≤ 2 ^ 62 }
     requires begin { start ≤ 2 ^ 62 }
+    requires alive { IsAlive flat.old engine.old }
     ensures same_tap { (input_tap input.new).ghost_name ≡ (input_tap input.old).ghost_name }
     ensures limits { allowance_of engine.new ≡ allowance_of engine.old }
     ensures offset { offset_in engine.new ≤ 2 ^ 63 }

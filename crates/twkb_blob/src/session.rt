@@ -1,9 +1,9 @@
 //! A stream of blobs that comes in pieces.
-ghost use Rattle.std.specs.Prelude.{◌≡◌, ◌<◌, ◌≤◌, ◌^◌, ◌↔◌, ◌+◌, [], List, ℕ, true, false, Ok, Err, None, is_err, length, IfOk, IfErr, IfSome, OnErr, Bool};
+ghost use Rattle.std.specs.Prelude.{◌≡◌, ◌<◌, ◌≤◌, ◌^◌, ◌↔◌, ◌+◌, [], if◌then◌else◌, List, ℕ, true, false, Ok, Err, None, is_err, length, IfOk, IfErr, IfSome, OnErr, Bool};
 ghost use Rattle.twkb_tree.specs.Tree.{Tree};
 ghost use Rattle.twkb_tree.specs.Rows.{Row, rows};
 ghost use Rattle.twkb_tree.specs.Limits.{IsValid, largest_limits};
-ghost use Rattle.twkb_engine.specs.Standing.{StandsAt, IsEnd, count_of, offset_in};
+ghost use Rattle.twkb_engine.specs.Standing.{StandsAt, IsAlive, IsEnd, count_of, offset_in};
 ghost use Rattle.twkb_blob.specs.Readers.{failed_by_read};
 
 use crate::fault::{BlobFault, fault_at};
@@ -28,6 +28,7 @@ pub struct Session {
     spent: bool,
     ghost start_few: { start ≤ 2 ^ 62 },
     ghost taken_few: { count_of engine ≤ 2 ^ 62 },
+    ghost alive: { spent ≡ false → IsAlive (if is_whole then [] else flat) engine },
 }
 
 // What a feed answers where no geometry ends behind so many bytes. Made in a call of its own, it is written where it is wanted, with no copy.

@@ -10,10 +10,12 @@ use Rattle.twkb_tree.specs.RowGrowth.{EndsInLine, point_added}
 use Rattle.twkb_grammar.specs.Machine as machine
 use Rattle.twkb_grammar.specs.Machine.{Form, PointForm, LineForm, PolygonForm, MultiPointForm, MultiLineForm, MultiPolygonForm}
 use Rattle.twkb_outline.specs.Outline.{Group, Step, OnBody, Wanted, shut, listing, next_ids}
-use Rattle.twkb_outline.specs.Growing.{applied, NewPoint, point_change, id_in}
-use Rattle.twkb_outline.specs.Reading.{Pair, sums_past}
+use Rattle.twkb_outline.specs.Growing.{applied, NewPoint, point_change, spot_change, id_in}
+use Rattle.twkb_outline.specs.Reading.{Outlined, Pair, sums_past}
 use Rattle.twkb_outline.specs.Noting.{NotedOutline}
 use Rattle.twkb_outline.specs.Parts.{IsPastEnds}
+use Rattle.twkb_outline.specs.Admitting.{Admits}
+use Rattle.twkb_outline.proofs.Admitting.{admitted_by, point_admitted}
 use Rattle.twkb_outline.proofs.NotedPairs.{noted_point}
 use Rattle.twkb_outline.proofs.NotedJoins.{noted_still, noted_join}
 use Rattle.twkb_outline.proofs.Judging.{outlined_judged, part_further}
@@ -22,15 +24,16 @@ use Rattle.twkb_outline.proofs.Pieces.{used_join, one_within}
 use Rattle.twkb_front.specs.Front.{PointInFront, TwoInFront}
 use Rattle.twkb_body.specs.Body.{head_of, form_of, spot_of, lefts_of, IsHeadAt}
 use Rattle.twkb_body.specs.Names.{ids_of}
-use Rattle.twkb_body.specs.Steps.{step_in}
-use Rattle.twkb_body.specs.Running.{HasLists, StepRuns, StepStops, StopsWith, Leads, ListLeads, ListStops, TakesPoints, TakesRow, rest_in, at_spot, outer}
+use Rattle.twkb_body.specs.Steps.{step_in, change_by}
+use Rattle.twkb_body.specs.Running.{HasLists, StepRuns, StepStops, StopsWith, Leads, ListLeads, ListStops, TakesPoints, TakesRow, rest_in, at_spot, outer, IsWanted, MayBeWanted}
 use Rattle.twkb_body.specs.declared.head.Head.{Head}
 use Rattle.twkb_body.specs.declared.runs.Taken.{Taken}
 use Rattle.twkb_body.specs.declared.names.Names.{Names}
 use Rattle.twkb_body.specs.declared.lefts.Lefts.{Lefts}
 use Rattle.twkb_body.specs.declared.lefts.Lefts.TheVariants.{One}
 use Rattle.twkb_body.specs.declared.form.Form.TheVariants.{MultiPoint}
-use Rattle.twkb_body.specs.declared.lefts.Spot.TheVariants.{X}
+use Rattle.twkb_body.specs.declared.lefts.Spot.{Spot}
+use Rattle.twkb_body.specs.declared.lefts.Spot.TheVariants.{X, Y}
 use Rattle.twkb_body.specs.declared.body.Body.{Body}
 
 -- ---- what is wanted, in a geometry of one header
@@ -133,6 +136,34 @@ member_put h b next rs more left used from to bytes member form here some cut sa
     let deep : suc h.depth ≡ h.depth + 1 = omega arith in
     subst (λ s. Leads h (at_spot b s) rs from bytes (record { used = used; position = to }) (record { form = b.form; names = next; spot = X (One (left - 1)) }) more) (sym here)
     (member_leads h b next rs more left used from to bytes member form some cut same ids (put ∙ ap (λ d. rs ++ plain_row d Kind.Point member (to ∷ []) ∷ []) deep))
+
+-- its row continues the rows, wherever a reader wants it
+pub member_admitted : (h : Head) (b : Body) (rs : List Row) (left used : ℕ) (from to : Point) (bytes : List ℕ) (member : Option ℤ) → b.form ≡ MultiPoint → b.spot ≡ X (One left) → PointInFront from bytes to used
+    → member ≡ first_id (ids_of b.names) → MayBeWanted h (step_in h b) rs from → Admits (point_change to h.depth h.id h.precision MultiPointForm member) rs
+member_admitted h b rs left used from to bytes member form here cut same wanted =
+    admitted_by (IsWanted h (step_in h b) rs from) (point_change to h.depth h.id h.precision MultiPointForm member) rs wanted
+    (λ w.
+    let xs = take used bytes in
+    let f = form_of b.form in
+    let o = subst (λ (s : Spot). Outlined w.limits w.front w.sums (w.groups, OnBody (head_of h) f (ids_of b.names) (spot_of s)) rs) here w.outlined in
+    let a = point_admitted w.limits w.allowed w.front w.sums w.groups (head_of h) f (ids_of b.names) (left ∷ []) rs xs to o (subst (λ q. Pair q xs to) (sym w.position) cut.pair) in
+    subst (λ m. Admits (point_change to h.depth h.id h.precision MultiPointForm m) rs) (sym same)
+    (subst (λ g. Admits (point_change to h.depth h.id h.precision (form_of g) (first_id (ids_of b.names))) rs) form
+    (subst (λ k. Admits k rs) (same_change to w.groups h f (first_id (ids_of b.names)) w.placed) a)))
+
+-- a point of a list comes to a line's row
+form_admits : (to : Point) (d : ℕ) (id : Option ℤ) (precision : ℤ) (member : Option ℤ) (rs : List Row) (f : Form) → HasLists f → Admits (point_change to d id precision f member) rs → Admits (NewPoint to) rs
+form_admits to d id precision member rs PointForm none a = absurd none
+form_admits to d id precision member rs LineForm lists a = a
+form_admits to d id precision member rs PolygonForm lists a = a
+form_admits to d id precision member rs MultiPointForm none a = absurd none
+form_admits to d id precision member rs MultiLineForm lists a = a
+form_admits to d id precision member rs MultiPolygonForm lists a = a
+
+pub line_admits : (h : Head) (b : Body) (to : Point) (rs : List Row) (lefts : Lefts) → b.spot ≡ Y lefts → HasLists (form_of b.form) → Admits (change_by to h b) rs → Admits (NewPoint to) rs
+line_admits h b to rs lefts here lists may =
+    let member = first_id (ids_of b.names) in
+    form_admits to h.depth h.id h.precision member rs (form_of b.form) lists (subst (λ (s : Spot). Admits (spot_change to h.depth h.id h.precision (form_of b.form) member (spot_of s)) rs) here may)
 
 -- ---- a point of a list
 

@@ -1,13 +1,13 @@
 -- Bodies and ids that are read on in front of bytes, or for which there is no memory.
 use Rattle.std.specs.Prelude.{◌≡◌, ◌+◌, ◌≤◌, ⊤, ℕ, ℤ, List, [], ◌∷◌, ◌++◌, length, take, Result, Ok, Err}
 use Rattle.twkb_points.specs.Point.{Point}
-use Rattle.twkb_tree.specs.Limits.{Allowance}
+use Rattle.twkb_tree.specs.Limits.{Allowance, IsAllowance}
 use Rattle.twkb_tree.specs.Rows.{Row}
 use Rattle.twkb_grammar.specs.Machine.{Form, PointForm, MultiPointForm, Many, Sums}
 use Rattle.twkb_grammar.specs.Noting.{Notes}
 use Rattle.twkb_outline.specs.Outline.{Group, Step, OnId, listing, next_ids}
 use Rattle.twkb_outline.specs.Growing.{id_in}
-use Rattle.twkb_outline.specs.Reading.{sums_past}
+use Rattle.twkb_outline.specs.Reading.{Outlined, sums_past}
 use Rattle.twkb_outline.specs.Noting.{NotedOutline}
 use Rattle.twkb_outline.specs.Parts.{PartIn, IsPastEnds}
 use Rattle.twkb_body.specs.Body.{head_of, form_of, lefts_of, IsHeadAt}
@@ -97,3 +97,18 @@ TakesRow rs from bytes most (Err e) more = ListStops rs from most bytes
 -- the body where it wants this next
 abbrev pub at_spot : Body → Spot → Body
 at_spot b s = record { form = b.form; names = b.names; spot = s }
+
+-- after some bytes this is wanted, from this position on, in a geometry with this header
+pub record IsWanted (h : Head) (s : Step) (rs : List Row) (from : Point) : Type 0 where
+  pub limits : Allowance
+  pub allowed : IsAllowance limits
+  pub front : List ℕ
+  pub sums : Sums
+  pub groups : List Group
+  pub position : sums.position ≡ from
+  pub outlined : Outlined limits front sums (groups, s) rs
+  pub placed : IsHeadAt (length groups) (id_in groups) h
+
+-- some reader wants it there: which one, and after which bytes, is not said
+abbrev pub MayBeWanted : Head → Step → List Row → Point → Type 0
+MayBeWanted h s rs from = ∥ IsWanted h s rs from ∥₁

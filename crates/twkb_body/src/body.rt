@@ -7,6 +7,7 @@ ghost use Rattle.twkb_grammar.specs.Machine.{depth_of};
 ghost use Rattle.twkb_outline.specs.Outline.{spot_after, OnEnd};
 ghost use Rattle.twkb_outline.specs.Growing.{applied, Nothing};
 ghost use Rattle.twkb_outline.specs.Reading.{SpotFits};
+ghost use Rattle.twkb_outline.specs.Admitting.{Admits};
 ghost use Rattle.twkb_body.specs.Body.{form_of, spot_of, after_of, ids_at};
 ghost use Rattle.twkb_body.specs.Names.{ids_of};
 
@@ -75,6 +76,7 @@ impl Body {
     /// Keeps the row or the point that the next number brings, which leads to this position, in a geometry of this header. Takes memory.
     #[inline(always)]
     pub fn keep(&self, flat: &mut Flat, head: Head, position: Pt) -> Result<(), AllocError>
+        requires { Admits (change_by position head self.now) flat.old }
         ensures { OnOk result (flat.new ≡ applied (change_by position head self.now) flat.old) }
     {
         let member = self.names.next();
@@ -96,6 +98,7 @@ impl Body {
         number: u64,
         position: Pt,
     ) -> Result<bool, AllocError>
+        requires { Admits (change_by position head self.old) flat.old }
         ensures { TakesNumber head number position self.old flat.old result self.new flat.new }
     {
         if self.take_x() {
@@ -131,13 +134,14 @@ impl Body {
     /// tell; answers whether it did, and else changes nothing. The point takes memory.
     #[inline(always)]
     pub fn take_y(&mut self, flat: &mut Flat, position: Pt) -> Result<bool, AllocError>
+        requires { (head : place.Head) × Admits (change_by position head self.old) flat.old }
         ensures goes_on { (head : place.Head) (number : ℕ) → GoesOn head number position self.old flat.old result self.new flat.new }
         ensures same { result ≡ Ok false → (self.new ≡ self.old) × (flat.new ≡ flat.old) }
     {
         let Spot::Y(lefts) = self.spot else {
             return Ok(false);
         };
-        if !has_lists(self.form) || !flat.takes_point() {
+        if !has_lists(self.form) {
             return Ok(false);
         }
         let after = shut_point(lefts);

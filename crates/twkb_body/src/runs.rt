@@ -137,7 +137,7 @@ fn take_row(flat: &mut Flat, from: Pt, bytes: &[u8], most: u64) -> Result<(Taken
 
 impl Body {
     ghost use Rattle.twkb_body.specs.Steps.{HasRun, step_in};
-    ghost use Rattle.twkb_body.specs.Running.{TakesPoints, rest_in};
+    ghost use Rattle.twkb_body.specs.Running.{TakesPoints, MayBeWanted, rest_in};
     ghost use Rattle.twkb_body.specs.declared.form.Form.TheVariants.{MultiPoint};
 
     // Takes the first member of a multipoint, if others are behind it and it stands whole in front. Takes memory.
@@ -149,7 +149,8 @@ impl Body {
         from: Pt,
         bytes: &[u8],
     ) -> Result<Taken, AllocError>
-        requires { self.old.form ≡ MultiPoint }
+        requires multi { self.old.form ≡ MultiPoint }
+        requires wanted { MayBeWanted head (step_in head self.old) flat.old from }
         ensures { TakesPoints head self.old flat.old from bytes.now result self.new flat.new }
     {
         let Spot::X(Lefts::One(left)) = self.spot else {
@@ -178,7 +179,8 @@ impl Body {
         from: Pt,
         bytes: &[u8],
     ) -> Result<Taken, AllocError>
-        requires { self.old.form ≡ MultiPoint }
+        requires multi { self.old.form ≡ MultiPoint }
+        requires wanted { MayBeWanted head (step_in head self.old) flat.old from }
         ensures { TakesPoints head self.old flat.old from bytes.now result self.new flat.new }
     {
         let Spot::X(Lefts::One(most)) = self.spot else {
@@ -239,6 +241,7 @@ impl Body {
         from: Pt,
         bytes: &[u8],
     ) -> Result<Taken, AllocError>
+        requires { MayBeWanted head (step_in head self.old) flat.old from }
         ensures { TakesPoints head self.old flat.old from bytes.now result self.new flat.new }
     {
         if self.form == Form::MultiPoint {

@@ -1,8 +1,11 @@
 //! The rows of a body in a flat form.
 ghost use Rattle.std.specs.Prelude.{◌≡◌, ◌++◌, ◌∷◌, [], OnOk, OnErr};
 ghost use Rattle.twkb_tree.specs.Rows.{plain_row};
+ghost use Rattle.twkb_tree.specs.Limits.{largest_limits};
+ghost use Rattle.twkb_tree.specs.Accepted.{Continues};
 ghost use Rattle.twkb_flat.specs.Rows.{row_with};
 ghost use Rattle.twkb_outline.specs.Growing.{applied, point_change, list_row, own_of, row_kind};
+ghost use Rattle.twkb_outline.specs.Admitting.{Admits};
 ghost use Rattle.twkb_body.specs.Body.{form_of, kind_of};
 
 use crate::form::{Form, GeometryType};
@@ -12,41 +15,29 @@ use twkb_flat::{Flat, Row};
 use twkb_points::Pt;
 use twkb_tree::Kind;
 
-// Appends a row with these points, if it goes on with the rows: wherever a reader stands it does. Takes memory; an `Err` changes
-// nothing.
-#[inline(always)]
-fn push_with(flat: &mut Flat, row: Row, points: &[Pt]) -> Result<(), AllocError>
-    ensures pushed { OnOk result (flat.new ≡ flat.old ++ row_with row points.now ∷ []) }
-    ensures same { OnErr result (flat.new ≡ flat.old) }
-{
-    if !flat.admits(&row, points) {
-        return Err(AllocError);
-    }
-    flat.push(row, points)
-}
-
-/// Appends a row without points, if it goes on with the rows: wherever a reader stands it does. Takes memory; an `Err` changes
-/// nothing.
-// A frame of its own for the test and the push of a row, which are large.
+/// Appends a row without points, which continues the rows. Takes memory; an `Err` changes nothing.
+// A frame of its own for the push of a row, which is large.
 #[inline(never)]
 pub fn push_row(flat: &mut Flat, row: Row) -> Result<(), AllocError>
+    requires { Continues largest_limits flat.old (row_with row []) }
     ensures pushed { OnOk result (flat.new ≡ flat.old ++ row_with row [] ∷ []) }
     ensures same { OnErr result (flat.new ≡ flat.old) }
 {
-    push_with(flat, row, &[])
+    flat.push(row, &[])
 }
 
-// The same of a row with one point.
+// Appends a row with one point, which continues the rows. Takes memory; an `Err` changes nothing.
 #[inline(never)]
 fn push_point(flat: &mut Flat, row: Row, point: Pt) -> Result<(), AllocError>
+    requires { Continues largest_limits flat.old (row_with row (point ∷ [])) }
     ensures pushed { OnOk result (flat.new ≡ flat.old ++ row_with row (point ∷ []) ∷ []) }
     ensures same { OnErr result (flat.new ≡ flat.old) }
 {
-    push_with(flat, row, &[point])
+    flat.push(row, &[point])
 }
 
-// Puts a point that was read: as a row of its own, or behind those of the last row, if the rows take it: wherever a reader stands
-// they do. Takes memory; an `Err` changes nothing.
+// Puts a point that was read: as a row of its own, or after the points of the last row. The rows take it. Takes memory; an `Err` changes
+// nothing.
 #[inline(always)]
 pub(crate) fn put_point(
     flat: &mut Flat,
@@ -55,6 +46,7 @@ pub(crate) fn put_point(
     member: Option<i64>,
     point: Pt,
 ) -> Result<(), AllocError>
+    requires { Admits (point_change point head.depth head.id head.precision (form_of form) member) flat.old }
     ensures put { OnOk result (flat.new ≡ applied (point_change point head.depth head.id head.precision (form_of form) member) flat.old) }
     ensures same { OnErr result (flat.new ≡ flat.old) }
 {
@@ -77,12 +69,7 @@ pub(crate) fn put_point(
             };
             push_point(flat, row, point)
         }
-        _ => {
-            if !flat.takes_point() {
-                return Err(AllocError);
-            }
-            flat.add_point(point)
-        }
+        _ => flat.add_point(point),
     }
 }
 

@@ -23,7 +23,7 @@ use Rattle.twkb_engine.specs.declared.phase.Group.{Group}
 use Rattle.twkb_engine.specs.declared.builder.Builder.{Builder}
 
 -- where a reader stands the builder does whose fields say so
-pub stands_there : (c : Builder) (limits : Allowance) (bytes : List ℕ) (e : Sums) (o : Outline) (rs more : List Row) (told : ℕ → Notes) → NotedOutline limits bytes e o rs told → c.limits ≡ limits → sums_of c ≡ e → outline_in c ≡ o → more ≡ rs → IsPlacedIn c.groups.items c.phase
+pub stands_there : (c : Builder) (limits : Allowance) (bytes : List ℕ) (e : Sums) (o : Outline) (rs more : List Row) (told : ℕ → Notes) → NotedOutline limits bytes e o rs told → c.limits ≡ limits → sums_of c ≡ e → outline_in c ≡ o → more ≡ rs → IsPlacedIn c.groups c.phase
     → (t : StandsBehind bytes more c) × ((start : ℕ) → notes_in start t.outlined ≡ told start)
 stands_there c limits bytes e o rs more told there limit sums step grown placed =
     let summed = subst (λ s. NotedOutline limits bytes s o rs told) (sym sums) there in
@@ -38,14 +38,14 @@ noted_here b front rs s = record { outlined = s.outlined; notes = λ start. refl
 
 module _ (b : Builder) (rs : List Row) (rest : List ℕ) where
   -- no bytes led it nowhere
-  pub runs_none : (c : Builder) → c.limits ≡ b.limits → c.groups.items ≡ b.groups.items → c.phase ≡ b.phase → sums_of c ≡ sums_of b → RunsBy b rs rest 0 c rs
+  pub runs_none : (c : Builder) → c.limits ≡ b.limits → c.groups ≡ b.groups → c.phase ≡ b.phase → sums_of c ≡ sums_of b → RunsBy b rs rest 0 c rs
   runs_none c limits groups phase sums = record {
     limits = limits;
     within = omega arith;
     bytes = omega (arith, ap (λ (e : Sums). e.bytes) sums);
     led = λ front s.
         stands_there c b.limits (front ++ []) (sums_of b) (outline_in b) rs rs (λ start. notes_in start s.outlined) (subst (λ l. NotedOutline b.limits l (sums_of b) (outline_in b) rs (λ start. notes_in start s.outlined)) (sym (append-nil front)) (noted_here b front rs s)) limits sums
-        (λ t. (groups_of (groups t), step_of (phase t))) refl (subst (λ p. IsPlacedIn c.groups.items p) (sym phase) (subst (λ gs. IsPlacedIn gs b.phase) (sym groups) s.placed));
+        (λ t. (groups_of (groups t), step_of (phase t))) refl (subst (λ p. IsPlacedIn c.groups p) (sym phase) (subst (λ gs. IsPlacedIn gs b.phase) (sym groups) s.placed));
   }
 
   -- nor where nothing was changed
@@ -62,15 +62,15 @@ module _ (b : Builder) (rs : List Row) (rest : List ℕ) where
 
   -- what is wanted in a geometry whose header stands by
   module _ (p : Phase) (h : place.Head) (is : b.phase ≡ p) (by : (gs : List Group) → IsPlacedIn gs p → IsHeadAt (length (groups_of gs)) (id_in (groups_of gs)) h) where
-    wanted_here : (front : List ℕ) (s : StandsBehind front rs b) → WantedIn b.limits front (sums_of b) (groups_of b.groups.items) (λ start. notes_in start s.outlined) h (step_of p) rs
+    wanted_here : (front : List ℕ) (s : StandsBehind front rs b) → WantedIn b.limits front (sums_of b) (groups_of b.groups) (λ start. notes_in start s.outlined) h (step_of p) rs
     wanted_here front s = record {
-      outlined = subst (λ q. NotedOutline b.limits front (sums_of b) (groups_of b.groups.items, step_of q) rs (λ start. notes_in start s.outlined)) is (noted_here b front rs s);
-      placed = by b.groups.items (subst (IsPlacedIn b.groups.items) is s.placed);
+      outlined = subst (λ q. NotedOutline b.limits front (sums_of b) (groups_of b.groups, step_of q) rs (λ start. notes_in start s.outlined)) is (noted_here b front rs s);
+      placed = by b.groups (subst (IsPlacedIn b.groups) is s.placed);
     }
 
     -- bytes that announce nothing led it on
     pub step_runs : (c : Builder) (q : Phase) (more : List Row) (used : ℕ) (to : Point) → used ≤ length rest → StepRuns h (step_of p) rs b.position (take used rest) (step_of q) more to → c.phase ≡ q
-        → ((gs : List Group) → IsHeadAt (length (groups_of gs)) (id_in (groups_of gs)) h → IsPlacedIn gs q) → c.limits ≡ b.limits → c.groups.items ≡ b.groups.items
+        → ((gs : List Group) → IsHeadAt (length (groups_of gs)) (id_in (groups_of gs)) h → IsPlacedIn gs q) → c.limits ≡ b.limits → c.groups ≡ b.groups
         → sums_of c ≡ record { bytes = b.bytes + used; position = to; nodes = b.nodes; points = b.points } → RunsBy b rs rest used c more
     step_runs c q more used to within run goes at limits groups sums =
         let size : length (take used rest) ≡ used = omega (arith, length-take used rest, within) in
@@ -82,17 +82,17 @@ module _ (b : Builder) (rs : List Row) (rest : List ℕ) where
           led = λ front s.
               let there = wanted_here front s in
               let told : ℕ → Notes = λ start. notes_in start s.outlined in
-              let placed = subst (λ gs. IsPlacedIn gs q) (sym groups) (at b.groups.items there.placed) in
-              stands_there c b.limits (front ++ take used rest) (summed (length (take used rest))) (groups_of b.groups.items, step_of q) more more told (run b.limits (sums_of b) front (groups_of b.groups.items) told refl there) limits (sums ∙ ap summed (sym size))
-              (λ t. (groups_of (groups t), step_of (goes t))) refl (subst (IsPlacedIn c.groups.items) (sym goes) placed);
+              let placed = subst (λ gs. IsPlacedIn gs q) (sym groups) (at b.groups there.placed) in
+              stands_there c b.limits (front ++ take used rest) (summed (length (take used rest))) (groups_of b.groups, step_of q) more more told (run b.limits (sums_of b) front (groups_of b.groups) told refl there) limits (sums ∙ ap summed (sym size))
+              (λ t. (groups_of (groups t), step_of (goes t))) refl (subst (IsPlacedIn c.groups) (sym goes) placed);
         }
 
     -- there is no memory for one of them
     pub step_stops : StepStops h (step_of p) rs b.position rest → StopsBehind b rs rest
-    step_stops stops = λ front s. stops b.limits (sums_of b) front (groups_of b.groups.items) (λ start. notes_in start s.outlined) refl (wanted_here front s)
+    step_stops stops = λ front s. stops b.limits (sums_of b) front (groups_of b.groups) (λ start. notes_in start s.outlined) refl (wanted_here front s)
 
 -- no bytes of a header led it nowhere
-pub header_none : (b c : Builder) (rest : List ℕ) → c.limits ≡ b.limits → c.groups.items ≡ b.groups.items → c.phase ≡ b.phase → sums_of c ≡ sums_of b → HeaderLeads b rest 0 c
+pub header_none : (b c : Builder) (rest : List ℕ) → c.limits ≡ b.limits → c.groups ≡ b.groups → c.phase ≡ b.phase → sums_of c ≡ sums_of b → HeaderLeads b rest 0 c
 header_none b c rest limits groups phase sums = record { limits = limits; within = omega arith; bytes = omega (arith, ap (λ (e : Sums). e.bytes) sums); led = λ rs. (runs_none b rs rest c limits groups phase sums).led }
 
 -- some bytes led it on, and then others

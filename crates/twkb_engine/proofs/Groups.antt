@@ -1,7 +1,10 @@
 -- Members that begin, and the ends of geometries in collections.
-use Rattle.std.proofs.Common.{◌≡◌, ℕ, zero, suc, ◌+◌, ◌-◌, ◌<◌, List, [], ◌∷◌, ◌++◌, length, take, get_or, true, refl, sym, ap, ◌∙◌, arith}
-use Rattle.std.proofs.Math.Seq.{take-append_seam}
-use Rattle.std.proofs.lemmas.List.{length-take-le}
+use Rattle.std.proofs.Common.{◌≡◌, ℕ, zero, suc, ◌+◌, ◌-◌, ◌<◌, ◌≤◌, List, [], ◌∷◌, ◌++◌, length, take, set, get_or, true, refl, sym, ap, ◌∙◌, arith}
+use Rattle.std.proofs.Math.Seq.{take-suc}
+use Rattle.std.proofs.lemmas.List.{length-take-le, length-set, take-set, get_or-take}
+use Rattle.std.proofs.lemmas.Grind.{take-set_at}
+use Rattle.smallvec.specs.SmallVec.{SmallVec, with_items}
+use Rattle.smallvec.proofs.SmallVecLemmas.{items-with_items}
 use Rattle.std.specs.Prelude.{Ok}
 use Rattle.twkb_tree.specs.Rows.{first_id, other_ids}
 use Rattle.twkb_grammar.specs.Machine as machine
@@ -24,29 +27,22 @@ pub groups_length : (below : List outline.Group) (gs : List Group) → length (g
 groups_length below [] = omega arith
 groups_length below (g ∷ gs) = omega (arith, groups_length (group_of g ∷ below) gs)
 
--- those before the last, whatever that is
-pub front_of_last : (gs : List Group) (i : ℕ) (g : Group) → i + 1 ≡ length gs → take i (take i gs ++ g ∷ []) ≡ take i gs
-front_of_last gs i g at =
-    let front : List Group = take i gs in
-    let long : length front ≡ i = length-take-le i gs (omega (arith, at)) in
-    ap (λ n. take n (front ++ g ∷ [])) (sym long) ∙ take-append_seam front (g ∷ [])
-
 -- the first member of a collection begins
 pub collection_begun : (items gs : List Group) (g : Group) → items ≡ gs ++ g ∷ [] → (groups_of items, OnHeader) ≡ members_open ManyGeometries (head_of g.head) (groups_of gs) (ids_of g.names) (suc g.left)
 collection_begun items gs g e = rw (e, groups_pushed [] gs g) refl
 
 -- the end of a member that others follow
-pub going_on : (bytes : ℕ) (h : machine.Head) (old rest items : List Group) (f k : Group) → exact h.size (bytes - h.from) ≡ true → old ≡ rest ++ f ∷ [] → items ≡ rest ++ k ∷ []
+pub going_on : (bytes : ℕ) (old rest items : List Group) (f k : Group) → old ≡ rest ++ f ∷ [] → items ≡ rest ++ k ∷ []
     → 0 < f.left → k.left ≡ f.left - 1 → head_of k.head ≡ head_of f.head → ids_of k.names ≡ other_ids (ids_of f.names)
-    → outline_past_end (exact h.size (bytes - h.from)) bytes (groups_of old) ≡ Ok (groups_of items, OnHeader)
-going_on bytes h old rest items f k x o i z l hd ids =
+    → outline_past_end true bytes (groups_of old) ≡ Ok (groups_of items, OnHeader)
+going_on bytes old rest items f k o i z l hd ids =
     let one : f.left ≡ suc k.left = omega (arith, z, l) in
-    rw (x, o, i, groups_pushed [] rest f, groups_pushed [] rest k, one, hd, ids) refl
+    rw (o, i, groups_pushed [] rest f, groups_pushed [] rest k, one, hd, ids) refl
 
 -- the end of the last member is followed by that of its collection
-pub going_up : (bytes : ℕ) (h : machine.Head) (old rest : List Group) (f : Group) (up : machine.Head) → exact h.size (bytes - h.from) ≡ true → old ≡ rest ++ f ∷ [] → f.left ≡ 0
-    → up ≡ head_of f.head → outline_past_end (exact up.size (bytes - up.from)) bytes (groups_of rest) ≡ outline_past_end (exact h.size (bytes - h.from)) bytes (groups_of old)
-going_up bytes h old rest f up x o z u = rw (x, o, groups_pushed [] rest f, z, u) refl
+pub going_up : (bytes : ℕ) (old rest : List Group) (f : Group) (up : machine.Head) → old ≡ rest ++ f ∷ [] → f.left ≡ 0
+    → up ≡ head_of f.head → outline_past_end (exact up.size (bytes - up.from)) bytes (groups_of rest) ≡ outline_past_end true bytes (groups_of old)
+going_up bytes old rest f up o z u = rw (o, groups_pushed [] rest f, z, u) refl
 
 -- ---- where the geometry stands that is read
 
@@ -57,3 +53,57 @@ last_id below (g ∷ []) zero d at = refl
 last_id below (g ∷ []) (suc i) d at = absurd (omega arith)
 last_id below (g ∷ f ∷ gs) zero d at = absurd (omega arith)
 last_id below (g ∷ f ∷ gs) (suc i) d at = last_id (group_of g ∷ below) (f ∷ gs) i d (omega arith)
+
+-- ---- a collection that ends, or whose member does, in the places of all
+
+-- how many are open
+many : (items now : List Group) (n : ℕ) → n ≤ length items → now ≡ take n items → 0 < length now → 0 < n
+many items now n le is some = omega (arith, some, ap length is, length-take-le n items le)
+
+-- the innermost comes after the others
+innermost : (items now : List Group) (n : ℕ) (d : Group) → n ≤ length items → now ≡ take n items → 0 < n → now ≡ take (n - 1) items ++ get_or items (n - 1) d ∷ []
+innermost items now n d le is some =
+    let one : n ≡ suc (n - 1) = omega (arith, some) in
+    is ∙ (ap (λ k. take k items) one ∙ take-suc items (n - 1) d (omega (arith, le, some)))
+
+-- another takes the place of the innermost
+replaced : (places : SmallVec Group) (m : List Group) (n : ℕ) (k : Group) → m ≡ places.items → n ≤ length places.items → 0 < n
+    → take n (with_items places (set m (n - 1) k)).items ≡ take (n - 1) places.items ++ k ∷ []
+replaced places m n k same le some =
+    ap (take n) (items-with_items places (set m (n - 1) k) (length-set m (n - 1) k ∙ ap length same))
+    ∙ (take-set_at m (n - 1) n k (omega (arith, some)) (omega (arith, le, some, ap length same)) ∙ ap (λ (xs : List Group). take (n - 1) xs ++ k ∷ []) same)
+
+-- a member ends that others follow
+pub member_goes_on : (bytes : ℕ) (places : SmallVec Group) (m now : List Group) (n : ℕ) (d k : Group) → m ≡ places.items → n ≤ length places.items → now ≡ take n places.items → 0 < length now
+    → 0 < (get_or m (n - 1) d).left → k.left ≡ (get_or m (n - 1) d).left - 1 → head_of k.head ≡ head_of (get_or m (n - 1) d).head
+    → ids_of k.names ≡ other_ids (ids_of (get_or m (n - 1) d).names)
+    → outline_past_end true bytes (groups_of now) ≡ Ok (groups_of (take n (with_items places (set m (n - 1) k)).items), OnHeader)
+member_goes_on bytes places m now n d k same le is some z l hd ids =
+    let items = places.items in
+    let more : 0 < n = many items now n le is some in
+    let stood : now ≡ take (n - 1) items ++ get_or m (n - 1) d ∷ [] = innermost items now n d le is more ∙ ap (λ (xs : List Group). take (n - 1) items ++ get_or xs (n - 1) d ∷ []) (sym same) in
+    going_on bytes now (take (n - 1) items) _ (get_or m (n - 1) d) k stood (replaced places m n k same le more) z l hd ids
+
+-- the last member ends
+pub member_goes_up : (bytes : ℕ) (places : SmallVec Group) (m now : List Group) (n : ℕ) (d k : Group) → m ≡ places.items → n ≤ length places.items → now ≡ take n places.items → 0 < length now
+    → (get_or m (n - 1) d).left ≤ 0
+    → outline_past_end (exact (get_or m (n - 1) d).head.size (bytes - (get_or m (n - 1) d).head.from)) bytes (groups_of (take (n - 1) (with_items places (set m (n - 1) k)).items))
+    ≡ outline_past_end true bytes (groups_of now)
+member_goes_up bytes places m now n d k same le is some z =
+    let items = places.items in
+    let more : 0 < n = many items now n le is some in
+    let stood : now ≡ take (n - 1) items ++ get_or m (n - 1) d ∷ [] = innermost items now n d le is more ∙ ap (λ (xs : List Group). take (n - 1) items ++ get_or xs (n - 1) d ∷ []) (sym same) in
+    let f = get_or m (n - 1) d in
+    let left_are : take (n - 1) (with_items places (set m (n - 1) k)).items ≡ take (n - 1) items =
+    ap (take (n - 1)) (items-with_items places (set m (n - 1) k) (length-set m (n - 1) k ∙ ap length same)) ∙ (take-set m (n - 1) k ∙ ap (take (n - 1)) same) in
+    ap (λ (gs : List Group). outline_past_end (exact f.head.size (bytes - f.head.from)) bytes (groups_of gs)) left_are
+    ∙ going_up bytes now (take (n - 1) items) f (head_of f.head) stood (omega (arith, z)) refl
+
+-- the id of the open member of the innermost
+pub innermost_id : (items m now : List Group) (n : ℕ) (d : Group) → m ≡ items → n ≤ length items → now ≡ take n items → 0 < n
+    → first_id (ids_of (get_or m (n - 1) d).names) ≡ id_in (groups_of now)
+innermost_id items m now n d same le is some =
+    let at : (n - 1) + 1 ≡ length (take n items) = omega (arith, some, length-take-le n items le) in
+    ap (λ (xs : List Group). first_id (ids_of (get_or xs (n - 1) d).names)) same
+    ∙ (ap (λ (g : Group). first_id (ids_of g.names)) (sym (get_or-take n items (n - 1) d (omega (arith, some))))
+    ∙ (sym (last_id [] (take n items) (n - 1) d at) ∙ ap (λ (gs : List Group). id_in (groups_of gs)) (sym is)))

@@ -5,3 +5,4 @@ pub mod Feeding
 pub mod Taking
 pub mod Stepping
 pub mod Ahead
+pub mod Admitting

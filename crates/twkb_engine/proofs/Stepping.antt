@@ -42,7 +42,7 @@ all_whole bytes rs d none s = s.whole ∙ (ap (λ l. s.front ++ l) none ∙ appe
 pub standing_judged : (bytes : List ℕ) (rs : List Row) (d : Engine) → held_in d ≡ [] → StandsAt bytes rs d → IsJudged (allowance_of d) bytes
 standing_judged bytes rs d none s =
     let b = d.builder in
-    let level = length (groups_of b.groups.items) in
+    let level = length (groups_of b.groups) in
     let r = has_role level b.bytes b.phase b.waits in
     subst (IsJudged b.limits) (sym (all_whole bytes rs d none s)) (record {
       part = outlined_part b.limits s.front (sums_of b) (outline_in b) rs s.outlined;
@@ -93,10 +93,10 @@ led_and_run bs rest led used rs more d e c none by run s = subst (λ l. StandsAt
 
 -- an item behind whole items
 item_led : (bs all bytes : List ℕ) (n len : ℕ) (rs more : List Row) (d e : Engine) (r : Result Bool Stop) (s : StandsAt bs rs d) → s.front ++ bytes ≡ all → length bytes ≡ len → held_in e ≡ [] → Takes d.builder n len rs r more e.builder
-    → (let b = d.builder in Gives (has_role (length (groups_of b.groups.items)) b.bytes b.phase b.waits).0 n bytes) → IsStep (allowance_of d) all r more e
+    → (let b = d.builder in Gives (has_role (length (groups_of b.groups)) b.bytes b.phase b.waits).0 n bytes) → IsStep (allowance_of d) all r more e
 item_led bs all bytes n len rs more d e r s at size none takes gives =
     let b = d.builder in
-    let role = has_role (length (groups_of b.groups.items)) b.bytes b.phase b.waits in
+    let role = has_role (length (groups_of b.groups)) b.bytes b.phase b.waits in
     subst (λ l. IsStep (allowance_of d) l r more e) at (stepped (allowance_of d) (s.front ++ bytes) r more e none (takes s.front bytes role.0 (before_item bs rs d s) role.1 gives size))
 
 -- an item that stands whole in front
@@ -104,7 +104,7 @@ pub item_stepped : (bs rest : List ℕ) (n count : ℕ) (rs more : List Row) (d 
     → IsStep (allowance_of d) (bs ++ take count rest) r more (record { builder = c; partial = d.partial })
 item_stepped bs rest n count rs more d c r f takes s =
     let b = d.builder in
-    let role = has_role (length (groups_of b.groups.items)) b.bytes b.phase b.waits in
+    let role = has_role (length (groups_of b.groups)) b.bytes b.phase b.waits in
     let size : length (take count rest) ≡ count = let within = f.item.within in omega (arith, length-take count rest, within) in
     item_led bs (bs ++ take count rest) (take count rest) n count rs more d (record { builder = c; partial = d.partial }) r s (ap (λ l. l ++ take count rest) (sym (all_whole bs rs d f.alone s))) size f.alone takes (f.item.gives role.0 role.1)
 
@@ -115,7 +115,7 @@ byte_stepped bs u rs more d e r s is_byte low same takes =
     let b = d.builder in
     let none = byte_alone b.phase is_byte s.spelled in
     let at : s.front ++ u ∷ [] ≡ bs ++ u ∷ [] = ap (λ l. l ++ u ∷ []) (sym (all_whole bs rs d none s)) in
-    item_led bs (bs ++ u ∷ []) (u ∷ []) u 1 rs more d e r s at (omega arith) (same ∙ none) takes (byte_written (length (groups_of b.groups.items)) b.bytes b.phase b.waits u low is_byte)
+    item_led bs (bs ++ u ∷ []) (u ∷ []) u 1 rs more d e r s at (omega arith) (same ∙ none) takes (byte_written (length (groups_of b.groups)) b.bytes b.phase b.waits u low is_byte)
 
 -- a byte of a header that led on by itself
 pub header_stepped : (bs : List ℕ) (u used : ℕ) (rs : List Row) (e : Engine) → 0 < used → used ≤ length (u ∷ []) → StandsAt (bs ++ take used (u ∷ [])) rs e → StandsAt (bs ++ u ∷ []) rs e
@@ -128,7 +128,7 @@ number_stepped bs u value rs more d e r s spelled v none takes =
     let b = d.builder in
     let whole : List ℕ = held_in d ++ u ∷ [] in
     let at : s.front ++ whole ≡ bs ++ u ∷ [] = sym (ap (λ l. l ++ u ∷ []) s.whole ∙ append_assoc s.front (held_in d) (u ∷ [])) in
-    item_led bs (bs ++ u ∷ []) whole value (length (held_in d) + 1) rs more d e r s at (length-append (held_in d) (u ∷ [])) none takes (number_written (length (groups_of b.groups.items)) b.bytes b.phase b.waits value whole v spelled)
+    item_led bs (bs ++ u ∷ []) whole value (length (held_in d) + 1) rs more d e r s at (length-append (held_in d) (u ∷ [])) none takes (number_written (length (groups_of b.groups)) b.bytes b.phase b.waits value whole v spelled)
 
 -- a byte more is held of a number
 pub held_more : (bs : List ℕ) (u : ℕ) (rs : List Row) (d : Engine) (p : List ℕ) → IsSpelled d.builder.phase → p ≡ held_in d ++ u ∷ [] → StandsAt bs rs d → StandsAt (bs ++ u ∷ []) rs (record { builder = d.builder; partial = p })
@@ -150,7 +150,7 @@ pub long_refused : (bs more : List ℕ) (u : ℕ) (rs : List Row) (d : Engine) �
     → FirstFault (allowance_of d) ((bs ++ u ∷ []) ++ more) (offset_in d) BadVarint
 long_refused bs more u rs d s spelled begun nine above =
     let b = d.builder in
-    let level = length (groups_of b.groups.items) in
+    let level = length (groups_of b.groups) in
     let role = has_role level b.bytes b.phase b.waits in
     subst (λ l. FirstFault b.limits l b.bytes BadVarint) (held_bytes bs s.front (held_in d) more u s.whole)
     (outlined_long b.limits s.front (sums_of b) (outline_in b) rs (held_in d ++ u ∷ more) role.0 s.outlined role.1 (is_number level b.bytes b.phase b.waits spelled) (record { nine = held_in d; tenth = u; more = more; whole = refl; length = nine; go_on = begun.high; above = above }))

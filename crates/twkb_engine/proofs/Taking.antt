@@ -38,7 +38,7 @@ use Rattle.twkb_grammar.proofs.Objections.{kept}
 pub sums_fit : (b : Builder) (n nodes points : ℕ) → refusal b.limits (sums_of b) (outline_in b) n ≡ None → ((level bytes : ℕ) (r : Role) → step_role level bytes (step_of b.phase) ≡ Some r → nodes ≡ nodes_by r n)
     → ((level bytes : ℕ) (r : Role) → step_role level bytes (step_of b.phase) ≡ Some r → points ≡ points_by r n) → (b.nodes + nodes ≤ b.limits.nodes) × (b.points + points ≤ b.limits.points)
 sums_fit b n nodes points free some many =
-    let level = length (groups_of b.groups.items) in
+    let level = length (groups_of b.groups) in
     let r = has_role level b.bytes b.phase b.waits in
     let t = kept b.limits (sums_of b) r.0 n b.nodes_kept b.points_kept (subst (λ a. objection_at b.limits (sums_of b) n a ≡ None) r.1 free) in
     (subst (λ k. b.nodes + k ≤ b.limits.nodes) (sym (some level b.bytes r.0 r.1)) t.0, subst (λ k. b.points + k ≤ b.limits.points) (sym (many level b.bytes r.0 r.1)) t.1)
@@ -50,7 +50,7 @@ added_sums e i bytes position nodes points eb ep eo et = rw (eb, ep, eo, et) ref
 
 -- what the code did with the ends behind an item, where the laws say how it goes on
 pub landed : (limits : Allowance) (bytes : List ℕ) (e : Sums) (rs more : List Row) (way : Result Outline fault.Reason) (r : Result Bool Stop) (b : Builder) → b.limits ≡ limits
-    → OutlineLanded limits bytes e rs way → IsAt way e r b → OnOk r (more ≡ rs) → OnOk r (IsPlacedIn b.groups.items b.phase) → IsTaken limits bytes r more b
+    → OutlineLanded limits bytes e rs way → IsAt way e r b → OnOk r (more ≡ rs) → OnOk r (IsPlacedIn b.groups b.phase) → IsTaken limits bytes r more b
 landed limits bytes e rs more way (Ok false) b same l at grown placed =
     let a : Outlined limits bytes e (outline_in b) rs = subst (λ w. OutlineLanded limits bytes e rs w) at.0 l in
     let c : Outlined limits bytes (sums_of b) (outline_in b) rs = subst (λ s. Outlined limits bytes s (outline_in b) rs) (sym at.1) a in
@@ -75,7 +75,7 @@ item_reached limits front bytes e mid o rs role n s says gives free same =
 pub item_taken : (front bytes : List ℕ) (rs more : List Row) (b new : Builder) (mid : Sums) (role : Role) (n : ℕ) (r : Result Bool Stop) → StandsBehind front rs b
     → outline_role (sums_of b) (outline_in b) ≡ Some role → Gives role n bytes → refusal b.limits (sums_of b) (outline_in b) n ≡ None → mid ≡ added (sums_of b) (record { role = role; number = n; bytes = bytes })
     → new.limits ≡ b.limits → IsAt (outline_ends mid.bytes (outline_advanced mid.bytes n (outline_in b))) mid r new
-    → OnOk r (more ≡ applied (change_of mid.position n (outline_in b)) rs) → OnOk r (IsPlacedIn new.groups.items new.phase) → IsTaken b.limits (front ++ bytes) r more new
+    → OnOk r (more ≡ applied (change_of mid.position n (outline_in b)) rs) → OnOk r (IsPlacedIn new.groups new.phase) → IsTaken b.limits (front ++ bytes) r more new
 item_taken front bytes rs more b new mid role n r s says gives free same limits at grown placed =
     let o = outline_in b in
     let next = item_reached b.limits front bytes (sums_of b) mid o rs role n s.outlined says gives free same in
@@ -84,7 +84,7 @@ item_taken front bytes rs more b new mid role n r s says gives free same limits 
 
 -- where it leads on, with its notes
 led_on : (front bytes : List ℕ) (rs more : List Row) (b c : Builder) (role : Role) (n : ℕ) (told : ℕ → Notes) → (let i : Item = record { role = role; number = n; bytes = bytes } in NotedOutline b.limits (front ++ bytes) (added (sums_of b) i) (outline_after (sums_of b) i (outline_in b)) (applied (change_after (sums_of b) i (outline_in b)) rs) told)
-    → c.limits ≡ b.limits → sums_of c ≡ added (sums_of b) (record { role = role; number = n; bytes = bytes }) → outline_advanced c.bytes n (outline_in b) ≡ outline_in c → more ≡ applied (change_of c.position n (outline_in b)) rs → IsPlacedIn c.groups.items c.phase
+    → c.limits ≡ b.limits → sums_of c ≡ added (sums_of b) (record { role = role; number = n; bytes = bytes }) → outline_advanced c.bytes n (outline_in b) ≡ outline_in c → more ≡ applied (change_of c.position n (outline_in b)) rs → IsPlacedIn c.groups c.phase
     → (t : StandsBehind (front ++ bytes) more c) × ((start : ℕ) → notes_in start t.outlined ≡ told start)
 led_on front bytes rs more b c role n told next limits sums step grown placed =
     let o = outline_in b in
@@ -95,7 +95,7 @@ led_on front bytes rs more b c role n told next limits sums step grown placed =
 pub item_led : (front : List ℕ) (rs : List Row) (b c : Builder) (i : Item) (s : StandsBehind front rs b)
     → outline_role (sums_of b) (outline_in b) ≡ Some i.role → Gives i.role i.number i.bytes → refusal b.limits (sums_of b) (outline_in b) i.number ≡ None
     → c.limits ≡ b.limits → sums_of c ≡ added (sums_of b) i → outline_advanced c.bytes i.number (outline_in b) ≡ outline_in c
-    → change_of c.position i.number (outline_in b) ≡ Nothing → IsPlacedIn c.groups.items c.phase
+    → change_of c.position i.number (outline_in b) ≡ Nothing → IsPlacedIn c.groups c.phase
     → (t : StandsBehind (front ++ i.bytes) rs c) × ((start : ℕ) → notes_in start t.outlined ≡ noted_by start (sums_of b) i.role i.number (notes_in start s.outlined))
 item_led front rs b c i s says gives free limits sums step none placed =
     let free_here = subst (λ a. objection_at b.limits (sums_of b) i.number a ≡ None) says free in
@@ -109,7 +109,7 @@ module _ (b : Builder) (h : place.Head) (d : Body) (rs : List Row) (n : ℕ) (by
   role_here = (spot_item d.spot).0
 
   wanted : outline_role (sums_of b) (outline_in b) ≡ Some role_here
-  wanted = ap (λ q. step_role (length (groups_of b.groups.items)) b.bytes (step_of q)) is ∙ (spot_item d.spot).1
+  wanted = ap (λ q. step_role (length (groups_of b.groups)) b.bytes (step_of q)) is ∙ (spot_item d.spot).1
 
   -- it leads on, and notes nothing
   reached : (front : List ℕ) (s : StandsBehind front rs b) → (let i : Item = record { role = role_here; number = n; bytes = bytes } in NotedOutline b.limits (front ++ bytes) (added (sums_of b) i) (outline_after (sums_of b) i (outline_in b)) (applied (change_after (sums_of b) i (outline_in b)) rs) (λ start. notes_in start s.outlined))
@@ -119,7 +119,7 @@ module _ (b : Builder) (h : place.Head) (d : Body) (rs : List Row) (n : ℕ) (by
       record { outlined = next.outlined; notes = λ start. next.notes start ∙ quiet start (sums_of b) role_here n (told start) (number_quiet role_here (spot_item d.spot).2) }
 
   pub number_led : (c : Builder) (more : List Row) → c.limits ≡ b.limits → ((role : Role) → outline_role (sums_of b) (outline_in b) ≡ Some role → sums_of c ≡ added (sums_of b) (record { role = role; number = n; bytes = bytes }))
-      → (StepFits (step_of b.phase) → outline_advanced c.bytes n (outline_in b) ≡ outline_in c) → (IsPlacedIn b.groups.items b.phase → (more ≡ applied (change_of c.position n (outline_in b)) rs) × IsPlacedIn c.groups.items c.phase) → RunsBehind b rs bytes c more
+      → (StepFits (step_of b.phase) → outline_advanced c.bytes n (outline_in b) ≡ outline_in c) → (IsPlacedIn b.groups b.phase → (more ≡ applied (change_of c.position n (outline_in b)) rs) × IsPlacedIn c.groups c.phase) → RunsBehind b rs bytes c more
   number_led c more limits sums step placed = λ front s.
       let there = placed s.placed in
       led_on front bytes rs more b c role_here n (λ start. notes_in start s.outlined) (reached front s) limits (sums role_here wanted) (step (outlined_fits b.limits front (sums_of b) (outline_in b) rs s.outlined)) there.0 there.1
@@ -128,7 +128,7 @@ module _ (b : Builder) (h : place.Head) (d : Body) (rs : List Row) (n : ℕ) (by
   pub number_judged : (BodyFits d → IsPastEnds (step_behind h n d)) → (front : List ℕ) → StandsBehind front rs b → IsJudged b.limits (front ++ bytes)
   number_judged past front s =
       let fits = subst (λ q. StepFits (step_of q)) is (outlined_fits b.limits front (sums_of b) (outline_in b) rs s.outlined) in
-      outlined_judged b.limits (front ++ bytes) _ _ _ (reached front s).outlined (subst (λ q. IsPastEnds (outline_advanced (b.bytes + length bytes) n (groups_of b.groups.items, step_of q)).1) (sym is) (past fits))
+      outlined_judged b.limits (front ++ bytes) _ _ _ (reached front s).outlined (subst (λ q. IsPastEnds (outline_advanced (b.bytes + length bytes) n (groups_of b.groups, step_of q)).1) (sym is) (past fits))
 
 -- where there was one
 pub item_refused : (front bytes : List ℕ) (rs more : List Row) (b new : Builder) (role : Role) (n : ℕ) (x : BlobReason) → StandsBehind front rs b

@@ -51,9 +51,9 @@ pub record HasHeader (b : Builder) (rest : List ℕ) (kind : GeometryType) (head
   pub some : 0 < count
   pub within : count ≤ length rest
   pub few : points ≤ b.limits.points
-  pub placed : IsHeadAt (length (groups_of b.groups.items)) (id_in (groups_of b.groups.items)) head
+  pub placed : IsHeadAt (length (groups_of b.groups)) (id_in (groups_of b.groups)) head
   pub led : (front : List ℕ) (rs : List Row) (s : StandsBehind front rs b)
-      → NotedOutline b.limits (front ++ take count rest) (record { bytes = b.bytes + count; position = b.position; nodes = b.nodes; points = points }) (groups_of b.groups.items, begins (kind_of kind) (head_of head)) rs (λ start. note_next b (take count rest) start (notes_in start s.outlined))
+      → NotedOutline b.limits (front ++ take count rest) (record { bytes = b.bytes + count; position = b.position; nodes = b.nodes; points = points }) (groups_of b.groups, begins (kind_of kind) (head_of head)) rs (λ start. note_next b (take count rest) start (notes_in start s.outlined))
 
 -- items of headers: wherever it stood, it stands behind them with the same rows
 abbrev pub HeadersLead : Builder → List ℕ → ℕ → Builder → Type 0

@@ -8,12 +8,16 @@ use Rattle.twkb_grammar.specs.Roles.{Role}
 use Rattle.twkb_grammar.specs.Reading.{Gives}
 use Rattle.twkb_grammar.specs.Machine.{Sums, added}
 use Rattle.twkb_outline.specs.Outline.{Outline, OnFinished, outline_role}
+use Rattle.twkb_outline.specs.Growing.{change_of}
 use Rattle.twkb_outline.specs.Reading.{Outlined}
-use Rattle.twkb_engine.specs.State.{groups_of, step_of, IsPlacedIn, IsSpelled}
+use Rattle.twkb_outline.specs.Admitting.{Admits}
+use Rattle.twkb_engine.specs.State.{groups_of, step_of, depth_cap, IsPlacedIn, IsSpelled}
 use Rattle.twkb_outline.specs.Parts.{IsJudged, Passes}
 use Rattle.twkb_engine.specs.Stops.{reason_of}
 use Rattle.twkb_engine.specs.declared.stop.Stop.{Stop}
 use Rattle.twkb_engine.specs.declared.stop.Stop.TheVariants.{Memory, Refused}
+use Rattle.twkb_engine.specs.declared.phase.Phase.{Phase}
+use Rattle.twkb_engine.specs.declared.phase.Group.{Group}
 use Rattle.twkb_engine.specs.declared.builder.Builder.{Builder}
 use Rattle.twkb_tree.specs.Tree.{Tree}
 use Rattle.twkb_tree.specs.Rows.{Row, rows}
@@ -26,12 +30,22 @@ sums_of b = record { bytes = b.bytes; position = b.position; nodes = b.nodes; po
 
 -- what stands open
 abbrev pub outline_in : Builder → Outline
-outline_in b = (groups_of b.groups.items, step_of b.phase)
+outline_in b = (groups_of b.groups, step_of b.phase)
 
 -- these bytes are whole items that lead to where it stands, and these are the rows of what was read
 pub record StandsBehind (bytes : List ℕ) (rs : List Row) (b : Builder) : Type 0 where
   pub outlined : Outlined b.limits bytes (sums_of b) (outline_in b) rs
-  pub placed : IsPlacedIn b.groups.items b.phase
+  pub placed : IsPlacedIn b.groups b.phase
+
+-- some bytes lead to where it stands, with these rows; which, is not said
+abbrev pub StandsSomewhere : List Row → Builder → Type 0
+StandsSomewhere rs b = ∥ ((bytes : List ℕ) × StandsBehind bytes rs b) ∥₁
+
+-- the rows take the change of the item of this number, which leads to this position, and one more collection may open
+pub record MayTake (rs : List Row) (at : Point) (n : ℕ) (gs : List Group) (p : Phase) : Type 0 where
+  pub placed : IsPlacedIn gs p
+  pub admits : Admits (change_of at n (groups_of gs, step_of p)) rs
+  pub room : length gs < depth_cap
 
 -- why a number may not stand in this role, if there is one
 abbrev pub objection_at : Allowance → Sums → ℕ → Option Role → Option fault.Reason

@@ -53,8 +53,12 @@ pub record StandsAt (bytes : List ℕ) (rs : List Row) (d : Engine) : Type 0 whe
   pub front : List ℕ
   pub whole : bytes ≡ front ++ held_in d
   pub outlined : Outlined (allowance_of d) front (sums_of d.builder) (outline_in d.builder) rs
-  pub placed : IsPlacedIn d.builder.groups.items d.builder.phase
+  pub placed : IsPlacedIn d.builder.groups d.builder.phase
   pub spelled : IsSpelled d.builder.phase ⊎ (held_in d ≡ [])
+
+-- some bytes are a blob so far, with these rows; which, is not said
+abbrev pub IsAlive : List Row → Engine → Type 0
+IsAlive rs d = ∥ ((bytes : List ℕ) × StandsAt bytes rs d) ∥₁
 
 -- wherever the engine stands, these bytes lead it on, and make this of what was noted of spans
 abbrev pub LeadsNoting : (ℕ → Notes → Notes) → List Row → Engine → List ℕ → List Row → Engine → Type 0

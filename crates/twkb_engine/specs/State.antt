@@ -138,9 +138,13 @@ groups_from below (g ∷ gs) = groups_from (group_of g ∷ below) gs
 abbrev pub groups_of : List Group → List outline.Group
 groups_of gs = groups_from [] gs
 
--- as few collections are open as can be
+-- more collections than can be open: limits let at most 32 nest
+abbrev pub depth_cap : ℕ
+depth_cap = 64
+
+-- no more collections are open than that
 abbrev pub IsShallow : List Group → Type 0
-IsShallow gs = length gs ≤ 64
+IsShallow gs = length gs ≤ depth_cap
 
 -- the geometry that stands open stands in these collections
 abbrev pub IsPlacedIn : List Group → Phase → Type 0

@@ -1,5 +1,7 @@
 //! A geometry that is read item by item into a flat form.
 ghost use Rattle.std.specs.Prelude.{◌≡◌, ◌≤◌, ◌+◌, ◌-◌, ◌^◌, [], nat_lt, IfSome, IsSome, None, Some, true, length, ◌<◌, ◌⊎◌, OnOk, Result, Ok};
+ghost use Rattle.twkb_tree.specs.Limits.{IsAllowance};
+ghost use Rattle.twkb_outline.specs.Admitting.{Admits};
 ghost use Rattle.twkb_grammar.specs.PlainReader.{unless, objection as objection_in, is_exact as exact};
 ghost use Rattle.twkb_grammar.specs.Fault as fault;
 ghost use Rattle.twkb_grammar.specs.Fault.{moved as moved_by};
@@ -18,7 +20,8 @@ use crate::blob_reason::BlobReason;
 use crate::header::{Led, lead_on};
 use crate::items::{announced, announces_point};
 use crate::members::{next, past_end};
-use crate::phase::{Groups, Many, Optional, Phase};
+use crate::open_groups::Groups;
+use crate::phase::{Many, Optional, Phase};
 use crate::rooms::Rooms;
 use crate::stop::Stop;
 use std::alloc::Global;
@@ -45,12 +48,13 @@ pub(crate) struct Builder {
     pub(crate) phase: Phase,
     ghost nodes_kept: { nodes ≤ limits.nodes },
     ghost points_kept: { points ≤ limits.points },
+    ghost allowed: { IsAllowance limits },
     ghost waits: { goes_on phase ≡ true },
-    ghost groups_few: { IsShallow groups.items },
+    ghost groups_few: { IsShallow groups },
 }
 
 impl Builder {
-    ghost use Rattle.twkb_engine.specs.Building.{sums_of, outline_in, refusal, AreBehind, objection_at, StandsBehind, IsAt, Takes};
+    ghost use Rattle.twkb_engine.specs.Building.{sums_of, outline_in, refusal, AreBehind, objection_at, StandsBehind, StandsSomewhere, MayTake, IsAt, Takes};
 
     // One that has read nothing. Takes no memory.
     pub(crate) fn new(alloc: Global, limits: Limits) -> Builder
@@ -68,7 +72,7 @@ impl Builder {
             position: origin(),
             nodes: 1,
             points: 0,
-            groups: Vec::new(alloc),
+            groups: Groups::new(alloc),
             rooms: Rooms::new(alloc),
             phase: Phase::Header,
         }
@@ -89,7 +93,7 @@ impl Builder {
 
     // Why there may not be so many members.
     fn objection_to_count(&self, many: Many, number: u64) -> Option<BlobReason>
-        ensures { objection_of result ≡ objection_in self.now.limits (sums_of self.now) (Count (first_count (many_of many) (length (groups_of self.now.groups.items)))) number }
+        ensures { objection_of result ≡ objection_in self.now.limits (sums_of self.now) (Count (first_count (many_of many) (length (groups_of self.now.groups)))) number }
     {
         match many {
             Many::Points => self.too_many(number, number),
@@ -183,8 +187,8 @@ impl Builder {
     pub(crate) fn settle(&mut self, whole: bool) -> bool
         ensures limits { self.new.limits ≡ self.old.limits }
         ensures bytes { self.new.bytes ≤ self.old.bytes }
-        ensures landed { (way : Result Outline fault.Reason) → IsPast way self.old.groups.items (Ok whole) → IsAt way (sums_of self.old) (Ok result) self.new }
-        ensures placed { IsPlacedIn self.new.groups.items self.new.phase }
+        ensures landed { (way : Result Outline fault.Reason) → IsPast way self.old.groups (Ok whole) → IsAt way (sums_of self.old) (Ok result) self.new }
+        ensures placed { IsPlacedIn self.new.groups self.new.phase }
     {
         if whole {
             self.restart();
@@ -198,9 +202,9 @@ impl Builder {
     fn finish(&mut self, head: Head) -> Result<bool, Stop>
         ensures limits { self.new.limits ≡ self.old.limits }
         ensures bytes { self.new.bytes ≤ self.old.bytes }
-        ensures landed { IsAt (outline_past_end (exact head.size (self.old.bytes - head.from)) self.old.bytes (groups_of self.old.groups.items)) (sums_of self.old) result self.new }
-        ensures passes { OnOk result (Passes (outline_past_end (exact head.size (self.old.bytes - head.from)) self.old.bytes (groups_of self.old.groups.items))) }
-        ensures placed { OnOk result (IsPlacedIn self.new.groups.items self.new.phase) }
+        ensures landed { IsAt (outline_past_end (exact head.size (self.old.bytes - head.from)) self.old.bytes (groups_of self.old.groups)) (sums_of self.old) result self.new }
+        ensures passes { OnOk result (Passes (outline_past_end (exact head.size (self.old.bytes - head.from)) self.old.bytes (groups_of self.old.groups))) }
+        ensures placed { OnOk result (IsPlacedIn self.new.groups self.new.phase) }
     {
         let whole = past_end(&mut self.groups, &mut self.rooms, self.bytes, head)?;
         Ok(self.settle(whole))
@@ -209,11 +213,12 @@ impl Builder {
     // A geometry ends whose row is still to come: it is kept once the sizes were judged; answers whether the outermost one ends. Takes
     // memory.
     fn end(&mut self, flat: &mut Flat, head: Head, kind: GeometryType) -> Result<bool, Stop>
+        requires { Admits (own_change (End head kind)) flat.old }
         ensures limits { self.new.limits ≡ self.old.limits }
         ensures bytes { self.new.bytes ≤ self.old.bytes }
-        ensures landed { IsAt (outline_past_end (exact head.size (self.old.bytes - head.from)) self.old.bytes (groups_of self.old.groups.items)) (sums_of self.old) result self.new }
+        ensures landed { IsAt (outline_past_end (exact head.size (self.old.bytes - head.from)) self.old.bytes (groups_of self.old.groups)) (sums_of self.old) result self.new }
         ensures rows { OnOk result (flat.new ≡ applied (own_change (End head kind)) flat.old) }
-        ensures placed { OnOk result (IsPlacedIn self.new.groups.items self.new.phase) }
+        ensures placed { OnOk result (IsPlacedIn self.new.groups self.new.phase) }
     {
         let ended = self.finish(head)?;
         push_row(flat, whole_row(head, kind))?;
@@ -225,11 +230,12 @@ impl Builder {
     fn advance(&mut self, flat: &mut Flat, number: u64) -> Result<bool, Stop>
         requires byte { number < 256 ⊎ IsSpelled self.old.phase }
         requires apart { stands_apart self.old.phase ≡ true }
+        requires may { MayTake flat.old self.old.position number self.old.groups self.old.phase }
         ensures limits { self.new.limits ≡ self.old.limits }
         ensures bytes { self.new.bytes ≤ self.old.bytes }
         ensures landed { IsAt (outline_ends self.old.bytes (outline_advanced self.old.bytes number (outline_in self.old))) (sums_of self.old) result self.new }
-        ensures rows { IsPlacedIn self.old.groups.items self.old.phase → OnOk result (flat.new ≡ applied (change_of self.old.position number (outline_in self.old)) flat.old) }
-        ensures placed { IsPlacedIn self.old.groups.items self.old.phase → OnOk result (IsPlacedIn self.new.groups.items self.new.phase) }
+        ensures rows { IsPlacedIn self.old.groups self.old.phase → OnOk result (flat.new ≡ applied (change_of self.old.position number (outline_in self.old)) flat.old) }
+        ensures placed { IsPlacedIn self.old.groups self.old.phase → OnOk result (IsPlacedIn self.new.groups self.new.phase) }
     {
         let led = lead_on(
             self.alloc,
@@ -260,11 +266,12 @@ impl Builder {
     // whole. A row, a point, an id and a group take memory.
     fn go_on(&mut self, flat: &mut Flat, number: u64) -> Result<bool, Stop>
         requires byte { number < 256 ⊎ IsSpelled self.old.phase }
+        requires may { MayTake flat.old self.old.position number self.old.groups self.old.phase }
         ensures limits { self.new.limits ≡ self.old.limits }
         ensures bytes { self.new.bytes ≤ self.old.bytes }
         ensures landed { StepFits (step_of self.old.phase) → IsAt (outline_ends self.old.bytes (outline_advanced self.old.bytes number (outline_in self.old))) (sums_of self.old) result self.new }
-        ensures rows { IsPlacedIn self.old.groups.items self.old.phase → OnOk result (flat.new ≡ applied (change_of self.old.position number (outline_in self.old)) flat.old) }
-        ensures placed { StepFits (step_of self.old.phase) → IsPlacedIn self.old.groups.items self.old.phase → OnOk result (IsPlacedIn self.new.groups.items self.new.phase) }
+        ensures rows { IsPlacedIn self.old.groups self.old.phase → OnOk result (flat.new ≡ applied (change_of self.old.position number (outline_in self.old)) flat.old) }
+        ensures placed { StepFits (step_of self.old.phase) → IsPlacedIn self.old.groups self.old.phase → OnOk result (IsPlacedIn self.new.groups self.new.phase) }
     {
         let Phase::Body(head, body) = &mut self.phase else {
             return self.advance(flat, number);
@@ -317,6 +324,7 @@ impl Builder {
     ) -> Result<bool, Stop>
         requires byte { number < 256 ⊎ IsSpelled self.old.phase }
         requires room { self.old.bytes + length < 2 ^ 64 }
+        requires alive { StandsSomewhere flat.old self.old }
         ensures limits { self.new.limits ≡ self.old.limits }
         ensures bytes { self.new.bytes ≤ self.old.bytes + length }
         ensures taken { Takes self.old number length flat.old result flat.new self.new }
@@ -338,6 +346,7 @@ impl Builder {
     pub(crate) fn take(&mut self, flat: &mut Flat, number: u64, length: u64) -> Result<bool, Stop>
         requires byte { number < 256 ⊎ IsSpelled self.old.phase }
         requires room { self.old.bytes + length < 2 ^ 64 }
+        requires alive { StandsSomewhere flat.old self.old }
         ensures limits { self.new.limits ≡ self.old.limits }
         ensures bytes { self.new.bytes ≤ self.old.bytes + length }
         ensures taken { Takes self.old number length flat.old result flat.new self.new }
@@ -359,6 +368,7 @@ impl Builder {
     ) -> Result<bool, Stop>
         requires byte { number < 256 ⊎ IsSpelled self.old.phase }
         requires room { self.old.bytes + length < 2 ^ 64 }
+        requires alive { StandsSomewhere flat.old self.old }
         ensures limits { self.new.limits ≡ self.old.limits }
         ensures bytes { self.new.bytes ≤ self.old.bytes + length }
         ensures taken { Takes self.old number length flat.old result flat.new self.new }

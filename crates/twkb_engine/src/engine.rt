@@ -3,7 +3,7 @@ ghost use Rattle.std.specs.Prelude.{◌≡◌, IfOk, OnErr, false, ◌+◌, ◌<
 ghost use Rattle.twkb_num.specs.Varint.{IsOpenVarint};
 ghost use Rattle.twkb_tree.specs.Rows.{Row};
 ghost use Rattle.twkb_engine.specs.State.{IsByte};
-ghost use Rattle.twkb_engine.specs.Standing.{StandsAt, LeadsOn, LeadsHeader, StopsIn, IsStep, IsTakenFrom, IsOneItem, ItemInFront, IsFed, IsEnd, count_of, offset_in, points_in, awaited_in, held_in, open_in, allowance_of};
+ghost use Rattle.twkb_engine.specs.Standing.{StandsAt, IsAlive, LeadsOn, LeadsHeader, StopsIn, IsStep, IsTakenFrom, IsOneItem, ItemInFront, IsFed, IsEnd, count_of, offset_in, points_in, awaited_in, held_in, open_in, allowance_of};
 
 use crate::awaited::Awaited;
 use crate::blob_reason::BlobReason;
@@ -46,6 +46,7 @@ impl Engine {
     #[inline(always)]
     pub fn take_byte(&mut self, flat: &mut Flat, byte: u8) -> Result<bool, Stop>
         requires room { count_of self.old < 2 ^ 63 }
+        requires alive { IsAlive flat.old self.old }
         ensures limits { allowance_of self.new ≡ allowance_of self.old }
         ensures count { count_of self.new ≤ count_of self.old + 1 }
         ensures taken { (bs : List ℕ) → StandsAt bs flat.old self.old → IsStep (allowance_of self.old) (bs ++ byte ∷ []) result flat.new self.new }
@@ -73,6 +74,7 @@ impl Engine {
     fn take_lead(&mut self, flat: &mut Flat, byte: u8) -> Result<bool, Stop>
         requires byte { IsByte self.old.builder.phase }
         requires room { count_of self.old < 2 ^ 63 }
+        requires alive { IsAlive flat.old self.old }
         ensures limits { allowance_of self.new ≡ allowance_of self.old }
         ensures count { count_of self.new ≤ count_of self.old + 1 }
         ensures taken { (bs : List ℕ) → StandsAt bs flat.old self.old → IsStep (allowance_of self.old) (bs ++ byte ∷ []) result flat.new self.new }
@@ -97,6 +99,7 @@ impl Engine {
     #[tactic(auto, using(crate::proofs::Stepping::stays_put))]
     pub fn take_points(&mut self, flat: &mut Flat, rest: &[u8]) -> Result<usize, AllocError>
         requires room { count_of self.old + length_of rest.now ≤ 2 ^ 63 }
+        requires alive { IsAlive flat.old self.old }
         ensures limits { allowance_of self.new ≡ allowance_of self.old }
         ensures count { IfOk result (λ used. count_of self.new ≡ count_of self.old + used) }
         ensures few { count_of self.new ≤ count_of self.old + length_of rest.now }
@@ -149,6 +152,7 @@ impl Engine {
     pub fn take_item(&mut self, flat: &mut Flat, rest: &[u8]) -> Result<(usize, bool), Stop>
         requires some { 0 < length_of rest.now }
         requires room { count_of self.old + length_of rest.now ≤ 2 ^ 63 }
+        requires alive { IsAlive flat.old self.old }
         ensures limits { allowance_of self.new ≡ allowance_of self.old }
         ensures count { IfOk result (λ taken. count_of self.new ≤ count_of self.old + taken.0) }
         ensures few { count_of self.new ≤ count_of self.old + length_of rest.now }
@@ -171,6 +175,7 @@ impl Engine {
     fn take_first(&mut self, flat: &mut Flat, rest: &[u8]) -> Result<(usize, bool), Stop>
         requires some { 0 < length_of rest.now }
         requires room { count_of self.old < 2 ^ 63 }
+        requires alive { IsAlive flat.old self.old }
         ensures limits { allowance_of self.new ≡ allowance_of self.old }
         ensures count { count_of self.new ≤ count_of self.old + 1 }
         ensures one { IfOk result (λ taken. taken.0 ≡ 1) }
@@ -186,6 +191,7 @@ impl Engine {
     fn take_some(&mut self, flat: &mut Flat, rest: &[u8]) -> Result<(usize, bool), Stop>
         requires some { 0 < length_of rest.now }
         requires room { count_of self.old + length_of rest.now ≤ 2 ^ 63 }
+        requires alive { IsAlive flat.old self.old }
         ensures limits { allowance_of self.new ≡ allowance_of self.old }
         ensures count { IfOk result (λ taken. count_of self.new ≤ count_of self.old + taken.0) }
         ensures few { count_of self.new ≤ count_of self.old + length_of rest.now }
@@ -219,6 +225,7 @@ impl Engine {
     /// next call wants it cleared. A row, a point, an id and an open collection take memory.
     pub fn feed(&mut self, flat: &mut Flat, piece: &[u8]) -> Result<(usize, bool), Stop>
         requires room { count_of self.old + length_of piece.now ≤ 2 ^ 63 }
+        requires alive { IsAlive flat.old self.old }
         ensures limits { allowance_of self.new ≡ allowance_of self.old }
         ensures count { count_of self.new ≤ count_of self.old + length_of piece.now }
         ensures within { IfOk result (λ fed. fed.0 ≤ length_of piece.now) }

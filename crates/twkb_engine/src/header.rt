@@ -13,7 +13,8 @@ ghost use Rattle.twkb_engine.specs.Leads.{IfOn, IfOff, IfEnds, IfApart};
 ghost use Rattle.twkb_engine.specs.declared.phase.Phase.TheVariants.{End};
 
 use crate::builder::Builder;
-use crate::phase::{Groups, Many, Optional, Phase};
+use crate::open_groups::Groups;
+use crate::phase::{Many, Optional, Phase};
 use crate::typed::Typed;
 use std::alloc::Global;
 use twkb_body::{Body, Form, GeometryType, Head, Lefts, Names, Spot};
@@ -62,24 +63,13 @@ fn typed_by(number: u64) -> Typed
     }
 }
 
-// The id of the geometry that is read in these collections.
-fn id_within(groups: &Groups) -> Option<i64>
-    ensures { result ≡ id_in (groups_of groups.now.items) }
-{
-    let depth = groups.len();
-    if depth == 0 {
-        return None;
-    }
-    groups[depth - 1].names.next()
-}
-
 // The header behind a metadata byte, before its optional parts.
 pub(crate) fn head_within(groups: &Groups, typed: Typed, bytes: u64, metadata: Metadata) -> Head
-    requires { IsShallow groups.now.items }
+    requires { IsShallow groups.now }
     ensures head { head_of result ≡ record { precision = typed.precision; meta = metadata; size = None; from = bytes } }
     ensures metadata { result.metadata ≡ metadata }
-    ensures depth { result.depth ≡ length (groups_of groups.now.items) }
-    ensures id { result.id ≡ id_in (groups_of groups.now.items) }
+    ensures depth { result.depth ≡ length (groups_of groups.now) }
+    ensures id { result.id ≡ id_in (groups_of groups.now) }
 {
     Head {
         precision: typed.precision,
@@ -87,7 +77,7 @@ pub(crate) fn head_within(groups: &Groups, typed: Typed, bytes: u64, metadata: M
         size: None,
         from: bytes,
         depth: groups.len() as u32,
-        id: id_within(groups),
+        id: groups.id(),
     }
 }
 
@@ -224,15 +214,15 @@ pub(crate) fn lead_on(
     bytes: u64,
     number: u64,
 ) -> Led
-    requires few { IsShallow groups.now.items }
+    requires few { IsShallow groups.now }
     requires byte { number < 256 ⊎ IsSpelled phase.old }
     ensures going { IfOn result (goes_on phase.new ≡ true) }
-    ensures step { IfOn result (outline_advanced bytes number (groups_of groups.now.items, step_of phase.old) ≡ (groups_of groups.now.items, step_of phase.new)) }
-    ensures row { IfOn result ((p : Point) → IsPlacedIn groups.now.items phase.old → change_of p number (groups_of groups.now.items, step_of phase.old) ≡ Nothing) }
-    ensures placed { IfOn result (IsPlacedIn groups.now.items phase.old → IsPlacedIn groups.now.items phase.new) }
+    ensures step { IfOn result (outline_advanced bytes number (groups_of groups.now, step_of phase.old) ≡ (groups_of groups.now, step_of phase.new)) }
+    ensures row { IfOn result ((p : Point) → IsPlacedIn groups.now phase.old → change_of p number (groups_of groups.now, step_of phase.old) ≡ Nothing) }
+    ensures placed { IfOn result (IsPlacedIn groups.now phase.old → IsPlacedIn groups.now phase.new) }
     ensures same { IfOff result (phase.new ≡ phase.old) }
-    ensures ends { IfEnds result (λ head kind. outline_advanced bytes number (groups_of groups.now.items, step_of phase.old) ≡ (groups_of groups.now.items, OnEnd (head_of head))) }
-    ensures own { IfEnds result (λ head kind. (p : Point) → IsPlacedIn groups.now.items phase.old → change_of p number (groups_of groups.now.items, step_of phase.old) ≡ own_change (End head kind)) }
+    ensures ends { IfEnds result (λ head kind. outline_advanced bytes number (groups_of groups.now, step_of phase.old) ≡ (groups_of groups.now, OnEnd (head_of head))) }
+    ensures own { IfEnds result (λ head kind. (p : Point) → IsPlacedIn groups.now phase.old → change_of p number (groups_of groups.now, step_of phase.old) ≡ own_change (End head kind)) }
     ensures apart { IfApart result (stands_apart phase.old ≡ true → IsMembered phase.old) }
 {
     match phase {

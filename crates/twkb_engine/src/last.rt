@@ -16,18 +16,19 @@ use twkb_num::unzigzag;
 use twkb_points::Pt;
 
 impl Builder {
-    ghost use Rattle.twkb_engine.specs.Building.{sums_of, outline_in, refusal, AreBehind, IsAt, Takes};
+    ghost use Rattle.twkb_engine.specs.Building.{sums_of, outline_in, refusal, AreBehind, StandsSomewhere, MayTake, IsAt, Takes};
 
     // Goes past the end of a body, whose last number, which was added last, is this one; answers whether a geometry is whole. The
     // sizes are judged first, and then what the number brings is kept, which takes memory.
     #[inline(always)]
     pub(crate) fn end_body(&mut self, flat: &mut Flat, number: u64) -> Result<bool, Stop>
         requires last { EndsBody self.old.phase number }
+        requires may { MayTake flat.old self.old.position number self.old.groups self.old.phase }
         ensures limits { self.new.limits ≡ self.old.limits }
         ensures bytes { self.new.bytes ≤ self.old.bytes }
         ensures landed { StepFits (step_of self.old.phase) → IsAt (outline_ends self.old.bytes (outline_advanced self.old.bytes number (outline_in self.old))) (sums_of self.old) result self.new }
-        ensures rows { IsPlacedIn self.old.groups.items self.old.phase → OnOk result (flat.new ≡ applied (change_of self.old.position number (outline_in self.old)) flat.old) }
-        ensures placed { StepFits (step_of self.old.phase) → IsPlacedIn self.old.groups.items self.old.phase → OnOk result (IsPlacedIn self.new.groups.items self.new.phase) }
+        ensures rows { IsPlacedIn self.old.groups self.old.phase → OnOk result (flat.new ≡ applied (change_of self.old.position number (outline_in self.old)) flat.old) }
+        ensures placed { StepFits (step_of self.old.phase) → IsPlacedIn self.old.groups self.old.phase → OnOk result (IsPlacedIn self.new.groups self.new.phase) }
     {
         let Phase::Body(head, body) = &mut self.phase else {
             unreachable!();
@@ -72,6 +73,7 @@ impl Builder {
         requires free { refusal self.old.limits (sums_of self.old) (outline_in self.old) number ≡ None }
         requires behind { AreBehind self.old number position self.old.nodes self.old.points }
         requires room { self.old.bytes + length < 2 ^ 64 }
+        requires alive { StandsSomewhere flat.old self.old }
         ensures limits { self.new.limits ≡ self.old.limits }
         ensures bytes { self.new.bytes ≤ self.old.bytes + length }
         ensures taken { Takes self.old number length flat.old result flat.new self.new }
@@ -91,6 +93,7 @@ impl Builder {
     ) -> Result<bool, Stop>
         requires byte { number < 256 ⊎ IsSpelled self.old.phase }
         requires room { self.old.bytes + length < 2 ^ 64 }
+        requires alive { StandsSomewhere flat.old self.old }
         ensures limits { self.new.limits ≡ self.old.limits }
         ensures bytes { self.new.bytes ≤ self.old.bytes + length }
         ensures taken { Takes self.old number length flat.old result flat.new self.new }

@@ -11,6 +11,7 @@ mod last;
 mod members;
 mod metadata;
 mod numbers;
+mod open_groups;
 mod phase;
 mod rooms;
 mod short;

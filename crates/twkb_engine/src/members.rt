@@ -1,5 +1,5 @@
 //! Members, their count and ids, and the ends of geometries in collections.
-ghost use Rattle.std.specs.Prelude.{◌≡◌, ◌-◌, ◌≤◌, suc, length, ℕ, true, IfOk, OnOk, OnErr};
+ghost use Rattle.std.specs.Prelude.{◌≡◌, ◌-◌, ◌≤◌, suc, length, ℕ, ◌<◌, true, IfOk, IfSome, OnOk, OnErr};
 ghost use Rattle.twkb_points.specs.Point.{Point};
 ghost use Rattle.twkb_grammar.specs.PlainReader.{is_exact as exact};
 ghost use Rattle.twkb_outline.specs.Outline.{members_open, outline_advanced, outline_ends, outline_past_end};
@@ -7,12 +7,16 @@ ghost use Rattle.twkb_outline.specs.Growing.{applied, change_of, kind_with, own_
 ghost use Rattle.twkb_outline.specs.Parts.{Passes};
 ghost use Rattle.twkb_body.specs.Body.{kind_of, head_of};
 ghost use Rattle.twkb_body.specs.Names.{ids_of};
-ghost use Rattle.twkb_engine.specs.State.{many_of, step_of, groups_of, goes_on, own_change, IsMembered, WantsId, IsPlaced, IsPlacedIn, HasHead, IsShallow};
+ghost use Rattle.twkb_engine.specs.State.{many_of, step_of, groups_of, goes_on, own_change, IsMembered, WantsId, IsPlaced, IsPlacedIn, HasHead, IsShallow, depth_cap};
+ghost use Rattle.twkb_outline.specs.Admitting.{Admits};
+ghost use Rattle.twkb_engine.specs.Building.{MayTake};
+ghost use Rattle.twkb_engine.specs.declared.phase.Phase.TheVariants.{End};
 ghost use Rattle.twkb_engine.specs.Leads.{reached};
 ghost use Rattle.twkb_engine.specs.Stops.{IsPast};
 
 use crate::blob_reason::BlobReason;
-use crate::phase::{DEEPEST, Group, Groups, Many, Phase};
+use crate::open_groups::Groups;
+use crate::phase::{Group, Many, Phase};
 use crate::rooms::Rooms;
 use crate::stop::Stop;
 use std::alloc::{AllocError, Global};
@@ -43,12 +47,14 @@ fn begin_members(
     many: Many,
     members: Group,
 ) -> Result<(), AllocError>
+    requires row { Admits (NewRow (own_of members.head.depth members.head.id (kind_with (many_of many)) members.head.precision)) flat.old }
+    requires room { length groups.old < depth_cap }
     ensures going { goes_on phase.old ≡ true → goes_on phase.new ≡ true }
-    ensures step { OnOk result ((groups_of groups.new.items, step_of phase.new) ≡ members_open (many_of many) (head_of members.head) (groups_of groups.old.items) (ids_of members.names) (suc members.left)) }
+    ensures step { OnOk result ((groups_of groups.new, step_of phase.new) ≡ members_open (many_of many) (head_of members.head) (groups_of groups.old) (ids_of members.names) (suc members.left)) }
     ensures placed { OnOk result (IsPlaced members.head.depth members.head.id phase.new) }
     ensures rows { OnOk result (applied (own_change phase.new) flat.new ≡ applied (NewRow (own_of members.head.depth members.head.id (kind_with (many_of many)) members.head.precision)) flat.old) }
-    ensures kept { OnOk result (HasHead phase.new → groups_of groups.new.items ≡ groups_of groups.old.items) }
-    ensures few { IsShallow groups.old.items → IsShallow groups.new.items }
+    ensures kept { OnOk result (HasHead phase.new → groups_of groups.new ≡ groups_of groups.old) }
+    ensures few { IsShallow groups.old → IsShallow groups.new }
 {
     let Group { head, names, left } = members;
     push_row(flat, whole_row(head, many_kind(many)))?;
@@ -57,9 +63,6 @@ fn begin_members(
         Many::Lines => (Form::MultiLine, Spot::LineCount(Lefts::One(left))),
         Many::Areas => (Form::MultiPolygon, Spot::AreaCount(Lefts::One(left))),
         Many::Geometries => {
-            if groups.len() >= DEEPEST {
-                return Err(AllocError);
-            }
             groups.push(Group { head, names, left })?;
             *phase = Phase::Header;
             return Ok(());
@@ -78,12 +81,13 @@ fn next_id(
     number: u64,
 ) -> Result<(), AllocError>
     requires id { WantsId phase.old }
+    requires may { (p : Point) × MayTake flat.old p number groups.old phase.old }
     ensures going { goes_on phase.new ≡ true }
-    ensures step { (bytes : ℕ) → OnOk result ((groups_of groups.new.items, step_of phase.new) ≡ outline_advanced bytes number (groups_of groups.old.items, step_of phase.old)) }
-    ensures rows { (p : Point) → IsPlacedIn groups.old.items phase.old → OnOk result (applied (own_change phase.new) flat.new ≡ applied (change_of p number (groups_of groups.old.items, step_of phase.old)) flat.old) }
-    ensures memory { (bytes : ℕ) → OnErr result (Passes (outline_ends bytes (outline_advanced bytes number (groups_of groups.old.items, step_of phase.old)))) }
-    ensures placed { IsPlacedIn groups.old.items phase.old → OnOk result (IsPlacedIn groups.new.items phase.new) }
-    ensures few { IsShallow groups.old.items → IsShallow groups.new.items }
+    ensures step { (bytes : ℕ) → OnOk result ((groups_of groups.new, step_of phase.new) ≡ outline_advanced bytes number (groups_of groups.old, step_of phase.old)) }
+    ensures rows { (p : Point) → IsPlacedIn groups.old phase.old → OnOk result (applied (own_change phase.new) flat.new ≡ applied (change_of p number (groups_of groups.old, step_of phase.old)) flat.old) }
+    ensures memory { (bytes : ℕ) → OnErr result (Passes (outline_ends bytes (outline_advanced bytes number (groups_of groups.old, step_of phase.old)))) }
+    ensures placed { IsPlacedIn groups.old phase.old → OnOk result (IsPlacedIn groups.new phase.new) }
+    ensures few { IsShallow groups.old → IsShallow groups.new }
 {
     let Phase::Id {
         many,
@@ -115,12 +119,14 @@ pub(crate) fn next(
     number: u64,
 ) -> Result<Option<(Head, GeometryType)>, AllocError>
     requires member { IsMembered phase.old }
+    requires may { (p : Point) × MayTake flat.old p number groups.old phase.old }
     ensures going { goes_on phase.new ≡ true }
-    ensures step { (bytes : ℕ) → IfOk result (λ ended. (groups_of groups.new.items, step_of (reached ended phase.new)) ≡ outline_advanced bytes number (groups_of groups.old.items, step_of phase.old)) }
-    ensures rows { (p : Point) → IsPlacedIn groups.old.items phase.old → IfOk result (λ ended. applied (own_change (reached ended phase.new)) flat.new ≡ applied (change_of p number (groups_of groups.old.items, step_of phase.old)) flat.old) }
-    ensures memory { (bytes : ℕ) → OnErr result (Passes (outline_ends bytes (outline_advanced bytes number (groups_of groups.old.items, step_of phase.old)))) }
-    ensures placed { IsPlacedIn groups.old.items phase.old → IfOk result (λ ended. IsPlacedIn groups.new.items (reached ended phase.new)) }
-    ensures few { IsShallow groups.old.items → IsShallow groups.new.items }
+    ensures step { (bytes : ℕ) → IfOk result (λ ended. (groups_of groups.new, step_of (reached ended phase.new)) ≡ outline_advanced bytes number (groups_of groups.old, step_of phase.old)) }
+    ensures rows { (p : Point) → IsPlacedIn groups.old phase.old → IfOk result (λ ended. applied (own_change (reached ended phase.new)) flat.new ≡ applied (change_of p number (groups_of groups.old, step_of phase.old)) flat.old) }
+    ensures own { IfOk result (λ ended. IfSome ended (λ e. Admits (own_change (End e.0 e.1)) flat.new)) }
+    ensures memory { (bytes : ℕ) → OnErr result (Passes (outline_ends bytes (outline_advanced bytes number (groups_of groups.old, step_of phase.old)))) }
+    ensures placed { IsPlacedIn groups.old phase.old → IfOk result (λ ended. IsPlacedIn groups.new (reached ended phase.new)) }
+    ensures few { IsShallow groups.old → IsShallow groups.new }
 {
     match phase {
         Phase::Count { many, head } => {
@@ -166,23 +172,17 @@ pub(crate) fn past_end(
     bytes: u64,
     head: Head,
 ) -> Result<bool, Stop>
-    ensures landed { IsPast (outline_past_end (exact head.size (bytes - head.from)) bytes (groups_of groups.old.items)) groups.new.items result }
-    ensures few { length groups.new.items ≤ length groups.old.items }
+    ensures landed { IsPast (outline_past_end (exact head.size (bytes - head.from)) bytes (groups_of groups.old)) groups.new result }
+    ensures few { length groups.new ≤ length groups.old }
 {
     if !is_exact(head, bytes) {
         return Err(Stop::Refused(BlobReason::SizeMismatch));
     }
-    let Some(last) = groups.len().checked_sub(1) else {
+    if groups.len() == 0 {
         return Ok(true);
-    };
-    let innermost = &mut groups[last];
-    if innermost.left > 0 {
-        innermost.left -= 1;
-        innermost.names.go_on();
-        return Ok(false);
     }
-    let head = innermost.head;
-    rooms.keep(&mut innermost.names);
-    groups.truncate(last);
-    past_end(groups, rooms, bytes, head)
+    match groups.end_member(rooms) {
+        None => Ok(false),
+        Some(head) => past_end(groups, rooms, bytes, head),
+    }
 }

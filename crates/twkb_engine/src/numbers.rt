@@ -32,7 +32,7 @@ fn in_body(phase: &Phase) -> bool {
 }
 
 impl Builder {
-    ghost use Rattle.twkb_engine.specs.Building.{sums_of, outline_in, refusal, AreBehind, SaysNext, Takes};
+    ghost use Rattle.twkb_engine.specs.Building.{sums_of, outline_in, refusal, AreBehind, SaysNext, StandsSomewhere, Takes};
     ghost use Rattle.twkb_engine.specs.Ahead.{StepsOn, StepsShortly, TakesAhead};
 
     // Where the next number of a body leads, where that is a coordinate and nothing objects to it; `None` says nothing, and is the answer for
@@ -57,6 +57,7 @@ impl Builder {
     #[inline(never)]
     pub(crate) fn take_coordinate(&mut self, flat: &mut Flat, number: u64, length: u64) -> Short
         requires room { self.old.bytes + length < 2 ^ 64 }
+        requires alive { StandsSomewhere flat.old self.old }
         ensures limits { self.new.limits ≡ self.old.limits }
         ensures few { self.new.bytes ≤ self.old.bytes + length }
         ensures steps { StepsShortly self.old number length flat.old result flat.new self.new }
@@ -121,6 +122,7 @@ impl Builder {
     ) -> Result<bool, Stop>
         requires byte { number < 256 ⊎ IsSpelled self.old.phase }
         requires room { self.old.bytes + length < 2 ^ 64 }
+        requires alive { StandsSomewhere flat.old self.old }
         ensures limits { self.new.limits ≡ self.old.limits }
         ensures bytes { self.new.bytes ≤ self.old.bytes + length }
         ensures taken { Takes self.old number length flat.old result flat.new self.new }
@@ -142,6 +144,7 @@ impl Builder {
         length: u64,
     ) -> Result<bool, AllocError>
         requires room { self.old.bytes + length < 2 ^ 64 }
+        requires alive { StandsSomewhere flat.old self.old }
         ensures limits { self.new.limits ≡ self.old.limits }
         ensures bytes { result ≡ Ok true → self.new.bytes ≡ self.old.bytes + length }
         ensures few { self.new.bytes ≤ self.old.bytes + length }
@@ -180,6 +183,7 @@ impl Builder {
     // and a point take memory.
     fn take_whole_number(&mut self, flat: &mut Flat, rest: &[u8]) -> Result<usize, AllocError>
         requires room { self.old.bytes + length_of rest.now < 2 ^ 64 }
+        requires alive { StandsSomewhere flat.old self.old }
         ensures { TakesAhead self.old flat.old rest.now result self.new flat.new }
     {
         let Some((number, count)) = self.number_in_front(rest) else {
@@ -212,6 +216,7 @@ impl Builder {
     // next; answers how many bytes they had, or 0. They take memory.
     fn take_some(&mut self, flat: &mut Flat, rest: &[u8]) -> Result<usize, AllocError>
         requires room { self.old.bytes + length_of rest.now < 2 ^ 64 }
+        requires alive { StandsSomewhere flat.old self.old }
         ensures { TakesAhead self.old flat.old rest.now result self.new flat.new }
     {
         if let Phase::Id { .. } = &self.phase {
@@ -236,6 +241,7 @@ impl Builder {
     // how many bytes they had. They take memory.
     pub(crate) fn take_points(&mut self, flat: &mut Flat, rest: &[u8]) -> Result<usize, AllocError>
         requires room { self.old.bytes + length_of rest.now < 2 ^ 64 }
+        requires alive { StandsSomewhere flat.old self.old }
         ensures { TakesAhead self.old flat.old rest.now result self.new flat.new }
     {
         let mut used = 0;

@@ -34,12 +34,6 @@ pub(crate) struct Group {
     pub(crate) left: u64,
 }
 
-// More collections than can be open.
-pub(crate) const DEEPEST: usize = 64;
-
-// The open collections, the innermost last.
-pub(crate) type Groups = Vec<Group>;
-
 // What comes next.
 #[derive(Drop)]
 pub(crate) enum Phase {

@@ -14,4 +14,4 @@ pub mod NotedJoins
 pub mod Pieces
 pub mod Judging
 pub mod HeaderParts
-pub mod LastItems
+pub mod Admitting

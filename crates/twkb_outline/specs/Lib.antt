@@ -4,3 +4,4 @@ pub mod Reading
 pub mod Noting
 pub mod Parts
 pub mod HeaderParts
+pub mod Admitting

@@ -15,7 +15,8 @@ ghost use Rattle.twkb_grammar.specs.Noting.{Notes, note_byte, IsCalm};
 ghost use Rattle.twkb_outline.specs.Noting.{note_step, IsCalmStep, NotedOutline};
 ghost use Rattle.twkb_outline.specs.Outline.{Outline, OnHeader, step_of, OnFinished, outline_of, outline_role, outline_advanced, outline_in, outline_ends};
 ghost use Rattle.twkb_outline.specs.Growing.{rows_so_far, change_of, applied, Takes};
-ghost use Rattle.twkb_outline.specs.Reading.{Outlined, OutlinedBehind, Wants, WithItem, OutlineLanded, StepFits, open_count, AtPoint};
+ghost use Rattle.twkb_outline.specs.Reading.{Outlined, OutlinedBehind, Wants, WithItem, OutlineLanded, StepFits, open_count, AtPoint, change_after};
+ghost use Rattle.twkb_outline.specs.Admitting.{Admits};
 
 /// The role of the next item is told by the outline alone.
 pub fn role()
@@ -66,6 +67,13 @@ pub fn reading()
         → AtNumber (Outlined limits bytes e o rs) (outline_role e o) (λ rest. IsTooLong rest → FirstFault limits (bytes ++ rest) e.bytes BadVarint) }
     ensures missing { (limits : Allowance) (bytes : List ℕ) (e : Sums) (o : Outline) (rs : List Row) (role : Role) → Outlined limits bytes e o rs → Wants e o role
         → bytes ≢ [] → HasBytes role → FirstFault limits bytes e.bytes Truncated }
+{}
+
+/// The rows so far take the change that the next item brings, if nothing objects to the item, whether or not the sizes that end with it are exact (`item`); so do they of the two numbers of a point at once (`point`).
+pub fn admitting()
+    ensures item { (limits : Allowance) → IsAllowance limits → (bytes : List ℕ) (e : Sums) (o : Outline) (rs : List Row) (i : Item) → Outlined limits bytes e o rs
+        → WithItem limits e o i None (Admits (change_after e i o) rs) }
+    ensures point { (limits : Allowance) → IsAllowance limits → AtPoint (Outlined limits) (λ bytes e o change rs. Admits change rs) }
 {}
 
 /// The two numbers of a point, wherever one is wanted, taken at once: in a list behind which others follow, at the end of lists, and at that of a geometry.

@@ -1,7 +1,9 @@
 -- The open rows after one more row, by their end.
-use Rattle.std.proofs.Common.{◌≡◌, ℕ, zero, suc, ◌<◌, ◌≤◌, Bool, None, List, [], ◌∷◌, ◌++◌, length, take, refl, sym, ◌∙◌, ap, arith, length-append}
+use Rattle.std.proofs.Common.{◌≡◌, ℕ, zero, suc, ◌+◌, ◌-◌, ◌<◌, ◌≤◌, Bool, None, List, [], ◌∷◌, ◌++◌, length, take, set, get_or, refl, sym, ◌∙◌, ap, arith, length-append}
 use Rattle.std.specs.Prelude.{is_some}
-use Rattle.std.proofs.lemmas.List.{length-take-le}
+use Rattle.std.proofs.Math.Seq.{take-append_seam}
+use Rattle.std.proofs.lemmas.List.{length-take-le, length-set, take_more, take_more_set, get_or-set_other, set_comm}
+use Rattle.twkb_tree.specs.declared.kind.Kind.{Kind}
 use Rattle.twkb_tree.specs.declared.open_rows.OpenRow.{OpenRow}
 use Rattle.twkb_tree.specs.Rows.{Row}
 use Rattle.twkb_tree.specs.Open.{opened, first_answer}
@@ -14,9 +16,9 @@ entered r = record { kind = r.kind; child_ids = None }
 abbrev pub noted : OpenRow → Row → OpenRow
 noted o r = record { kind = o.kind; child_ids = first_answer o.child_ids (is_some r.id) }
 
--- the parent as a call notes it
-pub noted_by : (o p : OpenRow) (r : Row) (b : Bool) → p ≡ record { kind = o.kind; child_ids = first_answer o.child_ids b } → b ≡ is_some r.id → p ≡ noted o r
-noted_by o p r b e id = e ∙ ap (λ (a : Bool). record { kind = o.kind; child_ids = first_answer o.child_ids a }) id
+-- a row of this kind enters so
+pub as_entered : (r : Row) (k : Kind) → r.kind ≡ k → record { kind = k; child_ids = None } ≡ entered r
+as_entered r k is = ap (λ (x : Kind). record { kind = x; child_ids = None }) (sym is)
 
 empty_apart : (ys : List OpenRow) (q : OpenRow) → [] ≡ ys ++ q ∷ [] → ⊥
 empty_apart [] q e = cc e
@@ -37,17 +39,44 @@ opened_some (suc (suc d)) (o ∷ p ∷ os) (y ∷ ys) q r le e =
     let h = heads o y (take (suc d) (p ∷ os)) (ys ++ q ∷ []) e in
     ap (λ x. x ∷ opened (suc d) (p ∷ os) r) h.0 ∙ ap (λ xs. y ∷ xs) (opened_some (suc d) (p ∷ os) ys q r (omega arith) h.1)
 
-pub opened_none : (d : ℕ) (os ys : List OpenRow) (r : Row) → d ≡ 0 → ys ≡ [] → opened d os r ≡ ys ++ entered r ∷ []
-opened_none d os ys r e n = ap (λ m. opened m os r) e ∙ ap (λ xs. xs ++ entered r ∷ []) (sym n)
+-- only the rows above it count
+pub opened_front : (d n : ℕ) (os : List OpenRow) (r : Row) → d ≤ n → n ≤ length os → opened d (take n os) r ≡ opened d os r
+opened_front zero n os r le few = refl
+opened_front (suc d) zero os r le few = absurd (omega (arith, le))
+opened_front (suc d) (suc n) [] r le few = absurd (omega (arith, few))
+opened_front (suc zero) (suc n) (o ∷ os) r le few = refl
+opened_front (suc (suc d)) (suc n) (o ∷ os) r le few = ap (λ xs. o ∷ xs) (opened_front (suc d) n os r (omega (arith, le)) (omega (arith, few)))
 
-nil_of : (xs : List OpenRow) → length xs ≡ 0 → xs ≡ []
-nil_of [] e = refl
-nil_of (x ∷ xs) e = absurd (omega arith)
+-- and not what comes after them
+pub opened_before : (d : ℕ) (os more : List OpenRow) (r : Row) → d ≤ length os → opened d (os ++ more) r ≡ opened d os r
+opened_before d os more r le =
+    sym (opened_front d (length os) (os ++ more) r le (omega (arith, length-append os more))) ∙ ap (λ (xs : List OpenRow). opened d xs r) (take-append_seam os more)
 
--- where nothing was left to take off, the row is a root
-pub nothing : (d : ℕ) (os cut rest : List OpenRow) → d ≤ length os → cut ≡ take d os → cut ≡ rest ++ [] → (0 < length cut → ⊥) → (d ≡ 0) × (rest ≡ [])
-nothing d os cut rest le e r none =
-    let size = length-take-le d os le in
-    let same = ap length e in
-    let others = ap length r in
-    (omega (arith, size, same, none), nil_of rest (omega (arith, none, others, length-append rest [])))
+-- a row is written after its parent, which notes it
+pub row_written : (os : List OpenRow) (d : ℕ) (r : Row) (e x q : OpenRow) (b : Bool) → 0 < d → d < length os → e ≡ entered r
+    → q ≡ record { kind = (get_or (set os d e) (d - 1) x).kind; child_ids = first_answer (get_or (set os d e) (d - 1) x).child_ids b } → b ≡ is_some r.id
+    → take (d + 1) (set (set os d e) (d - 1) q) ≡ opened d os r
+row_written os d r e x q b below within is notes bit =
+    let i = d - 1 in
+    let next : i + 1 ≡ d = omega (arith, below) in
+    let first : i < length os = omega (arith, below, within) in
+    let p = get_or os i x in
+    let stood : get_or (set os d e) i x ≡ p = get_or-set_other os d i e x (λ same. omega (arith, same, next)) in
+    let noted_so : q ≡ noted p r =
+    notes ∙ (ap (λ (o : OpenRow). record { kind = o.kind; child_ids = first_answer o.child_ids b }) stood
+    ∙ ap (λ (a : Bool). record { kind = p.kind; child_ids = first_answer p.child_ids a }) bit) in
+    let cut : take d os ≡ take i os ++ p ∷ [] = ap (λ k. take k os) (sym next) ∙ take_more os i x first in
+    let noted_is : take d (set os i q) ≡ take i os ++ q ∷ [] = ap (λ k. take k (set os i q)) (sym next) ∙ take_more_set os i q first in
+    let turned : set (set os d e) i q ≡ set (set os i q) d e = set_comm os d i e q (λ same. omega (arith, same, next)) in
+    ap (take (d + 1)) turned
+    ∙ (take_more_set (set os i q) d e (omega (arith, within, length-set os i q))
+    ∙ (ap (λ xs. xs ++ e ∷ []) noted_is
+    ∙ (ap (λ o. (take i os ++ o ∷ []) ++ e ∷ []) noted_so
+    ∙ (ap (λ o. (take i os ++ noted p r ∷ []) ++ o ∷ []) is
+    ∙ sym (opened_some d os (take i os) p r (omega (arith, within)) cut)))))
+
+-- the places after the open ones do not count
+pub opened_in : (d n : ℕ) (items now : List OpenRow) (r : Row) → n ≤ length items → now ≡ take n items → d ≤ length now → opened d items r ≡ opened d now r
+opened_in d n items now r few is le =
+    let size = length-take-le n items few in
+    sym (opened_front d n items r (omega (arith, le, ap length is, size)) few) ∙ ap (λ (xs : List OpenRow). opened d xs r) (sym is)

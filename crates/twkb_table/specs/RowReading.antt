@@ -19,7 +19,7 @@ limits_of reader = reader.limits
 
 -- the rows that are open
 abbrev pub open_rows_of : RowReader → List OpenRow
-open_rows_of reader = reader.open_rows.items
+open_rows_of reader = reader.open_rows
 
 -- a root that may be there, with these points
 abbrev pub with_points : Option Root → List Point → List TableRow

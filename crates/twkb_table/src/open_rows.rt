@@ -1,30 +1,112 @@
 //! The open rows of a table that is being read.
-ghost use Rattle.std.specs.Prelude.{◌≡◌, ◌≤◌, List, length, OnOk, OnErr};
+ghost use Rattle.std.specs.Prelude.{◌≡◌, ◌≤◌, ◌<◌, ◌+◌, [], List, length, take, is_some, OnOk, OnErr};
 ghost use Rattle.twkb_points.specs.Point.{Point};
+ghost use Rattle.twkb_tree.specs.Rows.{Row as TableRow};
 ghost use Rattle.twkb_tree.specs.Open.{opened};
+ghost use Rattle.twkb_tree.specs.declared.open_rows.OpenRow.{OpenRow};
 ghost use Rattle.twkb_flat.specs.Rows.{row_with};
 
-use std::alloc::AllocError;
+use smallvec::SmallVec;
+use std::alloc::{AllocError, Global};
+use std::marker::Model;
 use twkb_flat::Row;
-use twkb_tree::OpenRow;
+use twkb_tree::{Kind, OpenRow};
 
-// Opens a row that was read: the open rows at its depth and below go, its parent has had a child,
-// and the row stands last. Takes memory where more rows are open than ever before; an `Err`
-// changes nothing.
+// Up to this many open rows take no memory of their own. Collections eight deep, with their points, have ten.
+const INLINE: usize = 16;
+
+// The open rows, the root first. A place is kept after its row is done, for the next one as deep: nothing is dropped, and no blank is
+// written.
+#[derive(Drop)]
+pub(crate) struct OpenRows {
+    places: SmallVec<OpenRow, INLINE>,
+    levels: usize,
+}
+
+impl Model for OpenRows {
+    ghost Value = { List OpenRow };
+
+    ghost view = { λ rows. take rows.levels rows.places.items };
+
+    ghost invariant = { λ rows. rows.levels ≤ length rows.places.items };
+}
+
+// Opens a row of this kind at this depth, and notes at its parent a child with an id or without.
 #[inline(always)]
-pub(crate) fn open_row(rows: &mut Vec<OpenRow>, row: &Row) -> Result<(), AllocError>
-    requires { row.now.depth ≤ length rows.old.items }
-    ensures opened { OnOk result ((points : List Point) → rows.new.items ≡ opened row.now.depth rows.old.items (row_with row.now points)) }
-    ensures same { OnErr result (rows.new.items ≡ rows.old.items) }
+fn write(places: &mut [OpenRow], depth: usize, kind: Kind, has_id: bool)
+    requires { depth < length places.old }
+    ensures opened { (r : TableRow) → r.kind ≡ kind → is_some r.id ≡ has_id → take (depth + 1) places.new ≡ opened depth places.old r }
+    ensures as_many { length places.new ≡ length places.old }
 {
-    rows.reserve(1)?;
-    rows.truncate(row.depth as usize);
-    if let Some(parent) = rows.pop() {
-        rows.push_reserved(parent.with_child(row.id.is_some()));
-    }
-    rows.push_reserved(OpenRow {
-        kind: row.kind,
+    places[depth] = OpenRow {
+        kind,
         child_ids: None,
-    });
+    };
+    if depth > 0 {
+        places[depth - 1] = places[depth - 1].with_child(has_id);
+    }
+}
+
+// Opens a row if there is no such place yet, or the places are in memory of their own.
+#[cold]
+#[inline(never)]
+fn write_apart(
+    places: &mut SmallVec<OpenRow, INLINE>,
+    depth: usize,
+    kind: Kind,
+    has_id: bool,
+) -> Result<(), AllocError>
+    requires { depth ≤ length places.old.items }
+    ensures opened { OnOk result ((r : TableRow) → r.kind ≡ kind → is_some r.id ≡ has_id → take (depth + 1) places.new.items ≡ opened depth places.old.items r) }
+    ensures enough { OnOk result (depth < length places.new.items) }
+    ensures same { OnErr result (places.new.items ≡ places.old.items) }
+{
+    if depth >= places.len() {
+        let Ok(()) = places.push(OpenRow::default()) else {
+            return Err(AllocError);
+        };
+    }
+    write(places.as_mut_slice(), depth, kind, has_id);
     Ok(())
+}
+
+impl OpenRows {
+    // No open row. Takes no memory.
+    pub(crate) fn new(alloc: Global) -> OpenRows
+        ensures { result ≡ [] }
+    {
+        OpenRows {
+            places: SmallVec::new(alloc),
+            levels: 0,
+        }
+    }
+
+    // The open rows.
+    #[inline(always)]
+    pub(crate) fn as_slice(&self) -> &[OpenRow]
+        ensures { result.now ≡ self.now }
+    {
+        &self.places.as_slice()[..self.levels]
+    }
+
+    // Opens a row that was read: the open rows at its depth and below are done, its parent notes a child, and the row is the last one. Takes
+    // memory if more rows are open than ever before, and more than sixteen; an `Err` changes nothing.
+    #[inline(always)]
+    pub(crate) fn open_row(&mut self, row: &Row) -> Result<(), AllocError>
+        requires { row.now.depth ≤ length self.old }
+        ensures opened { OnOk result ((points : List Point) → self.new ≡ opened row.now.depth self.old (row_with row.now points)) }
+        ensures same { OnErr result (self.new ≡ self.old) }
+    {
+        let depth = row.depth as usize;
+        let has_id = row.id.is_some();
+        if self.places.spilled() || depth >= self.places.len() {
+            let Ok(()) = write_apart(&mut self.places, depth, row.kind, has_id) else {
+                return Err(AllocError);
+            };
+        } else {
+            write(self.places.as_mut_slice(), depth, row.kind, has_id);
+        }
+        self.levels = depth + 1;
+        Ok(())
+    }
 }

@@ -9,13 +9,13 @@ ghost use Rattle.twkb_table.specs.Waiting.{may_wait};
 
 use crate::head::RowHead;
 use crate::judging::{JudgeFault, judge, judge_head};
-use crate::open_rows::open_row;
+use crate::open_rows::OpenRows;
 use crate::reason::RowReason;
 use csv::ByteRecord;
 use std::alloc::{AllocError, Global};
 use twkb_flat::{Flat, PointSource, Row};
 use twkb_points::Pt;
-use twkb_tree::{Kind, Limits, OpenRow};
+use twkb_tree::{Kind, Limits};
 
 // A root that waits: each root stands at depth 0, and has no id.
 #[derive(Clone, Copy)]
@@ -29,7 +29,7 @@ pub(crate) struct Root {
 #[derive(Drop)]
 pub(crate) struct RowReader {
     limits: Limits,
-    open_rows: Vec<OpenRow>,
+    open_rows: OpenRows,
     waiting: Option<Root>,
     points: Vec<Pt>,
     ghost waits: { may_wait limits waiting points.items ≡ true },
@@ -45,7 +45,7 @@ impl RowReader {
     {
         RowReader {
             limits,
-            open_rows: Vec::new(alloc),
+            open_rows: OpenRows::new(alloc),
             waiting: None,
             points: Vec::new(alloc),
         }
@@ -102,7 +102,7 @@ impl RowReader {
             id: None,
             precision: root.precision,
         };
-        open_row(&mut self.open_rows, &row)?;
+        self.open_rows.open_row(&row)?;
         flat.begin(row, &mut self.points)?;
         Ok(())
     }
@@ -145,7 +145,7 @@ impl RowReader {
         if let Err(fault) = flat.push_from(row, &head) {
             return Err(fault);
         }
-        let Ok(()) = open_row(&mut self.open_rows, &row) else {
+        let Ok(()) = self.open_rows.open_row(&row) else {
             return Err(JudgeFault::Memory);
         };
         Ok(true)

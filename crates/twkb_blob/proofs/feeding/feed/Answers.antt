@@ -1,8 +1,9 @@
-use Rattle.std.proofs.Common.{rules, ◌≡◌, subst, arith}
+use Rattle.std.proofs.Common.{rules, ◌≡◌, sym, subst, arith}
 use Rattle.twkb_engine.specs.Standing.{allowance_of}
 use Rattle.twkb_blob.specs.Located.{FeedsNoted}
 use Rattle.twkb_blob.proofs.PointSpans.{root_spans}
 use Rattle.twkb_blob.proofs.WholePoints.{made_part}
+use Rattle.twkb_engine.specs.Standing.{IsAlive}
 use Rattle.twkb_blob.proofs.feeding.feed.Goals as goal
 
 pub returns-in-Ok-None-clause-noted : goal.returns-in-Ok-None-clause-noted
@@ -32,3 +33,8 @@ returns-in-Err-note_root-clause-fed c = λ bs s.
 
 pub returns-in-Err-note_root-clause-noted : goal.returns-in-Err-note_root-clause-noted
 returns-in-Err-note_root-clause-noted c = λ on. (tt, λ bs s. returns-in-Err-note_root-clause-fed c bs s)
+
+pub feed_piece-requires-clause-alive : goal.feed_piece-requires-clause-alive
+feed_piece-requires-clause-alive c =
+    let still : c.take_root.new.flat ≡ c.args.flat.now = search rules in
+    subst (λ rs. IsAlive rs c.args.engine.now) (sym still) c.requires.alive

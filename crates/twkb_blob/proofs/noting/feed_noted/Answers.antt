@@ -3,6 +3,7 @@ use Rattle.twkb_outline.proofs.Pieces.{one_within}
 use Rattle.twkb_engine.specs.Standing.{allowance_of}
 use Rattle.twkb_blob.specs.Located.{notes_at}
 use Rattle.twkb_blob.proofs.Bytes.{stands_behind, went_on, made_behind, stopped_behind}
+use Rattle.twkb_engine.proofs.Admitting.{alive_on}
 use Rattle.twkb_blob.proofs.noting.feed_noted.Goals as goal
 
 pub loop-used-init : goal.loop-used-init
@@ -35,3 +36,7 @@ returns-in-Err-clause-fed c = λ bs s.
     let (t, says) = c.loop-used.invariant.stands bs s in
     stopped_behind (allowance_of c.args.engine.now) (allowance_of c.loop-used.engine) (c.args.notes.now ≡ notes_at c.args.start s) (c.loop-used.notes ≡ notes_at c.args.start t) c.args.start bs c.args.held.now used c.in-Err.stop c.take_noted.new.flat c.take_noted.new.engine c.take_noted.new.notes c.loop-used.invariant.limits c.loop-used.invariant.within
     (c.in-Err.ensures.fed (bs ++ take used c.args.held.now) t)
+
+pub take_noted-requires-clause-alive : goal.take_noted-requires-clause-alive
+take_noted-requires-clause-alive c =
+    alive_on c.args.flat.now c.loop-used.flat c.args.engine.now c.loop-used.engine (take c.loop-used.used c.args.held.now) (λ bs s. (c.loop-used.invariant.stands bs s).0) c.requires.alive

@@ -3,4 +3,4 @@ use Rattle.twkb_engine.proofs.Groups.{groups_length}
 use Rattle.twkb_engine.proofs.header.head_within.Goals as goal
 
 pub returns-clause-depth : goal.returns-clause-depth
-returns-clause-depth c = omega (arith, groups_length [] c.args.groups.now.items, c.len.ensures, c.args.groups.now.ok.0)
+returns-clause-depth c = omega (arith, groups_length [] c.args.groups.now, c.len.ensures)

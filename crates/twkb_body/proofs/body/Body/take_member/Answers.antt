@@ -3,7 +3,7 @@ use Rattle.twkb_body.specs.Running.{StopsWith, at_spot}
 use Rattle.twkb_body.specs.declared.lefts.Lefts.TheVariants.{One}
 use Rattle.twkb_body.specs.declared.lefts.Spot.{Spot}
 use Rattle.twkb_body.specs.declared.lefts.Spot.TheVariants.{X}
-use Rattle.twkb_body.proofs.PointRuns.{member_stops, member_put}
+use Rattle.twkb_body.proofs.PointRuns.{member_stops, member_put, member_admitted}
 use Rattle.twkb_body.proofs.body.Body.take_member.Goals as goal
 
 pub returns-in_default : goal.returns-in_default
@@ -25,5 +25,10 @@ returns-in-Err c =
 pub returns : goal.returns
 returns c =
     let b = c.args.self.now in
-    member_put c.args.head b c.go_on.new.self c.args.flat.now c.put_point.new.flat c.in-X-One.left _ c.args.from _ c.args.bytes.now _ c.requires (c.in-X-One.is ∙ ap X (rw c.in-X-One.is at c.in-X-One.field-0-is)) (omega (arith, c.if-left-eq0.false)) c.in-Some.ensures
+    member_put c.args.head b c.go_on.new.self c.args.flat.now c.put_point.new.flat c.in-X-One.left _ c.args.from _ c.args.bytes.now _ c.requires.multi (c.in-X-One.is ∙ ap X (rw c.in-X-One.is at c.in-X-One.field-0-is)) (omega (arith, c.if-left-eq0.false)) c.in-Some.ensures
     c.next-member.ensures c.go_on.ensures c.in_default-put_point.ensures.put
+
+pub put_point-requires : goal.put_point-requires
+put_point-requires c =
+    let b = c.args.self.now in
+    member_admitted c.args.head b c.args.flat.now c.in-X-One.left _ c.args.from _ c.args.bytes.now _ c.requires.multi (c.in-X-One.is ∙ ap X (rw c.in-X-One.is at c.in-X-One.field-0-is)) c.in-Some.ensures c.next-member.ensures c.requires.wanted

@@ -30,7 +30,7 @@ loop-left-init c =
     record {
       leads = subst (λ (s : Spot). Leads c.args.head b c.args.flat.now c.args.from c.args.bytes.now none (at_spot b s) c.args.flat.now) (c.in-X-One.is ∙ ap X (rw c.in-X-One.is at c.in-X-One.field-0-is))
           (takes_none c.args.head b c.args.flat.now c.args.from c.args.bytes.now none refl);
-      form = c.requires;
+      form = c.requires.multi;
       member = c.takes_members.ensures.ends c.if-not-takes_members.false;
       nodes = c.takes_members.ensures.nodes c.if-not-takes_members.false;
       points = c.takes_members.ensures.points c.if-not-takes_members.false;

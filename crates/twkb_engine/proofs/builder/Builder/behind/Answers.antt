@@ -8,7 +8,7 @@ use Rattle.twkb_engine.proofs.builder.Builder.behind.Goals as goal
 pub returns-clause-added : goal.returns-clause-added
 returns-clause-added c = λ role bytes says.
     let b = c.args.self.now in
-    let level = length (groups_of b.groups.items) in
+    let level = length (groups_of b.groups) in
     added_sums (sums_of b) (record { role = role; number = c.args.number; bytes = bytes }) _ _ _ _ refl
     (subst (λ o. IfSome o (λ p. p ≡ moved b.position role c.args.number)) c.unwrap-position.ensures (c.moved.ensures.place role says))
     (ap (λ n. b.nodes + n) (c.announced-nodes.ensures.nodes level b.bytes role says))

@@ -26,6 +26,6 @@ returns c =
       few = found.few;
       placed = record { depth_is = own.ensures.depth; id_is = own.ensures.id };
       led = λ front rs s.
-          header_ahead b.limits front (sums_of b) (groups_of b.groups.items) (kind_of typed.kind) (step_of b.phase) typed.precision rs (λ start. notes_in start s.outlined) rest c.from_byte-metadata.result (head_of own.result) parts.size parts.from parts.used c.in_ok-points.points
+          header_ahead b.limits front (sums_of b) (groups_of b.groups) (kind_of typed.kind) (step_of b.phase) typed.precision rs (λ start. notes_in start s.outlined) rest c.from_byte-metadata.result (head_of own.result) parts.size parts.from parts.used c.in_ok-points.points
           c.requires.some (search rules) c.from_byte-metadata.ensures (sym c.is_empty.ensures ∙ c.if-is_empty.false) found.free found.points c.in_ok-parts.ensures own.ensures.head (ap step_of c.in-Metadata.is) (record { outlined = s.outlined; notes = λ start. refl });
     }

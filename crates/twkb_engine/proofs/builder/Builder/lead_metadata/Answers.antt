@@ -16,13 +16,13 @@ returns-clause-led c =
     let b = c.args.self.now in
     let ahead = c.in-Some.ahead in
     let h = c.in-Some.ensures in
-    let gs = groups_of b.groups.items in
+    let gs = groups_of b.groups in
     let at = λ (p : IsHeadAt (length gs) (id_in gs) ahead.head). subst (λ d. IsPlaced d (id_in gs) c.begin_body.result) p.depth_is (subst (λ i. IsPlaced ahead.head.depth i c.begin_body.result) p.id_is c.begin_body.ensures.placed) in
     record {
       limits = refl;
       within = h.within;
       bytes = refl;
       led = λ rs front s.
-          stands_there _ b.limits (front ++ take ahead.used c.args.rest.now) (record { bytes = b.bytes + ahead.used; position = b.position; nodes = b.nodes; points = ahead.points }) (groups_of b.groups.items, begins (kind_of ahead.kind) (head_of ahead.head)) rs rs
-          (λ start. note_next b (take ahead.used c.args.rest.now) start (notes_in start s.outlined)) (h.led front rs s) refl refl (λ t. (groups_of b.groups.items, c.begin_body.ensures.step t)) refl (at h.placed);
+          stands_there _ b.limits (front ++ take ahead.used c.args.rest.now) (record { bytes = b.bytes + ahead.used; position = b.position; nodes = b.nodes; points = ahead.points }) (groups_of b.groups, begins (kind_of ahead.kind) (head_of ahead.head)) rs rs
+          (λ start. note_next b (take ahead.used c.args.rest.now) start (notes_in start s.outlined)) (h.led front rs s) refl refl (λ t. (groups_of b.groups, c.begin_body.ensures.step t)) refl (at h.placed);
     }

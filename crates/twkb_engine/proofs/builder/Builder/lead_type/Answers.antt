@@ -26,7 +26,7 @@ returns-clause-led c = record {
   led = λ rs front s.
       let b = c.args.self.now in
       let rest = c.args.rest.now in
-      let level = length (groups_of b.groups.items) in
+      let level = length (groups_of b.groups) in
       let i : Item = record { role = Header; number = c.from-number.result; bytes = take 1 rest } in
       let is = c.in-Header.is in
       let same : i.number ≡ get_or rest 0 0 = search rules in
@@ -35,7 +35,7 @@ returns-clause-led c = record {
       let wanted = ap (λ q. step_role level b.bytes (step_of q)) is in
       let bytes : b.bytes + 1 ≡ b.bytes + length (take 1 rest) = omega (arith, ap length one) in
       let summed = added_sums (sums_of b) i (b.bytes + 1) c.origin-self.result b.nodes b.points bytes c.origin-self.ensures (omega arith) (omega arith) in
-      let step = ap (λ q. outline_advanced (b.bytes + 1) i.number (groups_of b.groups.items, step_of q)) is ∙ ap (λ q. (groups_of b.groups.items, q)) (sym c.typed_by.ensures.step) in
-      let (t, says) = item_led front rs b _ i s wanted (low, one) (sym c.in_default-objection.ensures) refl summed step (ap (λ q. change_of c.origin-self.result i.number (groups_of b.groups.items, step_of q)) is) tt in
+      let step = ap (λ q. outline_advanced (b.bytes + 1) i.number (groups_of b.groups, step_of q)) is ∙ ap (λ q. (groups_of b.groups, q)) (sym c.typed_by.ensures.step) in
+      let (t, says) = item_led front rs b _ i s wanted (low, one) (sym c.in_default-objection.ensures) refl summed step (ap (λ q. change_of c.origin-self.result i.number (groups_of b.groups, step_of q)) is) tt in
       (t, λ start. says start ∙ first_noted start level (sums_of b) i (notes_in start s.outlined) b.phase b.waits wanted (low, one));
 }

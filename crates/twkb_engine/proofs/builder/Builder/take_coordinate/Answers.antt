@@ -1,6 +1,10 @@
-use Rattle.std.proofs.Common.{◌≡◌, rules, refl, sym, ap}
+use Rattle.std.proofs.Common.{◌≡◌, rules, refl, sym, ap, subst, inr}
 use Rattle.twkb_outline.specs.Growing.{applied}
 use Rattle.twkb_body.specs.Steps.{change_by}
+use Rattle.twkb_outline.specs.Admitting.{Admits}
+use Rattle.twkb_body.specs.declared.body.Body.{Body}
+use Rattle.twkb_engine.specs.State.{IsSpelled}
+use Rattle.twkb_engine.proofs.Admitting.{may_take, body_admits}
 use Rattle.twkb_engine.proofs.Taking.{number_led, number_judged}
 use Rattle.twkb_engine.proofs.builder.Builder.take_coordinate.Goals as goal
 
@@ -25,3 +29,11 @@ pub returns-in-Err-clause-steps : goal.returns-in-Err-clause-steps
 returns-in-Err-clause-steps c = λ bytes front says s.
     number_judged c.args.self.now c.in-Body.field-0 c.in-Body.body c.args.flat.now c.args.number bytes c.in-Body.is c.in-Some.ensures.free says
     (rw (c.take_x.ensures.same c.if-take_x.false) at (c.in-Err.ensures.goes_on c.in-Body.field-0 c.args.number)) front s
+
+pub take_y-requires : goal.take_y-requires
+take_y-requires c =
+    let b = c.args.self.now in
+    let h = c.in-Body.field-0 in
+    let spelled = subst (λ q. IsSpelled q) (sym c.in-Body.is) tt in
+    let may = may_take b c.args.flat.now c.args.number c.in-Some.position b.nodes b.points c.requires.alive c.ranges.number.fits (inr spelled) c.in-Some.ensures.free c.in-Some.ensures.added in
+    (h, subst (λ (d : Body). Admits (change_by c.in-Some.position h d) c.args.flat.now) (sym (c.take_x.ensures.same c.if-take_x.false)) (body_admits c.args.flat.now c.in-Some.position c.args.number b.groups b.phase h c.in-Body.body c.in-Body.is may))

@@ -1,6 +1,7 @@
 use Rattle.std.proofs.Common.{length, refl, ap, ◌∙◌, arith}
 use Rattle.std.proofs.lemmas.List.{length-drop, take_rest}
 use Rattle.twkb_engine.proofs.Ahead.{runs_none, runs_further, stops_further, took, took_none}
+use Rattle.twkb_engine.proofs.Admitting.{somewhere_on}
 use Rattle.twkb_engine.proofs.builder.Builder.take_points.Goals as goal
 
 pub loop-used-init : goal.loop-used-init
@@ -21,3 +22,6 @@ returns-in-Err c =
 
 pub returns : goal.returns
 returns c = took c.args.self.now c.args.flat.now c.args.rest.now _ _ _ c.loop-used.invariant
+
+pub take_some-requires-clause-alive : goal.take_some-requires-clause-alive
+take_some-requires-clause-alive c = somewhere_on c.args.self.now c.loop-used.self c.args.flat.now c.loop-used.flat c.args.rest.now c.loop-used.used c.loop-used.invariant c.requires.alive

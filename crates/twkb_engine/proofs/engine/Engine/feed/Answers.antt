@@ -2,6 +2,7 @@ use Rattle.std.proofs.Common.{◌∙◌, ◌++◌, take, arith}
 use Rattle.twkb_outline.proofs.Pieces.{one_within}
 use Rattle.twkb_engine.specs.Standing.{allowance_of}
 use Rattle.twkb_engine.proofs.Feeding.{went_on, made, refused}
+use Rattle.twkb_engine.proofs.Admitting.{alive_on}
 use Rattle.twkb_engine.proofs.engine.Engine.feed.Goals as goal
 
 pub returns-in-Err-clause-fed : goal.returns-in-Err-clause-fed
@@ -29,3 +30,7 @@ loop-used-preserved c =
           went_on (allowance_of c.loop-used.self) bs c.args.piece.now used c.in-Ok.taken c.take_some.new.flat c.take_some.new.self c.if-ended.false
           (more.taken (bs ++ take used c.args.piece.now) (c.loop-used.invariant.stands bs s));
     }
+
+pub take_some-requires-clause-alive : goal.take_some-requires-clause-alive
+take_some-requires-clause-alive c =
+    alive_on c.args.flat.now c.loop-used.flat c.args.self.now c.loop-used.self (take c.loop-used.used c.args.piece.now) c.loop-used.invariant.stands c.requires.alive

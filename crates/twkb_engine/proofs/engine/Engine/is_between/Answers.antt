@@ -10,7 +10,7 @@ use Rattle.twkb_engine.proofs.engine.Engine.is_between.Goals as goal
 pub returns-then-len-gt0 : goal.returns-then-len-gt0
 returns-then-len-gt0 c = λ bs rs s.
     let b = c.args.self.now.builder in
-    let level = length (groups_of b.groups.items) in
+    let level = length (groups_of b.groups) in
     let r = has_role level b.bytes b.phase b.waits in
     let held = c.args.self.now.partial in
     let some : 0 < length held = omega (arith, c.len.ensures.count, c.if-len-gt0.true) in
@@ -21,7 +21,7 @@ returns-then-len-gt0 c = λ bs rs s.
 pub returns-then-self-gt0 : goal.returns-then-self-gt0
 returns-then-self-gt0 c = λ bs rs s.
     let b = c.args.self.now.builder in
-    let level = length (groups_of b.groups.items) in
+    let level = length (groups_of b.groups) in
     let r = has_role level b.bytes b.phase b.waits in
     let held = c.args.self.now.partial in
     let none : held ≡ [] = nil_from_length held (omega (arith, c.len.ensures.count, c.if-len-gt0.false)) in

@@ -3,6 +3,7 @@ use Rattle.twkb_engine.specs.Standing.{held_in}
 use Rattle.twkb_engine.specs.declared.stop.Stop.TheVariants.{Memory}
 use Rattle.twkb_engine.proofs.Taking.{led_taken, unled_taken}
 use Rattle.twkb_engine.proofs.Stepping.{number_stepped, long_refused}
+use Rattle.twkb_engine.proofs.Admitting.{somewhere_in, somewhere_still}
 use Rattle.twkb_engine.proofs.engine.Engine.take_byte.Goals as goal
 
 pub returns-in-Taken-clause-taken : goal.returns-in-Taken-clause-taken
@@ -32,3 +33,11 @@ returns-in-TooLong-clause-taken c = λ bs s more.
     let begun = (c.varints.ensures.begun (held_in d)).1 c.len.ensures.held in
     let long = (c.long_varints.ensures (held_in d) c.args.byte begun c.ranges.byte.fits).0 c.in-TooLong.ensures.answer in
     long_refused bs more c.args.byte c.args.flat.now d s (c.wants_byte.ensures.spelled c.if-wants_byte.false) begun long.0 long.1
+
+pub take_left-requires-clause-alive : goal.take_left-requires-clause-alive
+take_left-requires-clause-alive c =
+    let d = c.args.self.now in
+    somewhere_still d.builder c.take_coordinate.new.self c.args.flat.now c.take_coordinate.new.flat c.in-Left.ensures.steps (somewhere_in c.args.flat.now d c.requires.alive)
+
+pub take_coordinate-requires-clause-alive : goal.take_coordinate-requires-clause-alive
+take_coordinate-requires-clause-alive c = somewhere_in c.args.flat.now c.args.self.now c.requires.alive

@@ -33,7 +33,7 @@ open_row-requires c =
     let own = c.in_default-push_from.ensures.pushed in
     let row = row_with c.row-row.result own.0 in
     let next = comes_next l c.args.flat.now (fields_of c.args.here.now) c.in-Ok.head row own.0 c.requires.keeps.of_one c.in-Ok.ensures.read (ap (λ r. row_with r own.0) (sym c.row-row.ensures)) own.2 in
-    depth_within l (reverse c.args.flat.now) c.args.self.now.open_rows.items row next.accepts c.requires.keeps.open_rows
+    depth_within l (reverse c.args.flat.now) c.args.self.now.open_rows row next.accepts c.requires.keeps.open_rows
 
 pub returns-in-Err : goal.returns-in-Err
 returns-in-Err c = search rules
@@ -82,7 +82,7 @@ returns c = record {
       let row = row_with c.row-row.result own.0 in
       let below : 0 < c.row-row.result.depth = omega (arith, c.if-row-eq0.false) in
       let next = comes_next l c.args.flat.now (fields_of c.args.here.now) c.in-Ok.head row own.0 c.requires.keeps.of_one c.in-Ok.ensures.read (ap (λ r. row_with r own.0) (sym c.row-row.ensures)) own.2 in
-      let kept = keeps_next l row c.args.flat.now c.push_from.new.self c.args.self.now.open_rows.items c.open_row.new.rows.items c.requires.keeps.of_one c.requires.keeps.some c.requires.keeps.open_rows next.accepts below own.1 (c.in-Ok-open_row.ensures.opened own.0) in
+      let kept = keeps_next l row c.args.flat.now c.push_from.new.self c.args.self.now.open_rows c.open_row.new.self c.requires.keeps.of_one c.requires.keeps.some c.requires.keeps.open_rows next.accepts below own.1 (c.in-Ok-open_row.ensures.opened own.0) in
       record {
         row = row;
         rows = own.1;
