@@ -28,7 +28,7 @@ pub struct Session {
     spent: bool,
     ghost start_few: { start ≤ 2 ^ 62 },
     ghost taken_few: { count_of engine ≤ 2 ^ 62 },
-    ghost alive: { spent ≡ false → IsAlive (if is_whole then [] else flat) engine },
+    ghost alive: { spent ≡ false → IsAlive (if is_whole then [] else rows.flat) engine },
 }
 
 // What a feed answers where no geometry ends behind so many bytes. Made in a call of its own, it is written where it is wanted, with no copy.
