@@ -1,3 +1,4 @@
-//! Readers of tables, a judged row, and printed numbers.
+//! Readers of tables, both printers of rows, a judged row, and printed numbers.
 mod calls;
+mod printing;
 mod rows;

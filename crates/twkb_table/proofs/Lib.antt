@@ -18,6 +18,7 @@ pub mod ReadBack
 pub mod ReadingLaws
 pub mod RecordFacts
 pub mod RecordJudged
+pub mod RecordWritingLemmas
 pub mod RowReaderLemmas
 pub mod RowsJudged
 pub mod StandingLemmas
@@ -25,4 +26,5 @@ pub mod TableCalls
 pub mod TableReaderLemmas
 pub mod TableSteps
 pub mod Tables
+pub mod Unquoted
 pub mod Verdicts

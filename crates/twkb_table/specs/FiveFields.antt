@@ -1,4 +1,4 @@
--- The five fields of a record that was read.
+-- The five fields of a record.
 use Rattle.std.specs.Prelude.{[], ◌∷◌}
 use Rattle.twkb_table.specs.Record.{Record}
 use Rattle.twkb_table.specs.declared.fields.Fields.{Fields}

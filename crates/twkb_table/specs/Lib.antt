@@ -11,6 +11,7 @@ pub mod Places
 pub mod Printing
 pub mod Reading
 pub mod Record
+pub mod RecordWriting
 pub mod RowFault
 pub mod RowReading
 pub mod Samples

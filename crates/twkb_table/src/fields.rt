@@ -1,4 +1,4 @@
-//! The five fields of a record that was read.
+//! The five fields of a record.
 ghost use Rattle.std.specs.Prelude.{◌≡◌, ◌<◌, length, Some};
 ghost use Rattle.csv.specs.Records.{fields_of, field_at};
 ghost use Rattle.twkb_table.specs.FiveFields.{record_seen};
@@ -8,7 +8,7 @@ use csv::ByteRecord;
 // How many fields the record of a row has.
 pub(crate) const FIELD_COUNT: usize = 5;
 
-// The fields of a row's record, as they stand.
+// The fields of a row's record, as they are read or written.
 #[derive(Clone, Copy)]
 pub(crate) struct Fields<'a> {
     pub(crate) depth: &'a [u8],

@@ -52,7 +52,7 @@ fn likely_of_ten(first: u8) -> Kind
 
 // The word of a kind.
 #[inline(always)]
-fn kind_word(kind: Kind) -> &'static [u8]
+pub(crate) fn kind_word(kind: Kind) -> &'static [u8]
     ensures { result.now ≡ word_of kind }
 {
     match kind {

@@ -15,6 +15,7 @@ mod places;
 mod printing;
 mod reason;
 mod record_source;
+mod record_writer;
 mod row_line;
 mod row_reader;
 mod table_fault;
