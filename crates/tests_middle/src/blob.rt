@@ -2,6 +2,8 @@
 //! program `vectors`.
 mod failing;
 mod memory;
+mod mixed;
 mod sessions;
+mod spans;
 mod through;
 mod ways;

@@ -17,6 +17,8 @@ mod memory;
 #[cfg(test)]
 mod num;
 #[cfg(test)]
+mod pairs;
+#[cfg(test)]
 mod points;
 #[cfg(test)]
 mod polyline;

@@ -1,9 +1,11 @@
 //! Conversions from a buffer to a buffer. The blob is the one that PostGIS writes of the line from (1, 1) to (5, 5); the
 //! places of faults are those of docs/FORMATS.md.
+use crate::convert::worked::{WORKED, Worked};
 use std::alloc::Global;
 use twkb_buffer::{BufferReport, Conversion, fill, measure};
 use twkb_convert::Style;
 use twkb_geom::Limits;
+use twkb_request::Conversion as Asked;
 
 const TABLE: &[u8] = b"depth,kind,id,precision,polyline\n0,linestring,,0,AAGG\n";
 
@@ -113,4 +115,41 @@ fn a_refusal_tells_its_place(rt: HostRuntime) {
     let alloc = rt.alloc();
     assert!(rt; is_refused(alloc, Conversion::Pack(Style::Full), HALF_POINT, 25, 2, 1));
     assert!(rt; is_refused(alloc, Conversion::Show, &BLOB[..6], 41, 6, 0));
+}
+
+// What is asked of a buffer.
+fn conversion_of(what: Asked) -> Conversion {
+    match what {
+        Asked::Pack => Conversion::Pack(Style::Full),
+        Asked::Unpack => Conversion::Unpack,
+        Asked::Show => Conversion::Show,
+    }
+}
+
+// Whether a worked conversion writes its output and tells whether the input is refused after it; or lacks memory after the first bytes of it.
+// The input is there in one piece.
+fn fills_or_lacks(alloc: Global, worked: &Worked) -> bool {
+    let mut room = [0u8; 190];
+    let what = conversion_of(worked.what);
+    let report = fill(alloc, what, worked.input, &mut room, Limits::standard());
+    let is_front = match room.get(..report.sent as usize) {
+        Some(sent) => worked.output.starts_with(sent),
+        None => false,
+    };
+    let is_whole = report.sent == worked.output.len() as u64;
+    let is_told = match report.status {
+        0 => is_whole & worked.stopped.is_none(),
+        1 => is_whole & worked.stopped.is_some(),
+        status => status == 4,
+    };
+    is_front & is_told
+}
+
+// Run with each growth refused in turn (`rt try --test --fail-alloc N`) too.
+#[test]
+fn a_refused_growth_is_want_of_memory_after_the_first_bytes_of_the_output(rt: HostRuntime) {
+    for worked in &WORKED {
+        let is_told = fills_or_lacks(rt.alloc(), worked);
+        assert!(rt; is_told, "{}", worked.name);
+    }
 }

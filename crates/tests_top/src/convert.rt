@@ -4,4 +4,4 @@ mod failing_in_turn;
 mod order;
 mod runs;
 mod work;
-mod worked;
+pub(crate) mod worked;

@@ -1,30 +1,45 @@
 //! Readers over a device that fails.
+ghost use Rattle.std.specs.Prelude.{◌<◌};
+
 use super::ways::{Way, read_twice};
 use std::alloc::Global;
 use twkb_blob::BlobFault;
 use twkb_io::{Fuse, FuseEnd, InFault, Tap};
 
-// Whether a reader of a line of two points that is cut behind so many bytes answers a failed read, and is then spent.
-fn tells_failure(alloc: Global, way: Way, bytes: u64) -> bool {
-    let line = b"\x02\x00\x02\x02\x02\x08\x08".as_slice();
-    let mut tap = Tap::new(Fuse::new(line, bytes, 1, FuseEnd::Fail, false));
+// A line of two points, and one of twenty, each near the one before it, so that they are taken two at a time where they come in one piece.
+const TWO: &[u8] = b"\x02\x00\x02\x02\x02\x08\x08";
+
+const TWENTY: &[u8] =
+    b"\x02\x00\x14\x02\x04\x02\x04\x02\x04\x02\x04\x02\x04\x02\x04\x02\x04\x02\x04\x02\x04\x02\x04\x02\x04\x02\x04\x02\x04\x02\x04\x02\x04\x02\x04\x02\x04\x02\x04\x02\x04\x02\x04";
+
+// Whether a reader of a line that is cut after so many bytes, in reads of this length, answers a failed read, and is then spent.
+fn tells_failure(alloc: Global, way: Way, line: &[u8], length: usize, bytes: u64) -> bool
+    requires { 0 < length }
+{
+    let mut tap = Tap::new(Fuse::new(line, bytes, length, FuseEnd::Fail, false));
     let [first, second] = read_twice(alloc, way, &mut tap);
     (first == Err(BlobFault::Device(InFault::Read))) & (second == Err(BlobFault::Spent))
 }
 
-// Whether that is so behind each front.
-fn tells_each(alloc: Global, way: Way) -> bool {
+// Whether that is so wherever the line is cut.
+fn tells_each(alloc: Global, way: Way, line: &[u8], length: usize) -> bool
+    requires { 0 < length }
+{
     let mut are_told = true;
-    for bytes in 0..7 {
-        are_told &= tells_failure(alloc, way, bytes);
+    for bytes in 0..line.len() as u64 {
+        are_told &= tells_failure(alloc, way, line, length, bytes);
     }
     are_told
+}
+
+// Whether that is so of both lines, byte by byte and in pieces of thirty bytes.
+fn tells_both(alloc: Global, way: Way) -> bool {
+    tells_each(alloc, way, TWO, 1) & tells_each(alloc, way, TWENTY, 30)
 }
 
 #[test]
 fn each_read_that_fails_is_a_device_fault(rt: HostRuntime) {
     let alloc = rt.alloc();
-    let are_told = tells_each(alloc, Way::Tree) & tells_each(alloc, Way::Located);
-    let are_rows_told = tells_each(alloc, Way::Rows) & tells_each(alloc, Way::Spans);
-    assert!(rt; are_told & are_rows_told);
+    let are_told = tells_both(alloc, Way::Tree) & tells_both(alloc, Way::Located);
+    assert!(rt; are_told & tells_both(alloc, Way::Rows) & tells_both(alloc, Way::Spans));
 }

@@ -66,3 +66,29 @@ fn limits_and_their_caps(rt: HostRuntime) {
         & Limits::try_new(33, 1, 0).is_none();
     assert!(rt; are_caps & reads(made, 8, 2, 1));
 }
+
+// The words of the table, by docs/FORMATS.md.
+const WORDS: [(Kind, &str); 8] = [
+    (Kind::Point, "point"),
+    (Kind::Linestring, "linestring"),
+    (Kind::Polygon, "polygon"),
+    (Kind::Ring, "ring"),
+    (Kind::MultiPoint, "multipoint"),
+    (Kind::MultiLinestring, "multilinestring"),
+    (Kind::MultiPolygon, "multipolygon"),
+    (Kind::Collection, "collection"),
+];
+
+// Whether each kind has its word.
+fn have_words() -> bool {
+    let mut are_words = true;
+    for (kind, word) in WORDS {
+        are_words &= kind.name() == word;
+    }
+    are_words
+}
+
+#[test]
+fn a_kind_has_the_word_of_the_table(rt: HostRuntime) {
+    assert!(rt; have_words());
+}

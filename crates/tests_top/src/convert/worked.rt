@@ -38,6 +38,11 @@ const MEMBERS_BLOB: &[u8] =
 const MEMBERS_LINES: &[u8] =
     b"0 0 collection 0 07 18 1\n1 10 point 0 02 5 1\n1 15 linestring 0 12 3 0\n";
 
+// A line of fourteen points, each 2^20 units along x and as many and one down along y from the one before: with numbers of four bytes
+// and of five characters, which fill the first piece of the row's polyline and more.
+const LONG_LINE: &[u8] =
+    b"\x02\x00\x0E\x80\x80\x80\x01\x81\x80\x80\x01\x80\x80\x80\x01\x81\x80\x80\x01\x80\x80\x80\x01\x81\x80\x80\x01\x80\x80\x80\x01\x81\x80\x80\x01\x80\x80\x80\x01\x81\x80\x80\x01\x80\x80\x80\x01\x81\x80\x80\x01\x80\x80\x80\x01\x81\x80\x80\x01\x80\x80\x80\x01\x81\x80\x80\x01\x80\x80\x80\x01\x81\x80\x80\x01\x80\x80\x80\x01\x81\x80\x80\x01\x80\x80\x80\x01\x81\x80\x80\x01\x80\x80\x80\x01\x81\x80\x80\x01\x80\x80\x80\x01\x81\x80\x80\x01\x80\x80\x80\x01\x81\x80\x80\x01";
+
 // A blob before one that is cut, and the reason; and no type.
 const CUT: &[u8] = b"\x01\x00\x04\x02\x01\x00\x04";
 
@@ -88,7 +93,7 @@ const SHOWN: Worked = Worked {
 };
 
 /// A table is read to its end, but for one that is refused: that is not read behind its last row.
-pub const WORKED: [Worked; 16] = [
+pub const WORKED: [Worked; 18] = [
     PACKED,
     Worked {
         name: "two points are packed",
@@ -154,6 +159,15 @@ pub const WORKED: [Worked; 16] = [
         ..UNPACKED
     },
     Worked {
+        name: "a line whose row is longer than the room of a text is unpacked",
+        input: LONG_LINE,
+        output: b"depth,kind,id,precision,polyline\n0,linestring,,0,`___A____A`___A____A`___A____A`___A____A`___A____A`___A____A`___A____A`___A____A`___A____A`___A____A`___A____A`___A____A`___A____A`___A____A\n",
+        first: 190,
+        whole: 115,
+        reads: 116,
+        ..UNPACKED
+    },
+    Worked {
         name: "a point before a cut blob is unpacked",
         input: CUT,
         reads: 8,
@@ -180,6 +194,15 @@ pub const WORKED: [Worked; 16] = [
         ..UNPACKED
     },
     SHOWN,
+    Worked {
+        name: "collections whose lines are longer than the room of a text are shown",
+        input: b"\x07\x00\x01\x07\x00\x01\x07\x00\x01\x07\x00\x01\x07\x00\x01\x07\x10",
+        output: b"0 0 collection 0 00 17 0\n1 3 collection 0 00 14 0\n2 6 collection 0 00 11 0\n3 9 collection 0 00 8 0\n4 12 collection 0 00 5 0\n5 15 collection 0 10 2 0\n",
+        first: 149,
+        whole: 17,
+        reads: 18,
+        ..SHOWN
+    },
     Worked {
         name: "a point before a cut blob is shown",
         input: CUT,

@@ -1,0 +1,60 @@
+//! Trees and rows by turns from one reader.
+use std::alloc::Global;
+use std::io::Read;
+use twkb_blob::Reader;
+use twkb_geom::{Flat, Limits, PointId, Work};
+use twkb_io::{Input, Tap};
+use twkb_points::Pt;
+use twkb_tree::own_parts;
+
+// Two points: (1, 2) and (3, 5).
+const TWO: &[u8] = b"\x01\x00\x02\x04\x01\x00\x06\x0A";
+
+// Whether these are a point at this place.
+fn are_at(points: &[Pt], place: (i64, i64)) -> bool {
+    match points {
+        [point] => (point.x(), point.y()) == place,
+        _ => false,
+    }
+}
+
+// Whether the next geometry, as a tree, is the point at this place.
+fn gives_tree<R: Read>(alloc: Global, reader: &mut Reader<'_, R>, place: (i64, i64)) -> bool {
+    match reader.next(alloc) {
+        Ok(Some(geometry)) => {
+            let (_, points) = own_parts(geometry.shape());
+            let is_given = are_at(points, place);
+            drop(geometry);
+            is_given
+        }
+        _ => false,
+    }
+}
+
+// The same of its rows.
+fn gives_rows<R: Read>(alloc: Global, reader: &mut Reader<'_, R>, place: (i64, i64)) -> bool {
+    let mut flat = Flat::new(alloc);
+    let answer = reader.next_flat(alloc, &mut flat);
+    if flat.point_count() != 1 {
+        return false;
+    }
+    let point = flat.point(PointId(0), &mut Work::new());
+    (answer == Ok(true)) & ((point.x(), point.y()) == place)
+}
+
+// Whether the first of the points comes as a tree and the second as a row, or the other way round, and then the end.
+fn gives_both<R: Read>(alloc: Global, tap: &mut Tap<R>, is_tree_first: bool) -> bool {
+    let mut reader = Reader::new(Input::new(tap), Limits::standard());
+    let are_given = if is_tree_first {
+        gives_tree(alloc, &mut reader, (1, 2)) & gives_rows(alloc, &mut reader, (3, 5))
+    } else {
+        gives_rows(alloc, &mut reader, (1, 2)) & gives_tree(alloc, &mut reader, (3, 5))
+    };
+    are_given & (reader.next_flat(alloc, &mut Flat::new(alloc)) == Ok(false))
+}
+
+#[test]
+fn trees_and_rows_come_by_turns(rt: HostRuntime) {
+    let is_tree_first = gives_both(rt.alloc(), &mut Tap::new(TWO), true);
+    assert!(rt; is_tree_first & gives_both(rt.alloc(), &mut Tap::new(TWO), false));
+}

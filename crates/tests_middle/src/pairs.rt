@@ -1,0 +1,122 @@
+//! Two points at once: read at the start of bytes, and added to a flat form. Run with each allocation refused in turn
+//! (`rt try --test --fail-alloc N`) too.
+use crate::fixtures::form;
+use std::alloc::Global;
+use twkb_front::front_two;
+use twkb_geom::{Flat, PointId, Work};
+use twkb_points::Pt;
+
+// The way from point to point of Google's worked example, longitude before latitude, as varints of zigzag forms.
+const STEPS: &[u8] =
+    b"\xBF\xA4\xBB\x0B\xA0\xFC\xD5\x03\xEF\x93\x09\xC0\xED\x1A\xB7\x96\x43\xC0\x93\x1F";
+
+// Whether a point is here.
+fn is_here(point: Pt, place: (i64, i64)) -> bool {
+    (point.x(), point.y()) == place
+}
+
+// Whether the first two steps lead from here to these places, in the 14 bytes that they have.
+fn leads(from: Pt, first: (i64, i64), second: (i64, i64)) -> bool {
+    match front_two(from, STEPS) {
+        Some((there, next, used)) => {
+            is_here(there, first) & is_here(next, second) & (used == 14)
+        }
+        None => false,
+    }
+}
+
+// Whether they lead to the page's points from (0, 0), and as far from elsewhere; two numbers are not four.
+fn are_two() -> bool {
+    match (Pt::try_new(0, 0), Pt::try_new(-5, 8)) {
+        (Some(origin), Some(aside)) => {
+            leads(origin, (-12020000, 3850000), (-12095000, 4070000))
+                & leads(aside, (-12020005, 3850008), (-12095005, 4070008))
+                & front_two(origin, b"\x02\x04").is_none()
+        }
+        _ => false,
+    }
+}
+
+#[test]
+fn two_points_are_read_at_the_start_of_bytes(rt: HostRuntime) {
+    assert!(rt; are_two());
+}
+
+// A line of three points, as a blob.
+const LINE: &[u8] = b"\x02\x00\x03\x02\x04\x06\x08\x0A\x0C";
+
+// Its points, and after them the same two, eight times: room for sixteen is asked for first, and then for more.
+const PLACES: [(i64, i64); 19] = [
+    (1, 2),
+    (4, 6),
+    (9, 12),
+    (20, -3),
+    (7, 50),
+    (20, -3),
+    (7, 50),
+    (20, -3),
+    (7, 50),
+    (20, -3),
+    (7, 50),
+    (20, -3),
+    (7, 50),
+    (20, -3),
+    (7, 50),
+    (20, -3),
+    (7, 50),
+    (20, -3),
+    (7, 50),
+];
+
+// Whether the points of a form are the first so many of these.
+fn has_first(flat: &Flat, count: u32) -> bool {
+    let mut work = Work::new();
+    let mut are_first = flat.point_count() == count;
+    for at in 0..flat.point_count() {
+        let place = PLACES.get(at as usize).copied().unwrap_or((0, 0));
+        are_first &= is_here(flat.point(PointId(at), &mut work), place);
+    }
+    are_first
+}
+
+// Whether two points come after those of a form; or memory is refused, and it is as it was.
+fn adds_two(flat: &mut Flat, first: Pt, second: Pt, if_refused: bool) -> bool {
+    if !flat.takes_points(2) {
+        return false;
+    }
+    let held = flat.point_count();
+    match flat.add_two(first, second) {
+        Ok(()) => has_first(flat, held + 2),
+        Err(_) => if_refused & has_first(flat, held),
+    }
+}
+
+// Whether that is so of each of eight pairs, after the line's points.
+fn adds_pairs(flat: &mut Flat, first: Pt, second: Pt, if_refused: bool) -> bool {
+    let mut are_added = has_first(flat, 3);
+    for _ in 0..8 {
+        are_added &= adds_two(flat, first, second, if_refused);
+    }
+    are_added
+}
+
+// The same of the form of the line, if it is read.
+fn line_takes_pairs(alloc: Global, if_refused: bool) -> bool {
+    let mut flat = form(alloc, LINE);
+    match (Pt::try_new(20, -3), Pt::try_new(7, 50)) {
+        (Some(first), Some(second)) => {
+            (flat.is_empty() & if_refused) || adds_pairs(&mut flat, first, second, if_refused)
+        }
+        _ => false,
+    }
+}
+
+#[test]
+fn two_points_are_added_after_others(rt: HostRuntime) {
+    assert!(rt; line_takes_pairs(rt.alloc(), false));
+}
+
+#[test]
+fn each_growth_of_pairs_may_be_refused(rt: HostRuntime) {
+    assert!(rt; line_takes_pairs(rt.alloc(), true));
+}
