@@ -1,9 +1,10 @@
 //! Conversions from a buffer to a buffer. The blob is the one that PostGIS writes of the line from (1, 1) to (5, 5); the
 //! places of faults are those of docs/FORMATS.md.
 use std::alloc::Global;
-use twkb_buffer::{BufferReport, Conversion, fill, measure};
+use twkb_buffer::{BufferReport, Conversion, fill, measure, put_reason, put_version};
 use twkb_convert::Style;
 use twkb_geom::Limits;
+use twkb_request::VERSION;
 
 const TABLE: &[u8] = b"depth,kind,id,precision,polyline\n0,linestring,,0,AAGG\n";
 
@@ -113,4 +114,19 @@ fn a_refusal_tells_its_place(rt: HostRuntime) {
     let alloc = rt.alloc();
     assert!(rt; is_refused(alloc, Conversion::Pack(Style::Full), HALF_POINT, 25, 2, 1));
     assert!(rt; is_refused(alloc, Conversion::Show, &BLOB[..6], 41, 6, 0));
+}
+
+// Whether a reason and the version are told, each in front of a zero byte: the reason as docs/FORMATS.md has it.
+fn has_texts() -> bool {
+    let mut reason = [9u8; 10];
+    let mut version = [9u8; 32];
+    (put_reason(41, &mut reason) == 9)
+        & (put_version(&mut version) == VERSION.len())
+        & (reason == *b"truncated\0")
+        & version.starts_with(VERSION.as_bytes())
+}
+
+#[test]
+fn a_reason_and_the_version_are_told(rt: HostRuntime) {
+    assert!(rt; has_texts());
 }
