@@ -78,7 +78,8 @@ lib-bench: out/times
 	out/times
 
 lib-test: lib out/convert out/convert_shared
-	grep -qx '#define POLYTWKB_VERSION "$(VERSION)"' include/polytwkb.h
+	grep -qx '#define POLYTWKB_VERSION "$(VERSION)"' include/polytwkb.h || { echo "the header is not of version $(VERSION)" >&2; exit 1; }
+	if command -v $(CXX) > /dev/null; then $(CXX) -std=c++11 -Wall -Wextra -Werror -fsyntax-only -x c++ include/polytwkb.h; fi
 	out/convert
 	out/convert_shared
 	if command -v valgrind > /dev/null; then valgrind -q --error-exitcode=1 --leak-check=full out/convert; fi
