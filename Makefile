@@ -25,6 +25,11 @@ LIBDIR ?= $(PREFIX)/lib
 INCLUDEDIR ?= $(PREFIX)/include
 INSTALL ?= install
 
+# The version of the command and of the library, as it stands in the code. The major number is in the name by which programs find the library.
+VERSION := $(shell sed -n 's/^pub const VERSION: &str = "\(.*\)";/\1/p' crates/twkb_request/src/version.rt)
+SONAME := libpolytwkb.so.$(firstword $(subst ., ,$(VERSION)))
+REAL_NAME := libpolytwkb.so.$(VERSION)
+
 SOURCES := crates.txt $(shell find crates -name out -prune -o \( -name '*.rt' -o -name '*.antt' \) -print)
 
 test:
@@ -51,11 +56,19 @@ out/libpolytwkb.a: $(SOURCES)
 	cd out/objects && $(AR) x ../../crates/twkb_c/out/libtwkb_c.a && $(AR) x "$$(dirname "$$(rt doc)")/c/liblibc_c.a" heap.pic.o
 	$(AR) rcs $@ out/objects/*.o
 
+# Its file has the whole version in its name, and two links lead to it: one by which programs find it, one by which they are linked.
 out/libpolytwkb.so: out/libpolytwkb.a include/polytwkb.map
-	$(CC) -shared -o $@ -Wl,-soname,libpolytwkb.so -Wl,--version-script=include/polytwkb.map -Wl,--whole-archive $< -Wl,--no-whole-archive
+	rm -f out/libpolytwkb.so*
+	$(CC) -shared -o out/$(REAL_NAME) -Wl,-soname,$(SONAME) -Wl,--version-script=include/polytwkb.map -Wl,--whole-archive $< -Wl,--no-whole-archive
+	ln -s $(REAL_NAME) out/$(SONAME)
+	ln -s $(SONAME) $@
 
 out/convert: examples/c/convert.c include/polytwkb.h out/libpolytwkb.a
 	$(CC) -std=c11 -O1 -g -Wall -Wextra -Werror -Iinclude -o $@ $< out/libpolytwkb.a
+
+# The same, linked to the shared library.
+out/convert_shared: examples/c/convert.c include/polytwkb.h out/libpolytwkb.so
+	$(CC) -std=c11 -O1 -g -Wall -Wextra -Werror -Iinclude -o $@ $< -Lout -lpolytwkb -Wl,-rpath,'$$ORIGIN'
 
 out/times: bench/library/times.c include/polytwkb.h out/libpolytwkb.a
 	$(CC) -std=c11 -D_GNU_SOURCE -O2 -Wall -Wextra -Werror -Iinclude -o $@ $< out/libpolytwkb.a
@@ -64,8 +77,11 @@ out/times: bench/library/times.c include/polytwkb.h out/libpolytwkb.a
 lib-bench: out/times
 	out/times
 
-lib-test: lib out/convert
+lib-test: lib out/convert out/convert_shared
+	grep -qx '#define POLYTWKB_VERSION "$(VERSION)"' include/polytwkb.h || { echo "the header is not of version $(VERSION)" >&2; exit 1; }
+	if command -v $(CXX) > /dev/null; then $(CXX) -std=c++11 -Wall -Wextra -Werror -fsyntax-only -x c++ include/polytwkb.h; fi
 	out/convert
+	out/convert_shared
 	if command -v valgrind > /dev/null; then valgrind -q --error-exitcode=1 --leak-check=full out/convert; fi
 	examples/python/convert.py out/libpolytwkb.so
 
@@ -114,7 +130,9 @@ ZSH_FILE := $(DATADIR)/zsh/site-functions/_polytwkb
 FISH_FILE := $(DATADIR)/fish/vendor_completions.d/polytwkb.fish
 LICENCE_FILE := $(DATADIR)/doc/polytwkb/LICENSE
 STATIC_FILE := $(LIBDIR)/libpolytwkb.a
-SHARED_FILE := $(LIBDIR)/libpolytwkb.so
+SHARED_FILE := $(LIBDIR)/$(REAL_NAME)
+SONAME_LINK := $(LIBDIR)/$(SONAME)
+SHARED_LINK := $(LIBDIR)/libpolytwkb.so
 PACKAGE_FILE := $(LIBDIR)/pkgconfig/polytwkb.pc
 HEADER_FILE := $(INCLUDEDIR)/polytwkb.h
 
@@ -127,14 +145,17 @@ install: build lib
 	$(INSTALL) -D -m 644 LICENSE '$(DESTDIR)$(LICENCE_FILE)'
 	$(INSTALL) -D -m 644 out/libpolytwkb.a '$(DESTDIR)$(STATIC_FILE)'
 	$(INSTALL) -D -m 755 out/libpolytwkb.so '$(DESTDIR)$(SHARED_FILE)'
+	ln -sf $(REAL_NAME) '$(DESTDIR)$(SONAME_LINK)'
+	ln -sf $(SONAME) '$(DESTDIR)$(SHARED_LINK)'
 	$(INSTALL) -D -m 644 include/polytwkb.h '$(DESTDIR)$(HEADER_FILE)'
-	sed -e 's|@PREFIX@|$(PREFIX)|' -e 's|@LIBDIR@|$(LIBDIR)|' -e 's|@INCLUDEDIR@|$(INCLUDEDIR)|' include/polytwkb.pc.in > out/polytwkb.pc
+	sed -e 's|@VERSION@|$(VERSION)|' -e 's|@PREFIX@|$(PREFIX)|' -e 's|@LIBDIR@|$(LIBDIR)|' -e 's|@INCLUDEDIR@|$(INCLUDEDIR)|' include/polytwkb.pc.in > out/polytwkb.pc
 	$(INSTALL) -D -m 644 out/polytwkb.pc '$(DESTDIR)$(PACKAGE_FILE)'
 
 uninstall:
 	rm -f '$(DESTDIR)$(PROGRAM_FILE)' '$(DESTDIR)$(PAGE_FILE)' '$(DESTDIR)$(BASH_FILE)'
 	rm -f '$(DESTDIR)$(ZSH_FILE)' '$(DESTDIR)$(FISH_FILE)' '$(DESTDIR)$(LICENCE_FILE)'
-	rm -f '$(DESTDIR)$(STATIC_FILE)' '$(DESTDIR)$(SHARED_FILE)' '$(DESTDIR)$(PACKAGE_FILE)' '$(DESTDIR)$(HEADER_FILE)'
+	rm -f '$(DESTDIR)$(STATIC_FILE)' '$(DESTDIR)$(SHARED_FILE)' '$(DESTDIR)$(SHARED_LINK)' '$(DESTDIR)$(SONAME_LINK)'
+	rm -f '$(DESTDIR)$(PACKAGE_FILE)' '$(DESTDIR)$(HEADER_FILE)'
 
 # The commands that documents show, run and compared.
 docs-test: build lib

@@ -1,21 +1,33 @@
 /*
  * polytwkb: tables of encoded polylines to streams of TWKB blobs and back, from a buffer to a buffer.
  *
+ * A call takes tables or blobs as bytes, and no arrays of coordinates: points go in and come out as
+ * encoded polylines, inside a table. One call converts a whole table or a whole stream, of any number
+ * of geometries. Give it many: a call has a price of its own, most of all from another language. By
+ * ctypes one geometry took 42 microseconds in a call of its own, and 9.5 in a call for many.
+ *
  * The library is proved: what each call writes, and what its report tells, is the contract of its
  * function in crates/twkb_c. It keeps nothing between calls, opens no file and prints nothing. It
  * takes memory by malloc, realloc and free, for one geometry at a time, and gives all of it back.
- * Calls in several threads at once do not disturb one another, where their outputs are apart. No
- * call may be made from a signal handler.
+ * Calls in several threads at once do not disturb one another if their outputs are apart. No call may
+ * be made from a signal handler.
  *
- * Of the caller's side nothing is checked. A pointer to a buffer is never NULL, also where the
- * length is 0; a buffer has its length of bytes, at most 2^63 - 1; an output lies apart from the
- * input, and no one else reads or writes either while a call runs.
+ * Of the caller's side nothing is checked. A buffer has its length of bytes, at most 2^63 - 1. An
+ * output lies apart from the input, and no one else reads or writes either while a call runs. In C and
+ * C++ a pointer to a buffer of length 0 may be NULL. A binding that calls the symbols of the shared
+ * library and does not read this header passes a pointer that is not NULL for such a buffer too.
  */
 #ifndef POLYTWKB_H
 #define POLYTWKB_H
 
 #include <stddef.h>
 #include <stdint.h>
+
+/* The version of this header. polytwkb_version gives that of the library. */
+#define POLYTWKB_VERSION "0.1.0"
+#define POLYTWKB_VERSION_MAJOR 0
+#define POLYTWKB_VERSION_MINOR 1
+#define POLYTWKB_VERSION_PATCH 0
 
 #ifdef __cplusplus
 extern "C" {
@@ -70,6 +82,9 @@ extern "C" {
 #define POLYTWKB_TOO_LONG 61u         /* more than 2^62 bytes */
 #define POLYTWKB_TOO_MANY_RECORDS 62u /* 2^32 records */
 
+/* Each text that polytwkb_reason_text or polytwkb_version writes fits this room, its NUL included. */
+#define POLYTWKB_TEXT_ROOM 32
+
 /* Styles of packed blobs. */
 #define POLYTWKB_FULL 0u  /* with sizes, and with boxes where they may be */
 #define POLYTWKB_PLAIN 1u /* without either */
@@ -120,6 +135,69 @@ polytwkb_report polytwkb_show(const uint8_t *input, size_t input_length, uint8_t
  */
 polytwkb_report polytwkb_measure(uint32_t conversion, const uint8_t *input, size_t input_length,
                                  polytwkb_limits limits, uint32_t style);
+
+/*
+ * Writes what a reason means in English, as the command says it on standard error: "bad header" for
+ * POLYTWKB_BAD_HEADER, without the place. The text of a number that is no reason is empty, and so is
+ * that of 0. If the room is too small, the text is cut; in any room but 0 a NUL follows it. Bytes after
+ * the NUL stay as they are. Returns the length of the whole text without its NUL.
+ */
+size_t polytwkb_reason_text(uint32_t reason, char *text, size_t room);
+
+/* Writes the version of the library, such as "0.1.0", in the same way. */
+size_t polytwkb_version(char *text, size_t room);
+
+/*
+ * The functions above, for a caller in C or C++: a buffer of length 0 may be NULL. The library takes
+ * no NULL, so these pass the address of a byte that is neither read nor written.
+ */
+static inline const uint8_t *polytwkb_input(const uint8_t *input, size_t length) {
+    static const uint8_t none = 0;
+    return length == 0 ? &none : input;
+}
+
+static inline uint8_t *polytwkb_output(uint8_t *output, size_t length) {
+    static uint8_t none = 0;
+    return length == 0 ? &none : output;
+}
+
+static inline polytwkb_report polytwkb_pack_any(const uint8_t *input, size_t input_length, uint8_t *output,
+                                                size_t output_length, polytwkb_limits limits, uint32_t style) {
+    return polytwkb_pack(polytwkb_input(input, input_length), input_length, polytwkb_output(output, output_length),
+                         output_length, limits, style);
+}
+
+static inline polytwkb_report polytwkb_unpack_any(const uint8_t *input, size_t input_length, uint8_t *output,
+                                                  size_t output_length, polytwkb_limits limits) {
+    return polytwkb_unpack(polytwkb_input(input, input_length), input_length, polytwkb_output(output, output_length),
+                           output_length, limits);
+}
+
+static inline polytwkb_report polytwkb_show_any(const uint8_t *input, size_t input_length, uint8_t *output,
+                                                size_t output_length, polytwkb_limits limits) {
+    return polytwkb_show(polytwkb_input(input, input_length), input_length, polytwkb_output(output, output_length),
+                         output_length, limits);
+}
+
+static inline polytwkb_report polytwkb_measure_any(uint32_t conversion, const uint8_t *input, size_t input_length,
+                                                   polytwkb_limits limits, uint32_t style) {
+    return polytwkb_measure(conversion, polytwkb_input(input, input_length), input_length, limits, style);
+}
+
+static inline size_t polytwkb_reason_text_any(uint32_t reason, char *text, size_t room) {
+    return polytwkb_reason_text(reason, (char *)polytwkb_output((uint8_t *)text, room), room);
+}
+
+static inline size_t polytwkb_version_any(char *text, size_t room) {
+    return polytwkb_version((char *)polytwkb_output((uint8_t *)text, room), room);
+}
+
+#define polytwkb_pack polytwkb_pack_any
+#define polytwkb_unpack polytwkb_unpack_any
+#define polytwkb_show polytwkb_show_any
+#define polytwkb_measure polytwkb_measure_any
+#define polytwkb_reason_text polytwkb_reason_text_any
+#define polytwkb_version polytwkb_version_any
 
 #ifdef __cplusplus
 }

@@ -1,4 +1,4 @@
-// Packs, shows and unpacks a line in memory, with guard bytes round each buffer.
+// Packs, shows and unpacks a line in memory, with guard bytes round each buffer; then the texts of reasons and of the version.
 #include <polytwkb.h>
 
 #include <stdio.h>
@@ -66,23 +66,88 @@ static void each_room(uint32_t conversion, const void *given, size_t given_lengt
     }
 }
 
+// A call that writes a text into a room.
+typedef size_t writer(uint32_t reason, char *text, size_t room);
+
+static size_t version(uint32_t reason, char *text, size_t room) {
+    (void)reason;
+    return polytwkb_version(text, room);
+}
+
+// Into each room from none to one more than the text and its NUL need, as much of the text is written as fits in front of a NUL.
+static void each_text_room(writer *write, uint32_t reason, const char *due) {
+    size_t length = strlen(due);
+    check(length < POLYTWKB_TEXT_ROOM, "the room of every text");
+    check(write(reason, NULL, 0) == length, "the length of a text alone");
+    for (size_t room = 0; room <= length + 2; room++) {
+        char *text = (char *)guarded(room);
+        check(write(reason, text, room) == length, "the length of a text");
+        size_t sent = length < room ? length : room - (room > 0);
+        check(memcmp(text, due, sent) == 0, "the front of a text");
+        check(room == 0 || text[sent] == '\0', "the NUL after a text");
+        release((uint8_t *)text, room, room == 0 ? 0 : sent + 1);
+    }
+}
+
+// Texts of the least and the greatest reason of each kind, of the longest, and of numbers that are no reason: as docs/FORMATS.md has them.
+static void texts(void) {
+    each_text_room(polytwkb_reason_text, POLYTWKB_BAD_HEADER, "bad header");
+    each_text_room(polytwkb_reason_text, POLYTWKB_TOO_MANY_ROWS, "too many rows in one geometry");
+    each_text_room(polytwkb_reason_text, POLYTWKB_POINT_COUNT, "wrong number of points");
+    each_text_room(polytwkb_reason_text, POLYTWKB_POLYLINE_BAD_CHARACTER, "bad character");
+    each_text_room(polytwkb_reason_text, POLYTWKB_POLYLINE_TOO_MANY, "too many points");
+    each_text_room(polytwkb_reason_text, POLYTWKB_BLOB_TRUNCATED, "truncated");
+    each_text_room(polytwkb_reason_text, POLYTWKB_BLOB_SIZE_MISMATCH, "size mismatch");
+    each_text_room(polytwkb_reason_text, POLYTWKB_TOO_LONG, "input or output too long");
+    each_text_room(polytwkb_reason_text, POLYTWKB_TOO_MANY_RECORDS, "too many records");
+    each_text_room(polytwkb_reason_text, 0, "");
+    each_text_room(polytwkb_reason_text, 15, "");
+    each_text_room(polytwkb_reason_text, UINT32_MAX, "");
+}
+
+// The library is that of the header, whose macros agree.
+static void versions(void) {
+    char numbers[64];
+    snprintf(numbers, sizeof numbers, "%d.%d.%d", POLYTWKB_VERSION_MAJOR, POLYTWKB_VERSION_MINOR, POLYTWKB_VERSION_PATCH);
+    check(strcmp(numbers, POLYTWKB_VERSION) == 0, "the numbers of the version");
+    each_text_room(version, 0, POLYTWKB_VERSION);
+}
+
+// A buffer of length 0 may be NULL.
+static void no_buffers(void) {
+    polytwkb_limits limits = polytwkb_standard_limits();
+    polytwkb_report report = polytwkb_unpack(NULL, 0, NULL, 0, limits);
+    check(report.status == POLYTWKB_TOO_SMALL && report.needed == 33, "the header's line of no blobs");
+    report = polytwkb_show(NULL, 0, NULL, 0, limits);
+    check(report.status == POLYTWKB_DONE && report.sent == 0, "no lines of no blobs");
+    report = polytwkb_pack(NULL, 0, NULL, 0, limits, POLYTWKB_FULL);
+    check(report.status == POLYTWKB_REFUSED && report.reason == POLYTWKB_BAD_HEADER && report.place == 1, "a table without a header");
+    report = polytwkb_pack((const uint8_t *)table, sizeof table - 1, NULL, 0, limits, POLYTWKB_PLAIN);
+    check(report.status == POLYTWKB_TOO_SMALL && report.needed == sizeof blob, "the length of a blob");
+    report = polytwkb_measure(POLYTWKB_UNPACK, NULL, 0, limits, POLYTWKB_FULL);
+    check(report.status == POLYTWKB_DONE && report.needed == 33, "the length of a table without rows");
+}
+
 int main(void) {
     each_room(POLYTWKB_PACK, table, sizeof table - 1, blob, sizeof blob);
     each_room(POLYTWKB_UNPACK, blob, sizeof blob, table, sizeof table - 1);
     each_room(POLYTWKB_SHOW, blob, sizeof blob, lines, sizeof lines - 1);
 
-    uint8_t none[1];
-    polytwkb_report cut = polytwkb_unpack(blob, 6, none, 0, polytwkb_standard_limits());
+    texts();
+    versions();
+    no_buffers();
+
+    polytwkb_report cut = polytwkb_unpack(blob, 6, NULL, 0, polytwkb_standard_limits());
     check(cut.status == POLYTWKB_TOO_SMALL && cut.needed == 33, "the header's line of a cut blob");
-    cut = polytwkb_show(blob, 6, none, 0, polytwkb_standard_limits());
+    cut = polytwkb_show(blob, 6, NULL, 0, polytwkb_standard_limits());
     check(cut.status == POLYTWKB_REFUSED && cut.reason == POLYTWKB_BLOB_TRUNCATED && cut.place == 6, "a cut blob");
 
-    polytwkb_report half = polytwkb_pack((const uint8_t *)"depth,kind,id,precision,polyline\n0,point,,0,A\n", 46, none, 0,
+    polytwkb_report half = polytwkb_pack((const uint8_t *)"depth,kind,id,precision,polyline\n0,point,,0,A\n", 46, NULL, 0,
                                          polytwkb_standard_limits(), POLYTWKB_FULL);
     check(half.status == POLYTWKB_REFUSED && half.reason == POLYTWKB_POLYLINE_HALF && half.place == 2 && half.text_offset == 1, "half a point");
 
     polytwkb_limits wrong = {33, 1, 0};
-    check(polytwkb_show(blob, sizeof blob, none, 0, wrong).status == POLYTWKB_ARGUMENTS, "a limit out of range");
+    check(polytwkb_show(blob, sizeof blob, NULL, 0, wrong).status == POLYTWKB_ARGUMENTS, "a limit out of range");
     check(polytwkb_measure(3, blob, sizeof blob, polytwkb_standard_limits(), POLYTWKB_FULL).status == POLYTWKB_ARGUMENTS, "no conversion");
 
     printf("%zu bytes of table, %zu of blob, each into any room\n", sizeof table - 1, sizeof blob);

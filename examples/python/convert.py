@@ -1,6 +1,11 @@
 #!/usr/bin/env python3
-"""A column of encoded polylines to TWKB blobs and back, by ctypes: of a DataFrame where pandas is installed. The first argument is
-libpolytwkb.so."""
+"""A column of encoded polylines to TWKB blobs and back, by ctypes: of a DataFrame where pandas is installed.
+
+    convert.py /usr/local/lib/libpolytwkb.so
+
+As a module: `library = convert.load(path)`, then `convert.blobs_of(library, ..)`. A call converts a whole column, which takes far less time
+than a call for each line.
+"""
 import csv
 import ctypes
 import io
@@ -8,6 +13,7 @@ import sys
 
 COLUMNS = ["depth", "kind", "id", "precision", "polyline"]
 DONE, REFUSED, TOO_SMALL = 0, 1, 5
+TEXT_ROOM = 32
 
 
 class Limits(ctypes.Structure):
@@ -24,15 +30,36 @@ class Refused(ValueError):
     """Why an input is refused, and where."""
 
 
-library = ctypes.CDLL(sys.argv[1])
-library.polytwkb_standard_limits.restype = Limits
-BUFFERS = [ctypes.c_char_p, ctypes.c_size_t, ctypes.c_void_p, ctypes.c_size_t, Limits]
-for name, more in (("polytwkb_pack", [ctypes.c_uint32]), ("polytwkb_unpack", [])):
-    getattr(library, name).argtypes = BUFFERS + more
-    getattr(library, name).restype = Report
+def load(path):
+    """The library in this file."""
+    library = ctypes.CDLL(path)
+    library.polytwkb_standard_limits.restype = Limits
+    buffers = [ctypes.c_char_p, ctypes.c_size_t, ctypes.c_void_p, ctypes.c_size_t, Limits]
+    for name, more in (("polytwkb_pack", [ctypes.c_uint32]), ("polytwkb_unpack", [])):
+        getattr(library, name).argtypes = buffers + more
+        getattr(library, name).restype = Report
+    room = [ctypes.c_char_p, ctypes.c_size_t]
+    for name, more in (("polytwkb_reason_text", [ctypes.c_uint32]), ("polytwkb_version", [])):
+        getattr(library, name).argtypes = more + room
+        getattr(library, name).restype = ctypes.c_size_t
+    return library
 
 
-def convert(call, given, *style):
+def text_of(call, *reason):
+    """The text that a call writes: of a reason, or of the version."""
+    text = ctypes.create_string_buffer(TEXT_ROOM)
+    call(*reason, text, TEXT_ROOM)
+    return text.value.decode()
+
+
+def refusal_of(library, report):
+    """Why a call was not carried through, and the record or the byte where it stopped."""
+    if report.status != REFUSED:
+        return f"status {report.status}"
+    return f"{text_of(library.polytwkb_reason_text, report.reason)} at {report.place}"
+
+
+def convert(library, call, given, *style):
     """What a call writes, into a buffer that is made once more where it was too small."""
     room = len(given) + 64
     while True:
@@ -41,22 +68,22 @@ def convert(call, given, *style):
         if report.status == DONE:
             return output.raw[: report.sent]
         if report.status != TOO_SMALL or report.needed <= room:
-            raise Refused(f"status {report.status}, reason {report.reason} at {report.place}")
+            raise Refused(refusal_of(library, report))
         room = report.needed
 
 
-def blobs_of(polylines, precision, style=0):
+def blobs_of(library, polylines, precision, style=0):
     """The stream of these encoded polylines, each a linestring of this precision."""
     text = io.StringIO()
     table = csv.writer(text)
     table.writerow(COLUMNS)
     table.writerows([0, "linestring", "", precision, line] for line in polylines)
-    return convert(library.polytwkb_pack, text.getvalue().encode(), style)
+    return convert(library, library.polytwkb_pack, text.getvalue().encode(), style)
 
 
-def polylines_of(stream):
+def polylines_of(library, stream):
     """The encoded polylines of the linestrings in a stream."""
-    rows = csv.DictReader(io.StringIO(convert(library.polytwkb_unpack, stream).decode()))
+    rows = csv.DictReader(io.StringIO(convert(library, library.polytwkb_unpack, stream).decode()))
     return [row["polyline"] for row in rows if row["kind"] == "linestring"]
 
 
@@ -69,21 +96,31 @@ def frame_of(columns):
     return pandas.DataFrame(columns)
 
 
-# The line from (1, 1) to (5, 5) is the blob that PostGIS writes.
-assert blobs_of(["AAGG"], 0, 1).hex() == "02000202020808"
+def main(path):
+    library = load(path)
 
-# Google's example, a street in Bern, and a line without points: a column more with the blob of each.
-frame = frame_of({"polyline": ["_p~iF~ps|U_ulLnnqC_mqNvxq`@", "yop}Gysml@lAxTfChSgKhK", ""]})
-frame["twkb"] = [blobs_of([line], 5) for line in frame["polyline"]]
-assert [line for blob in frame["twkb"] for line in polylines_of(blob)] == list(frame["polyline"])
+    # The line from (1, 1) to (5, 5) is the blob that PostGIS writes.
+    assert blobs_of(library, ["AAGG"], 0, 1).hex() == "02000202020808"
 
-# A stream is the blobs one behind the other, and is made and read by one call.
-stream = b"".join(frame["twkb"])
-assert stream == blobs_of(frame["polyline"], 5)
-assert polylines_of(stream) == list(frame["polyline"])
-print(f"{len(frame['polyline'])} polylines, {len(stream)} bytes: {stream.hex()}")
+    # Google's example, a street in Bern, and a line without points: a column more with the blob of each.
+    frame = frame_of({"polyline": ["_p~iF~ps|U_ulLnnqC_mqNvxq`@", "yop}Gysml@lAxTfChSgKhK", ""]})
+    frame["twkb"] = [blobs_of(library, [line], 5) for line in frame["polyline"]]
+    assert [line for blob in frame["twkb"] for line in polylines_of(library, blob)] == list(frame["polyline"])
 
-try:
-    polylines_of(stream[:-1])
-except Refused as fault:
-    print(fault)
+    # A stream is the blobs one after the other, and is made and read by one call.
+    stream = b"".join(frame["twkb"])
+    assert stream == blobs_of(library, frame["polyline"], 5)
+    assert polylines_of(library, stream) == list(frame["polyline"])
+    print(f"{len(frame['polyline'])} polylines, {len(stream)} bytes: {stream.hex()}")
+
+    # A stream that is cut before its last byte, and a polyline with a character that none has.
+    for call in (lambda: polylines_of(library, stream[:-1]), lambda: blobs_of(library, ["AAGG", "AA!"], 5)):
+        try:
+            call()
+        except Refused as fault:
+            print(fault)
+    print(f"by version {text_of(library.polytwkb_version)} of the library")
+
+
+if __name__ == "__main__":
+    main(sys.argv[1])

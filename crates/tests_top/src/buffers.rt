@@ -2,10 +2,10 @@
 //! places of faults are those of docs/FORMATS.md.
 use crate::convert::worked::{WORKED, Worked};
 use std::alloc::Global;
-use twkb_buffer::{BufferReport, Conversion, fill, measure};
+use twkb_buffer::{BufferReport, Conversion, fill, measure, put_reason, put_version};
 use twkb_convert::Style;
 use twkb_geom::Limits;
-use twkb_request::Conversion as Asked;
+use twkb_request::{Conversion as Asked, VERSION};
 
 const TABLE: &[u8] = b"depth,kind,id,precision,polyline\n0,linestring,,0,AAGG\n";
 
@@ -152,4 +152,19 @@ fn a_refused_growth_is_want_of_memory_after_the_first_bytes_of_the_output(rt: Ho
         let is_told = fills_or_lacks(rt.alloc(), worked);
         assert!(rt; is_told, "{}", worked.name);
     }
+}
+
+// Whether a reason and the version are told, each in front of a zero byte: the reason as docs/FORMATS.md has it.
+fn has_texts() -> bool {
+    let mut reason = [9u8; 10];
+    let mut version = [9u8; 32];
+    (put_reason(41, &mut reason) == 9)
+        & (put_version(&mut version) == VERSION.len())
+        & (reason == *b"truncated\0")
+        & version.starts_with(VERSION.as_bytes())
+}
+
+#[test]
+fn a_reason_and_the_version_are_told(rt: HostRuntime) {
+    assert!(rt; has_texts());
 }

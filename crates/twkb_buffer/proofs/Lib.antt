@@ -2,3 +2,4 @@ pub mod RunLemmas
 pub mod FillLemmas
 pub mod LengthLemmas
 pub mod MeasureLemmas
+pub mod TextLemmas

@@ -6,3 +6,4 @@ pub mod Slices
 pub mod Lengths
 pub mod Calls
 pub mod Conversions
+pub mod Texts

@@ -6,9 +6,11 @@ mod filler;
 mod filling;
 mod measuring;
 mod reason_numbers;
+mod reason_texts;
 mod report;
 
 pub use conversion::Conversion;
 pub use filling::fill;
 pub use measuring::measure;
+pub use reason_texts::{put_reason, put_version};
 pub use report::BufferReport;

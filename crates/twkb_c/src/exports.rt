@@ -2,13 +2,15 @@
 ghost use Rattle.std.specs.Prelude.{◌≡◌, ◌<◌};
 ghost use Rattle.twkb_tree.specs.Limits.{IsAllowance, standard_limits};
 ghost use Rattle.twkb_grammar.specs.declared.style.Style.{Style};
+ghost use Rattle.twkb_request.specs.Version.{version_text};
 ghost use Rattle.twkb_buffer.specs.Conversions.{MeasuresOutput, PacksSlice, ShowsSlice, UnpacksSlice};
+ghost use Rattle.twkb_buffer.specs.Texts.{AreWordsOf, PutsText};
 ghost use Rattle.twkb_buffer.specs.declared.conversion.Conversion.{Conversion};
 ghost use Rattle.twkb_c.specs.Arguments.{IsConversionNumber, IsStyleNumber, allowance_of, arguments_report};
 
 use crate::arguments::{BufferLimits, conversion_of, refused_arguments, style_of};
 use std::alloc::Global;
-use twkb_buffer::{BufferReport, Conversion, fill, measure};
+use twkb_buffer::{BufferReport, Conversion, fill, measure, put_reason, put_version};
 
 /// Sixteen levels, 2^20 rows and 2^24 points. Takes no memory.
 #[unsafe(no_mangle)]
@@ -107,4 +109,20 @@ pub extern "C" fn polytwkb_measure(
         Some(what) => measure(alloc, what, input, limits),
         None => refused_arguments(),
     }
+}
+
+/// Writes the text of a reason, with a zero byte after it. Takes no memory.
+#[unsafe(no_mangle)]
+pub extern "C" fn polytwkb_reason_text(reason: u32, text: &mut [u8]) -> usize
+    ensures { PutsText (AreWordsOf reason) text.old text.new result }
+{
+    put_reason(reason, text)
+}
+
+/// Writes the version of the library, with a zero byte after it. Takes no memory.
+#[unsafe(no_mangle)]
+pub extern "C" fn polytwkb_version(text: &mut [u8]) -> usize
+    ensures { PutsText (λ words. words ≡ version_text) text.old text.new result }
+{
+    put_version(text)
 }

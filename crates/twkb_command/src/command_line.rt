@@ -7,6 +7,7 @@ ghost use Rattle.twkb_command.specs.CommandLine.{bare_app, command_line, convers
 use crate::help;
 use clap::{Arg, Command, value_parser};
 use std::alloc::{AllocError, Global};
+use twkb_request::VERSION;
 
 // The option `--max-nest`.
 fn max_nest_option<'a>(alloc: Global) -> Arg<'a>
@@ -88,7 +89,7 @@ fn bare_command<'a>(alloc: Global) -> Command<'a>
     ensures local { (out-Command result).has_globals ≡ false }
 {
     described_command(alloc)
-        .version(help::VERSION)
+        .version(VERSION)
         .subcommand_required(true)
         .disable_help_subcommand(true)
 }

@@ -1,8 +1,5 @@
 //! What help says.
 
-// The version of the program.
-pub(crate) const VERSION: &str = "0.1.0";
-
 // What the program does.
 pub(crate) const PROGRAM: &str =
     "Converts between CSV tables of encoded polylines and streams of TWKB blobs";

@@ -19,7 +19,7 @@ point_text_words text.Half = codes "latitude without longitude"
 point_text_words text.Range = codes "coordinate out of range"
 point_text_words text.TooMany = codes "too many points"
 
--- what is wrong with the id, the precision or the points of a record; of a text of points only that it is one
+-- what is wrong with the id, the precision or the points of a record, or with its text of points
 abbrev pub value_words : RowReason → List ℕ
 value_words row.BadId = codes "bad id"
 value_words row.IdNotAllowed = codes "id not allowed"
@@ -29,7 +29,7 @@ value_words row.PrecisionMissing = codes "precision missing"
 value_words row.PrecisionNotAllowed = codes "precision not allowed"
 value_words row.PolylineNotAllowed = codes "polyline not allowed"
 value_words row.PointCount = codes "wrong number of points"
-value_words (row.Polyline offset reason) = codes "polyline at "
+value_words (row.Polyline offset reason) = point_text_words reason
 value_words reason = []
 
 -- what is wrong with a record, in words: with its form or its place, and else with what it holds
@@ -64,15 +64,21 @@ blob_words blob.TooManyPoints = codes "too many points"
 blob_words blob.CoordinateRange = codes "coordinate out of range"
 blob_words blob.SizeMismatch = codes "size mismatch"
 
+-- why a conversion stopped, without the place
+abbrev pub cause_words : Cause → List ℕ
+cause_words (cause.Row number reason) = row_words reason
+cause_words (cause.Blob offset reason) = blob_words reason
+cause_words cause.ReadDevice = codes "read failed"
+cause_words cause.WriteDevice = codes "write failed"
+cause_words cause.Memory = codes "out of memory"
+cause_words cause.TooLong = codes "input or output too long"
+cause_words cause.TooManyRecords = codes "too many records"
+
 -- where a conversion stopped, and why
 abbrev pub cause_text : Cause → List ℕ
 cause_text (cause.Row number reason) = codes "record " ++ (decimal number ++ (codes ": " ++ reason_text reason))
 cause_text (cause.Blob offset reason) = codes "byte " ++ (decimal offset ++ (codes ": " ++ blob_words reason))
-cause_text cause.ReadDevice = codes "read failed"
-cause_text cause.WriteDevice = codes "write failed"
-cause_text cause.Memory = codes "out of memory"
-cause_text cause.TooLong = codes "input or output too long"
-cause_text cause.TooManyRecords = codes "too many records"
+cause_text c = cause_words c
 
 -- the line of a cause
 abbrev pub line_of : Cause → List ℕ

@@ -1,6 +1,6 @@
 //! The line on standard error that tells why a conversion stopped, and other texts.
 ghost use Rattle.std.specs.Prelude.{◌≡◌, ◌++◌, ◌≤◌, ◌^◌, codes, decimal, length};
-ghost use Rattle.twkb_request.specs.Lines.{blob_words, cause_text, line_of, point_text_words, reason_text, row_words, text_reason};
+ghost use Rattle.twkb_request.specs.Lines.{blob_words, cause_text, cause_words, line_of, point_text_words, reason_text, row_words, text_reason};
 ghost use Rattle.twkb_request.specs.Printing.{IsPrinted, Prints};
 
 use itoa::Buffer;
@@ -25,7 +25,7 @@ fn point_text_fault(reason: PolyReason) -> &'static [u8]
     }
 }
 
-// What is wrong with a record; of a text of points only that it is one.
+// What is wrong with a record, or with its text of points.
 fn row_fault(reason: RowReason) -> &'static [u8]
     ensures { result.now ≡ row_words reason }
 {
@@ -44,7 +44,7 @@ fn row_fault(reason: RowReason) -> &'static [u8]
         RowReason::PrecisionMissing => b"precision missing",
         RowReason::PrecisionNotAllowed => b"precision not allowed",
         RowReason::PolylineNotAllowed => b"polyline not allowed",
-        RowReason::Polyline(_, _) => b"polyline at ",
+        RowReason::Polyline(_, why) => point_text_fault(why),
         RowReason::PointCount => b"wrong number of points",
     }
 }
@@ -63,6 +63,23 @@ fn blob_fault(reason: BlobReason) -> &'static [u8]
         BlobReason::TooManyPoints => b"too many points",
         BlobReason::CoordinateRange => b"coordinate out of range",
         BlobReason::SizeMismatch => b"size mismatch",
+    }
+}
+
+/// What is wrong, in a few words without a place. Takes no memory.
+#[tactic(auto, using(crate::proofs::ShortWords::short_cause))]
+pub fn fault_words(cause: Cause) -> &'static [u8]
+    ensures words { result.now ≡ cause_words cause }
+    ensures short { length (cause_words cause) ≤ 31 }
+{
+    match cause {
+        Cause::Row { reason, .. } => row_fault(reason),
+        Cause::Blob { reason, .. } => blob_fault(reason),
+        Cause::ReadDevice => b"read failed",
+        Cause::WriteDevice => b"write failed",
+        Cause::Memory => b"out of memory",
+        Cause::TooLong => b"input or output too long",
+        Cause::TooManyRecords => b"too many records",
     }
 }
 
@@ -135,11 +152,7 @@ fn put_cause<W: Write>(output: &mut Output<'_, W>, cause: Cause)
     match cause {
         Cause::Row { number, reason } => put_row(output, number, reason),
         Cause::Blob { offset, reason } => put_blob(output, offset, reason),
-        Cause::ReadDevice => put_text(output, b"read failed"),
-        Cause::WriteDevice => put_text(output, b"write failed"),
-        Cause::Memory => put_text(output, b"out of memory"),
-        Cause::TooLong => put_text(output, b"input or output too long"),
-        Cause::TooManyRecords => put_text(output, b"too many records"),
+        _ => put_text(output, fault_words(cause)),
     }
 }
 

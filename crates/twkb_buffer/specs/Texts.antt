@@ -1,0 +1,41 @@
+-- The text of a reason by its number, and how a text is put into a buffer (profile).
+use Rattle.std.specs.Prelude.{◌≡◌, ◌≢◌, ◌≤◌, ℕ, List, [], ◌∷◌, ◌++◌, length, take, drop}
+use Rattle.twkb_convert.specs.declared.report.Cause.{Cause}
+use Rattle.twkb_request.specs.Lines.{cause_words}
+use Rattle.twkb_buffer.specs.Numbers.{reason_number_of}
+
+-- the input is refused for this cause, and the number is that of its reason
+abbrev pub HasReason : ℕ → Cause → Type 0
+HasReason number why = (reason_number_of why ≡ number) × (number ≢ 0)
+
+-- The words are those that the command has for the reason with this number, and none where no reason has it.
+pub record AreWordsOf (number : ℕ) (words : List ℕ) : Type 0 where
+  pub told : (why : Cause) → HasReason number why → words ≡ cause_words why
+  pub none : ((why : Cause) → HasReason number why → ⊥) → words ≡ []
+
+-- a text with a zero byte after it, over the bytes that a buffer had; a text that is too long is cut
+abbrev pub with_text : List ℕ → List ℕ → List ℕ
+with_text words [] = []
+with_text words (b ∷ bs) = take (length bs) words ++ (0 ∷ drop (length words) bs)
+
+-- A text of at most 31 bytes was put into a buffer, and its length was told.
+pub record PutsText (AreWords : List ℕ → Type 0) (old new : List ℕ) (count : ℕ) : Type 0 where
+  pub words : List ℕ
+  pub are : AreWords words
+  pub new_is : new ≡ with_text words old
+  pub count_is : count ≡ length words
+  pub short : count ≤ 31
+
+-- the number is not that of a text of points
+abbrev pub NamesNoPointText : ℕ → Type 0
+NamesNoPointText n = (n ≢ 21) × (n ≢ 22) × (n ≢ 23) × (n ≢ 24) × (n ≢ 25) × (n ≢ 26) × (n ≢ 27)
+
+-- the number is not that of a record without its text of points
+abbrev pub NamesNoRow : ℕ → Type 0
+NamesNoRow n =
+    (n ≢ 1) × (n ≢ 2) × (n ≢ 3) × (n ≢ 4) × (n ≢ 5) × (n ≢ 6) × (n ≢ 7) × (n ≢ 8)
+    × (n ≢ 9) × (n ≢ 10) × (n ≢ 11) × (n ≢ 12) × (n ≢ 13) × (n ≢ 14) × (n ≢ 16)
+
+-- the number is not that of an item of a blob
+abbrev pub NamesNoBlob : ℕ → Type 0
+NamesNoBlob n = (n ≢ 41) × (n ≢ 42) × (n ≢ 43) × (n ≢ 44) × (n ≢ 45) × (n ≢ 46) × (n ≢ 47) × (n ≢ 48) × (n ≢ 49)

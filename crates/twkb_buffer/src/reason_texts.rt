@@ -1,0 +1,136 @@
+//! The text of a reason by its number, and the text of the version, for a caller's buffer.
+ghost use Rattle.std.specs.Prelude.{◌≡◌, ◌≢◌, ◌≤◌, IfSome, IsNone, length};
+ghost use Rattle.twkb_convert.specs.declared.report.Cause.{Cause};
+ghost use Rattle.twkb_request.specs.Version.{version_text};
+ghost use Rattle.twkb_buffer.specs.Numbers.{blob_number_of, point_text_number_of, row_number_of};
+ghost use Rattle.twkb_buffer.specs.Texts.{AreWordsOf, HasReason, NamesNoBlob, NamesNoPointText, NamesNoRow, PutsText, with_text};
+
+use twkb_convert::{BlobReason, Cause, PolyReason, RowReason};
+use twkb_request::{VERSION, fault_words};
+
+// What is wrong with a text of points, by its number.
+fn point_text_reason(number: u32) -> Option<PolyReason>
+    ensures some { IfSome result (λ reason. (point_text_number_of reason ≡ number) × (number ≢ 0)) }
+    ensures none { IsNone result → NamesNoPointText number }
+{
+    match number {
+        21 => Some(PolyReason::BadChar),
+        22 => Some(PolyReason::Cut),
+        23 => Some(PolyReason::TooLong),
+        24 => Some(PolyReason::Padded),
+        25 => Some(PolyReason::Half),
+        26 => Some(PolyReason::Range),
+        27 => Some(PolyReason::TooMany),
+        _ => None,
+    }
+}
+
+// What is wrong with a record itself, by its number.
+fn row_reason(number: u32) -> Option<RowReason>
+    ensures some { IfSome result (λ reason. (row_number_of reason ≡ number) × (number ≢ 0)) }
+    ensures none { IsNone result → NamesNoRow number }
+{
+    match number {
+        1 => Some(RowReason::BadHeader),
+        2 => Some(RowReason::FieldCount),
+        3 => Some(RowReason::BadDepth),
+        4 => Some(RowReason::BadKind),
+        5 => Some(RowReason::BadPlace),
+        6 => Some(RowReason::TooDeep),
+        7 => Some(RowReason::TooManyNodes),
+        8 => Some(RowReason::BadId),
+        9 => Some(RowReason::IdNotAllowed),
+        10 => Some(RowReason::MixedIds),
+        11 => Some(RowReason::BadPrecision),
+        12 => Some(RowReason::PrecisionMissing),
+        13 => Some(RowReason::PrecisionNotAllowed),
+        14 => Some(RowReason::PolylineNotAllowed),
+        16 => Some(RowReason::PointCount),
+        _ => None,
+    }
+}
+
+// What is wrong with an item of a blob, by its number.
+fn blob_reason(number: u32) -> Option<BlobReason>
+    ensures some { IfSome result (λ reason. (blob_number_of reason ≡ number) × (number ≢ 0)) }
+    ensures none { IsNone result → NamesNoBlob number }
+{
+    match number {
+        41 => Some(BlobReason::Truncated),
+        42 => Some(BlobReason::BadType),
+        43 => Some(BlobReason::ExtraDimensions),
+        44 => Some(BlobReason::BadVarint),
+        45 => Some(BlobReason::TooDeep),
+        46 => Some(BlobReason::TooManyNodes),
+        47 => Some(BlobReason::TooManyPoints),
+        48 => Some(BlobReason::CoordinateRange),
+        49 => Some(BlobReason::SizeMismatch),
+        _ => None,
+    }
+}
+
+// A cause whose reason has this number, at the first of its places.
+#[tactic(auto, using(crate::proofs::TextLemmas::no_cause))]
+fn cause_of(number: u32) -> Option<Cause>
+    ensures some { IfSome result (HasReason number) }
+    ensures none { IsNone result → (why : Cause) → HasReason number why → ⊥ }
+{
+    if let Some(reason) = row_reason(number) {
+        return Some(Cause::Row { number: 0, reason });
+    }
+    if let Some(reason) = point_text_reason(number) {
+        let reason = RowReason::Polyline(0, reason);
+        return Some(Cause::Row { number: 0, reason });
+    }
+    if let Some(reason) = blob_reason(number) {
+        return Some(Cause::Blob { offset: 0, reason });
+    }
+    match number {
+        61 => Some(Cause::TooLong),
+        62 => Some(Cause::TooManyRecords),
+        _ => None,
+    }
+}
+
+// The words of the reason with this number.
+#[tactic(auto, using(crate::proofs::TextLemmas::named, crate::proofs::TextLemmas::unnamed))]
+fn words_of(number: u32) -> &'static [u8]
+    ensures words { AreWordsOf number result.now }
+    ensures short { length result.now ≤ 31 }
+{
+    match cause_of(number) {
+        Some(why) => fault_words(why),
+        None => b"",
+    }
+}
+
+// Puts a text into a buffer, and a zero byte after it, as far as there is room for both.
+fn put(words: &[u8], text: &mut [u8])
+    ensures { text.new ≡ with_text words.now text.old }
+{
+    if text.is_empty() {
+        return;
+    }
+    let count = words.len().min(text.len() - 1);
+    text[count] = 0;
+    text[..count].copy_from_slice(&words[..count]);
+}
+
+/// Puts the text of a reason, with a zero byte after it, into a buffer, cut where there is too little
+/// room, and tells how long it is without that byte. A number that is no reason has the empty text.
+pub fn put_reason(reason: u32, text: &mut [u8]) -> usize
+    ensures { PutsText (AreWordsOf reason) text.old text.new result }
+{
+    let words = words_of(reason);
+    put(words, text);
+    words.len()
+}
+
+/// Puts the version of the command and of the library into a buffer in the same way.
+pub fn put_version(text: &mut [u8]) -> usize
+    ensures { PutsText (λ words. words ≡ version_text) text.old text.new result }
+{
+    let words = VERSION.as_bytes();
+    put(words, text);
+    words.len()
+}
