@@ -4,15 +4,16 @@ from itertools import accumulate
 
 def text_of(points):
     """The encoded polyline of points."""
-    text, last_x, last_y = "", 0, 0
+    characters, last_x, last_y = [], 0, 0
     for x, y in points:
         for step in (y - last_y, x - last_x):
             form = 2 * step if step >= 0 else -2 * step - 1
             while form >= 32:
-                text, form = text + chr(form % 32 + 95), form // 32
-            text += chr(form + 63)
+                characters.append(chr(form % 32 + 95))
+                form //= 32
+            characters.append(chr(form + 63))
         last_x, last_y = x, y
-    return text
+    return "".join(characters)
 
 
 def points_of(text):
