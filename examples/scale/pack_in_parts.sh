@@ -29,6 +29,6 @@ pack_parts() {
             --header : --recend '\n' --recstart '0,' polytwkb pack "$@" > "$stream.part" 2> /dev/null
 }
 
-# Where a part is refused, one run over the whole names the record; it packs what has no lines to cut at, too.
+# If a part is refused, one run over the whole names the record; it also packs a table that has no lines to cut at.
 pack_parts "$@" || polytwkb pack "$@" < "$table" > "$stream.part"
 mv "$stream.part" "$stream"
