@@ -161,9 +161,9 @@ uninstall:
 docs-test: build lib
 	scripts/docs_test.py
 
-# The recipes and the check of parts; one whose tools are missing says so and is skipped.
+# The recipes, the check of parts, and both with an installed program; one whose tools are missing says so and is skipped.
 recipes: build lib
-	@for recipe in examples/recipes/*.sh examples/scale/check.sh; do echo "$$recipe"; $$recipe || exit 1; done
+	@for recipe in examples/recipes/*.sh examples/scale/check.sh tests/recipes/installed.sh; do echo "$$recipe"; $$recipe || exit 1; done
 
 clean:
 	rm -rf bin out bench/out crates/*/out

@@ -5,9 +5,10 @@ READMEs of crates show with the files of the crate `examples`, which the gate pr
     scripts/docs_test.py [FILE ..]
     scripts/docs_test.py --callers      callers and marks alone, for which no program is needed
 
-In a block fenced with ```console a line that begins with '$ ' is a command, and lines behind it that begin
-with '> ' go on with it. What follows, up to the next command or the end of the block, is all that it prints,
-to standard output and standard error. Blank lines at its end do not count.
+A block fenced with ```sh is one command, and the block fenced with ```text after it is all that it prints, to standard output and
+standard error; if the next block is another one, it prints nothing. In a block fenced with ```console a line that begins with '$ '
+is a command, and lines after it that begin with '> ' go on with it. What follows, up to the next command or the end of the block,
+is all that it prints. Blank lines at its end do not count. A command whose first line is '# needs TOOL' is skipped if that is missing.
 
 The commands of a file run in order in one session of bash, in a fresh folder, with bin/ of this repository
 on the path, $REPO the repository, and no input. A command that the program refuses ends nothing. One that
@@ -21,6 +22,7 @@ import difflib
 import glob
 import os
 import re
+import shutil
 import subprocess
 import sys
 import tempfile
@@ -41,35 +43,62 @@ class Command:
         self.block, self.line, self.text, self.output = block, line, text, []
 
 
-def commands_of(path):
-    """The commands of the console blocks of a document, in their order."""
-    commands, block, inside, ours = [], 0, False, False
+def blocks_of(path):
+    """The fenced blocks of a document: what stands beside the fence, the number of the first line, and the lines."""
+    blocks, inside = [], False
     with open(path, encoding="utf-8") as file:
         for number, line in enumerate(file, 1):
             line = line.rstrip("\n")
             if line.lstrip().startswith("```"):
                 inside = not inside
-                ours = inside and line.strip() == "```console"
-                block += ours
-                begun = len(commands)
-            elif not ours:
-                continue
-            elif line.startswith("$ "):
-                commands.append(Command(block, number, line[2:]))
-            elif len(commands) == begun:
-                sys.exit(f"{path}:{number}: block {block} does not begin with a command")
-            elif line.startswith("> ") and not commands[-1].output:
-                commands[-1].text += "\n" + line[2:]
-            else:
-                commands[-1].output.append(line)
+                if inside:
+                    blocks.append((line.strip()[3:], number + 1, []))
+            elif inside:
+                blocks[-1][2].append(line)
+    return blocks
+
+
+def console_commands(path, block, number, lines):
+    """The commands of a console block."""
+    commands = []
+    for number, line in enumerate(lines, number):
+        if line.startswith("$ "):
+            commands.append(Command(block, number, line[2:]))
+        elif not commands:
+            sys.exit(f"{path}:{number}: block {block} does not begin with a command")
+        elif line.startswith("> ") and not commands[-1].output:
+            commands[-1].text += "\n" + line[2:]
+        else:
+            commands[-1].output.append(line)
     return commands
 
 
+def commands_of(path):
+    """The commands that a document shows, in their order."""
+    commands, block, before = [], 0, None
+    for kind, number, lines in blocks_of(path):
+        block += kind in ("sh", "console")
+        if kind == "sh":
+            commands.append(Command(block, number, "\n".join(lines)))
+        elif kind == "console":
+            commands += console_commands(path, block, number, lines)
+        elif kind == "text" and before == "sh":
+            commands[-1].output = lines
+        before = kind
+    return commands
+
+
+def runnable(text):
+    """The text of a command; if its first line names a tool that is missing, a command that says so."""
+    needed = re.match(r"# needs (\S+)\n", text)
+    return text if not needed or shutil.which(needed.group(1)) else f"echo skipped: needs {needed.group(1)}"
+
+
 def script_of(commands):
-    """All commands for bash, a mark behind each. The status of a command stays for the next one to see."""
+    """All commands for bash, a mark after each. The status of a command stays for the next one to see."""
     lines = ["exec 2>&1"]
     for command in commands:
-        lines += [command.text, "__status=$?", f"printf '\\n%s\\n' '{MARK}'", "(exit $__status)"]
+        lines += [runnable(command.text), "__status=$?", f"printf '\\n%s\\n' '{MARK}'", "(exit $__status)"]
     return "\n".join(lines) + "\n"
 
 

@@ -2,6 +2,7 @@
 set -euo pipefail
 here=$(cd "$(dirname "${BASH_SOURCE[0]}")" && pwd)
 PATH=$here/../../bin:$PATH
+export PYTHONDONTWRITEBYTECODE=1
 
 # Ends the recipe, as skipped, where a tool is missing.
 need() {

@@ -1,9 +1,10 @@
 #!/usr/bin/env bash
 # What PostGIS makes of a stream: a table packed by polytwkb, read and written again by PostGIS, and unpacked.
 source "$(dirname "$0")/postgres.bash"
-psql -q -c 'CREATE EXTENSION postgis' 2> fault.txt || { echo "skipped: needs postgis ($(head -n 1 fault.txt))"; exit 0; }
+need python3 xxd
+need_postgis
 
-cat > before.csv <<'END'
+cat > before.csv <<'TABLE'
 depth,kind,id,precision,polyline
 0,linestring,,0,AC??AA
 0,multipoint,,0,
@@ -14,12 +15,15 @@ depth,kind,id,precision,polyline
 1,linestring,,0,
 0,collection,,0,
 1,linestring,,0,
-END
+TABLE
 
 polytwkb pack < before.csv > before.twkb
-polytwkb show < before.twkb | awk '$1 == 0 { print $2, $6 }' | while read -r offset length; do
-    hex=$(dd if=before.twkb iflag=skip_bytes,count_bytes skip="$offset" count="$length" status=none | xxd -p | tr -d '\n')
-    psql -qAt -c "SELECT encode(ST_AsTWKB(ST_GeomFromTWKB(decode('$hex', 'hex')), 0, 0, 0, true, true), 'hex')"
-done | xxd -r -p > after.twkb
+"$here/cut_stream.py" before.twkb > before.hex
+psql <<'SQL'
+CREATE TABLE blobs (n bigserial, hex text);
+\copy blobs (hex) FROM 'before.hex'
+SQL
+psql -At -c "SELECT encode(ST_AsTWKB(ST_GeomFromTWKB(decode(hex, 'hex')), 0, 0, 0, true, true), 'hex') FROM blobs ORDER BY n" |
+    xxd -r -p > after.twkb
 polytwkb unpack < after.twkb > after.csv
 diff before.csv after.csv || true

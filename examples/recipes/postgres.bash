@@ -1,7 +1,7 @@
 # A PostgreSQL server of the recipe's own, on a socket in its folder, as an unprivileged user; it ends with the recipe.
-# After 'source': psql is connected to it, as_server runs a command as the server's user.
+# After 'source': psql is connected to it, and as_server runs a command as the server's user.
 source "$(dirname "${BASH_SOURCE[0]}")/common.bash"
-need psql xxd
+need psql
 
 bindir=$(ls -d /usr/lib/postgresql/*/bin 2> /dev/null | sort -V | tail -n 1)
 PATH=$PATH${bindir:+:$bindir}
@@ -22,3 +22,10 @@ as_server initdb -D "$folder/data" -U recipe -A trust -E UTF8 --locale=C > initd
 as_server pg_ctl -D "$folder/data" -o "-k $folder -c listen_addresses=''" -w -l "$folder/server.log" start > /dev/null
 trap 'as_server pg_ctl -D "$folder/data" -m immediate -w stop > /dev/null; rm -rf "$folder"' EXIT
 export PGHOST=$folder PGUSER=recipe PGDATABASE=postgres PGOPTIONS='-c client_min_messages=warning'
+
+# Without ON_ERROR_STOP psql goes on after a statement that failed, and ends with 0; -X leaves out ~/.psqlrc.
+psql() { command psql -X -q -v ON_ERROR_STOP=1 "$@"; }
+
+need_postgis() {
+    psql -c 'CREATE EXTENSION postgis' 2> fault.txt || { echo "skipped: needs postgis ($(head -n 1 fault.txt))"; exit 0; }
+}

@@ -1,8 +1,8 @@
 #!/usr/bin/env bash
 # Rows in PostgreSQL to a stream by COPY .. TO PROGRAM, and back by COPY .. FROM PROGRAM, on the server and on the client.
 source "$(dirname "$0")/postgres.bash"
-polytwkb=$(realpath "$here/../../bin/polytwkb")
-cp "$polytwkb" "$folder/polytwkb"
+# Where the server's user may run it.
+cp "$(command -v polytwkb)" "$folder/polytwkb"
 
 cat > trip.csv <<'END'
 depth,kind,id,precision,polyline
@@ -15,14 +15,14 @@ depth,kind,id,precision,polyline
 END
 
 # The column n keeps the order of the rows. "precision" is a word of SQL, so it is quoted.
-psql -q <<'END'
+psql <<'END'
 CREATE TABLE rows (n bigserial, depth int, kind text, id bigint, "precision" int, polyline text);
 CREATE TABLE back (LIKE rows INCLUDING ALL);
 \copy rows (depth, kind, id, "precision", polyline) FROM 'trip.csv' WITH (FORMAT csv, HEADER)
 END
 
 # On the server, as its user.
-psql -q <<END
+psql <<END
 COPY (SELECT depth, kind, id, "precision", polyline FROM rows ORDER BY n)
     TO PROGRAM '$folder/polytwkb pack > $folder/server.twkb' WITH (FORMAT csv, HEADER);
 COPY back (depth, kind, id, "precision", polyline)
@@ -30,7 +30,7 @@ COPY back (depth, kind, id, "precision", polyline)
 END
 
 # On the client.
-psql -q <<'END'
+psql <<'END'
 \copy (SELECT depth, kind, id, "precision", polyline FROM back ORDER BY n) TO PROGRAM 'polytwkb pack > client.twkb' WITH (FORMAT csv, HEADER)
 END
 
@@ -40,12 +40,12 @@ polytwkb unpack < client.twkb | cmp - trip.csv
 echo "server and client: the same $(wc -c < client.twkb) bytes, the same rows back"
 
 # A table that is refused fails the statement; the server's log has the line.
-if psql -q 2> fault.txt <<END
+if psql 2> fault.txt <<END
 COPY (SELECT depth, kind, id, 9 AS "precision", polyline FROM rows ORDER BY n)
     TO PROGRAM '$folder/polytwkb pack > $folder/refused.twkb' WITH (FORMAT csv, HEADER);
 END
 then
-    psql -qAt -c 'SELECT 1' > /dev/null
+    exit 1
 fi
 head -n 1 fault.txt | sed "s|$folder|..|g"
 grep -h '^polytwkb:' server.log

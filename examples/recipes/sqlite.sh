@@ -1,7 +1,7 @@
 #!/usr/bin/env bash
 # A table of rows in SQLite, to blobs in a column, and back to rows.
 source "$(dirname "$0")/common.bash"
-need sqlite3 xxd
+need python3 sqlite3 xxd
 
 cat > trip.csv <<'END'
 depth,kind,id,precision,polyline
@@ -15,25 +15,25 @@ depth,kind,id,precision,polyline
 END
 
 # Rows from CSV. The column n keeps their order.
-sqlite3 shapes.db <<'END'
+sqlite3 -bail shapes.db <<'END'
 CREATE TABLE rows (n INTEGER PRIMARY KEY, depth, kind, id, precision, polyline);
 CREATE TABLE lines (depth, kind, id, precision, polyline);
 .import --csv --skip 1 trip.csv lines
 INSERT INTO rows (depth, kind, id, precision, polyline) SELECT * FROM lines ORDER BY rowid;
 END
 
-# Rows to a stream, and its blobs into a column, cut at the offsets of level 0.
+# Rows to a stream, and its blobs into a column: the lines of level 0 beside the digits of each blob.
 sqlite3 -csv -header shapes.db 'SELECT depth, kind, id, precision, polyline FROM rows ORDER BY n' |
     polytwkb pack > shapes.twkb
 polytwkb show < shapes.twkb > headers.txt
-sqlite3 shapes.db <<'END'
-CREATE TABLE headers (level INT, place INT, kind, precision INT, metadata, length INT, points INT);
-.separator ' '
-.import headers.txt headers
-CREATE TABLE shapes (n INTEGER PRIMARY KEY, kind, points, twkb BLOB);
-INSERT INTO shapes (kind, points, twkb)
-    SELECT kind, points, substr(readfile('shapes.twkb'), place + 1, length) FROM headers WHERE level = 0 ORDER BY place;
-END
+"$here/cut_stream.py" shapes.twkb > shapes.hex
+{
+    echo 'BEGIN; CREATE TABLE shapes (n INTEGER PRIMARY KEY, kind, points, twkb BLOB);'
+    grep '^0 ' headers.txt | paste -d ' ' - shapes.hex |
+        awk '{ print "INSERT INTO shapes (kind, points, twkb) VALUES (\047" $3 "\047, " $7 ", x\047" $8 "\047);" }'
+    echo 'COMMIT;'
+} > shapes.sql
+sqlite3 -bail shapes.db < shapes.sql
 sqlite3 shapes.db 'SELECT n, kind, points, hex(twkb) FROM shapes ORDER BY n'
 
 # Blobs of the column to a stream, and to rows.

@@ -41,13 +41,14 @@ fn described<'a>(option: Arg<'a>, help: &'a str) -> Arg<'a>
     option.help(help)
 }
 
-// A subcommand without options.
-fn subcommand<'a>(alloc: Global, name: &'a str, about: &'a str) -> Command<'a>
+// A subcommand without options, with what help says of it and how it is called.
+fn subcommand<'a>(alloc: Global, name: &'a str, about: &'a str, usage: &'a str) -> Command<'a>
     ensures app { app_of result ≡ new_app name.entry.now }
     ensures local { (out-Command result).has_globals ≡ false }
 {
     Command::new(alloc, name)
         .about(about)
+        .override_usage(usage)
         .after_help(help::ELSEWHERE)
 }
 
@@ -56,11 +57,12 @@ fn conversion_command<'a>(
     alloc: Global,
     name: &'a str,
     about: &'a str,
+    usage: &'a str,
 ) -> Result<Command<'a>, AllocError>
     ensures shape { IfOk result (λ command. shape_of command ≡ conversion_shape name.entry.now) }
     ensures local { IfOk result (λ command. (out-Command command).has_globals ≡ false) }
 {
-    subcommand(alloc, name, about).arg(max_nest_option(alloc))
+    subcommand(alloc, name, about, usage).arg(max_nest_option(alloc))
 }
 
 // The subcommand `pack`, which has the option `--style` too.
@@ -68,7 +70,7 @@ fn pack_command<'a>(alloc: Global, styles: &'a [&'a str]) -> Result<Command<'a>,
     ensures shape { IfOk result (λ command. shape_of command ≡ pack_shape styles.entry) }
     ensures local { IfOk result (λ command. (out-Command command).has_globals ≡ false) }
 {
-    subcommand(alloc, "pack", help::PACK)
+    subcommand(alloc, "pack", help::PACK, help::CALL_PACK)
         .arg(max_nest_option(alloc))?
         .arg(style_choice(alloc, styles))
 }
@@ -108,10 +110,11 @@ fn with_conversion<'a>(
     program: Command<'a>,
     name: &'a str,
     about: &'a str,
+    usage: &'a str,
 ) -> Result<Command<'a>, AllocError>
     ensures { IfOk result (λ command. app_of command ≡ with_subcommand (app_of program.entry) (conversion_shape name.entry.now)) }
 {
-    let conversion = conversion_command(alloc, name, about)?;
+    let conversion = conversion_command(alloc, name, about, usage)?;
     program.subcommand(conversion)
 }
 
@@ -121,6 +124,6 @@ pub(crate) fn command<'a>(alloc: Global, styles: &'a [&'a str]) -> Result<Comman
     ensures { IfOk result (λ command. app_of command ≡ command_line styles.entry) }
 {
     let packing = packing_command(alloc, styles)?;
-    let unpacking = with_conversion(alloc, packing, "unpack", help::UNPACK)?;
-    with_conversion(alloc, unpacking, "show", help::SHOW)
+    let unpacking = with_conversion(alloc, packing, "unpack", help::UNPACK, help::CALL_UNPACK)?;
+    with_conversion(alloc, unpacking, "show", help::SHOW, help::CALL_SHOW)
 }

@@ -7,12 +7,21 @@ pub(crate) const PROGRAM: &str =
 // What `pack` does.
 pub(crate) const PACK: &str = "Reads a table and writes a stream of blobs, one for each geometry";
 
+// How `pack` is called: it takes no file names.
+pub(crate) const CALL_PACK: &str = "polytwkb pack [OPTIONS] < TABLE > STREAM";
+
 // What `unpack` does.
 pub(crate) const UNPACK: &str = "Reads a stream of blobs and writes a table, the header line first";
+
+// How `unpack` is called.
+pub(crate) const CALL_UNPACK: &str = "polytwkb unpack [OPTIONS] < STREAM > TABLE";
 
 // What `show` does.
 pub(crate) const SHOW: &str =
     "Reads a stream of blobs and writes a line for each TWKB header in it";
+
+// How `show` is called.
+pub(crate) const CALL_SHOW: &str = "polytwkb show [OPTIONS] < STREAM > LINES";
 
 // Where the help of a subcommand leads.
 pub(crate) const ELSEWHERE: &str = "'polytwkb --help' describes tables, streams and exit statuses.";
