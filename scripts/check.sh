@@ -10,7 +10,7 @@ source scripts/proofs.bash
 work=$(mktemp -d)
 trap 'cleared "$work"' EXIT
 mapfile -t tests < <(grep -rl --include='*.rt' '#\[test\]' crates/*/src | cut -d/ -f2 | sort -u)
-mapfile -t proved < <(with_below "$(names_of crates.txt | tr '\n' ' ')" | names_of | grep -vxF "$(printf '%s\n' "${tests[@]}" vectors)")
+mapfile -t proved < <(grep '^[a-z]' crates.txt | names_of | grep -vxF "$(printf '%s\n' "${tests[@]}" vectors)")
 
 run_vectors() {
   (cd crates/vectors && rt try < stdin > "$work/vectors.out") && diff -u crates/vectors/stdout "$work/vectors.out" && echo "tests: vectors as stored"

@@ -49,6 +49,7 @@ package() {
   local tree=$work/package size
   local documents=$tree/usr/share/doc/polytwkb
   make -s install DESTDIR="$tree" PREFIX=/usr LIBDIR=/usr/lib/x86_64-linux-gnu ZSHDIR=/usr/share/zsh/vendor-completions
+  find "$tree/usr/lib" -type f -exec chmod 644 {} +
   gzip -9n "$tree/usr/share/man/man1/polytwkb.1"
   mv "$documents/LICENSE" "$documents/copyright"
   changelog | gzip -9n > "$documents/changelog.gz"

@@ -59,6 +59,7 @@ echo "0 0 multipoint 0 07 14 2" > "$work/stops.txt"
 
 # converts COMMAND..: the three commands on the example, and a larger one there and back.
 converts() {
+  # shellcheck disable=SC2094 # read twice
   "$@" pack < "$work/stops.csv" | cmp - "$work/stops.twkb" &&
     "$@" show < "$work/stops.twkb" | cmp - "$work/stops.txt" &&
     "$@" unpack < "$work/stops.twkb" | cmp - "$work/stops.csv" &&
@@ -107,6 +108,13 @@ report "made again, the same bytes" made_again
 is_there pkg-config || skip "pkg-config is not there"
 
 unpacked() { empty_root "$1" && mkdir -p "$1/usr/local" && tar -xzf "$archive" -C "$1/usr/local" --strip-components=1; }
+# what its README shows
+as_shown() {
+  local folder command
+  mkdir "$work/shown" && tar -xzf "$archive" -C "$work/shown" && folder=$(echo "$work"/shown/*) && command=$(grep '^  printf' "$folder/README") &&
+    diff <(cd "$folder" && eval "$command") <(grep -A 1 '^  printf' "$folder/README" | tail -n 1 | sed 's/^ *//') && [ "$(wc -l < "$folder/README")" -eq 20 ]
+}
+report "archive: what its README shows" as_shown
 report "archive: is unpacked" unpacked "$work/archive"
 used "archive" "$work/archive" /usr/local /usr/local/lib
 
@@ -136,7 +144,9 @@ system_calls() {
   cc -std=c11 -o "$work/system" examples/c/convert.c "${words[@]}" && "$work/system"
 }
 gone() { local file; while read -r file; do [ -d "$file" ] || [ ! -e "$file" ] || { echo "$file"; return 1; }; done < "$work/files"; }
-if [ "${SYSTEM:-yes}" = no ] || [ "$(id -u)" -ne 0 ] || ! apt-get -qq check > /dev/null 2>&1; then
+if [ "${SYSTEM:-yes}" = no ]; then
+  skip "apt-get: not tried, as SYSTEM=no asks"
+elif [ "$(id -u)" -ne 0 ] || ! apt-get -qq check > /dev/null 2>&1; then
   skip "apt-get: needs root, and to work here"
 elif dpkg-query -W polytwkb > /dev/null 2>&1 || [ -e /usr/bin/polytwkb ]; then
   skip "apt-get: this machine has a polytwkb"

@@ -8,12 +8,12 @@ which `rt ci` has just passed and nowhere else. The crate itself is proved. A ki
 """
 import importlib.util
 import os
-import shutil
+import subprocess
 import sys
 
 sys.dont_write_bytecode = True
-kit = os.path.dirname(os.path.realpath(shutil.which("rt")))
-spec = importlib.util.spec_from_file_location("rtlib", os.path.join(kit, "rtlib.py"))
+kit = os.path.dirname(subprocess.run(["rt", "doc"], stdout=subprocess.PIPE, text=True, check=True).stdout.strip())
+spec = importlib.util.spec_from_file_location("rtlib", os.path.join(kit, "bin", "rtlib.py"))
 if not os.path.exists(spec.origin):
     os.execvp("rt", ["rt", *sys.argv[1:]])
 rtlib = importlib.util.module_from_spec(spec)

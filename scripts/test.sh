@@ -29,6 +29,8 @@ fish fish
 sqlite3 sqlite3
 xxd xxd
 parallel parallel
+node nodejs
+/usr/lib/python3/dist-packages/polyline python3-polyline
 END
 }
 
@@ -72,7 +74,7 @@ smoke() { MEGABYTES=${MEGABYTES:-50} make -s smoke; }
 completions() { make -s completions-test; }
 fuzz() { lacks fuzz cc || make -s fuzz CASES="${CASES:-20000}" SEED="$seed"; }
 hostile() { lacks hostile cc || make -s hostile; }
-documents() { python3 tests/vectors/make.py --check && make -s docs-test; }
+documents() { python3 tests/vectors/make.py --check && scripts/docs_test.py; }
 dist() { lacks dist cc dpkg-deb || make -s dist-test; }
 library() {
   lacks library cc && return
