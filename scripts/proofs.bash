@@ -32,8 +32,13 @@ copy_crates() {
   tar -c -C "$repository" --exclude=out --exclude=must-fail HANDLES "${names[@]}" | tar -x -C "$copy"
 }
 
-# keeps_proofs: whether the kit keeps what a run of `rt ci` has passed, for runs over other copies too. One that does can be given names.
-keeps_proofs() { rt help 2>&1 | grep -q '^ *rt ci NAME'; }
+# keeps_proofs: whether the kit keeps what a run of `rt ci` has passed, for runs over other copies too: beside itself, in a folder of this user's.
+# One that does can be given names.
+keeps_proofs() {
+  local beside
+  beside=$(dirname "$(dirname "$(rt doc)")")
+  rt help 2>&1 | grep -q '^ *rt ci NAME' && { [ -O "$beside/rattle-kept" ] || [ -w "$beside" ]; }
+}
 
 # shown COUNT: passes the lines of `rt ci` on to a log, and says after which time how many of so many crates are proved.
 shown() {

@@ -2,7 +2,7 @@
 # The built program with real files and pipes: one line for each check; status 1 where one failed.
 # MEGABYTES is the size of the large table, 200 if it is not set. The checks on a terminal need python3, and are left out without it.
 set -uo pipefail
-cd "$(dirname "$0")/.."
+cd "$(dirname "$0")/.." || exit 1
 
 program=$PWD/bin/polytwkb
 megabytes=${MEGABYTES:-200}
