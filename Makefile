@@ -1,6 +1,8 @@
-# make test              the gate
+# make test              all tests: the gate, and on what it built the parts that are named below
 # make check             the short round
 # make build             the command into bin/
+# make dist              archive and Debian package of the built program and libraries into dist/
+# make dist-test         each of these installed into an empty root and used there; as root by apt-get too
 # make demo              the main job on an example
 # make smoke             the built program with real files and pipes
 # make completions-test  the words of the completions and of the manual page against help
@@ -15,7 +17,7 @@
 # make fuzz              the built program beside a second implementation, over random inputs (CASES, SEED, PROCESSES)
 # make bench             times and memory beside a plain program; BENCH has words for bench/run.sh
 # make clean             takes away what was built
-.PHONY: test check build lib lib-test lib-bench demo bench smoke completions-test docs-test recipes hostile fuzz install uninstall clean
+.PHONY: test check build lib lib-test lib-bench demo bench smoke completions-test docs-test recipes hostile fuzz dist dist-test install uninstall clean
 
 PREFIX ?= /usr/local
 DESTDIR ?=
@@ -23,6 +25,7 @@ BINDIR ?= $(PREFIX)/bin
 DATADIR ?= $(PREFIX)/share
 LIBDIR ?= $(PREFIX)/lib
 INCLUDEDIR ?= $(PREFIX)/include
+ZSHDIR ?= $(DATADIR)/zsh/site-functions
 INSTALL ?= install
 
 # The version of the command and of the library, as it stands in the code. The major number is in the name by which programs find the library.
@@ -33,24 +36,21 @@ REAL_NAME := libpolytwkb.so.$(VERSION)
 SOURCES := crates.txt $(shell find crates -name out -prune -o \( -name '*.rt' -o -name '*.antt' \) -print)
 
 test:
-	rt ci
+	@scripts/test.sh
 
 check:
 	scripts/check.sh
 
 build: bin/polytwkb
 
-# `rt run` proves, links and runs a program, and leaves it in out/.
 bin/polytwkb: $(SOURCES)
-	cd crates/polytwkb && rt run -- --help > /dev/null
-	mkdir -p bin
-	cp crates/polytwkb/out/polytwkb bin/polytwkb
+	@scripts/build.sh polytwkb $@
 
 lib: out/libpolytwkb.a out/libpolytwkb.so
 
 # The crate's archive, and the object of the kit by which it reaches malloc, realloc and free.
 out/libpolytwkb.a: $(SOURCES)
-	cd crates/twkb_c && rt lib > /dev/null
+	@scripts/build.sh twkb_c crates/twkb_c/out/libtwkb_c.a
 	rm -rf out/objects $@
 	mkdir -p out/objects
 	cd out/objects && $(AR) x ../../crates/twkb_c/out/libtwkb_c.a && $(AR) x "$$(dirname "$$(rt doc)")/c/liblibc_c.a" heap.pic.o
@@ -126,7 +126,7 @@ bin/growths: tests/hostile/growths/main.rt.in tests/hostile/growths/build.sh $(S
 PROGRAM_FILE := $(BINDIR)/polytwkb
 PAGE_FILE := $(DATADIR)/man/man1/polytwkb.1
 BASH_FILE := $(DATADIR)/bash-completion/completions/polytwkb
-ZSH_FILE := $(DATADIR)/zsh/site-functions/_polytwkb
+ZSH_FILE := $(ZSHDIR)/_polytwkb
 FISH_FILE := $(DATADIR)/fish/vendor_completions.d/polytwkb.fish
 LICENCE_FILE := $(DATADIR)/doc/polytwkb/LICENSE
 STATIC_FILE := $(LIBDIR)/libpolytwkb.a
@@ -157,6 +157,13 @@ uninstall:
 	rm -f '$(DESTDIR)$(STATIC_FILE)' '$(DESTDIR)$(SHARED_FILE)' '$(DESTDIR)$(SHARED_LINK)' '$(DESTDIR)$(SONAME_LINK)'
 	rm -f '$(DESTDIR)$(PACKAGE_FILE)' '$(DESTDIR)$(HEADER_FILE)'
 
+# For those who have no kit.
+dist: build lib
+	scripts/dist.sh dist
+
+dist-test: dist
+	scripts/dist_test.sh
+
 # The commands that documents show, run and compared.
 docs-test: build lib
 	scripts/docs_test.py
@@ -166,4 +173,4 @@ recipes: build lib
 	@for recipe in examples/recipes/*.sh examples/scale/check.sh tests/recipes/installed.sh; do echo "$$recipe"; $$recipe || exit 1; done
 
 clean:
-	rm -rf bin out bench/out crates/*/out
+	rm -rf bin out dist bench/out crates/*/out

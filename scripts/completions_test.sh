@@ -2,7 +2,7 @@
 # Compares the words of each completion file, and of the manual page, with those that the built program's help names.
 # Status 1 where they differ. The syntax of the files for zsh and fish is checked where these shells are there.
 set -uo pipefail
-cd "$(dirname "$0")/.."
+cd "$(dirname "$0")/.." || exit 1
 
 program=bin/polytwkb
 failed=0

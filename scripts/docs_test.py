@@ -133,7 +133,7 @@ def differences(path, commands):
         expected = trimmed(command.output)
         if len(output) == 1 and output[0].startswith("skipped: needs "):
             skipped += 1
-            print(f"{path}:{command.line}: block {command.block}: {output[0]}")
+            print(f"skip  {os.path.relpath(path, REPO)}:{command.line}: {output[0].removeprefix('skipped: ')}")
         elif output != expected:
             wrong += 1
             print(f"{path}:{command.line}: block {command.block}: $ {command.text.splitlines()[0]}")
@@ -176,7 +176,7 @@ def caller_differences():
     for name in sorted(set(os.listdir(EXAMPLES)) - shown - {"lib.rt", "tests.rt"}):
         wrong += 1
         print(f"crates/examples/src/{name}: no README shows it")
-    print(f"crates/*/README.md: {len(shown)} callers, {wrong} differ")
+    print(f"{'FAIL' if wrong else 'ok  '}  crates/*/README.md: {len(shown)} callers, {wrong} differ")
     return wrong
 
 
@@ -205,7 +205,7 @@ def main():
             continue
         commands = commands_of(path)
         found, skipped = differences(path, commands) if commands else (0, 0)
-        print(f"{os.path.relpath(path)}: {len(commands)} commands, {found} differ, {skipped} skipped")
+        print(f"{'FAIL' if found else 'ok  '}  {os.path.relpath(path)}: {len(commands)} commands, {found} differ, {skipped} skipped")
         wrong += found
     return 1 if wrong else 0
 

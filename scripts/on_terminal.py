@@ -11,7 +11,7 @@ import subprocess
 import sys
 import termios
 
-SECONDS = 20
+SECONDS = 300
 BEHIND = b"typed behind\n"
 
 
@@ -26,7 +26,7 @@ def silent_terminal():
 
 def what_is_left(terminal):
     """What the next reader of the terminal would be given."""
-    ready, _, _ = select.select([terminal], [], [], 1)
+    ready, _, _ = select.select([terminal], [], [], 10)
     return os.read(terminal, 100) if ready else b""
 
 

@@ -1,15 +1,14 @@
 #!/usr/bin/env bash
 # The built program with real files and pipes: one line for each check; status 1 where one failed.
-# MEGABYTES is the size of the large table, 200 where it is not set. Wants xxd, and python3 for the checks on a terminal,
-# which are left out without it.
+# MEGABYTES is the size of the large table, 200 if it is not set. The checks on a terminal need python3, and are left out without it.
 set -uo pipefail
-cd "$(dirname "$0")/.."
+cd "$(dirname "$0")/.." || exit 1
 
 program=$PWD/bin/polytwkb
 megabytes=${MEGABYTES:-200}
 peak_allowed=16384 # kB
 header=depth,kind,id,precision,polyline
-for tool in "$program" awk cmp timeout xxd; do
+for tool in "$program" awk cmp od perl timeout; do
   command -v "$tool" > /dev/null || { echo "smoke: $tool is not there" >&2; exit 1; }
 done
 work=$(mktemp -d)
@@ -131,7 +130,8 @@ same "$work/rows.csv" "1 MB of points is packed and unpacked" through "$work/row
 
 # Every blob of other tools: what show, pack and unpack make of it is what was worked out without our code.
 slashed() { tr '\n' '/'; }
-hex() { xxd -p | tr -d '\n'; }
+hex() { od -An -v -tx1 | tr -d ' \n'; }
+from_hex() { perl -ne 'chomp; print pack "H*", $_'; }
 expect() { # LABEL BLOB: behind this label and two counts, the next line of what was worked out is standard input
   local line got
   IFS= read -r line <&3
@@ -143,7 +143,7 @@ blobs_of_others() {
   while IFS= read -r line <&3; do
     [[ $line == "blob "* ]] || continue
     count=$((count + 1))
-    xxd -r -p <<< "${line#blob }" > "$work/blob"
+    from_hex <<< "${line#blob }" > "$work/blob"
     "$program" unpack < "$work/blob" > "$work/table"
     "$program" show < "$work/blob" | slashed | expect show $count
     slashed < "$work/table" | expect unpack $count
@@ -183,9 +183,9 @@ ends 0 "" "help to a full disk has status 0" help_to_full_disk
 
 # ---- inputs without end
 
-all_of_yes() { yes 2> /dev/null | timeout 20 "$program" "$1"; }
-front_of_yes() { yes 2> /dev/null | head -c 1000000 | timeout 20 "$program" "$1"; }
-table_without_end() { { echo "$header"; yes 0,point,,0,AC 2> /dev/null; } | timeout 20 "$program" pack | head -c 1000000 > "$work/front"; }
+all_of_yes() { yes 2> /dev/null | timeout 300 "$program" "$1"; }
+front_of_yes() { yes 2> /dev/null | head -c 1000000 | timeout 300 "$program" "$1"; }
+table_without_end() { { echo "$header"; yes 0,point,,0,AC 2> /dev/null; } | timeout 300 "$program" pack | head -c 1000000 > "$work/front"; }
 no_table="polytwkb: record 1: bad header"
 no_blob="polytwkb: byte 0: unknown type"
 
@@ -196,7 +196,7 @@ for command in unpack show; do
   ends 1 "$no_blob" "$command of a text without end, cut" front_of_yes "$command"
 done
 ends 3 "$write_fault" "pack of a table without end, its output cut" table_without_end
-yes 0102020402 | head -n 200000 | xxd -r -p > "$work/expected"
+yes 0102020402 | head -n 200000 | from_hex > "$work/expected"
 same "$work/expected" "and what was written before is right" cat "$work/front"
 
 # ---- refused input

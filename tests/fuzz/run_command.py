@@ -2,7 +2,7 @@
 import os
 import signal
 
-SECONDS = 20
+SECONDS = 300
 
 
 class Command:

@@ -119,12 +119,13 @@ def compared(comparing, row):
 def main():
     comparing = Comparing(Refusing(*sys.argv[1:3]))
     for row in ROWS:
-        print(f"{row.name}: {compared(comparing, row)}", flush=True)
+        before, counts = len(comparing.wrong), compared(comparing, row)
+        print(f"{'ok  ' if len(comparing.wrong) == before else 'FAIL'}  {row.name}: {counts}", flush=True)
     for words, status in TEXTS:
         comparing.text(words, status)
     print(f"borne: {sorted(comparing.borne)}")
     for wrong in comparing.wrong[:20]:
-        print(f"FAIL {wrong}")
+        print(f"wrong: {wrong}")
     print(f"each_failing: {len(comparing.wrong)} wrong answers")
     return len(comparing.wrong) > 0
 

@@ -40,7 +40,7 @@ def main():
         "packing makes at most one more than reading": counts["pack"] <= counts["read"] + 1,
     }
     for rule, holds in rules.items():
-        print(f"{'ok  ' if holds else 'FAIL'} {rule}")
+        print(f"{'ok  ' if holds else 'FAIL'}  {rule}")
     return not all(rules.values())
 
 

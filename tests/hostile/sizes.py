@@ -3,7 +3,7 @@
 
 sizes.py PROGRAM [MEGABYTES]
 
-Each run ends within ten seconds, with status 0, or with status 1 or 4 and one line on standard error; all that is written
+Each run takes less than ten seconds of a processor and ends, with status 0, or with status 1 or 4 and one line on standard error; all that is written
 is compared. Where memory decides, both answers are right. The limit is on addresses (as `ulimit -v`), 64 MB where none is
 given.
 """
@@ -12,13 +12,13 @@ import resource
 import subprocess
 import sys
 import threading
-import time
 
 sys.path.insert(0, os.path.join(os.path.dirname(os.path.abspath(__file__)), "../fuzz"))
 
 from table import HEADER_LINE
 
 SECONDS = 10
+PATIENCE = 600  # seconds by the clock, after which a run is taken for one that does not end
 MILLION = 1000000
 ENDLESS = 100000  # pieces of a megabyte; none of the runs reads so many
 TIMES = 10000
@@ -34,26 +34,33 @@ def written(pipe, pieces):
         pass
 
 
+def taken():
+    """Seconds that a processor worked for the runs that have ended."""
+    used = resource.getrusage(resource.RUSAGE_CHILDREN)
+    return used.ru_utime + used.ru_stime
+
+
 def run(program, words, pieces, limit):
-    """Status, output, standard error and seconds."""
+    """Status, output, standard error and seconds of a processor."""
 
     def limited():
         resource.setrlimit(resource.RLIMIT_AS, (limit, limit))
         resource.setrlimit(resource.RLIMIT_CORE, (0, 0))
+        resource.setrlimit(resource.RLIMIT_CPU, (3 * SECONDS, 3 * SECONDS))
 
     pipes = {"stdin": subprocess.PIPE, "stdout": subprocess.PIPE, "stderr": subprocess.PIPE}
-    start = time.monotonic()
+    start = taken()
     child = subprocess.Popen([program, *words], preexec_fn=limited, env={}, bufsize=0, **pipes)
     feeder = threading.Thread(target=written, args=(child.stdin, pieces), daemon=True)
     feeder.start()
     errors = []
     listener = threading.Thread(target=lambda: errors.append(child.stderr.read()), daemon=True)
     listener.start()
-    stopper = threading.Timer(SECONDS * 3, child.kill)
+    stopper = threading.Timer(PATIENCE, child.kill)
     stopper.start()
     output = child.stdout.read()
     status = child.wait()
-    seconds = time.monotonic() - start
+    seconds = taken() - start
     stopper.cancel()
     listener.join()
     return status, output, errors[0], seconds
@@ -174,7 +181,7 @@ def main():
         is_right = (status, output, errors) in answers and seconds < SECONDS
         wrong += not is_right
         told = f"{words[0]}: {name}: status {status}, {seconds:.1f} s, {len(output)} bytes, {errors[:200]!r}"
-        print(f"{'ok  ' if is_right else 'FAIL'} {told}", flush=True)
+        print(f"{'ok  ' if is_right else 'FAIL'}  {told}", flush=True)
     print(f"sizes: {wrong} wrong answers")
     return wrong > 0
 

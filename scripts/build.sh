@@ -1,0 +1,24 @@
+#!/usr/bin/env bash
+# Proves a crate and those below it, saying how far it is, and puts the program or the static library that it is into a file:
+#
+#   scripts/build.sh CRATE FILE
+set -euo pipefail
+# shellcheck source=scripts/proofs.bash
+source "$(dirname "$0")/proofs.bash"
+crate=$1
+file=$(realpath -m "$2")
+work=$(mktemp -d)
+trap 'cleared "$work"' EXIT
+
+if line=$(grep "^$crate staticlib:" "$repository/crates.txt"); then
+  # shellcheck disable=SC2086 # names of crates
+  libraries "$work/copy" ${line#*:}
+  tar -c -C "$repository" --exclude=out "crates/$crate" | tar -x -C "$work/copy"
+  echo "$line" >> "$work/copy/crates.txt"
+  over "$work/copy" "$crate" lib
+  install -D -m 644 "$work/copy/crates/$crate/out/lib$crate.a" "$file"
+else
+  copy_crates "$work/copy" "$crate"
+  prove "$work/copy"
+  install -D "$work/copy/crates/$crate/out/$crate" "$file"
+fi

@@ -1,0 +1,163 @@
+#!/usr/bin/env bash
+# Installs what is in dist/ into empty roots, and packs, shows and unpacks there by program and by library; one line for each check, status 1
+# if one failed. As root it also has apt-get install the package on this machine and remove it, if no polytwkb is there; not so with SYSTEM=no.
+set -uo pipefail
+cd "$(dirname "$0")/.." || exit 1
+umask 022
+export LC_ALL=C DEBIAN_FRONTEND=noninteractive
+archive=$(echo dist/polytwkb-*-x86_64-linux.tar.gz)
+package=$(echo dist/polytwkb_*_amd64.deb)
+work=$(mktemp -d)
+installed=
+trap '[ -z "$installed" ] || dpkg --purge polytwkb > /dev/null 2>&1; rm -rf "$work"' EXIT
+failed=0
+
+# report NAME COMMAND..: the line of a check, with what the command said if it fails.
+report() {
+  local name=$1
+  shift
+  if "$@" > "$work/said" 2>&1; then
+    echo "ok    $name"
+  else
+    failed=1
+    echo "FAIL  $name: $(tail -c 500 "$work/said" | tr '\n' '/')"
+  fi
+}
+skip() { echo "skip  $1"; }
+is_there() { command -v "$1" > /dev/null; }
+
+# ---- roots with the C library and nothing else
+
+# inside ROOT PROGRAM WORD..: runs the program of the root, in the root if this user can enter it.
+enter=
+for way in chroot "unshare -r chroot"; do
+  [ -n "$enter" ] || ! $way / true 2> /dev/null || enter=$way
+done
+inside() {
+  local root=$1 program=$2
+  shift 2
+  if [ -n "$enter" ]; then $enter "$root" "$program" "$@"; else "$root$program" "$@"; fi
+}
+libraries_of() { ldd "$1" | grep -o '/[^ ]*'; }
+empty_root() {
+  local file
+  mkdir -p "$1/tmp"
+  libraries_of bin/polytwkb | while read -r file; do install -D "$(realpath "$file")" "$1$file"; done
+}
+
+# ---- what is done with what is installed
+
+cat > "$work/stops.csv" << 'END'
+depth,kind,id,precision,polyline
+0,multipoint,,0,
+1,point,7,,AC
+1,point,8,,GE
+END
+# worked by hand in README.md
+printf '\004\007\013\004\002\002\006\002\016\020\004\002\002\006' > "$work/stops.twkb"
+echo "0 0 multipoint 0 07 14 2" > "$work/stops.txt"
+
+# converts COMMAND..: the three commands on the example, and a larger one there and back.
+converts() {
+  # shellcheck disable=SC2094 # read twice
+  "$@" pack < "$work/stops.csv" | cmp - "$work/stops.twkb" &&
+    "$@" show < "$work/stops.twkb" | cmp - "$work/stops.txt" &&
+    "$@" unpack < "$work/stops.twkb" | cmp - "$work/stops.csv" &&
+    "$@" pack < examples/collection.csv | "$@" unpack | cmp - examples/collection.csv &&
+    [[ $("$@" --version) == polytwkb\ * ]]
+}
+
+# flags ROOT PREFIX LIBDIR: what the compiler is told, by pkg-config if it is there.
+flags() {
+  local of_root=()
+  if is_there pkg-config; then
+    # an archive may be unpacked anywhere, so its file names the folders as they are
+    [ "$2" != /usr ] || of_root=("PKG_CONFIG_SYSROOT_DIR=$1")
+    env "${of_root[@]}" PKG_CONFIG_ALLOW_SYSTEM_CFLAGS=1 PKG_CONFIG_ALLOW_SYSTEM_LIBS=1 PKG_CONFIG_LIBDIR="$1$3/pkgconfig" \
+      pkg-config --cflags --libs polytwkb
+  else
+    echo "-I$1$2/include -L$1$3 -lpolytwkb"
+  fi
+}
+
+# calls ROOT PREFIX LIBDIR: the example in C over the shared library and the static one, in the root; that in Python over the shared one.
+calls() {
+  local words
+  read -ra words <<< "$(flags "$@")"
+  cc -std=c11 -o "$1/tmp/shared" examples/c/convert.c "${words[@]}" &&
+    cc -std=c11 -o "$1/tmp/static" examples/c/convert.c "${words[@]/#-lpolytwkb/-l:libpolytwkb.a}" &&
+    LD_LIBRARY_PATH="$([ -n "$enter" ] || echo "$1")$3" inside "$1" /tmp/shared &&
+    inside "$1" /tmp/static &&
+    python3 -B examples/python/convert.py "$1$3/libpolytwkb.so"
+}
+
+used() { # NAME ROOT PREFIX LIBDIR
+  report "$1: packs, shows and unpacks" converts inside "$2" "$3/bin/polytwkb"
+  report "$1: so do programs in C and Python over its libraries" calls "$2" "$3" "$4"
+  report "$1: the program is the one that was built" cmp bin/polytwkb "$2$3/bin/polytwkb"
+  report "$1: the manual page" grep -q polytwkb <(zcat -f "$2$3"/share/man/man1/polytwkb.1*)
+}
+
+# ---- the checks
+
+sums() { (cd dist && sha256sum -c SHA256SUMS); }
+made_again() { scripts/dist.sh "$work/again" && cmp dist/SHA256SUMS "$work/again/SHA256SUMS"; }
+report "the sums" sums
+report "made again, the same bytes" made_again
+[ -n "$enter" ] || skip "roots: this user can't enter one, so what is in them is run from outside"
+is_there pkg-config || skip "pkg-config is not there"
+
+unpacked() { empty_root "$1" && mkdir -p "$1/usr/local" && tar -xzf "$archive" -C "$1/usr/local" --strip-components=1; }
+# what its README shows
+as_shown() {
+  local folder command
+  mkdir "$work/shown" && tar -xzf "$archive" -C "$work/shown" && folder=$(echo "$work"/shown/*) && command=$(grep '^  printf' "$folder/README") &&
+    diff <(cd "$folder" && eval "$command") <(grep -A 1 '^  printf' "$folder/README" | tail -n 1 | sed 's/^ *//') && [ "$(wc -l < "$folder/README")" -eq 20 ]
+}
+report "archive: what its README shows" as_shown
+report "archive: is unpacked" unpacked "$work/archive"
+used "archive" "$work/archive" /usr/local /usr/local/lib
+
+by_dpkg() {
+  empty_root "$1" && mkdir -p "$1/var/lib/dpkg/info" "$1/var/lib/dpkg/updates" && touch "$1/var/lib/dpkg/status" &&
+    fakeroot_if_needed dpkg --root="$1" --log=/dev/null --force-not-root --force-depends --install "$package"
+}
+fakeroot_if_needed() { if [ "$(id -u)" -eq 0 ] || ! is_there fakeroot; then "$@"; else fakeroot "$@"; fi; }
+removed() {
+  fakeroot_if_needed dpkg --root="$1" --log=/dev/null --force-not-root --purge polytwkb && [ -z "$(find "$1/usr" -name '*polytwkb*')" ]
+}
+report "package: is installed" by_dpkg "$work/package"
+used "package" "$work/package" /usr /usr/lib/x86_64-linux-gnu
+report "package: is removed" removed "$work/package"
+if is_there lintian; then
+  report "package: lintian" lintian --fail-on error,warning "$package"
+else
+  skip "lintian is not there"
+fi
+
+# ---- this machine
+
+apt() { apt-get -y -q -o DPkg::Lock::Timeout=300 "$@"; }
+system_calls() {
+  local words
+  read -ra words <<< "$(pkg-config --cflags --libs polytwkb)"
+  cc -std=c11 -o "$work/system" examples/c/convert.c "${words[@]}" && "$work/system"
+}
+gone() { local file; while read -r file; do [ -d "$file" ] || [ ! -e "$file" ] || { echo "$file"; return 1; }; done < "$work/files"; }
+if [ "${SYSTEM:-yes}" = no ]; then
+  skip "apt-get: not tried, as SYSTEM=no asks"
+elif [ "$(id -u)" -ne 0 ] || ! apt-get -qq check > /dev/null 2>&1; then
+  skip "apt-get: needs root, and to work here"
+elif dpkg-query -W polytwkb > /dev/null 2>&1 || [ -e /usr/bin/polytwkb ]; then
+  skip "apt-get: this machine has a polytwkb"
+else
+  installed=yes
+  report "apt-get: installs" apt install "./$package"
+  dpkg-query -L polytwkb > "$work/files" 2> /dev/null
+  report "apt-get: it packs, shows and unpacks" converts /usr/bin/polytwkb
+  is_there pkg-config && report "apt-get: so does a program in C" system_calls
+  report "apt-get: removes" apt purge polytwkb
+  report "apt-get: nothing is left" gone
+  installed=
+fi
+[ "$failed" -eq 0 ]

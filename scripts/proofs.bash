@@ -1,0 +1,99 @@
+# Proofs by `rt ci` over a copy of the crates without wrong bodies: side by side, and what one round or the gate has proved on this machine
+# the other takes, with a kit that keeps it. Sourced by scripts that stand in a folder of their own, which `cleared` removes at their end.
+
+repository=$(cd "$(dirname "${BASH_SOURCE[0]}")/.." && pwd)
+
+# with_below CRATE..: the lines of crates.txt of these crates and of all that they use.
+with_below() {
+  awk -v wanted="$*" '
+    BEGIN { count = split(wanted, names, " "); for (place = 1; place <= count; place++) needed[names[place]] = 1 }
+    /^[a-z]/ { line[++lines] = $0 }
+    END {
+      for (place = lines; place > 0; place--) {
+        name = line[place]; sub(/[ :].*/, "", name)
+        if (!(name in needed)) { line[place] = ""; continue }
+        uses = line[place]; sub(/.*:/, "", uses)
+        count = split(uses, names, " "); for (use = 1; use <= count; use++) needed[names[use]] = 1
+      }
+      for (place = 1; place <= lines; place++) if (line[place] != "") print line[place]
+    }' "$repository/crates.txt"
+}
+
+# names_of FILE: the names of such lines.
+names_of() { sed 's/[ :].*//' "$@"; }
+
+# copy_crates COPY CRATE..: these crates and those below them, as the top of a repository.
+copy_crates() {
+  local copy=$1 names
+  shift
+  mkdir -p "$copy/.git"
+  with_below "$@" > "$copy/crates.txt"
+  mapfile -t names < <(names_of "$copy/crates.txt" | sed 's|^|crates/|')
+  tar -c -C "$repository" --exclude=out --exclude=must-fail HANDLES "${names[@]}" | tar -x -C "$copy"
+}
+
+# keeps_proofs: whether the kit keeps what a run of `rt ci` has passed, for runs over other copies too: beside itself, in a folder of this user's.
+# One that does can be given names.
+keeps_proofs() {
+  local beside
+  beside=$(dirname "$(dirname "$(rt doc)")")
+  rt help 2>&1 | grep -q '^ *rt ci NAME' && { [ -O "$beside/rattle-kept" ] || [ -w "$beside" ]; }
+}
+
+# shown COUNT: passes the lines of `rt ci` on to a log, and says after which time how many of so many crates are proved.
+shown() {
+  local line proved=0
+  while IFS= read -r line; do
+    printf '%s\n' "$line"
+    if [[ $line =~ ^rt:\ ([a-z_]+)\ (proved$|is\ kept) ]]; then
+      proved=$((proved + 1))
+      printf '%3d:%02d  %d of %d crates proved: %s\n' $((SECONDS / 60)) $((SECONDS % 60)) "$proved" "$1" "${BASH_REMATCH[1]}" >&3
+    fi
+  done
+}
+
+# prove COPY: `rt ci` over the copy, which leaves the libraries and programs in its crates/*/out. Where it fails, all that it said is shown.
+prove() {
+  local copy=$1 engine=
+  if [ -d "$copy/crates/twkb_engine" ] && keeps_proofs; then
+    # Nearly all crates wait for the engine, and it for a chain of others. A run of its own, which comes first, gives each of these more
+    # processors than they have beside all crates; what it has proved the other run takes.
+    copy_crates "$copy-engine" twkb_engine
+    (cd "$copy-engine" && exec rt ci) > "$copy-engine.log" 2>&1 &
+    engine=$!
+    sleep 5
+  fi
+  if ! (cd "$copy" && exec ${engine:+nice} rt ci) 2>&1 | shown "$(names_of "$copy/crates.txt" | wc -l)" 3>&1 > "$copy.log"; then
+    cat "$copy.log"
+    return 1
+  fi
+  [ -z "$engine" ] || wait "$engine" || { cat "$copy-engine.log"; return 1; }
+}
+
+# libraries COPY CRATE..: copies these crates and those below them, proved. In PROVED a caller names a checkout in which `rt ci` has just passed
+# over these sources, and which held no work of another run before: what it left there is taken, and nothing is proved again.
+libraries() {
+  local copy=$1 name
+  copy_crates "$@"
+  if [ -z "${PROVED:-}" ]; then
+    prove "$copy"
+    return
+  fi
+  for name in $(names_of "$copy/crates.txt"); do
+    mkdir "$copy/crates/$name/out"
+    cp -al "$PROVED/crates/$name/out/rlib" "$copy/crates/$name/out/rlib" 2> /dev/null ||
+      { rm -rf "$copy/crates/$name/out/rlib"; cp -a "$PROVED/crates/$name/out/rlib" "$copy/crates/$name/out/rlib"; }
+  done
+}
+
+# over COPY CRATE VERB: `rt lib` or `rt run` of one crate more over these libraries. Where it fails, all that it said is shown.
+over() {
+  (cd "$1/crates/$2" && "$repository/scripts/over_proved.py" "$3") > "$1.log" 2>&1 || { local status=$?; [ "$3" = run ] || cat "$1.log"; return $status; }
+}
+
+# cleared FOLDER: ends what the script still runs, and removes its folder.
+cleared() {
+  mapfile -t running < <(jobs -p)
+  [ ${#running[@]} -eq 0 ] || kill "${running[@]}" 2> /dev/null || true
+  rm -rf "$1"
+}

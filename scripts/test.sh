@@ -1,0 +1,128 @@
+#!/usr/bin/env bash
+# All tests: the gate (`rt ci`), and then on what it built the parts below, side by side. A line says what each part came to, and what of
+# it this machine lacks; where one failed, all that it said is shown. The last line counts all.
+#
+# As root it installs the Debian packages that it lacks, meanwhile, and tries the package that `make dist` makes; not so with SYSTEM=no.
+set -uo pipefail
+cd "$(dirname "$0")/.." || exit 1
+exec < /dev/null
+unset MAKEFLAGS MAKELEVEL
+parts="smoke completions fuzz library documents dist hostile"
+work=$(mktemp -d)
+trap 'rm -rf "$work"' EXIT
+
+# What the parts take, and the package that brings each.
+lacking() {
+  local tool package
+  while read -r tool package; do
+    [ -e "$tool" ] || command -v "$tool" > /dev/null || echo "$package"
+  done << 'END'
+make make
+cc gcc
+/usr/include/stdio.h libc6-dev
+pkg-config pkg-config
+dpkg-deb dpkg
+lintian lintian
+valgrind valgrind
+zsh zsh
+fish fish
+sqlite3 sqlite3
+xxd xxd
+parallel parallel
+node nodejs
+/usr/lib/python3/dist-packages/polyline python3-polyline
+END
+}
+
+# Each alone, so that one which a mirror lacks keeps out no other.
+install_lacking() {
+  local package packages apt=(apt-get -y -q -o DPkg::Lock::Timeout=300 -o Acquire::http::Timeout=20)
+  packages=$(lacking)
+  if [ -z "$packages" ] || [ "${SYSTEM:-yes}" = no ] || [ "$(id -u)" -ne 0 ] || ! command -v apt-get > /dev/null; then return; fi
+  export DEBIAN_FRONTEND=noninteractive
+  "${apt[@]}" update
+  for package in $packages; do "${apt[@]}" install --no-install-recommends "$package"; done
+}
+
+# gate: `rt ci`, whose counts it leaves; what it built goes where `make` looks for it.
+gate() {
+  local status own counts
+  own=$(compgen -G 'crates/*/out/rlib')
+  rt ci 2>&1 | tee "$work/gate.log"
+  status=${PIPESTATUS[0]}
+  counts=$(tail -n 1 "$work/gate.log")
+  [[ $counts =~ ^([0-9]+)" passed, "([0-9]+)" failed"$ ]] || counts="0 passed, 1 failed"
+  [ "$status" -eq 0 ] || [[ $counts != *" 0 failed" ]] || counts="${counts% 0 failed} 1 failed"
+  echo "$counts" > "$work/gate.counts"
+  [[ $counts == *" 0 failed" ]] || return 1
+  install -D crates/polytwkb/out/polytwkb bin/polytwkb
+  # Libraries of other runs were there, and are there again: those of the gate are gone.
+  [ -n "$own" ] || export PROVED=$PWD
+}
+
+# lacks NAME TOOL..: says which of these tools is not there, if one is not.
+lacks() {
+  local part=$1 tool
+  shift
+  for tool in "$@"; do
+    command -v "$tool" > /dev/null || { echo "skip  $part: $tool is not there"; return 0; }
+  done
+  return 1
+}
+
+smoke() { MEGABYTES=${MEGABYTES:-50} make -s smoke; }
+completions() { make -s completions-test; }
+fuzz() { lacks fuzz cc || make -s fuzz CASES="${CASES:-20000}" SEED="$seed"; }
+hostile() { lacks hostile cc || make -s hostile; }
+documents() { python3 tests/vectors/make.py --check && scripts/docs_test.py; }
+dist() { lacks dist cc dpkg-deb || make -s dist-test; }
+library() {
+  lacks library cc && return
+  make -s lib-test || return 1
+  lacks "memory under valgrind" valgrind
+  return 0
+}
+
+# part NAME: runs it, counts the checks that it names by a line each, or it as one, and tells what it came to.
+part() {
+  local name=$1 log=$work/$1.log status passed failed skipped began=$SECONDS
+  { lacks "$name" make || "$name"; } > "$log" 2>&1
+  status=$?
+  passed=$(grep -c '^ok  ' "$log")
+  failed=$(grep -c '^FAIL ' "$log")
+  skipped=$(grep -c '^skip ' "$log")
+  [ "$status" -eq 0 ] || [ "$failed" -gt 0 ] || failed=1
+  [ "$passed" -gt 0 ] || [ "$failed" -gt 0 ] || [ "$skipped" -gt 0 ] || passed=1
+  {
+    [ "$failed" -eq 0 ] || cat "$log"
+    echo "$name: $passed passed, $failed failed, $skipped skipped ($((SECONDS - began)) s)"
+    [ "$failed" -gt 0 ] || grep '^skip ' "$log"
+  } > "$log.told"
+  cat "$log.told"
+  echo "$passed passed, $failed failed" > "$work/$name.counts"
+}
+
+# lane NAME..: parts that run one after the other.
+lane() {
+  local name
+  for name in "$@"; do part "$name"; done
+}
+
+install_lacking > "$work/install.log" 2>&1 &
+gate
+status=$?
+wait
+if [ $status -eq 0 ]; then
+  [ -z "$(lacking)" ] || echo "not there: $(lacking | tr '\n' ' ')(see what is skipped below)"
+  seed=$(date +%s)
+  echo "fuzz: seed $seed"
+  make -s bin/refuse.so > /dev/null 2>&1
+  lane smoke completions fuzz &
+  lane library documents dist &
+  lane hostile &
+  wait
+  for name in $parts; do [ -e "$work/$name.counts" ] || echo "0 passed, 1 failed" > "$work/$name.counts"; done
+else
+  echo "the gate failed, so the other parts were not run"
+fi
+awk '{ passed += $1; failed += $3 } END { print passed + 0 " passed, " failed + 0 " failed"; exit failed > 0 }' "$work"/*.counts
