@@ -12,7 +12,7 @@ use std::marker::Model;
 use twkb_flat::Row;
 use twkb_tree::{Kind, OpenRow};
 
-// Up to this many open rows take no memory of their own. Collections eight deep, with their points, have ten.
+// Up to this many open rows take no memory of their own. Eight collections in one another, and a point in them, have nine.
 const INLINE: usize = 16;
 
 // The open rows, the root first. A place is kept after its row is done, for the next one as deep: nothing is dropped, and no blank is
