@@ -1,6 +1,6 @@
 #!/usr/bin/env bash
 # All tests: the gate (`rt ci`), and then on what it built the parts below, side by side. A line says what each part came to, and what of
-# it this machine lacks; where one failed, all that it said is shown. The last line counts all.
+# it this machine lacks; if one failed, all that it said is shown. The last line counts all.
 #
 # As root it installs the Debian packages that it lacks, meanwhile, and tries the package that `make dist` makes; not so with SYSTEM=no.
 set -uo pipefail
