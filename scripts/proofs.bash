@@ -37,7 +37,7 @@ copy_crates() {
 keeps_proofs() {
   local beside
   beside=$(dirname "$(dirname "$(rt doc)")")
-  rt help 2>&1 | grep -q '^ *rt ci NAME' && { [ -O "$beside/rattle-kept" ] || [ -w "$beside" ]; }
+  [[ $(rt help 2>&1) == *"rt ci NAME"* ]] && { [ -O "$beside/rattle-kept" ] || [ -w "$beside" ]; }
 }
 
 # shown COUNT: passes the lines of `rt ci` on to a log, and says after which time how many of so many crates are proved.
