@@ -95,7 +95,7 @@ over() {
 
 # cleared FOLDER: ends what the script still runs, and removes its folder.
 cleared() {
-  mapfile -t running < <(jobs -p)
+  mapfile -t running < <(jobs -pr)
   [ ${#running[@]} -eq 0 ] || kill "${running[@]}" 2> /dev/null || true
   rm -rf "$1"
 }
