@@ -22,3 +22,4 @@ else
   prove "$work/copy"
   install -D "$work/copy/crates/$crate/out/$crate" "$file"
 fi
+echo "$2 is built"

@@ -120,7 +120,7 @@ used "archive" "$work/archive" /usr/local /usr/local/lib
 
 by_dpkg() {
   empty_root "$1" && mkdir -p "$1/var/lib/dpkg/info" "$1/var/lib/dpkg/updates" && touch "$1/var/lib/dpkg/status" &&
-    fakeroot_if_needed dpkg --root="$1" --log=/dev/null --force-not-root --force-depends --install "$package"
+    fakeroot_if_needed dpkg --root="$1" --log=/dev/null --path-include='*' --force-not-root --force-depends --install "$package"
 }
 fakeroot_if_needed() { if [ "$(id -u)" -eq 0 ] || ! is_there fakeroot; then "$@"; else fakeroot "$@"; fi; }
 removed() {

@@ -37,7 +37,7 @@ copy_crates() {
 keeps_proofs() {
   local beside
   beside=$(dirname "$(dirname "$(rt doc)")")
-  rt help 2>&1 | grep -q '^ *rt ci NAME' && { [ -O "$beside/rattle-kept" ] || [ -w "$beside" ]; }
+  [[ $(rt help 2>&1) == *"rt ci NAME"* ]] && { [ -O "$beside/rattle-kept" ] || [ -w "$beside" ]; }
 }
 
 # shown COUNT: passes the lines of `rt ci` on to a log, and says after which time how many of so many crates are proved.
@@ -52,7 +52,7 @@ shown() {
   done
 }
 
-# prove COPY: `rt ci` over the copy, which leaves the libraries and programs in its crates/*/out. Where it fails, all that it said is shown.
+# prove COPY: `rt ci` over the copy, which leaves the libraries and programs in its crates/*/out. If it fails, all that it said is shown.
 prove() {
   local copy=$1 engine=
   if [ -d "$copy/crates/twkb_engine" ] && keeps_proofs; then
@@ -73,27 +73,29 @@ prove() {
 # libraries COPY CRATE..: copies these crates and those below them, proved. In PROVED a caller names a checkout in which `rt ci` has just passed
 # over these sources, and which held no work of another run before: what it left there is taken, and nothing is proved again.
 libraries() {
-  local copy=$1 name
   copy_crates "$@"
-  if [ -z "${PROVED:-}" ]; then
-    prove "$copy"
-    return
-  fi
-  for name in $(names_of "$copy/crates.txt"); do
-    mkdir "$copy/crates/$name/out"
-    cp -al "$PROVED/crates/$name/out/rlib" "$copy/crates/$name/out/rlib" 2> /dev/null ||
-      { rm -rf "$copy/crates/$name/out/rlib"; cp -a "$PROVED/crates/$name/out/rlib" "$copy/crates/$name/out/rlib"; }
+  { [ -n "${PROVED:-}" ] && take "$1"; } || prove "$1"
+}
+
+take() {
+  local name names
+  mapfile -t names < <(names_of "$1/crates.txt")
+  for name in "${names[@]}"; do [ -d "$PROVED/crates/$name/out/rlib" ] || return 1; done
+  for name in "${names[@]}"; do
+    mkdir "$1/crates/$name/out"
+    # by links if both are on one disk: `rt` never writes into a library
+    cp -al "$PROVED/crates/$name/out/rlib" "$1/crates/$name/out/" 2> /dev/null || cp -a --remove-destination "$PROVED/crates/$name/out/rlib" "$1/crates/$name/out/"
   done
 }
 
-# over COPY CRATE VERB: `rt lib` or `rt run` of one crate more over these libraries. Where it fails, all that it said is shown.
+# over COPY CRATE VERB: `rt lib` or `rt run` of one crate more over these libraries. If it fails, all that it said is shown.
 over() {
   (cd "$1/crates/$2" && "$repository/scripts/over_proved.py" "$3") > "$1.log" 2>&1 || { local status=$?; [ "$3" = run ] || cat "$1.log"; return $status; }
 }
 
 # cleared FOLDER: ends what the script still runs, and removes its folder.
 cleared() {
-  mapfile -t running < <(jobs -p)
+  mapfile -t running < <(jobs -pr)
   [ ${#running[@]} -eq 0 ] || kill "${running[@]}" 2> /dev/null || true
   rm -rf "$1"
 }

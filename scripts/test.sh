@@ -1,6 +1,6 @@
 #!/usr/bin/env bash
 # All tests: the gate (`rt ci`), and then on what it built the parts below, side by side. A line says what each part came to, and what of
-# it this machine lacks; where one failed, all that it said is shown. The last line counts all.
+# it this machine lacks; if one failed, all that it said is shown. The last line counts all.
 #
 # As root it installs the Debian packages that it lacks, meanwhile, and tries the package that `make dist` makes; not so with SYSTEM=no.
 set -uo pipefail
@@ -60,27 +60,32 @@ gate() {
   [ -n "$own" ] || export PROVED=$PWD
 }
 
-# lacks NAME TOOL..: says which of these tools is not there, if one is not.
+# lacks WHAT TOOL..: says that this is skipped, if one of the tools is not there.
 lacks() {
-  local part=$1 tool
+  local what=$1 tool
   shift
   for tool in "$@"; do
-    command -v "$tool" > /dev/null || { echo "skip  $part: $tool is not there"; return 0; }
+    command -v "$tool" > /dev/null || { echo "skip  $what: $tool is not there"; return 0; }
   done
   return 1
 }
 
 smoke() { MEGABYTES=${MEGABYTES:-50} make -s smoke; }
 completions() { make -s completions-test; }
-fuzz() { lacks fuzz cc || make -s fuzz CASES="${CASES:-20000}" SEED="$seed"; }
-hostile() { lacks hostile cc || make -s hostile; }
+fuzz() {
+  local cases=${CASES:-20000}
+  if lacks "reading in pieces" cc; then tests/fuzz/fuzz.py --cases "$cases" --seed "$seed"; else make -s fuzz CASES="$cases" SEED="$seed"; fi
+}
+hostile() {
+  if lacks "calls that fail in turn" cc; then tests/hostile/sizes.py bin/polytwkb; else make -s hostile; fi
+}
 documents() { python3 tests/vectors/make.py --check && scripts/docs_test.py; }
 dist() { lacks dist cc dpkg-deb || make -s dist-test; }
 library() {
   lacks library cc && return
   make -s lib-test || return 1
-  lacks "memory under valgrind" valgrind
-  return 0
+  echo "ok    the library in C and in Python"
+  lacks "memory of the library" valgrind || return 0
 }
 
 # part NAME: runs it, counts the checks that it names by a line each, or it as one, and tells what it came to.

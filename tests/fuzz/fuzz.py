@@ -199,7 +199,8 @@ def main():
     found, ends = in_processes(arguments)
     for end, times in sorted(ends.items()):
         print(f"{times:8} {end}")
-    print(f"fuzz: {arguments.cases} cases in {time.monotonic() - start:.0f} s, {found} differ (seed {arguments.seed})")
+    seconds = time.monotonic() - start
+    print(f"{'FAIL' if found else 'ok  '}  fuzz: {arguments.cases} cases in {seconds:.0f} s, {found} differ (seed {arguments.seed})")
     return found > 0
 
 
