@@ -158,9 +158,6 @@ pub fn push_decimal(text: &mut Vec<u8>, number: i64) -> Result<(), AllocError>
     ensures appended { OnOk result (text.new.items ≡ text.old.items ++ signed_decimal number) }
     ensures same { OnErr result (text.new.items ≡ text.old.items) }
 {
-    if let Some(digit) = one_digit(number) {
-        return text.extend_from_slice(&[digit]);
-    }
     let mut buffer = Buffer::new();
     text.extend_from_slice(buffer.format(number).as_bytes())
 }

@@ -1,5 +1,5 @@
 //! The two printers of rows, that of geometries by the writer of `csv` and that of flat forms, on one table.
-use std::alloc::Global;
+use std::alloc::{AllocError, Global};
 use std::io::Read;
 use twkb_geom::{Flat, Geometry, Limits, Work};
 use twkb_io::Tap;
@@ -9,35 +9,37 @@ use twkb_table::{TableReader, header_text, put_flat_rows, rows_text};
 const TABLE: &[u8] =
     b"depth,kind,id,precision,polyline\n0,point,,0,AC\n0,point,,-8,\n0,linestring,,7,AAGG\n0,polygon,,0,\n1,ring,,,???GGF\n1,ring,,,\n0,multipoint,,0,\n1,point,-9223372036854775808,,AA\n1,point,9223372036854775807,,AC\n0,multilinestring,,0,\n1,linestring,0,,AAGG\n1,linestring,-1,,\n0,multipolygon,,0,\n1,polygon,3,,\n2,ring,,,AA\n2,ring,,,\n1,polygon,44,,\n0,collection,,0,\n1,collection,12,1,\n2,point,7,2,AA\n2,multipoint,-3,3,\n3,point,,,AC\n2,collection,8,4,\n1,linestring,10,0,AAGG\n";
 
-// Appends the rows of a geometry, by the writer of `csv`.
-fn put_records(alloc: Global, geometry: &Geometry, rows: &mut Vec<u8>) -> bool {
-    match rows_text(alloc, geometry) {
-        Ok(text) => rows.extend_from_slice(&text).is_ok(),
+// Appends rows that the writer of `csv` gave.
+fn put_records(lines: Result<Vec<u8>, AllocError>, rows: &mut Vec<u8>) -> bool {
+    match lines {
+        Ok(lines) => rows.extend_from_slice(&lines).is_ok(),
         Err(_) => false,
     }
 }
 
-// The same of its flat form.
-fn put_form(alloc: Global, geometry: &Geometry, rows: &mut Vec<u8>) -> bool {
-    match Flat::from_geometry(alloc, geometry) {
+// Appends the rows of a form directly.
+fn put_form(form: Result<Flat, AllocError>, rows: &mut Vec<u8>) -> bool {
+    match form {
         Ok(flat) => put_flat_rows(&flat, &mut Work::new(), rows).is_ok(),
         Err(_) => false,
     }
 }
 
-// Both, of a geometry within the largest limits.
+// Appends the rows of a geometry by both printers.
 fn put_both(
     alloc: Global,
     geometry: &Geometry,
     records: &mut Vec<u8>,
     direct: &mut Vec<u8>,
 ) -> bool {
-    geometry.within(&Limits::largest())
-        && put_records(alloc, geometry, records)
-        && put_form(alloc, geometry, direct)
+    if !geometry.within(&Limits::largest()) {
+        return false;
+    }
+    let are_written = put_records(rows_text(alloc, geometry), records);
+    are_written & put_form(Flat::from_geometry(alloc, geometry), direct)
 }
 
-// Both, of the geometries of a short table. Tells whether its end was met, with nothing refused.
+// The same of the geometries of a short table. Tells whether its end was met, with nothing refused.
 fn put_all<R: Read>(
     alloc: Global,
     reader: &mut TableReader<'_, R>,
