@@ -37,29 +37,29 @@ returns-in-Err-clause-fed c = λ bytes gs s.
 pub take_byte-requires-clause-alive : goal.take_byte-requires-clause-alive
 take_byte-requires-clause-alive c =
     let t = c.begin.new.self in
-    of_begun t.flat t.engine t.is_whole c.begin.ensures.open (t.alive (c.begin.ensures.spent ∙ c.requires.live))
+    of_begun t.rows.flat t.engine t.is_whole c.begin.ensures.open (t.alive (c.begin.ensures.spent ∙ c.requires.live))
 
 pub invariant_of-self : goal.invariant_of-self
 invariant_of-self c =
     let t = c.begin.new.self in
     let so_far : c.args.taken ≡ t.start + count_of t.engine = rw (c.begin.ensures.start, c.begin.ensures.engine) c.requires.counted in
-    let alive = of_begun t.flat t.engine t.is_whole c.begin.ensures.open (t.alive (c.begin.ensures.spent ∙ c.requires.live)) in
+    let alive = of_begun t.rows.flat t.engine t.is_whole c.begin.ensures.open (t.alive (c.begin.ensures.spent ∙ c.requires.live)) in
     record {
       start_few = omega (arith, c.requires.room);
       taken_few = omega (arith, c.requires.room, so_far, c.take_byte.ensures.count);
       alive = λ live.
-          step_ended (allowance_of t.engine) t.flat c.take_byte.new.flat t.engine c.take_byte.new.self _ (λ bs s. rw c.in-Ok-true.field-0-test at (c.in-Ok-true.ensures.taken bs s)) alive;
+          step_ended (allowance_of t.engine) t.rows.flat c.take_byte.new.flat t.engine c.take_byte.new.self _ (λ bs s. rw c.in-Ok-true.field-0-test at (c.in-Ok-true.ensures.taken bs s)) alive;
     }
 
 pub invariant_of-self-in-Ok-false : goal.invariant_of-self-in-Ok-false
 invariant_of-self-in-Ok-false c =
     let t = c.begin.new.self in
     let so_far : c.args.taken ≡ t.start + count_of t.engine = rw (c.begin.ensures.start, c.begin.ensures.engine) c.requires.counted in
-    let alive = of_begun t.flat t.engine t.is_whole c.begin.ensures.open (t.alive (c.begin.ensures.spent ∙ c.requires.live)) in
+    let alive = of_begun t.rows.flat t.engine t.is_whole c.begin.ensures.open (t.alive (c.begin.ensures.spent ∙ c.requires.live)) in
     record {
       start_few = t.start_few;
       taken_few = omega (arith, c.requires.room, so_far, c.take_byte.ensures.count);
       alive = λ live.
           begun_of c.take_byte.new.flat c.take_byte.new.self t.is_whole c.begin.ensures.open
-          (alive_on t.flat c.take_byte.new.flat t.engine c.take_byte.new.self _ (λ bs s. rw c.in-Ok-false.field-0-test at (c.in-Ok-false.ensures.taken bs s)) alive);
+          (alive_on t.rows.flat c.take_byte.new.flat t.engine c.take_byte.new.self _ (λ bs s. rw c.in-Ok-false.field-0-test at (c.in-Ok-false.ensures.taken bs s)) alive);
     }

@@ -16,11 +16,11 @@ returns-in_err-count-clause-fed c = λ bytes gs s.
 pub invariant_of-self-in-Ok-default-true : goal.invariant_of-self-in-Ok-default-true
 invariant_of-self-in-Ok-default-true c =
     let t = c.begin.new.self in
-    let alive = of_begun t.flat t.engine t.is_whole c.begin.ensures.open (t.alive (c.begin.ensures.spent ∙ c.requires.live)) in
+    let alive = of_begun t.rows.flat t.engine t.is_whole c.begin.ensures.open (t.alive (c.begin.ensures.spent ∙ c.requires.live)) in
     record {
       start_few = omega (arith, c.in-Ok-default-true.ensures.within, length-take c.in_ok-count.count c.args.piece.now, c.in_ok-count.ensures.fits);
       taken_few = omega (arith, c.feed.ensures.count, length-take c.in_ok-count.count c.args.piece.now, c.in_ok-count.ensures.fits, c.taken-taken.ensures);
-      alive = λ live. fed_ended (allowance_of t.engine) t.flat c.feed.new.flat t.engine c.feed.new.engine (take c.in_ok-count.count c.args.piece.now) c.in-Ok-default-true.used (λ bs s. rw c.in-Ok-default-true.field-0-1-test at (c.in-Ok-default-true.ensures.fed bs s)) alive;
+      alive = λ live. fed_ended (allowance_of t.engine) t.rows.flat c.feed.new.flat t.engine c.feed.new.engine (take c.in_ok-count.count c.args.piece.now) c.in-Ok-default-true.used (λ bs s. rw c.in-Ok-default-true.field-0-1-test at (c.in-Ok-default-true.ensures.fed bs s)) alive;
     }
 
 pub invariant_of-self-then-count-piece : goal.invariant_of-self-then-count-piece
@@ -33,12 +33,12 @@ invariant_of-self-then-count-piece c = record {
 pub invariant_of-self-in-Ok-default-false : goal.invariant_of-self-in-Ok-default-false
 invariant_of-self-in-Ok-default-false c =
     let t = c.begin.new.self in
-    let alive = of_begun t.flat t.engine t.is_whole c.begin.ensures.open (t.alive (c.begin.ensures.spent ∙ c.requires.live)) in
+    let alive = of_begun t.rows.flat t.engine t.is_whole c.begin.ensures.open (t.alive (c.begin.ensures.spent ∙ c.requires.live)) in
     record {
       start_few = c.begin.new.self.start_few;
       taken_few = omega (arith, c.feed.ensures.count, length-take c.in_ok-count.count c.args.piece.now, c.in_ok-count.ensures.fits, c.taken-taken.ensures);
       alive = λ live. begun_of c.feed.new.flat c.feed.new.engine t.is_whole c.begin.ensures.open
-          (fed_on (allowance_of t.engine) t.flat c.feed.new.flat t.engine c.feed.new.engine (take c.in_ok-count.count c.args.piece.now) c.in-Ok-default-false.used (λ bs s. rw c.in-Ok-default-false.field-0-1-test at (c.in-Ok-default-false.ensures.fed bs s)) alive);
+          (fed_on (allowance_of t.engine) t.rows.flat c.feed.new.flat t.engine c.feed.new.engine (take c.in_ok-count.count c.args.piece.now) c.in-Ok-default-false.used (λ bs s. rw c.in-Ok-default-false.field-0-1-test at (c.in-Ok-default-false.ensures.fed bs s)) alive);
     }
 
 pub returns-then-count-piece-clause-fed : goal.returns-then-count-piece-clause-fed
@@ -99,4 +99,4 @@ returns-else-count-piece-clause-noted c = λ on.
 pub feed-requires-clause-alive : goal.feed-requires-clause-alive
 feed-requires-clause-alive c =
     let t = c.begin.new.self in
-    of_begun t.flat t.engine t.is_whole c.begin.ensures.open (t.alive (c.begin.ensures.spent ∙ c.requires.live))
+    of_begun t.rows.flat t.engine t.is_whole c.begin.ensures.open (t.alive (c.begin.ensures.spent ∙ c.requires.live))
