@@ -1,7 +1,7 @@
 //! The two printers of rows, that of geometries by the writer of `csv` and that of flat forms, on one table.
 use std::alloc::{AllocError, Global};
 use std::io::Read;
-use twkb_geom::{Flat, Geometry, Limits, Work};
+use twkb_geom::{Flat, Geometry, Limits, Rows, Work};
 use twkb_io::Tap;
 use twkb_table::{TableReader, header_text, put_flat_rows, rows_text};
 
@@ -20,7 +20,7 @@ fn put_records(lines: Result<Vec<u8>, AllocError>, rows: &mut Vec<u8>) -> bool {
 // Appends the rows of a form directly.
 fn put_form(form: Result<Flat, AllocError>, rows: &mut Vec<u8>) -> bool {
     match form {
-        Ok(flat) => put_flat_rows(&flat, &mut Work::new(), rows).is_ok(),
+        Ok(flat) => put_flat_rows(&Rows { flat }, &mut Work::new(), rows).is_ok(),
         Err(_) => false,
     }
 }
