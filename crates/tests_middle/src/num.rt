@@ -18,8 +18,8 @@ fn units_and_sizes_of_both_alphabets(rt: HostRuntime) {
     assert!(rt; is_unit::<Leb128>(44, 0xac, 7, 10) & is_unit::<Five>(31, b'~', 5, 13));
 }
 
-// The way from point to point of Google's worked example, longitude before latitude, as varints of zigzag forms.
-const STEPS: &[u8] =
+/// The way from point to point of Google's worked example, longitude before latitude, as varints of zigzag forms.
+pub const STEPS: &[u8] =
     b"\xBF\xA4\xBB\x0B\xA0\xFC\xD5\x03\xEF\x93\x09\xC0\xED\x1A\xB7\x96\x43\xC0\x93\x1F";
 
 // The numbers 1, 1, 4 and 4 as characters, four times.

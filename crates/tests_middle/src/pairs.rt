@@ -1,21 +1,18 @@
 //! Two points at once: read at the start of bytes, and added to a flat form. Run with each allocation refused in turn
 //! (`rt try --test --fail-alloc N`) too.
 use crate::fixtures::form;
+use crate::num::STEPS;
 use std::alloc::Global;
 use twkb_front::front_two;
 use twkb_geom::{Flat, PointId, Work};
 use twkb_points::Pt;
-
-// The way from point to point of Google's worked example, longitude before latitude, as varints of zigzag forms.
-const STEPS: &[u8] =
-    b"\xBF\xA4\xBB\x0B\xA0\xFC\xD5\x03\xEF\x93\x09\xC0\xED\x1A\xB7\x96\x43\xC0\x93\x1F";
 
 // Whether a point is here.
 fn is_here(point: Pt, place: (i64, i64)) -> bool {
     (point.x(), point.y()) == place
 }
 
-// Whether the first two steps lead from here to these places, in the 14 bytes that they have.
+// Whether the first two steps of Google's worked example lead from here to these places, in the 14 bytes that they have.
 fn leads(from: Pt, first: (i64, i64), second: (i64, i64)) -> bool {
     match front_two(from, STEPS) {
         Some((there, next, used)) => {

@@ -1,16 +1,14 @@
 //! Readers over a device that fails.
 ghost use Rattle.std.specs.Prelude.{◌<◌};
 
+use super::memory::NEAR;
 use super::ways::{Way, read_twice};
 use std::alloc::Global;
 use twkb_blob::BlobFault;
 use twkb_io::{Fuse, FuseEnd, InFault, Tap};
 
-// A line of two points, and one of twenty, each near the one before it, so that they are taken two at a time where they come in one piece.
+// A line of two points.
 const TWO: &[u8] = b"\x02\x00\x02\x02\x02\x08\x08";
-
-const TWENTY: &[u8] =
-    b"\x02\x00\x14\x02\x04\x02\x04\x02\x04\x02\x04\x02\x04\x02\x04\x02\x04\x02\x04\x02\x04\x02\x04\x02\x04\x02\x04\x02\x04\x02\x04\x02\x04\x02\x04\x02\x04\x02\x04\x02\x04\x02\x04";
 
 // Whether a reader of a line that is cut after so many bytes, in reads of this length, answers a failed read, and is then spent.
 fn tells_failure(alloc: Global, way: Way, line: &[u8], length: usize, bytes: u64) -> bool
@@ -32,9 +30,9 @@ fn tells_each(alloc: Global, way: Way, line: &[u8], length: usize) -> bool
     are_told
 }
 
-// Whether that is so of both lines, byte by byte and in pieces of thirty bytes.
+// Whether that is so of a line that comes byte by byte, and of one of near points in pieces of thirty bytes.
 fn tells_both(alloc: Global, way: Way) -> bool {
-    tells_each(alloc, way, TWO, 1) & tells_each(alloc, way, TWENTY, 30)
+    tells_each(alloc, way, TWO, 1) & tells_each(alloc, way, NEAR, 30)
 }
 
 #[test]

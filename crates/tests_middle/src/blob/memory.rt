@@ -14,8 +14,8 @@ const NAMED: &[u8] =
 const DEEP: &[u8] =
     b"\x07\x00\x01\x07\x00\x01\x07\x00\x01\x07\x00\x01\x07\x00\x01\x07\x00\x01\x01\x10";
 
-// A line of twenty points, each near the one before it, so that they are taken two at a time where they come in one piece. One row, one span.
-const NEAR: &[u8] =
+/// A line of twenty points, each near the one before it, so that they are taken two at a time where they come in one piece. One row, one span.
+pub const NEAR: &[u8] =
     b"\x02\x00\x14\x02\x02\x02\x02\x02\x02\x02\x02\x02\x02\x02\x02\x02\x02\x02\x02\x02\x02\x02\x02\x02\x02\x02\x02\x02\x02\x02\x02\x02\x02\x02\x02\x02\x02\x02\x02\x02\x02\x02\x02";
 
 // Whether so many rows or spans were given, or memory lacked and the reader was spent.

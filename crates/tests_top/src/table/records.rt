@@ -1,9 +1,8 @@
 //! The records of a table, one at a time.
 use csv::ByteRecord;
-use std::alloc::Global;
 use std::io::Read;
 use twkb_io::Tap;
-use twkb_table::{RecordSource, SourceFault};
+use twkb_table::RecordSource;
 
 // Two records; the second has quotes round a comma (RFC 4180), and no line end.
 const TEXT: &[u8] = b"a,bc\r\n\"d,e\"";
