@@ -10,11 +10,13 @@ use twkb_table::TableReader;
 
 // Takes the points of a node.
 fn fold_points(flat: &Flat, node: &Node, work: &mut Work, digest: &mut Digest) {
-    let first = node.first.0;
-    for index in first..first + node.points {
-        let point = flat.point(PointId(index), work);
-        digest.fold_signed(point.x());
-        digest.fold_signed(point.y());
+    for index in 0..node.points {
+        let place = node.first.0.saturating_add(index);
+        if place < flat.point_count() {
+            let point = flat.point(PointId(place), work);
+            digest.fold_signed(point.x());
+            digest.fold_signed(point.y());
+        }
     }
 }
 
