@@ -119,7 +119,7 @@ status=$?
 wait
 if [ $status -eq 0 ]; then
   [ -z "$(lacking)" ] || echo "not there: $(lacking | tr '\n' ' ')(see what is skipped below)"
-  seed=$(date +%s)
+  seed=$(date -u +%Y%m%d)
   echo "fuzz: seed $seed"
   make -s bin/refuse.so > /dev/null 2>&1
   lane smoke completions fuzz &
