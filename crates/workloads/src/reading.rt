@@ -6,8 +6,7 @@ use std::fmt::Display;
 use std::io::Read;
 use twkb_blob::Reader;
 use twkb_geom::{
-    Areas, Flat, Geometry, Ids, Kind, Limits, Lines, Members, Node, NodeId, PointId, Pts, Shape,
-    Work,
+    Areas, Flat, Geometry, Ids, Kind, Limits, Lines, Members, Node, NodeId, PointId, Shape, Work,
 };
 use twkb_io::{Input, Tap};
 use twkb_points::Pt;
