@@ -12,6 +12,7 @@ export LC_ALL=C
 unset MAKEFLAGS MAKELEVEL
 version=$(bin/polytwkb --version | cut -d ' ' -f 2)
 day=$(sed -n "s/^## .*$version (\(.*\))$/\1/p" CHANGELOG.md | head -n 1)
+[ -n "$day" ] || { echo "CHANGELOG.md has no version $version" >&2; exit 1; }
 SOURCE_DATE_EPOCH=${SOURCE_DATE_EPOCH:-$(date -u -d "$day 12:00" +%s)}
 export SOURCE_DATE_EPOCH
 # the newest version of the C library of which the program or the shared library names a symbol
@@ -66,7 +67,7 @@ package() {
 }
 
 mkdir -p "$folder"
-rm -f "$folder"/*
+rm -f "$folder"/polytwkb-*.tar.gz "$folder"/polytwkb_*.deb "$folder/SHA256SUMS"
 archive
 package
 (cd "$folder" && sha256sum ./*.tar.gz ./*.deb | sed 's|\./||' > SHA256SUMS)

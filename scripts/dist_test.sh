@@ -3,6 +3,8 @@
 # if one failed. As root it also has apt-get install the package on this machine and remove it, if no polytwkb is there; not so with SYSTEM=no.
 set -uo pipefail
 cd "$(dirname "$0")/.." || exit 1
+# dpkg and chroot need programs that Debian keeps off the path of other users
+PATH=$PATH:/usr/local/sbin:/usr/sbin:/sbin
 umask 022
 export LC_ALL=C DEBIAN_FRONTEND=noninteractive
 archive=$(echo dist/polytwkb-*-x86_64-linux.tar.gz)
