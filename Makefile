@@ -11,13 +11,15 @@
 # make lib               the library for C into out/, static and shared
 # make lib-test          the examples in C and in Python over it, under valgrind where that is installed
 # make lib-bench         times of calls of the library
+# make wheel             the package for Python with the shared library, into dist/
+# make python-test       the package for Python over the shared library
 # make install           program, page, completions, libraries and licence below PREFIX, in the folder DESTDIR
 # make uninstall         takes these files away
 # make hostile           the built program while memory, devices and inputs are against it
 # make fuzz              the built program beside a second implementation, over random inputs (CASES, SEED, PROCESSES)
 # make bench             times and memory beside a plain program; BENCH has words for bench/run.sh
 # make clean             takes away what was built
-.PHONY: test check build lib lib-test lib-bench demo bench smoke completions-test docs-test recipes hostile fuzz dist dist-test install uninstall clean
+.PHONY: test check build lib lib-test lib-bench wheel python-test demo bench smoke completions-test docs-test recipes hostile fuzz dist dist-test install uninstall clean
 
 PREFIX ?= /usr/local
 DESTDIR ?=
@@ -84,6 +86,12 @@ lib-test: lib out/convert out/convert_shared
 	out/convert_shared
 	if command -v valgrind > /dev/null; then valgrind -q --error-exitcode=1 --leak-check=full out/convert; fi
 	examples/python/convert.py out/libpolytwkb.so
+
+wheel: lib
+	scripts/wheel.py dist
+
+python-test: lib
+	cd python/tests && POLYTWKB_LIBRARY=../../out/libpolytwkb.so PYTHONPATH=.. python3 -B -m unittest -q
 
 demo: build
 	cat examples/collection.csv

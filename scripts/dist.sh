@@ -1,5 +1,6 @@
 #!/usr/bin/env bash
-# Puts what `make install` installs into an archive and a package for Debian, with their sums, for those who have no kit:
+# Puts what `make install` installs into an archive and a package for Debian, and the package for Python into a wheel, with their sums, for
+# those who have no kit:
 #
 #   scripts/dist.sh FOLDER
 #
@@ -69,5 +70,6 @@ mkdir -p "$folder"
 rm -f "$folder"/*
 archive
 package
-(cd "$folder" && sha256sum ./*.tar.gz ./*.deb | sed 's|\./||' > SHA256SUMS)
+scripts/wheel.py "$folder" > /dev/null
+(cd "$folder" && sha256sum ./*.tar.gz ./*.deb ./*.whl | sed 's|\./||' > SHA256SUMS)
 cat "$folder/SHA256SUMS"

@@ -85,6 +85,8 @@ library() {
   lacks library cc && return
   make -s lib-test || return 1
   echo "ok    the library in C and in Python"
+  make -s python-test || return 1
+  echo "ok    the package for Python"
   lacks "memory of the library" valgrind || return 0
 }
 
