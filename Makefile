@@ -1,7 +1,7 @@
 # make test              all tests: the gate, and on what it built the parts that are named below
 # make check             the short round
 # make build             the command into bin/
-# make dist              archive and Debian package of the built program and libraries into dist/
+# make dist              archive, Debian package and wheel of the built program and libraries into dist/
 # make dist-test         each of these installed into an empty root and used there; as root by apt-get too
 # make demo              the main job on an example
 # make smoke             the built program with real files and pipes

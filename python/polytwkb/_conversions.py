@@ -2,7 +2,7 @@
 import operator
 from typing import List, NamedTuple, Optional, Union
 
-from ._library import REFUSED, CLimits, filled, library
+from ._library import REFUSED, CLimits, filled, library, some_bytes
 from ._refused import of_report
 
 Buffer = Union[bytes, bytearray, memoryview]
@@ -67,7 +67,8 @@ def _bytes(given, what):
 
 def _converted(call, given, room, result, limits, *more):
     """What `result` makes of the bytes that a conversion writes."""
-    report, output = filled(call, given, len(given), room, 1, _limits(limits), *more)
+    report, output = filled(call, given, len(given), room, some_bytes, _limits(limits), *more)
+    output = memoryview(output)[: report.sent]
     if report.status == REFUSED:
         raise of_report(report, result(output))
     return result(output)

@@ -56,22 +56,32 @@ def _loaded(path):
 
 library = _loaded(_path())
 
+# The same call while no other thread of Python runs, so that it may read a buffer that could change meanwhile.
+encode_in_place = ctypes.PyDLL(library._name).polytwkb_encode
+encode_in_place.argtypes = [ctypes.c_void_p, *library.polytwkb_encode.argtypes[1:]]
+encode_in_place.restype = Report
+
 
 def reason_text(reason):
     """What a reason means, as the command says it."""
     return _text(library.polytwkb_reason_text, reason)
 
 
-def filled(call, given, count, room, size, *more):
-    """Calls the library with `count` items of input, in the bytes `given`, and with room for `room` items of `size` bytes; with more
-    room, as much as the library names, if that was too small. Returns the report and the bytes that were written."""
+def some_bytes(count):
+    """A buffer of so many bytes, and of one where that is 0: the library takes the address of each buffer."""
+    return bytearray(max(count, 1))
+
+
+def filled(call, given, count, room, made, *more):
+    """Calls the library with so many items of input and with room for so many items of output, in a buffer that `made` makes; with more
+    room, as much as the library names, if that was too small. Returns the report and the buffer."""
     while True:
-        output = bytearray(max(room * size, 1))
+        output = made(room)
         start = ctypes.c_char.from_buffer(output)
         report = call(given, count, ctypes.addressof(start), room, *more)
         del start
         if report.status in (DONE, REFUSED):
-            return report, memoryview(output)[: report.sent * size]
+            return report, output
         if report.status != TOO_SMALL or report.needed <= room:
             raise MemoryError("out of memory")
         room = report.needed

@@ -1,15 +1,17 @@
 """Lists of points to encoded polylines and back."""
+import ctypes
 import operator
 from array import array
 from typing import Iterable, List, Optional, Tuple, Union
 
 from ._conversions import Buffer, _bytes
-from ._library import REFUSED, filled, library
+from ._library import REFUSED, encode_in_place, filled, library, some_bytes
 from ._refused import Refused
 
 _LEAST, _MOST = -(1 << 63), (1 << 63) - 1
 _RANGE = 26
 _POINT = 16
+_GO_ON = bytes(range(95, 127))
 
 
 def _power(precision):
@@ -60,13 +62,13 @@ def _of_pairs(points, number_of):
 
 
 def _of_buffer(points):
-    """The coordinates in a buffer of signed 64-bit integers."""
+    """A view of a buffer of signed 64-bit integers."""
     view = memoryview(points)
     if view.format.lstrip("@=<") not in ("q", "l") or view.itemsize != 8:
         raise TypeError(f"a buffer of points has signed 64-bit integers, not items of format {view.format!r}")
     if view.nbytes % _POINT != 0 or view.ndim > 2 or view.ndim == 2 and view.shape[1] != 2:
         raise TypeError("a buffer of points has x and y of each")
-    return view.tobytes()
+    return view
 
 
 def _is_buffer(points):
@@ -93,26 +95,44 @@ def encode(points: Union[Buffer, array, Iterable[Tuple]], precision: Optional[in
         precision = _power(precision)
         flat, more = _of_pairs(points, lambda number: _scaled(number, precision))
     elif _is_buffer(points):
-        flat, more = _of_buffer(points), False
+        return _encoded_buffer(_of_buffer(points))
     else:
         flat, more = _of_pairs(points, operator.index)
-    count = len(flat) // _POINT
-    report, text = filled(library.polytwkb_encode, flat, count, 5 * count + 64, 1)
+    return _encoded(library.polytwkb_encode, flat, len(flat) // _POINT, more)
+
+
+def _encoded_buffer(view):
+    """The polyline of the points in a buffer: not copied, if that can be."""
+    count = view.nbytes // _POINT
+    if view.readonly or not view.c_contiguous or count == 0:
+        return _encoded(library.polytwkb_encode, view.tobytes(), count)
+    start = ctypes.c_char.from_buffer(view)
+    return _encoded(encode_in_place, ctypes.addressof(start), count)
+
+
+def _encoded(call, flat, count, more=False):
+    """The polyline of so many points; there are more, if the one after these is out of range. Four characters a number are the first guess."""
+    report, text = filled(call, flat, count, 8 * count + 26, some_bytes)
     if report.status == REFUSED or more:
         place = report.place if report.status == REFUSED else count
         raise Refused(_RANGE, f"point {place}", place, 0, 0, "")
-    return str(text, "ascii")
+    return str(memoryview(text)[: report.sent], "ascii")
+
+
+def _some_points(count):
+    """Room for so many points, and for one where that is 0."""
+    return array("q", (0,)) * (2 * max(count, 1))
 
 
 def _decoded(text, result):
     """What `result` makes of the coordinates of a text, x before y."""
     given = text.encode("utf-8", "surrogatepass") if isinstance(text, str) else _bytes(text, "a polyline is a str or bytes")
-    report, points = filled(library.polytwkb_decode, given, len(given), len(given) // 2, _POINT)
-    flat = array("q")
+    numbers = len(given.translate(None, _GO_ON))
+    report, flat = filled(library.polytwkb_decode, given, len(given), numbers // 2, _some_points)
+    del flat[2 * report.sent :]
     if report.status == REFUSED:
         place = report.text_offset
         raise Refused(report.reason, f"polyline at {place}", place, place, 0, result(flat))
-    flat.frombytes(points)
     return result(flat)
 
 

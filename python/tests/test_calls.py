@@ -78,6 +78,8 @@ class Points(unittest.TestCase):
         flat = array("q", [-12020000, 3850000, -12095000, 4070000, -12645300, 4325200])
         self.assertEqual(polytwkb.encode(flat), GOOGLE_TEXT)
         self.assertEqual(polytwkb.encode(memoryview(flat)), GOOGLE_TEXT)
+        self.assertEqual(polytwkb.encode(memoryview(flat).toreadonly()), GOOGLE_TEXT)
+        self.assertEqual(polytwkb.encode(memoryview(flat)[::-1]), polytwkb.encode(flat[::-1]))
         self.assertEqual(polytwkb.encode(memoryview(flat).cast("B").cast("q", [3, 2])), GOOGLE_TEXT)
         self.assertEqual(polytwkb.encode((ctypes.c_int64 * 6)(*flat)), GOOGLE_TEXT)
         self.assertEqual(polytwkb.decode_flat(GOOGLE_TEXT), flat)
@@ -92,8 +94,10 @@ class Points(unittest.TestCase):
                     polytwkb.encode(points)
                 self.assertEqual(str(caught.exception), "point 1: coordinate out of range")
                 self.assertEqual((caught.exception.name, caught.exception.place, caught.exception.output), ("POLYLINE_RANGE", 1, ""))
-        with self.assertRaises(polytwkb.Refused):
-            polytwkb.encode([(4611686018427387903.5, 0)], 5)
+        for refused in ([(4611686018427387903.5, 0)], 5), (array("q", [0, 1 << 62]),):
+            with self.assertRaises(polytwkb.Refused) as caught:
+                polytwkb.encode(*refused)
+            self.assertEqual(caught.exception.place, 0)
 
 
 class Reasons(unittest.TestCase):
