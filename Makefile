@@ -10,7 +10,7 @@
 # make recipes           each recipe and the check of parts, where its tools are installed
 # make lib               the library for C into out/, static and shared
 # make lib-test          the examples in C and in Python over it, under valgrind where that is installed
-# make lib-bench         times of calls of the library
+# make lib-bench         times of calls of the library, and of the package for Python beside it
 # make wheel             the package for Python with the shared library, into dist/
 # make python-test       the package for Python over the shared library
 # make install           program, page, completions, libraries and licence below PREFIX, in the folder DESTDIR
@@ -75,9 +75,10 @@ out/convert_shared: examples/c/convert.c include/polytwkb.h out/libpolytwkb.so
 out/times: bench/library/times.c include/polytwkb.h out/libpolytwkb.a
 	$(CC) -std=c11 -D_GNU_SOURCE -O2 -Wall -Wextra -Werror -Iinclude -o $@ $< out/libpolytwkb.a
 
-# Times of calls of the library.
-lib-bench: out/times
+# Times of calls of the library, and of the package for Python.
+lib-bench: out/times out/libpolytwkb.so
 	out/times
+	POLYTWKB_LIBRARY=out/libpolytwkb.so PYTHONPATH=python python3 -B bench/library/times.py
 
 lib-test: lib out/convert out/convert_shared
 	grep -qx '#define POLYTWKB_VERSION "$(VERSION)"' include/polytwkb.h || { echo "the header is not of version $(VERSION)" >&2; exit 1; }

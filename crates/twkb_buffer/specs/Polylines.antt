@@ -1,5 +1,5 @@
 -- What a call does that writes points of a buffer as an encoded polyline, or reads them from one (profile).
-use Rattle.std.specs.Prelude.{◌≡◌, ◌^◌, ◌-◌, ℕ, ◌<◌, ◌⊎◌, List, [], ◌∷◌, ◌++◌, length, drop, ⊤}
+use Rattle.std.specs.Prelude.{◌≡◌, ◌^◌, ◌-◌, ℕ, ◌<◌, ◌≤◌, ◌⊎◌, List, [], ◌∷◌, ◌++◌, length, drop, ⊤}
 use Rattle.twkb_points.specs.Point.{Point, AreInRange, IsInRange, point_at}
 use Rattle.twkb_polyline.specs.Fault.{IsTextFault}
 use Rattle.twkb_polyline.specs.Polyline.{DecodesTo, polyline}
@@ -40,30 +40,34 @@ abbrev pub IsRefusedPoint : List BufferPoint → PolyFault → Type 0
 IsRefusedPoint given Memory = ⊤
 IsRefusedPoint given (At place reason) = FirstOutside given place × (reason ≡ Range)
 
--- A list was put at the front of a slice, or the report tells how many places it needs and the slice is as it was.
+-- the report of a call that put one list of this length
+abbrev pub put_report : ℕ → BufferReport
+put_report count = record { status = 0; reason = 0; place = 0; text_offset = 0; done = 1; sent = count; needed = count }
+
+-- the report of a call that put nothing, with this status, and how many places it needs
+abbrev pub nothing_report : ℕ → ℕ → BufferReport
+nothing_report status needed = record { status = status; reason = 0; place = 0; text_offset = 0; done = 0; sent = 0; needed = needed }
+
+-- A list was put at the front of a slice, or the report tells how many places it needs and the slice, which has fewer, is as it was.
 pub record Puts {A : Type 0} (whole old new : List A) (report : BufferReport) : Type 0 where
-  pub put : report.status ≡ 0 → (new ≡ whole ++ drop (length whole) old) × (report.sent ≡ length whole)
-  pub small : report.status ≡ 5 → (length old < length whole) × (new ≡ old)
-  pub needed : report.needed ≡ length whole
-  pub status : (report.status ≡ 0) ⊎ (report.status ≡ 5)
+  pub fits : length whole ≤ length old → (new ≡ whole ++ drop (length whole) old) × (report ≡ put_report (length whole))
+  pub small : length old < length whole → (new ≡ old) × (report ≡ nothing_report 5 (length whole))
 
 -- No memory was found, and the slice is as it was.
 pub record FindsNoMemory {A : Type 0} (old new : List A) (report : BufferReport) : Type 0 where
-  pub status : report.status ≡ 4
+  pub report_is : report ≡ nothing_report 4 0
   pub same : new ≡ old
 
 -- Some point is out of range: the reason is that of a polyline, and the place is that of the first such point.
 pub record RefusesPoints (given : List BufferPoint) (old new : List ℕ) (report : BufferReport) : Type 0 where
-  pub status : report.status ≡ 1
-  pub reason : report.reason ≡ 26
+  pub report_is : report ≡ record (nothing_report 1 0) { reason = 26; place = report.place }
   pub outside : FirstOutside given report.place
   pub same : new ≡ old
 
 -- The text is no polyline: the reason and the offset are those of its first fault.
 pub record RefusesText (text : List ℕ) (old new : List BufferPoint) (report : BufferReport) : Type 0 where
-  pub status : report.status ≡ 1
   pub why : PolyReason
-  pub reason : report.reason ≡ point_text_number_of why
+  pub report_is : report ≡ record (nothing_report 1 0) { reason = point_text_number_of why; text_offset = report.text_offset }
   pub fault : IsTextFault text (2 ^ 32 - 1) report.text_offset why
   pub same : new ≡ old
 

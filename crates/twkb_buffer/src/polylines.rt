@@ -1,7 +1,7 @@
 //! Points of a buffer as an encoded polyline in another, and back.
 ghost use Rattle.std.specs.Prelude.{◌≡◌, ◌↔◌, IfErr, IfOk, IfSome, IsSome};
 ghost use Rattle.twkb_points.specs.Point.{IsInRange, point_at};
-ghost use Rattle.twkb_buffer.specs.Polylines.{ArePoints, DecodesSlice, EncodesSlice, Puts, IsRefusedPoint, coordinates_at, coordinates_of};
+ghost use Rattle.twkb_buffer.specs.Polylines.{ArePoints, DecodesSlice, EncodesSlice, Puts, IsRefusedPoint, coordinates_at, coordinates_of, nothing_report};
 
 use crate::point::BufferPoint;
 use crate::reason_numbers::{DONE, MEMORY, REFUSED, TOO_SMALL, point_text_number};
@@ -60,7 +60,7 @@ fn coordinates(alloc: Global, points: &[Pt]) -> Result<Vec<BufferPoint>, AllocEr
 
 // The report of a call that wrote nothing.
 fn nothing_put(status: u32, needed: u64) -> BufferReport
-    ensures { result ≡ record { status = status; reason = 0; place = 0; text_offset = 0; done = 0; sent = 0; needed = needed } }
+    ensures { result ≡ nothing_report status needed }
 {
     BufferReport {
         status,
