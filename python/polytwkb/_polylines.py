@@ -2,6 +2,7 @@
 import ctypes
 import operator
 from array import array
+from decimal import Decimal
 from typing import Iterable, List, Optional, Tuple, Union
 
 from ._conversions import Buffer, _bytes
@@ -21,8 +22,16 @@ def _power(precision):
     return precision
 
 
+def _near(number):
+    """The number, but one that is far out of range or next to 0 in place of a Decimal whose fraction would have millions of digits."""
+    if not isinstance(number, Decimal) or not number.is_finite() or abs(number.adjusted()) < 100:
+        return number
+    return Decimal(0) if not number or number.adjusted() < 0 else Decimal("1e99").copy_sign(number)
+
+
 def _scaled(number, precision):
     """The whole number nearest to this many units of 10^-precision, of two the one farther from 0: exact, by fractions."""
+    number = _near(number)
     try:
         above, below = number.as_integer_ratio()
     except (AttributeError, TypeError):

@@ -74,6 +74,15 @@ class Points(unittest.TestCase):
                 with self.subTest(number=number, kind=kind):
                     self.assertEqual(polytwkb.decode(polytwkb.encode([(kind(number), 0)], precision)), [(whole, 0)])
 
+    def test_a_decimal_of_any_exponent_is_soon_answered(self):
+        self.assertEqual(polytwkb.encode([(Decimal("1e-999999999"), Decimal("0e999999999"))], 5), "??")
+        for number in ("1e999999999", "-1e999999999"):
+            with self.assertRaises(polytwkb.Refused):
+                polytwkb.encode([(Decimal(number), 0)], 5)
+        for number in ("nan", "inf", "-inf", "snan"):
+            with self.assertRaises(ValueError):
+                polytwkb.encode([(Decimal(number), 0)], 5)
+
     def test_buffers_of_points(self):
         flat = array("q", [-12020000, 3850000, -12095000, 4070000, -12645300, 4325200])
         self.assertEqual(polytwkb.encode(flat), GOOGLE_TEXT)
