@@ -106,10 +106,12 @@ typedef struct polytwkb_limits {
 typedef struct polytwkb_report {
     uint32_t status;      /* POLYTWKB_DONE to POLYTWKB_TOO_SMALL */
     uint32_t reason;      /* why the input is refused, 1 to 62; 0 where it is not */
-    uint64_t place;       /* the refused record, from 1, or the offset of the refused item, from 0; else 0 */
-    uint64_t text_offset; /* where the polyline of the refused record is refused, in bytes; else 0 */
+    uint64_t place;       /* the refused record, from 1, or the offset of the refused item or the refused point of
+                             polytwkb_encode, from 0; else 0 */
+    uint64_t text_offset; /* where the polyline of the refused record or of polytwkb_decode is refused, in bytes; else 0 */
     uint64_t done;        /* geometries whose output stands in the buffer whole */
-    uint64_t sent;        /* bytes that stand at the front of the buffer: a front of the right output */
+    uint64_t sent;        /* bytes that stand at the front of the buffer: a front of the right output; of
+                             polytwkb_decode points */
     uint64_t needed;      /* POLYTWKB_TOO_SMALL: bytes of the whole output, more than the buffer has, or 0
                              where they could not be told (no memory); else as many as sent */
 } polytwkb_report;
