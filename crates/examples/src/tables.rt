@@ -11,7 +11,7 @@ use twkb_geom::Geometry;
 use twkb_points::Pt;
 use twkb_table::{header_text, put_rows};
 
-/// The table of one geometry, that of the stops. Takes memory for its text and for that of its rows.
+/// The table of one geometry, that of the stops. Takes memory for its text, for that of its rows and for the longest polyline.
 pub fn stops_table(alloc: Global, points: Vec<Pt>, numbers: Vec<i64>) -> Result<Vec<u8>, StopsFault>
     ensures { IfOk result (λ text. text.items ≡ csvtext (table (simple (pos 5) (multi_point (Some numbers.items) points.items) ∷ []))) }
 {

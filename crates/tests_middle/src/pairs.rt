@@ -97,7 +97,7 @@ fn adds_pairs(flat: &mut Flat, first: Pt, second: Pt, if_refused: bool) -> bool 
     are_added
 }
 
-// The same of the form of the line, if it is read.
+// Whether the form of the line takes eight pairs.
 fn line_takes_pairs(alloc: Global, if_refused: bool) -> bool {
     let mut flat = form(alloc, LINE);
     match (Pt::try_new(20, -3), Pt::try_new(7, 50)) {

@@ -146,7 +146,7 @@ fn conversion_of(what: Asked) -> Conversion {
     }
 }
 
-// Whether a worked conversion writes its output and tells whether the input is refused after it; or lacks memory after the first bytes of it.
+// Whether a worked conversion writes its output and reports whether the input is refused later, or runs out of memory after a prefix of the output.
 // The input is there in one piece.
 fn fills_or_lacks(alloc: Global, worked: &Worked) -> bool {
     let mut room = [0u8; 190];

@@ -23,9 +23,6 @@ no_lines = refl
 
 -- ---- a text that grew
 
-pub grows_none : (t : List ℕ) → Grows t t
-grows_none t = ([], sym (append-nil t))
-
 pub grows_by : (old new xs : List ℕ) → new ≡ old ++ xs → Grows old new
 grows_by old new xs e = (xs, e)
 

@@ -31,7 +31,7 @@ fn gives_tree<R: Read>(alloc: Global, reader: &mut Reader<'_, R>, place: (i64, i
     }
 }
 
-// The same of its rows.
+// Whether the next geometry, as rows, is the point at this place.
 fn gives_rows<R: Read>(alloc: Global, reader: &mut Reader<'_, R>, place: (i64, i64)) -> bool {
     let mut flat = Flat::new(alloc);
     let answer = reader.next_flat(alloc, &mut flat);
