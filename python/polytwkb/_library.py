@@ -35,11 +35,8 @@ def _text(call, *reason):
 
 def _loaded(path):
     """The library in a file, which has to be of the version of this package."""
-    try:
-        library = ctypes.CDLL(path)
-        version = library.polytwkb_version
-    except (OSError, AttributeError) as fault:
-        raise ImportError(f"polytwkb {VERSION} finds no library of its own: {fault}") from None
+    library = ctypes.CDLL(path)
+    version = library.polytwkb_version
     room = [ctypes.c_char_p, ctypes.c_size_t]
     version.argtypes, version.restype = room, ctypes.c_size_t
     found = _text(version)
@@ -54,7 +51,10 @@ def _loaded(path):
     return library
 
 
-library = _loaded(_path())
+try:
+    library = _loaded(_path())
+except (OSError, AttributeError) as fault:
+    raise ImportError(f"polytwkb {VERSION} finds no library of its version: {fault}") from None
 
 # The same call while no other thread of Python runs, so that it may read a buffer that could change meanwhile.
 encode_in_place = ctypes.PyDLL(library._name).polytwkb_encode
