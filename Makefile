@@ -1,7 +1,7 @@
 # make test              all tests: the gate, and on what it built the parts that are named below
 # make check             the short round
 # make build             the command into bin/
-# make dist              archive and Debian package of the built program and libraries into dist/
+# make dist              archive, Debian package and wheel of the built program and libraries into dist/
 # make dist-test         each of these installed into an empty root and used there; as root by apt-get too
 # make demo              the main job on an example
 # make smoke             the built program with real files and pipes
@@ -10,14 +10,16 @@
 # make recipes           each recipe and the check of parts, where its tools are installed
 # make lib               the library for C into out/, static and shared
 # make lib-test          the examples in C and in Python over it, under valgrind where that is installed
-# make lib-bench         times of calls of the library
+# make lib-bench         times of calls of the library, and of the package for Python beside it
+# make wheel             the package for Python with the shared library, into dist/
+# make python-test       the package for Python over the shared library
 # make install           program, page, completions, libraries and licence below PREFIX, in the folder DESTDIR
 # make uninstall         takes these files away
 # make hostile           the built program while memory, devices and inputs are against it
 # make fuzz              the built program beside a second implementation, over random inputs (CASES, SEED, PROCESSES)
 # make bench             times and memory beside a plain program; BENCH has words for bench/run.sh
 # make clean             takes away what was built
-.PHONY: test check build lib lib-test lib-bench demo bench smoke completions-test docs-test recipes hostile fuzz dist dist-test install uninstall clean
+.PHONY: test check build lib lib-test lib-bench wheel python-test demo bench smoke completions-test docs-test recipes hostile fuzz dist dist-test install uninstall clean
 
 PREFIX ?= /usr/local
 DESTDIR ?=
@@ -73,9 +75,10 @@ out/convert_shared: examples/c/convert.c include/polytwkb.h out/libpolytwkb.so
 out/times: bench/library/times.c include/polytwkb.h out/libpolytwkb.a
 	$(CC) -std=c11 -D_GNU_SOURCE -O2 -Wall -Wextra -Werror -Iinclude -o $@ $< out/libpolytwkb.a
 
-# Times of calls of the library.
-lib-bench: out/times
+# Times of calls of the library, and of the package for Python.
+lib-bench: out/times out/libpolytwkb.so
 	out/times
+	POLYTWKB_LIBRARY=out/libpolytwkb.so PYTHONPATH=python python3 -B bench/library/times.py
 
 lib-test: lib out/convert out/convert_shared
 	grep -qx '#define POLYTWKB_VERSION "$(VERSION)"' include/polytwkb.h || { echo "the header is not of version $(VERSION)" >&2; exit 1; }
@@ -84,6 +87,12 @@ lib-test: lib out/convert out/convert_shared
 	out/convert_shared
 	if command -v valgrind > /dev/null; then valgrind -q --error-exitcode=1 --leak-check=full out/convert; fi
 	examples/python/convert.py out/libpolytwkb.so
+
+wheel: lib
+	scripts/wheel.py dist
+
+python-test: lib
+	cd python/tests && POLYTWKB_LIBRARY=../../out/libpolytwkb.so PYTHONPATH=.. python3 -B -m unittest -q
 
 demo: build
 	cat examples/collection.csv

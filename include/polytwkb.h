@@ -1,10 +1,11 @@
 /*
  * polytwkb: tables of encoded polylines to streams of TWKB blobs and back, from a buffer to a buffer.
  *
- * A call takes tables or blobs as bytes, and no arrays of coordinates: points go in and come out as
- * encoded polylines, inside a table. One call converts a whole table or a whole stream, of any number
- * of geometries. Give it many: a call has a price of its own, most of all from another language. By
- * ctypes one geometry took 42 microseconds in a call of its own, and 9.5 in a call for many.
+ * A conversion takes tables or blobs as bytes: points go in and come out as encoded polylines, inside a
+ * table. polytwkb_encode and polytwkb_decode make a polyline of points, and points of a polyline. One call
+ * converts a whole table or a whole stream, of any number of geometries. Give it many: a call has a price
+ * of its own, most of all from another language. By ctypes one geometry took 42 microseconds in a call of
+ * its own, and 9.5 in a call for many.
  *
  * The library is proved: what each call writes, and what its report tells, is the contract of its
  * function in crates/twkb_c. It keeps nothing between calls, opens no file and prints nothing. It
@@ -105,10 +106,12 @@ typedef struct polytwkb_limits {
 typedef struct polytwkb_report {
     uint32_t status;      /* POLYTWKB_DONE to POLYTWKB_TOO_SMALL */
     uint32_t reason;      /* why the input is refused, 1 to 62; 0 where it is not */
-    uint64_t place;       /* the refused record, from 1, or the offset of the refused item, from 0; else 0 */
-    uint64_t text_offset; /* where the polyline of the refused record is refused, in bytes; else 0 */
+    uint64_t place;       /* the refused record, from 1, or the offset of the refused item or the refused point of
+                             polytwkb_encode, from 0; else 0 */
+    uint64_t text_offset; /* where the polyline of the refused record or of polytwkb_decode is refused, in bytes; else 0 */
     uint64_t done;        /* geometries whose output stands in the buffer whole */
-    uint64_t sent;        /* bytes that stand at the front of the buffer: a front of the right output */
+    uint64_t sent;        /* bytes that stand at the front of the buffer: a front of the right output; of
+                             polytwkb_decode points */
     uint64_t needed;      /* POLYTWKB_TOO_SMALL: bytes of the whole output, more than the buffer has, or 0
                              where they could not be told (no memory); else as many as sent */
 } polytwkb_report;
@@ -135,6 +138,28 @@ polytwkb_report polytwkb_show(const uint8_t *input, size_t input_length, uint8_t
  */
 polytwkb_report polytwkb_measure(uint32_t conversion, const uint8_t *input, size_t input_length,
                                  polytwkb_limits limits, uint32_t style);
+
+/* A point of whole numbers: x is the longitude and y the latitude, where the points are on a globe. */
+typedef struct polytwkb_point {
+    int64_t x; /* -2^62 to 2^62 - 1 */
+    int64_t y; /* likewise */
+} polytwkb_point;
+
+/*
+ * Writes the encoded polyline of points, which has y before x of each, into the room of a text. Status 0:
+ * sent is the length of the text, and done is 1. 1: a point is out of range; reason is
+ * POLYTWKB_POLYLINE_RANGE, and place the first such point, counted from 0. 4: no memory was found. 5: the
+ * room is too small, and needed is the length of the text. But for 0 the room is as it was: no front of
+ * the text is written. Takes memory for the points and the text.
+ */
+polytwkb_report polytwkb_encode(const polytwkb_point *points, size_t count, uint8_t *text, size_t room);
+
+/*
+ * Writes the points of an encoded polyline, in the same way; lengths of the output are numbers of points.
+ * Status 1: reason is POLYTWKB_POLYLINE_BAD_CHARACTER to POLYTWKB_POLYLINE_TOO_MANY (more than 2^32 - 1
+ * points), and text_offset the byte of the text. Takes memory for the points, twice.
+ */
+polytwkb_report polytwkb_decode(const uint8_t *text, size_t length, polytwkb_point *points, size_t room);
 
 /*
  * Writes what a reason means in English, as the command says it on standard error: "bad header" for
@@ -184,6 +209,18 @@ static inline polytwkb_report polytwkb_measure_any(uint32_t conversion, const ui
     return polytwkb_measure(conversion, polytwkb_input(input, input_length), input_length, limits, style);
 }
 
+static inline polytwkb_report polytwkb_encode_any(const polytwkb_point *points, size_t count, uint8_t *text,
+                                                  size_t room) {
+    static const polytwkb_point none = {0, 0};
+    return polytwkb_encode(count == 0 ? &none : points, count, polytwkb_output(text, room), room);
+}
+
+static inline polytwkb_report polytwkb_decode_any(const uint8_t *text, size_t length, polytwkb_point *points,
+                                                  size_t room) {
+    static polytwkb_point none = {0, 0};
+    return polytwkb_decode(polytwkb_input(text, length), length, room == 0 ? &none : points, room);
+}
+
 static inline size_t polytwkb_reason_text_any(uint32_t reason, char *text, size_t room) {
     return polytwkb_reason_text(reason, (char *)polytwkb_output((uint8_t *)text, room), room);
 }
@@ -196,6 +233,8 @@ static inline size_t polytwkb_version_any(char *text, size_t room) {
 #define polytwkb_unpack polytwkb_unpack_any
 #define polytwkb_show polytwkb_show_any
 #define polytwkb_measure polytwkb_measure_any
+#define polytwkb_encode polytwkb_encode_any
+#define polytwkb_decode polytwkb_decode_any
 #define polytwkb_reason_text polytwkb_reason_text_any
 #define polytwkb_version polytwkb_version_any
 

@@ -1,5 +1,6 @@
 #!/usr/bin/env bash
-# Puts what `make install` installs into an archive and a package for Debian, with their sums, for those who have no kit:
+# Puts what `make install` installs into an archive and a package for Debian, and the package for Python into a wheel, with their sums, for
+# those who have no kit:
 #
 #   scripts/dist.sh FOLDER
 #
@@ -67,8 +68,9 @@ package() {
 }
 
 mkdir -p "$folder"
-rm -f "$folder"/polytwkb-*.tar.gz "$folder"/polytwkb_*.deb "$folder/SHA256SUMS"
+rm -f "$folder"/polytwkb-*.tar.gz "$folder"/polytwkb_*.deb "$folder"/polytwkb-*.whl "$folder/SHA256SUMS"
 archive
 package
-(cd "$folder" && sha256sum ./*.tar.gz ./*.deb | sed 's|\./||' > SHA256SUMS)
+scripts/wheel.py "$folder" > /dev/null
+(cd "$folder" && sha256sum ./*.tar.gz ./*.deb ./*.whl | sed 's|\./||' > SHA256SUMS)
 cat "$folder/SHA256SUMS"

@@ -137,6 +137,25 @@ else
   skip "lintian is not there"
 fi
 
+# A fresh environment, and the package used there outside the repository.
+by_pip() { python3 -m venv "$1" && "$1/bin/pip" install -q --disable-pip-version-check --no-index dist/polytwkb-*.whl; }
+in_python() {
+  (cd "$1" && env -u PYTHONPATH -u POLYTWKB_LIBRARY bin/python - "$work/stops.csv" "$work/stops.twkb") << 'END'
+import sys, polytwkb
+table, stream = (open(name, "rb").read() for name in sys.argv[1:])
+assert polytwkb.__file__.startswith(sys.prefix)
+assert polytwkb.pack(table) == stream and polytwkb.unpack(stream).encode() == table
+assert polytwkb.encode([(2, 1)]) == "AC" and polytwkb.decode("AC") == [(2, 1)]
+END
+}
+if python3 -c 'import ensurepip, venv' 2> /dev/null; then
+  report "wheel: is installed by pip" by_pip "$work/venv"
+  report "wheel: it packs, unpacks and encodes" in_python "$work/venv"
+  report "wheel: is removed" "$work/venv/bin/pip" uninstall -q -y polytwkb
+else
+  skip "wheel: venv of python3 is not there"
+fi
+
 # ---- this machine
 
 apt() { apt-get -y -q -o DPkg::Lock::Timeout=300 "$@"; }

@@ -86,6 +86,8 @@ library() {
   lacks library make cc && return
   make -s lib-test || return 1
   echo "ok    the library in C and in Python"
+  make -s python-test || return 1
+  echo "ok    the package for Python"
   lacks "memory of the library" valgrind || return 0
 }
 

@@ -1,4 +1,4 @@
-// Packs, shows and unpacks a line in memory, with guard bytes round each buffer; then the texts of reasons and of the version.
+// Packs, shows and unpacks a line in memory, with guard bytes round each buffer; then its polyline and its points, the texts of reasons and of the version.
 #include <polytwkb.h>
 
 #include <stdio.h>
@@ -128,11 +128,38 @@ static void no_buffers(void) {
     check(report.status == POLYTWKB_DONE && report.needed == 33, "the length of a table without rows");
 }
 
+// Into each room from none to one more than is needed, the polyline of two points and the points of the polyline are written whole or not at all.
+static void polylines(void) {
+    static const polytwkb_point points[] = {{1, 1}, {5, 5}}, far[] = {{1, 1}, {0, INT64_C(1) << 62}};
+    for (size_t room = 0; room <= 5; room++) {
+        uint8_t *text = guarded(room);
+        polytwkb_report report = polytwkb_encode(points, 2, text, room);
+        int whole = room >= 4;
+        check(report.status == (whole ? POLYTWKB_DONE : POLYTWKB_TOO_SMALL) && report.needed == 4, "encode");
+        check(report.sent == (whole ? 4u : 0u) && memcmp(text, "AAGG", (size_t)report.sent) == 0, "the polyline");
+        release(text, room, (size_t)report.sent);
+    }
+    for (size_t room = 0; room <= 3; room++) {
+        uint8_t *back = guarded(room * sizeof *points);
+        polytwkb_report report = polytwkb_decode((const uint8_t *)"AAGG", 4, (polytwkb_point *)(void *)back, room);
+        int whole = room >= 2;
+        check(report.status == (whole ? POLYTWKB_DONE : POLYTWKB_TOO_SMALL) && report.needed == 2, "decode");
+        check(report.sent == (whole ? 2u : 0u) && memcmp(back, points, (size_t)report.sent * sizeof *points) == 0, "the points");
+        release(back, room * sizeof *points, (size_t)report.sent * sizeof *points);
+    }
+    polytwkb_report outside = polytwkb_encode(far, 2, NULL, 0);
+    check(outside.status == POLYTWKB_REFUSED && outside.reason == POLYTWKB_POLYLINE_RANGE && outside.place == 1, "a point out of range");
+    polytwkb_report half = polytwkb_decode((const uint8_t *)"AAG", 3, NULL, 0);
+    check(half.status == POLYTWKB_REFUSED && half.reason == POLYTWKB_POLYLINE_HALF && half.text_offset == 3, "half a point in a text");
+    check(polytwkb_encode(NULL, 0, NULL, 0).status == POLYTWKB_DONE && polytwkb_decode(NULL, 0, NULL, 0).status == POLYTWKB_DONE, "no points");
+}
+
 int main(void) {
     each_room(POLYTWKB_PACK, table, sizeof table - 1, blob, sizeof blob);
     each_room(POLYTWKB_UNPACK, blob, sizeof blob, table, sizeof table - 1);
     each_room(POLYTWKB_SHOW, blob, sizeof blob, lines, sizeof lines - 1);
 
+    polylines();
     texts();
     versions();
     no_buffers();

@@ -2,7 +2,10 @@
 //! places of faults are those of docs/FORMATS.md.
 use crate::convert::worked::{WORKED, Worked};
 use std::alloc::Global;
-use twkb_buffer::{BufferReport, Conversion, fill, measure, put_reason, put_version};
+use twkb_buffer::{
+    BufferPoint, BufferReport, Conversion, fill, fill_points, fill_polyline, measure, put_reason,
+    put_version,
+};
 use twkb_convert::Style;
 use twkb_geom::Limits;
 use twkb_request::{Conversion as Asked, VERSION};
@@ -115,6 +118,23 @@ fn a_refusal_tells_its_place(rt: HostRuntime) {
     let alloc = rt.alloc();
     assert!(rt; is_refused(alloc, Conversion::Pack(Style::Full), HALF_POINT, 25, 2, 1));
     assert!(rt; is_refused(alloc, Conversion::Show, &BLOB[..6], 41, 6, 0));
+}
+
+// The points of the line.
+const POINTS: [BufferPoint; 2] = [BufferPoint { x: 1, y: 1 }, BufferPoint { x: 5, y: 5 }];
+
+// Whether the polyline of the line stands in front of a room, and its points in front of another.
+fn is_polyline(alloc: Global) -> bool {
+    let mut text = [0u8; 5];
+    let mut points = [BufferPoint { x: 0, y: 0 }; 3];
+    let is_text = fill_polyline(alloc, &POINTS, &mut text) == report_of(4, 4);
+    let are_points = fill_points(alloc, b"AAGG", &mut points) == report_of(2, 2);
+    is_text & are_points & text.starts_with(b"AAGG") & points.starts_with(&POINTS)
+}
+
+#[test]
+fn points_become_a_polyline_and_it_the_points(rt: HostRuntime) {
+    assert!(rt; is_polyline(rt.alloc()));
 }
 
 // What is asked of a buffer.

@@ -3,3 +3,4 @@ pub mod FillLemmas
 pub mod LengthLemmas
 pub mod MeasureLemmas
 pub mod TextLemmas
+pub mod PolylineLemmas

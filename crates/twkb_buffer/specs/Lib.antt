@@ -7,3 +7,4 @@ pub mod Lengths
 pub mod Calls
 pub mod Conversions
 pub mod Texts
+pub mod Polylines

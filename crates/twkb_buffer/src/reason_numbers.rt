@@ -8,19 +8,19 @@ use twkb_convert::{BlobReason, Cause, PolyReason, RowReason};
 pub(crate) const DONE: u32 = 0;
 
 // The input is refused, or too long.
-const REFUSED: u32 = 1;
+pub(crate) const REFUSED: u32 = 1;
 
 // The input could not be read.
 const DEVICE: u32 = 3;
 
 // No memory was found.
-const MEMORY: u32 = 4;
+pub(crate) const MEMORY: u32 = 4;
 
 // The output is too small.
 pub(crate) const TOO_SMALL: u32 = 5;
 
 // What is wrong with a text of points.
-fn point_text_number(reason: PolyReason) -> u32
+pub(crate) fn point_text_number(reason: PolyReason) -> u32
     ensures { result ≡ point_text_number_of reason }
 {
     match reason {

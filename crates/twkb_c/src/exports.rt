@@ -4,13 +4,17 @@ ghost use Rattle.twkb_tree.specs.Limits.{IsAllowance, standard_limits};
 ghost use Rattle.twkb_grammar.specs.declared.style.Style.{Style};
 ghost use Rattle.twkb_request.specs.Version.{version_text};
 ghost use Rattle.twkb_buffer.specs.Conversions.{MeasuresOutput, PacksSlice, ShowsSlice, UnpacksSlice};
+ghost use Rattle.twkb_buffer.specs.Polylines.{DecodesSlice, EncodesSlice};
 ghost use Rattle.twkb_buffer.specs.Texts.{AreWordsOf, PutsText};
 ghost use Rattle.twkb_buffer.specs.declared.conversion.Conversion.{Conversion};
 ghost use Rattle.twkb_c.specs.Arguments.{IsConversionNumber, IsStyleNumber, allowance_of, arguments_report};
 
 use crate::arguments::{BufferLimits, conversion_of, refused_arguments, style_of};
 use std::alloc::Global;
-use twkb_buffer::{BufferReport, Conversion, fill, measure, put_reason, put_version};
+use twkb_buffer::{
+    BufferPoint, BufferReport, Conversion, fill, fill_points, fill_polyline, measure, put_reason,
+    put_version,
+};
 
 /// Sixteen levels, 2^20 rows and 2^24 points. Takes no memory.
 #[unsafe(no_mangle)]
@@ -109,6 +113,30 @@ pub extern "C" fn polytwkb_measure(
         Some(what) => measure(alloc, what, input, limits),
         None => refused_arguments(),
     }
+}
+
+/// Writes the encoded polyline of points into a buffer.
+#[unsafe(no_mangle)]
+pub extern "C" fn polytwkb_encode(
+    alloc: Global,
+    points: &[BufferPoint],
+    text: &mut [u8],
+) -> BufferReport
+    ensures { EncodesSlice points.now text.old text.new result }
+{
+    fill_polyline(alloc, points, text)
+}
+
+/// Writes the points whose encoded polyline a text is into a buffer.
+#[unsafe(no_mangle)]
+pub extern "C" fn polytwkb_decode(
+    alloc: Global,
+    text: &[u8],
+    points: &mut [BufferPoint],
+) -> BufferReport
+    ensures { DecodesSlice text.now points.old points.new result }
+{
+    fill_points(alloc, text, points)
 }
 
 /// Writes the text of a reason, with a zero byte after it. Takes no memory.

@@ -1,0 +1,134 @@
+//! Points of a buffer as an encoded polyline in another, and back.
+ghost use Rattle.std.specs.Prelude.{◌≡◌, ◌↔◌, IfErr, IfOk, IfSome, IsSome};
+ghost use Rattle.twkb_points.specs.Point.{IsInRange, point_at};
+ghost use Rattle.twkb_buffer.specs.Polylines.{ArePoints, DecodesSlice, EncodesSlice, Puts, IsRefusedPoint, coordinates_at, coordinates_of, nothing_report};
+
+use crate::point::BufferPoint;
+use crate::reason_numbers::{DONE, MEMORY, REFUSED, TOO_SMALL, point_text_number};
+use crate::report::BufferReport;
+use std::alloc::{AllocError, Global};
+use twkb_points::{PointTail, Pt};
+use twkb_polyline::{PolyFault, PolyReason, decode, encode};
+
+// The point with these coordinates, if they are in range.
+fn as_point(coordinates: &BufferPoint) -> Option<Pt>
+    ensures range { IsSome result ↔ IsInRange (point_at coordinates.now.x coordinates.now.y) }
+    ensures in_range { IfSome result IsInRange }
+    ensures value { IfSome result (λ point. coordinates_at point ≡ coordinates.now) }
+{
+    Pt::try_new(coordinates.x, coordinates.y)
+}
+
+// The points with these coordinates, or the place of the first that are out of range.
+fn points_at(alloc: Global, given: &[BufferPoint]) -> Result<Vec<Pt>, PolyFault>
+    ensures points { IfOk result (λ points. ArePoints given.now points.items) }
+    ensures refused { IfErr result (IsRefusedPoint given.now) }
+{
+    let mut points = Vec::new(alloc);
+    for coordinates in given {
+        let Some(point) = as_point(coordinates) else {
+            return Err(PolyFault::At {
+                offset: points.count(),
+                reason: PolyReason::Range,
+            });
+        };
+        points.put(point)?;
+    }
+    Ok(points)
+}
+
+// The coordinates of a point.
+fn as_coordinates(point: Pt) -> BufferPoint
+    ensures { result ≡ coordinates_at point }
+{
+    BufferPoint {
+        x: point.x(),
+        y: point.y(),
+    }
+}
+
+// The coordinates of points.
+fn coordinates(alloc: Global, points: &[Pt]) -> Result<Vec<BufferPoint>, AllocError>
+    ensures { IfOk result (λ coordinates. coordinates.items ≡ coordinates_of points.now) }
+{
+    let mut coordinates = Vec::new(alloc);
+    for point in points {
+        coordinates.push(as_coordinates(*point))?;
+    }
+    Ok(coordinates)
+}
+
+// The report of a call that wrote nothing.
+fn nothing_put(status: u32, needed: u64) -> BufferReport
+    ensures { result ≡ nothing_report status needed }
+{
+    BufferReport {
+        status,
+        reason: 0,
+        place: 0,
+        text_offset: 0,
+        done: 0,
+        sent: 0,
+        needed,
+    }
+}
+
+// Puts a list at the front of a slice, if there is room for all of it.
+fn put_whole<T: Copy>(whole: &[T], output: &mut [T]) -> BufferReport
+    ensures { Puts whole.now output.old output.new result }
+{
+    let count = whole.len();
+    if output.len() < count {
+        return nothing_put(TOO_SMALL, count as u64);
+    }
+    output[..count].copy_from_slice(whole);
+    BufferReport {
+        done: 1,
+        sent: count as u64,
+        ..nothing_put(DONE, count as u64)
+    }
+}
+
+/// Writes the encoded polyline of points into a slice, if there is room for all of it. The place of a
+/// refusal is that of the first point that is out of range, from 0. Takes memory for the points and the text.
+pub fn fill_polyline(alloc: Global, given: &[BufferPoint], output: &mut [u8]) -> BufferReport
+    ensures { EncodesSlice given.now output.old output.new result }
+{
+    let points = match points_at(alloc, given) {
+        Ok(points) => points,
+        Err(PolyFault::Memory) => return nothing_put(MEMORY, 0),
+        Err(PolyFault::At { offset, reason }) => {
+            return BufferReport {
+                reason: point_text_number(reason),
+                place: offset as u64,
+                ..nothing_put(REFUSED, 0)
+            };
+        }
+    };
+    match encode(alloc, &points) {
+        Ok(text) => put_whole(&text, output),
+        Err(_) => nothing_put(MEMORY, 0),
+    }
+}
+
+/// Writes the points whose encoded polyline a text is into a slice, if there is room for all of them.
+/// Takes memory for the points, twice.
+pub fn fill_points(alloc: Global, text: &[u8], output: &mut [BufferPoint]) -> BufferReport
+    ensures { DecodesSlice text.now output.old output.new result }
+{
+    let points = match decode(alloc, text, u32::MAX) {
+        Ok(points) => points,
+        Err(PolyFault::Memory) => return nothing_put(MEMORY, 0),
+        Err(PolyFault::At { offset, reason }) => {
+            return BufferReport {
+                reason: point_text_number(reason),
+                text_offset: offset as u64,
+                ..nothing_put(REFUSED, 0)
+            };
+        }
+    };
+    match coordinates(alloc, &points) {
+        Ok(coordinates) => put_whole(&coordinates, output),
+        Err(_) => nothing_put(MEMORY, 0),
+    }
+}

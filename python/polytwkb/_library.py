@@ -1,0 +1,87 @@
+"""The shared library, found and loaded, and its calls as include/polytwkb.h declares them."""
+import ctypes
+import os
+
+VERSION = "0.1.0"
+
+DONE, REFUSED, ARGUMENTS, DEVICE, MEMORY, TOO_SMALL = range(6)
+TEXT_ROOM = 32
+
+
+class CLimits(ctypes.Structure):
+    _fields_ = [(name, ctypes.c_uint32) for name in ("nest", "nodes", "points")]
+
+
+class Report(ctypes.Structure):
+    _fields_ = [("status", ctypes.c_uint32), ("reason", ctypes.c_uint32)] + [
+        (name, ctypes.c_uint64) for name in ("place", "text_offset", "done", "sent", "needed")
+    ]
+
+
+def _path():
+    """The file that POLYTWKB_LIBRARY names, else the one beside this module, else the one that the system finds."""
+    named = os.environ.get("POLYTWKB_LIBRARY")
+    if named:
+        return os.path.abspath(named)
+    beside = os.path.join(os.path.dirname(os.path.abspath(__file__)), "libpolytwkb.so")
+    return beside if os.path.exists(beside) else f"libpolytwkb.so.{VERSION.split('.')[0]}"
+
+
+def _text(call, *reason):
+    text = ctypes.create_string_buffer(TEXT_ROOM)
+    call(*reason, text, TEXT_ROOM)
+    return text.value.decode("ascii")
+
+
+def _loaded(path):
+    """The library in a file, which has to be of the version of this package."""
+    library = ctypes.CDLL(path)
+    version = library.polytwkb_version
+    room = [ctypes.c_char_p, ctypes.c_size_t]
+    version.argtypes, version.restype = room, ctypes.c_size_t
+    found = _text(version)
+    if found != VERSION:
+        raise ImportError(f"polytwkb {VERSION} needs the library {VERSION}, and {path} is {found}")
+    library.polytwkb_reason_text.argtypes, library.polytwkb_reason_text.restype = [ctypes.c_uint32, *room], ctypes.c_size_t
+    buffers = [ctypes.c_char_p, ctypes.c_size_t, ctypes.c_void_p, ctypes.c_size_t]
+    calls = {"pack": [CLimits, ctypes.c_uint32], "unpack": [CLimits], "show": [CLimits], "encode": [], "decode": []}
+    for name, more in calls.items():
+        call = getattr(library, "polytwkb_" + name)
+        call.argtypes, call.restype = buffers + more, Report
+    return library
+
+
+try:
+    library = _loaded(_path())
+except (OSError, AttributeError) as fault:
+    raise ImportError(f"polytwkb {VERSION} finds no library of its version: {fault}") from None
+
+# The same call while no other thread of Python runs, so that it may read a buffer that could change meanwhile.
+encode_in_place = ctypes.PyDLL(library._name).polytwkb_encode
+encode_in_place.argtypes = [ctypes.c_void_p, *library.polytwkb_encode.argtypes[1:]]
+encode_in_place.restype = Report
+
+
+def reason_text(reason):
+    """What a reason means, as the command says it."""
+    return _text(library.polytwkb_reason_text, reason)
+
+
+def some_bytes(count):
+    """A buffer of so many bytes, and of one where that is 0: the library takes the address of each buffer."""
+    return bytearray(max(count, 1))
+
+
+def filled(call, given, count, room, made, *more):
+    """Calls the library with so many items of input and with room for so many items of output, in a buffer that `made` makes; with more
+    room, as much as the library names, if that was too small. Returns the report and the buffer."""
+    while True:
+        output = made(room)
+        start = ctypes.c_char.from_buffer(output)
+        report = call(given, count, ctypes.addressof(start), room, *more)
+        del start
+        if report.status in (DONE, REFUSED):
+            return report, output
+        if report.status != TOO_SMALL or report.needed <= room:
+            raise MemoryError("out of memory")
+        room = report.needed

@@ -1,0 +1,112 @@
+"""Random calls and little memory: each call answers or raises what it may, and the interpreter lives on.
+
+    CASES=100000 python3 -m unittest test_hostile        more of them; SEED for the same again
+"""
+import os
+import random
+import resource
+import subprocess
+import sys
+import time
+import unittest
+from array import array
+
+import polytwkb
+import vectors
+
+CASES = int(os.environ.get("CASES", "5000"))
+SEED = int(os.environ.get("SEED", time.strftime("%Y%m%d", time.gmtime())))
+ALLOWED = (polytwkb.Refused, TypeError, ValueError, MemoryError)
+CALLS = (polytwkb.pack, polytwkb.unpack, polytwkb.show, polytwkb.split, polytwkb.encode, polytwkb.decode, polytwkb.decode_flat)
+BLOBS = [bytes.fromhex(vector["hex"]) for vector in vectors.postgis()]
+TABLES = ["".join(row + "\n" for row in vector["rows"]) for vector in vectors.postgis()]
+TEXTS = [text for text, _, _ in vectors.polylines()]
+
+
+def changed(chance, given):
+    """The bytes with some of them cut, changed, added or given twice."""
+    given = bytearray(given)
+    for _ in range(chance.choice([0, 1, 1, 2, 8])):
+        place = chance.randrange(len(given) + 1)
+        other = chance.randrange(len(given) + 1)
+        given[place:other] = chance.choice([b"", bytes([chance.randrange(256)]), given[other:place], b"\xff" * 9, b"0,point,,0,AA\n"])
+    return bytes(given)
+
+
+def number(chance):
+    return chance.choice([0, 1, -1, 5, 1.5, -180.0, 1 << 62, -(1 << 62), 1 << 63, 10**40, float("nan"), float("inf"), None, "7", chance.random() * 360])
+
+
+def value(chance):
+    """Something that a call may be given: mostly of its type, and mostly not as it should be."""
+    kind = chance.randrange(9)
+    if kind < 2:
+        return changed(chance, b"".join(chance.choices(BLOBS, k=chance.randrange(4))))
+    if kind < 4:
+        return changed(chance, (vectors.HEADER + "".join(chance.choices(TABLES, k=chance.randrange(4)))).encode()).decode("latin-1")
+    if kind == 4:
+        return changed(chance, b"".join(chance.choices(TEXTS, k=chance.randrange(4))))
+    if kind == 5:
+        return [tuple(number(chance) for _ in range(chance.choice([2, 2, 2, 2, 1, 3]))) for _ in range(chance.randrange(5))]
+    if kind == 6:
+        return array("q", [chance.randrange(-(1 << 63), 1 << 63) >> chance.randrange(64) for _ in range(chance.randrange(9))])
+    if kind == 7:
+        return chance.choice([bytearray, memoryview])(chance.choice(BLOBS))
+    return chance.choice([None, 7, "", b"", [], {}, object(), "\ud800", "\x00", "ä", array("d", [1, 2]), memoryview(b"12345678")[::3], range(3)])
+
+
+def one(chance):
+    """One random call; what it must not raise goes on."""
+    call, given = chance.choice(CALLS), [value(chance)]
+    if chance.randrange(4) == 0:
+        given.append(chance.choice(["full", "plain", "", None, 5, -8, 8, polytwkb.Limits(), polytwkb.Limits(0, 1, 0), (0, 2, 3), polytwkb.Limits(nest=99)]))
+    try:
+        answer = call(*given)
+    except polytwkb.Refused as refused:
+        assert str(refused) and refused.name and refused.text and refused.place >= 0
+    except ALLOWED:
+        pass
+    else:
+        assert type(answer) in (bytes, str, list, array)
+
+
+class Hostile(unittest.TestCase):
+    def test_random_calls(self):
+        chance = random.Random(SEED)
+        for _ in range(CASES):
+            state = chance.getstate()
+            try:
+                one(chance)
+            except Exception as fault:
+                chance.setstate(state)
+                raise AssertionError(f"seed {SEED}: {chance.choice(CALLS).__name__}({value(chance)!r})") from fault
+
+    def test_little_memory(self):
+        """A child with 40 MB more than it has when it begins: what needs more is a MemoryError, and calls go on."""
+        child = f"""
+import resource, sys
+sys.path[:0] = {[os.path.dirname(os.path.abspath(__file__))]!r}
+import polytwkb, random, test_hostile
+used = 4096 * int(open("/proc/self/statm").read().split()[0])
+resource.setrlimit(resource.RLIMIT_AS, (used + (40 << 20),) * 2)
+text = "?" * (8 << 20)
+table = {vectors.HEADER!r} + "0,linestring,,0," + text + "\\n"
+lacked = 0
+for call, given in [(polytwkb.decode, text), (polytwkb.decode_flat, text), (polytwkb.pack, table), (polytwkb.encode, [(0, 0)])]:
+    try:
+        call(given)
+    except MemoryError:
+        lacked += 1
+del text, table
+chance = random.Random({SEED})
+for _ in range({CASES}):
+    test_hostile.one(chance)
+print("lives", lacked)
+"""
+        run = subprocess.run([sys.executable, "-B", "-c", child], stdout=subprocess.PIPE, stderr=subprocess.PIPE, text=True, check=False)
+        self.assertEqual((run.returncode, run.stdout.split()[:1]), (0, ["lives"]), run.stderr)
+        self.assertGreaterEqual(int(run.stdout.split()[1]), 2)
+
+
+if __name__ == "__main__":
+    unittest.main()

@@ -1,0 +1,136 @@
+"""The package on the rows of tests/vectors and on the blobs of PostGIS."""
+import re
+import unittest
+
+import polytwkb
+import vectors
+
+
+def outcome(call, *given, **options):
+    """What a call returns and an empty line, or the output and the line of a refusal."""
+    try:
+        return call(*given, **options), ""
+    except polytwkb.Refused as refused:
+        return refused.output, str(refused)
+
+
+def shown(headers):
+    """Headers as the command lists them."""
+    return "".join(
+        f"{level} {offset} {kind} {precision} {metadata:02X} {length} {points}\n"
+        for level, offset, kind, precision, metadata, length, points in headers
+    )
+
+
+class Runs(unittest.TestCase):
+    """Runs of the command: the call answers with the same output, and refuses with the same line."""
+
+    def test_runs(self):
+        count = 0
+        for command, options, given, printed in vectors.runs():
+            with self.subTest(command=command, options=options, given=given):
+                limits, style = polytwkb.Limits(), "full"
+                for option, value in options:
+                    if option == "max-nest":
+                        limits = limits._replace(nest=int(value))
+                    else:
+                        style = value
+                if command == "pack":
+                    output, line = outcome(polytwkb.pack, given, style, limits)
+                    output = output.hex()
+                elif command == "unpack":
+                    output, line = outcome(polytwkb.unpack, given, limits)
+                else:
+                    output, line = outcome(polytwkb.show, given, limits)
+                    output = shown(output)
+                self.assertEqual((output.replace("\n", "/"), line), printed)
+                count += 1
+        self.assertGreater(count, 60)
+
+    def test_a_refusal_names_reason_and_place(self):
+        with self.assertRaises(polytwkb.Refused) as caught:
+            polytwkb.pack(vectors.table_of("0,point,,0,AC/0,point,,0,AA/0,pont,,0,/"))
+        refused = caught.exception
+        self.assertEqual((refused.reason, refused.name, refused.text), (4, "BAD_KIND", "unknown kind"))
+        self.assertEqual((refused.place, refused.text_offset), (4, 0))
+        self.assertEqual(refused.done, len(polytwkb.split(refused.output)))
+
+
+class Tables(unittest.TestCase):
+    """Tables and their blobs, both ways, and what is refused within limits."""
+
+    def test_tables(self):
+        count = 0
+        limits = polytwkb.Limits()
+        for line, printed in vectors.rows_of("tables"):
+            word, _, given = line.partition(" ")
+            if word == "limits":
+                limits = polytwkb.Limits(*map(int, given.split()))
+            if word not in ("full", "plain"):
+                continue
+            with self.subTest(line=line, limits=limits):
+                done = re.fullmatch(r"(?:full|plain) (\d+) (\d+) ?([0-9a-f]*)(?:; (.*))?", printed[0])
+                output, refusal = outcome(polytwkb.pack, vectors.table_of(given), word, limits)
+                self.assertEqual((output.hex(), refusal), (done.group(3), done.group(4) or ""))
+                if not refusal:
+                    self.assertEqual(polytwkb.unpack(output, limits), vectors.table_of(given))
+                    self.assertEqual(len(polytwkb.split(output, limits)), int(done.group(1)))
+                count += 1
+        self.assertGreater(count, 60)
+
+    def test_streams(self):
+        count = 0
+        limits = polytwkb.Limits()
+        for line, printed in vectors.rows_of("streams"):
+            word, _, given = line.partition(" ")
+            if word == "limits":
+                limits = polytwkb.Limits(*map(int, given.split()))
+            if word != "unpack":
+                continue
+            with self.subTest(line=line, limits=limits):
+                done = re.fullmatch(r"unpack (\d+) (\d+) ?([^;]*)(?:; (.*))?", printed[0])
+                output, refusal = outcome(polytwkb.unpack, bytes.fromhex(given), limits)
+                self.assertEqual((output.replace("\n", "/"), refusal), (done.group(3), done.group(4) or ""))
+                count += 1
+        self.assertGreater(count, 60)
+
+
+class Postgis(unittest.TestCase):
+    """The blobs that PostGIS wrote."""
+
+    def test_blobs(self):
+        for vector in vectors.postgis():
+            with self.subTest(wkt=vector["wkt"], written=vector["written"]):
+                table = vectors.HEADER + "".join(row + "\n" for row in vector["rows"])
+                self.assertEqual(polytwkb.unpack(bytes.fromhex(vector["hex"])), table)
+                self.assertEqual(polytwkb.pack(table).hex(), vector.get("full", vector["hex"]))
+                self.assertEqual(polytwkb.pack(table, "plain").hex(), vector.get("plain", vector["hex"]))
+
+    def test_a_stream_is_split_into_its_blobs(self):
+        blobs = [bytes.fromhex(vector["hex"]) for vector in vectors.postgis()]
+        stream = b"".join(blobs)
+        self.assertEqual(polytwkb.split(stream), blobs)
+        self.assertEqual([header.offset for header in polytwkb.show(stream) if header.level == 0],
+                         [sum(map(len, blobs[:place])) for place in range(len(blobs))])
+        with self.assertRaises(polytwkb.Refused) as caught:
+            polytwkb.split(stream + b"\x08")
+        self.assertEqual((caught.exception.output, caught.exception.done, caught.exception.place), (blobs, len(blobs), len(stream)))
+
+
+class Polylines(unittest.TestCase):
+    """Polylines and their points; texts that are none, with the byte and the reason."""
+
+    def test_polylines(self):
+        count = 0
+        for text, points, refusal in vectors.polylines():
+            with self.subTest(text=text):
+                self.assertEqual(outcome(polytwkb.decode, text), (points, refusal))
+                self.assertEqual(outcome(polytwkb.decode_flat, text)[0].tolist(), [number for point in points for number in point])
+                if not refusal:
+                    self.assertEqual(polytwkb.encode(points).encode(), text)
+                count += 1
+        self.assertGreater(count, 200)
+
+
+if __name__ == "__main__":
+    unittest.main()

@@ -1,0 +1,85 @@
+#!/usr/bin/env python3
+"""Puts the package python/polytwkb and the shared library into a wheel, without any tool but this Python:
+
+    scripts/wheel.py FOLDER
+
+The same build gives the same bytes: names are sorted, and each time is noon of the day of the version in CHANGELOG.md.
+"""
+import base64
+import hashlib
+import os
+import re
+import sys
+import zipfile
+
+REPO = os.path.abspath(os.path.join(os.path.dirname(__file__), ".."))
+PACKAGE = os.path.join(REPO, "python", "polytwkb")
+LIBRARY = os.path.join(REPO, "out", "libpolytwkb.so")
+
+
+def text_of(*names):
+    with open(os.path.join(REPO, *names), encoding="utf-8") as file:
+        return file.read()
+
+
+def bytes_of(path):
+    with open(path, "rb") as file:
+        return file.read()
+
+
+def version():
+    """The version of the library, which has to be that of the package."""
+    found = re.search(r'^pub const VERSION: &str = "(.*)";', text_of("crates", "twkb_request", "src", "version.rt"), re.M).group(1)
+    named = re.search(r'^VERSION = "(.*)"', text_of("python", "polytwkb", "_library.py"), re.M).group(1)
+    if named != found:
+        sys.exit(f"wheel.py: the package is of version {named}, and the library of {found}")
+    return found
+
+
+def day_of(number):
+    """The day of a version."""
+    year, month, day = re.search(rf"^## .*{re.escape(number)} \((\d+)-(\d+)-(\d+)\)$", text_of("CHANGELOG.md"), re.M).groups()
+    return int(year), int(month), int(day), 12, 0, 0
+
+
+def tag_of(library):
+    """What the wheel runs on: the C library of 2.17, which every pip knows, or the newest of which the shared library names a symbol."""
+    versions = [tuple(map(int, found.split(b"."))) for found in re.findall(rb"GLIBC_(\d+\.\d+)", library)]
+    major, minor = max(versions + [(2, 17)])
+    older = ".manylinux2014_x86_64" if (major, minor) == (2, 17) else ""
+    return f"py3-none-manylinux_{major}_{minor}_x86_64{older}"
+
+
+def tags_of(tag):
+    """A line for each platform of a tag."""
+    language, interface, platforms = tag.split("-")
+    return "".join(f"Tag: {language}-{interface}-{platform}\n" for platform in platforms.split("."))
+
+
+def main(folder):
+    number, library = version(), bytes_of(LIBRARY)
+    day, tag, facts = day_of(number), tag_of(library), f"polytwkb-{number}.dist-info"
+    files = {f"polytwkb/{name}": bytes_of(os.path.join(PACKAGE, name)) for name in os.listdir(PACKAGE) if name.endswith((".py", ".typed"))}
+    files["polytwkb/libpolytwkb.so"] = library
+    files[f"{facts}/LICENSE"] = bytes_of(os.path.join(REPO, "LICENSE"))
+    files[f"{facts}/WHEEL"] = f"Wheel-Version: 1.0\nGenerator: polytwkb\nRoot-Is-Purelib: false\n{tags_of(tag)}".encode()
+    files[f"{facts}/METADATA"] = (
+        f"Metadata-Version: 2.1\nName: polytwkb\nVersion: {number}\nSummary: Google encoded polylines to TWKB and back, exactly\nLicense: MIT\n"
+        f"Requires-Python: >=3.8\nDescription-Content-Type: text/markdown\n\n{text_of('python', 'README.md')}"
+    ).encode()
+    record = ""
+    for name in sorted(files):
+        sum_of = base64.urlsafe_b64encode(hashlib.sha256(files[name]).digest()).rstrip(b"=").decode()
+        record += f"{name},sha256={sum_of},{len(files[name])}\n"
+    files[f"{facts}/RECORD"] = (record + f"{facts}/RECORD,,\n").encode()
+    os.makedirs(folder, exist_ok=True)
+    path = os.path.join(folder, f"polytwkb-{number}-{tag}.whl")
+    with zipfile.ZipFile(path, "w") as wheel:
+        for name in sorted(files, key=lambda name: (name.startswith(facts), name)):
+            entry = zipfile.ZipInfo(name, day)
+            entry.create_system, entry.external_attr, entry.compress_type = 3, 0o100644 << 16, zipfile.ZIP_DEFLATED
+            wheel.writestr(entry, files[name], compresslevel=9)
+    print(path)
+
+
+main(*sys.argv[1:])
