@@ -92,7 +92,7 @@ def encode(points: Union[Buffer, array, Iterable[Tuple]], precision: Optional[in
     """The encoded polyline of points (x, y): x is the longitude and y the latitude, though the text has the latitude first.
 
     Without a precision, coordinates are whole numbers and pass unchanged. Points may then also be a buffer of signed 64-bit integers x, y,
-    x, y, .. (an array of type ``"q"``, or of numpy with two columns), which is faster. With a precision from -8 to 7, coordinates are
+    x, y, .. (flat, as an array of type ``"q"``, or of two columns), which is faster. With a precision from -8 to 7, coordinates are
     decimal degrees (int, float, Decimal, Fraction), and each becomes the whole number nearest to it times 10^precision, of two the one
     farther from 0: the rounding of Google's algorithm, whose precision is 5, with no error of floating point on the way.
 

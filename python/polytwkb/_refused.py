@@ -19,7 +19,7 @@ class Refused(Exception):
     * ``reason``: the number, as include/polytwkb.h has it; ``name``: its name there, such as ``"BLOB_TRUNCATED"``;
     * ``text``: what it means, such as ``"truncated"``;
     * ``place``: the record of a table, from 1; the byte of a stream or of the text of a polyline, from 0; the point of a list, from 0;
-    * ``text_offset``: for a record whose polyline is refused, the byte of the polyline; else 0;
+    * ``text_offset``: the byte of the refused polyline, in its record or alone; else 0;
     * ``done``: how many geometries came before, and are whole;
     * ``output``: what the call would have returned of these alone.
     """
