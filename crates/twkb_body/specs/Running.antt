@@ -109,6 +109,6 @@ pub record IsWanted (h : Head) (s : Step) (rs : List Row) (from : Point) : Type 
   pub outlined : Outlined limits front sums (groups, s) rs
   pub placed : IsHeadAt (length groups) (id_in groups) h
 
--- some reader expects it there, after bytes that are not named
+-- some reader wants it there: which one, and after which bytes, is not said
 abbrev pub MayBeWanted : Head → Step → List Row → Point → Type 0
 MayBeWanted h s rs from = ∥ IsWanted h s rs from ∥₁
