@@ -3,8 +3,8 @@
 
     POLYTWKB_LIBRARY=out/libpolytwkb.so PYTHONPATH=python bench/library/times.py
 
-10,000 linestrings of 50 points, and a polyline of a million points, which go from -2^62 to 2^62 - 1 by steps of at most 1,000. The best of 20
-rounds, by turns, in processor seconds.
+10,000 linestrings of 50 points, and a polyline of a million points, each at most 1,000 units from the one before. The best of 20 rounds, by
+turns, in processor seconds.
 """
 import ctypes
 import random
