@@ -2,20 +2,12 @@
 #![tactic(auto)]
 
 mod fault;
-mod feeding;
+mod input_blobs;
 pub mod laws;
-mod located;
-mod made;
-mod notes;
-mod noting;
-mod point;
+mod open_spans;
 mod reader;
-mod reading;
-mod root;
 mod session;
 mod spans;
-mod state;
-mod through;
 
 pub use fault::BlobFault;
 pub use reader::Reader;

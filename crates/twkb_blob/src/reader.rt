@@ -1,22 +1,24 @@
 //! The blobs of an input, one after another.
-ghost use Rattle.std.specs.Prelude.{◌≡◌, ◌<◌, ◌↔◌, ◌⊎◌, ℕ, List, [], length, true, false, Ok, Err, None, IfOk, IfSome, is_err};
-ghost use Rattle.twkb_tree.specs.Tree.{Tree};
-ghost use Rattle.twkb_io.specs.Taps.{count_failure};
-ghost use Rattle.twkb_io.specs.Inputs.{input_failures, input_tap};
 
 use crate::fault::BlobFault;
-use crate::located::read_spans;
-use crate::made::{read_located, read_tree};
-use crate::reading::read_into;
+use crate::input_blobs::read_blob;
+use crate::open_spans::OpenSpans;
 use crate::session::Session;
-use crate::spans::{Located, Spans, keep_spans};
-use crate::state::{State, state_behind, state_past};
-use crate::through::{give_up, read_through};
+use crate::spans::{Located, Spans};
 use std::alloc::Global;
 use std::io::Read;
+use twkb_engine::{Engine, NoSpans, SpanNotes};
 use twkb_flat::Flat;
 use twkb_io::Input;
 use twkb_tree::{Geometry, Limits};
+
+// What a reader does next.
+#[derive(Clone, Copy)]
+pub(crate) enum State {
+    Ready,
+    Ended,
+    Spent,
+}
 
 /// The blobs of an input, one after another, each read as its bytes come.
 #[derive(Drop)]
@@ -27,17 +29,9 @@ pub struct Reader<'a, R: Read> {
 }
 
 impl<'a, R: Read> Reader<'a, R> {
-    ghost use Rattle.twkb_blob.specs.Readers.{reader_input, reader_limits, is_spent, has_ended, IsNext, IsNextFlat, PartAhead, failed_by_read};
-    ghost use Rattle.twkb_blob.specs.Located.{IsLocated, IsSpanned};
-    ghost use Rattle.twkb_blob.specs.Sessions.{Stands, is_spent as is_finished, session_limits, session_rows};
-    ghost use Rattle.twkb_blob.specs.Through.{IfGoingOn, IsAbreast, IsThrough};
 
     /// A reader of what the input still has. Takes no memory.
     pub fn new(input: Input<'a, R>, limits: Limits) -> Reader<'a, R>
-        ensures input { reader_input result ≡ input.entry }
-        ensures limits { reader_limits result ≡ limits }
-        ensures fresh { is_spent result ≡ false }
-        ensures not_ended { has_ended result ≡ false }
     {
         Reader {
             input,
@@ -50,62 +44,24 @@ impl<'a, R: Read> Reader<'a, R> {
     /// call answers `Spent`, and after the end each call answers `None`; neither reads. It takes memory for what it keeps and for the
     /// geometry, and none for a count that it reads.
     pub fn next(&mut self, alloc: Global) -> Result<Option<Geometry>, BlobFault>
-        ensures same_tap { (input_tap (reader_input self.new)).ghost_name ≡ (input_tap (reader_input self.old)).ghost_name }
-        ensures limits { reader_limits self.new ≡ reader_limits self.old }
-        ensures next { is_spent self.old ≡ false → has_ended self.old ≡ false → IsNext (reader_limits self.old) (reader_input self.old) (reader_input self.new) result }
-        ensures memory { result ≡ Err BlobFault.Memory → PartAhead (reader_limits self.old) [] (reader_input self.old) }
-        ensures failures { input_failures (reader_input self.new) ≡ count_failure (failed_by_read result) (input_failures (reader_input self.old)) }
 
-        ensures spent { (result ≡ Err BlobFault.Spent) ↔ (is_spent self.old ≡ true) }
-        ensures stays { is_spent self.new ≡ is_err result }
-        ensures unchanged { is_spent self.old ≡ true → self.new ≡ self.old }
-        ensures end { result ≡ Ok None → has_ended self.new ≡ true }
-        ensures going_on { IfOk result (λ found. IfSome found (λ geometry. has_ended self.new ≡ false)) }
-        ensures for_good { has_ended self.old ≡ true → (result ≡ Ok None) × (self.new ≡ self.old) }
     {
-        match self.state {
-            State::Ready => {}
-            State::Ended => return Ok(None),
-            State::Spent => return Err(BlobFault::Spent),
+        let mut flat = Flat::new(alloc);
+        if !self.next_flat(alloc, &mut flat)? {
+            return Ok(None);
         }
-        let found = read_tree(&mut self.input, alloc, self.limits);
-        self.state = state_behind(&found);
-        found
+        let geometry = self.tree_of(alloc, &flat)?;
+        Ok(Some(geometry))
     }
 
     /// Reads the next geometry, as `next` does, into a flat form, in place of what that holds, and answers whether there was one; after a
     /// false and after an `Err` the form has no rows. Calls of it and of the others may be mixed. It takes memory for rows and points past
     /// the room of the form, and for nested collections, and none for a further geometry once there is room for it.
     pub fn next_flat(&mut self, alloc: Global, flat: &mut Flat) -> Result<bool, BlobFault>
-        ensures same_tap { (input_tap (reader_input self.new)).ghost_name ≡ (input_tap (reader_input self.old)).ghost_name }
-        ensures limits { reader_limits self.new ≡ reader_limits self.old }
-        ensures next { is_spent self.old ≡ false → has_ended self.old ≡ false → IsNextFlat (reader_limits self.old) (reader_input self.old) (reader_input self.new) result flat.new }
-        ensures memory { result ≡ Err BlobFault.Memory → PartAhead (reader_limits self.old) [] (reader_input self.old) }
-        ensures failures { input_failures (reader_input self.new) ≡ count_failure (failed_by_read result) (input_failures (reader_input self.old)) }
-        ensures cleared { (result ≡ Ok true) ⊎ (flat.new ≡ []) }
-        ensures some { result ≡ Ok true → 0 < length flat.new }
 
-        ensures spent { (result ≡ Err BlobFault.Spent) ↔ (is_spent self.old ≡ true) }
-        ensures stays { is_spent self.new ≡ is_err result }
-        ensures unchanged { is_spent self.old ≡ true → self.new ≡ self.old }
-        ensures end { result ≡ Ok false → has_ended self.new ≡ true }
-        ensures going_on { result ≡ Ok true → has_ended self.new ≡ false }
-        ensures for_good { has_ended self.old ≡ true → (result ≡ Ok false) × (self.new ≡ self.old) }
     {
-        match self.state {
-            State::Ready => {}
-            State::Ended => {
-                flat.clear();
-                return Ok(false);
-            }
-            State::Spent => {
-                flat.clear();
-                return Err(BlobFault::Spent);
-            }
-        }
-        let found = read_into(&mut self.input, alloc, self.limits, flat);
-        self.state = state_past(found);
-        found
+        flat.clear();
+        self.read_into(alloc, flat, &mut NoSpans)
     }
 
     /// Reads the next geometry, as `next_flat` does, through a session, which is fed what the input holds, keeps its room from blob to blob,
@@ -113,35 +69,10 @@ impl<'a, R: Read> Reader<'a, R> {
     /// start: a new session of the reader's limits, at a new input, has those of `next_flat`. At the input's end the session is finished, and
     /// after a false and after an `Err` it has no rows and takes no further byte. Takes memory as `Session::feed_flat` does.
     pub fn next_through(&mut self, session: &mut Session) -> Result<bool, BlobFault>
-        ensures same_tap { (input_tap (reader_input self.new)).ghost_name ≡ (input_tap (reader_input self.old)).ghost_name }
-        ensures limits { reader_limits self.new ≡ reader_limits self.old }
-        ensures next { IsAbreast (reader_limits self.old) (reader_input self.old) session.old → IfGoingOn self.old (IsNextFlat (reader_limits self.old) (reader_input self.old) (reader_input self.new) result (session_rows session.new)) }
-        ensures memory { IsAbreast (reader_limits self.old) (reader_input self.old) session.old → result ≡ Err BlobFault.Memory → PartAhead (reader_limits self.old) [] (reader_input self.old) }
-        ensures failures { input_failures (reader_input self.new) ≡ count_failure (failed_by_read result) (input_failures (reader_input self.old)) }
-        ensures cleared { (result ≡ Ok true) ⊎ (session_rows session.new ≡ []) }
-        ensures some { IsAbreast (reader_limits self.old) (reader_input self.old) session.old → result ≡ Ok true → 0 < length (session_rows session.new) }
 
-        ensures through { (bytes : List ℕ) (gs : List Tree) → Stands bytes gs session.old → IfGoingOn self.old (IsThrough (session_limits session.old) bytes gs (reader_input self.old) (reader_input self.new) result session.new) }
-        ensures abreast { IsAbreast (reader_limits self.old) (reader_input self.old) session.old → result ≡ Ok true → IsAbreast (reader_limits self.old) (reader_input self.new) session.new }
-        ensures session_limits { session_limits session.new ≡ session_limits session.old }
-        ensures finished { (result ≡ Ok true) ⊎ (is_finished session.new ≡ true) }
 
-        ensures spent { is_spent self.old ≡ true → result ≡ Err BlobFault.Spent }
-        ensures stays { is_spent self.new ≡ is_err result }
-        ensures unchanged { is_spent self.old ≡ true → self.new ≡ self.old }
-        ensures end { result ≡ Ok false → has_ended self.new ≡ true }
-        ensures going_on { result ≡ Ok true → has_ended self.new ≡ false }
-        ensures for_good { has_ended self.old ≡ true → (result ≡ Ok false) × (self.new ≡ self.old) }
     {
-        match self.state {
-            State::Ready => {}
-            State::Ended => return give_up(session, Ok(false)),
-            State::Spent => return give_up(session, Err(BlobFault::Spent)),
-        }
-        let mut notes = session.no_notes();
-        let found = read_through(&mut self.input, session, &mut notes, false);
-        self.state = state_past(found);
-        found
+        self.read_through(session, &mut NoSpans)
     }
 
     /// Reads the next geometry, as `next_flat` does, into a flat form, and the spans of its headers, as `next_located` gives them, into a list,
@@ -153,31 +84,12 @@ impl<'a, R: Read> Reader<'a, R> {
         flat: &mut Flat,
         spans: &mut Spans,
     ) -> Result<bool, BlobFault>
-        ensures same_tap { (input_tap (reader_input self.new)).ghost_name ≡ (input_tap (reader_input self.old)).ghost_name }
-        ensures limits { reader_limits self.new ≡ reader_limits self.old }
-        ensures next { is_spent self.old ≡ false → has_ended self.old ≡ false → IsSpanned (reader_limits self.old) (reader_input self.old) (reader_input self.new) result flat.new spans.new }
-        ensures memory { result ≡ Err BlobFault.Memory → PartAhead (reader_limits self.old) [] (reader_input self.old) }
-        ensures failures { input_failures (reader_input self.new) ≡ count_failure (failed_by_read result) (input_failures (reader_input self.old)) }
-        ensures cleared { (result ≡ Ok true) ⊎ ((flat.new ≡ []) × (spans.new ≡ [])) }
-        ensures some { result ≡ Ok true → 0 < length flat.new }
 
-        ensures spent { (result ≡ Err BlobFault.Spent) ↔ (is_spent self.old ≡ true) }
-        ensures stays { is_spent self.new ≡ is_err result }
-        ensures unchanged { is_spent self.old ≡ true → self.new ≡ self.old }
-        ensures end { result ≡ Ok false → has_ended self.new ≡ true }
-        ensures going_on { result ≡ Ok true → has_ended self.new ≡ false }
-        ensures for_good { has_ended self.old ≡ true → (result ≡ Ok false) × (self.new ≡ self.old) }
     {
         flat.clear();
         spans.clear();
-        match self.state {
-            State::Ready => {}
-            State::Ended => return Ok(false),
-            State::Spent => return Err(BlobFault::Spent),
-        }
-        let found = read_spans(&mut self.input, alloc, self.limits, flat, spans);
-        self.state = state_past(found);
-        found
+        let found = self.read_into(alloc, flat, &mut spans.notes);
+        keep_spans(found, spans)
     }
 
     /// Reads the next geometry through a session, as `next_through` does, and puts the spans of its headers, as `next_located` gives them,
@@ -189,60 +101,104 @@ impl<'a, R: Read> Reader<'a, R> {
         session: &mut Session,
         spans: &mut Spans,
     ) -> Result<bool, BlobFault>
-        ensures same_tap { (input_tap (reader_input self.new)).ghost_name ≡ (input_tap (reader_input self.old)).ghost_name }
-        ensures limits { reader_limits self.new ≡ reader_limits self.old }
-        ensures next { IsAbreast (reader_limits self.old) (reader_input self.old) session.old → IfGoingOn self.old (IsSpanned (reader_limits self.old) (reader_input self.old) (reader_input self.new) result (session_rows session.new) spans.new) }
-        ensures memory { IsAbreast (reader_limits self.old) (reader_input self.old) session.old → result ≡ Err BlobFault.Memory → PartAhead (reader_limits self.old) [] (reader_input self.old) }
-        ensures failures { input_failures (reader_input self.new) ≡ count_failure (failed_by_read result) (input_failures (reader_input self.old)) }
-        ensures cleared { (result ≡ Ok true) ⊎ ((session_rows session.new ≡ []) × (spans.new ≡ [])) }
-        ensures some { IsAbreast (reader_limits self.old) (reader_input self.old) session.old → result ≡ Ok true → 0 < length (session_rows session.new) }
 
-        ensures through { (bytes : List ℕ) (gs : List Tree) → Stands bytes gs session.old → IfGoingOn self.old (IsThrough (session_limits session.old) bytes gs (reader_input self.old) (reader_input self.new) result session.new) }
-        ensures abreast { IsAbreast (reader_limits self.old) (reader_input self.old) session.old → result ≡ Ok true → IsAbreast (reader_limits self.old) (reader_input self.new) session.new }
-        ensures session_limits { session_limits session.new ≡ session_limits session.old }
-        ensures finished { (result ≡ Ok true) ⊎ (is_finished session.new ≡ true) }
 
-        ensures spent { is_spent self.old ≡ true → result ≡ Err BlobFault.Spent }
-        ensures stays { is_spent self.new ≡ is_err result }
-        ensures unchanged { is_spent self.old ≡ true → self.new ≡ self.old }
-        ensures end { result ≡ Ok false → has_ended self.new ≡ true }
-        ensures going_on { result ≡ Ok true → has_ended self.new ≡ false }
-        ensures for_good { has_ended self.old ≡ true → (result ≡ Ok false) × (self.new ≡ self.old) }
     {
         spans.notes.restart();
-        match self.state {
-            State::Ready => {}
-            State::Ended => return give_up(session, Ok(false)),
-            State::Spent => return give_up(session, Err(BlobFault::Spent)),
-        }
-        let found = read_through(&mut self.input, session, &mut spans.notes, true);
-        self.state = state_past(found);
+        let found = self.read_through(session, &mut spans.notes);
         keep_spans(found, spans)
     }
 
     /// The next geometry, as `next` gives it, with the spans of its headers, whose offsets count from where the input began. It takes memory
     /// for a span a header besides.
     pub fn next_located(&mut self, alloc: Global) -> Result<Option<Located>, BlobFault>
-        ensures same_tap { (input_tap (reader_input self.new)).ghost_name ≡ (input_tap (reader_input self.old)).ghost_name }
-        ensures limits { reader_limits self.new ≡ reader_limits self.old }
-        ensures next { is_spent self.old ≡ false → has_ended self.old ≡ false → IsLocated (reader_limits self.old) (reader_input self.old) (reader_input self.new) result }
-        ensures memory { result ≡ Err BlobFault.Memory → PartAhead (reader_limits self.old) [] (reader_input self.old) }
-        ensures failures { input_failures (reader_input self.new) ≡ count_failure (failed_by_read result) (input_failures (reader_input self.old)) }
 
-        ensures spent { (result ≡ Err BlobFault.Spent) ↔ (is_spent self.old ≡ true) }
-        ensures stays { is_spent self.new ≡ is_err result }
-        ensures unchanged { is_spent self.old ≡ true → self.new ≡ self.old }
-        ensures end { result ≡ Ok None → has_ended self.new ≡ true }
-        ensures going_on { IfOk result (λ found. IfSome found (λ located. has_ended self.new ≡ false)) }
-        ensures for_good { has_ended self.old ≡ true → (result ≡ Ok None) × (self.new ≡ self.old) }
     {
-        match self.state {
-            State::Ready => {}
-            State::Ended => return Ok(None),
-            State::Spent => return Err(BlobFault::Spent),
+        let mut flat = Flat::new(alloc);
+        let mut spans = Spans::new(alloc);
+        if !self.next_spans(alloc, &mut flat, &mut spans)? {
+            return Ok(None);
         }
-        let found = read_located(&mut self.input, alloc, self.limits);
-        self.state = state_behind(&found);
+        let geometry = self.tree_of(alloc, &flat)?;
+        Ok(Some(Located { geometry, spans }))
+    }
+
+    // Whether a further blob is to be read: `None` comes for good after the end, and `Spent` after a refusal.
+    #[inline(always)]
+    fn is_ready(&self) -> Result<bool, BlobFault> {
+        match self.state {
+            State::Ready => Ok(true),
+            State::Ended => Ok(false),
+            State::Spent => Err(BlobFault::Spent),
+        }
+    }
+
+    // Notes what a call that read answers.
+    #[inline(always)]
+    fn answered(&mut self, found: Result<bool, BlobFault>) -> Result<bool, BlobFault> {
+        self.state = match found {
+            Ok(true) => State::Ready,
+            Ok(false) => State::Ended,
+            Err(_) => State::Spent,
+        };
         found
     }
+
+    // Reads the next blob into a form without rows, and its spans. After a false and after an `Err` the form has no rows.
+    #[inline(always)]
+    fn read_into<S: SpanNotes>(
+        &mut self,
+        alloc: Global,
+        flat: &mut Flat,
+        spans: &mut S,
+    ) -> Result<bool, BlobFault> {
+        if !self.is_ready()? {
+            return Ok(false);
+        }
+        let mut engine = Engine::new(alloc, self.limits, self.input.offset());
+        let found = read_blob(&mut self.input, &mut engine, flat, spans);
+        if let Ok(true) = found {
+            return self.answered(found);
+        }
+        flat.clear();
+        self.answered(found)
+    }
+
+    // Reads the next blob through a session, and its spans.
+    #[inline(always)]
+    fn read_through<S: SpanNotes>(
+        &mut self,
+        session: &mut Session,
+        spans: &mut S,
+    ) -> Result<bool, BlobFault> {
+        match self.is_ready() {
+            Ok(true) => {}
+            refused => {
+                session.give_up();
+                return refused;
+            }
+        }
+        let found = session.read_from(&mut self.input, spans);
+        self.answered(found)
+    }
+
+    // The tree of the rows of a blob that was read.
+    fn tree_of(&mut self, alloc: Global, flat: &Flat) -> Result<Geometry, BlobFault> {
+        match flat.to_geometry(alloc) {
+            Ok(geometry) => Ok(geometry),
+            Err(_) => {
+                self.state = State::Spent;
+                Err(BlobFault::Memory)
+            }
+        }
+    }
+}
+
+// Leaves spans in a list only if a geometry was read; returns the same.
+fn keep_spans(found: Result<bool, BlobFault>, spans: &mut Spans) -> Result<bool, BlobFault> {
+    if let Ok(true) = found {
+        return found;
+    }
+    spans.clear();
+    found
 }

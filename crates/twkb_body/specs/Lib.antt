@@ -1,4 +1,3 @@
-pub mod Body
-pub mod Names
-pub mod Steps
+pub mod Head
+pub mod Ids
 pub mod Running

@@ -1,20 +1,12 @@
-//! The body of one geometry: its numbers and its members' ids, as they lead to rows of a flat form.
+//! What a reader of one geometry keeps: its header, the ids of its members, and its rows in a flat form.
 #![tactic(auto)]
 
-mod body;
-mod form;
 mod head;
-mod ids;
-mod lefts;
-mod names;
-mod runs;
-mod site;
+mod list_points;
+mod member_ids;
+mod rows;
 
-pub use body::Body;
-pub use form::{Form, GeometryType};
 pub use head::Head;
-pub use ids::take_ids;
-pub use lefts::{Lefts, Spot};
-pub use names::Names;
-pub use runs::Taken;
-pub use site::{push_row, whole_row};
+pub use list_points::{Taken, take_members, take_row};
+pub use member_ids::MemberIds;
+pub use rows::{line_row, own_row, push_point, push_row, put_point, ring_list_row};

@@ -1,24 +1,20 @@
 //! The resumable reader of TWKB blobs: bytes in, rows of a flat form or the first fault out, in whatever pieces the bytes come.
 #![tactic(auto)]
 
-mod awaited;
 mod blob_reason;
-mod builder;
+mod body_items;
+mod end;
 mod engine;
-mod header;
-mod items;
-mod last;
-mod members;
-mod metadata;
-mod numbers;
-mod open_groups;
-mod phase;
-mod rooms;
-mod short;
+mod feeding;
+mod header_items;
+mod member_items;
+mod next_item;
+mod open_collections;
+mod root_point;
+mod span_notes;
 mod stop;
-mod typed;
 
-pub use awaited::Awaited;
 pub use blob_reason::BlobReason;
 pub use engine::Engine;
+pub use span_notes::{NoSpans, SpanNotes};
 pub use stop::Stop;

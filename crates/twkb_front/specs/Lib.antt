@@ -1,3 +1,4 @@
 pub mod Front
-pub mod Whole
 pub mod Parts
+pub mod Header
+pub mod Whole

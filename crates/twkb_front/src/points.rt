@@ -1,11 +1,11 @@
-//! Points that stand whole in front of bytes, by the two steps to them.
+//! Points that are complete at the start of bytes, each by its two steps from the one before it.
 ghost use Rattle.std.specs.Prelude.{◌≡◌, ◌<◌, ◌^◌, IfSome};
 ghost use Rattle.twkb_num.specs.Zigzag.{zigzag_of};
 ghost use Rattle.twkb_points.specs.Point.{IsCoordinate};
 ghost use Rattle.twkb_front.specs.Front.{PointInFront, StepsTo, TwoInFront};
 
 use crate::motion::{moved_x, moved_y};
-use crate::numbers::{any_number, byte_number, short_number, wide_number};
+use crate::numbers::{long_number, short_number};
 use twkb_num::{four_varints, unzigzag};
 use twkb_points::Pt;
 
@@ -19,7 +19,7 @@ fn short_step(number: u64) -> i64
     unzigzag(number)
 }
 
-// The point behind two steps that a coordinate could be, or `None` where that is out of range.
+// The point after two steps that a coordinate could be, or `None` if that is out of range.
 #[inline(always)]
 fn near_steps(from: Pt, dx: i64, dy: i64) -> Option<Pt>
     requires near_x { IsCoordinate dx }
@@ -30,7 +30,7 @@ fn near_steps(from: Pt, dx: i64, dy: i64) -> Option<Pt>
     Some(to)
 }
 
-// The same, by two numbers of five bytes or fewer.
+// The point after two steps of five bytes or fewer, or `None` if that is out of range.
 #[inline(always)]
 fn near(from: Pt, x: u64, y: u64) -> Option<Pt>
     requires x_small { x < 2 ^ 35 }
@@ -40,74 +40,37 @@ fn near(from: Pt, x: u64, y: u64) -> Option<Pt>
     near_steps(from, short_step(x), short_step(y))
 }
 
-/// The point that two steps in front lead to, and how many bytes they have; `None` where they are not whole, or lead out of
-/// range.
-#[inline(always)]
-pub fn front_point(from: Pt, bytes: &[u8]) -> Option<(Pt, usize)>
-    ensures { IfSome result (λ front. PointInFront from bytes.now front.0 front.1) }
-{
-    let Some(x) = byte_number(bytes) else {
-        return short_point(from, bytes);
-    };
-    let Some(y) = byte_number(&bytes[1..]) else {
-        return short_point(from, bytes);
-    };
-    let to = near(from, x, y)?;
-    Some((to, 2))
-}
-
-// The same, by numbers of one or two bytes.
-#[inline(always)]
-fn short_point(from: Pt, bytes: &[u8]) -> Option<(Pt, usize)>
-    ensures { IfSome result (λ front. PointInFront from bytes.now front.0 front.1) }
-{
-    let Some((x, width)) = short_number(bytes) else {
-        return far_point(from, bytes);
-    };
-    let Some((y, height)) = short_number(&bytes[width..]) else {
-        return far_point(from, bytes);
-    };
-    let to = near(from, x, y)?;
-    Some((to, width + height))
-}
-
-// The same, by numbers of five bytes or fewer, where there are so many bytes; `None` says nothing.
-#[inline(always)]
-fn wide_point(from: Pt, bytes: &[u8]) -> Option<(Pt, usize)>
-    ensures { IfSome result (λ front. PointInFront from bytes.now front.0 front.1) }
-{
-    let (x, width) = wide_number(bytes)?;
-    let (y, height) = wide_number(&bytes[width..])?;
-    let to = near(from, x, y)?;
-    Some((to, width + height))
-}
-
-/// The same, by fewer steps where the point is far from the one before, and by more where both numbers are of one or two bytes.
-#[inline(always)]
-pub fn far_point(from: Pt, bytes: &[u8]) -> Option<(Pt, usize)>
-    ensures { IfSome result (λ front. PointInFront from bytes.now front.0 front.1) }
-{
-    if let Some(front) = wide_point(from, bytes) {
-        return Some(front);
-    }
-    any_point(from, bytes)
-}
-
-// The same, by any numbers.
+// Reads a point of any two numbers. Taken if one of them has six bytes or more, or is cut.
 #[cold]
 #[inline(never)]
-fn any_point(from: Pt, bytes: &[u8]) -> Option<(Pt, usize)>
+fn long_point(from: Pt, bytes: &[u8]) -> Option<(Pt, usize)>
     ensures { IfSome result (λ front. PointInFront from bytes.now front.0 front.1) }
 {
-    let (x, width) = any_number(bytes)?;
-    let (y, height) = any_number(&bytes[width..])?;
+    let (x, width) = long_number(bytes)?;
+    let (y, height) = long_number(&bytes[width..])?;
     let beside = moved_x(from, unzigzag(x))?;
     let to = moved_y(beside, unzigzag(y))?;
     Some((to, width + height))
 }
 
-/// Two points, each by its steps from the one before it, and how many bytes both have. `None` says nothing: they are found only
-/// where all four numbers are short and spelled no longer than they need be, in sixteen bytes or more.
+/// The point at the start of the bytes, and how many bytes its two numbers have; `None` if they are not complete, or lead out of range.
+/// Takes no memory.
+#[inline(always)]
+pub fn front_point(from: Pt, bytes: &[u8]) -> Option<(Pt, usize)>
+    ensures { IfSome result (λ front. PointInFront from bytes.now front.0 front.1) }
+{
+    let Some((x, width)) = short_number(bytes) else {
+        return long_point(from, bytes);
+    };
+    let Some((y, height)) = short_number(&bytes[width..]) else {
+        return long_point(from, bytes);
+    };
+    let to = near(from, x, y)?;
+    Some((to, width + height))
+}
+
+/// Two points at the start of the bytes, the second by its steps from the first, and how many bytes both have. They are found if all four
+/// numbers are short and spelled no longer than they need be, in sixteen bytes or more. Takes no memory.
 #[inline(always)]
 pub fn front_two(from: Pt, bytes: &[u8]) -> Option<(Pt, Pt, usize)>
     ensures { IfSome result (λ front. TwoInFront from bytes.now front.0 front.1 front.2) }

@@ -1,0 +1,42 @@
+-- The header that was read.
+use Rattle.std.specs.Prelude.{◌≡◌, ℕ, ℤ, Option}
+use Rattle.twkb_tree.specs.declared.kind.Kind as row
+use Rattle.twkb_tree.specs.declared.kind.Kind.TheVariants as kinds
+use Rattle.twkb_grammar.specs.Machine as machine
+use Rattle.twkb_grammar.specs.Machine.{SimpleKind, CollectionKind, PointForm, LineForm, PolygonForm, MultiPointForm, MultiLineForm, MultiPolygonForm, Many, ManyPoints, ManyLines, ManyPolygons, ManyGeometries}
+use Rattle.twkb_body.specs.declared.head.Head.{Head}
+
+-- the type whose row is of this kind; no type has rings
+abbrev pub kind_of : row.Kind → machine.Kind
+kind_of kinds.Point = SimpleKind PointForm
+kind_of kinds.Linestring = SimpleKind LineForm
+kind_of kinds.Polygon = SimpleKind PolygonForm
+kind_of kinds.MultiPoint = SimpleKind MultiPointForm
+kind_of kinds.MultiLinestring = SimpleKind MultiLineForm
+kind_of kinds.MultiPolygon = SimpleKind MultiPolygonForm
+kind_of _ = CollectionKind
+
+-- the form of a body of this kind; a collection has none of its own
+abbrev pub form_of : row.Kind → machine.Form
+form_of kinds.Point = PointForm
+form_of kinds.Linestring = LineForm
+form_of kinds.Polygon = PolygonForm
+form_of kinds.MultiPoint = MultiPointForm
+form_of kinds.MultiLinestring = MultiLineForm
+form_of _ = MultiPolygonForm
+
+-- what the count of a geometry of this kind counts
+abbrev pub many_of : row.Kind → Many
+many_of kinds.MultiPoint = ManyPoints
+many_of kinds.MultiLinestring = ManyLines
+many_of kinds.MultiPolygon = ManyPolygons
+many_of _ = ManyGeometries
+
+-- the header as the grammar has it
+abbrev pub head_of : Head → machine.Head
+head_of h = record { precision = h.precision; meta = h.metadata; size = h.size; from = h.from }
+
+-- the header's geometry is at this depth and has this id
+pub record IsHeadAt (depth : ℕ) (id : Option ℤ) (h : Head) : Type 0 where
+  pub depth_is : h.depth ≡ depth
+  pub id_is : h.id ≡ id

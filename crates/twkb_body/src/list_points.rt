@@ -1,0 +1,85 @@
+//! Points of a list, and members of a multipoint, many at once.
+
+use crate::member_ids::MemberIds;
+use std::alloc::AllocError;
+use twkb_flat::Flat;
+use twkb_front::{front_point, front_two};
+use twkb_points::Pt;
+
+/// Points that were taken.
+#[derive(Clone, Copy, Debug, PartialEq, Eq)]
+pub struct Taken {
+    /// How many bytes they had.
+    pub used: usize,
+    /// The last of them, or if none was taken the point before.
+    pub position: Pt,
+}
+
+// The most bytes of a point whose numbers are short, four bytes each.
+const NEAR: usize = 8;
+
+/// Takes points of a list to the last row as far as they are complete, at most `most`; and how many of these are left. Takes memory. Two at
+/// a time if that goes: the numbers of points that lie near one another are found four at once, and not looked for after a point that
+/// lies far.
+#[inline(always)]
+pub fn take_row(
+    flat: &mut Flat,
+    from: Pt,
+    bytes: &[u8],
+    most: u64,
+) -> Result<(Taken, u64), AllocError> {
+    let mut used = 0;
+    let mut position = from;
+    let mut left = most;
+    let mut is_near = true;
+    while left > 0 {
+        if is_near && left > 1 {
+            if let Some((first, second, count)) = front_two(position, &bytes[used..]) {
+                flat.add_two(first, second)?;
+                left -= 2;
+                position = second;
+                used += count;
+                continue;
+            }
+        }
+        let Some((to, count)) = front_point(position, &bytes[used..]) else {
+            break;
+        };
+        flat.add_point(to)?;
+        left -= 1;
+        position = to;
+        used += count;
+        is_near = count <= NEAR;
+    }
+    Ok((Taken { used, position }, left))
+}
+
+/// Takes members of a multipoint, whose rows are at this depth and after a member's row, as far as they are complete, at most `most`; and how
+/// many of these are left. Takes memory.
+pub fn take_members(
+    flat: &mut Flat,
+    ids: &mut MemberIds,
+    depth: u32,
+    from: Pt,
+    bytes: &[u8],
+    most: u64,
+) -> Result<(Taken, u64), AllocError> {
+    let mut used = 0;
+    let mut position = from;
+    let mut left = most;
+    while left > 0 {
+        let Some((to, count)) = front_point(position, &bytes[used..]) else {
+            break;
+        };
+        let member = ids.first();
+        if member.is_some() != ids.has_ids() {
+            break;
+        }
+        flat.add_member(depth, member, to)?;
+        ids.advance();
+        left -= 1;
+        position = to;
+        used += count;
+    }
+    Ok((Taken { used, position }, left))
+}

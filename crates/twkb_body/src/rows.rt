@@ -1,0 +1,77 @@
+//! The rows of a geometry in a flat form.
+
+use crate::head::Head;
+use std::alloc::AllocError;
+use twkb_flat::{Flat, Row};
+use twkb_points::Pt;
+use twkb_tree::Kind;
+
+/// Appends a row without points, which continues the rows. Takes memory; an `Err` changes nothing.
+// A frame of its own for the push of a row, which is large.
+#[inline(never)]
+pub fn push_row(flat: &mut Flat, row: Row) -> Result<(), AllocError> {
+    flat.push(row, &[])
+}
+
+/// Appends a row with one point, which continues the rows. Takes memory; an `Err` changes nothing.
+#[inline(never)]
+pub fn push_point(flat: &mut Flat, row: Row, point: Pt) -> Result<(), AllocError> {
+    flat.push(row, &[point])
+}
+
+/// Puts a point that was read: as a row of its own, or after the points of the last row. The rows take it. Takes memory; an `Err` changes
+/// nothing.
+#[inline(always)]
+pub fn put_point(
+    flat: &mut Flat,
+    head: &Head,
+    member: Option<i64>,
+    point: Pt,
+) -> Result<(), AllocError> {
+    match head.kind {
+        Kind::Point => push_point(flat, own_row(head), point),
+        Kind::MultiPoint => push_point(flat, part_row(head.depth + 1, Kind::Point, member), point),
+        _ => flat.add_point(point),
+    }
+}
+
+/// The row of the geometry itself, without points. Takes no memory.
+#[inline]
+pub fn own_row(head: &Head) -> Row {
+    Row {
+        depth: head.depth,
+        kind: head.kind,
+        id: head.id,
+        precision: Some(head.precision),
+    }
+}
+
+// A row of a geometry's part.
+fn part_row(depth: u32, kind: Kind, id: Option<i64>) -> Row {
+    Row {
+        depth,
+        kind,
+        id,
+        precision: None,
+    }
+}
+
+/// The row of a list of points that begins, in the open member with this id. Takes no memory.
+#[inline]
+pub fn line_row(head: &Head, member: Option<i64>) -> Row {
+    match head.kind {
+        Kind::Polygon => part_row(head.depth + 1, Kind::Ring, None),
+        Kind::MultiLinestring => part_row(head.depth + 1, Kind::Linestring, member),
+        Kind::MultiPolygon => part_row(head.depth + 2, Kind::Ring, None),
+        _ => own_row(head),
+    }
+}
+
+/// The row of a list of rings that begins, in the open member with this id. Takes no memory.
+#[inline]
+pub fn ring_list_row(head: &Head, member: Option<i64>) -> Row {
+    match head.kind {
+        Kind::MultiPolygon => part_row(head.depth + 1, Kind::Polygon, member),
+        _ => own_row(head),
+    }
+}

@@ -1,0 +1,153 @@
+//! The items of a body: coordinates, and counts of points and of rings.
+
+use crate::blob_reason::BlobReason;
+use crate::engine::Engine;
+use crate::next_item::NextItem;
+use crate::span_notes::SpanNotes;
+use crate::stop::Stop;
+use twkb_body::{line_row, push_row, put_point, ring_list_row};
+use twkb_flat::{Flat, Row};
+use twkb_front::{moved_x, moved_y};
+use twkb_num::unzigzag;
+use twkb_points::Pt;
+
+impl Engine {
+    // Takes an x. Refused if it leads out of range.
+    #[inline(always)]
+    pub(crate) fn x(&mut self, number: u64, width: u64) -> Result<bool, Stop> {
+        let Some(position) = moved_x(self.position, unzigzag(number)) else {
+            return Err(Stop::Refused(BlobReason::CoordinateRange));
+        };
+        self.bytes += width;
+        self.position = position;
+        self.next = NextItem::Y;
+        Ok(false)
+    }
+
+    // Takes a y. Refused if it leads out of range. The point takes memory.
+    #[inline(always)]
+    pub(crate) fn y<S: SpanNotes>(
+        &mut self,
+        flat: &mut Flat,
+        spans: &mut S,
+        number: u64,
+        width: u64,
+    ) -> Result<bool, Stop> {
+        let Some(position) = moved_y(self.position, unzigzag(number)) else {
+            return Err(Stop::Refused(BlobReason::CoordinateRange));
+        };
+        self.bytes += width;
+        self.position = position;
+        if self.points_left > 0 {
+            flat.add_point(position)?;
+            self.points_left -= 1;
+            self.next = NextItem::X;
+            return Ok(false);
+        }
+        self.last_point(flat, spans, position)
+    }
+
+    // Puts the last point of a list, or a point that is in none, and goes past the lists that end with it. It takes memory once the sizes
+    // are judged.
+    #[inline(never)]
+    pub(crate) fn last_point<S: SpanNotes>(
+        &mut self,
+        flat: &mut Flat,
+        spans: &mut S,
+        position: Pt,
+    ) -> Result<bool, Stop> {
+        let member = self.ids.first();
+        let ends = if self.ends_with_list() {
+            self.end_geometry(spans)?
+        } else {
+            self.end_list();
+            false
+        };
+        put_point(flat, &self.head, member, position)?;
+        Ok(ends)
+    }
+
+    // Takes the count of a line's or ring's points. Refused if these are too many. A row takes memory.
+    #[inline(always)]
+    pub(crate) fn point_count<S: SpanNotes>(
+        &mut self,
+        flat: &mut Flat,
+        spans: &mut S,
+        count: u64,
+        width: u64,
+    ) -> Result<bool, Stop> {
+        if let Some(reason) = self.too_many(0, count) {
+            return Err(Stop::Refused(reason));
+        }
+        self.bytes += width;
+        self.points += count;
+        let row = line_row(&self.head, self.ids.first());
+        if count == 0 {
+            return self.put_empty(flat, spans, row);
+        }
+        push_row(flat, row)?;
+        self.points_left = count - 1;
+        self.next = NextItem::X;
+        Ok(false)
+    }
+
+    // Takes the count of a polygon's rings. Refused if these are too many. A row takes memory.
+    #[inline(always)]
+    pub(crate) fn ring_count<S: SpanNotes>(
+        &mut self,
+        flat: &mut Flat,
+        spans: &mut S,
+        count: u64,
+        width: u64,
+    ) -> Result<bool, Stop> {
+        if let Some(reason) = self.too_many(count, 0) {
+            return Err(Stop::Refused(reason));
+        }
+        self.bytes += width;
+        self.nodes += count;
+        let row = ring_list_row(&self.head, self.ids.first());
+        if count == 0 {
+            return self.put_empty(flat, spans, row);
+        }
+        push_row(flat, row)?;
+        self.rings_left = count - 1;
+        self.next = NextItem::PointCount;
+        Ok(false)
+    }
+
+    // Puts the row of an empty list, and goes past the lists that end with it, or past the geometry.
+    fn put_empty<S: SpanNotes>(
+        &mut self,
+        flat: &mut Flat,
+        spans: &mut S,
+        row: Row,
+    ) -> Result<bool, Stop> {
+        if self.ends_with_list() {
+            let whole = self.end_geometry(spans)?;
+            push_row(flat, row)?;
+            return Ok(whole);
+        }
+        push_row(flat, row)?;
+        self.end_list();
+        Ok(false)
+    }
+
+    // Whether the body ends with the list of points that is open.
+    #[inline(always)]
+    fn ends_with_list(&self) -> bool {
+        self.rings_left == 0 && self.members_left == 0
+    }
+
+    // Goes past the end of a list of points, with which the body does not end: to the next ring, or to the next member.
+    #[inline(always)]
+    fn end_list(&mut self) {
+        if self.rings_left > 0 {
+            self.rings_left -= 1;
+            self.next = NextItem::PointCount;
+            return;
+        }
+        self.members_left = self.members_left.saturating_sub(1);
+        self.ids.advance();
+        self.next = NextItem::first_of(self.head.kind);
+    }
+}

@@ -1,0 +1,193 @@
+//! The three ways in: a held number that further bytes complete, an item that is complete at the start of the bytes, and points of a list
+//! many at once.
+
+use crate::blob_reason::BlobReason;
+use crate::engine::Engine;
+use crate::next_item::NextItem;
+use crate::span_notes::SpanNotes;
+use crate::stop::Stop;
+use std::alloc::AllocError;
+use twkb_body::{Taken, take_members, take_row};
+use twkb_flat::Flat;
+use twkb_front::{front_number, front_point};
+use twkb_num::Step;
+use twkb_tree::Kind;
+
+impl Engine {
+    /// Takes a byte, and returns whether the blob ends with it. It takes memory as `feed` does.
+    #[inline(always)]
+    pub fn take_byte<S: SpanNotes>(
+        &mut self,
+        flat: &mut Flat,
+        spans: &mut S,
+        byte: u8,
+    ) -> Result<bool, Stop> {
+        if self.next.is_byte() {
+            return self.take(flat, spans, u64::from(byte), 1);
+        }
+        let width = self.held.len() as u64 + 1;
+        match self.held.step(byte) {
+            Step::More => Ok(false),
+            Step::Done { value, .. } => self.take(flat, spans, value, width),
+            Step::TooLong | Step::BadUnit => Err(Stop::Refused(BlobReason::BadVarint)),
+        }
+    }
+
+    // The number of the next item and how many bytes it has, if it is complete.
+    #[inline(always)]
+    fn front_item(&self, rest: &[u8]) -> Option<(u64, usize)> {
+        if self.next.is_byte() {
+            return Some((u64::from(rest[0]), 1));
+        }
+        front_number(rest)
+    }
+
+    // Takes the next item, or a byte of it if it is not complete; returns how many bytes were taken, and whether the blob ends with them.
+    #[inline(always)]
+    fn take_item<S: SpanNotes>(
+        &mut self,
+        flat: &mut Flat,
+        spans: &mut S,
+        rest: &[u8],
+    ) -> Result<(usize, bool), Stop> {
+        if self.held.len() == 0 {
+            if let Some((number, width)) = self.front_item(rest) {
+                let ends = self.take(flat, spans, number, width as u64)?;
+                return Ok((width, ends));
+            }
+        }
+        let ends = self.take_byte(flat, spans, rest[0])?;
+        Ok((1, ends))
+    }
+
+    // Takes points of a list, or members of a multipoint, many at once, but not the last; else one point; returns how many bytes were taken,
+    // or 0, and whether the blob ends with them.
+    #[inline(always)]
+    fn take_points<S: SpanNotes>(
+        &mut self,
+        flat: &mut Flat,
+        spans: &mut S,
+        rest: &[u8],
+    ) -> Result<(usize, bool), Stop> {
+        if self.points_left > 0 {
+            return Ok((self.take_list(flat, rest)?, false));
+        }
+        if self.members_left > 0 {
+            let used = self.take_members(flat, rest)?;
+            if used > 0 {
+                return Ok((used, false));
+            }
+        }
+        let Some((position, used)) = front_point(self.position, rest) else {
+            return Ok((0, false));
+        };
+        self.bytes += used as u64;
+        self.position = position;
+        let ends = self.last_point(flat, spans, position)?;
+        Ok((used, ends))
+    }
+
+    // Takes points of the open list, but not its last, and returns how many bytes they had. They take memory. A frame of its own, for the sake
+    // of its callers' registers.
+    #[inline(never)]
+    fn take_list(&mut self, flat: &mut Flat, rest: &[u8]) -> Result<usize, AllocError> {
+        if !flat.takes_points(self.points_left) {
+            return Ok(0);
+        }
+        let (taken, left) = take_row(flat, self.position, rest, self.points_left)?;
+        self.points_left = left;
+        self.moved(taken)
+    }
+
+    // Takes members of a multipoint after its first, but not its last, and returns how many bytes they had. They take memory. A frame of its
+    // own, as `take_list`.
+    #[inline(never)]
+    fn take_members(&mut self, flat: &mut Flat, rest: &[u8]) -> Result<usize, AllocError> {
+        let depth = self.head.depth + 1;
+        let most = self.members_left;
+        if self.head.kind != Kind::MultiPoint
+            || !flat.takes_members(depth, self.ids.has_ids(), most)
+        {
+            return Ok(0);
+        }
+        let (taken, left) = take_members(flat, &mut self.ids, depth, self.position, rest, most)?;
+        self.members_left = left;
+        self.moved(taken)
+    }
+
+    // Stands after points that were taken; returns how many bytes they had.
+    #[inline(always)]
+    fn moved(&mut self, taken: Taken) -> Result<usize, AllocError> {
+        self.bytes += taken.used as u64;
+        self.position = taken.position;
+        Ok(taken.used)
+    }
+
+    // Takes ids, but not the last, and returns how many bytes they had. They take memory.
+    #[inline(never)]
+    fn take_ids(&mut self, rest: &[u8]) -> Result<usize, AllocError> {
+        let used = self.ids.take(rest, self.members_left)?;
+        self.bytes += used as u64;
+        Ok(used)
+    }
+
+    // Takes the next bytes of a piece, one at least; returns how many, and whether the blob ends with them.
+    #[inline(always)]
+    fn take_some<S: SpanNotes>(
+        &mut self,
+        flat: &mut Flat,
+        spans: &mut S,
+        rest: &[u8],
+    ) -> Result<(usize, bool), Stop> {
+        if self.held.len() == 0 {
+            let taken = match self.next {
+                NextItem::TypeByte => (self.take_header(spans, rest)?, false),
+                NextItem::Id => (self.take_ids(rest)?, false),
+                NextItem::X => self.take_points(flat, spans, rest)?,
+                _ => (0, false),
+            };
+            if taken.0 > 0 {
+                return Ok(taken);
+            }
+        }
+        self.take_item(flat, spans, rest)
+    }
+
+    // Takes bytes as `feed` does, item by item.
+    #[inline(never)]
+    fn feed_items<S: SpanNotes>(
+        &mut self,
+        flat: &mut Flat,
+        spans: &mut S,
+        piece: &[u8],
+    ) -> Result<(usize, bool), Stop> {
+        let mut used = 0;
+        while used < piece.len() {
+            let (count, ends) = self.take_some(flat, spans, &piece[used..])?;
+            used += count;
+            if ends {
+                return Ok((used, true));
+            }
+        }
+        Ok((used, false))
+    }
+
+    /// Takes bytes up to the end of a blob, else all of them; returns how many, and whether a blob ends with them. The form has no rows when
+    /// a blob begins, and then those that were read of it; the rows of a blob that ended stay in it, and the next call needs it cleared. A
+    /// row, a point, an id, an open collection and a span take memory.
+    #[inline(always)]
+    pub fn feed<S: SpanNotes>(
+        &mut self,
+        flat: &mut Flat,
+        spans: &mut S,
+        piece: &[u8],
+    ) -> Result<(usize, bool), Stop> {
+        if self.is_between() {
+            let used = self.take_root_point(flat, spans, piece)?;
+            if used > 0 {
+                return Ok((used, true));
+            }
+        }
+        self.feed_items(flat, spans, piece)
+    }
+}

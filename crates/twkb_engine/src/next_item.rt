@@ -1,0 +1,52 @@
+//! The item that comes next.
+
+use twkb_tree::Kind;
+
+// The item that comes next (TWKB, in the order of a geometry's bytes).
+#[derive(Clone, Copy, Debug, PartialEq, Eq)]
+pub(crate) enum NextItem {
+    // A type byte: a blob begins, or a member of a collection.
+    TypeByte,
+    // The metadata byte after it.
+    MetadataByte,
+    // The extended dimensions byte.
+    ExtendedByte,
+    // The size.
+    Size,
+    // A number of the box, with so many after it.
+    BoxNumber { left: u8 },
+    // The count of members of a multi-geometry or a collection.
+    MemberCount,
+    // An id of a member.
+    Id,
+    // The first coordinate of a point.
+    X,
+    // The second coordinate of a point.
+    Y,
+    // The count of a line's or ring's points.
+    PointCount,
+    // The count of a polygon's rings.
+    RingCount,
+}
+
+impl NextItem {
+    // Whether it is a byte, and no number.
+    #[inline(always)]
+    pub(crate) fn is_byte(self) -> bool {
+        matches!(
+            self,
+            NextItem::TypeByte | NextItem::MetadataByte | NextItem::ExtendedByte
+        )
+    }
+
+    // The first item of a body of this kind, or of a member of a multi-geometry of this kind; of a collection's member, its type byte.
+    #[inline(always)]
+    pub(crate) fn first_of(kind: Kind) -> NextItem {
+        match kind {
+            Kind::Point | Kind::MultiPoint => NextItem::X,
+            Kind::Linestring | Kind::MultiLinestring | Kind::Ring => NextItem::PointCount,
+            Kind::Polygon | Kind::MultiPolygon => NextItem::RingCount,
+            Kind::Collection => NextItem::TypeByte,
+        }
+    }
+}

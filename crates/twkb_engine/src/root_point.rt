@@ -1,0 +1,56 @@
+//! A blob that is a single point, complete at the start of the bytes.
+
+use crate::engine::Engine;
+use crate::span_notes::SpanNotes;
+use std::alloc::AllocError;
+use twkb_flat::Flat;
+use twkb_front::{SIZED, Whole, whole_point};
+use twkb_grammar::Span;
+use twkb_header::TypeByte;
+use twkb_tree::Kind;
+
+// A point at the start of the bytes with its header, if it has the size that this declares, if any.
+#[inline(always)]
+fn exact_point(bytes: &[u8]) -> Option<Whole> {
+    let point = whole_point(bytes)?;
+    let Some(size) = point.size else {
+        return Some(point);
+    };
+    if size != (point.used - SIZED) as u64 {
+        return None;
+    }
+    Some(point)
+}
+
+impl Engine {
+    // Takes a blob that is a single point, if all of it is complete, it has no optional part but a size of one byte, and that is exact; returns how many bytes it has,
+    // or 0, and then it changes nothing. The row and a span take memory. A frame of its own, for the sake of its callers' registers.
+    #[inline(never)]
+    pub(crate) fn take_root_point<S: SpanNotes>(
+        &mut self,
+        flat: &mut Flat,
+        spans: &mut S,
+        piece: &[u8],
+    ) -> Result<usize, AllocError> {
+        if self.limits.points() == 0 {
+            return Ok(0);
+        }
+        let Some(point) = exact_point(piece) else {
+            return Ok(0);
+        };
+        let used = point.used;
+        let precision = TypeByte::from_byte(piece[0]).precision();
+        spans.put(Span {
+            level: 0,
+            offset: self.start,
+            kind: Kind::Point,
+            precision,
+            metadata: piece[1],
+            length: used as u64,
+            points: 1,
+        })?;
+        flat.begin_point(precision, point.to)?;
+        self.start += used as u64;
+        Ok(used)
+    }
+}
