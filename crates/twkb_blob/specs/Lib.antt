@@ -4,3 +4,4 @@ pub mod Readers
 pub mod Located
 pub mod Through
 pub mod Spanned
+pub mod Feeding

@@ -12,20 +12,13 @@ use Rattle.twkb_io.specs.declared.input.Input.{Input}
 use Rattle.twkb_io.specs.declared.input.InFault.TheVariants as stopped
 use Rattle.twkb_io.specs.declared.input.InFault.{InFault}
 use Rattle.twkb_io.specs.Inputs.{given, input_tap, rest_of, is_spent as input_spent}
-use Rattle.twkb_engine.specs.Standing.{StandsAt, offset_in}
 use Rattle.twkb_engine.specs.Stops.{reason_of}
 use Rattle.twkb_outline.specs.Parts.{PartIn}
-use Rattle.twkb_engine.specs.declared.engine.Engine.{Engine}
-use Rattle.twkb_engine.specs.declared.stop.Stop.TheVariants.{Memory, Refused}
 use Rattle.twkb_blob.specs.declared.fault.BlobFault.{BlobFault}
 use Rattle.twkb_blob.specs.declared.fault.BlobFault.TheVariants as fault
 use Rattle.twkb_blob.specs.declared.reader.Reader.{Reader}
-use Rattle.twkb_blob.specs.declared.state.State.{State}
-use Rattle.twkb_blob.specs.declared.state.State.TheVariants as state
-use Rattle.twkb_blob.specs.declared.reading.Fed.{Fed}
-use Rattle.twkb_blob.specs.declared.reading.Fed.TheVariants as piece
-use Rattle.twkb_blob.specs.declared.reading.Halt.{Halt}
-use Rattle.twkb_blob.specs.declared.reading.Halt.TheVariants as halt
+use Rattle.twkb_blob.specs.declared.reader.State.{State}
+use Rattle.twkb_blob.specs.declared.reader.State.TheVariants as state
 
 -- its input
 abbrev pub reader_input : {R : Type 0} {read : Ghosts R} → Reader R read → Input R read
@@ -109,21 +102,6 @@ pub record Makes {R : Type 0} {read : Ghosts R} (limits : Allowance) (bs : List 
 abbrev pub PartAhead : {R : Type 0} {read : Ghosts R} → Allowance → List ℕ → Input R read → Type 0
 PartAhead limits bs input = IfSome (rest_of input) (λ rest. PartIn limits bs rest)
 
--- what the held bytes made that an engine took, by whether a geometry ends in them
-abbrev pub fed_as : Bool → Fed
-fed_as true = piece.Made
-fed_as false = piece.More
-
--- Nothing was made: there are no bytes; or the input gave none; or there was no memory behind a part that ends in what is known of the
--- rest; or with that they have a first fault.
-abbrev pub IsHalted : {R : Type 0} {read : Ghosts R} → Allowance → List ℕ → Input R read → Input R read → Result Fed Halt → List Row → Engine → Type 0
-IsHalted limits bs old new (Ok piece.More) rs d = ⊥
-IsHalted limits bs old new (Ok piece.Made) rs d = ⊥
-IsHalted limits bs old new (Ok piece.End) rs d = IsAtEnd (rest_of old) × Left old new [] × StandsAt bs rs d
-IsHalted limits bs old new (Err (halt.Device why)) rs d = Stops why old new × StandsAt bs rs d
-IsHalted limits bs old new (Err (halt.Engine Memory)) rs d = PartAhead limits bs old
-IsHalted limits bs old new (Err (halt.Engine (Refused r))) rs d = IfSome (rest_of old) (λ rest. FirstFault limits (bs ++ rest) (offset_in d) (reason_of r))
-
 -- The known bytes have this first fault; the offset counts from where the input began to give out bytes.
 pub record RefusedKnown (limits : Allowance) (before : ℕ) (rest : List ℕ) (offset : ℕ) (reason : Reason) : Type 0 where
   pub within : ℕ
@@ -153,12 +131,18 @@ IsTreeOf (Ok true) rs (Err why) = why ≡ fault.Memory
 IsTreeOf (Ok false) rs answer = answer ≡ Ok None
 IsTreeOf (Err why) rs answer = answer ≡ Err why
 
--- whether a piece was missing because the reader failed
-abbrev pub halted_by_read : Result Fed Halt → Bool
-halted_by_read (Err (halt.Device stopped.Read)) = true
-halted_by_read _ = false
-
 -- whether a call was answered by a failed read
 abbrev pub failed_by_read : {A : Type 0} → Result A BlobFault → Bool
 failed_by_read (Err (fault.Device stopped.Read)) = true
 failed_by_read _ = false
+
+-- whether a reader is to read, by its state
+abbrev pub ready_at : State → Result Bool BlobFault
+ready_at state.Ready = Ok true
+ready_at state.Ended = Ok false
+ready_at state.Spent = Err fault.Spent
+
+-- an answer that gives a tree, as one that may give one
+abbrev pub some_tree : Result Tree BlobFault → Result (Option Tree) BlobFault
+some_tree (Ok g) = Ok (Some g)
+some_tree (Err why) = Err why

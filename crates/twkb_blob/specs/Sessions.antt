@@ -6,7 +6,9 @@ use Rattle.twkb_tree.specs.Limits.{Allowance}
 use Rattle.twkb_grammar.specs.Roles.{Role, Header, End, Item}
 use Rattle.twkb_grammar.specs.Blob.{Stream}
 use Rattle.twkb_grammar.specs.Fault.{StreamFault, Truncated}
-use Rattle.twkb_engine.specs.Standing.{StandsAt, allowance_of, held_in, offset_in, open_in}
+use Rattle.twkb_engine.specs.State.{allowance_of}
+use Rattle.twkb_engine.specs.Notes.{open_in}
+use Rattle.twkb_engine.specs.Standing.{StandsAt, held_in, place_in}
 use Rattle.twkb_engine.specs.Stops.{reason_of}
 use Rattle.twkb_outline.specs.Parts.{PartIn}
 use Rattle.twkb_io.specs.declared.input.InFault.TheVariants.{TooLong}
@@ -48,7 +50,7 @@ pub record Stands (bytes : List ℕ) (gs : List Tree) (s : Session) : Type 0 whe
   pub few : length bytes ≤ 2 ^ 62
   pub blobs : Stream (session_limits s) front gs
   pub begun : StandsAt rest (begun_rows s) s.engine
-  pub start : s.start ≡ length front
+  pub start : s.engine.start ≡ length front
   pub live : s.spent ≡ false
 
 -- the bytes are blobs of these geometries, or these and then a blob that they end in
@@ -110,7 +112,7 @@ FedFlat bytes gs piece (Err why) s = FedSession bytes gs piece (Err why) s
 -- what a piece of one byte is answered, where an engine answered it
 abbrev pub byte_answer : Session → Result Bool Stop → Result (ℕ × Bool) BlobFault
 byte_answer s (Ok ended) = Ok (1, ended)
-byte_answer s (Err stop) = Err (fault_of (s.start + offset_in s.engine) stop)
+byte_answer s (Err stop) = Err (fault_of (place_in s.engine) stop)
 
 -- what a call answers that tells how many bytes it took, where it is told beside whether a geometry ended
 abbrev pub with_end : Bool → Result ℕ BlobFault → Result (ℕ × Bool) BlobFault

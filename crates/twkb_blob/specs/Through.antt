@@ -12,13 +12,13 @@ use Rattle.twkb_io.specs.declared.input.InFault.{InFault}
 use Rattle.twkb_io.specs.declared.input.InFault.TheVariants as stopped
 use Rattle.twkb_io.specs.Inputs.{given, rest_of, is_spent as input_spent}
 use Rattle.twkb_engine.specs.Stops.{reason_of}
-use Rattle.twkb_blob.specs.Readers.{Left, IsFull, told_by, is_spent, has_ended}
+use Rattle.twkb_blob.specs.Readers.{Left, IsFull, told_by, is_spent, has_ended, reader_input, ready_at}
+use Rattle.twkb_blob.specs.Spanned.{NotesEnd}
 use Rattle.twkb_blob.specs.Sessions.{AreBegun, PartAt, Stands, session_limits, session_rows}
 use Rattle.twkb_blob.specs.declared.fault.BlobFault.{BlobFault}
 use Rattle.twkb_blob.specs.declared.fault.BlobFault.TheVariants as fault
 use Rattle.twkb_blob.specs.declared.reader.Reader.{Reader}
-use Rattle.twkb_blob.specs.declared.reading.Fed.{Fed}
-use Rattle.twkb_blob.specs.declared.reading.Fed.TheVariants as piece
+use Rattle.twkb_grammar.specs.Noting.{Notes}
 use Rattle.twkb_blob.specs.declared.session.Session.{Session}
 
 -- A session of these limits stands between two blobs, behind as many bytes as the input gave out.
@@ -44,13 +44,6 @@ pub record GoesOn {R : Type 0} {read : Ghosts R} (limits : Allowance) (bytes : L
   pub made : session_rows s ≡ rows 0 geometry
   pub unspent : input_spent new ≡ false
 
--- Bytes left the input, and the session stands for them behind the bytes before.
-pub record FedSoFar {R : Type 0} {read : Ghosts R} (bytes : List ℕ) (gs : List Tree) (old new : Input R read) (s : Session) : Type 0 where
-  pub more : List ℕ
-  pub left : Left old new more
-  pub stands : Stands (bytes ++ more) gs s
-  pub live : input_spent new ≡ true → input_spent old ≡ true
-
 -- All bytes left the input, and with the bytes before they are a stream.
 pub record EndsAll {R : Type 0} {read : Ghosts R} (limits : Allowance) (bytes : List ℕ) (gs : List Tree) (old new : Input R read) : Type 0 where
   pub more : List ℕ
@@ -63,12 +56,6 @@ abbrev pub HasNone : {R : Type 0} {read : Ghosts R} → InFault → Input R read
 HasNone stopped.Read old new = rest_of new ≡ told_by new
 HasNone stopped.TooLong old new = IsFull old new
 HasNone stopped.Spent old new = input_spent old ≡ true
-
--- It gave none, and lost none, and the session stands as it did.
-pub record HaltsHere {R : Type 0} {read : Ghosts R} (bytes : List ℕ) (gs : List Tree) (why : InFault) (old new : Input R read) (s : Session) : Type 0 where
-  pub left : Left old new []
-  pub none : HasNone why old new
-  pub stands : Stands bytes gs s
 
 -- The input gave no byte behind some, and with the bytes before these are whole blobs, or cut inside a further one.
 pub record HaltsWithin {R : Type 0} {read : Ghosts R} (limits : Allowance) (bytes : List ℕ) (gs : List Tree) (why : InFault) (old new : Input R read) : Type 0 where
@@ -91,10 +78,10 @@ IsThrough limits bytes gs old new (Err (fault.Device why)) s = Halts limits byte
 IsThrough limits bytes gs old new (Err fault.Spent) s = ⊥
 IsThrough limits bytes gs old new (Err (fault.At offset reason)) s = IfSome (rest_of old) (λ rest. StreamFault limits (bytes ++ rest) gs offset (reason_of reason))
 
--- the same, of the held bytes alone
-abbrev pub IsHanded : {R : Type 0} {read : Ghosts R} → Allowance → List ℕ → List Tree → Input R read → Input R read → Result Fed BlobFault → Session → Type 0
-IsHanded limits bytes gs old new (Ok piece.More) s = FedSoFar bytes gs old new s
-IsHanded limits bytes gs old new (Ok piece.Made) s = GoesOn limits bytes gs old new s
-IsHanded limits bytes gs old new (Ok piece.End) s = IsAtEnd (rest_of old) × Left old new [] × Stands bytes gs s
-IsHanded limits bytes gs old new (Err (fault.Device why)) s = HaltsHere bytes gs why old new s ⊎ ((why ≡ stopped.TooLong) × (given old < length bytes))
-IsHanded limits bytes gs old new (Err why) s = IsThrough limits bytes gs old new (Err why) s
+-- What a reader answers that reads a blob through a session: it is finished, if there is none, and then the reader reads no more.
+pub record ReadsThrough {S : Type 0} (holds : S → Notes → Type 0) {R : Type 0} {read : Ghosts R} (old new : Reader R read) (s t : Session) (answer : Result Bool BlobFault) (w v : S) : Type 0 where
+  pub through : (bytes : List ℕ) (gs : List Tree) → Stands bytes gs s → IfGoingOn old (IsThrough (session_limits s) bytes gs (reader_input old) (reader_input new) answer t)
+  pub noted : answer ≡ Ok true → NotesEnd holds (reader_input old) (reader_input new) s t w v
+  pub limits : session_limits t ≡ session_limits s
+  pub cleared : (answer ≡ Ok true) ⊎ (session_rows t ≡ [])
+  pub state : (ready_at old.state ≡ Ok true) ⊎ (answer ≡ ready_at old.state)

@@ -1,4 +1,12 @@
 //! A blob that is read from the held bytes of an input, or from a piece of a stream.
+ghost use Rattle.std.specs.Prelude.{◌≡◌, ◌+◌, ◌<◌, ◌≤◌, ◌^◌, [], ℕ, List, true, false, is_ok, Ok, length, IfOk, IfErr, OnErr};
+ghost use Rattle.twkb_tree.specs.Rows.{Row};
+ghost use Rattle.twkb_io.specs.Taps.{count_failure};
+ghost use Rattle.twkb_io.specs.Inputs.{input_failures, input_tap};
+ghost use Rattle.twkb_engine.specs.State.{allowance_of};
+ghost use Rattle.twkb_engine.specs.Standing.{StandsAt, IsAlive, IsEnd, offset_in, place_in};
+ghost use Rattle.twkb_blob.specs.Readers.{failed_by_read};
+ghost use Rattle.twkb_blob.specs.Feeding.{FedPiece, ReadsBlob, ends_at};
 
 use crate::fault::{BlobFault, fault_at};
 use std::io::Read;
@@ -8,7 +16,12 @@ use twkb_io::{InFault, Input, MAX_BYTES};
 
 // How many bytes of the piece a stream may have after so many: all, or those before the most that it may have; none is refused.
 #[inline(always)]
-fn room_in(taken: u64, piece: &[u8]) -> Result<usize, BlobFault> {
+fn room_in(taken: u64, piece: &[u8]) -> Result<usize, BlobFault>
+    ensures fits { IfOk result (λ count. (taken + count ≤ 2 ^ 62) × (count ≤ length piece.now)) }
+    ensures full { IfOk result (λ count. count < length piece.now → taken + count ≡ 2 ^ 62) }
+    ensures past { OnErr result (2 ^ 62 < taken) }
+    ensures fault { IfErr result (λ why. why ≡ BlobFault.Device InFault.TooLong) }
+{
     let Some(room) = MAX_BYTES.checked_sub(taken) else {
         return Err(BlobFault::Device(InFault::TooLong));
     };
@@ -23,7 +36,14 @@ pub(crate) fn feed_piece<S: SpanNotes>(
     flat: &mut Flat,
     spans: &mut S,
     piece: &[u8],
-) -> Result<(usize, bool), BlobFault> {
+) -> Result<(usize, bool), BlobFault>
+    requires counted { place_in engine.old ≤ 2 ^ 62 }
+    requires alive { IsAlive flat.old engine.old }
+    ensures limits { engine.new.limits ≡ engine.old.limits }
+    ensures within { IfOk result (λ fed. fed.0 ≤ length piece.now) }
+    ensures unread { failed_by_read result ≡ false }
+    ensures fed { FedPiece S.holds engine.old flat.old spans.old piece.now result engine.new flat.new spans.new }
+{
     let taken = engine.offset() + engine.held() as u64;
     let count = room_in(taken, piece)?;
     match engine.feed(flat, spans, &piece[..count]) {
@@ -38,7 +58,10 @@ pub(crate) fn feed_piece<S: SpanNotes>(
 }
 
 // What the end of a stream is to an engine: no blob is open, or one is cut.
-pub(crate) fn at_end(engine: &Engine) -> Result<(), BlobFault> {
+pub(crate) fn at_end(engine: &Engine) -> Result<(), BlobFault>
+    ensures { result ≡ ends_at engine.now }
+    ensures end { (bs : List ℕ) (rs : List Row) → StandsAt bs rs engine.now → IsEnd (allowance_of engine.now) bs (offset_in engine.now) (is_ok result) }
+{
     if engine.is_between() {
         return Ok(());
     }
@@ -55,7 +78,14 @@ pub(crate) fn read_blob<R: Read, S: SpanNotes>(
     engine: &mut Engine,
     flat: &mut Flat,
     spans: &mut S,
-) -> Result<bool, BlobFault> {
+) -> Result<bool, BlobFault>
+    requires counted { place_in engine.old ≤ 2 ^ 62 }
+    requires alive { IsAlive flat.old engine.old }
+    ensures same_tap { (input_tap input.new).ghost_name ≡ (input_tap input.old).ghost_name }
+    ensures limits { engine.new.limits ≡ engine.old.limits }
+    ensures failures { input_failures input.new ≡ count_failure (failed_by_read result) (input_failures input.old) }
+    ensures read { ReadsBlob S.holds engine.old flat.old spans.old input.old input.new result engine.new flat.new spans.new }
+{
     loop {
         if let Err(fault) = input.fill() {
             return Err(BlobFault::Device(fault));

@@ -1,6 +1,9 @@
 //! The spans of a blob that is read, as far as they are known.
+ghost use Rattle.std.specs.Prelude.{◌≡◌};
+ghost use Rattle.twkb_grammar.specs.Noting.{no_notes};
 
 use std::alloc::{AllocError, Global};
+use std::marker::Model;
 use twkb_engine::SpanNotes;
 use twkb_grammar::Span;
 use twkb_header::TypeByte;
@@ -12,9 +15,20 @@ pub(crate) struct OpenSpans {
     open: Vec<usize>,
 }
 
+impl Model for OpenSpans {
+    ghost use Rattle.std.specs.Prelude.{reverse};
+    ghost use Rattle.twkb_grammar.specs.Noting.{Notes};
+
+    ghost Value = { Notes };
+
+    ghost view = { λ o. record { spans = o.spans.items; begun = reverse o.open.items } };
+}
+
 impl OpenSpans {
     /// Before the first byte. Takes no memory.
-    pub fn new(alloc: Global) -> OpenSpans {
+    pub fn new(alloc: Global) -> OpenSpans
+        ensures { result ≡ no_notes }
+    {
         OpenSpans {
             spans: Vec::new(alloc),
             open: Vec::new(alloc),
@@ -22,29 +36,41 @@ impl OpenSpans {
     }
 
     /// These spans, of geometries that have ended. Takes no memory.
-    pub fn from_spans(spans: Vec<Span>) -> OpenSpans {
+    pub fn from_spans(spans: Vec<Span>) -> OpenSpans
+        ensures { result.spans ≡ spans.items }
+    {
         let open = Vec::new(*spans.allocator());
         OpenSpans { spans, open }
     }
 
     /// Forgets the spans, and keeps their room for others. Takes no memory.
-    pub fn restart(&mut self) {
+    pub fn restart(&mut self)
+        ensures { self.new ≡ no_notes }
+    {
         self.spans.clear();
         self.open.clear();
     }
 
     /// The spans. Takes no memory.
-    pub fn spans(&self) -> &[Span] {
+    pub fn spans(&self) -> &[Span]
+        ensures { result.now ≡ self.now.spans }
+    {
         self.spans.as_slice()
     }
 
     /// The spans. Takes no memory.
-    pub fn into_spans(self) -> Vec<Span> {
+    pub fn into_spans(self) -> Vec<Span>
+        ensures { result.items ≡ self.spans }
+    {
         self.spans
     }
 }
 
 impl SpanNotes for OpenSpans {
+    ghost use Rattle.std.specs.Prelude.{◌≡◌};
+
+    ghost holds = { λ o w. o ≡ w };
+
     #[inline(always)]
     fn begin(&mut self, offset: u64, points: u64, byte: TypeByte) -> Result<(), AllocError> {
         let level = self.open.len().min(u32::MAX as usize) as u32;

@@ -1,4 +1,12 @@
 //! A stream of blobs that comes in pieces.
+ghost use Rattle.std.specs.Prelude.{◌≡◌, ◌<◌, ◌≤◌, ◌^◌, ◌↔◌, ◌+◌, ◌⊎◌, ◌∷◌, [], if◌then◌else◌, List, ℕ, true, false, Ok, Err, None, is_err, length, IfOk, IfErr, IfSome};
+ghost use Rattle.twkb_tree.specs.Tree.{Tree};
+ghost use Rattle.twkb_tree.specs.Rows.{rows};
+ghost use Rattle.twkb_tree.specs.Limits.{IsValid, largest_limits};
+ghost use Rattle.twkb_io.specs.Taps.{count_failure};
+ghost use Rattle.twkb_io.specs.Inputs.{input_failures, input_tap};
+ghost use Rattle.twkb_engine.specs.Standing.{IsAlive, count_of};
+ghost use Rattle.twkb_blob.specs.Readers.{failed_by_read};
 
 use crate::fault::{BlobFault, fault_at};
 use crate::input_blobs::{at_end, feed_piece, read_blob};
@@ -19,23 +27,38 @@ pub struct Session {
     /// Whether the form still has the rows of the last geometry.
     is_whole: bool,
     spent: bool,
+    ghost taken_few: { engine.start + count_of engine ≤ 2 ^ 62 },
+    ghost alive: { spent ≡ false → IsAlive (if is_whole then [] else rows.flat) engine },
 }
 
 // What a feed answers where no geometry ends behind so many bytes. Made in a call of its own, it is written where it is wanted, with no copy.
 #[inline(always)]
-fn none_behind(used: usize) -> Result<(usize, Option<Geometry>), BlobFault> {
+fn none_behind(used: usize) -> Result<(usize, Option<Geometry>), BlobFault>
+    ensures { result ≡ Ok (used, None) }
+{
     Ok((used, None))
 }
 
 // The same of a fault.
 #[inline(always)]
-fn refused(fault: BlobFault) -> Result<(usize, Option<Geometry>), BlobFault> {
+fn refused(fault: BlobFault) -> Result<(usize, Option<Geometry>), BlobFault>
+    ensures { result ≡ Err fault }
+{
     Err(fault)
 }
 
 impl Session {
+    ghost use Rattle.twkb_blob.specs.Sessions.{Stands, FedFlat, FedSession, Finished, HeldOf, FramesOf, begun_rows, byte_answer, with_end, is_spent, session_limits, session_held, session_open, session_rows};
+    ghost use Rattle.twkb_blob.specs.Through.{IsThrough};
+    ghost use Rattle.twkb_blob.specs.Spanned.{NotesEnd};
+
     /// A session before the first byte. Takes no memory.
-    pub fn new(alloc: Global, limits: Limits) -> Session {
+    pub fn new(alloc: Global, limits: Limits) -> Session
+        ensures stands { Stands [] [] result }
+        ensures limits { session_limits result ≡ limits }
+        ensures fresh { is_spent result ≡ false }
+        ensures rows { session_rows result ≡ [] }
+    {
         Session {
             alloc,
             engine: Engine::new(alloc, limits, 0),
@@ -50,7 +73,12 @@ impl Session {
     /// Takes bytes of the piece up to the end of a geometry, else all of them, and answers how many. A stream has at most 2^62 bytes: what ends
     /// or is refused before comes first, and only then `TooLong`. After an `Err` each call answers `Spent`. It takes memory for what it keeps
     /// and for the geometry, and none for a count that it reads.
-    pub fn feed(&mut self, piece: &[u8]) -> Result<(usize, Option<Geometry>), BlobFault> {
+    pub fn feed(&mut self, piece: &[u8]) -> Result<(usize, Option<Geometry>), BlobFault>
+        ensures fed { (bytes : List ℕ) (gs : List Tree) → Stands bytes gs self.old → FedSession bytes gs piece.now result self.new }
+        ensures spent { (result ≡ Err BlobFault.Spent) ↔ (is_spent self.old ≡ true) }
+        ensures stays { is_spent self.new ≡ is_err result }
+        ensures limits { session_limits self.new ≡ session_limits self.old }
+    {
         let used = match self.feed_flat(piece) {
             Ok((used, true)) => used,
             Ok((used, false)) => return none_behind(used),
@@ -62,7 +90,13 @@ impl Session {
     // What a feed answers behind so many bytes with which a geometry ended. In the frame of `feed`, but with places of its own for what it
     // moves: those of `feed` would be cleared for each byte.
     #[inline(always)]
-    fn give_tree(&mut self, used: usize) -> Result<(usize, Option<Geometry>), BlobFault> {
+    fn give_tree(&mut self, used: usize) -> Result<(usize, Option<Geometry>), BlobFault>
+        requires live { self.old.spent ≡ false }
+        ensures fed { (bytes piece : List ℕ) (gs : List Tree) (was : Session) → Stands bytes gs was → session_limits self.old ≡ session_limits was → FedFlat bytes gs piece (Ok (used, true)) self.old → FedSession bytes gs piece result self.new }
+        ensures memory { IfErr result (λ fault. fault ≡ BlobFault.Memory) }
+        ensures stays { is_spent self.new ≡ is_err result }
+        ensures limits { session_limits self.new ≡ session_limits self.old }
+    {
         let Ok(found) = self.tree() else {
             self.give_up();
             return refused(BlobFault::Memory);
@@ -72,7 +106,11 @@ impl Session {
     }
 
     // The tree of the rows in the form, if there are any.
-    fn tree(&self) -> Result<Option<Geometry>, AllocError> {
+    fn tree(&self) -> Result<Option<Geometry>, AllocError>
+        ensures rows { IfOk result (λ found. IfSome found (λ g. rows 0 g ≡ session_rows self.now)) }
+        ensures valid { IfOk result (λ found. IfSome found (λ g. IsValid largest_limits g)) }
+        ensures none { result ≡ Ok None → session_rows self.now ≡ [] }
+    {
         if self.rows.flat.is_empty() {
             return Ok(None);
         }
@@ -83,7 +121,11 @@ impl Session {
     }
 
     // Has each further call answer `Spent`, and clears the form.
-    pub(crate) fn give_up(&mut self) {
+    pub(crate) fn give_up(&mut self)
+        ensures spent { self.new.spent ≡ true }
+        ensures engine { self.new.engine ≡ self.old.engine }
+        ensures rows { session_rows self.new ≡ [] }
+    {
         self.rows.flat.clear();
         self.spent = true;
     }
@@ -91,7 +133,14 @@ impl Session {
     /// Takes bytes as `feed` does, and answers how many, and whether a geometry ends behind them, whose rows `flat` then lends until the next
     /// call. Calls of it and of `feed` may be mixed. It takes memory for what it keeps, and none once that has room.
     #[inline(always)]
-    pub fn feed_flat(&mut self, piece: &[u8]) -> Result<(usize, bool), BlobFault> {
+    pub fn feed_flat(&mut self, piece: &[u8]) -> Result<(usize, bool), BlobFault>
+        ensures fed { (bytes : List ℕ) (gs : List Tree) → Stands bytes gs self.old → FedFlat bytes gs piece.now result self.new }
+        ensures within { IfOk result (λ fed. fed.0 ≤ length piece.now) }
+        ensures unread { failed_by_read result ≡ false }
+        ensures spent { (result ≡ Err BlobFault.Spent) ↔ (is_spent self.old ≡ true) }
+        ensures stays { is_spent self.new ≡ is_err result }
+        ensures limits { session_limits self.new ≡ session_limits self.old }
+    {
         match self.feed_apart(piece) {
             Ok(used) => Ok((used, self.is_whole)),
             Err(fault) => Err(fault),
@@ -101,7 +150,14 @@ impl Session {
     // Takes bytes as `feed_flat` does, and returns how many. A frame of its own, whose answer is one number: whether a geometry ended is read
     // off the session.
     #[inline(never)]
-    fn feed_apart(&mut self, piece: &[u8]) -> Result<usize, BlobFault> {
+    fn feed_apart(&mut self, piece: &[u8]) -> Result<usize, BlobFault>
+        ensures fed { (bytes : List ℕ) (gs : List Tree) → Stands bytes gs self.old → FedFlat bytes gs piece.now (with_end self.new.is_whole result) self.new }
+        ensures within { IfOk result (λ used. used ≤ length piece.now) }
+        ensures unread { failed_by_read result ≡ false }
+        ensures spent { (result ≡ Err BlobFault.Spent) ↔ (is_spent self.old ≡ true) }
+        ensures stays { is_spent self.new ≡ is_err result }
+        ensures limits { session_limits self.new ≡ session_limits self.old }
+    {
         if self.spent {
             return Err(BlobFault::Spent);
         }
@@ -122,7 +178,15 @@ impl Session {
 
     // Takes a piece of one byte, which needs neither a cut nor a loop. Returns whether a geometry ends with it.
     #[inline(always)]
-    fn feed_byte(&mut self, byte: u8) -> Result<bool, Stop> {
+    fn feed_byte(&mut self, byte: u8) -> Result<bool, Stop>
+        requires live { self.old.spent ≡ false }
+        requires begun { self.old.is_whole ≡ false }
+        requires room { count_of self.old.engine + self.old.engine.start < 2 ^ 62 }
+        ensures fed { (bytes : List ℕ) (gs : List Tree) → Stands bytes gs self.old → FedFlat bytes gs (byte ∷ []) (byte_answer self.new result) self.new }
+        ensures whole { IfOk result (λ ended. self.new.is_whole ≡ ended) }
+        ensures stays { is_spent self.new ≡ is_err result }
+        ensures limits { session_limits self.new ≡ session_limits self.old }
+    {
         match self.engine.take_byte(&mut self.rows.flat, &mut NoSpans, byte) {
             Ok(ends) => {
                 self.is_whole = ends;
@@ -142,7 +206,15 @@ impl Session {
         &mut self,
         input: &mut Input<'_, R>,
         spans: &mut S,
-    ) -> Result<bool, BlobFault> {
+    ) -> Result<bool, BlobFault>
+        ensures same_tap { (input_tap input.new).ghost_name ≡ (input_tap input.old).ghost_name }
+        ensures limits { session_limits self.new ≡ session_limits self.old }
+        ensures failures { input_failures input.new ≡ count_failure (failed_by_read result) (input_failures input.old) }
+        ensures through { (bytes : List ℕ) (gs : List Tree) → Stands bytes gs self.old → IsThrough (session_limits self.old) bytes gs input.old input.new result self.new }
+        ensures cleared { (result ≡ Ok true) ⊎ (session_rows self.new ≡ []) }
+        ensures finished { (result ≡ Ok true) ⊎ (is_spent self.new ≡ true) }
+        ensures noted { result ≡ Ok true → NotesEnd S.holds input.old input.new self.old self.new spans.old spans.new }
+    {
         if self.spent {
             self.give_up();
             return Err(BlobFault::Spent);
@@ -159,7 +231,13 @@ impl Session {
 
     // Clears the form if it still has the rows of the last geometry.
     #[inline(always)]
-    fn begin(&mut self) {
+    fn begin(&mut self)
+        ensures stands { (bytes : List ℕ) (gs : List Tree) → Stands bytes gs self.old → Stands bytes gs self.new }
+        ensures open { self.new.is_whole ≡ false }
+        ensures engine { self.new.engine ≡ self.old.engine }
+        ensures spent { self.new.spent ≡ self.old.spent }
+        ensures rows { session_rows self.new ≡ begun_rows self.old }
+    {
         if self.is_whole {
             self.rows.flat.clear();
             self.is_whole = false;
@@ -168,17 +246,27 @@ impl Session {
 
     /// The rows of the geometry that the last call gave; behind any other call, those of the geometry that is read, as far as they came. Takes
     /// no memory.
-    pub fn flat(&self) -> &Flat {
+    pub fn flat(&self) -> &Flat
+        ensures { result.now ≡ session_rows self.now }
+    {
         &self.rows.flat
     }
 
     /// The form that `flat` gives, whose rows give their points as slices. Takes no memory.
-    pub fn rows(&self) -> &Rows {
+    pub fn rows(&self) -> &Rows
+        ensures { result.now.flat ≡ session_rows self.now }
+    {
         &self.rows
     }
 
     /// The stream ends here: `Ok` between two blobs, else `Truncated`. Afterwards each call answers `Spent`. Takes no memory.
-    pub fn finish(&mut self) -> Result<(), BlobFault> {
+    pub fn finish(&mut self) -> Result<(), BlobFault>
+        ensures unread { failed_by_read result ≡ false }
+        ensures limits { session_limits self.new ≡ session_limits self.old }
+        ensures finished { (bytes : List ℕ) (gs : List Tree) → Stands bytes gs self.old → Finished (session_limits self.old) bytes gs result }
+        ensures spent { (result ≡ Err BlobFault.Spent) ↔ (is_spent self.old ≡ true) }
+        ensures stays { is_spent self.new ≡ true }
+    {
         if self.spent {
             return Err(BlobFault::Spent);
         }
@@ -187,12 +275,20 @@ impl Session {
     }
 
     /// Bytes that it holds of a number that is not whole, 0 to 9: those behind the last whole item of the bytes so far. Takes no memory.
-    pub fn held(&self) -> usize {
+    pub fn held(&self) -> usize
+        ensures held { (bytes : List ℕ) (gs : List Tree) → Stands bytes gs self.now → HeldOf (session_limits self.now) bytes gs result }
+        ensures state { result ≡ session_held self.now }
+        ensures few { result ≤ 9 }
+    {
         self.engine.held()
     }
 
     /// Geometries that are begun and not finished: the headers in the bytes so far, less the ends. Takes no memory.
-    pub fn frames(&self) -> usize {
+    pub fn frames(&self) -> usize
+        ensures open { (bytes : List ℕ) (gs : List Tree) → Stands bytes gs self.now → FramesOf (session_limits self.now) bytes gs result }
+        ensures state { result ≡ session_open self.now }
+        ensures few { (bytes : List ℕ) (gs : List Tree) → Stands bytes gs self.now → result ≤ (session_limits self.now).nest + 1 }
+    {
         self.engine.open_geometries()
     }
 }

@@ -1,7 +1,9 @@
 //! Geometries with the place and the header of each.
+ghost use Rattle.std.specs.Prelude.{◌≡◌, []};
 
 use crate::open_spans::OpenSpans;
 use std::alloc::Global;
+use std::marker::Model;
 use twkb_grammar::Span;
 use twkb_tree::Geometry;
 
@@ -11,9 +13,19 @@ pub struct Spans {
     pub(crate) notes: OpenSpans,
 }
 
+impl Model for Spans {
+    ghost use Rattle.std.specs.Prelude.{List};
+    ghost use Rattle.twkb_grammar.specs.declared.span.Span.{Span};
+
+    ghost Value = { List Span };
+
+    ghost view = { λ a. a.notes.spans };
+}
+
 impl Spans {
     /// No spans. Takes no memory.
     pub fn new(alloc: Global) -> Spans
+        ensures { result ≡ [] }
     {
         Spans {
             notes: OpenSpans::new(alloc),
@@ -22,12 +34,14 @@ impl Spans {
 
     /// Forgets all spans, and keeps their room for others. Takes no memory.
     pub fn clear(&mut self)
+        ensures { self.new ≡ [] }
     {
         self.notes.restart();
     }
 
     /// The list of these spans. Takes no memory.
     pub fn from_vec(items: Vec<Span>) -> Spans
+        ensures { result ≡ items.items }
     {
         Spans {
             notes: OpenSpans::from_spans(items),
@@ -36,12 +50,14 @@ impl Spans {
 
     /// The spans. Takes no memory.
     pub fn into_vec(self) -> Vec<Span>
+        ensures { result.items ≡ self }
     {
         self.notes.into_spans()
     }
 
     /// The spans. Takes no memory.
     pub fn as_slice(&self) -> &[Span]
+        ensures { result.now ≡ self.now }
     {
         self.notes.spans()
     }

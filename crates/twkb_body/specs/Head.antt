@@ -1,5 +1,5 @@
 -- The header that was read.
-use Rattle.std.specs.Prelude.{◌≡◌, ℕ, ℤ, Option}
+use Rattle.std.specs.Prelude.{◌≡◌, ℕ, ℤ, Option, ⊤, ⊥}
 use Rattle.twkb_tree.specs.declared.kind.Kind as row
 use Rattle.twkb_tree.specs.declared.kind.Kind.TheVariants as kinds
 use Rattle.twkb_grammar.specs.Machine as machine
@@ -31,6 +31,17 @@ many_of kinds.MultiPoint = ManyPoints
 many_of kinds.MultiLinestring = ManyLines
 many_of kinds.MultiPolygon = ManyPolygons
 many_of _ = ManyGeometries
+
+-- it is the kind of a type
+abbrev pub IsTyped : row.Kind → Type 0
+IsTyped kinds.Ring = ⊥
+IsTyped _ = ⊤
+
+-- it is the kind of a type that has a body of its own
+abbrev pub IsBodied : row.Kind → Type 0
+IsBodied kinds.Ring = ⊥
+IsBodied kinds.Collection = ⊥
+IsBodied _ = ⊤
 
 -- the header as the grammar has it
 abbrev pub head_of : Head → machine.Head

@@ -1,4 +1,6 @@
 //! A header, and the place of its geometry.
+ghost use Rattle.std.specs.Prelude.{◌+◌, ◌<◌, ◌^◌};
+ghost use Rattle.twkb_tree.specs.Tree.{IsPrecision};
 
 use twkb_tree::Kind;
 
@@ -20,6 +22,8 @@ pub struct Head {
     pub precision: i8,
     /// The metadata byte.
     pub metadata: u8,
+    ghost fits: { IsPrecision precision },
+    ghost shallow: { depth + 2 < 2 ^ 32 },
 }
 
 impl Head {

@@ -1,4 +1,10 @@
 //! Points of a list, and members of a multipoint, many at once.
+ghost use Rattle.std.specs.Prelude.{◌≡◌, ◌≤◌, ◌+◌, ◌^◌, length};
+ghost use Rattle.twkb_tree.specs.Rows.{row_points};
+ghost use Rattle.twkb_tree.specs.RowGrowth.{EndsInLine};
+ghost use Rattle.twkb_flat.specs.Members.{EndsInMember};
+ghost use Rattle.twkb_body.specs.Ids.{ids_of};
+ghost use Rattle.twkb_body.specs.Running.{TakesRow, TakesMembers};
 
 use crate::member_ids::MemberIds;
 use std::alloc::AllocError;
@@ -27,7 +33,11 @@ pub fn take_row(
     from: Pt,
     bytes: &[u8],
     most: u64,
-) -> Result<(Taken, u64), AllocError> {
+) -> Result<(Taken, u64), AllocError>
+    requires line { EndsInLine flat.old }
+    requires room { length (row_points flat.old) + most ≤ 2 ^ 24 }
+    ensures { TakesRow flat.old from bytes.now most result flat.new }
+{
     let mut used = 0;
     let mut position = from;
     let mut left = most;
@@ -63,7 +73,13 @@ pub fn take_members(
     from: Pt,
     bytes: &[u8],
     most: u64,
-) -> Result<(Taken, u64), AllocError> {
+) -> Result<(Taken, u64), AllocError>
+    requires member { EndsInMember depth ids.old.has_ids flat.old }
+    requires nodes { length flat.old + most ≤ 2 ^ 20 }
+    requires points { length (row_points flat.old) + most ≤ 2 ^ 24 }
+    ensures { TakesMembers flat.old (ids_of ids.old) depth from bytes.now most result (ids_of ids.new) flat.new }
+    ensures has { ids.new.has_ids ≡ ids.old.has_ids }
+{
     let mut used = 0;
     let mut position = from;
     let mut left = most;

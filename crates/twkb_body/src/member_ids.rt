@@ -1,4 +1,7 @@
 //! The ids of the members of a geometry.
+ghost use Rattle.std.specs.Prelude.{◌≡◌, ◌≤◌, ◌-◌, ◌++◌, ◌∷◌, [], if◌then◌else◌, true, Some, None, IfOk, OnOk, OnErr, take, length};
+ghost use Rattle.twkb_tree.specs.Rows.{first_id, other_ids};
+ghost use Rattle.twkb_body.specs.Running.{IdsRun, IdsStop};
 
 use std::alloc::{AllocError, Global};
 use twkb_front::front_number;
@@ -13,8 +16,12 @@ pub struct MemberIds {
 }
 
 impl MemberIds {
+    ghost use Rattle.twkb_body.specs.Ids.{ids_of, ids_read};
+
     /// No ids. Takes no memory.
-    pub fn new(alloc: Global) -> MemberIds {
+    pub fn new(alloc: Global) -> MemberIds
+        ensures none { ids_of result ≡ None }
+    {
         MemberIds {
             ids: Vec::new(alloc),
             has_ids: false,
@@ -23,20 +30,35 @@ impl MemberIds {
 
     /// Forgets all ids, and keeps their room; members have ids from now on, or none. Takes no memory.
     #[inline(always)]
-    pub fn restart(&mut self, has_ids: bool) {
+    pub fn restart(&mut self, has_ids: bool)
+        ensures read { ids_read self.new ≡ [] }
+        ensures ids { ids_of self.new ≡ (if has_ids then Some [] else None) }
+        ensures has { self.new.has_ids ≡ has_ids }
+    {
         self.ids.clear();
         self.has_ids = has_ids;
     }
 
     /// Appends the id of a further member. Takes memory; an `Err` changes nothing.
-    pub fn push(&mut self, id: i64) -> Result<(), AllocError> {
+    pub fn push(&mut self, id: i64) -> Result<(), AllocError>
+        ensures pushed { OnOk result (ids_read self.new ≡ ids_read self.old ++ id ∷ []) }
+        ensures same { OnErr result (self.new ≡ self.old) }
+        ensures has { self.new.has_ids ≡ self.old.has_ids }
+    {
         self.ids.push(id)?;
         Ok(())
     }
 
     /// Appends ids as far as they are complete, until there are so many, and returns how many bytes they had. They take memory.
     #[inline(always)]
-    pub fn take(&mut self, bytes: &[u8], most: u64) -> Result<usize, AllocError> {
+    pub fn take(&mut self, bytes: &[u8], most: u64) -> Result<usize, AllocError>
+        requires few { length (ids_read self.old) ≤ most }
+        ensures within { IfOk result (λ used. used ≤ length bytes.now) }
+        ensures run { IfOk result (λ used. IdsRun (ids_read self.old) (most - length (ids_read self.old)) (take used bytes.now) (ids_read self.new) (most - length (ids_read self.new))) }
+        ensures few { length (ids_read self.new) ≤ most }
+        ensures memory { OnErr result (IdsStop (ids_read self.old) (most - length (ids_read self.old)) bytes.now) }
+        ensures has { self.new.has_ids ≡ self.old.has_ids }
+    {
         let mut used = 0;
         while self.count() < most {
             let Some((number, width)) = front_number(&bytes[used..]) else {
@@ -50,24 +72,32 @@ impl MemberIds {
 
     /// The number of ids. Takes no memory.
     #[inline(always)]
-    pub fn count(&self) -> u64 {
+    pub fn count(&self) -> u64
+        ensures { result ≡ length (ids_read self.now) }
+    {
         self.ids.len() as u64
     }
 
     /// Whether members have ids. Takes no memory.
     #[inline(always)]
-    pub fn has_ids(&self) -> bool {
+    pub fn has_ids(&self) -> bool
+        ensures { result ≡ self.now.has_ids }
+    {
         self.has_ids
     }
 
     /// All ids were read: the first member begins. Takes no memory.
-    pub fn begin(&mut self) {
+    pub fn begin(&mut self)
+        ensures { self.old.has_ids ≡ true → ids_of self.new ≡ Some (ids_read self.old) }
+    {
         self.ids.reverse();
     }
 
     /// The id of the open member. Takes no memory.
     #[inline(always)]
-    pub fn first(&self) -> Option<i64> {
+    pub fn first(&self) -> Option<i64>
+        ensures { result ≡ first_id (ids_of self.now) }
+    {
         if !self.has_ids {
             return None;
         }
@@ -80,7 +110,10 @@ impl MemberIds {
 
     /// The next member begins. Takes no memory.
     #[inline(always)]
-    pub fn advance(&mut self) {
+    pub fn advance(&mut self)
+        ensures ids { ids_of self.new ≡ other_ids (ids_of self.old) }
+        ensures has { self.new.has_ids ≡ self.old.has_ids }
+    {
         // the id is that of the member that ended
         let _ended = self.ids.pop();
     }

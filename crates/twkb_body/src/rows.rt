@@ -1,4 +1,12 @@
 //! The rows of a geometry in a flat form.
+ghost use Rattle.std.specs.Prelude.{◌≡◌, ◌++◌, ◌∷◌, [], OnOk, OnErr};
+ghost use Rattle.twkb_tree.specs.Rows.{plain_row};
+ghost use Rattle.twkb_tree.specs.Limits.{largest_limits};
+ghost use Rattle.twkb_tree.specs.Accepted.{Continues};
+ghost use Rattle.twkb_flat.specs.Rows.{row_with};
+ghost use Rattle.twkb_outline.specs.Growing.{applied, point_change, list_row, own_of};
+ghost use Rattle.twkb_outline.specs.Admitting.{Admits};
+ghost use Rattle.twkb_body.specs.Head.{form_of, kind_of, IsTyped, IsBodied};
 
 use crate::head::Head;
 use std::alloc::AllocError;
@@ -9,13 +17,21 @@ use twkb_tree::Kind;
 /// Appends a row without points, which continues the rows. Takes memory; an `Err` changes nothing.
 // A frame of its own for the push of a row, which is large.
 #[inline(never)]
-pub fn push_row(flat: &mut Flat, row: Row) -> Result<(), AllocError> {
+pub fn push_row(flat: &mut Flat, row: Row) -> Result<(), AllocError>
+    requires { Continues largest_limits flat.old (row_with row []) }
+    ensures pushed { OnOk result (flat.new ≡ flat.old ++ row_with row [] ∷ []) }
+    ensures same { OnErr result (flat.new ≡ flat.old) }
+{
     flat.push(row, &[])
 }
 
 /// Appends a row with one point, which continues the rows. Takes memory; an `Err` changes nothing.
 #[inline(never)]
-pub fn push_point(flat: &mut Flat, row: Row, point: Pt) -> Result<(), AllocError> {
+pub fn push_point(flat: &mut Flat, row: Row, point: Pt) -> Result<(), AllocError>
+    requires { Continues largest_limits flat.old (row_with row (point ∷ [])) }
+    ensures pushed { OnOk result (flat.new ≡ flat.old ++ row_with row (point ∷ []) ∷ []) }
+    ensures same { OnErr result (flat.new ≡ flat.old) }
+{
     flat.push(row, &[point])
 }
 
@@ -27,7 +43,11 @@ pub fn put_point(
     head: &Head,
     member: Option<i64>,
     point: Pt,
-) -> Result<(), AllocError> {
+) -> Result<(), AllocError>
+    requires { Admits (point_change point head.now.depth head.now.id head.now.precision (form_of head.now.kind) member) flat.old }
+    ensures put { OnOk result (flat.new ≡ applied (point_change point head.now.depth head.now.id head.now.precision (form_of head.now.kind) member) flat.old) }
+    ensures same { OnErr result (flat.new ≡ flat.old) }
+{
     match head.kind {
         Kind::Point => push_point(flat, own_row(head), point),
         Kind::MultiPoint => push_point(flat, part_row(head.depth + 1, Kind::Point, member), point),
@@ -37,7 +57,10 @@ pub fn put_point(
 
 /// The row of the geometry itself, without points. Takes no memory.
 #[inline]
-pub fn own_row(head: &Head) -> Row {
+pub fn own_row(head: &Head) -> Row
+    requires { IsTyped head.now.kind }
+    ensures { row_with result [] ≡ own_of head.now.depth head.now.id (kind_of head.now.kind) head.now.precision }
+{
     Row {
         depth: head.depth,
         kind: head.kind,
@@ -47,7 +70,9 @@ pub fn own_row(head: &Head) -> Row {
 }
 
 // A row of a geometry's part.
-fn part_row(depth: u32, kind: Kind, id: Option<i64>) -> Row {
+fn part_row(depth: u32, kind: Kind, id: Option<i64>) -> Row
+    ensures { row_with result [] ≡ plain_row depth kind id [] }
+{
     Row {
         depth,
         kind,
@@ -58,7 +83,10 @@ fn part_row(depth: u32, kind: Kind, id: Option<i64>) -> Row {
 
 /// The row of a list of points that begins, in the open member with this id. Takes no memory.
 #[inline]
-pub fn line_row(head: &Head, member: Option<i64>) -> Row {
+pub fn line_row(head: &Head, member: Option<i64>) -> Row
+    requires { IsBodied head.now.kind }
+    ensures { row_with result [] ≡ list_row head.now.depth head.now.id head.now.precision (form_of head.now.kind) member 0 }
+{
     match head.kind {
         Kind::Polygon => part_row(head.depth + 1, Kind::Ring, None),
         Kind::MultiLinestring => part_row(head.depth + 1, Kind::Linestring, member),
@@ -69,7 +97,10 @@ pub fn line_row(head: &Head, member: Option<i64>) -> Row {
 
 /// The row of a list of rings that begins, in the open member with this id. Takes no memory.
 #[inline]
-pub fn ring_list_row(head: &Head, member: Option<i64>) -> Row {
+pub fn ring_list_row(head: &Head, member: Option<i64>) -> Row
+    requires { IsBodied head.now.kind }
+    ensures { row_with result [] ≡ list_row head.now.depth head.now.id head.now.precision (form_of head.now.kind) member 1 }
+{
     match head.kind {
         Kind::MultiPolygon => part_row(head.depth + 1, Kind::Polygon, member),
         _ => own_row(head),

@@ -1,7 +1,6 @@
-pub mod Leads
 pub mod State
 pub mod Stops
-pub mod Open
-pub mod Building
-pub mod Ahead
+pub mod Ends
+pub mod Taking
+pub mod Notes
 pub mod Standing

@@ -1,36 +1,31 @@
 -- What an engine stands for.
-use Rattle.std.specs.Prelude.{◌≡◌, ◌⊎◌, ℕ, ◌+◌, ◌-◌, ◌<◌, ◌≤◌, List, [], ◌++◌, length, take, Bool, true, false, Result, Ok, Err}
+use Rattle.std.specs.Prelude.{◌≡◌, ◌⊎◌, ℕ, ◌+◌, ◌-◌, ◌<◌, ◌≤◌, List, [], ◌++◌, length, take, Bool, true, false, Result, Ok, Err, ⊤, ⊥, zero, suc}
 use Rattle.twkb_num.specs.Varint.{IsOpenVarint}
 use Rattle.twkb_tree.specs.Tree.{Tree}
 use Rattle.twkb_tree.specs.Limits.{Allowance}
 use Rattle.twkb_tree.specs.Rows.{Row, rows}
+use Rattle.twkb_grammar.specs.Roles.{Role}
+use Rattle.twkb_grammar.specs.Reading.{Gives}
 use Rattle.twkb_grammar.specs.Blob.{Blob}
 use Rattle.twkb_grammar.specs.Fault.{FirstFault, Reason, Truncated}
 use Rattle.twkb_grammar.specs.Noting.{Notes}
-use Rattle.twkb_outline.specs.Reading.{Outlined, open_count}
+use Rattle.twkb_grammar.specs.Spans.{spans_of_blob}
+use Rattle.twkb_outline.specs.Reading.{Outlined}
 use Rattle.twkb_outline.specs.Noting.{notes_in}
-use Rattle.twkb_engine.specs.State.{IsSpelled, IsPlacedIn, step_of}
-use Rattle.twkb_engine.specs.Open.{awaited_at}
+use Rattle.twkb_engine.specs.State.{IsByte, IsPlaced, IsNext, allowance_of, sums_of, outline_in}
 use Rattle.twkb_outline.specs.Parts.{IsJudged, PartIn}
-use Rattle.twkb_engine.specs.Ahead.{note_next}
 use Rattle.twkb_engine.specs.Stops.{reason_of}
-use Rattle.twkb_engine.specs.Building.{sums_of, outline_in, SaysNext}
-use Rattle.twkb_engine.specs.declared.awaited.Awaited.{Awaited}
 use Rattle.twkb_engine.specs.declared.engine.Engine.{Engine}
 use Rattle.twkb_engine.specs.declared.stop.Stop.{Stop}
 use Rattle.twkb_engine.specs.declared.stop.Stop.TheVariants.{Memory, Refused}
 
--- its limits
-abbrev pub allowance_of : Engine → Allowance
-allowance_of d = d.builder.limits
-
 -- the bytes of the items that it took since the blob's start
 abbrev pub offset_in : Engine → ℕ
-offset_in d = d.builder.bytes
+offset_in d = d.bytes
 
 -- the bytes that it holds of a number that is not whole
 abbrev pub held_in : Engine → List ℕ
-held_in d = d.partial
+held_in d = d.held
 
 -- the bytes that it took since the blob's start
 abbrev pub count_of : Engine → ℕ
@@ -38,58 +33,46 @@ count_of d = offset_in d + length (held_in d)
 
 -- the points that were announced since the blob's start
 abbrev pub points_in : Engine → ℕ
-points_in d = d.builder.points
+points_in d = d.points
 
--- what its next byte is for
-abbrev pub awaited_in : Engine → Awaited
-awaited_in d = awaited_at (step_of d.builder.phase)
-
--- the geometries that are begun and not finished
-abbrev pub open_in : Engine → ℕ
-open_in d = open_count (outline_in d.builder)
+-- where the next item begins, in bytes from the stream's start
+abbrev pub place_in : Engine → ℕ
+place_in d = d.start + d.bytes
 
 -- the bytes are a blob so far: whole items, which are a part with these rows, and behind them the first bytes of a number
 pub record StandsAt (bytes : List ℕ) (rs : List Row) (d : Engine) : Type 0 where
   pub front : List ℕ
   pub whole : bytes ≡ front ++ held_in d
-  pub outlined : Outlined (allowance_of d) front (sums_of d.builder) (outline_in d.builder) rs
-  pub placed : IsPlacedIn d.builder.groups d.builder.phase
-  pub spelled : IsSpelled d.builder.phase ⊎ (held_in d ≡ [])
+  pub outlined : Outlined (allowance_of d) front (sums_of d) (outline_in d) rs
+  pub placed : IsPlaced d.next d
+  pub spelled : (IsByte d.next → ⊥) ⊎ (held_in d ≡ [])
 
 -- some bytes are a blob so far, with these rows; which, is not said
 abbrev pub IsAlive : List Row → Engine → Type 0
 IsAlive rs d = ∥ ((bytes : List ℕ) × StandsAt bytes rs d) ∥₁
 
--- wherever the engine stands, these bytes lead it on, and make this of what was noted of spans
-abbrev pub LeadsNoting : (ℕ → Notes → Notes) → List Row → Engine → List ℕ → List Row → Engine → Type 0
-LeadsNoting told rs d bytes more e = (front : List ℕ) (s : StandsAt front rs d) → (t : StandsAt (front ++ bytes) more e) × ((start : ℕ) → notes_in start t.outlined ≡ told start (notes_in start s.outlined))
+-- what was noted of the items that it took
+abbrev pub notes_at : {bytes : List ℕ} {rs : List Row} {d : Engine} → StandsAt bytes rs d → Notes
+notes_at {d = d} s = notes_in d.start s.outlined
 
--- they note nothing
-abbrev pub LeadsOn : List Row → Engine → List ℕ → List Row → Engine → Type 0
-LeadsOn = LeadsNoting (λ start w. w)
+-- Wherever the engine stands, with these notes held, these bytes lead it on within its blob, and the notes of their items are held.
+abbrev pub LeadsOn : {S : Type 0} → (S → Notes → Type 0) → List Row → Engine → S → List ℕ → List Row → Engine → S → Type 0
+LeadsOn holds rs d old bytes more e new = (front : List ℕ) (s : StandsAt front rs d) → (t : StandsAt (front ++ bytes) more e) × (holds old (notes_at s) → holds new (notes_at t))
 
--- their first byte notes what it does by itself, if there is one, those behind it nothing, and the same rows stay
-abbrev pub LeadsHeader : List Row → Engine → List ℕ → Engine → Type 0
-LeadsHeader rs d bytes e = LeadsNoting (note_next d.builder bytes) rs d bytes rs e
+-- the same of bytes that note nothing
+abbrev pub LeadsQuietly : List Row → Engine → List ℕ → List Row → Engine → Type 0
+LeadsQuietly rs d bytes more e = (front : List ℕ) (s : StandsAt front rs d) → (t : StandsAt (front ++ bytes) more e) × (notes_at t ≡ notes_at s)
+
+-- so many of the bytes say this number in the role of the next item
+pub record SaysNext (d : Engine) (bytes : List ℕ) (n count : ℕ) : Type 0 where
+  pub some : 0 < count
+  pub within : count ≤ length bytes
+  pub fits : IsByte d.next → n < 256
+  pub gives : (r : Role) → IsNext r d → Gives r n (take count bytes)
 
 -- wherever the engine stands, a front of these bytes ends a part that was judged
 abbrev pub StopsIn : List Row → Engine → List ℕ → Type 0
 StopsIn rs d bytes = (front : List ℕ) → StandsAt front rs d → PartIn (allowance_of d) front bytes
-
--- no byte is held, and so many of the bytes say this number in the role of the next item
-pub record ItemInFront (d : Engine) (bytes : List ℕ) (n count : ℕ) : Type 0 where
-  pub alone : held_in d ≡ []
-  pub item : SaysNext d.builder bytes n count
-
--- no byte is held, a number comes next, and so many of the bytes but the last begin it
-pub record NumberTaken (d : Engine) (bytes : List ℕ) (count : ℕ) : Type 0 where
-  pub alone : held_in d ≡ []
-  pub number : IsSpelled d.builder.phase
-  pub begun : IsOpenVarint (take (count - 1) bytes)
-
--- so many bytes are one, or those of one number
-abbrev pub IsOneItem : Engine → List ℕ → ℕ → Type 0
-IsOneItem d bytes count = (count ≡ 1) ⊎ NumberTaken d bytes count
 
 -- the bytes are a blob so far, or a blob with these rows and none of a further one, or a part that was judged, for whose last item there is no memory, or they
 -- have a first fault, whatever follows
@@ -98,12 +81,6 @@ IsStep limits bytes (Ok false) rs d = StandsAt bytes rs d
 IsStep limits bytes (Ok true) rs d = (g : Tree) × Blob limits bytes g × (rs ≡ rows 0 g) × StandsAt [] [] d
 IsStep limits bytes (Err Memory) rs d = IsJudged limits bytes
 IsStep limits bytes (Err (Refused r)) rs d = (more : List ℕ) → FirstFault limits (bytes ++ more) (offset_in d) (reason_of r)
-
--- some bytes were taken from the front of the rest of a piece, or a byte of it is the last of an item for which there is no memory, or that is
--- refused
-abbrev pub IsTakenFrom : Allowance → List ℕ → List ℕ → Result (ℕ × Bool) Stop → List Row → Engine → Type 0
-IsTakenFrom limits bs rest (Ok (used, found)) rs d = IsStep limits (bs ++ take used rest) (Ok found) rs d
-IsTakenFrom limits bs rest (Err stop) rs d = (used : ℕ) × (0 < used) × (used ≤ length rest) × IsStep limits (bs ++ take used rest) (Err stop) rs d
 
 -- a byte of the piece is the last of an item that is refused, whatever follows
 pub record RefusedIn (limits : Allowance) (bs piece : List ℕ) (offset : ℕ) (reason : Reason) : Type 0 where
@@ -120,14 +97,34 @@ pub record MadeIn (limits : Allowance) (bs piece : List ℕ) (used : ℕ) (rs : 
   pub blob : Blob limits (bs ++ take used piece) geometry
   pub made : rs ≡ rows 0 geometry
 
--- the whole piece was used, or the front that ends a blob, or there was no memory for an item of it, or one was refused
-abbrev pub IsFed : Allowance → List ℕ → List ℕ → Result (ℕ × Bool) Stop → List Row → Engine → Type 0
-IsFed limits bs piece (Ok (used, false)) rs d = (used ≡ length piece) × StandsAt (bs ++ piece) rs d
-IsFed limits bs piece (Ok (used, true)) rs d = MadeIn limits bs piece used rs × StandsAt [] [] d
-IsFed limits bs piece (Err Memory) rs d = PartIn limits bs piece
-IsFed limits bs piece (Err (Refused r)) rs d = RefusedIn limits bs piece (offset_in d) (reason_of r)
+-- the notes are those of a blob of these bytes, which begins at this offset
+abbrev pub HoldsSpans : {S : Type 0} → (S → Notes → Type 0) → S → (start : ℕ) → {limits : Allowance} {bytes : List ℕ} {g : Tree} → Blob limits bytes g → Type 0
+HoldsSpans holds new start b = (w : Notes) × holds new w × (w.spans ≡ spans_of_blob start b)
+
+-- What an engine answers to a piece: bytes of it were used, after which it stands with their notes; or those up to the end of a blob, whose rows and spans it has; or
+-- there was no memory for an item of it, or one was refused.
+abbrev pub IsFed : {S : Type 0} → (S → Notes → Type 0) → (told : Type 0) → Allowance → (start : ℕ) → List ℕ → List ℕ → Result (ℕ × Bool) Stop → List Row → Engine → S → Type 0
+IsFed holds told limits start bs piece (Ok (used, false)) rs d new = (used ≤ length piece) × (s : StandsAt (bs ++ take used piece) rs d) × (told → holds new (notes_at s))
+IsFed holds told limits start bs piece (Ok (used, true)) rs d new = (m : MadeIn limits bs piece used rs) × (told → HoldsSpans holds new start m.blob) × StandsAt [] [] d × (d.start ≡ start + (length bs + used))
+IsFed holds told limits start bs piece (Err Memory) rs d new = PartIn limits bs piece
+IsFed holds told limits start bs piece (Err (Refused r)) rs d new = RefusedIn limits bs piece (offset_in d) (reason_of r)
+
+-- the same, where all bytes are used if no blob ends in them
+abbrev pub TakesAll : ℕ → Result (ℕ × Bool) Stop → Type 0
+TakesAll many (Ok (used, false)) = used ≡ many
+TakesAll many _ = ⊤
 
 -- there are no bytes, or they end inside a blob
 abbrev pub IsEnd : Allowance → List ℕ → ℕ → Bool → Type 0
 IsEnd limits bs offset true = bs ≡ []
 IsEnd limits bs offset false = FirstFault limits bs offset Truncated
+
+-- wherever the engine stands, that is its answer to the bytes; the notes are told if they were those of its items
+abbrev pub FedBy : {S : Type 0} → (S → Notes → Type 0) → Engine → List Row → S → List ℕ → Result (ℕ × Bool) Stop → Engine → List Row → S → Type 0
+FedBy holds d rs old bytes answer e more new = (bs : List ℕ) (s : StandsAt bs rs d) → IsFed holds (holds old (notes_at s)) (allowance_of d) d.start bs bytes answer more e new
+
+-- if bytes were used, so many
+abbrev pub IfMade : {E : Type 0} → Result ℕ E → (ℕ → Type 0) → Type 0
+IfMade (Ok zero) P = ⊤
+IfMade (Ok (suc n)) P = P (suc n)
+IfMade (Err e) P = ⊤

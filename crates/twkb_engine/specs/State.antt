@@ -1,5 +1,5 @@
 -- What comes next, as a step of an outline.
-use Rattle.std.specs.Prelude.{◌≡◌, ◌≤◌, ◌-◌, ℕ, zero, suc, List, [], ◌∷◌, ◌++◌, length, take, ℤ, Option, ⊤, ⊥}
+use Rattle.std.specs.Prelude.{◌≡◌, ◌≤◌, ◌-◌, ℕ, zero, suc, List, [], ◌∷◌, ◌++◌, length, take, ℤ, Option, Some, ⊤, ⊥}
 use Rattle.twkb_tree.specs.declared.kind.Kind.{Kind}
 use Rattle.twkb_tree.specs.declared.kind.Kind.TheVariants as kinds
 use Rattle.twkb_tree.specs.Limits.{Allowance}
@@ -8,7 +8,7 @@ use Rattle.twkb_grammar.specs.Roles as role
 use Rattle.twkb_grammar.specs.Roles.{Role, where_set}
 use Rattle.twkb_grammar.specs.Machine.{Sums}
 use Rattle.twkb_outline.specs.Outline as outline
-use Rattle.twkb_outline.specs.Outline.{Outline, Step, OnHeader, OnMetadata, OnOption, OnCount, OnId, OnBody, Wanted, WantedY}
+use Rattle.twkb_outline.specs.Outline.{Outline, Step, OnHeader, OnMetadata, OnOption, OnCount, OnId, OnBody, Wanted, WantedY, outline_role}
 use Rattle.twkb_outline.specs.Growing.{id_in}
 use Rattle.twkb_body.specs.Head.{head_of, kind_of, form_of, many_of, IsHeadAt}
 use Rattle.twkb_body.specs.Ids.{ids_of, ids_read}
@@ -105,7 +105,7 @@ depth_cap = 64
 
 -- ---- what holds of its fields
 
--- the item belongs to a geometry of this kind
+-- a geometry of this kind has such an item
 abbrev pub ItemFits : NextItem → Kind → Type 0
 ItemFits next.MemberCount kinds.Point = ⊥
 ItemFits next.MemberCount kinds.Linestring = ⊥
@@ -115,24 +115,31 @@ ItemFits next.Y kinds.Collection = ⊥
 ItemFits next.PointCount kinds.Point = ⊥
 ItemFits next.PointCount kinds.MultiPoint = ⊥
 ItemFits next.PointCount kinds.Collection = ⊥
-ItemFits next.RingCount kinds.Polygon = ⊤
-ItemFits next.RingCount kinds.MultiPolygon = ⊤
-ItemFits next.RingCount _ = ⊥
+ItemFits next.RingCount kinds.Point = ⊥
+ItemFits next.RingCount kinds.Linestring = ⊥
+ItemFits next.RingCount kinds.MultiPoint = ⊥
+ItemFits next.RingCount kinds.MultiLinestring = ⊥
+ItemFits next.RingCount kinds.Collection = ⊥
 ItemFits _ kinds.Ring = ⊥
 ItemFits _ _ = ⊤
 
--- lists that are not open have no values left
-pub record ListsFit (d : Engine) : Type 0 where
-  pub points : d.next ≡ next.PointCount → d.points_left ≡ 0
-  pub rings : d.next ≡ next.RingCount → d.rings_left ≡ 0
-  pub lines : line_lists_of d.head.kind 1 0 ≡ [] → d.rings_left ≡ 0
-  pub point : lists_of d.head.kind 1 0 0 ≡ [] → d.points_left ≡ 0
+-- lists of which no value is open have none left
+pub record ListsFit (item : NextItem) (kind : Kind) (points rings members : ℕ) : Type 0 where
+  pub no_points : item ≡ next.PointCount → points ≡ 0
+  pub no_rings : item ≡ next.RingCount → (points ≡ 0) × (rings ≡ 0)
+  pub no_list : lists_of kind 1 0 0 ≡ lists_of kind 0 0 0 → points ≡ 0
+  pub no_area : line_lists_of kind 1 0 ≡ line_lists_of kind 0 0 → rings ≡ 0
+  pub no_member : lists_of kind 0 0 1 ≡ lists_of kind 0 0 0 → members ≡ 0
 
 -- a header is behind it, and its geometry is in the open collections
 abbrev pub IsPlaced : NextItem → Engine → Type 0
 IsPlaced next.TypeByte d = ⊤
 IsPlaced next.MetadataByte d = ⊤
 IsPlaced _ d = IsHeadAt (length (groups_of d.collections)) (id_in (groups_of d.collections)) d.head
+
+-- an item in this role comes next
+abbrev pub IsNext : Role → Engine → Type 0
+IsNext r d = outline_role (sums_of d) (outline_in d) ≡ Some r
 
 -- the next item is a byte
 abbrev pub IsByte : NextItem → Type 0

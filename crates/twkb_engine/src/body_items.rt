@@ -1,4 +1,12 @@
 //! The items of a body: coordinates, and counts of points and of rings.
+ghost use Rattle.std.specs.Prelude.{◌≡◌, ◌≢◌, ◌+◌, ◌≤◌, ◌^◌, [], true, List, Ok, IfOk, OnOk};
+ghost use Rattle.twkb_tree.specs.Rows.{Row};
+ghost use Rattle.twkb_grammar.specs.Roles as role;
+ghost use Rattle.twkb_grammar.specs.Machine.{listed};
+ghost use Rattle.twkb_flat.specs.Rows.{row_with};
+ghost use Rattle.twkb_outline.specs.Growing.{NewRow};
+ghost use Rattle.twkb_outline.specs.Admitting.{Admits};
+ghost use Rattle.twkb_engine.specs.declared.next_item.NextItem.TheVariants as next;
 
 use crate::blob_reason::BlobReason;
 use crate::engine::Engine;
@@ -12,9 +20,20 @@ use twkb_num::unzigzag;
 use twkb_points::Pt;
 
 impl Engine {
+    ghost use Rattle.twkb_engine.specs.State.{IsPlaced, lists_of, line_lists_of, outline_in, sums_of};
+    ghost use Rattle.twkb_engine.specs.Taking.{Takes, Lands, SameBlob, past_end, past_value, point_row};
+    ghost use Rattle.twkb_engine.specs.Notes.{NotesGo, notes_with, notes_past, open_in};
+    ghost use Rattle.twkb_engine.specs.Standing.{IsAlive};
+
     // Takes an x. Refused if it leads out of range.
     #[inline(always)]
-    pub(crate) fn x(&mut self, number: u64, width: u64) -> Result<bool, Stop> {
+    pub(crate) fn x(&mut self, number: u64, width: u64) -> Result<bool, Stop>
+        requires next { self.old.next ≡ next.X }
+        requires room { self.old.start + (self.old.bytes + width) ≤ 2 ^ 63 }
+        ensures taken { (rs : List Row) → Takes role.X number width self.old rs result self.new rs }
+        ensures begun { OnOk result (open_in self.new ≡ open_in self.old) }
+        ensures placed { OnOk result (IsPlaced self.new.next self.new) }
+    {
         let Some(position) = moved_x(self.position, unzigzag(number)) else {
             return Err(Stop::Refused(BlobReason::CoordinateRange));
         };
@@ -32,7 +51,14 @@ impl Engine {
         spans: &mut S,
         number: u64,
         width: u64,
-    ) -> Result<bool, Stop> {
+    ) -> Result<bool, Stop>
+        requires next { self.old.next ≡ next.Y }
+        requires room { self.old.start + (self.old.bytes + width) ≤ 2 ^ 63 }
+        requires alive { IsAlive flat.old self.old }
+        ensures taken { Takes role.Y number width self.old flat.old result self.new flat.new }
+        ensures noted { IfOk result (λ ends. NotesGo S.holds (notes_with role.Y number width self.old self.new ends) self.old spans.old spans.new) }
+        ensures placed { OnOk result (IsPlaced self.new.next self.new) }
+    {
         let Some(position) = moved_y(self.position, unzigzag(number)) else {
             return Err(Stop::Refused(BlobReason::CoordinateRange));
         };
@@ -55,7 +81,14 @@ impl Engine {
         flat: &mut Flat,
         spans: &mut S,
         position: Pt,
-    ) -> Result<bool, Stop> {
+    ) -> Result<bool, Stop>
+        requires room { self.old.start + self.old.bytes ≤ 2 ^ 63 }
+        requires last { self.old.points_left ≡ 0 }
+        requires may { Admits (point_row position self.old) flat.old }
+        ensures shut { Lands (past_value self.old 0 (lists_of self.old.head.kind 0 self.old.rings_left self.old.members_left)) (point_row position self.old) self.old flat.old result self.new flat.new }
+        ensures noted { IfOk result (λ ends. NotesGo S.holds (notes_past self.old self.new ends) self.old spans.old spans.new) }
+        ensures placed { OnOk result (IsPlaced self.new.next self.new) }
+    {
         let member = self.ids.first();
         let ends = if self.ends_with_list() {
             self.end_geometry(spans)?
@@ -75,7 +108,14 @@ impl Engine {
         spans: &mut S,
         count: u64,
         width: u64,
-    ) -> Result<bool, Stop> {
+    ) -> Result<bool, Stop>
+        requires next { self.old.next ≡ next.PointCount }
+        requires room { self.old.start + (self.old.bytes + width) ≤ 2 ^ 63 }
+        requires alive { IsAlive flat.old self.old }
+        ensures taken { Takes (role.Count (listed 0)) count width self.old flat.old result self.new flat.new }
+        ensures noted { IfOk result (λ ends. NotesGo S.holds (notes_with (role.Count (listed 0)) count width self.old self.new ends) self.old spans.old spans.new) }
+        ensures placed { OnOk result (IsPlaced self.new.next self.new) }
+    {
         if let Some(reason) = self.too_many(0, count) {
             return Err(Stop::Refused(reason));
         }
@@ -99,7 +139,14 @@ impl Engine {
         spans: &mut S,
         count: u64,
         width: u64,
-    ) -> Result<bool, Stop> {
+    ) -> Result<bool, Stop>
+        requires next { self.old.next ≡ next.RingCount }
+        requires room { self.old.start + (self.old.bytes + width) ≤ 2 ^ 63 }
+        requires alive { IsAlive flat.old self.old }
+        ensures taken { Takes (role.Count (listed 1)) count width self.old flat.old result self.new flat.new }
+        ensures noted { IfOk result (λ ends. NotesGo S.holds (notes_with (role.Count (listed 1)) count width self.old self.new ends) self.old spans.old spans.new) }
+        ensures placed { OnOk result (IsPlaced self.new.next self.new) }
+    {
         if let Some(reason) = self.too_many(count, 0) {
             return Err(Stop::Refused(reason));
         }
@@ -121,7 +168,13 @@ impl Engine {
         flat: &mut Flat,
         spans: &mut S,
         row: Row,
-    ) -> Result<bool, Stop> {
+    ) -> Result<bool, Stop>
+        requires empty { self.old.points_left ≡ 0 }
+        requires room { self.old.start + self.old.bytes ≤ 2 ^ 63 }
+        requires may { Admits (NewRow (row_with row [])) flat.old }
+        ensures shut { Lands (past_value self.old 1 (line_lists_of self.old.head.kind self.old.rings_left self.old.members_left)) (NewRow (row_with row [])) self.old flat.old result self.new flat.new }
+        ensures noted { IfOk result (λ ends. NotesGo S.holds (notes_past self.old self.new ends) self.old spans.old spans.new) }
+    {
         if self.ends_with_list() {
             let whole = self.end_geometry(spans)?;
             push_row(flat, row)?;
@@ -134,13 +187,21 @@ impl Engine {
 
     // Whether the body ends with the list of points that is open.
     #[inline(always)]
-    fn ends_with_list(&self) -> bool {
+    fn ends_with_list(&self) -> bool
+        ensures ends { result ≡ true → past_value self.now 1 (line_lists_of self.now.head.kind self.now.rings_left self.now.members_left) ≡ past_end self.now }
+    {
         self.rings_left == 0 && self.members_left == 0
     }
 
     // Goes past the end of a list of points, with which the body does not end: to the next ring, or to the next member.
     #[inline(always)]
-    fn end_list(&mut self) {
+    fn end_list(&mut self)
+        requires left { self.old.rings_left + self.old.members_left ≢ 0 }
+        ensures step { past_value self.old 1 (line_lists_of self.old.head.kind self.old.rings_left self.old.members_left) ≡ Ok (outline_in self.new) }
+        ensures sums { sums_of self.new ≡ sums_of self.old }
+        ensures same { SameBlob self.old self.new }
+        ensures head { self.new.head ≡ self.old.head }
+    {
         if self.rings_left > 0 {
             self.rings_left -= 1;
             self.next = NextItem::PointCount;

@@ -1,4 +1,9 @@
 //! The end of a geometry.
+ghost use Rattle.std.specs.Prelude.{◌≡◌, ◌+◌, ◌-◌, ◌≤◌, ◌^◌, IfOk, List};
+ghost use Rattle.twkb_grammar.specs.PlainReader.{is_exact as exact};
+ghost use Rattle.twkb_outline.specs.Growing.{Nothing};
+ghost use Rattle.twkb_outline.specs.Admitting.{Admits};
+ghost use Rattle.twkb_tree.specs.Rows.{Row};
 
 use crate::blob_reason::BlobReason;
 use crate::engine::Engine;
@@ -11,7 +16,9 @@ use twkb_flat::Flat;
 
 // Whether a geometry that ends after so many bytes has the size that it declared, if any.
 #[inline(always)]
-fn is_exact(head: &Head, bytes: u64) -> bool {
+fn is_exact(head: &Head, bytes: u64) -> bool
+    ensures { result ≡ exact head.now.size (bytes - head.now.from) }
+{
     match head.size {
         None => true,
         Some(size) => size == bytes.saturating_sub(head.from),
@@ -19,9 +26,17 @@ fn is_exact(head: &Head, bytes: u64) -> bool {
 }
 
 impl Engine {
+    ghost use Rattle.twkb_engine.specs.Taking.{Lands, past_end, own_row};
+    ghost use Rattle.twkb_engine.specs.Notes.{NotesGo, notes_past};
+
     // Ends the geometry that is read, and each collection of which it is the last member, while their sizes are exact; returns whether the
     // blob ends with it. Takes no memory.
-    pub(crate) fn end_geometry<S: SpanNotes>(&mut self, spans: &mut S) -> Result<bool, Stop> {
+    pub(crate) fn end_geometry<S: SpanNotes>(&mut self, spans: &mut S) -> Result<bool, Stop>
+        requires room { self.old.start + self.old.bytes ≤ 2 ^ 63 }
+        ensures ended { (rs : List Row) → Lands (past_end self.old) Nothing self.old rs result self.new rs }
+        ensures noted { IfOk result (λ ends. NotesGo S.holds (notes_past self.old self.new ends) self.old spans.old spans.new) }
+        ensures head { self.new.head ≡ self.old.head }
+    {
         let mut head = self.head;
         loop {
             if !is_exact(&head, self.bytes) {
@@ -47,7 +62,12 @@ impl Engine {
         &mut self,
         flat: &mut Flat,
         spans: &mut S,
-    ) -> Result<bool, Stop> {
+    ) -> Result<bool, Stop>
+        requires room { self.old.start + self.old.bytes ≤ 2 ^ 63 }
+        requires row { Admits (own_row self.old) flat.old }
+        ensures ended { Lands (past_end self.old) (own_row self.old) self.old flat.old result self.new flat.new }
+        ensures noted { IfOk result (λ ends. NotesGo S.holds (notes_past self.old self.new ends) self.old spans.old spans.new) }
+    {
         let ends = self.end_geometry(spans)?;
         push_row(flat, own_row(&self.head))?;
         Ok(ends)

@@ -1,4 +1,9 @@
 //! A blob that is read item by item into a flat form.
+ghost use Rattle.std.specs.Prelude.{◌≡◌, ◌+◌, ◌≤◌, ◌<◌, ◌^◌, ◌∷◌, [], ℕ, List, true, false, Ok, IfOk, OnOk, length};
+ghost use Rattle.twkb_num.specs.Varint.{IsOpenVarint};
+ghost use Rattle.twkb_tree.specs.Rows.{Row};
+ghost use Rattle.twkb_tree.specs.Limits.{IsAllowance};
+ghost use Rattle.twkb_grammar.specs.Roles.{Role};
 
 use crate::next_item::NextItem;
 use crate::open_collections::OpenCollections;
@@ -34,11 +39,29 @@ pub struct Engine {
     pub(crate) points_left: u64,
     pub(crate) next: NextItem,
     pub(crate) held: Partial<Leb128>,
+    ghost nodes_kept: { nodes ≤ limits.nodes },
+    ghost points_kept: { points ≤ limits.points },
+    ghost allowed: { IsAllowance limits },
+    ghost few_open: { length collections ≤ depth_cap },
+    ghost item_fits: { ItemFits next head.kind },
+    ghost lists_fit: { ListsFit next head.kind points_left rings_left members_left },
+    ghost started: { start ≤ 2 ^ 63 },
 }
 
 impl Engine {
+    ghost use Rattle.twkb_engine.specs.State.{IsByte, IsPlaced, IsNext, allowance_of};
+    ghost use Rattle.twkb_engine.specs.Taking.{Takes, BeginsAt};
+    ghost use Rattle.twkb_engine.specs.Notes.{NotesGo, notes_with, open_in};
+    ghost use Rattle.twkb_engine.specs.Standing.{StandsAt, IsAlive, IsEnd, held_in, offset_in, place_in};
+
     /// One that has read nothing, at this offset of a stream. Takes no memory.
-    pub fn new(alloc: Global, limits: Limits, start: u64) -> Engine {
+    pub fn new(alloc: Global, limits: Limits, start: u64) -> Engine
+        requires room { start ≤ 2 ^ 62 }
+        ensures stands { StandsAt [] [] result }
+        ensures limits { allowance_of result ≡ limits }
+        ensures begins { BeginsAt start result }
+        ensures alone { held_in result ≡ [] }
+    {
         Engine {
             limits,
             start,
@@ -58,7 +81,11 @@ impl Engine {
     }
 
     // Goes to the start of the next blob.
-    pub(crate) fn restart(&mut self) {
+    pub(crate) fn restart(&mut self)
+        ensures begins { BeginsAt (self.old.start + self.old.bytes) self.new }
+        ensures limits { self.new.limits ≡ self.old.limits }
+        ensures head { self.new.head ≡ self.old.head }
+    {
         self.start += self.bytes;
         self.bytes = 0;
         self.nodes = 1;
@@ -76,7 +103,15 @@ impl Engine {
         spans: &mut S,
         number: u64,
         width: u64,
-    ) -> Result<bool, Stop> {
+    ) -> Result<bool, Stop>
+        requires byte { IsByte self.old.next → number < 256 }
+        requires room { self.old.start + (self.old.bytes + width) ≤ 2 ^ 63 }
+        requires alive { IsAlive flat.old self.old }
+        ensures taken { (r : Role) → IsNext r self.old → Takes r number width self.old flat.old result self.new flat.new }
+        ensures noted { (r : Role) → IsNext r self.old → IfOk result (λ ends. NotesGo S.holds (notes_with r number width self.old self.new ends) self.old spans.old spans.new) }
+        ensures placed { OnOk result (IsPlaced self.new.next self.new) }
+        ensures limits { self.new.limits ≡ self.old.limits }
+    {
         match self.next {
             NextItem::TypeByte => self.type_byte(spans, number),
             NextItem::MetadataByte => self.metadata_byte(flat, spans, number),
@@ -94,29 +129,42 @@ impl Engine {
 
     /// Whether no byte was taken since the last blob's end. Takes no memory.
     #[inline(always)]
-    pub fn is_between(&self) -> bool {
+    pub fn is_between(&self) -> bool
+        ensures { (bs : List ℕ) (rs : List Row) → StandsAt bs rs self.now → IsEnd (allowance_of self.now) bs (offset_in self.now) result }
+    {
         self.held.len() == 0 && self.bytes == 0
     }
 
     /// The number of bytes that it holds of a number that is not complete, 0 to 9. Takes no memory.
     #[inline(always)]
-    pub fn held(&self) -> usize {
+    pub fn held(&self) -> usize
+        ensures held { result ≡ length (held_in self.now) }
+        ensures few { result ≤ 9 }
+        ensures begun { IsOpenVarint (held_in self.now) }
+    {
         self.held.len()
     }
 
     /// Where the next item begins, in bytes from the stream's start; after a refusal, the refused one. Takes no memory.
     #[inline(always)]
-    pub fn offset(&self) -> u64 {
+    pub fn offset(&self) -> u64
+        ensures { result ≡ place_in self.now }
+    {
         self.start + self.bytes
     }
 
     /// The limits of each geometry. Takes no memory.
-    pub fn limits(&self) -> Limits {
+    pub fn limits(&self) -> Limits
+        ensures { result ≡ allowance_of self.now }
+    {
         self.limits
     }
 
     /// The number of geometries that are begun and not finished. Takes no memory.
-    pub fn open_geometries(&self) -> usize {
+    pub fn open_geometries(&self) -> usize
+        ensures open { result ≡ open_in self.now }
+        ensures few { (bs : List ℕ) (rs : List Row) → StandsAt bs rs self.now → result ≤ (allowance_of self.now).nest + 1 }
+    {
         let open = self.collections.len();
         match self.next {
             NextItem::TypeByte => open,

@@ -1,5 +1,6 @@
 //! The three ways in: a held number that further bytes complete, an item that is complete at the start of the bytes, and points of a list
 //! many at once.
+ghost use Rattle.std.specs.Prelude.{◌≡◌, ◌+◌, ◌<◌, ◌≤◌, ◌^◌, ◌++◌, ◌∷◌, [], ℕ, List, Ok, IfOk, IfSome, OnErr, take, length};
 
 use crate::blob_reason::BlobReason;
 use crate::engine::Engine;
@@ -14,6 +15,11 @@ use twkb_num::Step;
 use twkb_tree::Kind;
 
 impl Engine {
+    ghost use Rattle.twkb_tree.specs.Rows.{Row};
+    ghost use Rattle.twkb_engine.specs.State.{allowance_of};
+    ghost use Rattle.twkb_engine.specs.Standing.{StandsAt, IsAlive, IsStep, FedBy, LeadsQuietly, SaysNext, StopsIn, TakesAll, held_in, count_of, place_in};
+    ghost use Rattle.twkb_engine.specs.declared.next_item.NextItem.TheVariants.{X, Id};
+
     /// Takes a byte, and returns whether the blob ends with it. It takes memory as `feed` does.
     #[inline(always)]
     pub fn take_byte<S: SpanNotes>(
@@ -21,7 +27,12 @@ impl Engine {
         flat: &mut Flat,
         spans: &mut S,
         byte: u8,
-    ) -> Result<bool, Stop> {
+    ) -> Result<bool, Stop>
+        requires room { count_of self.old < 2 ^ 62 }
+        requires alive { IsAlive flat.old self.old }
+        ensures limits { self.new.limits ≡ self.old.limits }
+        ensures fed { (bs : List ℕ) (s : StandsAt bs flat.old self.old) → IsStep (allowance_of self.old) (bs ++ byte ∷ []) result flat.new self.new }
+    {
         if self.next.is_byte() {
             return self.take(flat, spans, u64::from(byte), 1);
         }
@@ -35,7 +46,11 @@ impl Engine {
 
     // The number of the next item and how many bytes it has, if it is complete.
     #[inline(always)]
-    fn front_item(&self, rest: &[u8]) -> Option<(u64, usize)> {
+    fn front_item(&self, rest: &[u8]) -> Option<(u64, usize)>
+        requires some { 0 < length rest.now }
+        requires alone { held_in self.now ≡ [] }
+        ensures { IfSome result (λ item. SaysNext self.now rest.now item.0 item.1) }
+    {
         if self.next.is_byte() {
             return Some((u64::from(rest[0]), 1));
         }
@@ -49,7 +64,13 @@ impl Engine {
         flat: &mut Flat,
         spans: &mut S,
         rest: &[u8],
-    ) -> Result<(usize, bool), Stop> {
+    ) -> Result<(usize, bool), Stop>
+        requires some { 0 < length rest.now }
+        requires room { place_in self.old + length rest.now ≤ 2 ^ 63 }
+        requires alive { IsAlive flat.old self.old }
+        ensures some { IfOk result (λ taken. 0 < taken.0) }
+        ensures fed { FedBy S.holds self.old flat.old spans.old rest.now result self.new flat.new spans.new }
+    {
         if self.held.len() == 0 {
             if let Some((number, width)) = self.front_item(rest) {
                 let ends = self.take(flat, spans, number, width as u64)?;
@@ -68,7 +89,13 @@ impl Engine {
         flat: &mut Flat,
         spans: &mut S,
         rest: &[u8],
-    ) -> Result<(usize, bool), Stop> {
+    ) -> Result<(usize, bool), Stop>
+        requires next { self.old.next ≡ X }
+        requires room { place_in self.old + length rest.now ≤ 2 ^ 63 }
+        requires alone { held_in self.old ≡ [] }
+        requires alive { IsAlive flat.old self.old }
+        ensures fed { FedBy S.holds self.old flat.old spans.old rest.now result self.new flat.new spans.new }
+    {
         if self.points_left > 0 {
             return Ok((self.take_list(flat, rest)?, false));
         }
@@ -90,7 +117,13 @@ impl Engine {
     // Takes points of the open list, but not its last, and returns how many bytes they had. They take memory. A frame of its own, for the sake
     // of its callers' registers.
     #[inline(never)]
-    fn take_list(&mut self, flat: &mut Flat, rest: &[u8]) -> Result<usize, AllocError> {
+    fn take_list(&mut self, flat: &mut Flat, rest: &[u8]) -> Result<usize, AllocError>
+        requires next { self.old.next ≡ X }
+        requires alone { held_in self.old ≡ [] }
+        ensures within { IfOk result (λ used. used ≤ length rest.now) }
+        ensures led { IfOk result (λ used. LeadsQuietly flat.old self.old (take used rest.now) flat.new self.new) }
+        ensures memory { OnErr result (StopsIn flat.old self.old rest.now) }
+    {
         if !flat.takes_points(self.points_left) {
             return Ok(0);
         }
@@ -102,7 +135,13 @@ impl Engine {
     // Takes members of a multipoint after its first, but not its last, and returns how many bytes they had. They take memory. A frame of its
     // own, as `take_list`.
     #[inline(never)]
-    fn take_members(&mut self, flat: &mut Flat, rest: &[u8]) -> Result<usize, AllocError> {
+    fn take_members(&mut self, flat: &mut Flat, rest: &[u8]) -> Result<usize, AllocError>
+        requires next { self.old.next ≡ X }
+        requires alone { held_in self.old ≡ [] }
+        ensures within { IfOk result (λ used. used ≤ length rest.now) }
+        ensures led { IfOk result (λ used. LeadsQuietly flat.old self.old (take used rest.now) flat.new self.new) }
+        ensures memory { OnErr result (StopsIn flat.old self.old rest.now) }
+    {
         let depth = self.head.depth + 1;
         let most = self.members_left;
         if self.head.kind != Kind::MultiPoint
@@ -125,7 +164,13 @@ impl Engine {
 
     // Takes ids, but not the last, and returns how many bytes they had. They take memory.
     #[inline(never)]
-    fn take_ids(&mut self, rest: &[u8]) -> Result<usize, AllocError> {
+    fn take_ids(&mut self, rest: &[u8]) -> Result<usize, AllocError>
+        requires next { self.old.next ≡ Id }
+        requires alone { held_in self.old ≡ [] }
+        ensures within { IfOk result (λ used. used ≤ length rest.now) }
+        ensures led { (rs : List Row) → IfOk result (λ used. LeadsQuietly rs self.old (take used rest.now) rs self.new) }
+        ensures memory { (rs : List Row) → OnErr result (StopsIn rs self.old rest.now) }
+    {
         let used = self.ids.take(rest, self.members_left)?;
         self.bytes += used as u64;
         Ok(used)
@@ -138,7 +183,13 @@ impl Engine {
         flat: &mut Flat,
         spans: &mut S,
         rest: &[u8],
-    ) -> Result<(usize, bool), Stop> {
+    ) -> Result<(usize, bool), Stop>
+        requires some { 0 < length rest.now }
+        requires room { place_in self.old + length rest.now ≤ 2 ^ 63 }
+        requires alive { IsAlive flat.old self.old }
+        ensures some { IfOk result (λ taken. 0 < taken.0) }
+        ensures fed { FedBy S.holds self.old flat.old spans.old rest.now result self.new flat.new spans.new }
+    {
         if self.held.len() == 0 {
             let taken = match self.next {
                 NextItem::TypeByte => (self.take_header(spans, rest)?, false),
@@ -160,7 +211,12 @@ impl Engine {
         flat: &mut Flat,
         spans: &mut S,
         piece: &[u8],
-    ) -> Result<(usize, bool), Stop> {
+    ) -> Result<(usize, bool), Stop>
+        requires room { place_in self.old + length piece.now ≤ 2 ^ 63 }
+        requires alive { IsAlive flat.old self.old }
+        ensures all { TakesAll (length piece.now) result }
+        ensures fed { FedBy S.holds self.old flat.old spans.old piece.now result self.new flat.new spans.new }
+    {
         let mut used = 0;
         while used < piece.len() {
             let (count, ends) = self.take_some(flat, spans, &piece[used..])?;
@@ -181,7 +237,13 @@ impl Engine {
         flat: &mut Flat,
         spans: &mut S,
         piece: &[u8],
-    ) -> Result<(usize, bool), Stop> {
+    ) -> Result<(usize, bool), Stop>
+        requires room { place_in self.old + length piece.now ≤ 2 ^ 63 }
+        requires alive { IsAlive flat.old self.old }
+        ensures limits { self.new.limits ≡ self.old.limits }
+        ensures all { TakesAll (length piece.now) result }
+        ensures fed { FedBy S.holds self.old flat.old spans.old piece.now result self.new flat.new spans.new }
+    {
         if self.is_between() {
             let used = self.take_root_point(flat, spans, piece)?;
             if used > 0 {

@@ -1,4 +1,18 @@
 //! The items of a header: type byte, metadata byte, extended byte, size and box.
+ghost use Rattle.std.specs.Prelude.{◌≡◌, ◌+◌, ◌≤◌, ◌<◌, ◌^◌, ◌/◌, ◌%◌, ℕ, List, [], None, false, IfOk, OnOk, OnErr, Ok, length, take};
+ghost use Rattle.twkb_tree.specs.Rows.{Row};
+ghost use Rattle.twkb_grammar.specs.Roles as role;
+ghost use Rattle.twkb_grammar.specs.Fault.{announces_point as announces};
+ghost use Rattle.twkb_grammar.specs.Machine.{kind_number, kind_at};
+ghost use Rattle.twkb_num.specs.Zigzag.{unzigzag_of};
+ghost use Rattle.twkb_points.specs.Point.{origin as origin_of};
+ghost use Rattle.twkb_grammar.specs.Bits.{bit};
+ghost use Rattle.twkb_grammar.specs.Noting.{note_header, note_metadata};
+ghost use Rattle.twkb_outline.specs.Outline.{OnMetadata, begins};
+ghost use Rattle.twkb_outline.specs.Growing.{id_in};
+ghost use Rattle.twkb_outline.specs.Admitting.{Admits};
+ghost use Rattle.twkb_body.specs.Head.{head_of, kind_of, IsHeadAt};
+ghost use Rattle.twkb_engine.specs.declared.next_item.next.TheVariants as next;
 
 use crate::blob_reason::BlobReason;
 use crate::engine::Engine;
@@ -15,13 +29,24 @@ use twkb_tree::Kind;
 const BOX_REST: u8 = 3;
 
 impl Engine {
+    ghost use Rattle.twkb_engine.specs.State.{IsPlaced, groups_of, outline_in, sums_of, size_roles, box_roles};
+    ghost use Rattle.twkb_engine.specs.Taking.{Takes, Lands, SameBlob, SameBut, past_parts, header_row};
+    ghost use Rattle.twkb_engine.specs.Notes.{NotesGo, notes_with, notes_past};
+    ghost use Rattle.twkb_engine.specs.Standing.{IsAlive, LeadsOn, StopsIn, held_in};
+
     // The geometry that this type byte begins, and its span. A span takes memory.
     #[inline(always)]
     fn begin_geometry<S: SpanNotes>(
         &mut self,
         spans: &mut S,
         byte: TypeByte,
-    ) -> Result<(), AllocError> {
+    ) -> Result<(), AllocError>
+        requires room { self.old.start + self.old.bytes ≤ 2 ^ 63 }
+        ensures typed { OnMetadata (kind_of self.new.head.kind) self.new.head.precision ≡ OnMetadata (kind_at (byte % 16)) (unzigzag_of (byte / 16)) }
+        ensures noted { OnOk result (NotesGo S.holds (note_header (self.old.start + self.old.bytes) self.old.points byte) self.old spans.old spans.new) }
+        ensures position { self.new.position ≡ origin_of }
+        ensures same { SameBut self.old self.new }
+    {
         self.head.kind = byte.kind();
         self.head.precision = byte.precision();
         self.position = origin();
@@ -30,7 +55,13 @@ impl Engine {
 
     // What the metadata byte says of the geometry, after which come so many bytes of its header that no size counts.
     #[inline(always)]
-    fn set_metadata<S: SpanNotes>(&mut self, spans: &mut S, metadata: Metadata) {
+    fn set_metadata<S: SpanNotes>(&mut self, spans: &mut S, metadata: Metadata)
+        ensures head { head_of self.new.head ≡ record { precision = self.old.head.precision; meta = metadata; size = None; from = self.old.bytes } }
+        ensures placed { IsHeadAt (length (groups_of self.new.collections)) (id_in (groups_of self.new.collections)) self.new.head }
+        ensures kind { self.new.head.kind ≡ self.old.head.kind }
+        ensures noted { NotesGo S.holds (note_metadata metadata) self.old spans.old spans.new }
+        ensures same { SameBut self.old self.new }
+    {
         spans.set_metadata(metadata.byte());
         self.head.metadata = metadata.byte();
         self.head.size = None;
@@ -41,7 +72,9 @@ impl Engine {
 
     // Whether this metadata byte announces a point: that of a point with a body.
     #[inline(always)]
-    fn announces_point(&self, kind: Kind, metadata: Metadata) -> bool {
+    fn announces_point(&self, kind: Kind, metadata: Metadata) -> bool
+        ensures { result ≡ announces (kind_number (kind_of kind)) metadata }
+    {
         kind == Kind::Point && !metadata.is_empty()
     }
 
@@ -51,7 +84,14 @@ impl Engine {
         &mut self,
         spans: &mut S,
         number: u64,
-    ) -> Result<bool, Stop> {
+    ) -> Result<bool, Stop>
+        requires byte { number < 256 }
+        requires next { self.old.next ≡ next.TypeByte }
+        requires room { self.old.start + self.old.bytes < 2 ^ 63 }
+        ensures taken { (rs : List Row) → Takes role.Header number 1 self.old rs result self.new rs }
+        ensures noted { IfOk result (λ ends. NotesGo S.holds (notes_with role.Header number 1 self.old self.new ends) self.old spans.old spans.new) }
+        ensures placed { OnOk result (IsPlaced self.new.next self.new) }
+    {
         let byte = TypeByte::from_number(number);
         if !byte.names_type() {
             return Err(Stop::Refused(BlobReason::BadType));
@@ -69,7 +109,15 @@ impl Engine {
         flat: &mut Flat,
         spans: &mut S,
         number: u64,
-    ) -> Result<bool, Stop> {
+    ) -> Result<bool, Stop>
+        requires byte { number < 256 }
+        requires next { self.old.next ≡ next.MetadataByte }
+        requires room { self.old.start + self.old.bytes < 2 ^ 63 }
+        requires alive { IsAlive flat.old self.old }
+        ensures taken { Takes (role.Metadata (kind_number (kind_of self.old.head.kind))) number 1 self.old flat.old result self.new flat.new }
+        ensures noted { IfOk result (λ ends. NotesGo S.holds (notes_with (role.Metadata (kind_number (kind_of self.old.head.kind))) number 1 self.old self.new ends) self.old spans.old spans.new) }
+        ensures placed { OnOk result (IsPlaced self.new.next self.new) }
+    {
         let metadata = Metadata::from_number(number);
         if self.announces_point(self.head.kind, metadata) {
             if self.points >= u64::from(self.limits.points()) {
@@ -93,7 +141,15 @@ impl Engine {
         flat: &mut Flat,
         spans: &mut S,
         number: u64,
-    ) -> Result<bool, Stop> {
+    ) -> Result<bool, Stop>
+        requires byte { number < 256 }
+        requires next { self.old.next ≡ next.ExtendedByte }
+        requires room { self.old.start + self.old.bytes < 2 ^ 63 }
+        requires alive { IsAlive flat.old self.old }
+        ensures taken { Takes role.Extended number 1 self.old flat.old result self.new flat.new }
+        ensures noted { IfOk result (λ ends. NotesGo S.holds (notes_with role.Extended number 1 self.old self.new ends) self.old spans.old spans.new) }
+        ensures placed { OnOk result (IsPlaced self.new.next self.new) }
+    {
         if number % 4 != 0 {
             return Err(Stop::Refused(BlobReason::ExtraDimensions));
         }
@@ -110,7 +166,14 @@ impl Engine {
         spans: &mut S,
         number: u64,
         width: u64,
-    ) -> Result<bool, Stop> {
+    ) -> Result<bool, Stop>
+        requires next { self.old.next ≡ next.Size }
+        requires room { self.old.start + (self.old.bytes + width) ≤ 2 ^ 63 }
+        requires alive { IsAlive flat.old self.old }
+        ensures taken { Takes role.Size number width self.old flat.old result self.new flat.new }
+        ensures noted { IfOk result (λ ends. NotesGo S.holds (notes_with role.Size number width self.old self.new ends) self.old spans.old spans.new) }
+        ensures placed { OnOk result (IsPlaced self.new.next self.new) }
+    {
         self.bytes += width;
         self.head.size = Some(number);
         self.head.from = self.bytes;
@@ -125,7 +188,14 @@ impl Engine {
         spans: &mut S,
         left: u8,
         width: u64,
-    ) -> Result<bool, Stop> {
+    ) -> Result<bool, Stop>
+        requires next { self.old.next ≡ next.BoxNumber left }
+        requires room { self.old.start + (self.old.bytes + width) ≤ 2 ^ 63 }
+        requires alive { IsAlive flat.old self.old }
+        ensures taken { (number : ℕ) → Takes role.Box number width self.old flat.old result self.new flat.new }
+        ensures noted { (number : ℕ) → IfOk result (λ ends. NotesGo S.holds (notes_with role.Box number width self.old self.new ends) self.old spans.old spans.new) }
+        ensures placed { OnOk result (IsPlaced self.new.next self.new) }
+    {
         self.bytes += width;
         if left > 0 {
             self.next = NextItem::BoxNumber { left: left - 1 };
@@ -141,7 +211,14 @@ impl Engine {
         flat: &mut Flat,
         spans: &mut S,
         metadata: Metadata,
-    ) -> Result<bool, Stop> {
+    ) -> Result<bool, Stop>
+        requires same { metadata ≡ self.old.head.metadata }
+        requires room { self.old.start + self.old.bytes ≤ 2 ^ 63 }
+        requires may { Admits (header_row self.old (size_roles self.old.head.metadata)) flat.old }
+        ensures landed { Lands (past_parts self.old (size_roles self.old.head.metadata)) (header_row self.old (size_roles self.old.head.metadata)) self.old flat.old result self.new flat.new }
+        ensures noted { IfOk result (λ ends. NotesGo S.holds (notes_past self.old self.new ends) self.old spans.old spans.new) }
+        ensures placed { IsHeadAt (length (groups_of self.old.collections)) (id_in (groups_of self.old.collections)) self.old.head → OnOk result (IsPlaced self.new.next self.new) }
+    {
         if metadata.has_size() {
             self.next = NextItem::Size;
             return Ok(false);
@@ -156,7 +233,14 @@ impl Engine {
         flat: &mut Flat,
         spans: &mut S,
         metadata: Metadata,
-    ) -> Result<bool, Stop> {
+    ) -> Result<bool, Stop>
+        requires same { metadata ≡ self.old.head.metadata }
+        requires room { self.old.start + self.old.bytes ≤ 2 ^ 63 }
+        requires may { Admits (header_row self.old (box_roles self.old.head.metadata)) flat.old }
+        ensures landed { Lands (past_parts self.old (box_roles self.old.head.metadata)) (header_row self.old (box_roles self.old.head.metadata)) self.old flat.old result self.new flat.new }
+        ensures noted { IfOk result (λ ends. NotesGo S.holds (notes_past self.old self.new ends) self.old spans.old spans.new) }
+        ensures placed { IsHeadAt (length (groups_of self.old.collections)) (id_in (groups_of self.old.collections)) self.old.head → OnOk result (IsPlaced self.new.next self.new) }
+    {
         if metadata.has_box() {
             self.next = NextItem::BoxNumber { left: BOX_REST };
             return Ok(false);
@@ -170,7 +254,13 @@ impl Engine {
         &mut self,
         flat: &mut Flat,
         spans: &mut S,
-    ) -> Result<bool, Stop> {
+    ) -> Result<bool, Stop>
+        requires room { self.old.start + self.old.bytes ≤ 2 ^ 63 }
+        requires may { Admits (header_row self.old []) flat.old }
+        ensures landed { Lands (past_parts self.old []) (header_row self.old []) self.old flat.old result self.new flat.new }
+        ensures noted { IfOk result (λ ends. NotesGo S.holds (notes_past self.old self.new ends) self.old spans.old spans.new) }
+        ensures placed { IsHeadAt (length (groups_of self.old.collections)) (id_in (groups_of self.old.collections)) self.old.head → OnOk result (IsPlaced self.new.next self.new) }
+    {
         if Metadata::from_byte(self.head.metadata).is_empty() {
             return self.end_empty(flat, spans);
         }
@@ -180,7 +270,12 @@ impl Engine {
 
     // The body begins, or the count of members comes next.
     #[inline(always)]
-    fn go_to_body(&mut self) {
+    fn go_to_body(&mut self)
+        requires body { bit self.old.head.metadata 4 ≡ false }
+        ensures step { outline_in self.new ≡ (groups_of self.old.collections, begins (kind_of self.old.head.kind) (head_of self.old.head)) }
+        ensures sums { sums_of self.new ≡ sums_of self.old }
+        ensures same { SameBlob self.old self.new }
+    {
         self.ids.restart(false);
         self.next = match self.head.kind {
             Kind::Point | Kind::Linestring | Kind::Polygon => NextItem::first_of(self.head.kind),
@@ -195,7 +290,15 @@ impl Engine {
         &mut self,
         spans: &mut S,
         rest: &[u8],
-    ) -> Result<usize, AllocError> {
+    ) -> Result<usize, AllocError>
+        requires next { self.old.next ≡ next.TypeByte }
+        requires alone { held_in self.old ≡ [] }
+        requires room { self.old.start + (self.old.bytes + length rest.now) ≤ 2 ^ 63 }
+        ensures within { IfOk result (λ used. used ≤ length rest.now) }
+        ensures led { (rs : List Row) → IfOk result (λ used. LeadsOn S.holds rs self.old spans.old (take used rest.now) rs self.new spans.new) }
+        ensures memory { (rs : List Row) → OnErr result (StopsIn rs self.old rest.now) }
+        ensures same { result ≡ Ok 0 → self.new ≡ self.old }
+    {
         let Some(header) = front_header(rest) else {
             return Ok(0);
         };

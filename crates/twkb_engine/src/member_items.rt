@@ -1,4 +1,16 @@
 //! The items before the members of a multi-geometry or a collection: their count and their ids.
+ghost use Rattle.std.specs.Prelude.{◌≡◌, ◌+◌, ◌≤◌, ◌<◌, ◌^◌, nat_lt, suc, length, None, IfOk, OnOk};
+ghost use Rattle.twkb_grammar.specs.Roles as role;
+ghost use Rattle.twkb_grammar.specs.Fault as fault;
+ghost use Rattle.twkb_grammar.specs.PlainReader.{unless, too_deep};
+ghost use Rattle.twkb_grammar.specs.Machine.{first_count};
+ghost use Rattle.twkb_outline.specs.Outline.{members_open};
+ghost use Rattle.twkb_outline.specs.Growing.{applied};
+ghost use Rattle.twkb_outline.specs.Admitting.{Admits};
+ghost use Rattle.twkb_body.specs.Head.{head_of, many_of};
+ghost use Rattle.twkb_body.specs.Ids.{ids_of};
+ghost use Rattle.twkb_engine.specs.Stops.{objection_of};
+ghost use Rattle.twkb_engine.specs.declared.next_item.NextItem.TheVariants as next;
 
 use crate::blob_reason::BlobReason;
 use crate::engine::Engine;
@@ -13,9 +25,16 @@ use twkb_num::unzigzag;
 use twkb_tree::Kind;
 
 impl Engine {
+    ghost use Rattle.twkb_engine.specs.State.{IsPlaced, groups_of, outline_in, sums_of, depth_cap};
+    ghost use Rattle.twkb_engine.specs.Taking.{Takes, SameBlob, own_row};
+    ghost use Rattle.twkb_engine.specs.Notes.{NotesGo, notes_with, open_in};
+    ghost use Rattle.twkb_engine.specs.Standing.{IsAlive};
+
     // Why there may not be so many rows and points more.
     #[inline(always)]
-    pub(crate) fn too_many(&self, nodes: u64, points: u64) -> Option<BlobReason> {
+    pub(crate) fn too_many(&self, nodes: u64, points: u64) -> Option<BlobReason>
+        ensures { objection_of result ≡ unless (nat_lt self.now.limits.nodes (self.now.nodes + nodes)) fault.TooManyNodes (unless (nat_lt self.now.limits.points (self.now.points + points)) fault.TooManyPoints None) }
+    {
         if nodes > u64::from(self.limits.nodes()) - self.nodes {
             return Some(BlobReason::TooManyNodes);
         }
@@ -27,7 +46,9 @@ impl Engine {
 
     // Whether one more collection round the members is deeper than the limits allow.
     #[inline(always)]
-    fn is_too_deep(&self, count: u64) -> bool {
+    fn is_too_deep(&self, count: u64) -> bool
+        ensures { result ≡ too_deep self.now.limits (first_count (many_of self.now.head.kind) (length (groups_of self.now.collections))) count }
+    {
         self.head.kind == Kind::Collection
             && count > 0
             && self.collections.len() >= self.limits.nest() as usize
@@ -41,7 +62,14 @@ impl Engine {
         spans: &mut S,
         count: u64,
         width: u64,
-    ) -> Result<bool, Stop> {
+    ) -> Result<bool, Stop>
+        requires next { self.old.next ≡ next.MemberCount }
+        requires room { self.old.start + (self.old.bytes + width) ≤ 2 ^ 63 }
+        requires alive { IsAlive flat.old self.old }
+        ensures taken { Takes (role.Count (first_count (many_of self.old.head.kind) (length (groups_of self.old.collections)))) count width self.old flat.old result self.new flat.new }
+        ensures noted { IfOk result (λ ends. NotesGo S.holds (notes_with (role.Count (first_count (many_of self.old.head.kind) (length (groups_of self.old.collections)))) count width self.old self.new ends) self.old spans.old spans.new) }
+        ensures placed { OnOk result (IsPlaced self.new.next self.new) }
+    {
         let points = if self.head.kind == Kind::MultiPoint { count } else { 0 };
         if self.is_too_deep(count) {
             return Err(Stop::Refused(BlobReason::TooDeep));
@@ -67,7 +95,14 @@ impl Engine {
 
     // Takes an id. It takes memory.
     #[inline(always)]
-    pub(crate) fn id(&mut self, flat: &mut Flat, number: u64, width: u64) -> Result<bool, Stop> {
+    pub(crate) fn id(&mut self, flat: &mut Flat, number: u64, width: u64) -> Result<bool, Stop>
+        requires next { self.old.next ≡ next.Id }
+        requires room { self.old.start + (self.old.bytes + width) ≤ 2 ^ 63 }
+        requires alive { IsAlive flat.old self.old }
+        ensures taken { Takes role.Id number width self.old flat.old result self.new flat.new }
+        ensures begun { OnOk result (open_in self.new ≡ open_in self.old) }
+        ensures placed { OnOk result (IsPlaced self.new.next self.new) }
+    {
         self.bytes += width;
         self.ids.push(unzigzag(number))?;
         if self.ids.count() <= self.members_left {
@@ -79,7 +114,15 @@ impl Engine {
     }
 
     // A geometry with members has its row, and the first of them begins. A row and an open collection take memory.
-    fn begin_members(&mut self, flat: &mut Flat) -> Result<(), AllocError> {
+    fn begin_members(&mut self, flat: &mut Flat) -> Result<(), AllocError>
+        requires row { Admits (own_row self.old) flat.old }
+        requires room { length self.old.collections < depth_cap }
+        ensures step { OnOk result (outline_in self.new ≡ members_open (many_of self.old.head.kind) (head_of self.old.head) (groups_of self.old.collections) (ids_of self.old.ids) (suc self.old.members_left)) }
+        ensures rows { OnOk result (flat.new ≡ applied (own_row self.old) flat.old) }
+        ensures sums { sums_of self.new ≡ sums_of self.old }
+        ensures same { SameBlob self.old self.new }
+        ensures placed { IsPlaced next.MemberCount self.old → OnOk result (IsPlaced self.new.next self.new) }
+    {
         push_row(flat, own_row(&self.head))?;
         if self.head.kind == Kind::Collection {
             self.collections.push(&self.head, &mut self.ids, self.members_left)?;

@@ -1,4 +1,6 @@
 //! The item that comes next.
+ghost use Rattle.std.specs.Prelude.{◌≡◌, ◌↔◌, true, IsTrue};
+ghost use Rattle.twkb_engine.specs.State.{IsByte};
 
 use twkb_tree::Kind;
 
@@ -32,7 +34,9 @@ pub(crate) enum NextItem {
 impl NextItem {
     // Whether it is a byte, and no number.
     #[inline(always)]
-    pub(crate) fn is_byte(self) -> bool {
+    pub(crate) fn is_byte(self) -> bool
+        ensures { IsTrue result ↔ IsByte self }
+    {
         matches!(
             self,
             NextItem::TypeByte | NextItem::MetadataByte | NextItem::ExtendedByte

@@ -1,8 +1,18 @@
 //! The collections that are open.
+ghost use Rattle.std.specs.Prelude.{◌≡◌, ◌≤◌, ◌<◌, ◌-◌, ◌++◌, ◌∷◌, [], ℕ, suc, List, length, take, true, Ok, OnOk, OnErr};
+ghost use Rattle.twkb_grammar.specs.PlainReader.{is_exact as exact};
+ghost use Rattle.twkb_outline.specs.Outline.{OnHeader, outline_past_end};
+ghost use Rattle.twkb_outline.specs.Growing.{id_in};
+ghost use Rattle.twkb_body.specs.Ids.{ids_of};
+ghost use Rattle.twkb_body.specs.Head.{head_of};
+ghost use Rattle.twkb_engine.specs.State.{groups_of};
+ghost use Rattle.twkb_engine.specs.Ends.{IfBlob, IfNext, IfCollection};
+ghost use Rattle.twkb_engine.specs.declared.open_collections.OpenCollection.{OpenCollection};
 
 use smallvec::SmallVec;
 use std::alloc::{AllocError, Global};
 use std::default::MadeWith;
+use std::marker::Model;
 use std::mem::swap;
 use twkb_body::{Head, MemberIds};
 
@@ -48,10 +58,21 @@ pub(crate) struct OpenCollections {
     count: usize,
 }
 
+impl Model for OpenCollections {
+    ghost Value = { List OpenCollection };
+
+    ghost view = { λ c. take c.count c.places.items };
+
+    ghost invariant = { λ c. c.count ≤ length c.places.items };
+}
+
 // Adds a place. Out of line: it runs once for each depth. It makes the blank itself, so that no caller keeps a collection in memory for it.
 #[cold]
 #[inline(never)]
-fn make_place(places: &mut SmallVec<OpenCollection, INLINE>) -> Result<(), AllocError> {
+fn make_place(places: &mut SmallVec<OpenCollection, INLINE>) -> Result<(), AllocError>
+    ensures place { OnOk result ((blank : OpenCollection) × (places.new.items ≡ places.old.items ++ blank ∷ [])) }
+    ensures same { OnErr result (places.new.items ≡ places.old.items) }
+{
     let blank = OpenCollection::made_with(*places.allocator());
     if places.reserve(MORE).is_err() {
         return Err(AllocError);
@@ -62,7 +83,9 @@ fn make_place(places: &mut SmallVec<OpenCollection, INLINE>) -> Result<(), Alloc
 
 impl OpenCollections {
     // No open collection. Takes no memory.
-    pub(crate) fn new(alloc: Global) -> OpenCollections {
+    pub(crate) fn new(alloc: Global) -> OpenCollections
+        ensures { result ≡ [] }
+    {
         OpenCollections {
             places: SmallVec::new(alloc),
             count: 0,
@@ -71,13 +94,17 @@ impl OpenCollections {
 
     // The number of open collections.
     #[inline(always)]
-    pub(crate) fn len(&self) -> usize {
+    pub(crate) fn len(&self) -> usize
+        ensures { result ≡ length self.now }
+    {
         self.count
     }
 
     // The id of the open member of the innermost collection, if it has one.
     #[inline(always)]
-    pub(crate) fn id(&self) -> Option<i64> {
+    pub(crate) fn id(&self) -> Option<i64>
+        ensures { result ≡ id_in (groups_of self.now) }
+    {
         if self.count == 0 {
             return None;
         }
@@ -92,7 +119,11 @@ impl OpenCollections {
         head: &Head,
         ids: &mut MemberIds,
         members_left: u64,
-    ) -> Result<(), AllocError> {
+    ) -> Result<(), AllocError>
+        ensures pushed { OnOk result (groups_of self.new ≡ record { head = head_of head.now; ids = ids_of ids.old; left = members_left } ∷ groups_of self.old) }
+        ensures more { OnOk result (length self.new ≡ suc (length self.old)) }
+        ensures same { OnErr result (self.new ≡ self.old) }
+    {
         if self.count >= self.places.len() {
             let Ok(()) = make_place(&mut self.places) else {
                 return Err(AllocError);
@@ -108,14 +139,22 @@ impl OpenCollections {
 
     // Leaves no collection open.
     #[inline(always)]
-    pub(crate) fn clear(&mut self) {
+    pub(crate) fn clear(&mut self)
+        ensures { self.new ≡ [] }
+    {
         self.count = 0;
     }
 
     // Ends a member of the innermost collection: the next member begins, or the collection ends with it, and the room of its ids is given
     // back.
     #[inline(always)]
-    pub(crate) fn end_member(&mut self, ids: &mut MemberIds) -> MemberEnd {
+    pub(crate) fn end_member(&mut self, ids: &mut MemberIds) -> MemberEnd
+        ensures blob { IfBlob result (self.old ≡ []) }
+        ensures goes_on { IfNext result ((bytes : ℕ) → outline_past_end true bytes (groups_of self.old) ≡ Ok (groups_of self.new, OnHeader)) }
+        ensures goes_up { IfCollection result (λ h. (bytes : ℕ) → outline_past_end (exact h.size (bytes - h.from)) bytes (groups_of self.new) ≡ outline_past_end true bytes (groups_of self.old)) }
+        ensures fewer { IfCollection result (λ h. length self.new < length self.old) }
+        ensures as_many { length self.new ≤ length self.old }
+    {
         if self.count == 0 {
             return MemberEnd::Blob;
         }

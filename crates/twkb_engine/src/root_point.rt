@@ -1,4 +1,8 @@
 //! A blob that is a single point, complete at the start of the bytes.
+ghost use Rattle.std.specs.Prelude.{◌≡◌, ◌+◌, ◌-◌, ◌≤◌, ◌^◌, List, [], ℕ, true, Ok, length, IfOk, IfSome, OnErr};
+ghost use Rattle.twkb_grammar.specs.PlainReader.{is_exact};
+ghost use Rattle.twkb_front.specs.Whole.{WholePoint};
+ghost use Rattle.twkb_outline.specs.Parts.{PartIn};
 
 use crate::engine::Engine;
 use crate::span_notes::SpanNotes;
@@ -11,7 +15,10 @@ use twkb_tree::Kind;
 
 // A point at the start of the bytes with its header, if it has the size that this declares, if any.
 #[inline(always)]
-fn exact_point(bytes: &[u8]) -> Option<Whole> {
+fn exact_point(bytes: &[u8]) -> Option<Whole>
+    ensures point { IfSome result (λ front. WholePoint bytes.now front.to front.used front.size) }
+    ensures exact { IfSome result (λ front. is_exact front.size (front.used - 3) ≡ true) }
+{
     let point = whole_point(bytes)?;
     let Some(size) = point.size else {
         return Some(point);
@@ -23,6 +30,10 @@ fn exact_point(bytes: &[u8]) -> Option<Whole> {
 }
 
 impl Engine {
+    ghost use Rattle.twkb_grammar.specs.Noting.{no_notes};
+    ghost use Rattle.twkb_engine.specs.State.{allowance_of};
+    ghost use Rattle.twkb_engine.specs.Standing.{StandsAt, IsFed, IfMade};
+
     // Takes a blob that is a single point, if all of it is complete, it has no optional part but a size of one byte, and that is exact; returns how many bytes it has,
     // or 0, and then it changes nothing. The row and a span take memory. A frame of its own, for the sake of its callers' registers.
     #[inline(never)]
@@ -31,7 +42,14 @@ impl Engine {
         flat: &mut Flat,
         spans: &mut S,
         piece: &[u8],
-    ) -> Result<usize, AllocError> {
+    ) -> Result<usize, AllocError>
+        requires between { StandsAt [] flat.old self.old }
+        requires room { self.old.start + length piece.now ≤ 2 ^ 63 }
+        ensures made { (told : Type 0) → IfMade result (λ used. (told → S.holds spans.old no_notes) → IsFed S.holds told (allowance_of self.old) self.old.start [] piece.now (Ok (used, true)) flat.new self.new spans.new) }
+        ensures none { result ≡ Ok 0 → (self.new ≡ self.old) × (flat.new ≡ flat.old) × (spans.new ≡ spans.old) }
+        ensures memory { OnErr result (PartIn (allowance_of self.old) [] piece.now) }
+        ensures limits { self.new.limits ≡ self.old.limits }
+    {
         if self.limits.points() == 0 {
             return Ok(0);
         }

@@ -1,4 +1,6 @@
 //! What a reader notes of spans.
+ghost use Rattle.std.specs.Prelude.{◌≡◌, ◌<◌, ◌^◌, ◌∷◌, [], OnOk, length, ⊤};
+ghost use Rattle.twkb_grammar.specs.Noting.{Notes, no_notes, note_header, note_metadata, note_end};
 
 use std::alloc::AllocError;
 use twkb_grammar::Span;
@@ -6,17 +8,24 @@ use twkb_header::TypeByte;
 
 /// What takes down the spans of the geometries that a reader reads.
 pub trait SpanNotes {
+    // These notes are held; what notes nothing holds any.
+    ghost holds: { Self → Notes → Type 0 };
+
     /// A geometry begins with this type byte at this offset, after so many points. Takes memory.
-    fn begin(&mut self, offset: u64, points: u64, byte: TypeByte) -> Result<(), AllocError>;
+    fn begin(&mut self, offset: u64, points: u64, byte: TypeByte) -> Result<(), AllocError>
+        ensures { OnOk result ((w : Notes) → length w.begun < 2 ^ 32 → holds self.old w → holds self.new (note_header offset points byte w)) };
 
     /// The metadata byte of the innermost geometry. Takes no memory.
-    fn set_metadata(&mut self, byte: u8);
+    fn set_metadata(&mut self, byte: u8)
+        ensures { (w : Notes) → holds self.old w → holds self.new (note_metadata byte w) };
 
     /// The innermost geometry ends at this offset, with so many points up to there. Takes no memory.
-    fn end(&mut self, offset: u64, points: u64);
+    fn end(&mut self, offset: u64, points: u64)
+        ensures { (w : Notes) → holds self.old w → holds self.new (note_end offset points w) };
 
     /// The span of a blob that is complete, if nothing was noted before. Takes memory.
-    fn put(&mut self, span: Span) -> Result<(), AllocError>;
+    fn put(&mut self, span: Span) -> Result<(), AllocError>
+        ensures { OnOk result (holds self.old no_notes → holds self.new (record { spans = span ∷ []; begun = [] })) };
 }
 
 /// Notes nothing.
@@ -24,6 +33,10 @@ pub trait SpanNotes {
 pub struct NoSpans;
 
 impl SpanNotes for NoSpans {
+    ghost use Rattle.std.specs.Prelude.{⊤};
+
+    ghost holds = { λ nothing w. ⊤ };
+
     #[inline(always)]
     fn begin(&mut self, _offset: u64, _points: u64, _byte: TypeByte) -> Result<(), AllocError> {
         Ok(())

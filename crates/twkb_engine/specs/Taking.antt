@@ -1,0 +1,114 @@
+-- What an engine makes of the next item.
+use Rattle.std.specs.Prelude.{◌≡◌, ◌+◌, ◌⊎◌, ℕ, List, [], ◌++◌, ◌∷◌, Bool, true, false, Some, None, Result, Ok, Err, ⊤}
+use Rattle.twkb_points.specs.Point.{Point}
+use Rattle.twkb_tree.specs.Rows.{Row, first_id}
+use Rattle.twkb_grammar.specs.Roles.{Role}
+use Rattle.twkb_grammar.specs.Fault.{Reason, moved, nodes_by, points_by}
+use Rattle.twkb_grammar.specs.Machine.{Sums}
+use Rattle.twkb_grammar.specs.PlainReader.{objection}
+use Rattle.twkb_outline.specs.Outline.{Outline, OnFinished, Step, OnEnd, options, shut, outline_advanced, outline_ends}
+use Rattle.twkb_outline.specs.Growing.{Change, NewRow, change_of, applied, own_of, header_change, point_change}
+use Rattle.twkb_outline.specs.Admitting.{Admits}
+use Rattle.twkb_outline.specs.Parts.{Passes}
+use Rattle.twkb_body.specs.Head.{head_of, kind_of, form_of}
+use Rattle.twkb_body.specs.Ids.{ids_of}
+use Rattle.twkb_engine.specs.State.{sums_of, outline_in, groups_of}
+use Rattle.twkb_engine.specs.Stops.{reason_of}
+use Rattle.twkb_engine.specs.declared.next_item.NextItem.TheVariants as next
+use Rattle.twkb_engine.specs.declared.engine.Engine.{Engine}
+use Rattle.twkb_engine.specs.declared.stop.Stop.{Stop}
+use Rattle.twkb_engine.specs.declared.stop.Stop.TheVariants.{Memory, Refused}
+
+-- the sums after an item of this role and number, of so many bytes
+abbrev pub sums_with : Sums → Role → (n width : ℕ) → Sums
+sums_with e r n width = record { bytes = e.bytes + width; position = moved e.position r n; nodes = e.nodes + nodes_by r n; points = e.points + points_by r n }
+
+-- the outline after it, past the ends; or why they are refused
+abbrev pub way_of : (n width : ℕ) → Engine → Result Outline Reason
+way_of n width d = outline_ends (d.bytes + width) (outline_advanced (d.bytes + width) n (outline_in d))
+
+-- the grammar's first reason against it, if there is one
+abbrev pub IsFree : Role → (n : ℕ) → Engine → Type 0
+IsFree r n d = objection d.limits (sums_of d) r n ≡ None
+
+-- the row or the point that it brings
+abbrev pub brings : Role → (n : ℕ) → Engine → Change
+brings r n d = change_of (moved d.position r n) n (outline_in d)
+
+-- the rows take what it brings
+abbrev pub MayBring : Role → (n : ℕ) → Engine → List Row → Type 0
+MayBring r n d rs = IsFree r n d → Admits (brings r n d) rs
+
+-- a blob begins, at this offset of the stream
+pub record BeginsAt (offset : ℕ) (d : Engine) : Type 0 where
+  pub start : d.start ≡ offset
+  pub next : d.next ≡ next.TypeByte
+  pub bytes : d.bytes ≡ 0
+  pub nodes : d.nodes ≡ 1
+  pub points : d.points ≡ 0
+  pub collections : groups_of d.collections ≡ []
+
+-- it stays in its blob, with the limits that it had
+pub record SameBlob (d e : Engine) : Type 0 where
+  pub limits : e.limits ≡ d.limits
+  pub start : e.start ≡ d.start
+
+-- all that it keeps besides its header, its position and its ids is the same
+pub record SameBut (d e : Engine) : Type 0 where
+  pub limits : e.limits ≡ d.limits
+  pub start : e.start ≡ d.start
+  pub bytes : e.bytes ≡ d.bytes
+  pub nodes : e.nodes ≡ d.nodes
+  pub points : e.points ≡ d.points
+  pub collections : e.collections ≡ d.collections
+  pub next : e.next ≡ d.next
+
+-- What an engine answers to an item of this role and number, of so many bytes: it leads on past the ends after it; or the blob ends with it; or it was judged, and so
+-- were the sizes that end with it, but there is no memory for what it brings; or the grammar's first reason refuses it, or a size at its end.
+abbrev pub Takes : Role → (n width : ℕ) → Engine → List Row → Result Bool Stop → Engine → List Row → Type 0
+Takes r n width d rs (Ok false) e more = IsFree r n d × (way_of n width d ≡ Ok (outline_in e)) × (sums_of e ≡ sums_with (sums_of d) r n width) × (more ≡ applied (brings r n d) rs) × SameBlob d e
+Takes r n width d rs (Ok true) e more = IsFree r n d × (way_of n width d ≡ Ok ([], OnFinished)) × (more ≡ applied (brings r n d) rs) × BeginsAt (d.start + (d.bytes + width)) e
+Takes r n width d rs (Err Memory) e more = IsFree r n d × Passes (way_of n width d)
+Takes r n width d rs (Err (Refused why)) e more =
+    ((objection d.limits (sums_of d) r n ≡ Some (reason_of why)) × (e.bytes ≡ d.bytes)) ⊎ (IsFree r n d × (way_of n width d ≡ Err (reason_of why)) × (e.bytes ≡ d.bytes + width))
+
+-- the same of an item that is answered by no more than whether there is memory for it: no geometry ends with it
+abbrev pub TakesOn : {E : Type 0} → Role → (n width : ℕ) → Engine → List Row → Result ⊤ E → Engine → List Row → Type 0
+TakesOn r n width d rs (Ok u) e more = Takes r n width d rs (Ok false) e more
+TakesOn r n width d rs (Err why) e more = Takes r n width d rs (Err Memory) e more
+
+-- What an engine answers from which this way leads on, with this change of the rows: it is further on that way; or the blob ends; or there is no memory for the change,
+-- though the sizes were judged; or one is wrong.
+abbrev pub Lands : Result Outline Reason → Change → Engine → List Row → Result Bool Stop → Engine → List Row → Type 0
+Lands way change d rs (Ok false) e more = (way ≡ Ok (outline_in e)) × (sums_of e ≡ sums_of d) × (more ≡ applied change rs) × SameBlob d e
+Lands way change d rs (Ok true) e more = (way ≡ Ok ([], OnFinished)) × (more ≡ applied change rs) × BeginsAt (d.start + d.bytes) e
+Lands way change d rs (Err Memory) e more = Passes way
+Lands way change d rs (Err (Refused why)) e more = (way ≡ Err (reason_of why)) × (e.bytes ≡ d.bytes)
+
+-- past this step of the geometry that is read
+abbrev pub past : Engine → Step → Result Outline Reason
+past d s = outline_ends d.bytes (groups_of d.collections, s)
+
+-- past the end of the geometry that is read, and of the collections that end with it
+abbrev pub past_end : Engine → Result Outline Reason
+past_end d = past d (OnEnd (head_of d.head))
+
+-- to what its header asks for from these parts on
+abbrev pub past_parts : Engine → List Role → Result Outline Reason
+past_parts d parts = past d (options (kind_of d.head.kind) (head_of d.head) parts)
+
+-- past a value of this depth that is done, in these lists
+abbrev pub past_value : Engine → (depth : ℕ) → List ℕ → Result Outline Reason
+past_value d depth lists = past d (shut (head_of d.head) (form_of d.head.kind) (ids_of d.ids) depth lists)
+
+-- its own row
+abbrev pub own_row : Engine → Change
+own_row d = NewRow (own_of d.head.depth d.head.id (kind_of d.head.kind) d.head.precision)
+
+-- the row that its header brings, if these parts are still to come
+abbrev pub header_row : Engine → List Role → Change
+header_row d parts = header_change d.head.depth d.head.id (kind_of d.head.kind) d.head.precision d.head.metadata parts
+
+-- what this point brings
+abbrev pub point_row : Point → Engine → Change
+point_row p d = point_change p d.head.depth d.head.id d.head.precision (form_of d.head.kind) (first_id (ids_of d.ids))
