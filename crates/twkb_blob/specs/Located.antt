@@ -1,12 +1,9 @@
 -- What a reader of geometries with their spans answers.
-use Rattle.std.specs.Prelude.{◌≡◌, ℕ, ℤ, get_or, ◌/◌, Bool, true, false, length, List, [], ◌∷◌, Option, Some, None, IfOk, IfSome, Result, Ok, Err}
+use Rattle.std.specs.Prelude.{◌≡◌, ℕ, Bool, true, false, List, [], Option, Some, None, IfOk, IfSome, Result, Ok, Err}
 use Rattle.std.specs.declared.io.traits.Read.{Ghosts}
-use Rattle.twkb_num.specs.Zigzag.{unzigzag_of}
-use Rattle.twkb_points.specs.Point.{Point}
 use Rattle.twkb_tree.specs.Tree.{Tree}
-use Rattle.twkb_tree.specs.Rows.{Row, rows, whole_row}
+use Rattle.twkb_tree.specs.Rows.{Row, rows}
 use Rattle.twkb_tree.specs.Limits.{Allowance}
-use Rattle.twkb_tree.specs.declared.kind.Kind.TheVariants as kind
 use Rattle.twkb_grammar.specs.Blob.{Blob}
 use Rattle.twkb_grammar.specs.Spans.{spans_of_blob}
 use Rattle.twkb_grammar.specs.Noting.{Notes}
@@ -40,18 +37,6 @@ abbrev pub IsSpanned : {R : Type 0} {read : Ghosts R} → Allowance → Input R 
 IsSpanned limits old new (Ok true) rs spans = (g : Tree) × HasSpans limits old new g spans × (rs ≡ rows 0 g)
 IsSpanned limits old new (Ok false) rs spans = IsNext limits old new (Ok None)
 IsSpanned limits old new (Err why) rs spans = IsNext limits old new (Err why)
-
--- the precision that the first byte tells, a header's
-abbrev pub first_precision : List ℕ → ℤ
-first_precision bytes = unzigzag_of (get_or bytes 0 0 / 16)
-
--- the only row is that of a point, of the precision that the first byte tells
-abbrev pub HasPointRow : List ℕ → List Row → Type 0
-HasPointRow bytes rs = (to : Point) × (rs ≡ whole_row 0 kind.Point None (first_precision bytes) (to ∷ []) ∷ [])
-
--- the span of a point whose blob has these bytes and begins at this offset
-abbrev pub point_span : (start : ℕ) (bytes : List ℕ) → Span
-point_span start bytes = record { level = 0; offset = start; kind = kind.Point; precision = first_precision bytes; metadata = get_or bytes 1 0; length = length bytes; points = 1 }
 
 -- What a reader of an input answers that reads a blob into a form, by what notes its spans: a geometry whose blob left the input, with its rows and its spans; or an
 -- answer without a geometry, and then the form has no rows.

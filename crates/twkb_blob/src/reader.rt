@@ -294,7 +294,7 @@ impl<'a, R: Read> Reader<'a, R> {
     // The tree of the rows of a blob that was read.
     fn tree_of(&mut self, alloc: Global, flat: &Flat) -> Result<Geometry, BlobFault>
         requires { 0 < length flat.now }
-        ensures { IsTreeOf (Ok true) flat.now (some_tree result) }
+        ensures tree { IsTreeOf (Ok true) flat.now (some_tree result) }
         ensures spent { is_err result ≡ true → is_spent self.new ≡ true }
     {
         match flat.to_geometry(alloc) {

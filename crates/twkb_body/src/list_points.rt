@@ -77,7 +77,7 @@ pub fn take_members(
     requires member { EndsInMember depth ids.old.has_ids flat.old }
     requires nodes { length flat.old + most ≤ 2 ^ 20 }
     requires points { length (row_points flat.old) + most ≤ 2 ^ 24 }
-    ensures { TakesMembers flat.old (ids_of ids.old) depth from bytes.now most result (ids_of ids.new) flat.new }
+    ensures taken { TakesMembers flat.old (ids_of ids.old) depth from bytes.now most result (ids_of ids.new) flat.new }
     ensures has { ids.new.has_ids ≡ ids.old.has_ids }
 {
     let mut used = 0;

@@ -1,8 +1,11 @@
 -- What an engine has noted of spans.
-use Rattle.std.specs.Prelude.{◌≡◌, ◌+◌, if◌then◌else◌, ℕ, List, length, Bool}
+use Rattle.std.specs.Prelude.{◌≡◌, ◌+◌, ◌/◌, get_or, if◌then◌else◌, ℕ, List, length, Bool}
+use Rattle.twkb_num.specs.Zigzag.{unzigzag_of}
+use Rattle.twkb_tree.specs.declared.kind.Kind.TheVariants as kinds
 use Rattle.twkb_grammar.specs.Roles.{Role}
 use Rattle.twkb_grammar.specs.Fault.{points_by}
 use Rattle.twkb_grammar.specs.Noting.{Notes, noted_by, note_ends_to}
+use Rattle.twkb_grammar.specs.declared.span.Span.{Span}
 use Rattle.twkb_outline.specs.Reading.{open_count}
 use Rattle.twkb_engine.specs.State.{outline_in, sums_of}
 use Rattle.twkb_engine.specs.declared.engine.Engine.{Engine}
@@ -26,3 +29,7 @@ notes_past d e ends = note_ends_to (if ends then 0 else open_in e) (d.start + d.
 -- the notes that are held go on so
 abbrev pub NotesGo : {S : Type 0} → (S → Notes → Type 0) → (Notes → Notes) → Engine → (old new : S) → Type 0
 NotesGo holds told d old new = (w : Notes) → AreOpen d w → holds old w → holds new (told w)
+
+-- the span of a point whose blob has these bytes and begins at this offset
+abbrev pub point_span : (start : ℕ) (bytes : List ℕ) → Span
+point_span start bytes = record { level = 0; offset = start; kind = kinds.Point; precision = unzigzag_of (get_or bytes 0 0 / 16); metadata = get_or bytes 1 0; length = length bytes; points = 1 }

@@ -2,7 +2,8 @@
 ghost use Rattle.std.specs.Prelude.{◌≡◌, ◌+◌, ◌≤◌, ◌<◌, ◌^◌, nat_lt, suc, length, None, IfOk, OnOk};
 ghost use Rattle.twkb_grammar.specs.Roles as role;
 ghost use Rattle.twkb_grammar.specs.Fault as fault;
-ghost use Rattle.twkb_grammar.specs.PlainReader.{unless, too_deep};
+ghost use Rattle.twkb_grammar.specs.Fault.{points_of};
+ghost use Rattle.twkb_grammar.specs.PlainReader.{unless, objection};
 ghost use Rattle.twkb_grammar.specs.Machine.{first_count};
 ghost use Rattle.twkb_outline.specs.Outline.{members_open};
 ghost use Rattle.twkb_outline.specs.Growing.{applied};
@@ -17,7 +18,6 @@ use crate::engine::Engine;
 use crate::next_item::NextItem;
 use crate::span_notes::SpanNotes;
 use crate::stop::Stop;
-use std::alloc::AllocError;
 use twkb_body::{own_row, push_row};
 use twkb_flat::Flat;
 use twkb_header::Metadata;
@@ -44,14 +44,17 @@ impl Engine {
         None
     }
 
-    // Whether one more collection round the members is deeper than the limits allow.
+    // Why there may not be so many members, with so many points.
     #[inline(always)]
-    fn is_too_deep(&self, count: u64) -> bool
-        ensures { result ≡ too_deep self.now.limits (first_count (many_of self.now.head.kind) (length (groups_of self.now.collections))) count }
+    fn too_many_members(&self, count: u64, points: u64) -> Option<BlobReason>
+        requires { points ≡ points_of (first_count (many_of self.now.head.kind) (length (groups_of self.now.collections))) count }
+        ensures { objection_of result ≡ objection self.now.limits (sums_of self.now) (role.Count (first_count (many_of self.now.head.kind) (length (groups_of self.now.collections)))) count }
     {
-        self.head.kind == Kind::Collection
-            && count > 0
-            && self.collections.len() >= self.limits.nest() as usize
+        let nest = self.limits.nest() as usize;
+        if self.head.kind == Kind::Collection && count > 0 && self.collections.len() >= nest {
+            return Some(BlobReason::TooDeep);
+        }
+        self.too_many(count, points)
     }
 
     // Takes the count of members. Refused if these are too deep, or too many rows or points.
@@ -71,10 +74,7 @@ impl Engine {
         ensures placed { OnOk result (IsPlaced self.new.next self.new) }
     {
         let points = if self.head.kind == Kind::MultiPoint { count } else { 0 };
-        if self.is_too_deep(count) {
-            return Err(Stop::Refused(BlobReason::TooDeep));
-        }
-        if let Some(reason) = self.too_many(count, points) {
+        if let Some(reason) = self.too_many_members(count, points) {
             return Err(Stop::Refused(reason));
         }
         self.bytes += width;
@@ -89,8 +89,7 @@ impl Engine {
             self.next = NextItem::Id;
             return Ok(false);
         }
-        self.begin_members(flat)?;
-        Ok(false)
+        self.begin_members(flat)
     }
 
     // Takes an id. It takes memory.
@@ -109,12 +108,11 @@ impl Engine {
             return Ok(false);
         }
         self.ids.begin();
-        self.begin_members(flat)?;
-        Ok(false)
+        self.begin_members(flat)
     }
 
     // A geometry with members has its row, and the first of them begins. A row and an open collection take memory.
-    fn begin_members(&mut self, flat: &mut Flat) -> Result<(), AllocError>
+    fn begin_members(&mut self, flat: &mut Flat) -> Result<bool, Stop>
         requires row { Admits (own_row self.old) flat.old }
         requires room { length self.old.collections < depth_cap }
         ensures step { OnOk result (outline_in self.new ≡ members_open (many_of self.old.head.kind) (head_of self.old.head) (groups_of self.old.collections) (ids_of self.old.ids) (suc self.old.members_left)) }
@@ -129,6 +127,6 @@ impl Engine {
             self.members_left = 0;
         }
         self.next = NextItem::first_of(self.head.kind);
-        Ok(())
+        Ok(false)
     }
 }

@@ -3,6 +3,7 @@ ghost use Rattle.std.specs.Prelude.{◌≡◌, ◌+◌, ◌-◌, ◌≤◌, ◌^
 ghost use Rattle.twkb_grammar.specs.PlainReader.{is_exact};
 ghost use Rattle.twkb_front.specs.Whole.{WholePoint};
 ghost use Rattle.twkb_outline.specs.Parts.{PartIn};
+ghost use Rattle.twkb_engine.specs.Notes.{point_span};
 
 use crate::engine::Engine;
 use crate::span_notes::SpanNotes;
@@ -29,13 +30,30 @@ fn exact_point(bytes: &[u8]) -> Option<Whole>
     Some(point)
 }
 
+// The span of a blob that is a single point, of these bytes, which begins at this offset.
+#[inline(always)]
+fn point_span(offset: u64, blob: &[u8]) -> Span
+    requires long { 2 ≤ length blob.now }
+    ensures { result ≡ point_span offset blob.now }
+{
+    Span {
+        level: 0,
+        offset,
+        kind: Kind::Point,
+        precision: TypeByte::from_byte(blob[0]).precision(),
+        metadata: blob[1],
+        length: blob.len() as u64,
+        points: 1,
+    }
+}
+
 impl Engine {
     ghost use Rattle.twkb_grammar.specs.Noting.{no_notes};
     ghost use Rattle.twkb_engine.specs.State.{allowance_of};
     ghost use Rattle.twkb_engine.specs.Standing.{StandsAt, IsFed, IfMade};
 
-    // Takes a blob that is a single point, if all of it is complete, it has no optional part but a size of one byte, and that is exact; returns how many bytes it has,
-    // or 0, and then it changes nothing. The row and a span take memory. A frame of its own, for the sake of its callers' registers.
+    // Takes a blob that is a single point, if all of it is complete, it has no optional part but a size of one byte, and that is exact; returns
+    // how many bytes it has, or 0, and then it changes nothing. The row and a span take memory. A frame of its own, for its callers' registers.
     #[inline(never)]
     pub(crate) fn take_root_point<S: SpanNotes>(
         &mut self,
@@ -56,19 +74,10 @@ impl Engine {
         let Some(point) = exact_point(piece) else {
             return Ok(0);
         };
-        let used = point.used;
-        let precision = TypeByte::from_byte(piece[0]).precision();
-        spans.put(Span {
-            level: 0,
-            offset: self.start,
-            kind: Kind::Point,
-            precision,
-            metadata: piece[1],
-            length: used as u64,
-            points: 1,
-        })?;
-        flat.begin_point(precision, point.to)?;
-        self.start += used as u64;
-        Ok(used)
+        let span = point_span(self.start, &piece[..point.used]);
+        spans.put(span)?;
+        flat.begin_point(span.precision, point.to)?;
+        self.start += span.length;
+        Ok(point.used)
     }
 }
