@@ -9,7 +9,7 @@ use Rattle.twkb_outline.specs.Reading.{sums_past}
 use Rattle.twkb_outline.specs.Noting.{NotedOutline}
 use Rattle.twkb_outline.proofs.Outlined.{noted_item}
 use Rattle.twkb_front.specs.Front.{NumberInFront}
-use Rattle.twkb_body.specs.Body.{head_of}
+use Rattle.twkb_body.specs.Head.{head_of}
 use Rattle.twkb_body.specs.Running.{IdsRun, IdsStop}
 use Rattle.twkb_body.proofs.PointRuns.{step_none, step_more, step_judged, step_stops}
 

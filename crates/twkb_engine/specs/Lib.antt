@@ -1,3 +1,4 @@
+pub mod Fits
 pub mod State
 pub mod Stops
 pub mod Ends

@@ -1,7 +1,5 @@
 -- What comes next, as a step of an outline.
-use Rattle.std.specs.Prelude.{◌≡◌, ◌≤◌, ◌-◌, ℕ, zero, suc, List, [], ◌∷◌, ◌++◌, length, take, ℤ, Option, Some, ⊤, ⊥}
-use Rattle.twkb_tree.specs.declared.kind.Kind.{Kind}
-use Rattle.twkb_tree.specs.declared.kind.Kind.TheVariants as kinds
+use Rattle.std.specs.Prelude.{◌≡◌, ◌-◌, ℕ, zero, suc, List, [], ◌∷◌, ◌++◌, length, Some, ⊤}
 use Rattle.twkb_tree.specs.Limits.{Allowance}
 use Rattle.twkb_grammar.specs.Bits.{bit}
 use Rattle.twkb_grammar.specs.Roles as role
@@ -12,33 +10,11 @@ use Rattle.twkb_outline.specs.Outline.{Outline, Step, OnHeader, OnMetadata, OnOp
 use Rattle.twkb_outline.specs.Growing.{id_in}
 use Rattle.twkb_body.specs.Head.{head_of, kind_of, form_of, many_of, IsHeadAt}
 use Rattle.twkb_body.specs.Ids.{ids_of, ids_read}
+use Rattle.twkb_engine.specs.Fits.{lists_of, line_lists_of, area_lists_of}
 use Rattle.twkb_engine.specs.declared.next_item.NextItem.{NextItem}
 use Rattle.twkb_engine.specs.declared.next_item.NextItem.TheVariants as next
 use Rattle.twkb_engine.specs.declared.open_collections.OpenCollection.{OpenCollection}
 use Rattle.twkb_engine.specs.declared.engine.Engine.{Engine}
-
--- ---- the open lists of a body
-
--- how many values are left after the open one in each list round a coordinate, the innermost first
-abbrev pub lists_of : Kind → (points rings members : ℕ) → List ℕ
-lists_of kinds.Linestring p r m = p ∷ []
-lists_of kinds.Polygon p r m = p ∷ r ∷ []
-lists_of kinds.MultiPoint p r m = m ∷ []
-lists_of kinds.MultiLinestring p r m = p ∷ m ∷ []
-lists_of kinds.MultiPolygon p r m = p ∷ r ∷ m ∷ []
-lists_of _ p r m = []
-
--- the same round a list of points
-abbrev pub line_lists_of : Kind → (rings members : ℕ) → List ℕ
-line_lists_of kinds.Polygon r m = r ∷ []
-line_lists_of kinds.MultiLinestring r m = m ∷ []
-line_lists_of kinds.MultiPolygon r m = r ∷ m ∷ []
-line_lists_of _ r m = []
-
--- the same round a list of rings
-abbrev pub area_lists_of : Kind → (members : ℕ) → List ℕ
-area_lists_of kinds.MultiPolygon m = m ∷ []
-area_lists_of _ m = []
 
 -- ---- the optional parts of a header
 
@@ -99,37 +75,7 @@ sums_of d = record { bytes = d.bytes; position = d.position; nodes = d.nodes; po
 abbrev pub allowance_of : Engine → Allowance
 allowance_of d = d.limits
 
--- more collections than can be open: limits let at most 32 nest
-abbrev pub depth_cap : ℕ
-depth_cap = 64
-
 -- ---- what holds of its fields
-
--- a geometry of this kind has such an item
-abbrev pub ItemFits : NextItem → Kind → Type 0
-ItemFits next.MemberCount kinds.Point = ⊥
-ItemFits next.MemberCount kinds.Linestring = ⊥
-ItemFits next.MemberCount kinds.Polygon = ⊥
-ItemFits next.X kinds.Collection = ⊥
-ItemFits next.Y kinds.Collection = ⊥
-ItemFits next.PointCount kinds.Point = ⊥
-ItemFits next.PointCount kinds.MultiPoint = ⊥
-ItemFits next.PointCount kinds.Collection = ⊥
-ItemFits next.RingCount kinds.Point = ⊥
-ItemFits next.RingCount kinds.Linestring = ⊥
-ItemFits next.RingCount kinds.MultiPoint = ⊥
-ItemFits next.RingCount kinds.MultiLinestring = ⊥
-ItemFits next.RingCount kinds.Collection = ⊥
-ItemFits _ kinds.Ring = ⊥
-ItemFits _ _ = ⊤
-
--- lists of which no value is open have none left
-pub record ListsFit (item : NextItem) (kind : Kind) (points rings members : ℕ) : Type 0 where
-  pub no_points : item ≡ next.PointCount → points ≡ 0
-  pub no_rings : item ≡ next.RingCount → (points ≡ 0) × (rings ≡ 0)
-  pub no_list : lists_of kind 1 0 0 ≡ lists_of kind 0 0 0 → points ≡ 0
-  pub no_area : line_lists_of kind 1 0 ≡ line_lists_of kind 0 0 → rings ≡ 0
-  pub no_member : lists_of kind 0 0 1 ≡ lists_of kind 0 0 0 → members ≡ 0
 
 -- a header is behind it, and its geometry is in the open collections
 abbrev pub IsPlaced : NextItem → Engine → Type 0
@@ -140,10 +86,3 @@ IsPlaced _ d = IsHeadAt (length (groups_of d.collections)) (id_in (groups_of d.c
 -- an item in this role comes next
 abbrev pub IsNext : Role → Engine → Type 0
 IsNext r d = outline_role (sums_of d) (outline_in d) ≡ Some r
-
--- the next item is a byte
-abbrev pub IsByte : NextItem → Type 0
-IsByte next.TypeByte = ⊤
-IsByte next.MetadataByte = ⊤
-IsByte next.ExtendedByte = ⊤
-IsByte _ = ⊥

@@ -20,7 +20,8 @@ use twkb_num::unzigzag;
 use twkb_points::Pt;
 
 impl Engine {
-    ghost use Rattle.twkb_engine.specs.State.{IsPlaced, lists_of, line_lists_of, outline_in, sums_of};
+    ghost use Rattle.twkb_engine.specs.State.{IsPlaced, outline_in, sums_of};
+    ghost use Rattle.twkb_engine.specs.Fits.{lists_of, line_lists_of};
     ghost use Rattle.twkb_engine.specs.Taking.{Takes, Lands, SameBlob, past_end, past_value, point_row};
     ghost use Rattle.twkb_engine.specs.Notes.{NotesGo, notes_with, notes_past, open_in};
     ghost use Rattle.twkb_engine.specs.Standing.{IsAlive};

@@ -4,6 +4,7 @@ ghost use Rattle.twkb_num.specs.Varint.{IsOpenVarint};
 ghost use Rattle.twkb_tree.specs.Rows.{Row};
 ghost use Rattle.twkb_tree.specs.Limits.{IsAllowance};
 ghost use Rattle.twkb_grammar.specs.Roles.{Role};
+ghost use Rattle.twkb_engine.specs.Fits.{ItemFits, ListsFit, depth_cap};
 
 use crate::next_item::NextItem;
 use crate::open_collections::OpenCollections;
@@ -49,7 +50,8 @@ pub struct Engine {
 }
 
 impl Engine {
-    ghost use Rattle.twkb_engine.specs.State.{IsByte, IsPlaced, IsNext, allowance_of};
+    ghost use Rattle.twkb_engine.specs.State.{IsPlaced, IsNext, allowance_of};
+    ghost use Rattle.twkb_engine.specs.Fits.{IsByte};
     ghost use Rattle.twkb_engine.specs.Taking.{Takes, BeginsAt};
     ghost use Rattle.twkb_engine.specs.Notes.{NotesGo, notes_with, open_in};
     ghost use Rattle.twkb_engine.specs.Standing.{StandsAt, IsAlive, IsEnd, held_in, offset_in, place_in};

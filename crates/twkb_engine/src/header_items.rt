@@ -310,9 +310,9 @@ impl Engine {
         self.points += points;
         self.set_metadata(spans, header.metadata);
         self.head.size = header.parts.size;
-        self.head.from = self.bytes + header.from() as u64;
-        self.bytes += header.used() as u64;
+        self.head.from = self.bytes + header.from as u64;
+        self.bytes += header.used as u64;
         self.go_to_body();
-        Ok(header.used())
+        Ok(header.used)
     }
 }

@@ -25,7 +25,8 @@ use twkb_num::unzigzag;
 use twkb_tree::Kind;
 
 impl Engine {
-    ghost use Rattle.twkb_engine.specs.State.{IsPlaced, groups_of, outline_in, sums_of, depth_cap};
+    ghost use Rattle.twkb_engine.specs.State.{IsPlaced, groups_of, outline_in, sums_of};
+    ghost use Rattle.twkb_engine.specs.Fits.{depth_cap};
     ghost use Rattle.twkb_engine.specs.Taking.{Takes, SameBlob, own_row};
     ghost use Rattle.twkb_engine.specs.Notes.{NotesGo, notes_with, open_in};
     ghost use Rattle.twkb_engine.specs.Standing.{IsAlive};

@@ -1,6 +1,6 @@
 //! The item that comes next.
 ghost use Rattle.std.specs.Prelude.{◌≡◌, ◌↔◌, true, IsTrue};
-ghost use Rattle.twkb_engine.specs.State.{IsByte};
+ghost use Rattle.twkb_engine.specs.Fits.{IsByte};
 
 use twkb_tree::Kind;
 

@@ -13,3 +13,5 @@ pub record HeaderInFront (bytes : List ℕ) (h : FrontHeader) : Type 0 where
   pub known_type : h.type_byte % 16 < 8
   pub body : bit h.metadata 4 ≡ false
   pub parts : PartsInFront h.metadata (drop 2 bytes) h.parts.size h.parts.from h.parts.used
+  pub from : h.from ≡ 2 + h.parts.from
+  pub used : h.used ≡ 2 + h.parts.used

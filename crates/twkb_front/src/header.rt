@@ -8,26 +8,15 @@ use twkb_header::{Metadata, TypeByte};
 // Bytes of a header without optional parts: a type byte and a metadata byte.
 const BARE: usize = 2;
 
-/// A header of a geometry with a body: its type byte, its metadata byte, and its optional parts.
+/// A header of a geometry with a body: its type byte, its metadata byte, its optional parts, after how many bytes of the geometry its size
+/// counts, and how many bytes it has.
 #[derive(Clone, Copy, Debug)]
 pub struct FrontHeader {
     pub type_byte: TypeByte,
     pub metadata: Metadata,
     pub parts: Parts,
-}
-
-impl FrontHeader {
-    /// After how many bytes of the geometry its size counts. Takes no memory.
-    #[inline(always)]
-    pub fn from(&self) -> usize {
-        BARE + self.parts.from
-    }
-
-    /// How many bytes the header has. Takes no memory.
-    #[inline(always)]
-    pub fn used(&self) -> usize {
-        BARE + self.parts.used
-    }
+    pub from: usize,
+    pub used: usize,
 }
 
 /// The header at the start of the bytes, from its type byte to its box; `None` if it is not complete, if its type byte names no type, and if
@@ -46,5 +35,7 @@ pub fn front_header(bytes: &[u8]) -> Option<FrontHeader>
         type_byte,
         metadata,
         parts,
+        from: BARE + parts.from,
+        used: BARE + parts.used,
     })
 }

@@ -1,6 +1,6 @@
 use Rattle.std.proofs.Common.{◌<◌, arith}
 use Rattle.twkb_body.proofs.PointRuns.{line_longer, line_longer_by_two, list_none, list_more, list_two_more, list_stops, row_err}
-use Rattle.twkb_body.proofs.runs.take_row.Goals as goal
+use Rattle.twkb_body.proofs.list_points.take_row.Goals as goal
 
 pub loop-left-init : goal.loop-left-init
 loop-left-init c = record { leads = list_none c.args.flat.now c.args.from c.args.bytes.now c.args.most; line = c.requires.line; room = c.requires.room }

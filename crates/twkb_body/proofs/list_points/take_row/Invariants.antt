@@ -2,7 +2,7 @@ use Rattle.std.proofs.Common.{length, ◌+◌, ◌≤◌, ◌^◌}
 use Rattle.twkb_tree.specs.Rows.{row_points}
 use Rattle.twkb_tree.specs.RowGrowth.{EndsInLine}
 use Rattle.twkb_body.specs.Running.{ListLeads}
-use Rattle.twkb_body.proofs.runs.take_row.Given as goal
+use Rattle.twkb_body.proofs.list_points.take_row.Given as goal
 
 -- the bytes so far are points that were taken, and the row takes those that are left
 abbrev pub invariant-loop-left : goal.invariant-loop-left
