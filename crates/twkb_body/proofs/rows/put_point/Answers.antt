@@ -1,0 +1,17 @@
+use Rattle.std.proofs.Common.{◌≡◌, suc, ◌+◌, [], ◌∷◌, subst, arith}
+use Rattle.twkb_tree.specs.Rows.{plain_row}
+use Rattle.twkb_tree.specs.Limits.{largest_limits}
+use Rattle.twkb_tree.specs.Accepted.{Continues}
+use Rattle.twkb_tree.specs.declared.kind.Kind.TheVariants as kinds
+use Rattle.twkb_outline.specs.Growing.{point_change}
+use Rattle.twkb_outline.specs.Admitting.{Admits}
+use Rattle.twkb_body.specs.Head.{form_of}
+use Rattle.twkb_tree.specs.declared.kind.Kind.{Kind}
+use Rattle.twkb_body.proofs.rows.put_point.Goals as goal
+
+pub push_point-requires-in-MultiPoint : goal.push_point-requires-in-MultiPoint
+push_point-requires-in-MultiPoint c =
+    let h = c.args.head.now in
+    let deep : suc h.depth ≡ h.depth + 1 = omega arith in
+    subst (λ d. Continues largest_limits c.args.flat.now (plain_row d kinds.Point c.args.member (c.args.point ∷ []))) deep
+    (subst (λ (f : Kind). Admits (point_change c.args.point h.depth h.id h.precision (form_of f) c.args.member) c.args.flat.now) c.in-MultiPoint.is c.requires)
