@@ -1,5 +1,5 @@
 -- The header that was read.
-use Rattle.std.specs.Prelude.{◌≡◌, ℕ, ℤ, Option, ⊤, ⊥}
+use Rattle.std.specs.Prelude.{◌≡◌, ℕ, ℤ, Option, ⊤}
 use Rattle.twkb_tree.specs.declared.kind.Kind as row
 use Rattle.twkb_tree.specs.declared.kind.Kind.TheVariants as kinds
 use Rattle.twkb_grammar.specs.Machine as machine

@@ -1,5 +1,5 @@
 -- Points, members and ids that are read on at the start of bytes, or for which there is no memory.
-use Rattle.std.specs.Prelude.{◌≡◌, ◌+◌, ◌≤◌, ⊤, ⊥, ℕ, suc, ℤ, List, [], ◌∷◌, ◌++◌, length, take, Result, Ok, Err}
+use Rattle.std.specs.Prelude.{◌≡◌, ◌+◌, ◌≤◌, ⊤, ℕ, suc, ℤ, List, [], ◌∷◌, ◌++◌, length, take, Result, Ok, Err}
 use Rattle.twkb_points.specs.Point.{Point}
 use Rattle.twkb_tree.specs.Tree.{Ids}
 use Rattle.twkb_tree.specs.Limits.{Allowance}
@@ -73,6 +73,10 @@ TakesMembers rs ids depth from bytes most (Err e) others more = (h : Head) → s
 -- wherever ids are read, these and then so many after the next, the bytes are further ones, with so many left after them
 abbrev pub IdsRun : List ℤ → ℕ → List ℕ → List ℤ → ℕ → Type 0
 IdsRun ids left bytes more further = (h : Head) (m : Many) (members : ℕ) (rs : List Row) (at : Point) → StepRuns h (OnId m (head_of h) members ids left) rs at bytes (OnId m (head_of h) members more further) rs at
+
+-- so many bytes are further ids, at most so many
+abbrev pub IdsTaken : List ℤ → (most : ℕ) → List ℕ → (used : ℕ) → List ℤ → Type 0
+IdsTaken ids most bytes used more = (left : ℕ) × (length more + left ≡ length ids + most) × IdsRun ids most (take used bytes) more left
 
 -- wherever these are read, a front of the bytes ends a part that was judged
 abbrev pub IdsStop : List ℤ → ℕ → List ℕ → Type 0

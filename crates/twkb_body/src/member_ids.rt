@@ -1,7 +1,7 @@
 //! The ids of the members of a geometry.
-ghost use Rattle.std.specs.Prelude.{◌≡◌, ◌≤◌, ◌-◌, ◌++◌, ◌∷◌, [], if◌then◌else◌, true, Some, None, IfOk, OnOk, OnErr, take, length};
+ghost use Rattle.std.specs.Prelude.{◌≡◌, ◌≤◌, ◌++◌, ◌∷◌, [], if◌then◌else◌, true, Some, None, IfOk, OnOk, OnErr, length};
 ghost use Rattle.twkb_tree.specs.Rows.{first_id, other_ids};
-ghost use Rattle.twkb_body.specs.Running.{IdsRun, IdsStop};
+ghost use Rattle.twkb_body.specs.Running.{IdsTaken, IdsStop};
 
 use std::alloc::{AllocError, Global};
 use twkb_front::front_number;
@@ -39,32 +39,31 @@ impl MemberIds {
         self.has_ids = has_ids;
     }
 
-    /// Appends the id of a further member. Takes memory; an `Err` changes nothing.
+    /// Appends the id of a further member. Takes memory.
     pub fn push(&mut self, id: i64) -> Result<(), AllocError>
         ensures pushed { OnOk result (ids_read self.new ≡ ids_read self.old ++ id ∷ []) }
-        ensures same { OnErr result (self.new ≡ self.old) }
         ensures has { self.new.has_ids ≡ self.old.has_ids }
     {
         self.ids.push(id)?;
         Ok(())
     }
 
-    /// Appends ids as far as they are complete, until there are so many, and returns how many bytes they had. They take memory.
+    /// Appends ids as far as they are complete, at most so many, and returns how many bytes they had. They take memory.
     #[inline(always)]
     pub fn take(&mut self, bytes: &[u8], most: u64) -> Result<usize, AllocError>
-        requires few { length (ids_read self.old) ≤ most }
         ensures within { IfOk result (λ used. used ≤ length bytes.now) }
-        ensures run { IfOk result (λ used. IdsRun (ids_read self.old) (most - length (ids_read self.old)) (take used bytes.now) (ids_read self.new) (most - length (ids_read self.new))) }
-        ensures few { length (ids_read self.new) ≤ most }
-        ensures memory { OnErr result (IdsStop (ids_read self.old) (most - length (ids_read self.old)) bytes.now) }
+        ensures taken { IfOk result (λ used. IdsTaken (ids_read self.old) most bytes.now used (ids_read self.new)) }
+        ensures memory { OnErr result (IdsStop (ids_read self.old) most bytes.now) }
         ensures has { self.new.has_ids ≡ self.old.has_ids }
     {
         let mut used = 0;
-        while self.count() < most {
+        let mut left = most;
+        while left > 0 {
             let Some((number, width)) = front_number(&bytes[used..]) else {
                 return Ok(used);
             };
             self.push(unzigzag(number))?;
+            left -= 1;
             used += width;
         }
         Ok(used)

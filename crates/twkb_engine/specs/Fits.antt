@@ -1,5 +1,5 @@
 -- Which items and lists a geometry of a kind has.
-use Rattle.std.specs.Prelude.{◌≡◌, ℕ, List, [], ◌∷◌, ⊤, ⊥}
+use Rattle.std.specs.Prelude.{◌≡◌, ℕ, List, [], ◌∷◌, ⊤}
 use Rattle.twkb_tree.specs.declared.kind.Kind.{Kind}
 use Rattle.twkb_tree.specs.declared.kind.Kind.TheVariants as kinds
 use Rattle.twkb_body.specs.Head.{IsTyped, IsBodied}

@@ -171,7 +171,8 @@ impl Engine {
         ensures led { (rs : List Row) → IfOk result (λ used. LeadsQuietly rs self.old (take used rest.now) rs self.new) }
         ensures memory { (rs : List Row) → OnErr result (StopsIn rs self.old rest.now) }
     {
-        let used = self.ids.take(rest, self.members_left)?;
+        let most = self.members_left.saturating_sub(self.ids.count());
+        let used = self.ids.take(rest, most)?;
         self.bytes += used as u64;
         Ok(used)
     }
