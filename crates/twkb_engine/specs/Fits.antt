@@ -1,8 +1,7 @@
 -- Which items and lists a geometry of a kind has.
-use Rattle.std.specs.Prelude.{◌≡◌, ℕ, List, [], ◌∷◌, ⊤}
+use Rattle.std.specs.Prelude.{ℕ, List, [], ◌∷◌, Bool, true, false, ◌&&◌, ◌||◌, nat_eq, ⊤}
 use Rattle.twkb_tree.specs.declared.kind.Kind.{Kind}
 use Rattle.twkb_tree.specs.declared.kind.Kind.TheVariants as kinds
-use Rattle.twkb_body.specs.Head.{IsTyped, IsBodied}
 use Rattle.twkb_engine.specs.declared.next_item.NextItem.{NextItem}
 use Rattle.twkb_engine.specs.declared.next_item.NextItem.TheVariants as next
 
@@ -31,52 +30,61 @@ area_lists_of _ m = []
 
 -- ---- what fits a kind
 
--- a kind that has members, other than those of a collection
-abbrev pub HasMembers : Kind → Type 0
-HasMembers kinds.MultiPoint = ⊤
-HasMembers kinds.MultiLinestring = ⊤
-HasMembers kinds.MultiPolygon = ⊤
-HasMembers kinds.Collection = ⊤
-HasMembers _ = ⊥
+-- a kind that has members
+abbrev pub has_members : Kind → Bool
+has_members kinds.MultiPoint = true
+has_members kinds.MultiLinestring = true
+has_members kinds.MultiPolygon = true
+has_members kinds.Collection = true
+has_members _ = false
 
 -- a kind that has lists of points
-abbrev pub HasLines : Kind → Type 0
-HasLines kinds.Linestring = ⊤
-HasLines kinds.Polygon = ⊤
-HasLines kinds.MultiLinestring = ⊤
-HasLines kinds.MultiPolygon = ⊤
-HasLines _ = ⊥
+abbrev pub has_lines : Kind → Bool
+has_lines kinds.Linestring = true
+has_lines kinds.Polygon = true
+has_lines kinds.MultiLinestring = true
+has_lines kinds.MultiPolygon = true
+has_lines _ = false
 
 -- a kind that has lists of rings
-abbrev pub HasAreas : Kind → Type 0
-HasAreas kinds.Polygon = ⊤
-HasAreas kinds.MultiPolygon = ⊤
-HasAreas _ = ⊥
+abbrev pub has_areas : Kind → Bool
+has_areas kinds.Polygon = true
+has_areas kinds.MultiPolygon = true
+has_areas _ = false
+
+-- a kind that has a body of its own
+abbrev pub is_bodied : Kind → Bool
+is_bodied kinds.Ring = false
+is_bodied kinds.Collection = false
+is_bodied _ = true
+
+-- a kind of a type
+abbrev pub is_typed : Kind → Bool
+is_typed kinds.Ring = false
+is_typed _ = true
 
 -- a geometry of this kind has such an item
-abbrev pub ItemFits : NextItem → Kind → Type 0
-ItemFits next.MemberCount k = HasMembers k
-ItemFits next.Id k = HasMembers k
-ItemFits next.X k = IsBodied k
-ItemFits next.Y k = IsBodied k
-ItemFits next.PointCount k = HasLines k
-ItemFits next.RingCount k = HasAreas k
-ItemFits _ k = IsTyped k
+abbrev pub item_fits : NextItem → Kind → Bool
+item_fits next.MemberCount k = has_members k
+item_fits next.Id k = has_members k
+item_fits next.X k = is_bodied k
+item_fits next.Y k = is_bodied k
+item_fits next.PointCount k = has_lines k
+item_fits next.RingCount k = has_areas k
+item_fits _ k = is_typed k
 
 -- a kind without such lists has no values left in them
-pub record LeftFit (kind : Kind) (points rings members : ℕ) : Type 0 where
-  pub no_lines : (HasLines kind → ⊥) → points ≡ 0
-  pub no_areas : (HasAreas kind → ⊥) → rings ≡ 0
-  pub no_members : (HasMembers kind → ⊥) → members ≡ 0
+abbrev pub left_fit : Kind → (points rings members : ℕ) → Bool
+left_fit k p r m = (has_lines k || nat_eq p 0) && ((has_areas k || nat_eq r 0) && (has_members k || nat_eq m 0))
 
 -- lists that are not open have no values left: at a coordinate all of the kind may be, at a count those round its list, at an id that of members, and else none
-abbrev pub ListsFit : NextItem → Kind → (points rings members : ℕ) → Type 0
-ListsFit next.X k p r m = LeftFit k p r m
-ListsFit next.Y k p r m = LeftFit k p r m
-ListsFit next.PointCount k p r m = (p ≡ 0) × LeftFit k p r m
-ListsFit next.RingCount k p r m = (p ≡ 0) × (r ≡ 0) × LeftFit k p r m
-ListsFit next.Id k p r m = (p ≡ 0) × (r ≡ 0)
-ListsFit _ k p r m = (p ≡ 0) × (r ≡ 0) × (m ≡ 0)
+abbrev pub lists_fit : NextItem → Kind → (points rings members : ℕ) → Bool
+lists_fit next.X k p r m = left_fit k p r m
+lists_fit next.Y k p r m = left_fit k p r m
+lists_fit next.PointCount k p r m = nat_eq p 0 && left_fit k p r m
+lists_fit next.RingCount k p r m = nat_eq p 0 && (nat_eq r 0 && left_fit k p r m)
+lists_fit next.Id k p r m = nat_eq p 0 && nat_eq r 0
+lists_fit _ k p r m = nat_eq p 0 && (nat_eq r 0 && nat_eq m 0)
 
 -- more collections than can be open: limits let at most 32 nest
 abbrev pub depth_cap : ℕ

@@ -5,15 +5,14 @@ use Rattle.twkb_grammar.specs.Bits.{bit}
 use Rattle.twkb_grammar.specs.Roles as role
 use Rattle.twkb_grammar.specs.Roles.{Role, where_set}
 use Rattle.twkb_grammar.specs.Machine.{Sums}
-use Rattle.twkb_outline.specs.Outline as outline
 use Rattle.twkb_outline.specs.Outline.{Outline, Step, OnHeader, OnMetadata, OnOption, OnCount, OnId, OnBody, Wanted, WantedY, outline_role}
 use Rattle.twkb_outline.specs.Growing.{id_in}
 use Rattle.twkb_body.specs.Head.{head_of, kind_of, form_of, many_of, IsHeadAt}
 use Rattle.twkb_body.specs.Ids.{ids_of, ids_read}
+use Rattle.twkb_engine.specs.Collections.{groups_of}
 use Rattle.twkb_engine.specs.Fits.{lists_of, line_lists_of, area_lists_of}
 use Rattle.twkb_engine.specs.declared.next_item.NextItem.{NextItem}
 use Rattle.twkb_engine.specs.declared.next_item.NextItem.TheVariants as next
-use Rattle.twkb_engine.specs.declared.open_collections.OpenCollection.{OpenCollection}
 use Rattle.twkb_engine.specs.declared.engine.Engine.{Engine}
 
 -- ---- the optional parts of a header
@@ -49,19 +48,6 @@ step_at next.RingCount d = OnBody (head_of d.head) (form_of d.head.kind) (ids_of
 
 abbrev pub step_of : Engine → Step
 step_of d = step_at d.next d
-
--- an open collection
-abbrev pub group_of : OpenCollection → outline.Group
-group_of c = record { head = head_of c.head; ids = ids_of c.ids; left = c.members_left }
-
--- open collections, the innermost last, before those that are round them
-abbrev pub groups_from : List outline.Group → List OpenCollection → List outline.Group
-groups_from below [] = below
-groups_from below (c ∷ cs) = groups_from (group_of c ∷ below) cs
-
--- the open collections, the innermost first
-abbrev pub groups_of : List OpenCollection → List outline.Group
-groups_of cs = groups_from [] cs
 
 -- what is open
 abbrev pub outline_in : Engine → Outline

@@ -12,7 +12,8 @@ use Rattle.twkb_outline.specs.Admitting.{Admits}
 use Rattle.twkb_outline.specs.Parts.{Passes}
 use Rattle.twkb_body.specs.Head.{head_of, kind_of, form_of}
 use Rattle.twkb_body.specs.Ids.{ids_of}
-use Rattle.twkb_engine.specs.State.{sums_of, outline_in, groups_of}
+use Rattle.twkb_engine.specs.State.{sums_of, outline_in}
+use Rattle.twkb_engine.specs.Collections.{groups_of}
 use Rattle.twkb_engine.specs.Stops.{reason_of}
 use Rattle.twkb_engine.specs.declared.next_item.NextItem.TheVariants as next
 use Rattle.twkb_engine.specs.declared.engine.Engine.{Engine}

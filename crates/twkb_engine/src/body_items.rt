@@ -1,6 +1,6 @@
 //! The items of a body: coordinates, and counts of points and of rings.
 ghost use Rattle.std.specs.Prelude.{◌≡◌, ◌≢◌, ◌+◌, ◌≤◌, ◌^◌, [], true, List, Ok, IfOk, OnOk};
-ghost use Rattle.twkb_tree.specs.Rows.{Row};
+ghost use Rattle.twkb_tree.specs.Rows.{Row as TableRow};
 ghost use Rattle.twkb_grammar.specs.Roles as role;
 ghost use Rattle.twkb_grammar.specs.Machine.{listed};
 ghost use Rattle.twkb_flat.specs.Rows.{row_with};
@@ -31,9 +31,9 @@ impl Engine {
     pub(crate) fn x(&mut self, number: u64, width: u64) -> Result<bool, Stop>
         requires next { self.old.next ≡ next.X }
         requires room { self.old.start + (self.old.bytes + width) ≤ 2 ^ 63 }
-        ensures taken { (rs : List Row) → Takes role.X number width self.old rs result self.new rs }
+        ensures taken { (rs : List TableRow) → Takes role.X number width self.old rs result self.new rs }
         ensures begun { OnOk result (open_in self.new ≡ open_in self.old) }
-        ensures placed { OnOk result (IsPlaced self.new.next self.new) }
+        ensures placed { IsPlaced self.old.next self.old → OnOk result (IsPlaced self.new.next self.new) }
     {
         let Some(position) = moved_x(self.position, unzigzag(number)) else {
             return Err(Stop::Refused(BlobReason::CoordinateRange));
@@ -58,7 +58,7 @@ impl Engine {
         requires alive { IsAlive flat.old self.old }
         ensures taken { Takes role.Y number width self.old flat.old result self.new flat.new }
         ensures noted { IfOk result (λ ends. NotesGo S.holds (notes_with role.Y number width self.old self.new ends) self.old spans.old spans.new) }
-        ensures placed { OnOk result (IsPlaced self.new.next self.new) }
+        ensures placed { IsPlaced self.old.next self.old → OnOk result (IsPlaced self.new.next self.new) }
     {
         let Some(position) = moved_y(self.position, unzigzag(number)) else {
             return Err(Stop::Refused(BlobReason::CoordinateRange));
@@ -88,7 +88,7 @@ impl Engine {
         requires may { Admits (point_row position self.old) flat.old }
         ensures shut { Lands (past_value self.old 0 (lists_of self.old.head.kind 0 self.old.rings_left self.old.members_left)) (point_row position self.old) self.old flat.old result self.new flat.new }
         ensures noted { IfOk result (λ ends. NotesGo S.holds (notes_past self.old self.new ends) self.old spans.old spans.new) }
-        ensures placed { OnOk result (IsPlaced self.new.next self.new) }
+        ensures placed { IsPlaced self.old.next self.old → OnOk result (IsPlaced self.new.next self.new) }
     {
         let member = self.ids.first();
         let ends = if self.ends_with_list() {
@@ -115,7 +115,7 @@ impl Engine {
         requires alive { IsAlive flat.old self.old }
         ensures taken { Takes (role.Count (listed 0)) count width self.old flat.old result self.new flat.new }
         ensures noted { IfOk result (λ ends. NotesGo S.holds (notes_with (role.Count (listed 0)) count width self.old self.new ends) self.old spans.old spans.new) }
-        ensures placed { OnOk result (IsPlaced self.new.next self.new) }
+        ensures placed { IsPlaced self.old.next self.old → OnOk result (IsPlaced self.new.next self.new) }
     {
         if let Some(reason) = self.too_many(0, count) {
             return Err(Stop::Refused(reason));
@@ -146,7 +146,7 @@ impl Engine {
         requires alive { IsAlive flat.old self.old }
         ensures taken { Takes (role.Count (listed 1)) count width self.old flat.old result self.new flat.new }
         ensures noted { IfOk result (λ ends. NotesGo S.holds (notes_with (role.Count (listed 1)) count width self.old self.new ends) self.old spans.old spans.new) }
-        ensures placed { OnOk result (IsPlaced self.new.next self.new) }
+        ensures placed { IsPlaced self.old.next self.old → OnOk result (IsPlaced self.new.next self.new) }
     {
         if let Some(reason) = self.too_many(count, 0) {
             return Err(Stop::Refused(reason));

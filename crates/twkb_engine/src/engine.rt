@@ -4,7 +4,7 @@ ghost use Rattle.twkb_num.specs.Varint.{IsOpenVarint};
 ghost use Rattle.twkb_tree.specs.Rows.{Row};
 ghost use Rattle.twkb_tree.specs.Limits.{IsAllowance};
 ghost use Rattle.twkb_grammar.specs.Roles.{Role};
-ghost use Rattle.twkb_engine.specs.Fits.{ItemFits, ListsFit, depth_cap};
+ghost use Rattle.twkb_engine.specs.Fits.{item_fits as fits, lists_fit as lists, depth_cap};
 
 use crate::next_item::NextItem;
 use crate::open_collections::OpenCollections;
@@ -44,8 +44,8 @@ pub struct Engine {
     ghost points_kept: { points ≤ limits.points },
     ghost allowed: { IsAllowance limits },
     ghost few_open: { length collections ≤ depth_cap },
-    ghost item_fits: { ItemFits next head.kind },
-    ghost lists_fit: { ListsFit next head.kind points_left rings_left members_left },
+    ghost item_fits: { fits next head.kind ≡ true },
+    ghost lists_fit: { lists next head.kind points_left rings_left members_left ≡ true },
     ghost started: { start ≤ 2 ^ 63 },
 }
 
@@ -111,7 +111,7 @@ impl Engine {
         requires alive { IsAlive flat.old self.old }
         ensures taken { (r : Role) → IsNext r self.old → Takes r number width self.old flat.old result self.new flat.new }
         ensures noted { (r : Role) → IsNext r self.old → IfOk result (λ ends. NotesGo S.holds (notes_with r number width self.old self.new ends) self.old spans.old spans.new) }
-        ensures placed { OnOk result (IsPlaced self.new.next self.new) }
+        ensures placed { IsPlaced self.old.next self.old → OnOk result (IsPlaced self.new.next self.new) }
         ensures limits { self.new.limits ≡ self.old.limits }
     {
         match self.next {

@@ -29,7 +29,8 @@ use twkb_tree::Kind;
 const BOX_REST: u8 = 3;
 
 impl Engine {
-    ghost use Rattle.twkb_engine.specs.State.{IsPlaced, groups_of, outline_in, sums_of, size_roles, box_roles};
+    ghost use Rattle.twkb_engine.specs.State.{IsPlaced, outline_in, sums_of, size_roles, box_roles};
+    ghost use Rattle.twkb_engine.specs.Collections.{groups_of};
     ghost use Rattle.twkb_engine.specs.Taking.{Takes, Lands, SameBlob, SameBut, past_parts, header_row};
     ghost use Rattle.twkb_engine.specs.Notes.{NotesGo, notes_with, notes_past};
     ghost use Rattle.twkb_engine.specs.Standing.{IsAlive, LeadsOn, StopsIn, held_in};
@@ -90,7 +91,7 @@ impl Engine {
         requires room { self.old.start + self.old.bytes < 2 ^ 63 }
         ensures taken { (rs : List Row) → Takes role.Header number 1 self.old rs result self.new rs }
         ensures noted { IfOk result (λ ends. NotesGo S.holds (notes_with role.Header number 1 self.old self.new ends) self.old spans.old spans.new) }
-        ensures placed { OnOk result (IsPlaced self.new.next self.new) }
+        ensures placed { IsPlaced self.old.next self.old → OnOk result (IsPlaced self.new.next self.new) }
     {
         let byte = TypeByte::from_number(number);
         if !byte.names_type() {
@@ -116,7 +117,7 @@ impl Engine {
         requires alive { IsAlive flat.old self.old }
         ensures taken { Takes (role.Metadata (kind_number (kind_of self.old.head.kind))) number 1 self.old flat.old result self.new flat.new }
         ensures noted { IfOk result (λ ends. NotesGo S.holds (notes_with (role.Metadata (kind_number (kind_of self.old.head.kind))) number 1 self.old self.new ends) self.old spans.old spans.new) }
-        ensures placed { OnOk result (IsPlaced self.new.next self.new) }
+        ensures placed { IsPlaced self.old.next self.old → OnOk result (IsPlaced self.new.next self.new) }
     {
         let metadata = Metadata::from_number(number);
         if self.announces_point(self.head.kind, metadata) {
@@ -148,7 +149,7 @@ impl Engine {
         requires alive { IsAlive flat.old self.old }
         ensures taken { Takes role.Extended number 1 self.old flat.old result self.new flat.new }
         ensures noted { IfOk result (λ ends. NotesGo S.holds (notes_with role.Extended number 1 self.old self.new ends) self.old spans.old spans.new) }
-        ensures placed { OnOk result (IsPlaced self.new.next self.new) }
+        ensures placed { IsPlaced self.old.next self.old → OnOk result (IsPlaced self.new.next self.new) }
     {
         if number % 4 != 0 {
             return Err(Stop::Refused(BlobReason::ExtraDimensions));
@@ -172,7 +173,7 @@ impl Engine {
         requires alive { IsAlive flat.old self.old }
         ensures taken { Takes role.Size number width self.old flat.old result self.new flat.new }
         ensures noted { IfOk result (λ ends. NotesGo S.holds (notes_with role.Size number width self.old self.new ends) self.old spans.old spans.new) }
-        ensures placed { OnOk result (IsPlaced self.new.next self.new) }
+        ensures placed { IsPlaced self.old.next self.old → OnOk result (IsPlaced self.new.next self.new) }
     {
         self.bytes += width;
         self.head.size = Some(number);
@@ -194,7 +195,7 @@ impl Engine {
         requires alive { IsAlive flat.old self.old }
         ensures taken { (number : ℕ) → Takes role.Box number width self.old flat.old result self.new flat.new }
         ensures noted { (number : ℕ) → IfOk result (λ ends. NotesGo S.holds (notes_with role.Box number width self.old self.new ends) self.old spans.old spans.new) }
-        ensures placed { OnOk result (IsPlaced self.new.next self.new) }
+        ensures placed { IsPlaced self.old.next self.old → OnOk result (IsPlaced self.new.next self.new) }
     {
         self.bytes += width;
         if left > 0 {

@@ -25,7 +25,8 @@ use twkb_num::unzigzag;
 use twkb_tree::Kind;
 
 impl Engine {
-    ghost use Rattle.twkb_engine.specs.State.{IsPlaced, groups_of, outline_in, sums_of};
+    ghost use Rattle.twkb_engine.specs.State.{IsPlaced, outline_in, sums_of};
+    ghost use Rattle.twkb_engine.specs.Collections.{groups_of};
     ghost use Rattle.twkb_engine.specs.Fits.{depth_cap};
     ghost use Rattle.twkb_engine.specs.Taking.{Takes, SameBlob, own_row};
     ghost use Rattle.twkb_engine.specs.Notes.{NotesGo, notes_with, open_in};
@@ -72,7 +73,7 @@ impl Engine {
         requires alive { IsAlive flat.old self.old }
         ensures taken { Takes (role.Count (first_count (many_of self.old.head.kind) (length (groups_of self.old.collections)))) count width self.old flat.old result self.new flat.new }
         ensures noted { IfOk result (λ ends. NotesGo S.holds (notes_with (role.Count (first_count (many_of self.old.head.kind) (length (groups_of self.old.collections)))) count width self.old self.new ends) self.old spans.old spans.new) }
-        ensures placed { OnOk result (IsPlaced self.new.next self.new) }
+        ensures placed { IsPlaced self.old.next self.old → OnOk result (IsPlaced self.new.next self.new) }
     {
         let points = if self.head.kind == Kind::MultiPoint { count } else { 0 };
         if let Some(reason) = self.too_many_members(count, points) {
@@ -101,7 +102,7 @@ impl Engine {
         requires alive { IsAlive flat.old self.old }
         ensures taken { Takes role.Id number width self.old flat.old result self.new flat.new }
         ensures begun { OnOk result (open_in self.new ≡ open_in self.old) }
-        ensures placed { OnOk result (IsPlaced self.new.next self.new) }
+        ensures placed { IsPlaced self.old.next self.old → OnOk result (IsPlaced self.new.next self.new) }
     {
         self.bytes += width;
         self.ids.push(unzigzag(number))?;

@@ -5,7 +5,7 @@ ghost use Rattle.twkb_outline.specs.Outline.{OnHeader, outline_past_end};
 ghost use Rattle.twkb_outline.specs.Growing.{id_in};
 ghost use Rattle.twkb_body.specs.Ids.{ids_of};
 ghost use Rattle.twkb_body.specs.Head.{head_of};
-ghost use Rattle.twkb_engine.specs.State.{groups_of};
+ghost use Rattle.twkb_engine.specs.Collections.{groups_of};
 ghost use Rattle.twkb_engine.specs.Ends.{IfBlob, IfNext, IfCollection};
 ghost use Rattle.twkb_engine.specs.declared.open_collections.OpenCollection.{OpenCollection};
 
