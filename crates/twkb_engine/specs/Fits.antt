@@ -71,6 +71,7 @@ item_fits next.X k = is_bodied k
 item_fits next.Y k = is_bodied k
 item_fits next.PointCount k = has_lines k
 item_fits next.RingCount k = has_areas k
+item_fits next.TypeByte k = true
 item_fits _ k = is_typed k
 
 -- a kind without such lists has no values left in them

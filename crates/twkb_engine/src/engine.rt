@@ -46,7 +46,7 @@ pub struct Engine {
     ghost few_open: { length collections ≤ depth_cap },
     ghost item_fits: { fits next head.kind ≡ true },
     ghost lists_fit: { lists next head.kind points_left rings_left members_left ≡ true },
-    ghost started: { start ≤ 2 ^ 63 },
+    ghost within: { start + bytes ≤ 2 ^ 63 },
 }
 
 impl Engine {

@@ -1,10 +1,8 @@
 //! The collections that are open.
-ghost use Rattle.std.specs.Prelude.{◌≡◌, ◌≤◌, ◌<◌, ◌-◌, ◌++◌, ◌∷◌, [], ℕ, suc, List, length, take, true, Ok, OnOk, OnErr};
+ghost use Rattle.std.specs.Prelude.{◌≡◌, ◌≤◌, ◌<◌, ◌-◌, ◌++◌, ◌∷◌, [], ℕ, List, length, take, true, Ok, OnOk, OnErr};
 ghost use Rattle.twkb_grammar.specs.PlainReader.{is_exact as exact};
 ghost use Rattle.twkb_outline.specs.Outline.{OnHeader, outline_past_end};
 ghost use Rattle.twkb_outline.specs.Growing.{id_in};
-ghost use Rattle.twkb_body.specs.Ids.{ids_of};
-ghost use Rattle.twkb_body.specs.Head.{head_of};
 ghost use Rattle.twkb_engine.specs.Collections.{groups_of};
 ghost use Rattle.twkb_engine.specs.Ends.{IfBlob, IfNext, IfCollection};
 ghost use Rattle.twkb_engine.specs.declared.open_collections.OpenCollection.{OpenCollection};
@@ -120,8 +118,7 @@ impl OpenCollections {
         ids: &mut MemberIds,
         members_left: u64,
     ) -> Result<(), AllocError>
-        ensures pushed { OnOk result (groups_of self.new ≡ record { head = head_of head.now; ids = ids_of ids.old; left = members_left } ∷ groups_of self.old) }
-        ensures more { OnOk result (length self.new ≡ suc (length self.old)) }
+        ensures pushed { OnOk result (self.new ≡ self.old ++ record { head = head.now; ids = ids.old; members_left = members_left } ∷ []) }
         ensures same { OnErr result (self.new ≡ self.old) }
     {
         if self.count >= self.places.len() {

@@ -1,0 +1,113 @@
+-- Members that begin, and the ends of geometries in collections.
+use Rattle.std.proofs.Common.{◌≡◌, ℕ, zero, suc, ◌+◌, ◌-◌, ◌<◌, ◌≤◌, List, [], ◌∷◌, ◌++◌, length, take, set, get_or, true, refl, sym, ap, ◌∙◌, arith}
+use Rattle.std.proofs.Math.Seq.{take-suc}
+use Rattle.std.proofs.lemmas.List.{length-take-le, length-set, take-set, get_or-take}
+use Rattle.std.proofs.lemmas.Grind.{take-set_at}
+use Rattle.smallvec.specs.SmallVec.{SmallVec, with_items}
+use Rattle.smallvec.proofs.SmallVecLemmas.{items-with_items}
+use Rattle.std.specs.Prelude.{Ok}
+use Rattle.twkb_tree.specs.Rows.{first_id, other_ids}
+use Rattle.twkb_grammar.specs.Machine as machine
+use Rattle.twkb_grammar.specs.Machine.{ManyGeometries}
+use Rattle.twkb_grammar.specs.PlainReader.{is_exact as exact}
+use Rattle.twkb_outline.specs.Outline as outline
+use Rattle.twkb_outline.specs.Outline.{OnHeader, members_open, outline_past_end}
+use Rattle.twkb_outline.specs.Growing.{id_in}
+use Rattle.twkb_body.specs.Ids.{ids_of}
+use Rattle.twkb_body.specs.Head.{head_of}
+use Rattle.twkb_engine.specs.Collections.{group_of, groups_from, groups_of}
+use Rattle.twkb_engine.specs.declared.open_collections.OpenCollection.{OpenCollection}
+
+-- the last group is the innermost
+pub groups_pushed : (below : List outline.Group) (gs : List OpenCollection) (g : OpenCollection) → groups_from below (gs ++ g ∷ []) ≡ group_of g ∷ groups_from below gs
+groups_pushed below [] g = refl
+groups_pushed below (f ∷ fs) g = groups_pushed (group_of f ∷ below) fs g
+
+pub groups_length : (below : List outline.Group) (gs : List OpenCollection) → length (groups_from below gs) ≡ length below + length gs
+groups_length below [] = omega arith
+groups_length below (g ∷ gs) = omega (arith, groups_length (group_of g ∷ below) gs)
+
+-- the first member of a collection begins
+pub collection_begun : (items gs : List OpenCollection) (g : OpenCollection) → items ≡ gs ++ g ∷ [] → (groups_of items, OnHeader) ≡ members_open ManyGeometries (head_of g.head) (groups_of gs) (ids_of g.ids) (suc g.members_left)
+collection_begun items gs g e = rw (e, groups_pushed [] gs g) refl
+
+-- the end of a member that others follow
+pub going_on : (bytes : ℕ) (old rest items : List OpenCollection) (f k : OpenCollection) → old ≡ rest ++ f ∷ [] → items ≡ rest ++ k ∷ []
+    → 0 < f.members_left → k.members_left ≡ f.members_left - 1 → head_of k.head ≡ head_of f.head → ids_of k.ids ≡ other_ids (ids_of f.ids)
+    → outline_past_end true bytes (groups_of old) ≡ Ok (groups_of items, OnHeader)
+going_on bytes old rest items f k o i z l hd ids =
+    let one : f.members_left ≡ suc k.members_left = omega (arith, z, l) in
+    rw (o, i, groups_pushed [] rest f, groups_pushed [] rest k, one, hd, ids) refl
+
+-- the end of the last member is followed by that of its collection
+pub going_up : (bytes : ℕ) (old rest : List OpenCollection) (f : OpenCollection) (up : machine.Head) → old ≡ rest ++ f ∷ [] → f.members_left ≡ 0
+    → up ≡ head_of f.head → outline_past_end (exact up.size (bytes - up.from)) bytes (groups_of rest) ≡ outline_past_end true bytes (groups_of old)
+going_up bytes old rest f up o z u = rw (o, groups_pushed [] rest f, z, u) refl
+
+-- ---- where the geometry stands that is read
+
+-- the id that the last group gives
+pub last_id : (below : List outline.Group) (gs : List OpenCollection) (i : ℕ) (d : OpenCollection) → i + 1 ≡ length gs → id_in (groups_from below gs) ≡ first_id (ids_of (get_or gs i d).ids)
+last_id below [] i d at = absurd (omega arith)
+last_id below (g ∷ []) zero d at = refl
+last_id below (g ∷ []) (suc i) d at = absurd (omega arith)
+last_id below (g ∷ f ∷ gs) zero d at = absurd (omega arith)
+last_id below (g ∷ f ∷ gs) (suc i) d at = last_id (group_of g ∷ below) (f ∷ gs) i d (omega arith)
+
+-- ---- a collection that ends, or whose member does, in the places of all
+
+-- some are open
+pub some_open : (items now : List OpenCollection) (n : ℕ) → n ≤ length items → now ≡ take n items → 0 < n → 0 < length now
+some_open items now n le is some = omega (arith, some, ap length is, length-take-le n items le)
+
+-- how many are open
+many : (items now : List OpenCollection) (n : ℕ) → n ≤ length items → now ≡ take n items → 0 < length now → 0 < n
+many items now n le is some = omega (arith, some, ap length is, length-take-le n items le)
+
+-- the innermost comes after the others
+innermost : (items now : List OpenCollection) (n : ℕ) (d : OpenCollection) → n ≤ length items → now ≡ take n items → 0 < n → now ≡ take (n - 1) items ++ get_or items (n - 1) d ∷ []
+innermost items now n d le is some =
+    let one : n ≡ suc (n - 1) = omega (arith, some) in
+    is ∙ (ap (λ k. take k items) one ∙ take-suc items (n - 1) d (omega (arith, le, some)))
+
+-- another takes the place of the innermost
+replaced : (places : SmallVec OpenCollection) (m : List OpenCollection) (n : ℕ) (k : OpenCollection) → m ≡ places.items → n ≤ length places.items → 0 < n
+    → take n (with_items places (set m (n - 1) k)).items ≡ take (n - 1) places.items ++ k ∷ []
+replaced places m n k same le some =
+    ap (take n) (items-with_items places (set m (n - 1) k) (length-set m (n - 1) k ∙ ap length same))
+    ∙ (take-set_at m (n - 1) n k (omega (arith, some)) (omega (arith, le, some, ap length same)) ∙ ap (λ (xs : List OpenCollection). take (n - 1) xs ++ k ∷ []) same)
+
+-- a member ends that others follow
+pub member_goes_on : (bytes : ℕ) (places : SmallVec OpenCollection) (m now : List OpenCollection) (n : ℕ) (d k : OpenCollection) → m ≡ places.items → n ≤ length places.items → now ≡ take n places.items → 0 < length now
+    → 0 < (get_or m (n - 1) d).members_left → k.members_left ≡ (get_or m (n - 1) d).members_left - 1 → head_of k.head ≡ head_of (get_or m (n - 1) d).head
+    → ids_of k.ids ≡ other_ids (ids_of (get_or m (n - 1) d).ids)
+    → outline_past_end true bytes (groups_of now) ≡ Ok (groups_of (take n (with_items places (set m (n - 1) k)).items), OnHeader)
+member_goes_on bytes places m now n d k same le is some z l hd ids =
+    let items = places.items in
+    let more : 0 < n = many items now n le is some in
+    let stood : now ≡ take (n - 1) items ++ get_or m (n - 1) d ∷ [] = innermost items now n d le is more ∙ ap (λ (xs : List OpenCollection). take (n - 1) items ++ get_or xs (n - 1) d ∷ []) (sym same) in
+    going_on bytes now (take (n - 1) items) _ (get_or m (n - 1) d) k stood (replaced places m n k same le more) z l hd ids
+
+-- the last member ends
+pub member_goes_up : (bytes : ℕ) (places : SmallVec OpenCollection) (m now : List OpenCollection) (n : ℕ) (d k : OpenCollection) → m ≡ places.items → n ≤ length places.items → now ≡ take n places.items → 0 < length now
+    → (get_or m (n - 1) d).members_left ≤ 0
+    → outline_past_end (exact (get_or m (n - 1) d).head.size (bytes - (get_or m (n - 1) d).head.from)) bytes (groups_of (take (n - 1) (with_items places (set m (n - 1) k)).items))
+    ≡ outline_past_end true bytes (groups_of now)
+member_goes_up bytes places m now n d k same le is some z =
+    let items = places.items in
+    let more : 0 < n = many items now n le is some in
+    let stood : now ≡ take (n - 1) items ++ get_or m (n - 1) d ∷ [] = innermost items now n d le is more ∙ ap (λ (xs : List OpenCollection). take (n - 1) items ++ get_or xs (n - 1) d ∷ []) (sym same) in
+    let f = get_or m (n - 1) d in
+    let left_are : take (n - 1) (with_items places (set m (n - 1) k)).items ≡ take (n - 1) items =
+    ap (take (n - 1)) (items-with_items places (set m (n - 1) k) (length-set m (n - 1) k ∙ ap length same)) ∙ (take-set m (n - 1) k ∙ ap (take (n - 1)) same) in
+    ap (λ (gs : List OpenCollection). outline_past_end (exact f.head.size (bytes - f.head.from)) bytes (groups_of gs)) left_are
+    ∙ going_up bytes now (take (n - 1) items) f (head_of f.head) stood (omega (arith, z)) refl
+
+-- the id of the open member of the innermost
+pub innermost_id : (items m now : List OpenCollection) (n : ℕ) (d : OpenCollection) → m ≡ items → n ≤ length items → now ≡ take n items → 0 < n
+    → first_id (ids_of (get_or m (n - 1) d).ids) ≡ id_in (groups_of now)
+innermost_id items m now n d same le is some =
+    let at : (n - 1) + 1 ≡ length (take n items) = omega (arith, some, length-take-le n items le) in
+    ap (λ (xs : List OpenCollection). first_id (ids_of (get_or xs (n - 1) d).ids)) same
+    ∙ (ap (λ (g : OpenCollection). first_id (ids_of g.ids)) (sym (get_or-take n items (n - 1) d (omega (arith, some))))
+    ∙ (sym (last_id [] (take n items) (n - 1) d at) ∙ ap (λ (gs : List OpenCollection). id_in (groups_of gs)) (sym is)))
