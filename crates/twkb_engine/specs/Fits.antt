@@ -78,6 +78,10 @@ item_fits _ k = is_typed k
 abbrev pub left_fit : Kind → (points rings members : ℕ) → Bool
 left_fit k p r m = (has_lines k || nat_eq p 0) && ((has_areas k || nat_eq r 0) && (has_members k || nat_eq m 0))
 
+-- no list is open
+abbrev pub are_shut : (points rings members : ℕ) → Bool
+are_shut p r m = nat_eq p 0 && (nat_eq r 0 && nat_eq m 0)
+
 -- lists that are not open have no values left: at a coordinate all of the kind may be, at a count those round its list, at an id that of members, and else none
 abbrev pub lists_fit : NextItem → Kind → (points rings members : ℕ) → Bool
 lists_fit next.X k p r m = left_fit k p r m
@@ -85,7 +89,7 @@ lists_fit next.Y k p r m = left_fit k p r m
 lists_fit next.PointCount k p r m = nat_eq p 0 && left_fit k p r m
 lists_fit next.RingCount k p r m = nat_eq p 0 && (nat_eq r 0 && left_fit k p r m)
 lists_fit next.Id k p r m = nat_eq p 0 && nat_eq r 0
-lists_fit _ k p r m = nat_eq p 0 && (nat_eq r 0 && nat_eq m 0)
+lists_fit _ k p r m = are_shut p r m
 
 -- more collections than can be open: limits let at most 32 nest
 abbrev pub depth_cap : ℕ

@@ -1,5 +1,6 @@
 -- What comes next, as a step of an outline.
-use Rattle.std.specs.Prelude.{◌≡◌, ◌-◌, ℕ, zero, suc, List, [], ◌∷◌, ◌++◌, length, Some, ⊤}
+use Rattle.std.specs.Prelude.{◌≡◌, ◌-◌, ℕ, zero, suc, List, [], ◌∷◌, ◌++◌, length, if◌then◌else◌, Some, None, ⊤}
+use Rattle.twkb_tree.specs.Tree.{Ids}
 use Rattle.twkb_tree.specs.Limits.{Allowance}
 use Rattle.twkb_grammar.specs.Bits.{bit}
 use Rattle.twkb_grammar.specs.Roles as role
@@ -10,7 +11,7 @@ use Rattle.twkb_outline.specs.Growing.{id_in}
 use Rattle.twkb_body.specs.Head.{head_of, kind_of, form_of, many_of, IsHeadAt}
 use Rattle.twkb_body.specs.Ids.{ids_of, ids_read}
 use Rattle.twkb_engine.specs.Collections.{groups_of}
-use Rattle.twkb_engine.specs.Fits.{lists_of, line_lists_of, area_lists_of}
+use Rattle.twkb_engine.specs.Fits.{lists_of, line_lists_of, area_lists_of, has_members}
 use Rattle.twkb_engine.specs.declared.next_item.NextItem.{NextItem}
 use Rattle.twkb_engine.specs.declared.next_item.NextItem.TheVariants as next
 use Rattle.twkb_engine.specs.declared.engine.Engine.{Engine}
@@ -32,6 +33,10 @@ size_roles meta = where_set (bit meta 1) (role.Size ∷ []) ++ box_roles meta
 
 -- ---- what comes next
 
+-- the ids from the open member on: only a kind that has members has any
+abbrev pub ids_in : Engine → Ids
+ids_in d = if has_members d.head.kind then ids_of d.ids else None
+
 -- the step of the grammar's machine at this item
 abbrev pub step_at : NextItem → Engine → Step
 step_at next.TypeByte d = OnHeader
@@ -41,10 +46,10 @@ step_at next.Size d = OnOption (kind_of d.head.kind) (head_of d.head) role.Size 
 step_at (next.BoxNumber left) d = OnOption (kind_of d.head.kind) (head_of d.head) role.Box (boxes left)
 step_at next.MemberCount d = OnCount (many_of d.head.kind) (head_of d.head)
 step_at next.Id d = OnId (many_of d.head.kind) (head_of d.head) (suc d.members_left) (ids_read d.ids) (d.members_left - length (ids_read d.ids))
-step_at next.X d = OnBody (head_of d.head) (form_of d.head.kind) (ids_of d.ids) (Wanted 0 (lists_of d.head.kind d.points_left d.rings_left d.members_left))
-step_at next.Y d = OnBody (head_of d.head) (form_of d.head.kind) (ids_of d.ids) (WantedY (lists_of d.head.kind d.points_left d.rings_left d.members_left))
-step_at next.PointCount d = OnBody (head_of d.head) (form_of d.head.kind) (ids_of d.ids) (Wanted 1 (line_lists_of d.head.kind d.rings_left d.members_left))
-step_at next.RingCount d = OnBody (head_of d.head) (form_of d.head.kind) (ids_of d.ids) (Wanted 2 (area_lists_of d.head.kind d.members_left))
+step_at next.X d = OnBody (head_of d.head) (form_of d.head.kind) (ids_in d) (Wanted 0 (lists_of d.head.kind d.points_left d.rings_left d.members_left))
+step_at next.Y d = OnBody (head_of d.head) (form_of d.head.kind) (ids_in d) (WantedY (lists_of d.head.kind d.points_left d.rings_left d.members_left))
+step_at next.PointCount d = OnBody (head_of d.head) (form_of d.head.kind) (ids_in d) (Wanted 1 (line_lists_of d.head.kind d.rings_left d.members_left))
+step_at next.RingCount d = OnBody (head_of d.head) (form_of d.head.kind) (ids_in d) (Wanted 2 (area_lists_of d.head.kind d.members_left))
 
 abbrev pub step_of : Engine → Step
 step_of d = step_at d.next d

@@ -11,8 +11,7 @@ use Rattle.twkb_outline.specs.Growing.{Change, NewRow, change_of, applied, own_o
 use Rattle.twkb_outline.specs.Admitting.{Admits}
 use Rattle.twkb_outline.specs.Parts.{Passes}
 use Rattle.twkb_body.specs.Head.{head_of, kind_of, form_of}
-use Rattle.twkb_body.specs.Ids.{ids_of}
-use Rattle.twkb_engine.specs.State.{sums_of, outline_in}
+use Rattle.twkb_engine.specs.State.{sums_of, outline_in, ids_in}
 use Rattle.twkb_engine.specs.Collections.{groups_of}
 use Rattle.twkb_engine.specs.Stops.{reason_of}
 use Rattle.twkb_engine.specs.declared.next_item.NextItem.TheVariants as next
@@ -100,7 +99,7 @@ past_parts d parts = past d (options (kind_of d.head.kind) (head_of d.head) part
 
 -- past a value of this depth that is done, in these lists
 abbrev pub past_value : Engine → (depth : ℕ) → List ℕ → Result Outline Reason
-past_value d depth lists = past d (shut (head_of d.head) (form_of d.head.kind) (ids_of d.ids) depth lists)
+past_value d depth lists = past d (shut (head_of d.head) (form_of d.head.kind) (ids_in d) depth lists)
 
 -- its own row
 abbrev pub own_row : Engine → Change
@@ -112,4 +111,4 @@ header_row d parts = header_change d.head.depth d.head.id (kind_of d.head.kind) 
 
 -- what this point brings
 abbrev pub point_row : Point → Engine → Change
-point_row p d = point_change p d.head.depth d.head.id d.head.precision (form_of d.head.kind) (first_id (ids_of d.ids))
+point_row p d = point_change p d.head.depth d.head.id d.head.precision (form_of d.head.kind) (first_id (ids_in d))

@@ -21,7 +21,7 @@ use twkb_points::Pt;
 
 impl Engine {
     ghost use Rattle.twkb_engine.specs.State.{IsPlaced, outline_in, sums_of};
-    ghost use Rattle.twkb_engine.specs.Fits.{lists_of, line_lists_of};
+    ghost use Rattle.twkb_engine.specs.Fits.{lists_of, left_fit, is_bodied};
     ghost use Rattle.twkb_engine.specs.Taking.{Takes, Lands, SameBlob, past_end, past_value, point_row};
     ghost use Rattle.twkb_engine.specs.Notes.{NotesGo, notes_with, notes_past, open_in};
     ghost use Rattle.twkb_engine.specs.Standing.{IsAlive};
@@ -173,7 +173,7 @@ impl Engine {
         requires empty { self.old.points_left ≡ 0 }
         requires room { self.old.start + self.old.bytes ≤ 2 ^ 63 }
         requires may { Admits (NewRow (row_with row [])) flat.old }
-        ensures shut { Lands (past_value self.old 1 (line_lists_of self.old.head.kind self.old.rings_left self.old.members_left)) (NewRow (row_with row [])) self.old flat.old result self.new flat.new }
+        ensures shut { Lands (past_value self.old 0 (lists_of self.old.head.kind 0 self.old.rings_left self.old.members_left)) (NewRow (row_with row [])) self.old flat.old result self.new flat.new }
         ensures noted { IfOk result (λ ends. NotesGo S.holds (notes_past self.old self.new ends) self.old spans.old spans.new) }
     {
         if self.ends_with_list() {
@@ -189,7 +189,7 @@ impl Engine {
     // Whether the body ends with the list of points that is open.
     #[inline(always)]
     fn ends_with_list(&self) -> bool
-        ensures ends { result ≡ true → past_value self.now 1 (line_lists_of self.now.head.kind self.now.rings_left self.now.members_left) ≡ past_end self.now }
+        ensures ends { result ≡ true → past_value self.now 0 (lists_of self.now.head.kind 0 self.now.rings_left self.now.members_left) ≡ past_end self.now }
     {
         self.rings_left == 0 && self.members_left == 0
     }
@@ -197,8 +197,11 @@ impl Engine {
     // Goes past the end of a list of points, with which the body does not end: to the next ring, or to the next member.
     #[inline(always)]
     fn end_list(&mut self)
+        requires empty { self.old.points_left ≡ 0 }
+        requires fits { left_fit self.old.head.kind 0 self.old.rings_left self.old.members_left ≡ true }
+        requires bodied { is_bodied self.old.head.kind ≡ true }
         requires left { self.old.rings_left + self.old.members_left ≢ 0 }
-        ensures step { past_value self.old 1 (line_lists_of self.old.head.kind self.old.rings_left self.old.members_left) ≡ Ok (outline_in self.new) }
+        ensures step { past_value self.old 0 (lists_of self.old.head.kind 0 self.old.rings_left self.old.members_left) ≡ Ok (outline_in self.new) }
         ensures sums { sums_of self.new ≡ sums_of self.old }
         ensures same { SameBlob self.old self.new }
         ensures head { self.new.head ≡ self.old.head }

@@ -51,7 +51,7 @@ pub struct Engine {
 
 impl Engine {
     ghost use Rattle.twkb_engine.specs.State.{IsPlaced, IsNext, allowance_of};
-    ghost use Rattle.twkb_engine.specs.Fits.{IsByte};
+    ghost use Rattle.twkb_engine.specs.Fits.{IsByte, are_shut};
     ghost use Rattle.twkb_engine.specs.Taking.{Takes, BeginsAt};
     ghost use Rattle.twkb_engine.specs.Notes.{NotesGo, notes_with, open_in};
     ghost use Rattle.twkb_engine.specs.Standing.{StandsAt, IsAlive, IsEnd, held_in, offset_in, place_in};
@@ -84,6 +84,7 @@ impl Engine {
 
     // Goes to the start of the next blob.
     pub(crate) fn restart(&mut self)
+        requires shut { are_shut self.old.points_left self.old.rings_left self.old.members_left ≡ true }
         ensures begins { BeginsAt (self.old.start + self.old.bytes) self.new }
         ensures limits { self.new.limits ≡ self.old.limits }
         ensures head { self.new.head ≡ self.old.head }
