@@ -119,6 +119,7 @@ impl Engine {
     #[inline(never)]
     fn take_list(&mut self, flat: &mut Flat, rest: &[u8]) -> Result<usize, AllocError>
         requires next { self.old.next ≡ X }
+        requires room { place_in self.old + length rest.now ≤ 2 ^ 63 }
         requires alone { held_in self.old ≡ [] }
         ensures within { IfOk result (λ used. used ≤ length rest.now) }
         ensures led { IfOk result (λ used. LeadsQuietly flat.old self.old (take used rest.now) flat.new self.new) }
@@ -137,6 +138,7 @@ impl Engine {
     #[inline(never)]
     fn take_members(&mut self, flat: &mut Flat, rest: &[u8]) -> Result<usize, AllocError>
         requires next { self.old.next ≡ X }
+        requires room { place_in self.old + length rest.now ≤ 2 ^ 63 }
         requires alone { held_in self.old ≡ [] }
         ensures within { IfOk result (λ used. used ≤ length rest.now) }
         ensures led { IfOk result (λ used. LeadsQuietly flat.old self.old (take used rest.now) flat.new self.new) }
@@ -166,6 +168,7 @@ impl Engine {
     #[inline(never)]
     fn take_ids(&mut self, rest: &[u8]) -> Result<usize, AllocError>
         requires next { self.old.next ≡ Id }
+        requires room { place_in self.old + length rest.now ≤ 2 ^ 63 }
         requires alone { held_in self.old ≡ [] }
         ensures within { IfOk result (λ used. used ≤ length rest.now) }
         ensures led { (rs : List Row) → IfOk result (λ used. LeadsQuietly rs self.old (take used rest.now) rs self.new) }
