@@ -1,5 +1,0 @@
-w.awkward 281362827
-w.unpack 333353588
-w.show 261523985
-w.serve 507541341
-w.read 235690416
