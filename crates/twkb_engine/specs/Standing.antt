@@ -68,7 +68,7 @@ LeadsQuietly rs d bytes more e = (front : List ℕ) (s : StandsAt front rs d) �
 pub record SaysNext (d : Engine) (bytes : List ℕ) (n count : ℕ) : Type 0 where
   pub some : 0 < count
   pub within : count ≤ length bytes
-  pub fits : IsByte d.next → n < 256
+  pub fits : IsByte d.next → (n < 256) × (count ≡ 1)
   pub gives : (r : Role) → IsNext r d → Gives r n (take count bytes)
 
 -- wherever the engine stands, a front of these bytes ends a part that was judged
@@ -105,10 +105,15 @@ HoldsSpans holds new start b = (w : Notes) × holds new w × (w.spans ≡ spans_
 -- What an engine answers to a piece: bytes of it were used, after which it stands with their notes; or those up to the end of a blob, whose rows and spans it has; or
 -- there was no memory for an item of it, or one was refused.
 abbrev pub IsFed : {S : Type 0} → (S → Notes → Type 0) → (told : Type 0) → Allowance → (start : ℕ) → List ℕ → List ℕ → Result (ℕ × Bool) Stop → List Row → Engine → S → Type 0
-IsFed holds told limits start bs piece (Ok (used, false)) rs d new = (used ≤ length piece) × (s : StandsAt (bs ++ take used piece) rs d) × (told → holds new (notes_at s))
+IsFed holds told limits start bs piece (Ok (used, false)) rs d new = (used ≤ length piece) × (d.start ≡ start) × (s : StandsAt (bs ++ take used piece) rs d) × (told → holds new (notes_at s))
 IsFed holds told limits start bs piece (Ok (used, true)) rs d new = (m : MadeIn limits bs piece used rs) × (told → HoldsSpans holds new start m.blob) × StandsAt [] [] d × (d.start ≡ start + (length bs + used))
 IsFed holds told limits start bs piece (Err Memory) rs d new = PartIn limits bs piece
 IsFed holds told limits start bs piece (Err (Refused r)) rs d new = RefusedIn limits bs piece (offset_in d) (reason_of r)
+
+-- an answer, with how many bytes were used
+abbrev pub with_used : ℕ → Result Bool Stop → Result (ℕ × Bool) Stop
+with_used used (Ok ends) = Ok (used, ends)
+with_used used (Err stop) = Err stop
 
 -- the same, where all bytes are used if no blob ends in them
 abbrev pub TakesAll : ℕ → Result (ℕ × Bool) Stop → Type 0

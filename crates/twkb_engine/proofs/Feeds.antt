@@ -1,0 +1,200 @@
+-- An engine takes the bytes of a piece, and comes to the end of the bytes.
+use Rattle.std.proofs.Common.{append_assoc, length-append, take, Result, Option, Some, None, Ok, Err, OnOk, IfOk, ◌≡◌, ◌⊎◌, inl, inr, ℕ, zero, suc, ◌+◌, ◌-◌, ◌<◌, ◌≤◌, List, [], ◌∷◌, ◌++◌, length, refl, sym, ap, ◌∙◌, subst, append-nil, arith, true, false, Bool, nat_eq}
+use Rattle.std.proofs.lemmas.List.{nil_from_length, length-take-le}
+use Rattle.std.proofs.lemmas.Grind.{common_steps}
+use Rattle.twkb_num.specs.Varint.{IsOpenVarint}
+use Rattle.twkb_tree.specs.Rows.{Row}
+use Rattle.twkb_grammar.specs.Fault.{FirstFault, Truncated, BadVarint}
+use Rattle.twkb_grammar.specs.Roles.{Role, Item}
+use Rattle.twkb_grammar.specs.Blob.{Blob}
+use Rattle.twkb_grammar.specs.PlainReader.{objection}
+use Rattle.twkb_grammar.specs.Machine.{Sums, added}
+use Rattle.twkb_grammar.specs.Reading.{Gives}
+use Rattle.twkb_grammar.specs.Noting.{Notes, noted_by, note_ends_to}
+use Rattle.twkb_grammar.specs.Spans.{spans_of_blob}
+use Rattle.twkb_outline.specs.Outline.{Outline, OnFinished, outline_ends}
+use Rattle.twkb_outline.specs.Growing.{applied}
+use Rattle.twkb_outline.specs.Noting.{NotedOutline, notes_in}
+use Rattle.twkb_outline.specs.Parts.{IsJudged, PartIn}
+use Rattle.twkb_outline.proofs.Outlined.{outlined_bytes, outlined_cut, outlined_long, outlined_depth, outlined_missing, outlined_ends, outlined_refused, noted_item}
+use Rattle.twkb_outline.proofs.Judging.{landed_judged}
+use Rattle.twkb_outline.specs.Reading.{Outlined, OutlineLanded, open_count, outline_after, change_after}
+use Rattle.twkb_engine.specs.Fits.{IsByte}
+use Rattle.twkb_engine.specs.Collections.{groups_of}
+use Rattle.twkb_engine.specs.Notes.{NotesGo, notes_with, open_in}
+use Rattle.twkb_engine.specs.declared.next_item.NextItem.{NextItem}
+use Rattle.twkb_engine.specs.declared.next_item.NextItem.TheVariants as next
+use Rattle.twkb_engine.proofs.Collections.{groups_length}
+use Rattle.twkb_engine.specs.State.{IsNext, IsPlaced, sums_of, outline_in, step_at, allowance_of}
+use Rattle.twkb_engine.specs.Standing.{StandsAt, IsFed, RefusedIn, with_used, notes_at, IsEnd, held_in, offset_in}
+use Rattle.twkb_engine.specs.Taking.{Takes}
+use Rattle.twkb_engine.specs.Stops.{reason_of}
+use Rattle.twkb_engine.specs.declared.blob_reason.BlobReason.{BlobReason}
+use Rattle.twkb_engine.specs.declared.stop.Stop.{Stop}
+use Rattle.twkb_engine.specs.declared.stop.Stop.TheVariants.{Memory, Refused}
+use Rattle.twkb_engine.specs.declared.engine.Engine.{Engine}
+use Rattle.twkb_engine.proofs.Steps.{next_role, next_number, next_no_end, all_whole, open_noted, noted_ends, outlined_blob, stands_begun}
+
+-- ---- the end of the bytes
+
+-- what holds bytes waits for more of a number
+pub spelled_by : (d : Engine) → 0 < length (held_in d) → (IsByte d.next → ⊥) ⊎ (held_in d ≡ []) → IsByte d.next → ⊥
+spelled_by d some (inl s) = s
+spelled_by d some (inr e) = absurd (let none : length (held_in d) ≡ 0 = ap (λ (l : List ℕ). length l) e in omega (arith, some, none))
+
+not_none : (bs : List ℕ) → 0 < length bs → bs ≡ [] → ⊥
+not_none bs some e = let none : length bs ≡ 0 = ap (λ (l : List ℕ). length l) e in omega (arith, some, none)
+
+is_zero : (n : ℕ) → n ≡ 0 → nat_eq n 0 ≡ true
+is_zero n at = grind (arith, common_steps)
+
+is_some : (n : ℕ) → 0 < n → nat_eq n 0 ≡ false
+is_some n some = grind (arith, common_steps)
+
+no_items : (bs : List ℕ) (rs : List Row) (d : Engine) (s : StandsAt bs rs d) → held_in d ≡ [] → (n : ℕ) → d.bytes ≡ n → IsEnd (allowance_of d) bs (offset_in d) (nat_eq d.bytes 0)
+no_items bs rs d s none zero at =
+    let front : s.front ≡ [] = nil_from_length s.front (omega (arith, outlined_bytes d.limits s.front (sums_of d) (outline_in d) rs s.outlined, at)) in
+    subst (IsEnd (allowance_of d) bs (offset_in d)) (sym (is_zero d.bytes at)) (all_whole bs rs d none s ∙ front)
+no_items bs rs d s none (suc n) at =
+    let some : 0 < length s.front = omega (arith, outlined_bytes d.limits s.front (sums_of d) (outline_in d) rs s.outlined, at) in
+    let r = next_role d in
+    subst (IsEnd (allowance_of d) bs (offset_in d)) (sym (is_some d.bytes (omega (arith, at)))) (subst (λ l. FirstFault d.limits l d.bytes Truncated) (sym (all_whole bs rs d none s))
+    (outlined_missing d.limits s.front (sums_of d) (outline_in d) rs r.0 s.outlined r.1 (not_none s.front some) (next_no_end d)))
+
+-- no byte is held
+pub at_end : (bs : List ℕ) (rs : List Row) (d : Engine) (s : StandsAt bs rs d) → length (held_in d) ≡ 0 → IsEnd (allowance_of d) bs (offset_in d) (nat_eq d.bytes 0)
+at_end bs rs d s none = no_items bs rs d s (nil_from_length (held_in d) none) d.bytes refl
+
+-- the bytes end inside a number
+pub cut_end : (bs : List ℕ) (rs : List Row) (d : Engine) (s : StandsAt bs rs d) → IsOpenVarint (held_in d) → (n : ℕ) → n ≡ length (held_in d) → 0 < n → IsEnd (allowance_of d) bs (offset_in d) (nat_eq n 0)
+cut_end bs rs d s begun n many some =
+    let r = next_role d in
+    subst (IsEnd (allowance_of d) bs (offset_in d)) (sym (is_some n some)) (subst (λ l. FirstFault d.limits l d.bytes Truncated) (sym s.whole)
+    (outlined_cut d.limits s.front (sums_of d) (outline_in d) rs (held_in d) r.0 s.outlined r.1 (next_number d (spelled_by d (omega (arith, many, some)) s.spelled)) (omega (arith, begun.room), begun.high)))
+
+-- ---- open geometries
+
+pub few_open : (bs : List ℕ) (rs : List Row) (d : Engine) (s : StandsAt bs rs d) → length d.collections ≤ d.limits.nest
+few_open bs rs d s = omega (arith, groups_length [] d.collections, outlined_depth d.limits s.front (sums_of d) (outline_in d) rs s.outlined)
+
+open_outside : (i : NextItem) (d : Engine) → i ≡ next.TypeByte → open_count (groups_of d.collections, step_at i d) ≡ length d.collections
+open_outside i d e = ap (λ j. open_count (groups_of d.collections, step_at j d)) e ∙ omega (arith, groups_length [] d.collections)
+
+open_inside : (i : NextItem) (d : Engine) → (i ≡ next.TypeByte → ⊥) → open_count (groups_of d.collections, step_at i d) ≡ suc (length (groups_of d.collections))
+open_inside next.TypeByte d n = absurd (n refl)
+open_inside _ d n = refl
+
+pub open_at_type : (d : Engine) → d.next ≡ next.TypeByte → length d.collections ≡ open_in d
+open_at_type d e = sym (open_outside d.next d e)
+
+pub open_past_type : (d : Engine) → (d.next ≡ next.TypeByte → ⊥) → length d.collections + 1 ≡ open_in d
+open_past_type d n = omega (arith, groups_length [] d.collections, open_inside d.next d n)
+
+-- ---- an item is taken
+
+module _ {S : Type 0} (holds : S → Notes → Type 0) (bs : List ℕ) (rs more : List Row) (d e : Engine) (old new : S) (front : List ℕ) (stood : Outlined d.limits front (sums_of d) (outline_in d) rs) (r : Role) (n : ℕ) (bytes piece : List ℕ) (used : ℕ)
+    (says : IsNext r d) (gives : Gives r n bytes) (some : 0 < used) (within : used ≤ length piece) (at : front ++ bytes ≡ bs ++ take used piece) (limits : e.limits ≡ d.limits) (none : held_in e ≡ []) where
+  abbrev item : Item
+  item = record { role = r; number = n; bytes = bytes }
+
+  abbrev sums : Sums
+  sums = added (sums_of d) item
+
+  abbrev after : Outline
+  after = outline_after (sums_of d) item (outline_in d)
+
+  abbrev grown : List Row
+  grown = applied (change_after (sums_of d) item (outline_in d)) rs
+
+  abbrev told : ℕ → Notes
+  told = λ start. noted_by start (sums_of d) r n (notes_in start stood)
+
+  abbrev Known : Type 0
+  Known = holds old (notes_in d.start stood)
+
+  reached : objection d.limits (sums_of d) r n ≡ None → NotedOutline d.limits (front ++ bytes) sums after grown told
+  reached free = noted_item d.limits front (sums_of d) (outline_in d) rs (λ start. notes_in start stood) item (record { outlined = stood; notes = λ start. refl }) says gives free
+
+  far : (p : Outline) → objection d.limits (sums_of d) r n ≡ None → outline_ends sums.bytes after ≡ Ok p
+      → NotedOutline d.limits (front ++ bytes) sums p grown (λ start. note_ends_to (open_count p) (start + sums.bytes) sums.points (told start))
+  far p free way = noted_ends d.limits (front ++ bytes) sums grown after p told way (reached free)
+
+  -- it leads on
+  goes_on : Takes r n (length bytes) d rs (Ok false) e more → NotesGo holds (notes_with r n (length bytes) d e false) d old new → IsPlaced e.next e → IsFed holds Known (allowance_of d) d.start bs piece (Ok (used, false)) more e new
+  goes_on t go placed =
+      let all : ℕ → Notes = λ start. note_ends_to (open_in e) (start + sums.bytes) sums.points (told start) in
+      let a : NotedOutline d.limits (front ++ bytes) sums (outline_in e) grown all = far (outline_in e) t.0 t.1 in
+      let b : NotedOutline d.limits (front ++ bytes) (sums_of e) (outline_in e) grown all = subst (λ q. NotedOutline d.limits (front ++ bytes) q (outline_in e) grown all) (sym t.2) a in
+      let c : NotedOutline d.limits (front ++ bytes) (sums_of e) (outline_in e) more all = subst (λ l. NotedOutline d.limits (front ++ bytes) (sums_of e) (outline_in e) l all) (sym t.3) b in
+      let f : NotedOutline e.limits (front ++ bytes) (sums_of e) (outline_in e) more all = subst (λ l. NotedOutline l (front ++ bytes) (sums_of e) (outline_in e) more all) (sym limits) c in
+      let here : StandsAt (front ++ bytes) more e = record { front = front ++ bytes; whole = sym (ap (λ l. (front ++ bytes) ++ l) none ∙ append-nil (front ++ bytes)); outlined = f.outlined; placed = placed; spelled = inr none } in
+      let noted : Known → holds new (notes_at here) = λ known.
+          subst (holds new) (sym (ap (λ start. notes_in start f.outlined) t.4.start ∙ f.notes d.start)) (go (notes_in d.start stood) (open_noted d.limits front (sums_of d) (outline_in d) rs stood d.start) known) in
+      let both = subst (λ l. (s : StandsAt l more e) × (Known → holds new (notes_at s))) at (here, noted) in
+      (within, t.4.start, both.0, both.1)
+
+  -- the blob ends with it
+  ends_blob : Takes r n (length bytes) d rs (Ok true) e more → NotesGo holds (notes_with r n (length bytes) d e true) d old new → IsFed holds Known (allowance_of d) d.start bs piece (Ok (used, true)) more e new
+  ends_blob t go =
+      let a = far ([], OnFinished) t.0 t.1 in
+      let w = outlined_blob d.limits (front ++ bytes) sums grown a.outlined in
+      let last : Notes = notes_with r n (length bytes) d e true (notes_in d.start stood) in
+      let told_spans : last.spans ≡ spans_of_blob d.start w.2 = ap (λ (v : Notes). v.spans) (sym (a.notes d.start)) ∙ w.3 d.start in
+      let both = subst (λ l. (x : Blob d.limits l w.0) × (last.spans ≡ spans_of_blob d.start x)) at (w.2, told_spans) in
+      (
+        record { some = some; within = within; geometry = w.0; blob = both.0; made = t.2 ∙ w.1 },
+        λ known. (last, go (notes_in d.start stood) (open_noted d.limits front (sums_of d) (outline_in d) rs stood d.start) known, both.1),
+        stands_begun (d.start + (d.bytes + length bytes)) e t.3 none,
+        omega (arith, t.3.start, ap (λ (l : List ℕ). length l) at, length-append front bytes, length-append bs (take used piece), length-take-le used piece within, outlined_bytes d.limits front (sums_of d) (outline_in d) rs stood),
+      )
+
+  landed : objection d.limits (sums_of d) r n ≡ None → OutlineLanded d.limits (front ++ bytes) sums grown (outline_ends sums.bytes after)
+  landed free = outlined_ends d.limits (front ++ bytes) sums after grown (reached free).outlined
+
+  -- there is no memory for it
+  no_memory : Takes r n (length bytes) d rs (Err Memory) e more → PartIn d.limits bs piece
+  no_memory t = record { used = used; some = some; within = within; part = subst (IsJudged d.limits) at (landed_judged d.limits (front ++ bytes) sums grown (outline_ends sums.bytes after) (landed t.0) t.1) }
+
+  -- it is refused, or a size at its end
+  fault : (why : BlobReason) → Takes r n (length bytes) d rs (Err (Refused why)) e more → (rest : List ℕ) → FirstFault d.limits ((front ++ bytes) ++ rest) e.bytes (reason_of why)
+  fault why (inl t) rest =
+      subst (λ k. FirstFault d.limits ((front ++ bytes) ++ rest) k (reason_of why)) (sym t.1) (subst (λ l. FirstFault d.limits l d.bytes (reason_of why)) (sym (append_assoc front bytes rest))
+      (outlined_refused d.limits front (sums_of d) (outline_in d) rs item (reason_of why) stood says gives t.0 rest))
+  fault why (inr t) rest = subst (λ k. FirstFault d.limits ((front ++ bytes) ++ rest) k (reason_of why)) (sym t.2) (subst (OutlineLanded d.limits (front ++ bytes) sums grown) t.1 (landed t.0) rest)
+
+  of_answer : (answer : Result Bool Stop) → Takes r n (length bytes) d rs answer e more → IfOk answer (λ ends. NotesGo holds (notes_with r n (length bytes) d e ends) d old new) → OnOk answer (IsPlaced e.next e)
+      → IsFed holds Known (allowance_of d) d.start bs piece (with_used used answer) more e new
+  of_answer (Ok false) t go placed = goes_on t go placed
+  of_answer (Ok true) t go placed = ends_blob t go
+  of_answer (Err Memory) t go placed = no_memory t
+  of_answer (Err (Refused why)) t go placed = record { used = used; some = some; within = within; fault = λ rest. subst (λ l. FirstFault d.limits (l ++ rest) e.bytes (reason_of why)) at (fault why t rest) }
+
+  pub item_fed : (width : ℕ) (answer : Result Bool Stop) → length bytes ≡ width → Takes r n width d rs answer e more → IfOk answer (λ ends. NotesGo holds (notes_with r n width d e ends) d old new) → OnOk answer (IsPlaced e.next e)
+      → IsFed holds Known (allowance_of d) d.start bs piece (with_used used answer) more e new
+  item_fed width answer size t go placed =
+      of_answer answer (subst (λ k. Takes r n k d rs answer e more) (sym size) t) (subst (λ k. IfOk answer (λ ends. NotesGo holds (notes_with r n k d e ends) d old new)) (sym size) go) placed
+
+-- ---- a byte is taken
+
+-- before a byte no number is held
+pub byte_alone : (bs : List ℕ) (rs : List Row) (d : Engine) → IsByte d.next → StandsAt bs rs d → held_in d ≡ []
+byte_alone bs rs d byte s = elim s.spelled [ inl f ↦ absurd (f byte) | inr none ↦ none ]
+
+-- a byte more is held of a number
+pub held_more : (bs : List ℕ) (u : ℕ) (rs : List Row) (d e : Engine) (s : StandsAt bs rs d) → held_in e ≡ held_in d ++ u ∷ [] → bs ++ u ∷ [] ≡ s.front ++ held_in e
+held_more bs u rs d e s more = ap (λ l. l ++ u ∷ []) s.whole ∙ (append_assoc s.front (held_in d) (u ∷ []) ∙ ap (λ l. s.front ++ l) (sym more))
+
+-- the bytes of a number after whole items
+pub held_bytes : (bs front held more : List ℕ) (u : ℕ) → bs ≡ front ++ held → front ++ (held ++ u ∷ more) ≡ (bs ++ u ∷ []) ++ more
+held_bytes bs front held more u e = sym (ap (λ l. (l ++ u ∷ []) ++ more) e ∙ append_assoc (front ++ held) (u ∷ []) more ∙ append_assoc front held (u ∷ more))
+
+-- a byte after nine that go on
+pub long_refused : (bs : List ℕ) (u : ℕ) (rs : List Row) (d : Engine) → StandsAt bs rs d → (IsByte d.next → ⊥) → IsOpenVarint (held_in d) → length (held_in d) ≡ 9 → 2 ≤ u → RefusedIn (allowance_of d) bs (u ∷ []) (offset_in d) BadVarint
+long_refused bs u rs d s spelled begun nine above = record {
+  used = 1;
+  some = omega arith;
+  within = omega arith;
+  fault = λ more. (let r = next_role d in
+      subst (λ l. FirstFault d.limits l d.bytes BadVarint) (held_bytes bs s.front (held_in d) more u s.whole)
+      (outlined_long d.limits s.front (sums_of d) (outline_in d) rs (held_in d ++ u ∷ more) r.0 s.outlined r.1 (next_number d spelled) (record { nine = held_in d; tenth = u; more = more; whole = refl; length = nine; go_on = begun.high; above = above })));
+}

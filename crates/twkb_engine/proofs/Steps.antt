@@ -1,0 +1,235 @@
+-- An item that comes next: its role, what it notes, and where it leads with the ends after it.
+use Rattle.std.proofs.Common.{◌≡◌, ◌⊎◌, inl, inr, ℕ, zero, suc, ◌+◌, ◌-◌, ◌<◌, ◌≤◌, List, [], ◌∷◌, ◌++◌, length, refl, sym, ap, ◌∙◌, subst, append_assoc, append-nil, length-append, take, arith, true, false, Bool, Result, Some, None, Ok, Err, OnOk, IfOk}
+use Rattle.std.specs.Prelude.{⊤, not}
+use Rattle.twkb_num.specs.Varint.{IsVarint}
+use Rattle.twkb_points.specs.Point.{Point, origin}
+use Rattle.twkb_tree.specs.Tree.{Tree}
+use Rattle.twkb_tree.specs.Limits.{Allowance, IsAllowance}
+use Rattle.twkb_tree.specs.Rows.{Row, rows}
+use Rattle.twkb_grammar.specs.Roles.{Role, Item, IsNumber, join}
+use Rattle.twkb_grammar.specs.Roles as role
+use Rattle.twkb_grammar.specs.Blob.{Blob}
+use Rattle.twkb_grammar.specs.Fault.{FirstFault, Reason, SizeMismatch, points_by}
+use Rattle.twkb_grammar.specs.PlainReader.{is_exact, unless, objection}
+use Rattle.twkb_grammar.specs.Machine as machine
+use Rattle.twkb_grammar.specs.Machine.{Head, Frame, Phase, AtHeader, AtMetadata, AtOption, AtCount, AtId, AtBody, AtEnd, Finished, Want, WantY, Done, Sums, nothing, added, kind_number, first_count, listed}
+use Rattle.twkb_grammar.specs.Reading.{Ran, Reached, Gives}
+use Rattle.twkb_grammar.specs.Noting.{Notes, no_notes, noted, noted_by, note_end, note_ends, note_ends_to, IsQuiet}
+use Rattle.twkb_grammar.specs.Spans.{spans_of_blob}
+use Rattle.twkb_grammar.proofs.BodiesBack.{some_role}
+use Rattle.twkb_grammar.proofs.ExactEnds.{NoEnd}
+use Rattle.twkb_grammar.proofs.RoleBytes.{IsByteRole, byte_gives, number_gives, byte_no_end, number_no_end}
+use Rattle.twkb_grammar.proofs.NotedSpans.{quiet, blob_noted}
+use Rattle.twkb_grammar.proofs.NotedEnds.{all_open, ends_to}
+use Rattle.twkb_grammar.proofs.Frames.{reached_frames}
+use Rattle.twkb_grammar.proofs.Running.{ran_blob}
+use Rattle.twkb_grammar.proofs.TreesBack.{runs_are_items}
+use Rattle.twkb_outline.specs.Outline.{Outline, Group, group_of, Step, OnHeader, OnMetadata, OnOption, OnCount, OnId, OnBody, OnEnd, OnFinished, step_of, step_role, outline_ended, outline_past_end, outline_advanced, outline_ends}
+use Rattle.twkb_outline.specs.Reading.{Outlined, OutlineLanded, open_count, outline_after, change_after}
+use Rattle.twkb_outline.specs.Growing.{applied, rows_so_far}
+use Rattle.twkb_outline.specs.Noting.{NotedOutline, notes_in}
+use Rattle.twkb_outline.proofs.Outlined.{outlined_start, outlined_bytes, outlined_ends, outlined_refused, noted_item}
+use Rattle.twkb_outline.proofs.Notings.{same_count}
+use Rattle.twkb_body.specs.Head.{kind_of, many_of}
+use Rattle.twkb_engine.specs.Collections.{groups_of}
+use Rattle.twkb_engine.specs.Fits.{IsByte}
+use Rattle.twkb_engine.specs.State.{IsNext, IsPlaced, sums_of, outline_in, step_at, allowance_of}
+use Rattle.twkb_engine.specs.Taking.{Takes, BeginsAt, way_of}
+use Rattle.twkb_engine.specs.Notes.{NotesGo, notes_with, open_in}
+use Rattle.twkb_engine.specs.Standing.{StandsAt, notes_at, held_in}
+use Rattle.twkb_engine.specs.declared.next_item.NextItem.{NextItem}
+use Rattle.twkb_engine.specs.declared.next_item.NextItem.TheVariants as next
+use Rattle.twkb_engine.specs.declared.engine.Engine.{Engine}
+use Rattle.twkb_engine.specs.declared.stop.Stop.{Stop}
+
+-- an item that begins and ends nothing notes nothing
+pub quiet_noted : {S : Type 0} (holds : S → Notes → Type 0) (r : Role) (n width : ℕ) (d e : Engine) (old : S) → IsQuiet r → open_in e ≡ open_in d → NotesGo holds (notes_with r n width d e false) d old old
+quiet_noted holds r n width d e old q same = λ w begun h.
+    let at : ℕ = d.start + (d.bytes + width) in
+    let points : ℕ = d.points + points_by r n in
+    let none : length w.begun - open_in e ≡ 0 = omega (arith, begun, same) in
+    subst (holds old) (sym (ap (note_ends_to (open_in e) at points) (quiet d.start (sums_of d) r n w q) ∙ ap (λ k. note_ends k at points w) none)) h
+
+-- no blob ends
+abbrev GoesOn : Step → Type 0
+GoesOn OnFinished = ⊥
+GoesOn _ = ⊤
+
+abbrev Goes : Result Outline Reason → Type 0
+Goes (Ok o) = GoesOn o.1
+Goes (Err reason) = ⊤
+
+x_goes : (i : NextItem) → i ≡ next.X → (bytes n : ℕ) (d : Engine) → Goes (outline_ends bytes (outline_advanced bytes n (groups_of d.collections, step_at i d)))
+x_goes i is bytes n d = subst (λ j. Goes (outline_ends bytes (outline_advanced bytes n (groups_of d.collections, step_at j d)))) (sym is) tt
+
+-- an x
+pub x_noted : {S : Type 0} (holds : S → Notes → Type 0) (r : Role) (n width : ℕ) (d e : Engine) (old : S) (answer : Result Bool Stop) → d.next ≡ next.X → IsNext r d → ((rs : List Row) → Takes role.X n width d rs answer e rs)
+    → OnOk answer (open_in e ≡ open_in d) → IfOk answer (λ ends. NotesGo holds (notes_with r n width d e ends) d old old)
+x_noted holds r n width d e old (Ok false) is says takes same = quiet_noted holds r n width d e old (subst IsQuiet (sym (some_role role.X r (sym (ap (λ i. Rattle.twkb_outline.specs.Outline.step_role (length (outline_in d).0) d.bytes (step_at i d)) is) ∙ says))) tt) same
+x_noted holds r n width d e old (Ok true) is says takes same = absurd (subst Goes ((takes []).1) (x_goes d.next is (d.bytes + width) n d))
+x_noted holds r n width d e old (Err stop) is says takes same = tt
+
+-- ---- the role of the next item
+
+has_role : (level bytes : ℕ) (i : NextItem) (d : Engine) → (r : Role) × (step_role level bytes (step_at i d) ≡ Some r) × ((IsByte i × IsByteRole r) ⊎ ((IsByte i → ⊥) × IsNumber r))
+has_role level bytes next.TypeByte d = (role.Header, refl, inl (tt, tt))
+has_role level bytes next.MetadataByte d = (role.Metadata (kind_number (kind_of d.head.kind)), refl, inl (tt, tt))
+has_role level bytes next.ExtendedByte d = (role.Extended, refl, inl (tt, tt))
+has_role level bytes next.Size d = (role.Size, refl, inr (λ b. b, tt))
+has_role level bytes (next.BoxNumber left) d = (role.Box, refl, inr (λ b. b, tt))
+has_role level bytes next.MemberCount d = (role.Count (first_count (many_of d.head.kind) level), refl, inr (λ b. b, tt))
+has_role level bytes next.Id d = (role.Id, refl, inr (λ b. b, tt))
+has_role level bytes next.X d = (role.X, refl, inr (λ b. b, tt))
+has_role level bytes next.Y d = (role.Y, refl, inr (λ b. b, tt))
+has_role level bytes next.PointCount d = (role.Count (listed 0), refl, inr (λ b. b, tt))
+has_role level bytes next.RingCount d = (role.Count (listed 1), refl, inr (λ b. b, tt))
+
+pub next_role : (d : Engine) → (r : Role) × IsNext r d × ((IsByte d.next × IsByteRole r) ⊎ ((IsByte d.next → ⊥) × IsNumber r))
+next_role d = has_role (length (groups_of d.collections)) d.bytes d.next d
+
+-- what may stand there, in the role that it has
+pub next_no_end : (d : Engine) → NoEnd (next_role d).0
+next_no_end d = elim ((next_role d).2) [ inl k ↦ byte_no_end (next_role d).0 k.1 | inr k ↦ number_no_end (next_role d).0 k.1 ]
+
+pub next_number : (d : Engine) → (IsByte d.next → ⊥) → IsNumber (next_role d).0
+next_number d spelled = elim ((next_role d).2) [ inl k ↦ absurd (spelled k.0) | inr k ↦ k.1 ]
+
+pub byte_written : (d : Engine) (n : ℕ) → n < 256 → IsByte d.next → Gives (next_role d).0 n (n ∷ [])
+byte_written d n low b = elim ((next_role d).2) [ inl k ↦ byte_gives (next_role d).0 n k.1 low | inr k ↦ absurd (k.0 b) ]
+
+pub number_written : (d : Engine) (n : ℕ) (bs : List ℕ) → IsVarint bs n → (IsByte d.next → ⊥) → Gives (next_role d).0 n bs
+number_written d n bs v spelled = number_gives (next_role d).0 n bs (next_number d spelled) v
+
+-- ---- the ends after an item, and what they note
+
+ends_swap : (n offset points : ℕ) (w : Notes) → note_ends n offset points (note_end offset points w) ≡ note_end offset points (note_ends n offset points w)
+ends_swap zero offset points w = refl
+ends_swap (suc n) offset points w = ap (λ v. note_end offset points v) (ends_swap n offset points w)
+
+abbrev way : Outline → Result Outline Reason
+way o = Ok o
+
+ok_same : (o p : Outline) → way o ≡ way p → o ≡ p
+ok_same o p at = cc
+
+-- as many geometries are begun in the notes as stand open
+pub open_noted : (limits : Allowance) (bytes : List ℕ) (e : Sums) (o : Outline) (rs : List Row) (r : Outlined limits bytes e o rs) (start : ℕ) → length (notes_in start r).begun ≡ open_count o
+open_noted limits bytes e o rs r start = all_open start r.reached.items nothing no_notes ∙ (sym (reached_frames limits bytes e r.stack r.reached) ∙ (same_count r.stack.0 r.stack.1 ∙ ap open_count r.outline))
+
+module _ (limits : Allowance) (bytes : List ℕ) (e : Sums) (rs : List Row) where
+  -- one geometry ends
+  noted_end : (gs : List Group) (h : Head) (told : ℕ → Notes) → is_exact h.size (e.bytes - h.from) ≡ true → NotedOutline limits bytes e (gs, OnEnd h) rs told
+      → NotedOutline limits bytes e (outline_ended gs) rs (λ start. note_end (start + e.bytes) e.points (told start))
+  noted_end gs h told exact n =
+      let i : Item = record { role = role.End h.size (e.bytes - h.from); number = 0; bytes = [] } in
+      let after : ℕ → Notes = λ start. note_end (start + e.bytes) e.points (told start) in
+      let a : NotedOutline limits (bytes ++ []) (added e i) (outline_ended gs) rs after = noted_item limits bytes e (gs, OnEnd h) rs told i n refl (refl, refl) (ap (λ b. unless (not b) SizeMismatch None) exact) in
+      let b : e.bytes + 0 ≡ e.bytes = omega arith in
+      let c : e.nodes + 0 ≡ e.nodes = omega arith in
+      let p : e.points + 0 ≡ e.points = omega arith in
+      let same : added e i ≡ e = λ t. record { bytes = b t; position = e.position; nodes = c t; points = p t } in
+      subst (λ s. NotedOutline limits bytes s (outline_ended gs) rs after) same (subst (λ l. NotedOutline limits l (added e i) (outline_ended gs) rs after) (append-nil bytes) a)
+
+  abbrev Past : Outline → (ℕ → Notes) → Type 0
+  Past p told = (k : ℕ) × NotedOutline limits bytes e p rs (λ start. note_ends k (start + e.bytes) e.points (told start))
+
+  one_more : (p : Outline) (told : ℕ → Notes) → Past p (λ start. note_end (start + e.bytes) e.points (told start)) → Past p told
+  one_more p told (k, n) = (suc k, record { outlined = n.outlined; notes = λ start. n.notes start ∙ ends_swap k (start + e.bytes) e.points (told start) })
+
+  -- it ends, and the collections of which it is the last member
+  noted_past : (gs : List Group) (h : Head) (told : ℕ → Notes) (p : Outline) (b : Bool) → is_exact h.size (e.bytes - h.from) ≡ b → NotedOutline limits bytes e (gs, OnEnd h) rs told → outline_past_end b e.bytes gs ≡ Ok p → Past p told
+  noted_past gs h told p false x n at = absurd cc
+  noted_past [] h told p true x n at = (1, subst (λ q. NotedOutline limits bytes e q rs (λ start. note_end (start + e.bytes) e.points (told start))) (ok_same ([], OnFinished) p at) (noted_end [] h told x n))
+  noted_past (g ∷ gs) h told p true x n at =
+      let after : ℕ → Notes = λ start. note_end (start + e.bytes) e.points (told start) in
+      one_more p told
+      (elim g.left as (λ m.
+      NotedOutline limits bytes e (elim m [ zero ↦ (gs, OnEnd g.head) | suc k ↦ (record { head = g.head; ids = Rattle.twkb_tree.specs.Rows.other_ids g.ids; left = k } ∷ gs, OnHeader) ]) rs after
+      → ◌≡◌ {A = Result Outline Reason} (elim m [ zero ↦ outline_past_end (is_exact g.head.size (e.bytes - g.head.from)) e.bytes gs | suc k ↦ Ok (record { head = g.head; ids = Rattle.twkb_tree.specs.Rows.other_ids g.ids; left = k } ∷ gs, OnHeader) ]) (Ok p)
+      → Past p after)
+      [ zero ↦ λ a there. noted_past gs g.head after p (is_exact g.head.size (e.bytes - g.head.from)) refl a there
+      | suc k ↦ λ a there. (0, subst (λ q. NotedOutline limits bytes e q rs after) (ok_same (record { head = g.head; ids = Rattle.twkb_tree.specs.Rows.other_ids g.ids; left = k } ∷ gs, OnHeader) p there) a) ]
+      (noted_end (g ∷ gs) h told x n) at)
+
+  none_past : (o p : Outline) (told : ℕ → Notes) → way o ≡ way p → NotedOutline limits bytes e o rs told → Past p told
+  none_past o p told at n = (0, subst (λ q. NotedOutline limits bytes e q rs told) (ok_same o p at) n)
+
+  any_past : (gs : List Group) (s : Step) (p : Outline) (told : ℕ → Notes) → outline_ends e.bytes (gs, s) ≡ Ok p → NotedOutline limits bytes e (gs, s) rs told → Past p told
+  any_past gs (OnEnd h) p told at n = noted_past gs h told p (is_exact h.size (e.bytes - h.from)) refl n at
+  any_past gs OnHeader p told at n = none_past (gs, OnHeader) p told at n
+  any_past gs (OnMetadata k q) p told at n = none_past (gs, OnMetadata k q) p told at n
+  any_past gs (OnOption k h r os) p told at n = none_past (gs, OnOption k h r os) p told at n
+  any_past gs (OnCount m h) p told at n = none_past (gs, OnCount m h) p told at n
+  any_past gs (OnId m h members ids left) p told at n = none_past (gs, OnId m h members ids left) p told at n
+  any_past gs (OnBody h f ids s) p told at n = none_past (gs, OnBody h f ids s) p told at n
+  any_past gs OnFinished p told at n = none_past (gs, OnFinished) p told at n
+
+  -- past the ends after an item
+  pub noted_ends : (o p : Outline) (told : ℕ → Notes) → outline_ends e.bytes o ≡ Ok p → NotedOutline limits bytes e o rs told
+      → NotedOutline limits bytes e p rs (λ start. note_ends_to (open_count p) (start + e.bytes) e.points (told start))
+  noted_ends o p told at n =
+      let (k, q) = any_past o.0 o.1 p told at n in
+      record {
+        outlined = q.outlined;
+        notes = λ start. q.notes start ∙ (ends_to k (start + e.bytes) e.points (told start)
+            ∙ ap (λ m. note_ends_to m (start + e.bytes) e.points (told start)) (ap (λ (w : Notes). length w.begun) (sym (q.notes start)) ∙ open_noted limits bytes e p rs q.outlined start));
+      }
+
+-- ---- a blob that is complete
+
+pub blob_told : (limits : Allowance) (bytes : List ℕ) (g : Tree) (items : List Item) → Ran limits items ([], Finished g) → join items ≡ bytes
+    → (b : Blob limits bytes g) × ((start : ℕ) → (noted start nothing no_notes items).spans ≡ spans_of_blob start b)
+blob_told limits bytes g items ran spelled =
+    subst (λ l. (b : Blob limits l g) × ((start : ℕ) → (noted start nothing no_notes items).spans ≡ spans_of_blob start b)) spelled
+    (here, λ start. ap (λ (w : Notes). w.spans) (blob_noted limits (join items) g start here))
+  where
+    here : Blob limits (join items) g
+    here = record { valid = (ran_blob limits items g ran).valid; items = items; are_items = (runs_are_items g items ran.runs).0; exact = ran.exact; spelled = refl }
+
+-- its rows and its spans
+abbrev Whole : (limits : Allowance) (bytes : List ℕ) (items : List Item) (rs : List Row) → Type 0
+Whole limits bytes items rs = (g : Tree) × (rs ≡ rows 0 g) × (b : Blob limits bytes g) × ((start : ℕ) → (noted start nothing no_notes items).spans ≡ spans_of_blob start b)
+
+finished : (limits : Allowance) (bytes : List ℕ) (e : Sums) (fs : List Frame) (ph : Phase) → Rattle.std.specs.Prelude.map group_of fs ≡ [] → step_of ph ≡ OnFinished → (r : Reached limits bytes e (fs, ph)) → Whole limits bytes r.items (rows_so_far (fs, ph))
+finished limits bytes e (f ∷ fs) ph none same r = absurd cc
+finished limits bytes e [] (Finished g) none same r = let told = blob_told limits bytes g r.items r.ran r.spelled in (g, refl, told.0, told.1)
+finished limits bytes e [] AtHeader none same r = absurd cc
+finished limits bytes e [] (AtMetadata k p) none same r = absurd cc
+finished limits bytes e [] (AtOption k h o rs) none same r = absurd cc
+finished limits bytes e [] (AtCount m h) none same r = absurd cc
+finished limits bytes e [] (AtId m h n ids left) none same r = absurd cc
+finished limits bytes e [] (AtBody h f ids (Want d a)) none same r = absurd cc
+finished limits bytes e [] (AtBody h f ids (WantY a)) none same r = absurd cc
+finished limits bytes e [] (AtBody h f ids (Done v)) none same r = absurd cc
+finished limits bytes e [] (AtEnd h g) none same r = absurd cc
+
+pub outlined_blob : (limits : Allowance) (bytes : List ℕ) (e : Sums) (rs : List Row) (r : Outlined limits bytes e ([], OnFinished) rs) → Whole limits bytes r.reached.items rs
+outlined_blob limits bytes e rs r =
+    subst (Whole limits bytes r.reached.items) r.rows (finished limits bytes e r.stack.0 r.stack.1 (ap (λ (o : Outline). o.0) r.outline) (ap (λ (o : Outline). o.1) r.outline) r.reached)
+
+-- ---- where an engine stands
+
+-- a blob begins
+starts_here : (limits : Allowance) (b n q : ℕ) (p : Point) (gs : List Group) (i : NextItem) (d : Engine) → IsAllowance limits → i ≡ next.TypeByte → b ≡ 0 → n ≡ 1 → q ≡ 0 → p ≡ origin → gs ≡ []
+    → Outlined limits [] (record { bytes = b; position = p; nodes = n; points = q }) (gs, step_at i d) []
+starts_here limits b n q p gs i d allowed ei eb en eq ep eg = rw (ei, eb, en, eq, ep, eg) (outlined_start limits allowed)
+
+placed_here : (i : NextItem) (d : Engine) → i ≡ next.TypeByte → IsPlaced i d
+placed_here i d e = subst (λ j. IsPlaced j d) (sym e) tt
+
+pub stands_begun : (offset : ℕ) (d : Engine) → BeginsAt offset d → held_in d ≡ [] → StandsAt [] [] d
+stands_begun offset d b none = record {
+  front = [];
+  whole = sym none;
+  outlined = starts_here d.limits d.bytes d.nodes d.points d.position (groups_of d.collections) d.next d d.allowed b.next b.bytes b.nodes b.points b.position b.collections;
+  placed = placed_here d.next d b.next;
+  spelled = inr none;
+}
+
+-- if no byte is held the bytes are whole items
+pub all_whole : (bytes : List ℕ) (rs : List Row) (d : Engine) → held_in d ≡ [] → (s : StandsAt bytes rs d) → bytes ≡ s.front
+all_whole bytes rs d none s = s.whole ∙ (ap (λ l. s.front ++ l) none ∙ append-nil s.front)
+
+-- as many geometries are begun in its notes as stand open
+pub notes_open : (bytes : List ℕ) (rs : List Row) (d : Engine) (s : StandsAt bytes rs d) → length (notes_at s).begun ≡ open_in d
+notes_open bytes rs d s = open_noted d.limits s.front (sums_of d) (outline_in d) rs s.outlined d.start
