@@ -1,8 +1,10 @@
 -- An engine takes the bytes of a piece, and comes to the end of the bytes.
-use Rattle.std.proofs.Common.{append_assoc, length-append, take, Result, Option, Some, None, Ok, Err, OnOk, IfOk, ◌≡◌, ◌⊎◌, inl, inr, ℕ, zero, suc, ◌+◌, ◌-◌, ◌<◌, ◌≤◌, List, [], ◌∷◌, ◌++◌, length, refl, sym, ap, ◌∙◌, subst, append-nil, arith, true, false, Bool, nat_eq}
+use Rattle.std.proofs.Common.{get_or, append_assoc, length-append, take, Result, Option, Some, None, Ok, Err, OnOk, IfOk, ◌≡◌, ◌⊎◌, inl, inr, ℕ, zero, suc, ◌+◌, ◌-◌, ◌<◌, ◌≤◌, List, [], ◌∷◌, ◌++◌, length, refl, sym, ap, ◌∙◌, subst, append-nil, arith, true, false, Bool, nat_eq}
 use Rattle.std.proofs.lemmas.List.{nil_from_length, length-take-le}
 use Rattle.std.proofs.lemmas.Grind.{common_steps}
-use Rattle.twkb_num.specs.Varint.{IsOpenVarint}
+use Rattle.std.proofs.Math.Seq.{take-suc}
+use Rattle.twkb_num.specs.Varint.{IsVarint, IsOpenVarint}
+use Rattle.twkb_tree.specs.Limits.{Allowance}
 use Rattle.twkb_tree.specs.Rows.{Row}
 use Rattle.twkb_grammar.specs.Fault.{FirstFault, Truncated, BadVarint}
 use Rattle.twkb_grammar.specs.Roles.{Role, Item}
@@ -26,14 +28,14 @@ use Rattle.twkb_engine.specs.declared.next_item.NextItem.{NextItem}
 use Rattle.twkb_engine.specs.declared.next_item.NextItem.TheVariants as next
 use Rattle.twkb_engine.proofs.Collections.{groups_length}
 use Rattle.twkb_engine.specs.State.{IsNext, IsPlaced, sums_of, outline_in, step_at, allowance_of}
-use Rattle.twkb_engine.specs.Standing.{StandsAt, IsFed, RefusedIn, with_used, notes_at, IsEnd, held_in, offset_in}
+use Rattle.twkb_engine.specs.Standing.{StandsAt, IsFed, HoldsSpans, SaysNext, count_of, RefusedIn, with_used, notes_at, IsEnd, held_in, offset_in}
 use Rattle.twkb_engine.specs.Taking.{Takes}
 use Rattle.twkb_engine.specs.Stops.{reason_of}
 use Rattle.twkb_engine.specs.declared.blob_reason.BlobReason.{BlobReason}
 use Rattle.twkb_engine.specs.declared.stop.Stop.{Stop}
 use Rattle.twkb_engine.specs.declared.stop.Stop.TheVariants.{Memory, Refused}
 use Rattle.twkb_engine.specs.declared.engine.Engine.{Engine}
-use Rattle.twkb_engine.proofs.Steps.{next_role, next_number, next_no_end, all_whole, open_noted, noted_ends, outlined_blob, stands_begun}
+use Rattle.twkb_engine.proofs.Steps.{next_role, next_number, next_no_end, all_whole, open_noted, noted_ends, outlined_blob, stands_begun, number_written, SameItem, stands_else}
 
 -- ---- the end of the bytes
 
@@ -198,3 +200,71 @@ long_refused bs u rs d s spelled begun nine above = record {
       subst (λ l. FirstFault d.limits l d.bytes BadVarint) (held_bytes bs s.front (held_in d) more u s.whole)
       (outlined_long d.limits s.front (sums_of d) (outline_in d) rs (held_in d ++ u ∷ more) r.0 s.outlined r.1 (next_number d spelled) (record { nine = held_in d; tenth = u; more = more; whole = refl; length = nine; go_on = begun.high; above = above })));
 }
+
+-- the last byte of a number
+pub number_fed : {S : Type 0} (holds : S → Notes → Type 0) (bs : List ℕ) (rs more : List Row) (d b e : Engine) (old new : S) (u value width : ℕ) (answer : Result Bool Stop) (s : StandsAt bs rs d) → SameItem d b → held_in b ≡ [] → (IsByte d.next → ⊥)
+    → IsVarint (held_in d ++ u ∷ []) value → width ≡ length (held_in d) + 1 → e.limits ≡ b.limits → held_in e ≡ held_in b → ((r : Role) → IsNext r b → Takes r value width b rs answer e more)
+    → ((r : Role) → IsNext r b → IfOk answer (λ ends. NotesGo holds (notes_with r value width b e ends) b old new)) → (IsPlaced b.next b → OnOk answer (IsPlaced e.next e))
+    → IsFed holds (holds old (notes_at s)) (allowance_of d) d.start bs (u ∷ []) (with_used 1 answer) more e new
+number_fed holds bs rs more d b e old new u value width answer s q none spelled v size limits held takes noted placed =
+    let whole : List ℕ = held_in d ++ u ∷ [] in
+    let (t, front, notes) = stands_else bs s.front rs d b q s (sym (ap (λ l. s.front ++ l) none ∙ append-nil s.front)) (inr none) in
+    let r = next_role b in
+    let at : t.front ++ whole ≡ bs ++ take 1 (u ∷ []) = ap (λ l. l ++ whole) front ∙ (held_bytes bs s.front (held_in d) [] u s.whole ∙ append-nil (bs ++ u ∷ [])) in
+    let fed = item_fed holds bs rs more b e old new t.front t.outlined r.0 value whole (u ∷ []) 1 r.1 (number_written b value whole v (λ byte. spelled (subst IsByte q.next byte))) (omega arith) (omega arith) at limits (held ∙ none)
+        width answer (omega (arith, length-append (held_in d) (u ∷ []), size)) (takes r.0 r.1) (noted r.0 r.1) (placed t.placed) in
+    subst (λ l. IsFed holds (holds old (notes_at s)) l d.start bs (u ∷ []) (with_used 1 answer) more e new) q.limits
+    (subst (λ o. IsFed holds (holds old (notes_at s)) (allowance_of b) o bs (u ∷ []) (with_used 1 answer) more e new) q.start
+    (subst (λ w. IsFed holds (holds old w) (allowance_of b) b.start bs (u ∷ []) (with_used 1 answer) more e new) notes fed))
+
+-- a byte of a number that goes on
+pub more_fed : {S : Type 0} (holds : S → Notes → Type 0) (bs : List ℕ) (rs : List Row) (d e : Engine) (old : S) (u : ℕ) (s : StandsAt bs rs d) → SameItem d e → (IsByte d.next → ⊥) → held_in e ≡ held_in d ++ u ∷ []
+    → IsFed holds (holds old (notes_at s)) (allowance_of d) d.start bs (u ∷ []) (Ok (1, false)) rs e old
+more_fed holds bs rs d e old u s q spelled held =
+    let (t, front, notes) = stands_else bs (bs ++ u ∷ []) rs d e q s (held_more bs u rs d e s held) (inl spelled) in
+    (omega arith, q.start, t, λ known. subst (holds old) (sym notes) known)
+
+pub not_both : (b : Bool) → b ≡ false → b ≡ true → ⊥
+not_both true no yes = absurd cc
+not_both false no yes = absurd cc
+
+-- ---- an item in front
+
+-- the first byte alone
+pub first_fed : {S : Type 0} (holds : S → Notes → Type 0) (known : Type 0) (limits : Allowance) (start : ℕ) (bs rest : List ℕ) (rs : List Row) (e : Engine) (new : S) (answer : Result Bool Stop) → 0 < length rest
+    → IsFed holds known limits start bs (get_or rest 0 0 ∷ []) (with_used 1 answer) rs e new → IsFed holds known limits start bs rest (with_used 1 answer) rs e new
+first_fed holds known limits start bs rest rs e new (Ok false) some f =
+    let one : take 1 (get_or rest 0 0 ∷ []) ≡ take 1 rest = sym (take-suc rest 0 0 some) in
+    let both = subst (λ l. (s : StandsAt (bs ++ l) rs e) × (known → holds new (notes_at s))) one (f.2, f.3) in
+    (omega (arith, some), f.1, both.0, both.1)
+first_fed holds known limits start bs rest rs e new (Ok true) some f =
+    let one : take 1 (get_or rest 0 0 ∷ []) ≡ take 1 rest = sym (take-suc rest 0 0 some) in
+    let m = f.0 in
+    let both = subst (λ l. (x : Blob limits (bs ++ l) m.geometry) × (known → HoldsSpans holds new start x)) one (m.blob, f.1) in
+    (record { some = m.some; within = omega (arith, some); geometry = m.geometry; blob = both.0; made = m.made }, both.1, f.2, f.3)
+first_fed holds known limits start bs rest rs e new (Err Memory) some f =
+    let one : get_or rest 0 0 ∷ [] ≡ take 1 rest = sym (take-suc rest 0 0 some) in
+    record { used = 1; some = omega arith; within = omega (arith, some); part = subst (λ l. IsJudged limits (bs ++ l)) (all_of f.used f.some f.within ∙ one) f.part }
+  where
+    all_of : (n : ℕ) → 0 < n → n ≤ length (get_or rest 0 0 ∷ []) → take n (get_or rest 0 0 ∷ []) ≡ get_or rest 0 0 ∷ []
+    all_of n more few = let is : n ≡ 1 = omega (arith, more, few) in ap (λ k. take k (get_or rest 0 0 ∷ [])) is
+first_fed holds known limits start bs rest rs e new (Err (Refused why)) some f =
+    let one : get_or rest 0 0 ∷ [] ≡ take 1 rest = sym (take-suc rest 0 0 some) in
+    record { used = 1; some = omega arith; within = omega (arith, some); fault = λ more. subst (λ l. FirstFault limits ((bs ++ l) ++ more) (offset_in e) (reason_of why)) (all_of f.used f.some f.within ∙ one) (f.fault more) }
+  where
+    all_of : (n : ℕ) → 0 < n → n ≤ length (get_or rest 0 0 ∷ []) → take n (get_or rest 0 0 ∷ []) ≡ get_or rest 0 0 ∷ []
+    all_of n more few = let is : n ≡ 1 = omega (arith, more, few) in ap (λ k. take k (get_or rest 0 0 ∷ [])) is
+
+-- so many bytes say the next item
+pub front_fed : {S : Type 0} (holds : S → Notes → Type 0) (bs rest : List ℕ) (rs more : List Row) (d e : Engine) (old new : S) (n count : ℕ) (answer : Result Bool Stop) (s : StandsAt bs rs d) → held_in d ≡ [] → SaysNext d rest n count
+    → e.limits ≡ d.limits → held_in e ≡ held_in d → ((r : Role) → IsNext r d → Takes r n count d rs answer e more) → ((r : Role) → IsNext r d → IfOk answer (λ ends. NotesGo holds (notes_with r n count d e ends) d old new))
+    → (IsPlaced d.next d → OnOk answer (IsPlaced e.next e)) → IsFed holds (holds old (notes_at s)) (allowance_of d) d.start bs rest (with_used count answer) more e new
+front_fed holds bs rest rs more d e old new n count answer s none says limits held takes noted placed =
+    let r = next_role d in
+    item_fed holds bs rs more d e old new s.front s.outlined r.0 n (take count rest) rest count r.1 (says.gives r.0 r.1) says.some says.within (ap (λ l. l ++ take count rest) (sym (all_whole bs rs d none s))) limits (held ∙ none)
+    count answer (length-take-le count rest says.within) (takes r.0 r.1) (noted r.0 r.1) (placed s.placed)
+
+-- ---- what the engine counts
+
+pub count_is : (bs : List ℕ) (rs : List Row) (d : Engine) → StandsAt bs rs d → length bs ≡ count_of d
+count_is bs rs d s = omega (arith, ap (λ (l : List ℕ). length l) s.whole, length-append s.front (held_in d), outlined_bytes d.limits s.front (sums_of d) (outline_in d) rs s.outlined)

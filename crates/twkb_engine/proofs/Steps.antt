@@ -1,6 +1,6 @@
 -- An item that comes next: its role, what it notes, and where it leads with the ends after it.
 use Rattle.std.proofs.Common.{◌≡◌, ◌⊎◌, inl, inr, ℕ, zero, suc, ◌+◌, ◌-◌, ◌<◌, ◌≤◌, List, [], ◌∷◌, ◌++◌, length, refl, sym, ap, ◌∙◌, subst, append_assoc, append-nil, length-append, take, arith, true, false, Bool, Result, Some, None, Ok, Err, OnOk, IfOk}
-use Rattle.std.specs.Prelude.{⊤, not}
+use Rattle.std.specs.Prelude.{⊤, not, if◌then◌else◌}
 use Rattle.twkb_num.specs.Varint.{IsVarint}
 use Rattle.twkb_points.specs.Point.{Point, origin}
 use Rattle.twkb_tree.specs.Tree.{Tree}
@@ -24,16 +24,19 @@ use Rattle.twkb_grammar.proofs.NotedEnds.{all_open, ends_to}
 use Rattle.twkb_grammar.proofs.Frames.{reached_frames}
 use Rattle.twkb_grammar.proofs.Running.{ran_blob}
 use Rattle.twkb_grammar.proofs.TreesBack.{runs_are_items}
-use Rattle.twkb_outline.specs.Outline.{Outline, Group, group_of, Step, OnHeader, OnMetadata, OnOption, OnCount, OnId, OnBody, OnEnd, OnFinished, step_of, step_role, outline_ended, outline_past_end, outline_advanced, outline_ends}
+use Rattle.twkb_outline.specs.Outline.{Outline, Group, group_of, Step, OnHeader, OnMetadata, OnOption, OnCount, OnId, OnBody, OnEnd, OnFinished, Wanted, WantedY, step_of, step_role, outline_ended, outline_past_end, outline_advanced, outline_ends}
 use Rattle.twkb_outline.specs.Reading.{Outlined, OutlineLanded, open_count, outline_after, change_after}
 use Rattle.twkb_outline.specs.Growing.{applied, rows_so_far}
 use Rattle.twkb_outline.specs.Noting.{NotedOutline, notes_in}
 use Rattle.twkb_outline.proofs.Outlined.{outlined_start, outlined_bytes, outlined_ends, outlined_refused, noted_item}
 use Rattle.twkb_outline.proofs.Notings.{same_count}
-use Rattle.twkb_body.specs.Head.{kind_of, many_of}
+use Rattle.twkb_body.specs.declared.head.Head as place
+use Rattle.twkb_body.specs.Head.{head_of, kind_of, form_of, many_of, IsHeadAt}
+use Rattle.twkb_body.specs.Ids.{ids_of, ids_read}
+use Rattle.twkb_outline.specs.Growing.{id_in}
 use Rattle.twkb_engine.specs.Collections.{groups_of}
-use Rattle.twkb_engine.specs.Fits.{IsByte}
-use Rattle.twkb_engine.specs.State.{IsNext, IsPlaced, sums_of, outline_in, step_at, allowance_of}
+use Rattle.twkb_engine.specs.Fits.{IsByte, lists_of, line_lists_of, area_lists_of, has_members}
+use Rattle.twkb_engine.specs.State.{IsNext, IsPlaced, sums_of, outline_in, step_at, size_roles, box_roles, boxes, allowance_of}
 use Rattle.twkb_engine.specs.Taking.{Takes, BeginsAt, way_of}
 use Rattle.twkb_engine.specs.Notes.{NotesGo, notes_with, open_in}
 use Rattle.twkb_engine.specs.Standing.{StandsAt, notes_at, held_in}
@@ -233,3 +236,57 @@ all_whole bytes rs d none s = s.whole ∙ (ap (λ l. s.front ++ l) none ∙ appe
 -- as many geometries are begun in its notes as stand open
 pub notes_open : (bytes : List ℕ) (rs : List Row) (d : Engine) (s : StandsAt bytes rs d) → length (notes_at s).begun ≡ open_in d
 notes_open bytes rs d s = open_noted d.limits s.front (sums_of d) (outline_in d) rs s.outlined d.start
+
+-- ---- two engines that differ in the bytes of a number alone
+
+pub record SameItem (d e : Engine) : Type 0 where
+  pub limits : e.limits ≡ d.limits
+  pub start : e.start ≡ d.start
+  pub bytes : e.bytes ≡ d.bytes
+  pub position : e.position ≡ d.position
+  pub nodes : e.nodes ≡ d.nodes
+  pub points : e.points ≡ d.points
+  pub collections : e.collections ≡ d.collections
+  pub head : e.head ≡ d.head
+  pub ids : e.ids ≡ d.ids
+  pub members_left : e.members_left ≡ d.members_left
+  pub rings_left : e.rings_left ≡ d.rings_left
+  pub points_left : e.points_left ≡ d.points_left
+  pub next : e.next ≡ d.next
+
+step_else : (i : NextItem) (d e : Engine) → SameItem d e → step_at i e ≡ step_at i d
+step_else next.TypeByte d e q = refl
+step_else next.MetadataByte d e q = ap (λ (h : place.Head). OnMetadata (kind_of h.kind) h.precision) q.head
+step_else next.ExtendedByte d e q = ap (λ (h : place.Head). OnOption (kind_of h.kind) (head_of h) role.Extended (size_roles h.metadata)) q.head
+step_else next.Size d e q = ap (λ (h : place.Head). OnOption (kind_of h.kind) (head_of h) role.Size (box_roles h.metadata)) q.head
+step_else (next.BoxNumber left) d e q = ap (λ (h : place.Head). OnOption (kind_of h.kind) (head_of h) role.Box (boxes left)) q.head
+step_else next.MemberCount d e q = ap (λ (h : place.Head). OnCount (many_of h.kind) (head_of h)) q.head
+step_else next.Id d e q = λ t. OnId (many_of (q.head t).kind) (head_of (q.head t)) (suc (q.members_left t)) (ids_read (q.ids t)) (q.members_left t - length (ids_read (q.ids t)))
+step_else next.X d e q = λ t. OnBody (head_of (q.head t)) (form_of (q.head t).kind) (if has_members (q.head t).kind then ids_of (q.ids t) else None) (Wanted 0 (lists_of (q.head t).kind (q.points_left t) (q.rings_left t) (q.members_left t)))
+step_else next.Y d e q = λ t. OnBody (head_of (q.head t)) (form_of (q.head t).kind) (if has_members (q.head t).kind then ids_of (q.ids t) else None) (WantedY (lists_of (q.head t).kind (q.points_left t) (q.rings_left t) (q.members_left t)))
+step_else next.PointCount d e q = λ t. OnBody (head_of (q.head t)) (form_of (q.head t).kind) (if has_members (q.head t).kind then ids_of (q.ids t) else None) (Wanted 1 (line_lists_of (q.head t).kind (q.rings_left t) (q.members_left t)))
+step_else next.RingCount d e q = λ t. OnBody (head_of (q.head t)) (form_of (q.head t).kind) (if has_members (q.head t).kind then ids_of (q.ids t) else None) (Wanted 2 (area_lists_of (q.head t).kind (q.members_left t)))
+
+outline_else : (d e : Engine) → SameItem d e → outline_in e ≡ outline_in d
+outline_else d e q = ap (λ cs. (groups_of cs, step_at e.next e)) q.collections ∙ (ap (λ i. (groups_of d.collections, step_at i e)) q.next ∙ ap (λ s. (groups_of d.collections, s)) (step_else d.next d e q))
+
+sums_else : (d e : Engine) → SameItem d e → sums_of e ≡ sums_of d
+sums_else d e q = λ t. record { bytes = q.bytes t; position = q.position t; nodes = q.nodes t; points = q.points t }
+
+placed_else : (i : NextItem) (d e : Engine) → SameItem d e → IsPlaced i d → IsPlaced i e
+placed_else next.TypeByte d e q p = tt
+placed_else next.MetadataByte d e q p = tt
+placed_else _ d e q p = subst (λ cs. IsHeadAt (length (groups_of cs)) (id_in (groups_of cs)) e.head) (sym q.collections) (subst (IsHeadAt (length (groups_of d.collections)) (id_in (groups_of d.collections))) (sym q.head) p)
+
+pub stands_else : (bs all : List ℕ) (rs : List Row) (d e : Engine) → SameItem d e → (s : StandsAt bs rs d) → all ≡ s.front ++ held_in e → (IsByte d.next → ⊥) ⊎ (held_in e ≡ []) → (t : StandsAt all rs e) × (t.front ≡ s.front) × (notes_at t ≡ notes_at s)
+stands_else bs all rs d e q s whole spelled =
+    let told : ℕ → Notes = λ start. notes_in start s.outlined in
+    let a : NotedOutline d.limits s.front (sums_of d) (outline_in d) rs told = record { outlined = s.outlined; notes = λ start. refl } in
+    let b = subst (λ x. NotedOutline d.limits s.front (sums_of d) x rs told) (sym (outline_else d e q)) a in
+    let c = subst (λ x. NotedOutline d.limits s.front x (outline_in e) rs told) (sym (sums_else d e q)) b in
+    let n = subst (λ x. NotedOutline x s.front (sums_of e) (outline_in e) rs told) (sym q.limits) c in
+    (
+      record { front = s.front; whole = whole; outlined = n.outlined; placed = subst (λ i. IsPlaced i e) (sym q.next) (placed_else d.next d e q s.placed); spelled = subst (λ i. (IsByte i → ⊥) ⊎ (held_in e ≡ [])) (sym q.next) spelled },
+      refl,
+      ap (λ start. notes_in start n.outlined) q.start ∙ n.notes d.start,
+    )
