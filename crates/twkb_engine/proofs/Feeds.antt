@@ -1,6 +1,10 @@
 -- An engine takes the bytes of a piece, and comes to the end of the bytes.
-use Rattle.std.proofs.Common.{get_or, append_assoc, length-append, take, Result, Option, Some, None, Ok, Err, OnOk, IfOk, ◌≡◌, ◌⊎◌, inl, inr, ℕ, zero, suc, ◌+◌, ◌-◌, ◌<◌, ◌≤◌, List, [], ◌∷◌, ◌++◌, length, refl, sym, ap, ◌∙◌, subst, append-nil, arith, true, false, Bool, nat_eq}
-use Rattle.std.proofs.lemmas.List.{nil_from_length, length-take-le}
+use Rattle.std.proofs.Common.{◌^◌, drop, get_or, append_assoc, length-append, take, Result, Option, Some, None, Ok, Err, OnOk, IfOk, ◌≡◌, ◌⊎◌, inl, inr, ℕ, zero, suc, ◌+◌, ◌-◌, ◌<◌, ◌≤◌, List, [], ◌∷◌, ◌++◌, length, refl, sym, ap, ◌∙◌, subst, append-nil, arith, true, false, Bool, nat_eq}
+use Rattle.std.proofs.lemmas.List.{nil_from_length, length-take-le, length-drop, take_rest}
+use Rattle.std.proofs.Math.Logic.{∥∥₁_elim, ∥∥₁_map}
+use Rattle.std.proofs.Props.{props}
+use Rattle.twkb_outline.proofs.Pieces.{one_front, one_within}
+use Rattle.twkb_tree.specs.Tree.{Tree}
 use Rattle.std.proofs.lemmas.Grind.{common_steps}
 use Rattle.std.proofs.Math.Seq.{take-suc}
 use Rattle.twkb_num.specs.Varint.{IsVarint, IsOpenVarint}
@@ -19,7 +23,7 @@ use Rattle.twkb_outline.specs.Growing.{applied}
 use Rattle.twkb_outline.specs.Noting.{NotedOutline, notes_in}
 use Rattle.twkb_outline.specs.Parts.{IsJudged, PartIn}
 use Rattle.twkb_outline.proofs.Outlined.{outlined_bytes, outlined_cut, outlined_long, outlined_depth, outlined_missing, outlined_ends, outlined_refused, noted_item}
-use Rattle.twkb_outline.proofs.Judging.{landed_judged}
+use Rattle.twkb_outline.proofs.Judging.{landed_judged, part_further}
 use Rattle.twkb_outline.specs.Reading.{Outlined, OutlineLanded, open_count, outline_after, change_after}
 use Rattle.twkb_engine.specs.Fits.{IsByte}
 use Rattle.twkb_engine.specs.Collections.{groups_of}
@@ -28,7 +32,7 @@ use Rattle.twkb_engine.specs.declared.next_item.NextItem.{NextItem}
 use Rattle.twkb_engine.specs.declared.next_item.NextItem.TheVariants as next
 use Rattle.twkb_engine.proofs.Collections.{groups_length}
 use Rattle.twkb_engine.specs.State.{IsNext, IsPlaced, sums_of, outline_in, step_at, allowance_of}
-use Rattle.twkb_engine.specs.Standing.{StandsAt, IsFed, HoldsSpans, SaysNext, count_of, RefusedIn, with_used, notes_at, IsEnd, held_in, offset_in}
+use Rattle.twkb_engine.specs.Standing.{IfMade, StandsAt, IsAlive, FedBy, IsFed, HoldsSpans, SaysNext, count_of, RefusedIn, with_used, notes_at, IsEnd, held_in, offset_in}
 use Rattle.twkb_engine.specs.Taking.{Takes}
 use Rattle.twkb_engine.specs.Stops.{reason_of}
 use Rattle.twkb_engine.specs.declared.blob_reason.BlobReason.{BlobReason}
@@ -225,8 +229,8 @@ more_fed holds bs rs d e old u s q spelled held =
     (omega arith, q.start, t, λ known. subst (holds old) (sym notes) known)
 
 pub not_both : (b : Bool) → b ≡ false → b ≡ true → ⊥
-not_both true no yes = absurd cc
-not_both false no yes = absurd cc
+not_both true p q = absurd cc
+not_both false p q = absurd cc
 
 -- ---- an item in front
 
@@ -268,3 +272,70 @@ front_fed holds bs rest rs more d e old new n count answer s none says limits he
 
 pub count_is : (bs : List ℕ) (rs : List Row) (d : Engine) → StandsAt bs rs d → length bs ≡ count_of d
 count_is bs rs d s = omega (arith, ap (λ (l : List ℕ). length l) s.whole, length-append s.front (held_in d), outlined_bytes d.limits s.front (sums_of d) (outline_in d) rs s.outlined)
+
+-- ---- pieces that follow each other
+
+-- an answer, with bytes that were used before
+abbrev pub further : ℕ → Result (ℕ × Bool) Stop → Result (ℕ × Bool) Stop
+further used (Ok r) = Ok (used + r.0, r.1)
+further used (Err stop) = Err stop
+
+-- no bytes
+pub none_fed : {S : Type 0} (holds : S → Notes → Type 0) (bs piece : List ℕ) (rs : List Row) (d : Engine) (old : S) (s : StandsAt bs rs d) → IsFed holds (holds old (notes_at s)) (allowance_of d) d.start bs piece (Ok (0, false)) rs d old
+none_fed holds bs piece rs d old s =
+    let both = subst (λ l. (t : StandsAt l rs d) × (holds old (notes_at s) → holds old (notes_at t))) (sym (append-nil bs)) (s, λ known. known) in
+    (omega arith, refl, both.0, both.1)
+
+module _ {S : Type 0} (holds : S → Notes → Type 0) (known : Type 0) (limits : Allowance) (start : ℕ) (bs piece : List ℕ) (used : ℕ) (rs more : List Row) (d e : Engine) (mid new : S)
+    (first : IsFed holds known limits start bs piece (Ok (used, false)) rs d mid) (own : d.limits ≡ limits) where
+  abbrev rest : List ℕ
+  rest = take (length piece - used) (drop used piece)
+
+  abbrev before : List ℕ
+  before = bs ++ take used piece
+
+  pub joined : (answer : Result (ℕ × Bool) Stop) → FedBy holds d rs mid rest answer e more new → IsFed holds known limits start bs piece (further used answer) more e new
+  joined (Ok (count, false)) next =
+      let f = next before first.2 in
+      let both = subst (λ l. (t : StandsAt l more e) × (known → holds new (notes_at t))) (one_front bs piece used count) (f.2, λ k. f.3 (first.3 k)) in
+      (one_within piece used count first.0 f.0, f.1 ∙ first.1, both.0, both.1)
+  joined (Ok (count, true)) next =
+      let f = next before first.2 in
+      let m = f.0 in
+      let here : (x : Blob (allowance_of d) (before ++ take count rest) m.geometry) × (known → HoldsSpans holds new start x) = (m.blob, λ k. subst (λ o. HoldsSpans holds new o m.blob) first.1 (f.1 (first.3 k))) in
+      let pair = subst (λ l. (x : Blob l (before ++ take count rest) m.geometry) × (known → HoldsSpans holds new start x)) own here in
+      let both = subst (λ l. (x : Blob limits l m.geometry) × (known → HoldsSpans holds new start x)) (one_front bs piece used count) pair in
+      (
+        record { some = (let some = m.some in omega (arith, some)); within = one_within piece used count first.0 m.within; geometry = m.geometry; blob = both.0; made = m.made },
+        both.1,
+        f.2,
+        omega (arith, f.3, first.1, length-append bs (take used piece), length-take-le used piece first.0),
+      )
+  joined (Err Memory) next = part_further limits bs piece used first.0 (subst (λ l. PartIn l before rest) own (next before first.2))
+  joined (Err (Refused why)) next =
+      let f = next before first.2 in
+      record {
+        used = used + f.used;
+        some = (let some = f.some in omega (arith, some));
+        within = one_within piece used f.used first.0 f.within;
+        fault = λ more. subst (λ l. FirstFault l ((bs ++ take (used + f.used) piece) ++ more) (offset_in e) (reason_of why)) own
+            (subst (λ l. FirstFault (allowance_of d) (l ++ more) (offset_in e) (reason_of why)) (one_front bs piece used f.used) (f.fault more));
+      }
+
+-- the bytes that are left find room
+pub room_left : {S : Type 0} (holds : S → Notes → Type 0) (piece : List ℕ) (used : ℕ) (rs more : List Row) (d e : Engine) (old new : S) → IsAlive rs d → d.start + (count_of d + length piece) ≤ 2 ^ 63 → FedBy holds d rs old piece (Ok (used, false)) e more new
+    → e.start + (count_of e + length (take (length piece - used) (drop used piece))) ≤ 2 ^ 63
+room_left holds piece used rs more d e old new alive room fed = ∥∥₁_elim alive (Prim.hlevel props) (λ s. let f = fed s.0 s.1 in
+    omega (arith, room, f.0, f.1, count_is s.0 rs d s.1, count_is (s.0 ++ take used piece) more e f.2, length-append s.0 (take used piece), length-take-le used piece f.0, ap (λ (l : List ℕ). length l) (take_rest piece used), length-drop used piece))
+
+pub alive_left : {S : Type 0} (holds : S → Notes → Type 0) (piece : List ℕ) (used : ℕ) (rs more : List Row) (d e : Engine) (old new : S) → IsAlive rs d → FedBy holds d rs old piece (Ok (used, false)) e more new → IsAlive more e
+alive_left holds piece used rs more d e old new alive fed = ∥∥₁_map alive (λ s. (s.0 ++ take used piece, (fed s.0 s.1).2))
+
+-- no more are used than there are
+pub used_within : {S : Type 0} (holds : S → Notes → Type 0) (piece : List ℕ) (count : ℕ) (ends : Bool) (rs more : List Row) (d e : Engine) (old new : S) → IsAlive rs d → FedBy holds d rs old piece (Ok (count, ends)) e more new → count ≤ length piece
+used_within holds piece count false rs more d e old new alive fed = ∥∥₁_elim alive (Prim.hlevel props) (λ s. (fed s.0 s.1).0)
+used_within holds piece count true rs more d e old new alive fed = ∥∥₁_elim alive (Prim.hlevel props) (λ s. (fed s.0 s.1).0.within)
+
+pub if_made : {E : Type 0} (used : ℕ) (P : ℕ → Type 0) → 0 < used → IfMade {E = E} (Ok used) P → P used
+if_made zero P some h = absurd (omega (arith, some))
+if_made (suc n) P some h = h

@@ -28,10 +28,10 @@ take-requires-in-Done-clause-alive g c = ∥∥₁_map c.requires.alive (λ s. (
 pub returns-in-Done-clause-fed : goal.returns-in-Done-clause-fed
 returns-in-Done-clause-fed g c = λ bs s.
     let d = c.args.self.now in
-    number_fed g.S.SpanNotes.holds bs c.args.flat.now c.take.new.flat d _ c.take.new.self c.args.spans.now c.take.new.spans c.args.byte c.in-Done.value _ c.take.result s
+    number_fed g.S.SpanNotes.holds bs c.args.flat.now c.take-in-Done.new.flat d _ c.take-in-Done.new.self c.args.spans.now c.take-in-Done.new.spans c.args.byte c.in-Done.value _ c.take-in-Done.result s
     (record { limits = refl; start = refl; bytes = refl; position = refl; nodes = refl; points = refl; collections = refl; head = refl; ids = refl; members_left = refl; rings_left = refl; points_left = refl; next = refl })
     c.in-Done.ensures.held (λ b. not_both c.is_byte.result c.if-is_byte.false (c.is_byte.ensures.1 b)) ((varint_is (held_in d ++ c.args.byte ∷ []) c.in-Done.value).1 c.in-Done.ensures.answer.0)
-    (omega (arith, c.len.ensures.count)) c.take.ensures.kept.limits c.take.ensures.kept.held c.take.ensures.taken c.take.ensures.noted c.take.ensures.placed
+    (omega (arith, c.len.ensures.count)) c.take-in-Done.ensures.kept.limits c.take-in-Done.ensures.kept.held c.take-in-Done.ensures.taken c.take-in-Done.ensures.noted c.take-in-Done.ensures.placed
 
 pub returns-in-More-clause-fed : goal.returns-in-More-clause-fed
 returns-in-More-clause-fed g c = λ bs s.
