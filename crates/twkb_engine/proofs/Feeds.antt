@@ -32,7 +32,7 @@ use Rattle.twkb_engine.specs.declared.next_item.NextItem.{NextItem}
 use Rattle.twkb_engine.specs.declared.next_item.NextItem.TheVariants as next
 use Rattle.twkb_engine.proofs.Collections.{groups_length}
 use Rattle.twkb_engine.specs.State.{IsNext, IsPlaced, sums_of, outline_in, step_at, allowance_of}
-use Rattle.twkb_engine.specs.Standing.{IfMade, StandsAt, IsAlive, FedBy, IsFed, HoldsSpans, SaysNext, count_of, RefusedIn, with_used, notes_at, IsEnd, held_in, offset_in}
+use Rattle.twkb_engine.specs.Standing.{StandsAt, IsAlive, FedBy, IsFed, HoldsSpans, SaysNext, count_of, RefusedIn, with_used, notes_at, IsEnd, held_in, offset_in}
 use Rattle.twkb_engine.specs.Taking.{Takes}
 use Rattle.twkb_engine.specs.Stops.{reason_of}
 use Rattle.twkb_engine.specs.declared.blob_reason.BlobReason.{BlobReason}
@@ -335,7 +335,3 @@ alive_left holds piece used rs more d e old new alive fed = ∥∥₁_map alive 
 pub used_within : {S : Type 0} (holds : S → Notes → Type 0) (piece : List ℕ) (count : ℕ) (ends : Bool) (rs more : List Row) (d e : Engine) (old new : S) → IsAlive rs d → FedBy holds d rs old piece (Ok (count, ends)) e more new → count ≤ length piece
 used_within holds piece count false rs more d e old new alive fed = ∥∥₁_elim alive (Prim.hlevel props) (λ s. (fed s.0 s.1).0)
 used_within holds piece count true rs more d e old new alive fed = ∥∥₁_elim alive (Prim.hlevel props) (λ s. (fed s.0 s.1).0.within)
-
-pub if_made : {E : Type 0} (used : ℕ) (P : ℕ → Type 0) → 0 < used → IfMade {E = E} (Ok used) P → P used
-if_made zero P some h = absurd (omega (arith, some))
-if_made (suc n) P some h = h

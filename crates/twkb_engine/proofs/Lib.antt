@@ -1,3 +1,4 @@
 pub mod Collections
 pub mod Steps
 pub mod Feeds
+pub mod Many

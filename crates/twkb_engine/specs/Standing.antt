@@ -1,5 +1,5 @@
 -- What an engine stands for.
-use Rattle.std.specs.Prelude.{◌≡◌, ◌⊎◌, ℕ, ◌+◌, ◌-◌, ◌<◌, ◌≤◌, List, [], ◌++◌, length, take, Bool, true, false, Result, Ok, Err, ⊤, zero, suc}
+use Rattle.std.specs.Prelude.{◌≡◌, ◌⊎◌, ℕ, ◌+◌, ◌-◌, ◌<◌, ◌≤◌, List, [], ◌++◌, length, take, Bool, true, false, Result, Ok, Err, ⊤}
 use Rattle.twkb_num.specs.Varint.{IsOpenVarint}
 use Rattle.twkb_tree.specs.Tree.{Tree}
 use Rattle.twkb_tree.specs.Limits.{Allowance}
@@ -128,9 +128,3 @@ IsEnd limits bs offset false = FirstFault limits bs offset Truncated
 -- wherever the engine stands, that is its answer to the bytes; the notes are told if they were those of its items
 abbrev pub FedBy : {S : Type 0} → (S → Notes → Type 0) → Engine → List Row → S → List ℕ → Result (ℕ × Bool) Stop → Engine → List Row → S → Type 0
 FedBy holds d rs old bytes answer e more new = (bs : List ℕ) (s : StandsAt bs rs d) → IsFed holds (holds old (notes_at s)) (allowance_of d) d.start bs bytes answer more e new
-
--- if bytes were used, so many
-abbrev pub IfMade : {E : Type 0} → Result ℕ E → (ℕ → Type 0) → Type 0
-IfMade (Ok zero) P = ⊤
-IfMade (Ok (suc n)) P = P (suc n)
-IfMade (Err e) P = ⊤
