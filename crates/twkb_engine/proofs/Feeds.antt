@@ -54,7 +54,7 @@ not_none bs some e = let none : length bs ≡ 0 = ap (λ (l : List ℕ). length 
 is_zero : (n : ℕ) → n ≡ 0 → nat_eq n 0 ≡ true
 is_zero n at = grind (arith, common_steps)
 
-is_some : (n : ℕ) → 0 < n → nat_eq n 0 ≡ false
+pub is_some : (n : ℕ) → 0 < n → nat_eq n 0 ≡ false
 is_some n some = grind (arith, common_steps)
 
 no_items : (bs : List ℕ) (rs : List Row) (d : Engine) (s : StandsAt bs rs d) → held_in d ≡ [] → (n : ℕ) → d.bytes ≡ n → IsEnd (allowance_of d) bs (offset_in d) (nat_eq d.bytes 0)
