@@ -32,7 +32,7 @@ use Rattle.twkb_engine.specs.declared.next_item.NextItem.{NextItem}
 use Rattle.twkb_engine.specs.declared.next_item.NextItem.TheVariants as next
 use Rattle.twkb_engine.proofs.Collections.{groups_length}
 use Rattle.twkb_engine.specs.State.{IsNext, IsPlaced, sums_of, outline_in, step_at, allowance_of}
-use Rattle.twkb_engine.specs.Standing.{StandsAt, IsAlive, FedBy, IsFed, HoldsSpans, SaysNext, count_of, RefusedIn, with_used, notes_at, IsEnd, held_in, offset_in}
+use Rattle.twkb_engine.specs.Standing.{LeadsOn, LeadsQuietly, StandsAt, IsAlive, FedBy, IsFed, HoldsSpans, SaysNext, count_of, RefusedIn, with_used, notes_at, IsEnd, held_in, offset_in}
 use Rattle.twkb_engine.specs.Taking.{Takes}
 use Rattle.twkb_engine.specs.Stops.{reason_of}
 use Rattle.twkb_engine.specs.declared.blob_reason.BlobReason.{BlobReason}
@@ -335,3 +335,22 @@ alive_left holds piece used rs more d e old new alive fed = ∥∥₁_map alive 
 pub used_within : {S : Type 0} (holds : S → Notes → Type 0) (piece : List ℕ) (count : ℕ) (ends : Bool) (rs more : List Row) (d e : Engine) (old new : S) → IsAlive rs d → FedBy holds d rs old piece (Ok (count, ends)) e more new → count ≤ length piece
 used_within holds piece count false rs more d e old new alive fed = ∥∥₁_elim alive (Prim.hlevel props) (λ s. (fed s.0 s.1).0)
 used_within holds piece count true rs more d e old new alive fed = ∥∥₁_elim alive (Prim.hlevel props) (λ s. (fed s.0 s.1).0.within)
+
+-- ---- what leads on is fed
+
+pub quiet_fed : {S : Type 0} (holds : S → Notes → Type 0) (rs more : List Row) (d e : Engine) (old : S) (rest : List ℕ) (used : ℕ) → used ≤ length rest → e.start ≡ d.start → LeadsQuietly rs d (take used rest) more e → FedBy holds d rs old rest (Ok (used, false)) e more old
+quiet_fed holds rs more d e old rest used within begins led = λ bs s. let f = led bs s in (within, begins, f.0, λ known. subst (holds old) (sym f.1) known)
+
+pub led_fed : {S : Type 0} (holds : S → Notes → Type 0) (rs more : List Row) (d e : Engine) (old new : S) (rest : List ℕ) (used : ℕ) → used ≤ length rest → e.start ≡ d.start → LeadsOn holds rs d old (take used rest) more e new → FedBy holds d rs old rest (Ok (used, false)) e more new
+led_fed holds rs more d e old new rest used within begins led = λ bs s. let f = led bs s in (within, begins, f.0, f.1)
+
+further_none : (answer : Result (ℕ × Bool) Stop) → further 0 answer ≡ answer
+further_none (Ok (n, b)) = let z : 0 + n ≡ n = omega arith in ap (λ k. Ok (k, b)) z
+further_none (Err stop) = refl
+
+-- after no bytes
+pub none_further : {S : Type 0} (holds : S → Notes → Type 0) (rs mid more : List Row) (d e f : Engine) (old new last : S) (rest : List ℕ) (answer : Result (ℕ × Bool) Stop) → FedBy holds d rs old rest (Ok (0, false)) e mid new → e.limits ≡ d.limits
+    → FedBy holds e mid new rest answer f more last → FedBy holds d rs old rest answer f more last
+none_further holds rs mid more d e f old new last rest answer first own next = λ bs s.
+    subst (λ a. IsFed holds (holds old (notes_at s)) (allowance_of d) d.start bs rest a more f last) (further_none answer)
+    (joined holds (holds old (notes_at s)) (allowance_of d) d.start bs rest 0 mid more e f new last (first bs s) own answer (subst (λ l. FedBy holds e mid new l answer f more last) (sym (take_rest rest 0)) next))

@@ -172,7 +172,7 @@ module _ (rs : List Row) (d : Engine) (is : d.next ≡ next.X) (some : 0 < d.poi
 -- ---- members of a multipoint
 
 module _ (rs : List Row) (d : Engine) (is : d.next ≡ next.X) (kind : d.head.kind ≡ kinds.MultiPoint) (none : held_in d ≡ []) where
-  point_step : ℕ → Ids → Outline
+  abbrev point_step : ℕ → Ids → Outline
   point_step left ids = (groups_of d.collections, OnBody (head_of d.head) MultiPointForm ids (Wanted 0 (left ∷ [])))
 
   -- the step there, by the kind
@@ -207,7 +207,7 @@ module _ (rs : List Row) (d : Engine) (is : d.next ≡ next.X) (kind : d.head.ki
 -- ---- ids
 
 module _ (rs : List Row) (d : Engine) (is : d.next ≡ next.Id) (none : held_in d ≡ []) (most : ℕ) (many : most ≡ d.members_left - length (ids_read d.ids)) where
-  id_step : List ℤ → ℕ → Step
+  abbrev id_step : List ℤ → ℕ → Step
   id_step ids left = OnId (many_of d.head.kind) (head_of d.head) (suc d.members_left) ids left
 
   ids_here : outline_in d ≡ (groups_of d.collections, id_step (ids_read d.ids) most)
