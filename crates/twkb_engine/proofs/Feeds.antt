@@ -354,3 +354,19 @@ pub none_further : {S : Type 0} (holds : S → Notes → Type 0) (rs mid more : 
 none_further holds rs mid more d e f old new last rest answer first own next = λ bs s.
     subst (λ a. IsFed holds (holds old (notes_at s)) (allowance_of d) d.start bs rest a more f last) (further_none answer)
     (joined holds (holds old (notes_at s)) (allowance_of d) d.start bs rest 0 mid more e f new last (first bs s) own answer (subst (λ l. FedBy holds e mid new l answer f more last) (sym (take_rest rest 0)) next))
+
+pub moved_fed : {S : Type 0} (holds : S → Notes → Type 0) (rs : List Row) (d : Engine) (old : S) (rest : List ℕ) (taken there : ℕ × Bool) (m x : Engine) (more y : List Row) (new z : S) → m ≡ x → more ≡ y → new ≡ z → taken ≡ there
+    → FedBy holds d rs old rest (Ok there) x y z → x.limits ≡ d.limits → FedBy holds d rs old rest (Ok taken) m more new × (m.limits ≡ d.limits)
+moved_fed holds rs d old rest taken there m x more y new z em er en et fed own =
+    (
+      subst (λ q. FedBy holds d rs old rest (Ok taken) q more new) (sym em) (subst (λ l. FedBy holds d rs old rest (Ok taken) x l new) (sym er) (subst (λ o. FedBy holds d rs old rest (Ok taken) x y o) (sym en) (subst (λ t. FedBy holds d rs old rest (Ok t) x y z) (sym et) fed))),
+      ap (λ (q : Engine). q.limits) em ∙ own,
+    )
+
+-- no blob ends with no bytes
+pub zero_fed : {S : Type 0} (holds : S → Notes → Type 0) (rs more : List Row) (d e : Engine) (old new : S) (rest : List ℕ) (taken : ℕ × Bool) → taken.0 ≡ 0 → FedBy holds d rs old rest (Ok taken) e more new → FedBy holds d rs old rest (Ok (0, false)) e more new
+zero_fed holds rs more d e old new rest (n, false) z fed = subst (λ k. FedBy holds d rs old rest (Ok (k, false)) e more new) z fed
+zero_fed holds rs more d e old new rest (n, true) z fed = λ bs s. absurd (let some = (fed bs s).0.some in omega (arith, some, z))
+
+pub room_same : {S : Type 0} (holds : S → Notes → Type 0) (piece : List ℕ) (rs more : List Row) (d e : Engine) (old new : S) → IsAlive rs d → d.start + (count_of d + length piece) ≤ 2 ^ 63 → FedBy holds d rs old piece (Ok (0, false)) e more new → e.start + (count_of e + length piece) ≤ 2 ^ 63
+room_same holds piece rs more d e old new alive room fed = subst (λ l. e.start + (count_of e + length l) ≤ 2 ^ 63) (take_rest piece 0) (room_left holds piece 0 rs more d e old new alive room fed)
