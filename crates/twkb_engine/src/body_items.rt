@@ -22,7 +22,7 @@ use twkb_points::Pt;
 impl Engine {
     ghost use Rattle.twkb_engine.specs.State.{IsPlaced, outline_in, sums_of};
     ghost use Rattle.twkb_engine.specs.Fits.{lists_of, left_fit, is_bodied};
-    ghost use Rattle.twkb_engine.specs.Taking.{Takes, Lands, SameBlob, past_end, past_value, point_row, Keeps};
+    ghost use Rattle.twkb_engine.specs.Taking.{Takes, Lands, SameBlob, past_end, past_value, point_row};
     ghost use Rattle.twkb_engine.specs.Notes.{NotesGo, notes_with, notes_past, open_in};
     ghost use Rattle.twkb_engine.specs.Standing.{IsAlive};
 
@@ -34,7 +34,6 @@ impl Engine {
         ensures taken { (rs : List TableRow) → Takes role.X number width self.old rs result self.new rs }
         ensures begun { OnOk result (open_in self.new ≡ open_in self.old) }
         ensures placed { IsPlaced self.old.next self.old → OnOk result (IsPlaced self.new.next self.new) }
-        ensures kept { Keeps self.old self.new }
     {
         let Some(position) = moved_x(self.position, unzigzag(number)) else {
             return Err(Stop::Refused(BlobReason::CoordinateRange));
@@ -60,7 +59,6 @@ impl Engine {
         ensures taken { Takes role.Y number width self.old flat.old result self.new flat.new }
         ensures noted { IfOk result (λ ends. NotesGo S.holds (notes_with role.Y number width self.old self.new ends) self.old spans.old spans.new) }
         ensures placed { IsPlaced self.old.next self.old → OnOk result (IsPlaced self.new.next self.new) }
-        ensures kept { Keeps self.old self.new }
     {
         let Some(position) = moved_y(self.position, unzigzag(number)) else {
             return Err(Stop::Refused(BlobReason::CoordinateRange));
@@ -91,7 +89,6 @@ impl Engine {
         ensures shut { Lands (past_value self.old 0 (lists_of self.old.head.kind 0 self.old.rings_left self.old.members_left)) (point_row position self.old) self.old flat.old result self.new flat.new }
         ensures noted { IfOk result (λ ends. NotesGo S.holds (notes_past self.old self.new ends) self.old spans.old spans.new) }
         ensures placed { IsPlaced self.old.next self.old → OnOk result (IsPlaced self.new.next self.new) }
-        ensures kept { Keeps self.old self.new }
     {
         let member = self.ids.first();
         let ends = if self.ends_with_list() {
@@ -119,7 +116,6 @@ impl Engine {
         ensures taken { Takes (role.Count (listed 0)) count width self.old flat.old result self.new flat.new }
         ensures noted { IfOk result (λ ends. NotesGo S.holds (notes_with (role.Count (listed 0)) count width self.old self.new ends) self.old spans.old spans.new) }
         ensures placed { IsPlaced self.old.next self.old → OnOk result (IsPlaced self.new.next self.new) }
-        ensures kept { Keeps self.old self.new }
     {
         if let Some(reason) = self.too_many(0, count) {
             return Err(Stop::Refused(reason));
@@ -151,7 +147,6 @@ impl Engine {
         ensures taken { Takes (role.Count (listed 1)) count width self.old flat.old result self.new flat.new }
         ensures noted { IfOk result (λ ends. NotesGo S.holds (notes_with (role.Count (listed 1)) count width self.old self.new ends) self.old spans.old spans.new) }
         ensures placed { IsPlaced self.old.next self.old → OnOk result (IsPlaced self.new.next self.new) }
-        ensures kept { Keeps self.old self.new }
     {
         if let Some(reason) = self.too_many(count, 0) {
             return Err(Stop::Refused(reason));
@@ -180,7 +175,6 @@ impl Engine {
         requires may { Admits (NewRow (row_with row [])) flat.old }
         ensures shut { Lands (past_value self.old 0 (lists_of self.old.head.kind 0 self.old.rings_left self.old.members_left)) (NewRow (row_with row [])) self.old flat.old result self.new flat.new }
         ensures noted { IfOk result (λ ends. NotesGo S.holds (notes_past self.old self.new ends) self.old spans.old spans.new) }
-        ensures kept { Keeps self.old self.new }
     {
         if self.ends_with_list() {
             let whole = self.end_geometry(spans)?;
@@ -211,7 +205,6 @@ impl Engine {
         ensures sums { sums_of self.new ≡ sums_of self.old }
         ensures same { SameBlob self.old self.new }
         ensures head { self.new.head ≡ self.old.head }
-        ensures kept { Keeps self.old self.new }
     {
         if self.rings_left > 0 {
             self.rings_left -= 1;

@@ -27,7 +27,7 @@ fn is_exact(head: &Head, bytes: u64) -> bool
 
 impl Engine {
     ghost use Rattle.twkb_engine.specs.Fits.{are_shut};
-    ghost use Rattle.twkb_engine.specs.Taking.{Lands, past_end, own_row, Keeps};
+    ghost use Rattle.twkb_engine.specs.Taking.{Lands, past_end, own_row};
     ghost use Rattle.twkb_engine.specs.Notes.{NotesGo, notes_past};
 
     // Ends the geometry that is read, and each collection of which it is the last member, while their sizes are exact; returns whether the
@@ -37,7 +37,6 @@ impl Engine {
         ensures ended { (rs : List Row) → Lands (past_end self.old) Nothing self.old rs result self.new rs }
         ensures noted { IfOk result (λ ends. NotesGo S.holds (notes_past self.old self.new ends) self.old spans.old spans.new) }
         ensures head { self.new.head ≡ self.old.head }
-        ensures kept { Keeps self.old self.new }
     {
         let mut head = self.head;
         loop {
@@ -69,7 +68,6 @@ impl Engine {
         requires row { Admits (own_row self.old) flat.old }
         ensures ended { Lands (past_end self.old) (own_row self.old) self.old flat.old result self.new flat.new }
         ensures noted { IfOk result (λ ends. NotesGo S.holds (notes_past self.old self.new ends) self.old spans.old spans.new) }
-        ensures kept { Keeps self.old self.new }
     {
         let ends = self.end_geometry(spans)?;
         push_row(flat, own_row(&self.head))?;

@@ -108,7 +108,7 @@ impl Engine {
         number: u64,
         width: u64,
     ) -> Result<bool, Stop>
-        requires byte { IsByte self.old.next → number < 256 }
+        requires byte { IsByte self.old.next → (number < 256) × (width ≡ 1) }
         requires room { self.old.start + (self.old.bytes + width) ≤ 2 ^ 63 }
         requires alive { IsAlive flat.old self.old }
         ensures taken { (r : Role) → IsNext r self.old → Takes r number width self.old flat.old result self.new flat.new }
@@ -134,7 +134,9 @@ impl Engine {
     /// Whether no byte was taken since the last blob's end. Takes no memory.
     #[inline(always)]
     pub fn is_between(&self) -> bool
-        ensures { (bs : List ℕ) (rs : List Row) → StandsAt bs rs self.now → IsEnd (allowance_of self.now) bs (offset_in self.now) result }
+        ensures ended { (bs : List ℕ) (rs : List Row) → StandsAt bs rs self.now → IsEnd (allowance_of self.now) bs (offset_in self.now) result }
+        ensures alone { result ≡ true → held_in self.now ≡ [] }
+        ensures none { result ≡ true → self.now.bytes ≡ 0 }
     {
         self.held.len() == 0 && self.bytes == 0
     }

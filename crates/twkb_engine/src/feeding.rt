@@ -8,7 +8,7 @@ use crate::next_item::NextItem;
 use crate::span_notes::SpanNotes;
 use crate::stop::Stop;
 use std::alloc::AllocError;
-use twkb_body::{Taken, take_members, take_row};
+use twkb_body::{take_members, take_row};
 use twkb_flat::Flat;
 use twkb_front::{front_number, front_point};
 use twkb_num::Step;
@@ -17,7 +17,8 @@ use twkb_tree::Kind;
 impl Engine {
     ghost use Rattle.twkb_tree.specs.Rows.{Row};
     ghost use Rattle.twkb_engine.specs.State.{allowance_of};
-    ghost use Rattle.twkb_engine.specs.Standing.{StandsAt, IsAlive, IsStep, FedBy, LeadsQuietly, SaysNext, StopsIn, TakesAll, held_in, count_of, place_in};
+    ghost use Rattle.twkb_engine.specs.Taking.{Keeps};
+    ghost use Rattle.twkb_engine.specs.Standing.{StandsAt, IsAlive, FedBy, with_used, LeadsQuietly, SaysNext, StopsIn, TakesAll, held_in, count_of, place_in};
     ghost use Rattle.twkb_engine.specs.declared.next_item.NextItem.TheVariants.{X, Id};
 
     /// Takes a byte, and returns whether the blob ends with it. It takes memory as `feed` does.
@@ -28,10 +29,10 @@ impl Engine {
         spans: &mut S,
         byte: u8,
     ) -> Result<bool, Stop>
-        requires room { count_of self.old < 2 ^ 62 }
+        requires room { self.old.start + count_of self.old < 2 ^ 63 }
         requires alive { IsAlive flat.old self.old }
         ensures limits { self.new.limits ≡ self.old.limits }
-        ensures fed { (bs : List ℕ) (s : StandsAt bs flat.old self.old) → IsStep (allowance_of self.old) (bs ++ byte ∷ []) result flat.new self.new }
+        ensures fed { FedBy S.holds self.old flat.old spans.old (byte ∷ []) (with_used 1 result) self.new flat.new spans.new }
     {
         if self.next.is_byte() {
             return self.take(flat, spans, u64::from(byte), 1);
@@ -40,7 +41,8 @@ impl Engine {
         match self.held.step(byte) {
             Step::More => Ok(false),
             Step::Done { value, .. } => self.take(flat, spans, value, width),
-            Step::TooLong | Step::BadUnit => Err(Stop::Refused(BlobReason::BadVarint)),
+            Step::TooLong => Err(Stop::Refused(BlobReason::BadVarint)),
+            Step::BadUnit => Err(Stop::Refused(BlobReason::BadVarint)),
         }
     }
 
@@ -66,9 +68,10 @@ impl Engine {
         rest: &[u8],
     ) -> Result<(usize, bool), Stop>
         requires some { 0 < length rest.now }
-        requires room { place_in self.old + length rest.now ≤ 2 ^ 63 }
+        requires room { self.old.start + (count_of self.old + length rest.now) ≤ 2 ^ 63 }
         requires alive { IsAlive flat.old self.old }
         ensures some { IfOk result (λ taken. 0 < taken.0) }
+        ensures limits { self.new.limits ≡ self.old.limits }
         ensures fed { FedBy S.holds self.old flat.old spans.old rest.now result self.new flat.new spans.new }
     {
         if self.held.len() == 0 {
@@ -94,6 +97,7 @@ impl Engine {
         requires room { place_in self.old + length rest.now ≤ 2 ^ 63 }
         requires alone { held_in self.old ≡ [] }
         requires alive { IsAlive flat.old self.old }
+        ensures limits { self.new.limits ≡ self.old.limits }
         ensures fed { FedBy S.holds self.old flat.old spans.old rest.now result self.new flat.new spans.new }
     {
         if self.points_left > 0 {
@@ -119,18 +123,23 @@ impl Engine {
     #[inline(never)]
     fn take_list(&mut self, flat: &mut Flat, rest: &[u8]) -> Result<usize, AllocError>
         requires next { self.old.next ≡ X }
+        requires some { 0 < self.old.points_left }
         requires room { place_in self.old + length rest.now ≤ 2 ^ 63 }
         requires alone { held_in self.old ≡ [] }
         ensures within { IfOk result (λ used. used ≤ length rest.now) }
         ensures led { IfOk result (λ used. LeadsQuietly flat.old self.old (take used rest.now) flat.new self.new) }
         ensures memory { OnErr result (StopsIn flat.old self.old rest.now) }
+        ensures kept { Keeps self.old self.new }
+        ensures start { self.new.start ≡ self.old.start }
     {
         if !flat.takes_points(self.points_left) {
             return Ok(0);
         }
         let (taken, left) = take_row(flat, self.position, rest, self.points_left)?;
         self.points_left = left;
-        self.moved(taken)
+        self.bytes += taken.used as u64;
+        self.position = taken.position;
+        Ok(taken.used)
     }
 
     // Takes members of a multipoint after its first, but not its last, and returns how many bytes they had. They take memory. A frame of its
@@ -143,6 +152,8 @@ impl Engine {
         ensures within { IfOk result (λ used. used ≤ length rest.now) }
         ensures led { IfOk result (λ used. LeadsQuietly flat.old self.old (take used rest.now) flat.new self.new) }
         ensures memory { OnErr result (StopsIn flat.old self.old rest.now) }
+        ensures kept { Keeps self.old self.new }
+        ensures start { self.new.start ≡ self.old.start }
     {
         let depth = self.head.depth + 1;
         let most = self.members_left;
@@ -153,12 +164,6 @@ impl Engine {
         }
         let (taken, left) = take_members(flat, &mut self.ids, depth, self.position, rest, most)?;
         self.members_left = left;
-        self.moved(taken)
-    }
-
-    // Stands after points that were taken; returns how many bytes they had.
-    #[inline(always)]
-    fn moved(&mut self, taken: Taken) -> Result<usize, AllocError> {
         self.bytes += taken.used as u64;
         self.position = taken.position;
         Ok(taken.used)
@@ -173,8 +178,13 @@ impl Engine {
         ensures within { IfOk result (λ used. used ≤ length rest.now) }
         ensures led { (rs : List Row) → IfOk result (λ used. LeadsQuietly rs self.old (take used rest.now) rs self.new) }
         ensures memory { (rs : List Row) → OnErr result (StopsIn rs self.old rest.now) }
+        ensures kept { Keeps self.old self.new }
+        ensures start { self.new.start ≡ self.old.start }
     {
         let most = self.members_left.saturating_sub(self.ids.count());
+        if most == 0 {
+            return Ok(0);
+        }
         let used = self.ids.take(rest, most)?;
         self.bytes += used as u64;
         Ok(used)
@@ -189,9 +199,10 @@ impl Engine {
         rest: &[u8],
     ) -> Result<(usize, bool), Stop>
         requires some { 0 < length rest.now }
-        requires room { place_in self.old + length rest.now ≤ 2 ^ 63 }
+        requires room { self.old.start + (count_of self.old + length rest.now) ≤ 2 ^ 63 }
         requires alive { IsAlive flat.old self.old }
         ensures some { IfOk result (λ taken. 0 < taken.0) }
+        ensures limits { self.new.limits ≡ self.old.limits }
         ensures fed { FedBy S.holds self.old flat.old spans.old rest.now result self.new flat.new spans.new }
     {
         if self.held.len() == 0 {
@@ -216,8 +227,9 @@ impl Engine {
         spans: &mut S,
         piece: &[u8],
     ) -> Result<(usize, bool), Stop>
-        requires room { place_in self.old + length piece.now ≤ 2 ^ 63 }
+        requires room { self.old.start + (count_of self.old + length piece.now) ≤ 2 ^ 63 }
         requires alive { IsAlive flat.old self.old }
+        ensures limits { self.new.limits ≡ self.old.limits }
         ensures all { TakesAll (length piece.now) result }
         ensures fed { FedBy S.holds self.old flat.old spans.old piece.now result self.new flat.new spans.new }
     {
@@ -242,7 +254,7 @@ impl Engine {
         spans: &mut S,
         piece: &[u8],
     ) -> Result<(usize, bool), Stop>
-        requires room { place_in self.old + length piece.now ≤ 2 ^ 63 }
+        requires room { self.old.start + (count_of self.old + length piece.now) ≤ 2 ^ 63 }
         requires alive { IsAlive flat.old self.old }
         ensures limits { self.new.limits ≡ self.old.limits }
         ensures all { TakesAll (length piece.now) result }

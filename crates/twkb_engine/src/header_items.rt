@@ -31,7 +31,7 @@ const BOX_REST: u8 = 3;
 impl Engine {
     ghost use Rattle.twkb_engine.specs.State.{IsPlaced, outline_in, sums_of, size_roles, box_roles};
     ghost use Rattle.twkb_engine.specs.Collections.{groups_of};
-    ghost use Rattle.twkb_engine.specs.Taking.{Takes, Lands, SameBlob, SameBut, past_parts, header_row, Keeps};
+    ghost use Rattle.twkb_engine.specs.Taking.{Takes, Lands, SameBlob, SameBut, past_parts, header_row};
     ghost use Rattle.twkb_engine.specs.Notes.{NotesGo, notes_with, notes_past};
     ghost use Rattle.twkb_engine.specs.Standing.{IsAlive, LeadsOn, StopsIn, held_in};
 
@@ -47,7 +47,6 @@ impl Engine {
         ensures noted { OnOk result (NotesGo S.holds (note_header (self.old.start + self.old.bytes) self.old.points byte) self.old spans.old spans.new) }
         ensures position { self.new.position ≡ origin_of }
         ensures same { SameBut self.old self.new }
-        ensures kept { Keeps self.old self.new }
     {
         self.head.kind = byte.kind();
         self.head.precision = byte.precision();
@@ -63,7 +62,6 @@ impl Engine {
         ensures kind { self.new.head.kind ≡ self.old.head.kind }
         ensures noted { NotesGo S.holds (note_metadata metadata) self.old spans.old spans.new }
         ensures same { SameBut self.old self.new }
-        ensures kept { Keeps self.old self.new }
     {
         spans.set_metadata(metadata.byte());
         self.head.metadata = metadata.byte();
@@ -94,7 +92,6 @@ impl Engine {
         ensures taken { (rs : List Row) → Takes role.Header number 1 self.old rs result self.new rs }
         ensures noted { IfOk result (λ ends. NotesGo S.holds (notes_with role.Header number 1 self.old self.new ends) self.old spans.old spans.new) }
         ensures placed { IsPlaced self.old.next self.old → OnOk result (IsPlaced self.new.next self.new) }
-        ensures kept { Keeps self.old self.new }
     {
         let byte = TypeByte::from_number(number);
         if !byte.names_type() {
@@ -121,7 +118,6 @@ impl Engine {
         ensures taken { Takes (role.Metadata (kind_number (kind_of self.old.head.kind))) number 1 self.old flat.old result self.new flat.new }
         ensures noted { IfOk result (λ ends. NotesGo S.holds (notes_with (role.Metadata (kind_number (kind_of self.old.head.kind))) number 1 self.old self.new ends) self.old spans.old spans.new) }
         ensures placed { IsPlaced self.old.next self.old → OnOk result (IsPlaced self.new.next self.new) }
-        ensures kept { Keeps self.old self.new }
     {
         let metadata = Metadata::from_number(number);
         if self.announces_point(self.head.kind, metadata) {
@@ -154,7 +150,6 @@ impl Engine {
         ensures taken { Takes role.Extended number 1 self.old flat.old result self.new flat.new }
         ensures noted { IfOk result (λ ends. NotesGo S.holds (notes_with role.Extended number 1 self.old self.new ends) self.old spans.old spans.new) }
         ensures placed { IsPlaced self.old.next self.old → OnOk result (IsPlaced self.new.next self.new) }
-        ensures kept { Keeps self.old self.new }
     {
         if number % 4 != 0 {
             return Err(Stop::Refused(BlobReason::ExtraDimensions));
@@ -179,7 +174,6 @@ impl Engine {
         ensures taken { Takes role.Size number width self.old flat.old result self.new flat.new }
         ensures noted { IfOk result (λ ends. NotesGo S.holds (notes_with role.Size number width self.old self.new ends) self.old spans.old spans.new) }
         ensures placed { IsPlaced self.old.next self.old → OnOk result (IsPlaced self.new.next self.new) }
-        ensures kept { Keeps self.old self.new }
     {
         self.bytes += width;
         self.head.size = Some(number);
@@ -202,7 +196,6 @@ impl Engine {
         ensures taken { (number : ℕ) → Takes role.Box number width self.old flat.old result self.new flat.new }
         ensures noted { (number : ℕ) → IfOk result (λ ends. NotesGo S.holds (notes_with role.Box number width self.old self.new ends) self.old spans.old spans.new) }
         ensures placed { IsPlaced self.old.next self.old → OnOk result (IsPlaced self.new.next self.new) }
-        ensures kept { Keeps self.old self.new }
     {
         self.bytes += width;
         if left > 0 {
@@ -226,7 +219,6 @@ impl Engine {
         ensures landed { Lands (past_parts self.old (size_roles self.old.head.metadata)) (header_row self.old (size_roles self.old.head.metadata)) self.old flat.old result self.new flat.new }
         ensures noted { IfOk result (λ ends. NotesGo S.holds (notes_past self.old self.new ends) self.old spans.old spans.new) }
         ensures placed { IsHeadAt (length (groups_of self.old.collections)) (id_in (groups_of self.old.collections)) self.old.head → OnOk result (IsPlaced self.new.next self.new) }
-        ensures kept { Keeps self.old self.new }
     {
         if metadata.has_size() {
             self.next = NextItem::Size;
@@ -249,7 +241,6 @@ impl Engine {
         ensures landed { Lands (past_parts self.old (box_roles self.old.head.metadata)) (header_row self.old (box_roles self.old.head.metadata)) self.old flat.old result self.new flat.new }
         ensures noted { IfOk result (λ ends. NotesGo S.holds (notes_past self.old self.new ends) self.old spans.old spans.new) }
         ensures placed { IsHeadAt (length (groups_of self.old.collections)) (id_in (groups_of self.old.collections)) self.old.head → OnOk result (IsPlaced self.new.next self.new) }
-        ensures kept { Keeps self.old self.new }
     {
         if metadata.has_box() {
             self.next = NextItem::BoxNumber { left: BOX_REST };
@@ -270,7 +261,6 @@ impl Engine {
         ensures landed { Lands (past_parts self.old []) (header_row self.old []) self.old flat.old result self.new flat.new }
         ensures noted { IfOk result (λ ends. NotesGo S.holds (notes_past self.old self.new ends) self.old spans.old spans.new) }
         ensures placed { IsHeadAt (length (groups_of self.old.collections)) (id_in (groups_of self.old.collections)) self.old.head → OnOk result (IsPlaced self.new.next self.new) }
-        ensures kept { Keeps self.old self.new }
     {
         if Metadata::from_byte(self.head.metadata).is_empty() {
             return self.end_empty(flat, spans);
@@ -286,7 +276,6 @@ impl Engine {
         ensures step { outline_in self.new ≡ (groups_of self.old.collections, begins (kind_of self.old.head.kind) (head_of self.old.head)) }
         ensures sums { sums_of self.new ≡ sums_of self.old }
         ensures same { SameBlob self.old self.new }
-        ensures kept { Keeps self.old self.new }
     {
         self.ids.restart(false);
         self.next = match self.head.kind {

@@ -28,7 +28,7 @@ impl Engine {
     ghost use Rattle.twkb_engine.specs.State.{IsPlaced, outline_in, sums_of};
     ghost use Rattle.twkb_engine.specs.Collections.{groups_of};
     ghost use Rattle.twkb_engine.specs.Fits.{depth_cap};
-    ghost use Rattle.twkb_engine.specs.Taking.{Takes, SameBlob, own_row, Keeps};
+    ghost use Rattle.twkb_engine.specs.Taking.{Takes, SameBlob, own_row};
     ghost use Rattle.twkb_engine.specs.Notes.{NotesGo, notes_with, open_in};
     ghost use Rattle.twkb_engine.specs.Standing.{IsAlive};
 
@@ -74,7 +74,6 @@ impl Engine {
         ensures taken { Takes (role.Count (first_count (many_of self.old.head.kind) (length (groups_of self.old.collections)))) count width self.old flat.old result self.new flat.new }
         ensures noted { IfOk result (λ ends. NotesGo S.holds (notes_with (role.Count (first_count (many_of self.old.head.kind) (length (groups_of self.old.collections)))) count width self.old self.new ends) self.old spans.old spans.new) }
         ensures placed { IsPlaced self.old.next self.old → OnOk result (IsPlaced self.new.next self.new) }
-        ensures kept { Keeps self.old self.new }
     {
         let points = if self.head.kind == Kind::MultiPoint { count } else { 0 };
         if let Some(reason) = self.too_many_members(count, points) {
@@ -104,7 +103,6 @@ impl Engine {
         ensures taken { Takes role.Id number width self.old flat.old result self.new flat.new }
         ensures begun { OnOk result (open_in self.new ≡ open_in self.old) }
         ensures placed { IsPlaced self.old.next self.old → OnOk result (IsPlaced self.new.next self.new) }
-        ensures kept { Keeps self.old self.new }
     {
         self.bytes += width;
         self.ids.push(unzigzag(number))?;
@@ -124,7 +122,6 @@ impl Engine {
         ensures sums { sums_of self.new ≡ sums_of self.old }
         ensures same { SameBlob self.old self.new }
         ensures placed { IsPlaced next.MemberCount self.old → OnOk result (IsPlaced self.new.next self.new) }
-        ensures kept { Keeps self.old self.new }
     {
         push_row(flat, own_row(&self.head))?;
         if self.head.kind == Kind::Collection {

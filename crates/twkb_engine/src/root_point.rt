@@ -1,8 +1,7 @@
 //! A blob that is a single point, complete at the start of the bytes.
-ghost use Rattle.std.specs.Prelude.{◌≡◌, ◌+◌, ◌-◌, ◌≤◌, ◌^◌, List, [], ℕ, true, Ok, length, IfOk, IfSome, OnErr};
+ghost use Rattle.std.specs.Prelude.{◌≡◌, ◌+◌, ◌-◌, ◌≤◌, ◌^◌, List, [], ℕ, true, Ok, length, IfOk, IfSome, OnErr, ◌<◌};
 ghost use Rattle.twkb_grammar.specs.PlainReader.{is_exact};
 ghost use Rattle.twkb_front.specs.Whole.{WholePoint};
-ghost use Rattle.twkb_outline.specs.Parts.{PartIn};
 ghost use Rattle.twkb_engine.specs.Notes.{point_span};
 
 use crate::engine::Engine;
@@ -48,9 +47,7 @@ fn point_span(offset: u64, blob: &[u8]) -> Span
 }
 
 impl Engine {
-    ghost use Rattle.twkb_grammar.specs.Noting.{no_notes};
-    ghost use Rattle.twkb_engine.specs.State.{allowance_of};
-    ghost use Rattle.twkb_engine.specs.Standing.{StandsAt, IsFed, IfMade};
+    ghost use Rattle.twkb_engine.specs.Standing.{FedBy, StopsIn, held_in};
 
     // Takes a blob that is a single point, if all of it is complete, it has no optional part but a size of one byte, and that is exact; returns
     // how many bytes it has, or 0, and then it changes nothing. The row and a span take memory. A frame of its own, for its callers' registers.
@@ -61,11 +58,12 @@ impl Engine {
         spans: &mut S,
         piece: &[u8],
     ) -> Result<usize, AllocError>
-        requires between { StandsAt [] flat.old self.old }
+        requires none { self.old.bytes ≡ 0 }
+        requires alone { held_in self.old ≡ [] }
         requires room { self.old.start + length piece.now ≤ 2 ^ 63 }
-        ensures made { (told : Type 0) → IfMade result (λ used. (told → S.holds spans.old no_notes) → IsFed S.holds told (allowance_of self.old) self.old.start [] piece.now (Ok (used, true)) flat.new self.new spans.new) }
-        ensures none { result ≡ Ok 0 → (self.new ≡ self.old) × (flat.new ≡ flat.old) × (spans.new ≡ spans.old) }
-        ensures memory { OnErr result (PartIn (allowance_of self.old) [] piece.now) }
+        ensures made { IfOk result (λ used. 0 < used → FedBy S.holds self.old flat.old spans.old piece.now (Ok (used, true)) self.new flat.new spans.new) }
+        ensures same { result ≡ Ok 0 → (self.new ≡ self.old) × (flat.new ≡ flat.old) × (spans.new ≡ spans.old) }
+        ensures memory { OnErr result (StopsIn flat.old self.old piece.now) }
         ensures limits { self.new.limits ≡ self.old.limits }
     {
         if self.limits.points() == 0 {
