@@ -2,3 +2,4 @@ pub mod Collections
 pub mod Steps
 pub mod Feeds
 pub mod Many
+pub mod RootPoints
