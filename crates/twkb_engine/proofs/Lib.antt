@@ -3,3 +3,4 @@ pub mod Steps
 pub mod Feeds
 pub mod Many
 pub mod RootPoints
+pub mod Points
