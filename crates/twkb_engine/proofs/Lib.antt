@@ -1,1 +1,4 @@
 pub mod Collections
+pub mod Admitted
+pub mod Parts
+pub mod Members

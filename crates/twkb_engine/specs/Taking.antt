@@ -1,6 +1,6 @@
 -- What an engine makes of the next item.
 use Rattle.std.specs.Prelude.{◌≡◌, ◌+◌, ◌⊎◌, ℕ, List, [], ◌++◌, ◌∷◌, Bool, true, false, Some, None, Result, Ok, Err, ⊤}
-use Rattle.twkb_points.specs.Point.{Point}
+use Rattle.twkb_points.specs.Point.{Point, origin}
 use Rattle.twkb_tree.specs.Rows.{Row, first_id}
 use Rattle.twkb_grammar.specs.Roles.{Role}
 use Rattle.twkb_grammar.specs.Fault.{Reason, moved, nodes_by, points_by}
@@ -44,6 +44,7 @@ pub record BeginsAt (offset : ℕ) (d : Engine) : Type 0 where
   pub start : d.start ≡ offset
   pub next : d.next ≡ next.TypeByte
   pub bytes : d.bytes ≡ 0
+  pub position : d.position ≡ origin
   pub nodes : d.nodes ≡ 1
   pub points : d.points ≡ 0
   pub collections : groups_of d.collections ≡ []
@@ -52,6 +53,11 @@ pub record BeginsAt (offset : ℕ) (d : Engine) : Type 0 where
 pub record SameBlob (d e : Engine) : Type 0 where
   pub limits : e.limits ≡ d.limits
   pub start : e.start ≡ d.start
+
+-- its limits stay, and what it holds of a number
+pub record Keeps (d e : Engine) : Type 0 where
+  pub limits : e.limits ≡ d.limits
+  pub held : e.held ≡ d.held
 
 -- all that it keeps besides its header, its position and its ids is the same
 pub record SameBut (d e : Engine) : Type 0 where
@@ -62,6 +68,10 @@ pub record SameBut (d e : Engine) : Type 0 where
   pub points : e.points ≡ d.points
   pub collections : e.collections ≡ d.collections
   pub next : e.next ≡ d.next
+  pub held : e.held ≡ d.held
+  pub points_left : e.points_left ≡ d.points_left
+  pub rings_left : e.rings_left ≡ d.rings_left
+  pub members_left : e.members_left ≡ d.members_left
 
 -- What an engine answers to an item of this role and number, of so many bytes: it leads on past the ends after it; or the blob ends with it; or it was judged, and so
 -- were the sizes that end with it, but there is no memory for what it brings; or the grammar's first reason refuses it, or a size at its end.

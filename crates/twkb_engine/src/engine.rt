@@ -91,6 +91,7 @@ impl Engine {
     {
         self.start += self.bytes;
         self.bytes = 0;
+        self.position = origin();
         self.nodes = 1;
         self.points = 0;
         self.collections.clear();

@@ -1,5 +1,5 @@
 //! The items of a header: type byte, metadata byte, extended byte, size and box.
-ghost use Rattle.std.specs.Prelude.{◌≡◌, ◌+◌, ◌≤◌, ◌<◌, ◌^◌, ◌/◌, ◌%◌, ℕ, List, [], None, false, IfOk, OnOk, OnErr, Ok, length, take};
+ghost use Rattle.std.specs.Prelude.{◌≡◌, ◌+◌, ◌≤◌, ◌<◌, ◌^◌, ◌/◌, ◌%◌, ℕ, List, [], None, true, false, IfOk, OnOk, OnErr, Ok, length, take};
 ghost use Rattle.twkb_tree.specs.Rows.{Row};
 ghost use Rattle.twkb_grammar.specs.Roles as role;
 ghost use Rattle.twkb_grammar.specs.Fault.{announces_point as announces};
@@ -12,7 +12,7 @@ ghost use Rattle.twkb_outline.specs.Outline.{OnMetadata, begins};
 ghost use Rattle.twkb_outline.specs.Growing.{id_in};
 ghost use Rattle.twkb_outline.specs.Admitting.{Admits};
 ghost use Rattle.twkb_body.specs.Head.{head_of, kind_of, IsHeadAt};
-ghost use Rattle.twkb_engine.specs.declared.next_item.next.TheVariants as next;
+ghost use Rattle.twkb_engine.specs.declared.next_item.NextItem.TheVariants as next;
 
 use crate::blob_reason::BlobReason;
 use crate::engine::Engine;
@@ -31,7 +31,8 @@ const BOX_REST: u8 = 3;
 impl Engine {
     ghost use Rattle.twkb_engine.specs.State.{IsPlaced, outline_in, sums_of, size_roles, box_roles};
     ghost use Rattle.twkb_engine.specs.Collections.{groups_of};
-    ghost use Rattle.twkb_engine.specs.Taking.{Takes, Lands, SameBlob, SameBut, past_parts, header_row};
+    ghost use Rattle.twkb_engine.specs.Fits.{IsInside, are_shut, is_typed};
+    ghost use Rattle.twkb_engine.specs.Taking.{Takes, Lands, SameBlob, SameBut, Keeps, past_parts, header_row};
     ghost use Rattle.twkb_engine.specs.Notes.{NotesGo, notes_with, notes_past};
     ghost use Rattle.twkb_engine.specs.Standing.{IsAlive, LeadsOn, StopsIn, held_in};
 
@@ -42,8 +43,10 @@ impl Engine {
         spans: &mut S,
         byte: TypeByte,
     ) -> Result<(), AllocError>
+        requires next { self.old.next ≡ next.TypeByte }
         requires room { self.old.start + self.old.bytes ≤ 2 ^ 63 }
-        ensures typed { OnMetadata (kind_of self.new.head.kind) self.new.head.precision ≡ OnMetadata (kind_at (byte % 16)) (unzigzag_of (byte / 16)) }
+        ensures typed { is_typed self.new.head.kind ≡ true }
+        ensures step { OnMetadata (kind_of self.new.head.kind) self.new.head.precision ≡ OnMetadata (kind_at (byte % 16)) (unzigzag_of (byte / 16)) }
         ensures noted { OnOk result (NotesGo S.holds (note_header (self.old.start + self.old.bytes) self.old.points byte) self.old spans.old spans.new) }
         ensures position { self.new.position ≡ origin_of }
         ensures same { SameBut self.old self.new }
@@ -60,6 +63,7 @@ impl Engine {
         ensures head { head_of self.new.head ≡ record { precision = self.old.head.precision; meta = metadata; size = None; from = self.old.bytes } }
         ensures placed { IsHeadAt (length (groups_of self.new.collections)) (id_in (groups_of self.new.collections)) self.new.head }
         ensures kind { self.new.head.kind ≡ self.old.head.kind }
+        ensures position { self.new.position ≡ self.old.position }
         ensures noted { NotesGo S.holds (note_metadata metadata) self.old spans.old spans.new }
         ensures same { SameBut self.old self.new }
     {
@@ -92,6 +96,7 @@ impl Engine {
         ensures taken { (rs : List Row) → Takes role.Header number 1 self.old rs result self.new rs }
         ensures noted { IfOk result (λ ends. NotesGo S.holds (notes_with role.Header number 1 self.old self.new ends) self.old spans.old spans.new) }
         ensures placed { IsPlaced self.old.next self.old → OnOk result (IsPlaced self.new.next self.new) }
+        ensures kept { Keeps self.old self.new }
     {
         let byte = TypeByte::from_number(number);
         if !byte.names_type() {
@@ -118,14 +123,14 @@ impl Engine {
         ensures taken { Takes (role.Metadata (kind_number (kind_of self.old.head.kind))) number 1 self.old flat.old result self.new flat.new }
         ensures noted { IfOk result (λ ends. NotesGo S.holds (notes_with (role.Metadata (kind_number (kind_of self.old.head.kind))) number 1 self.old self.new ends) self.old spans.old spans.new) }
         ensures placed { IsPlaced self.old.next self.old → OnOk result (IsPlaced self.new.next self.new) }
+        ensures kept { Keeps self.old self.new }
     {
         let metadata = Metadata::from_number(number);
-        if self.announces_point(self.head.kind, metadata) {
-            if self.points >= u64::from(self.limits.points()) {
-                return Err(Stop::Refused(BlobReason::TooManyPoints));
-            }
-            self.points += 1;
+        let points = u64::from(self.announces_point(self.head.kind, metadata));
+        if points > u64::from(self.limits.points()) - self.points {
+            return Err(Stop::Refused(BlobReason::TooManyPoints));
         }
+        self.points += points;
         self.bytes += 1;
         self.set_metadata(spans, metadata);
         if metadata.has_extended() {
@@ -150,6 +155,7 @@ impl Engine {
         ensures taken { Takes role.Extended number 1 self.old flat.old result self.new flat.new }
         ensures noted { IfOk result (λ ends. NotesGo S.holds (notes_with role.Extended number 1 self.old self.new ends) self.old spans.old spans.new) }
         ensures placed { IsPlaced self.old.next self.old → OnOk result (IsPlaced self.new.next self.new) }
+        ensures kept { Keeps self.old self.new }
     {
         if number % 4 != 0 {
             return Err(Stop::Refused(BlobReason::ExtraDimensions));
@@ -174,6 +180,7 @@ impl Engine {
         ensures taken { Takes role.Size number width self.old flat.old result self.new flat.new }
         ensures noted { IfOk result (λ ends. NotesGo S.holds (notes_with role.Size number width self.old self.new ends) self.old spans.old spans.new) }
         ensures placed { IsPlaced self.old.next self.old → OnOk result (IsPlaced self.new.next self.new) }
+        ensures kept { Keeps self.old self.new }
     {
         self.bytes += width;
         self.head.size = Some(number);
@@ -196,6 +203,7 @@ impl Engine {
         ensures taken { (number : ℕ) → Takes role.Box number width self.old flat.old result self.new flat.new }
         ensures noted { (number : ℕ) → IfOk result (λ ends. NotesGo S.holds (notes_with role.Box number width self.old self.new ends) self.old spans.old spans.new) }
         ensures placed { IsPlaced self.old.next self.old → OnOk result (IsPlaced self.new.next self.new) }
+        ensures kept { Keeps self.old self.new }
     {
         self.bytes += width;
         if left > 0 {
@@ -214,11 +222,15 @@ impl Engine {
         metadata: Metadata,
     ) -> Result<bool, Stop>
         requires same { metadata ≡ self.old.head.metadata }
+        requires typed { is_typed self.old.head.kind ≡ true }
+        requires shut { are_shut self.old.points_left self.old.rings_left self.old.members_left ≡ true }
+        requires inside { IsInside self.old.next }
         requires room { self.old.start + self.old.bytes ≤ 2 ^ 63 }
         requires may { Admits (header_row self.old (size_roles self.old.head.metadata)) flat.old }
         ensures landed { Lands (past_parts self.old (size_roles self.old.head.metadata)) (header_row self.old (size_roles self.old.head.metadata)) self.old flat.old result self.new flat.new }
         ensures noted { IfOk result (λ ends. NotesGo S.holds (notes_past self.old self.new ends) self.old spans.old spans.new) }
         ensures placed { IsHeadAt (length (groups_of self.old.collections)) (id_in (groups_of self.old.collections)) self.old.head → OnOk result (IsPlaced self.new.next self.new) }
+        ensures kept { Keeps self.old self.new }
     {
         if metadata.has_size() {
             self.next = NextItem::Size;
@@ -236,11 +248,15 @@ impl Engine {
         metadata: Metadata,
     ) -> Result<bool, Stop>
         requires same { metadata ≡ self.old.head.metadata }
+        requires typed { is_typed self.old.head.kind ≡ true }
+        requires shut { are_shut self.old.points_left self.old.rings_left self.old.members_left ≡ true }
+        requires inside { IsInside self.old.next }
         requires room { self.old.start + self.old.bytes ≤ 2 ^ 63 }
         requires may { Admits (header_row self.old (box_roles self.old.head.metadata)) flat.old }
         ensures landed { Lands (past_parts self.old (box_roles self.old.head.metadata)) (header_row self.old (box_roles self.old.head.metadata)) self.old flat.old result self.new flat.new }
         ensures noted { IfOk result (λ ends. NotesGo S.holds (notes_past self.old self.new ends) self.old spans.old spans.new) }
         ensures placed { IsHeadAt (length (groups_of self.old.collections)) (id_in (groups_of self.old.collections)) self.old.head → OnOk result (IsPlaced self.new.next self.new) }
+        ensures kept { Keeps self.old self.new }
     {
         if metadata.has_box() {
             self.next = NextItem::BoxNumber { left: BOX_REST };
@@ -256,11 +272,15 @@ impl Engine {
         flat: &mut Flat,
         spans: &mut S,
     ) -> Result<bool, Stop>
+        requires typed { is_typed self.old.head.kind ≡ true }
+        requires shut { are_shut self.old.points_left self.old.rings_left self.old.members_left ≡ true }
+        requires inside { IsInside self.old.next }
         requires room { self.old.start + self.old.bytes ≤ 2 ^ 63 }
         requires may { Admits (header_row self.old []) flat.old }
         ensures landed { Lands (past_parts self.old []) (header_row self.old []) self.old flat.old result self.new flat.new }
         ensures noted { IfOk result (λ ends. NotesGo S.holds (notes_past self.old self.new ends) self.old spans.old spans.new) }
         ensures placed { IsHeadAt (length (groups_of self.old.collections)) (id_in (groups_of self.old.collections)) self.old.head → OnOk result (IsPlaced self.new.next self.new) }
+        ensures kept { Keeps self.old self.new }
     {
         if Metadata::from_byte(self.head.metadata).is_empty() {
             return self.end_empty(flat, spans);
@@ -272,16 +292,16 @@ impl Engine {
     // The body begins, or the count of members comes next.
     #[inline(always)]
     fn go_to_body(&mut self)
-        requires body { bit self.old.head.metadata 4 ≡ false }
+        requires typed { is_typed self.old.head.kind ≡ true }
+        requires shut { are_shut self.old.points_left self.old.rings_left self.old.members_left ≡ true }
         ensures step { outline_in self.new ≡ (groups_of self.old.collections, begins (kind_of self.old.head.kind) (head_of self.old.head)) }
+        ensures head { self.new.head ≡ self.old.head }
+        ensures collections { self.new.collections ≡ self.old.collections }
         ensures sums { sums_of self.new ≡ sums_of self.old }
         ensures same { SameBlob self.old self.new }
+        ensures kept { Keeps self.old self.new }
     {
-        self.ids.restart(false);
-        self.next = match self.head.kind {
-            Kind::Point | Kind::Linestring | Kind::Polygon => NextItem::first_of(self.head.kind),
-            _ => NextItem::MemberCount,
-        };
+        self.next = NextItem::after_header(self.head.kind);
     }
 
     // Takes a header that is complete, with a body after it; returns how many bytes it has, or 0, and then it changes nothing: a point that
