@@ -14,7 +14,7 @@ use Rattle.twkb_grammar.specs.PlainReader.{objection, unless}
 use Rattle.twkb_grammar.specs.Machine as machine
 use Rattle.twkb_grammar.specs.Machine.{Sums, Many, ManyPoints, ManyLines, ManyPolygons, ManyGeometries, first_count}
 use Rattle.twkb_grammar.proofs.Objections.{deep_allowed}
-use Rattle.twkb_outline.specs.Outline.{Group, OnId, OnEnd, members_open, many_counted, outline_ends, outline_advanced}
+use Rattle.twkb_outline.specs.Outline.{Group, Step, OnId, OnEnd, members_open, many_counted, outline_ends, outline_advanced}
 use Rattle.twkb_outline.specs.Growing.{Change, Nothing, NewRow, id_in, change_of, step_change, own_of, kind_with}
 use Rattle.twkb_outline.specs.Parts.{Passes}
 use Rattle.twkb_outline.specs.Reading.{open_count}
@@ -94,10 +94,7 @@ own_at d placed has =
 -- ---- ids
 
 module _ (d : Engine) (n width : ℕ) (is : d.next ≡ next.Id) where
-  id_at : ℕ → Type 0
-  id_at left = way_of n width d ≡ outline_ends (d.bytes + width) (outline_advanced (d.bytes + width) n (groups_of d.collections, OnId (many_of d.head.kind) (head_of d.head) (suc d.members_left) (ids_read d.ids) left))
-
-  at_id : id_at (d.members_left - length (ids_read d.ids))
+  at_id : way_of n width d ≡ outline_ends (d.bytes + width) (outline_advanced (d.bytes + width) n (groups_of d.collections, OnId (many_of d.head.kind) (head_of d.head) (suc d.members_left) (ids_read d.ids) (d.members_left - length (ids_read d.ids))))
   at_id = ap (λ i. outline_ends (d.bytes + width) (outline_advanced (d.bytes + width) n (groups_of d.collections, step_at i d))) is
 
   id_passes_as : (left : ℕ) → Passes (outline_ends (d.bytes + width) (outline_advanced (d.bytes + width) n (groups_of d.collections, OnId (many_of d.head.kind) (head_of d.head) (suc d.members_left) (ids_read d.ids) left)))
@@ -121,13 +118,13 @@ module _ (d : Engine) (n width : ℕ) (is : d.next ≡ next.Id) where
       some_left : d.members_left - length (ids_read d.ids) ≡ suc (d.members_left - length more)
       some_left = omega (arith, longer, few)
 
-      pub id_goes_on : (e : Engine) → e.next ≡ next.Id
-          → (groups_of e.collections, step_at next.Id e) ≡ (groups_of d.collections, OnId (many_of d.head.kind) (head_of d.head) (suc d.members_left) more (d.members_left - length more)) → way_of n width d ≡ Ok (outline_in e)
-      id_goes_on e at same =
+      pub id_goes_on : (e : Engine) → e.next ≡ next.Id → groups_of e.collections ≡ groups_of d.collections → step_at next.Id e ≡ OnId (many_of d.head.kind) (head_of d.head) (suc d.members_left) more (d.members_left - length more) → way_of n width d ≡ Ok (outline_in e)
+      id_goes_on e at gs same =
           at_id
           ∙ (ap (λ l. outline_ends (d.bytes + width) (outline_advanced (d.bytes + width) n (groups_of d.collections, OnId (many_of d.head.kind) (head_of d.head) (suc d.members_left) (ids_read d.ids) l))) some_left
           ∙ (ap (λ xs. Ok (groups_of d.collections, OnId (many_of d.head.kind) (head_of d.head) (suc d.members_left) xs (d.members_left - length more))) (sym pushed)
-          ∙ (ap Ok (sym same) ∙ ap (λ i. Ok (groups_of e.collections, step_at i e)) (sym at))))
+          ∙ (ap (λ (g : List Group). Ok (g, OnId (many_of d.head.kind) (head_of d.head) (suc d.members_left) more (d.members_left - length more))) (sym gs)
+          ∙ (ap (λ (s : Step). Ok (groups_of e.collections, s)) (sym same) ∙ ap (λ i. Ok (groups_of e.collections, step_at i e)) (sym at)))))
 
       pub id_brings_none : brings role.Id n d ≡ Nothing
       id_brings_none =

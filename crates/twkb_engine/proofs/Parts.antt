@@ -22,7 +22,7 @@ use Rattle.twkb_tree.specs.declared.kind.Kind.TheVariants as kinds
 use Rattle.twkb_body.specs.Head.{head_of, kind_of, IsHeadAt}
 use Rattle.twkb_engine.specs.State.{step_at, step_of, outline_in, sums_of, size_roles, IsPlaced}
 use Rattle.twkb_engine.specs.Stops.{reason_of}
-use Rattle.twkb_engine.specs.Taking.{Takes, Lands, IsFree, SameBlob, BeginsAt, way_of, brings, sums_with, past_parts, header_row}
+use Rattle.twkb_engine.specs.Taking.{Takes, Lands, LeadsTo, IsFree, SameBlob, BeginsAt, way_of, brings, sums_with, past_parts, header_row}
 use Rattle.twkb_engine.specs.declared.stop.Stop.{Stop}
 use Rattle.twkb_engine.specs.declared.stop.Stop.TheVariants.{Memory, Refused}
 use Rattle.twkb_engine.specs.Collections.{groups_of}
@@ -160,20 +160,24 @@ takes_landed r n width d m e way change rs more (Err (Refused why)) free goes ch
     let bytes : m.bytes ≡ d.bytes + width = ap (λ (s : machine.Sums). s.bytes) sums in
     inr (free, goes ∙ l.0, l.1 ∙ bytes)
 
--- the same after an optional part
-pub option_taken : (r : Role) (n width : ℕ) (d m e : Engine) (item : NextItem) (parts : List Role) (rs more : List Row) (res : Result Bool Stop) → d.next ≡ item → step_at item d ≡ OnOption (kind_of d.head.kind) (head_of d.head) r parts
-    → (let gs = groups_of d.collections in IsHeadAt (length gs) (id_in gs) d.head) → IsFree r n d
-    → outline_ends (d.bytes + width) (groups_of d.collections, options (kind_of d.head.kind) (with_option (head_of d.head) r n (d.bytes + width)) parts) ≡ past_parts m parts
-    → header_row d parts ≡ header_row m parts → sums_of m ≡ sums_with (sums_of d) r n width → SameBlob d m → Lands (past_parts m parts) (header_row m parts) m rs res e more → Takes r n width d rs res e more
-option_taken r n width d m e item parts rs more res is at placed free goes row sums same l =
-    let gs = groups_of d.collections in
-    let k = kind_of d.head.kind in
-    let step : step_of d ≡ OnOption k (head_of d.head) r parts = ap (λ i. step_at i d) is ∙ at in
-    let way : way_of n width d ≡ past_parts m parts = ap (λ s. outline_ends (d.bytes + width) (outline_advanced (d.bytes + width) n (gs, s))) step ∙ goes in
-    let here : brings r n d ≡ header_row d parts =
-        ap (λ s. change_of (moved d.position r n) n (gs, s)) step
-        ∙ (ap (λ x. header_change x (id_in gs) k d.head.precision d.head.metadata parts) (sym placed.depth_is) ∙ ap (λ x. header_change d.head.depth x k d.head.precision d.head.metadata parts) (sym placed.id_is)) in
-    takes_landed r n width d m e (past_parts m parts) (header_row m parts) rs more res free way (here ∙ row) sums same l
+pub takes_led : (r : Role) (n width : ℕ) (d m e : Engine) (way : Result Outline Reason) (change : Change) (rs more : List Row) (res : Result Bool Stop) → LeadsTo r n width d way change m → Lands way change m rs res e more → Takes r n width d rs res e more
+takes_led r n width d m e way change rs more res to l = takes_landed r n width d m e way change rs more res to.free to.way_is to.brings_is to.sums_is to.same l
+
+-- ---- after an optional part
+
+module _ (d : Engine) (item : NextItem) (r : Role) (parts : List Role) (is : d.next ≡ item) (at : step_at item d ≡ OnOption (kind_of d.head.kind) (head_of d.head) r parts) (n : ℕ) where
+  option_step : step_of d ≡ OnOption (kind_of d.head.kind) (head_of d.head) r parts
+  option_step = ap (λ i. step_at i d) is ∙ at
+
+  pub option_way : (width : ℕ) → way_of n width d ≡ outline_ends (d.bytes + width) (groups_of d.collections, options (kind_of d.head.kind) (with_option (head_of d.head) r n (d.bytes + width)) parts)
+  option_way width = ap (λ s. outline_ends (d.bytes + width) (outline_advanced (d.bytes + width) n (groups_of d.collections, s))) option_step
+
+  pub option_brings : (let gs = groups_of d.collections in IsHeadAt (length gs) (id_in gs) d.head → brings r n d ≡ header_row d parts)
+  option_brings placed =
+      let gs = groups_of d.collections in
+      let k = kind_of d.head.kind in
+      ap (λ s. change_of (moved d.position r n) n (gs, s)) option_step
+      ∙ (ap (λ x. header_change x (id_in gs) k d.head.precision d.head.metadata parts) (sym placed.depth_is) ∙ ap (λ x. header_change d.head.depth x k d.head.precision d.head.metadata parts) (sym placed.id_is))
 
 -- ---- after a metadata byte
 

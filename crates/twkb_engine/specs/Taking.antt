@@ -95,6 +95,14 @@ Lands way change d rs (Ok true) e more = (way ≡ Ok ([], OnFinished)) × (more 
 Lands way change d rs (Err Memory) e more = Passes way
 Lands way change d rs (Err (Refused why)) e more = (way ≡ Err (reason_of why)) × (e.bytes ≡ d.bytes)
 
+-- An item of this role and number, of so many bytes, leads that way, with this change of the rows: behind it, and before the ends after it, the sums are those.
+pub record LeadsTo (r : Role) (n width : ℕ) (d : Engine) (way : Result Outline Reason) (change : Change) (m : Engine) : Type 0 where
+  pub free : IsFree r n d
+  pub way_is : way_of n width d ≡ way
+  pub brings_is : brings r n d ≡ change
+  pub sums_is : sums_of m ≡ sums_with (sums_of d) r n width
+  pub same : SameBlob d m
+
 -- past this step of the geometry that is read
 abbrev pub past : Engine → Step → Result Outline Reason
 past d s = outline_ends d.bytes (groups_of d.collections, s)

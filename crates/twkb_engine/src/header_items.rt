@@ -2,6 +2,7 @@
 ghost use Rattle.std.specs.Prelude.{◌≡◌, ◌+◌, ◌≤◌, ◌<◌, ◌^◌, ◌/◌, ◌%◌, ℕ, List, [], None, true, false, IfOk, OnOk, OnErr, Ok, length, take};
 ghost use Rattle.twkb_tree.specs.Rows.{Row};
 ghost use Rattle.twkb_grammar.specs.Roles as role;
+ghost use Rattle.twkb_grammar.specs.Roles.{Role};
 ghost use Rattle.twkb_grammar.specs.Fault.{announces_point as announces};
 ghost use Rattle.twkb_grammar.specs.Machine.{kind_number, kind_at};
 ghost use Rattle.twkb_num.specs.Zigzag.{unzigzag_of};
@@ -32,7 +33,7 @@ impl Engine {
     ghost use Rattle.twkb_engine.specs.State.{IsPlaced, outline_in, sums_of, size_roles, box_roles};
     ghost use Rattle.twkb_engine.specs.Collections.{groups_of};
     ghost use Rattle.twkb_engine.specs.Fits.{IsInside, are_shut, is_typed};
-    ghost use Rattle.twkb_engine.specs.Taking.{Takes, Lands, SameBlob, SameBut, Keeps, past_parts, header_row};
+    ghost use Rattle.twkb_engine.specs.Taking.{Takes, Lands, LeadsTo, SameBlob, SameBut, Keeps, past_parts, header_row};
     ghost use Rattle.twkb_engine.specs.Notes.{NotesGo, notes_with, notes_past};
     ghost use Rattle.twkb_engine.specs.Standing.{IsAlive, LeadsOn, StopsIn, held_in};
 
@@ -228,6 +229,7 @@ impl Engine {
         requires room { self.old.start + self.old.bytes ≤ 2 ^ 63 }
         requires may { Admits (header_row self.old (size_roles self.old.head.metadata)) flat.old }
         ensures landed { Lands (past_parts self.old (size_roles self.old.head.metadata)) (header_row self.old (size_roles self.old.head.metadata)) self.old flat.old result self.new flat.new }
+        ensures taken { (r : Role) (n width : ℕ) (d : Engine) → LeadsTo r n width d (past_parts self.old (size_roles self.old.head.metadata)) (header_row self.old (size_roles self.old.head.metadata)) self.old → Takes r n width d flat.old result self.new flat.new }
         ensures noted { IfOk result (λ ends. NotesGo S.holds (notes_past self.old self.new ends) self.old spans.old spans.new) }
         ensures placed { IsHeadAt (length (groups_of self.old.collections)) (id_in (groups_of self.old.collections)) self.old.head → OnOk result (IsPlaced self.new.next self.new) }
         ensures kept { Keeps self.old self.new }
@@ -254,6 +256,7 @@ impl Engine {
         requires room { self.old.start + self.old.bytes ≤ 2 ^ 63 }
         requires may { Admits (header_row self.old (box_roles self.old.head.metadata)) flat.old }
         ensures landed { Lands (past_parts self.old (box_roles self.old.head.metadata)) (header_row self.old (box_roles self.old.head.metadata)) self.old flat.old result self.new flat.new }
+        ensures taken { (r : Role) (n width : ℕ) (d : Engine) → LeadsTo r n width d (past_parts self.old (box_roles self.old.head.metadata)) (header_row self.old (box_roles self.old.head.metadata)) self.old → Takes r n width d flat.old result self.new flat.new }
         ensures noted { IfOk result (λ ends. NotesGo S.holds (notes_past self.old self.new ends) self.old spans.old spans.new) }
         ensures placed { IsHeadAt (length (groups_of self.old.collections)) (id_in (groups_of self.old.collections)) self.old.head → OnOk result (IsPlaced self.new.next self.new) }
         ensures kept { Keeps self.old self.new }
@@ -278,6 +281,7 @@ impl Engine {
         requires room { self.old.start + self.old.bytes ≤ 2 ^ 63 }
         requires may { Admits (header_row self.old []) flat.old }
         ensures landed { Lands (past_parts self.old []) (header_row self.old []) self.old flat.old result self.new flat.new }
+        ensures taken { (r : Role) (n width : ℕ) (d : Engine) → LeadsTo r n width d (past_parts self.old []) (header_row self.old []) self.old → Takes r n width d flat.old result self.new flat.new }
         ensures noted { IfOk result (λ ends. NotesGo S.holds (notes_past self.old self.new ends) self.old spans.old spans.new) }
         ensures placed { IsHeadAt (length (groups_of self.old.collections)) (id_in (groups_of self.old.collections)) self.old.head → OnOk result (IsPlaced self.new.next self.new) }
         ensures kept { Keeps self.old self.new }

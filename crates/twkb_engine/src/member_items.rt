@@ -1,6 +1,7 @@
 //! The items before the members of a multi-geometry or a collection: their count and their ids.
-ghost use Rattle.std.specs.Prelude.{◌≡◌, ◌+◌, ◌≤◌, ◌<◌, ◌^◌, nat_lt, suc, length, None, IfOk, OnOk};
+ghost use Rattle.std.specs.Prelude.{◌≡◌, ℕ, ◌+◌, ◌≤◌, ◌<◌, ◌^◌, nat_lt, suc, length, None, IfOk, OnOk};
 ghost use Rattle.twkb_grammar.specs.Roles as role;
+ghost use Rattle.twkb_grammar.specs.Roles.{Role};
 ghost use Rattle.twkb_grammar.specs.Fault as fault;
 ghost use Rattle.twkb_grammar.specs.Fault.{points_of};
 ghost use Rattle.twkb_grammar.specs.PlainReader.{unless, objection};
@@ -29,8 +30,8 @@ impl Engine {
     ghost use Rattle.twkb_engine.specs.State.{IsPlaced, outline_in, sums_of};
     ghost use Rattle.twkb_engine.specs.Collections.{groups_of};
     ghost use Rattle.twkb_engine.specs.Fits.{depth_cap};
-    ghost use Rattle.twkb_engine.specs.Taking.{Takes, SameBlob, Keeps, own_row};
-    ghost use Rattle.twkb_engine.specs.Notes.{NotesGo, notes_with, open_in};
+    ghost use Rattle.twkb_engine.specs.Taking.{Takes, LeadsTo, SameBlob, Keeps, own_row, past_end};
+    ghost use Rattle.twkb_engine.specs.Notes.{NotesGo, notes_with, notes_past, open_in};
     ghost use Rattle.twkb_engine.specs.Standing.{IsAlive};
 
     // Why there may not be so many rows and points more.
@@ -97,7 +98,7 @@ impl Engine {
         self.nodes += count;
         self.points += points;
         if count == 0 {
-            return self.end_empty(flat, spans);
+            return self.end_counted(flat, spans);
         }
         let has_ids = Metadata::from_byte(self.head.metadata).has_ids();
         self.ids.restart(has_ids);
@@ -108,6 +109,19 @@ impl Engine {
         }
         self.begin_members(flat)?;
         Ok(false)
+    }
+
+    // Ends a geometry whose count was taken, and is 0. Its row takes memory.
+    #[inline(always)]
+    fn end_counted<S: SpanNotes>(&mut self, flat: &mut Flat, spans: &mut S) -> Result<bool, Stop>
+        requires next { self.old.next ≡ next.MemberCount }
+        requires row { Admits (own_row self.old) flat.old }
+        ensures taken { (r : Role) (n width : ℕ) (d : Engine) → LeadsTo r n width d (past_end self.old) (own_row self.old) self.old → Takes r n width d flat.old result self.new flat.new }
+        ensures noted { IfOk result (λ ends. NotesGo S.holds (notes_past self.old self.new ends) self.old spans.old spans.new) }
+        ensures placed { OnOk result (IsPlaced self.new.next self.new) }
+        ensures kept { Keeps self.old self.new }
+    {
+        self.end_empty(flat, spans)
     }
 
     // Takes an id. It takes memory.

@@ -1,4 +1,4 @@
-use Rattle.std.proofs.Common.{◌≡◌, suc, ◌+◌, ◌<◌, ◌^◌, ◌∙◌, [], ◌∷◌, ◌++◌, length, true, Ok, Some, refl, sym, ap, subst, arith, rules, SFits, w64, to_z-of_z}
+use Rattle.std.proofs.Common.{◌≡◌, suc, ◌+◌, ◌<◌, ◌≤◌, ◌^◌, ◌∙◌, [], ◌∷◌, ◌++◌, length, true, Ok, Some, refl, sym, ap, subst, arith, rules, SFits, w64, to_z-of_z}
 use Rattle.std.proofs.lemmas.Result.{err_from_is_err_and}
 use Rattle.twkb_front.proofs.Steps.{unzigzag_back}
 use Rattle.twkb_num.specs.Zigzag.{unzigzag_of}
@@ -33,8 +33,8 @@ returns-then-count-self-clause-taken c =
     let pushed = simp to_z-of_z at c.in_ok-push.ensures.pushed in
     let more = ids_read c.push.new.self in
     let one : more ≡ ids_read d.ids ++ unzigzag_of n ∷ [] = pushed ∙ ap (λ z. ids_read d.ids ++ z ∷ []) (sym (unzigzag_back c.unzigzag.result n c.unzigzag.ensures)) in
-    let few = omega (arith, c.count.ensures, c.if-count-self.true) in
-    (refl, id_goes_on d n c.args.width c.requires.next more one few _ c.requires.next refl, sums_same _ _ _ _ _ _ _ _ refl refl (add_zero _) (add_zero _),
+    let few : length more ≤ d.members_left = omega (arith, c.count.ensures, c.if-count-self.true) in
+    (refl, id_goes_on d n c.args.width c.requires.next more one few _ c.requires.next refl refl, sums_same _ _ _ _ _ _ _ _ refl refl (add_zero _) (add_zero _),
     sym (ap (λ x. applied x rs) (id_brings_none d n c.args.width c.requires.next more one few)), record { limits = refl; start = refl })
 
 pub begin_members-requires-clause-row : goal.begin_members-requires-clause-row
@@ -58,7 +58,7 @@ begin_members-requires-clause-room c = alive_room c.args.flat.now c.args.self.no
 
 pub returns-in_err-begin_members-clause-taken : goal.returns-in_err-begin_members-clause-taken
 returns-in_err-begin_members-clause-taken c =
-    let p = err_from_is_err_and c.from_residual.result c.from_residual.ensures.1 in
+    let p = err_from_is_err_and c.from_residual-in_err-begin_members.result c.from_residual-in_err-begin_members.ensures.1 in
     rw (p.1, p.2) (refl, id_passes c.args.self.now c.args.number c.args.width c.requires.next)
 
 pub returns-clause-taken : goal.returns-clause-taken

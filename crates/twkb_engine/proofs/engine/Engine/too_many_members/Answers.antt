@@ -1,4 +1,4 @@
-use Rattle.std.proofs.Common.{◌≡◌, ◌⊎◌, ◌<◌, ◌≤◌, ◌∙◌, [], length, true, inl, inr, absurd, sym, ap, arith, rules}
+use Rattle.std.proofs.Common.{◌≡◌, ◌⊎◌, ◌<◌, ◌≤◌, ◌∙◌, [], length, true, inl, inr, sym, ap, arith, rules}
 use Rattle.twkb_grammar.proofs.Objections.{deep_refused}
 use Rattle.twkb_tree.specs.declared.kind.Kind.TheVariants.{Collection}
 use Rattle.twkb_body.specs.Head.{many_of}
