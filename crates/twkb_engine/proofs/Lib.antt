@@ -2,3 +2,4 @@ pub mod Collections
 pub mod Admitted
 pub mod Parts
 pub mod Members
+pub mod Ahead

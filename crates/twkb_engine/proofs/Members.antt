@@ -118,13 +118,11 @@ module _ (d : Engine) (n width : ℕ) (is : d.next ≡ next.Id) where
       some_left : d.members_left - length (ids_read d.ids) ≡ suc (d.members_left - length more)
       some_left = omega (arith, longer, few)
 
-      pub id_goes_on : (e : Engine) → e.next ≡ next.Id → groups_of e.collections ≡ groups_of d.collections → step_at next.Id e ≡ OnId (many_of d.head.kind) (head_of d.head) (suc d.members_left) more (d.members_left - length more) → way_of n width d ≡ Ok (outline_in e)
-      id_goes_on e at gs same =
+      pub id_goes_on : way_of n width d ≡ Ok (groups_of d.collections, OnId (many_of d.head.kind) (head_of d.head) (suc d.members_left) more (d.members_left - length more))
+      id_goes_on =
           at_id
           ∙ (ap (λ l. outline_ends (d.bytes + width) (outline_advanced (d.bytes + width) n (groups_of d.collections, OnId (many_of d.head.kind) (head_of d.head) (suc d.members_left) (ids_read d.ids) l))) some_left
-          ∙ (ap (λ xs. Ok (groups_of d.collections, OnId (many_of d.head.kind) (head_of d.head) (suc d.members_left) xs (d.members_left - length more))) (sym pushed)
-          ∙ (ap (λ (g : List Group). Ok (g, OnId (many_of d.head.kind) (head_of d.head) (suc d.members_left) more (d.members_left - length more))) (sym gs)
-          ∙ (ap (λ (s : Step). Ok (groups_of e.collections, s)) (sym same) ∙ ap (λ i. Ok (groups_of e.collections, step_at i e)) (sym at)))))
+          ∙ ap (λ (xs : List ℤ). Ok (groups_of d.collections, OnId (many_of d.head.kind) (head_of d.head) (suc d.members_left) xs (d.members_left - length more))) (sym pushed))
 
       pub id_brings_none : brings role.Id n d ≡ Nothing
       id_brings_none =

@@ -8,7 +8,7 @@ ghost use Rattle.twkb_grammar.specs.Machine.{kind_number, kind_at};
 ghost use Rattle.twkb_num.specs.Zigzag.{unzigzag_of};
 ghost use Rattle.twkb_points.specs.Point.{origin as origin_of};
 ghost use Rattle.twkb_grammar.specs.Bits.{bit};
-ghost use Rattle.twkb_grammar.specs.Noting.{note_header, note_metadata};
+ghost use Rattle.twkb_grammar.specs.Noting.{Notes, note_header, note_metadata};
 ghost use Rattle.twkb_outline.specs.Outline.{OnMetadata, begins};
 ghost use Rattle.twkb_outline.specs.Growing.{id_in};
 ghost use Rattle.twkb_outline.specs.Admitting.{Admits};
@@ -66,6 +66,7 @@ impl Engine {
         ensures kind { self.new.head.kind ≡ self.old.head.kind }
         ensures position { self.new.position ≡ self.old.position }
         ensures noted { NotesGo S.holds (note_metadata metadata) self.old spans.old spans.new }
+        ensures told { (w : Notes) → S.holds spans.old w → S.holds spans.new (note_metadata metadata w) }
         ensures same { SameBut self.old self.new }
     {
         spans.set_metadata(metadata.byte());
@@ -323,6 +324,8 @@ impl Engine {
         ensures led { (rs : List Row) → IfOk result (λ used. LeadsOn S.holds rs self.old spans.old (take used rest.now) rs self.new spans.new) }
         ensures memory { (rs : List Row) → OnErr result (StopsIn rs self.old rest.now) }
         ensures same { result ≡ Ok 0 → self.new ≡ self.old }
+        ensures start { self.new.start ≡ self.old.start }
+        ensures kept { Keeps self.old self.new }
     {
         let Some(header) = front_header(rest) else {
             return Ok(0);

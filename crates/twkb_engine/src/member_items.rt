@@ -137,6 +137,7 @@ impl Engine {
     {
         self.bytes += width;
         self.ids.push(unzigzag(number))?;
+        self.next = NextItem::Id;
         if self.ids.count() <= self.members_left {
             return Ok(false);
         }

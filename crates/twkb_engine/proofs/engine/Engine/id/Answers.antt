@@ -34,7 +34,7 @@ returns-then-count-self-clause-taken c =
     let more = ids_read c.push.new.self in
     let one : more ≡ ids_read d.ids ++ unzigzag_of n ∷ [] = pushed ∙ ap (λ z. ids_read d.ids ++ z ∷ []) (sym (unzigzag_back c.unzigzag.result n c.unzigzag.ensures)) in
     let few : length more ≤ d.members_left = omega (arith, c.count.ensures, c.if-count-self.true) in
-    (refl, id_goes_on d n c.args.width c.requires.next more one few _ c.requires.next refl refl, sums_same _ _ _ _ _ _ _ _ refl refl (add_zero _) (add_zero _),
+    (refl, id_goes_on d n c.args.width c.requires.next more one few, sums_same _ _ _ _ _ _ _ _ refl refl (add_zero _) (add_zero _),
     sym (ap (λ x. applied x rs) (id_brings_none d n c.args.width c.requires.next more one few)), record { limits = refl; start = refl })
 
 pub begin_members-requires-clause-row : goal.begin_members-requires-clause-row
