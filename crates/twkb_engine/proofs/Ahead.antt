@@ -161,8 +161,10 @@ module _ (d : Engine) (rs : List Row) (rest : List ℕ) (h : FrontHeader) (is : 
             sums_same _ _ _ _ _ _ _ _ (let u = found.used in omega (arith, u)) refl (sym (add_zero d.nodes)) refl in
         let from_is : (at.bytes + 1) + h.parts.from ≡ d.bytes + h.from = (let f = found.from in omega (arith, f)) in
         let o : ℕ → ℕ → Outline = λ x from. (gs, begins kind_here (sized_head precision_here x h.parts.size from)) in
-        let a = subst (λ l. NotedOutline d.limits l _ _ rs _) bytes read in
-        let b = subst (λ e. NotedOutline d.limits (front ++ take h.used rest) e _ rs _) sums a in
+        let told : ℕ → ℕ → Notes = λ x start. note_metadata x (note_header (start + d.bytes) d.points h.type_byte (notes_in start s.outlined)) in
+        let read_sums : Sums = record { bytes = at.bytes + (1 + h.parts.used); position = at.position; nodes = at.nodes; points = d.points + points } in
+        let a = subst (λ l. NotedOutline d.limits l read_sums (o meta ((at.bytes + 1) + h.parts.from)) rs (told meta)) bytes read in
+        let b = subst (λ e. NotedOutline d.limits (front ++ take h.used rest) e (o meta ((at.bytes + 1) + h.parts.from)) rs (told meta)) sums a in
         let c = subst (λ x. NotedOutline d.limits (front ++ take h.used rest) (record { bytes = d.bytes + h.used; position = origin; nodes = d.nodes; points = d.points + points }) (o meta x) rs (λ start. note_metadata meta (note_header (start + d.bytes) d.points h.type_byte (notes_in start s.outlined)))) from_is b in
         subst (λ x. NotedOutline d.limits (front ++ take h.used rest) (record { bytes = d.bytes + h.used; position = origin; nodes = d.nodes; points = d.points + points }) (o x (d.bytes + h.from)) rs (λ start. note_metadata x (note_header (start + d.bytes) d.points h.type_byte (notes_in start s.outlined)))) (sym same) c
 

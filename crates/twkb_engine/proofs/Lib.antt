@@ -1,5 +1,5 @@
 pub mod Collections
-pub mod Admitted
+pub mod Alive
 pub mod Parts
 pub mod Members
 pub mod Ahead
