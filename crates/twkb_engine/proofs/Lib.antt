@@ -1,1 +1,3 @@
 pub mod Collections
+pub mod Lists
+pub mod Ends

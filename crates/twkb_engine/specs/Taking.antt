@@ -1,6 +1,6 @@
 -- What an engine makes of the next item.
 use Rattle.std.specs.Prelude.{◌≡◌, ◌+◌, ◌⊎◌, ℕ, List, [], ◌++◌, ◌∷◌, Bool, true, false, Some, None, Result, Ok, Err, ⊤}
-use Rattle.twkb_points.specs.Point.{Point}
+use Rattle.twkb_points.specs.Point.{Point, origin}
 use Rattle.twkb_tree.specs.Rows.{Row, first_id}
 use Rattle.twkb_grammar.specs.Roles.{Role}
 use Rattle.twkb_grammar.specs.Fault.{Reason, moved, nodes_by, points_by}
@@ -46,12 +46,18 @@ pub record BeginsAt (offset : ℕ) (d : Engine) : Type 0 where
   pub bytes : d.bytes ≡ 0
   pub nodes : d.nodes ≡ 1
   pub points : d.points ≡ 0
+  pub position : d.position ≡ origin
   pub collections : groups_of d.collections ≡ []
 
 -- it stays in its blob, with the limits that it had
 pub record SameBlob (d e : Engine) : Type 0 where
   pub limits : e.limits ≡ d.limits
   pub start : e.start ≡ d.start
+
+-- it keeps its limits, and the bytes that it holds of a number
+pub record Keeps (d e : Engine) : Type 0 where
+  pub limits : e.limits ≡ d.limits
+  pub held : e.held ≡ d.held
 
 -- all that it keeps besides its header, its position and its ids is the same
 pub record SameBut (d e : Engine) : Type 0 where

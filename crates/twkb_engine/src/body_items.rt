@@ -21,8 +21,8 @@ use twkb_points::Pt;
 
 impl Engine {
     ghost use Rattle.twkb_engine.specs.State.{IsPlaced, outline_in, sums_of};
-    ghost use Rattle.twkb_engine.specs.Fits.{lists_of, left_fit, is_bodied};
-    ghost use Rattle.twkb_engine.specs.Taking.{Takes, Lands, SameBlob, past_end, past_value, point_row};
+    ghost use Rattle.twkb_engine.specs.Fits.{lists_of, left_fit, is_bodied, IsInside};
+    ghost use Rattle.twkb_engine.specs.Taking.{Takes, Lands, SameBlob, Keeps, past_end, past_value, point_row};
     ghost use Rattle.twkb_engine.specs.Notes.{NotesGo, notes_with, notes_past, open_in};
     ghost use Rattle.twkb_engine.specs.Standing.{IsAlive};
 
@@ -34,6 +34,7 @@ impl Engine {
         ensures taken { (rs : List TableRow) → Takes role.X number width self.old rs result self.new rs }
         ensures begun { OnOk result (open_in self.new ≡ open_in self.old) }
         ensures placed { IsPlaced self.old.next self.old → OnOk result (IsPlaced self.new.next self.new) }
+        ensures kept { Keeps self.old self.new }
     {
         let Some(position) = moved_x(self.position, unzigzag(number)) else {
             return Err(Stop::Refused(BlobReason::CoordinateRange));
@@ -59,6 +60,7 @@ impl Engine {
         ensures taken { Takes role.Y number width self.old flat.old result self.new flat.new }
         ensures noted { IfOk result (λ ends. NotesGo S.holds (notes_with role.Y number width self.old self.new ends) self.old spans.old spans.new) }
         ensures placed { IsPlaced self.old.next self.old → OnOk result (IsPlaced self.new.next self.new) }
+        ensures kept { Keeps self.old self.new }
     {
         let Some(position) = moved_y(self.position, unzigzag(number)) else {
             return Err(Stop::Refused(BlobReason::CoordinateRange));
@@ -85,10 +87,14 @@ impl Engine {
     ) -> Result<bool, Stop>
         requires room { self.old.start + self.old.bytes ≤ 2 ^ 63 }
         requires last { self.old.points_left ≡ 0 }
+        requires fits { left_fit self.old.head.kind 0 self.old.rings_left self.old.members_left ≡ true }
+        requires bodied { is_bodied self.old.head.kind ≡ true }
+        requires inside { IsInside self.old.next }
         requires may { Admits (point_row position self.old) flat.old }
         ensures shut { Lands (past_value self.old 0 (lists_of self.old.head.kind 0 self.old.rings_left self.old.members_left)) (point_row position self.old) self.old flat.old result self.new flat.new }
         ensures noted { IfOk result (λ ends. NotesGo S.holds (notes_past self.old self.new ends) self.old spans.old spans.new) }
         ensures placed { IsPlaced self.old.next self.old → OnOk result (IsPlaced self.new.next self.new) }
+        ensures kept { Keeps self.old self.new }
     {
         let member = self.ids.first();
         let ends = if self.ends_with_list() {
@@ -116,6 +122,7 @@ impl Engine {
         ensures taken { Takes (role.Count (listed 0)) count width self.old flat.old result self.new flat.new }
         ensures noted { IfOk result (λ ends. NotesGo S.holds (notes_with (role.Count (listed 0)) count width self.old self.new ends) self.old spans.old spans.new) }
         ensures placed { IsPlaced self.old.next self.old → OnOk result (IsPlaced self.new.next self.new) }
+        ensures kept { Keeps self.old self.new }
     {
         if let Some(reason) = self.too_many(0, count) {
             return Err(Stop::Refused(reason));
@@ -147,6 +154,7 @@ impl Engine {
         ensures taken { Takes (role.Count (listed 1)) count width self.old flat.old result self.new flat.new }
         ensures noted { IfOk result (λ ends. NotesGo S.holds (notes_with (role.Count (listed 1)) count width self.old self.new ends) self.old spans.old spans.new) }
         ensures placed { IsPlaced self.old.next self.old → OnOk result (IsPlaced self.new.next self.new) }
+        ensures kept { Keeps self.old self.new }
     {
         if let Some(reason) = self.too_many(count, 0) {
             return Err(Stop::Refused(reason));
@@ -171,10 +179,14 @@ impl Engine {
         row: Row,
     ) -> Result<bool, Stop>
         requires empty { self.old.points_left ≡ 0 }
+        requires fits { left_fit self.old.head.kind 0 self.old.rings_left self.old.members_left ≡ true }
+        requires bodied { is_bodied self.old.head.kind ≡ true }
+        requires inside { IsInside self.old.next }
         requires room { self.old.start + self.old.bytes ≤ 2 ^ 63 }
         requires may { Admits (NewRow (row_with row [])) flat.old }
         ensures shut { Lands (past_value self.old 0 (lists_of self.old.head.kind 0 self.old.rings_left self.old.members_left)) (NewRow (row_with row [])) self.old flat.old result self.new flat.new }
         ensures noted { IfOk result (λ ends. NotesGo S.holds (notes_past self.old self.new ends) self.old spans.old spans.new) }
+        ensures kept { Keeps self.old self.new }
     {
         if self.ends_with_list() {
             let whole = self.end_geometry(spans)?;
@@ -205,6 +217,8 @@ impl Engine {
         ensures sums { sums_of self.new ≡ sums_of self.old }
         ensures same { SameBlob self.old self.new }
         ensures head { self.new.head ≡ self.old.head }
+        ensures inside { IsInside self.new.next }
+        ensures kept { Keeps self.old self.new }
     {
         if self.rings_left > 0 {
             self.rings_left -= 1;

@@ -1,6 +1,6 @@
 //! The item that comes next.
 ghost use Rattle.std.specs.Prelude.{◌≡◌, ◌↔◌, true, IsTrue};
-ghost use Rattle.twkb_engine.specs.Fits.{IsByte};
+ghost use Rattle.twkb_engine.specs.Fits.{IsByte, first_item};
 
 use twkb_tree::Kind;
 
@@ -45,7 +45,9 @@ impl NextItem {
 
     // The first item of a body of this kind, or of a member of a multi-geometry of this kind; of a collection's member, its type byte.
     #[inline(always)]
-    pub(crate) fn first_of(kind: Kind) -> NextItem {
+    pub(crate) fn first_of(kind: Kind) -> NextItem
+        ensures { result ≡ first_item kind }
+    {
         match kind {
             Kind::Point | Kind::MultiPoint => NextItem::X,
             Kind::Linestring | Kind::MultiLinestring | Kind::Ring => NextItem::PointCount,
