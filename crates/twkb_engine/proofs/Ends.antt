@@ -1,11 +1,23 @@
 -- The ends of geometries, and what they note.
-use Rattle.std.proofs.Common.{◌≡◌, ◌+◌, ◌-◌, ◌≤◌, ℕ, suc, List, [], length, refl, sym, subst, ◌∙◌, arith}
+use Rattle.std.proofs.Common.{◌≡◌, ◌+◌, ◌-◌, ◌≤◌, ℕ, zero, suc, List, [], ◌∷◌, ◌++◌, length, refl, sym, ap, subst, ◌∙◌, arith, Bool, true, false, Result, Ok, Err, IfOk}
+use Rattle.std.specs.Result.{IsErrAnd}
+use Rattle.std.proofs.lemmas.Result.{err_from_is_err_and}
+use Rattle.twkb_tree.specs.Rows.{Row}
+use Rattle.twkb_grammar.specs.Fault.{Reason}
+use Rattle.twkb_grammar.specs.PlainReader.{is_exact}
 use Rattle.twkb_grammar.specs.Noting.{Notes, note_end, note_ends}
-use Rattle.twkb_outline.specs.Outline.{Group}
+use Rattle.twkb_outline.specs.Outline.{Group, Outline, OnFinished, outline_past_end}
+use Rattle.twkb_outline.specs.Growing.{Change, Nothing, NewRow, applied, own_of}
+use Rattle.twkb_outline.specs.Parts.{IsPastEnds, Passes}
+use Rattle.twkb_body.specs.Head.{kind_of}
+use Rattle.twkb_body.specs.declared.head.Head.{Head}
 use Rattle.twkb_outline.specs.Reading.{open_count}
 use Rattle.twkb_engine.specs.Collections.{groups_of}
 use Rattle.twkb_engine.specs.State.{step_at}
 use Rattle.twkb_engine.specs.Fits.{IsInside}
+use Rattle.twkb_engine.specs.Taking.{Lands, own_row}
+use Rattle.twkb_engine.specs.declared.stop.Stop.{Stop}
+use Rattle.twkb_engine.specs.declared.stop.Stop.TheVariants.{Memory, Refused}
 use Rattle.twkb_engine.specs.Notes.{AreOpen, open_in}
 use Rattle.twkb_engine.specs.declared.next_item.NextItem.{NextItem}
 use Rattle.twkb_engine.specs.declared.next_item.NextItem.TheVariants as next
@@ -39,3 +51,51 @@ pub end_noted : {S : Type 0} (holds : S → Notes → Type 0) (new : S) (w : Not
 end_noted holds new w k many offset points o p eo ep em held =
     subst (λ (m : ℕ). holds new (note_ends m offset points w)) (sym em)
     (subst (λ (q : ℕ). holds new (note_end q points (note_ends k offset points w))) eo (subst (λ (q : ℕ). holds new (note_end o q (note_ends k offset points w))) ep held))
+
+-- ---- what comes with an end
+
+-- past the ends an item comes next, or none
+pub past_ends : (exact : Bool) (bytes : ℕ) (gs : List Group) → IfOk (outline_past_end exact bytes gs) (λ o. IsPastEnds o.1)
+past_ends false bytes gs = tt
+past_ends true bytes [] = tt
+past_ends true bytes (g ∷ gs) = elim g.left as (λ (n : ℕ). IfOk (outline_past_end true bytes (record { head = g.head; ids = g.ids; left = n } ∷ gs)) (λ o. IsPastEnds o.1)) [
+  | zero ↦ past_ends (is_exact g.head.size (bytes - g.head.from)) bytes gs
+  | suc n ↦ tt
+]
+
+-- a way that leads past them
+ok_passes : (way : Result Outline Reason) (o : Outline) → IfOk way (λ o. IsPastEnds o.1) → way ≡ Ok o → Passes way
+ok_passes (Ok p) o past is = past
+ok_passes (Err why) o past is = absurd cc
+
+module _ (way : Result Outline Reason) (d e : Engine) (rs : List Row) where
+  -- the ends are passed
+  pub lands_passed : (ends : Bool) → IfOk way (λ o. IsPastEnds o.1) → Lands way Nothing d rs (Ok ends) e rs → Passes way
+  lands_passed false past l = ok_passes way _ past l.0
+  lands_passed true past l = ok_passes way _ past l.0
+
+  -- then the rows change
+  pub lands_brought : (change : Change) (more : List Row) (ends : Bool) → Lands way Nothing d rs (Ok ends) e rs → more ≡ applied change rs → Lands way change d rs (Ok ends) e more
+  lands_brought change more false l brought = (l.0, l.1, brought, l.3)
+  lands_brought change more true l brought = (l.0, brought, l.2)
+
+  stop_brought : (change : Change) (more : List Row) (stop : Stop) → Lands way Nothing d rs (Err stop) e rs → Lands way change d rs (Err stop) e more
+  stop_brought change more Memory l = l
+  stop_brought change more (Refused why) l = l
+
+  -- a size is wrong
+  pub lands_stopped : (change : Change) (more : List Row) (r : Result Bool Stop) (stop : Stop) {Q : Stop → Type 0} → IsErrAnd r Q → ((y : Stop) → Q y → y ≡ stop) → Lands way Nothing d rs (Err stop) e rs → Lands way change d rs r e more
+  lands_stopped change more r stop is same l =
+      let p = err_from_is_err_and r is in
+      subst (λ (q : Result Bool Stop). Lands way change d rs q e more) (sym (p.1 ∙ ap (λ (s : Stop). let q : Result Bool Stop = Err s in q) (same p.0 p.2))) (stop_brought change more stop l)
+
+  -- there is no memory for the change
+  pub lands_unkept : (change : Change) (more : List Row) (r : Result Bool Stop) {Q : Stop → Type 0} → IsErrAnd r Q → ((y : Stop) → Q y → y ≡ Memory) → Passes way → Lands way change d rs r e more
+  lands_unkept change more r is same past =
+      let p = err_from_is_err_and r is in
+      let none : Lands way change d rs (Err Memory) e more = past in
+      subst (λ (q : Result Bool Stop). Lands way change d rs q e more) (sym (p.1 ∙ ap (λ (s : Stop). let q : Result Bool Stop = Err s in q) (same p.0 p.2))) none
+
+-- the own row is pushed
+pub own_pushed : (d : Engine) (h : Head) (row : Row) (rs more : List Row) → h ≡ d.head → row ≡ own_of h.depth h.id (kind_of h.kind) h.precision → more ≡ rs ++ row ∷ [] → more ≡ applied (own_row d) rs
+own_pushed d h row rs more eh er pushed = pushed ∙ ap (λ (r : Row). rs ++ r ∷ []) (er ∙ ap (λ (k : Head). own_of k.depth k.id (kind_of k.kind) k.precision) eh)

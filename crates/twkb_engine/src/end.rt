@@ -1,5 +1,5 @@
 //! The end of a geometry.
-ghost use Rattle.std.specs.Prelude.{◌≡◌, ◌-◌, true, IfOk, List};
+ghost use Rattle.std.specs.Prelude.{◌≡◌, ◌-◌, true, IfOk, OnOk, List};
 ghost use Rattle.twkb_grammar.specs.PlainReader.{is_exact as exact};
 ghost use Rattle.twkb_outline.specs.Growing.{Nothing};
 ghost use Rattle.twkb_outline.specs.Admitting.{Admits};
@@ -26,6 +26,7 @@ fn is_exact(head: &Head, bytes: u64) -> bool
 }
 
 impl Engine {
+    ghost use Rattle.twkb_engine.specs.State.{IsPlaced};
     ghost use Rattle.twkb_engine.specs.Fits.{are_shut, IsInside};
     ghost use Rattle.twkb_engine.specs.Taking.{Lands, Keeps, past_end, own_row};
     ghost use Rattle.twkb_engine.specs.Notes.{NotesGo, notes_past};
@@ -38,6 +39,7 @@ impl Engine {
         ensures ended { (rs : List Row) → Lands (past_end self.old) Nothing self.old rs result self.new rs }
         ensures noted { IfOk result (λ ends. NotesGo S.holds (notes_past self.old self.new ends) self.old spans.old spans.new) }
         ensures head { self.new.head ≡ self.old.head }
+        ensures placed { OnOk result (IsPlaced self.new.next self.new) }
         ensures kept { Keeps self.old self.new }
     {
         let mut head = self.head;
@@ -71,6 +73,7 @@ impl Engine {
         requires row { Admits (own_row self.old) flat.old }
         ensures ended { Lands (past_end self.old) (own_row self.old) self.old flat.old result self.new flat.new }
         ensures noted { IfOk result (λ ends. NotesGo S.holds (notes_past self.old self.new ends) self.old spans.old spans.new) }
+        ensures placed { OnOk result (IsPlaced self.new.next self.new) }
         ensures kept { Keeps self.old self.new }
     {
         let ends = self.end_geometry(spans)?;
