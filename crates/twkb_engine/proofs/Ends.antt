@@ -2,23 +2,26 @@
 use Rattle.std.proofs.Common.{◌≡◌, ◌+◌, ◌-◌, ◌≤◌, ℕ, zero, suc, List, [], ◌∷◌, ◌++◌, length, refl, sym, ap, subst, ◌∙◌, arith, Bool, true, false, Result, Ok, Err, IfOk}
 use Rattle.std.specs.Result.{IsErrAnd}
 use Rattle.std.proofs.lemmas.Result.{err_from_is_err_and}
+use Rattle.twkb_tree.specs.Tree.{Ids}
 use Rattle.twkb_tree.specs.Rows.{Row}
+use Rattle.twkb_grammar.specs.Machine as machine
+use Rattle.twkb_grammar.specs.Machine.{Form}
 use Rattle.twkb_grammar.specs.Fault.{Reason}
 use Rattle.twkb_grammar.specs.PlainReader.{is_exact}
 use Rattle.twkb_grammar.specs.Noting.{Notes, note_end, note_ends}
-use Rattle.twkb_outline.specs.Outline.{Group, Outline, OnFinished, outline_past_end}
+use Rattle.twkb_outline.specs.Outline.{Group, Outline, OnFinished, outline_past_end, outline_ends, shut}
 use Rattle.twkb_outline.specs.Growing.{Change, Nothing, NewRow, applied, own_of}
 use Rattle.twkb_outline.specs.Parts.{IsPastEnds, Passes}
-use Rattle.twkb_body.specs.Head.{kind_of}
+use Rattle.twkb_body.specs.Head.{kind_of, head_of, form_of}
 use Rattle.twkb_body.specs.declared.head.Head.{Head}
 use Rattle.twkb_outline.specs.Reading.{open_count}
 use Rattle.twkb_engine.specs.Collections.{groups_of}
-use Rattle.twkb_engine.specs.State.{step_at}
+use Rattle.twkb_engine.specs.State.{step_at, ids_in}
 use Rattle.twkb_engine.specs.Fits.{IsInside}
-use Rattle.twkb_engine.specs.Taking.{Lands, own_row}
+use Rattle.twkb_engine.specs.Taking.{Lands, own_row, past_value}
 use Rattle.twkb_engine.specs.declared.stop.Stop.{Stop}
 use Rattle.twkb_engine.specs.declared.stop.Stop.TheVariants.{Memory, Refused}
-use Rattle.twkb_engine.specs.Notes.{AreOpen, open_in}
+use Rattle.twkb_engine.specs.Notes.{AreOpen, open_in, notes_past}
 use Rattle.twkb_engine.specs.declared.next_item.NextItem.{NextItem}
 use Rattle.twkb_engine.specs.declared.next_item.NextItem.TheVariants as next
 use Rattle.twkb_engine.specs.declared.engine.Engine.{Engine}
@@ -99,3 +102,19 @@ module _ (way : Result Outline Reason) (d e : Engine) (rs : List Row) where
 -- the own row is pushed
 pub own_pushed : (d : Engine) (h : Head) (row : Row) (rs more : List Row) → h ≡ d.head → row ≡ own_of h.depth h.id (kind_of h.kind) h.precision → more ≡ rs ++ row ∷ [] → more ≡ applied (own_row d) rs
 own_pushed d h row rs more eh er pushed = pushed ∙ ap (λ (r : Row). rs ++ r ∷ []) (er ∙ ap (λ (k : Head). own_of k.depth k.id (kind_of k.kind) k.precision) eh)
+
+-- past a value that is done, too
+pub past_shut : (h : machine.Head) (f : Form) (ids : Ids) (n bytes : ℕ) (gs : List Group) (lists : List ℕ) → IfOk (outline_ends bytes (gs, shut h f ids n lists)) (λ o. IsPastEnds o.1)
+past_shut h f ids n bytes gs [] = past_ends (is_exact h.size (bytes - h.from)) bytes gs
+past_shut h f ids n bytes gs (zero ∷ lists) = past_shut h f ids (suc n) bytes gs lists
+past_shut h f ids n bytes gs (suc left ∷ lists) = tt
+
+-- past the lists of an engine
+pub past_lists : (d : Engine) (lists : List ℕ) → IfOk (past_value d 0 lists) (λ o. IsPastEnds o.1)
+past_lists d lists = past_shut (head_of d.head) (form_of d.head.kind) (ids_in d) 0 d.bytes (groups_of d.collections) lists
+
+-- nothing ends
+pub none_ended : {S : Type 0} (holds : S → Notes → Type 0) (s : S) (d e : Engine) (w : Notes) → IsInside d.next → IsInside e.next → e.collections ≡ d.collections → AreOpen d w → holds s w → holds s (notes_past d e false w)
+none_ended holds s d e w inside still same are held =
+    let none : length w.begun - open_in e ≡ 0 = omega (arith, are, many_open d inside, many_open e still, ap (λ (gs : List OpenCollection). length gs) same) in
+    subst (λ (n : ℕ). holds s (note_ends n (d.start + d.bytes) d.points w)) (sym none) held

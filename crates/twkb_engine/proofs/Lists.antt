@@ -1,18 +1,21 @@
 -- The ends of lists in a body.
-use Rattle.std.proofs.Common.{◌≡◌, ◌≢◌, ◌+◌, ◌-◌, ◌≤◌, ◌<◌, ℕ, zero, suc, List, [], ◌∷◌, refl, sym, ap, ◌∙◌, arith, true, false, Bool, nat_eq, ◌||◌, ◌&&◌, if◌then◌else◌, Result, Ok, None}
+use Rattle.std.proofs.Common.{◌≡◌, ◌≢◌, ◌+◌, ◌-◌, ◌≤◌, ◌<◌, ℕ, zero, suc, List, [], ◌∷◌, length, refl, sym, ap, subst, ◌∙◌, arith, true, false, Bool, nat_eq, ◌||◌, ◌&&◌, if◌then◌else◌, Result, Ok, None}
+use Rattle.std.specs.Prelude.{ℤ, Option}
+use Rattle.twkb_points.specs.Point.{Point}
 use Rattle.twkb_tree.specs.Tree.{Ids}
-use Rattle.twkb_tree.specs.Rows.{other_ids}
+use Rattle.twkb_tree.specs.Rows.{first_id, other_ids}
 use Rattle.twkb_tree.specs.declared.kind.Kind.{Kind}
 use Rattle.twkb_tree.specs.declared.kind.Kind.TheVariants as kinds
 use Rattle.twkb_grammar.specs.Machine as machine
 use Rattle.twkb_grammar.specs.Fault.{Reason}
 use Rattle.twkb_outline.specs.Outline.{Outline, Group, shut, outline_ends}
-use Rattle.twkb_body.specs.Head.{head_of, form_of}
+use Rattle.twkb_outline.specs.Growing.{id_in, point_change}
+use Rattle.twkb_body.specs.Head.{head_of, form_of, IsHeadAt}
 use Rattle.twkb_body.specs.Ids.{ids_of}
 use Rattle.twkb_engine.specs.Collections.{groups_of}
-use Rattle.twkb_engine.specs.State.{step_at, outline_in}
+use Rattle.twkb_engine.specs.State.{step_at, outline_in, IsPlaced}
 use Rattle.twkb_engine.specs.Fits.{lists_of, left_fit, has_members, has_lines, has_areas, is_bodied, first_item, item_fits, lists_fit, IsInside}
-use Rattle.twkb_engine.specs.Taking.{past_value}
+use Rattle.twkb_engine.specs.Taking.{past_value, point_row}
 use Rattle.twkb_engine.specs.declared.next_item.NextItem.{NextItem}
 use Rattle.twkb_engine.specs.declared.open_collections.OpenCollection.{OpenCollection}
 use Rattle.twkb_body.specs.declared.head.Head.{Head}
@@ -62,3 +65,36 @@ pub next_inside : (k : Kind) (n : NextItem) → n ≡ first_item k → is_bodied
 next_inside kinds.Ring n en body = absurd cc
 next_inside kinds.Collection n en body = absurd cc
 next_inside k n en body = rw en tt
+
+-- the header stands where it did
+placed_by : (k : Kind) (n : NextItem) (e : Engine) → n ≡ first_item k → is_bodied k ≡ true → IsHeadAt (length (groups_of e.collections)) (id_in (groups_of e.collections)) e.head → IsPlaced n e
+placed_by kinds.Ring n e en body at = absurd cc
+placed_by kinds.Collection n e en body at = absurd cc
+placed_by k n e en body at = subst (λ (m : NextItem). IsPlaced m e) (sym en) at
+
+pub next_placed : (d e : Engine) → e.next ≡ first_item d.head.kind → is_bodied d.head.kind ≡ true → e.head ≡ d.head → e.collections ≡ d.collections
+    → IsHeadAt (length (groups_of d.collections)) (id_in (groups_of d.collections)) d.head → IsPlaced e.next e
+next_placed d e en body eh eg at =
+    placed_by d.head.kind e.next e en body
+    (subst (λ (gs : List OpenCollection). IsHeadAt (length (groups_of gs)) (id_in (groups_of gs)) e.head) (sym eg)
+      (subst (λ (h : Head). IsHeadAt (length (groups_of d.collections)) (id_in (groups_of d.collections)) h) (sym eh) at))
+
+-- ---- what a point brings
+
+-- the id of the open member is that of the kind's members, if it has any
+member_there : (k : Kind) (ids : Ids) (p : Point) (depth : ℕ) (id : Option ℤ) (precision : ℤ)
+    → point_change p depth id precision (form_of k) (first_id ids) ≡ point_change p depth id precision (form_of k) (first_id (if has_members k then ids else None))
+member_there kinds.Point ids p depth id precision = refl
+member_there kinds.Linestring ids p depth id precision = refl
+member_there kinds.Polygon ids p depth id precision = refl
+member_there kinds.Ring ids p depth id precision = refl
+member_there kinds.MultiPoint ids p depth id precision = refl
+member_there kinds.MultiLinestring ids p depth id precision = refl
+member_there kinds.MultiPolygon ids p depth id precision = refl
+member_there kinds.Collection ids p depth id precision = refl
+
+-- the change is that of the engine
+pub point_there : (d : Engine) (h : Head) (member : Option ℤ) (p : Point) → h ≡ d.head → member ≡ first_id (ids_of d.ids) → point_change p h.depth h.id h.precision (form_of h.kind) member ≡ point_row p d
+point_there d h member p eh em =
+    ap (λ (k : Head). point_change p k.depth k.id k.precision (form_of k.kind) member) eh
+    ∙ (ap (λ (m : Option ℤ). point_change p d.head.depth d.head.id d.head.precision (form_of d.head.kind) m) em ∙ member_there d.head.kind (ids_of d.ids) p d.head.depth d.head.id d.head.precision)

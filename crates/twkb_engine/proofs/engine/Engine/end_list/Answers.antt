@@ -1,6 +1,6 @@
 use Rattle.std.proofs.Common.{◌≡◌, ◌<◌, arith, refl, true}
 use Rattle.twkb_engine.specs.Fits.{has_members}
-use Rattle.twkb_engine.proofs.Lists.{has_some, next_member, next_fits, next_lists_fit, next_inside}
+use Rattle.twkb_engine.proofs.Lists.{has_some, next_member, next_fits, next_lists_fit, next_inside, next_placed}
 use Rattle.twkb_engine.proofs.engine.Engine.end_list.Goals as goal
 
 pub invariant_of-self-2-clause-item_fits : goal.invariant_of-self-2-clause-item_fits
@@ -21,3 +21,6 @@ returns-clause-step c =
 
 pub returns-clause-inside : goal.returns-clause-inside
 returns-clause-inside c = next_inside c.args.self.now.head.kind c.first_of-self.result c.first_of-self.ensures c.requires.bodied
+
+pub returns-clause-placed : goal.returns-clause-placed
+returns-clause-placed c = next_placed c.args.self.now _ c.first_of-self.ensures c.requires.bodied refl refl
