@@ -1,3 +1,5 @@
+pub mod Admitted
+pub mod BodyItems
 pub mod Collections
-pub mod Lists
 pub mod Ends
+pub mod Lists
