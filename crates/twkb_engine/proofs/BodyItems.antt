@@ -1,18 +1,21 @@
 -- The items of a body: what a number leads to, and what it brings.
 use Rattle.std.proofs.Common.{◌≡◌, ℕ, zero, suc, ◌+◌, ◌-◌, ◌<◌, ◌^◌, List, [], ◌∷◌, ◌++◌, length, refl, sym, ap, ◌∙◌, subst, arith, inr, Bool, true, false, ◌||◌, ◌&&◌, nat_eq, if◌then◌else◌, Result, Ok, Err, Some, None}
-use Rattle.std.specs.Prelude.{ℤ, Option}
+use Rattle.std.specs.Prelude.{ℤ, ◌+ℤ◌, Option, not}
 use Rattle.std.specs.Result.{IsErrAnd}
 use Rattle.std.proofs.lemmas.Result.{err_from_is_err_and}
 use Rattle.twkb_num.specs.Varint.{varint_of}
 use Rattle.twkb_num.proofs.VarintLemmas.{IsVarint-varint_of}
-use Rattle.twkb_points.specs.Point.{Point}
+use Rattle.twkb_points.specs.Point.{Point, point_at}
 use Rattle.twkb_tree.specs.Tree.{Ids}
 use Rattle.twkb_tree.specs.Rows.{Row, first_id}
 use Rattle.twkb_tree.specs.declared.kind.Kind.{Kind}
 use Rattle.twkb_tree.specs.declared.kind.Kind.TheVariants as kinds
 use Rattle.twkb_grammar.specs.Roles as role
 use Rattle.twkb_grammar.specs.Roles.{Role}
-use Rattle.twkb_grammar.specs.Fault.{Reason, moved}
+use Rattle.twkb_grammar.specs.Fault.{Reason, CoordinateRange, moved}
+use Rattle.twkb_grammar.specs.PlainReader.{in_range, unless}
+use Rattle.twkb_num.specs.Zigzag.{zigzag_of, unzigzag_of}
+use Rattle.twkb_num.proofs.ZigzagLemmas.{unzigzag_of-zigzag_of}
 use Rattle.twkb_grammar.specs.Machine as machine
 use Rattle.twkb_grammar.specs.Machine.{Sums}
 use Rattle.twkb_grammar.proofs.RoleBytes.{number_gives}
@@ -67,6 +70,18 @@ add_zero : (a : ℕ) → a ≡ a + 0
 add_zero a = omega arith
 
 -- ---- a y
+
+-- its step
+pub unzigzagged : (step : ℤ) (n : ℕ) → zigzag_of step ≡ n → step ≡ unzigzag_of n
+unzigzagged step n is = sym (unzigzag_of-zigzag_of step) ∙ ap unzigzag_of is
+
+-- it is in range
+pub y_free : (d : Engine) (n : ℕ) (step : ℤ) → step ≡ unzigzag_of n → in_range (d.position.y +ℤ step) ≡ true → IsFree role.Y n d
+y_free d n step is kept = ap (λ (b : Bool). unless (not b) CoordinateRange None) (ap (λ (z : ℤ). in_range (d.position.y +ℤ z)) (sym is) ∙ kept)
+
+-- and leads there
+pub y_there : (d : Engine) (n : ℕ) (step : ℤ) (p : Point) → step ≡ unzigzag_of n → p ≡ point_at d.position.x (d.position.y +ℤ step) → p ≡ moved d.position role.Y n
+y_there d n step p is to = to ∙ ap (λ (z : ℤ). point_at d.position.x (d.position.y +ℤ z)) is
 
 pub y_sums : (e : Sums) (n width : ℕ) (p : Point) → p ≡ moved e.position role.Y n → (let s : Sums = record { bytes = e.bytes + width; position = p; nodes = e.nodes; points = e.points } in s) ≡ sums_with e role.Y n width
 y_sums e n width p there = λ i. record { bytes = e.bytes + width; position = there i; nodes = add_zero e.nodes i; points = add_zero e.points i }
