@@ -1,5 +1,9 @@
+pub mod Admitted
+pub mod BodyItems
 pub mod Collections
 pub mod Alive
 pub mod Parts
 pub mod Members
 pub mod Ahead
+pub mod Ends
+pub mod Lists

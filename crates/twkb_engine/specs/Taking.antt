@@ -44,9 +44,9 @@ pub record BeginsAt (offset : ℕ) (d : Engine) : Type 0 where
   pub start : d.start ≡ offset
   pub next : d.next ≡ next.TypeByte
   pub bytes : d.bytes ≡ 0
-  pub position : d.position ≡ origin
   pub nodes : d.nodes ≡ 1
   pub points : d.points ≡ 0
+  pub position : d.position ≡ origin
   pub collections : groups_of d.collections ≡ []
 
 -- it stays in its blob, with the limits that it had
@@ -54,7 +54,7 @@ pub record SameBlob (d e : Engine) : Type 0 where
   pub limits : e.limits ≡ d.limits
   pub start : e.start ≡ d.start
 
--- its limits stay, and what it holds of a number
+-- it keeps its limits, and the bytes that it holds of a number
 pub record Keeps (d e : Engine) : Type 0 where
   pub limits : e.limits ≡ d.limits
   pub held : e.held ≡ d.held

@@ -52,7 +52,7 @@ pub struct Engine {
 impl Engine {
     ghost use Rattle.twkb_engine.specs.State.{IsPlaced, IsNext, allowance_of};
     ghost use Rattle.twkb_engine.specs.Fits.{IsByte, are_shut};
-    ghost use Rattle.twkb_engine.specs.Taking.{Takes, BeginsAt};
+    ghost use Rattle.twkb_engine.specs.Taking.{Takes, BeginsAt, Keeps};
     ghost use Rattle.twkb_engine.specs.Notes.{NotesGo, notes_with, open_in};
     ghost use Rattle.twkb_engine.specs.Standing.{StandsAt, IsAlive, IsEnd, held_in, offset_in, place_in};
 
@@ -86,7 +86,7 @@ impl Engine {
     pub(crate) fn restart(&mut self)
         requires shut { are_shut self.old.points_left self.old.rings_left self.old.members_left ≡ true }
         ensures begins { BeginsAt (self.old.start + self.old.bytes) self.new }
-        ensures limits { self.new.limits ≡ self.old.limits }
+        ensures kept { Keeps self.old self.new }
         ensures head { self.new.head ≡ self.old.head }
     {
         self.start += self.bytes;
@@ -114,7 +114,7 @@ impl Engine {
         ensures taken { (r : Role) → IsNext r self.old → Takes r number width self.old flat.old result self.new flat.new }
         ensures noted { (r : Role) → IsNext r self.old → IfOk result (λ ends. NotesGo S.holds (notes_with r number width self.old self.new ends) self.old spans.old spans.new) }
         ensures placed { IsPlaced self.old.next self.old → OnOk result (IsPlaced self.new.next self.new) }
-        ensures limits { self.new.limits ≡ self.old.limits }
+        ensures kept { Keeps self.old self.new }
     {
         match self.next {
             NextItem::TypeByte => self.type_byte(spans, number),
