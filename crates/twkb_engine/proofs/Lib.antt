@@ -1,9 +1,8 @@
-pub mod Admitted
-pub mod BodyItems
 pub mod Collections
-pub mod Alive
+pub mod Admitted
+pub mod Ends
+pub mod Lists
+pub mod BodyItems
 pub mod Parts
 pub mod Members
 pub mod Ahead
-pub mod Ends
-pub mod Lists

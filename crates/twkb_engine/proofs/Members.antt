@@ -30,21 +30,6 @@ use Rattle.twkb_engine.specs.declared.engine.Engine.{Engine}
 
 -- ---- the first member
 
--- that of a multi-geometry
-members_begin_as : (d : Engine) (k : Kind) → d.head.kind ≡ k → has_members k ≡ true → (k ≡ kinds.Collection → ⊥) → (groups_of d.collections, step_at (first_item k) d) ≡ members_open (many_of k) (head_of d.head) (groups_of d.collections) (ids_of d.ids) (suc d.members_left)
-members_begin_as d kinds.MultiPoint is has other = rw is refl
-members_begin_as d kinds.MultiLinestring is has other = rw is refl
-members_begin_as d kinds.MultiPolygon is has other = rw is refl
-members_begin_as d kinds.Collection is has other = absurd (other refl)
-members_begin_as d kinds.Point is has other = absurd cc
-members_begin_as d kinds.Linestring is has other = absurd cc
-members_begin_as d kinds.Polygon is has other = absurd cc
-members_begin_as d kinds.Ring is has other = absurd cc
-
-pub members_begin : (d : Engine) → d.next ≡ first_item d.head.kind → has_members d.head.kind ≡ true → (d.head.kind ≡ kinds.Collection → ⊥)
-    → outline_in d ≡ members_open (many_of d.head.kind) (head_of d.head) (groups_of d.collections) (ids_of d.ids) (suc d.members_left)
-members_begin d is has other = ap (λ n. (groups_of d.collections, step_at n d)) is ∙ members_begin_as d d.head.kind refl has other
-
 module _ (b : ℕ) (h : machine.Head) (gs : List Group) (ids : Ids) (n : ℕ) where
   -- nothing ends where members begin
   members_past : (m : Many) → outline_ends b (members_open m h gs ids (suc n)) ≡ Ok (members_open m h gs ids (suc n))

@@ -96,46 +96,6 @@ pub begun_noted : {S A E : Type 0} (holds : S → Notes → Type 0) (old new : S
 begun_noted holds old new d told (Ok u) f few = λ w many h. let much : length w.begun ≡ open_in d = many in f w (omega (arith, much, few)) h
 begun_noted holds old new d told (Err e) f few = tt
 
--- ---- after the end of a geometry
-
--- a header comes next, or nothing
-abbrev header_step : Step → Bool
-header_step OnHeader = true
-header_step OnFinished = true
-header_step _ = false
-
-abbrev header_way : Result Outline Reason → Bool
-header_way (Ok o) = header_step o.1
-header_way (Err x) = true
-
-past_left : (n bytes : ℕ) (g : outline.Group) (gs : List outline.Group) → g.left ≡ n → header_way (outline_past_end (is_exact g.head.size (bytes - g.head.from)) bytes gs) ≡ true → header_way (outline_past_end true bytes (g ∷ gs)) ≡ true
-past_left zero bytes g gs is rest = rw is rest
-past_left (suc n) bytes g gs is rest = rw is refl
-
-past_header : (b : Bool) (bytes : ℕ) (gs : List outline.Group) → header_way (outline_past_end b bytes gs) ≡ true
-past_header false bytes gs = refl
-past_header true bytes [] = refl
-past_header true bytes (g ∷ gs) = past_left g.left bytes g gs refl (past_header (is_exact g.head.size (bytes - g.head.from)) bytes gs)
-
-header_placed : (n : NextItem) (e : Engine) → header_step (step_at n e) ≡ true → IsPlaced n e
-header_placed next.TypeByte e h = tt
-header_placed next.MetadataByte e h = tt
-header_placed next.ExtendedByte e h = absurd cc
-header_placed next.Size e h = absurd cc
-header_placed (next.BoxNumber left) e h = absurd cc
-header_placed next.MemberCount e h = absurd cc
-header_placed next.Id e h = absurd cc
-header_placed next.X e h = absurd cc
-header_placed next.Y e h = absurd cc
-header_placed next.PointCount e h = absurd cc
-header_placed next.RingCount e h = absurd cc
-
--- no header is asked for there
-pub ended_placed : (bytes : ℕ) (gs : List outline.Group) (h : machine.Head) (change : Change) (d e : Engine) (rs more : List Row) (r : Result Bool Stop) → Lands (outline_ends bytes (gs, OnEnd h)) change d rs r e more → OnOk r (IsPlaced e.next e)
-ended_placed bytes gs h change d e rs more (Ok false) l = header_placed e.next e (sym (ap header_way l.0) ∙ past_header (is_exact h.size (bytes - h.from)) bytes gs)
-ended_placed bytes gs h change d e rs more (Ok true) l = let b : BeginsAt (d.start + d.bytes) e = l.2 in subst (λ n. IsPlaced n e) (sym b.next) tt
-ended_placed bytes gs h change d e rs more (Err x) l = tt
-
 -- ---- from where an item leads on
 
 pub add_zero : (a : ℕ) → a ≡ a + 0

@@ -95,7 +95,7 @@ Lands way change d rs (Ok true) e more = (way ≡ Ok ([], OnFinished)) × (more 
 Lands way change d rs (Err Memory) e more = Passes way
 Lands way change d rs (Err (Refused why)) e more = (way ≡ Err (reason_of why)) × (e.bytes ≡ d.bytes)
 
--- An item of this role and number, of so many bytes, leads that way, with this change of the rows: behind it, and before the ends after it, the sums are those.
+-- An item of this role and number, of so many bytes, leads that way, with this change of the rows, to where this engine stands before the ends that follow it.
 pub record LeadsTo (r : Role) (n width : ℕ) (d : Engine) (way : Result Outline Reason) (change : Change) (m : Engine) : Type 0 where
   pub free : IsFree r n d
   pub way_is : way_of n width d ≡ way

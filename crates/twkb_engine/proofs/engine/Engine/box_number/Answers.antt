@@ -6,7 +6,7 @@ use Rattle.twkb_outline.specs.Outline.{OnOption}
 use Rattle.twkb_body.specs.Head.{head_of, kind_of}
 use Rattle.twkb_engine.specs.State.{step_at, boxes}
 use Rattle.twkb_engine.specs.declared.next_item.NextItem.TheVariants as next
-use Rattle.twkb_engine.proofs.Alive.{alive_placed, option_admitted}
+use Rattle.twkb_engine.proofs.Admitted.{alive_placed, option_admitted}
 use Rattle.twkb_engine.proofs.Parts.{option_way, option_brings, sums_same, add_zero}
 use Rattle.twkb_engine.proofs.engine.Engine.box_number.Goals as goal
 

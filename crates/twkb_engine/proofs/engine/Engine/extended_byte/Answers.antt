@@ -3,7 +3,7 @@ use Rattle.twkb_grammar.specs.Roles as role
 use Rattle.twkb_engine.specs.State.{size_roles}
 use Rattle.twkb_engine.specs.Taking.{IsFree}
 use Rattle.twkb_engine.specs.declared.next_item.NextItem.TheVariants as next
-use Rattle.twkb_engine.proofs.Alive.{alive_placed, option_admitted}
+use Rattle.twkb_engine.proofs.Admitted.{alive_placed, option_admitted}
 use Rattle.twkb_engine.proofs.Parts.{option_way, option_brings, sums_same, add_zero}
 use Rattle.twkb_engine.proofs.engine.Engine.extended_byte.Goals as goal
 

@@ -14,7 +14,7 @@ use Rattle.twkb_engine.specs.State.{step_at}
 use Rattle.twkb_engine.specs.Collections.{groups_of}
 use Rattle.twkb_engine.specs.Fits.{item_fits, has_members}
 use Rattle.twkb_engine.specs.declared.next_item.NextItem.TheVariants as next
-use Rattle.twkb_engine.proofs.Alive.{admitted, alive_placed, alive_room}
+use Rattle.twkb_engine.proofs.Admitted.{admitted, alive_placed, alive_room}
 use Rattle.twkb_engine.proofs.Parts.{sums_same, add_zero}
 use Rattle.twkb_engine.proofs.Members.{id_passes, id_open, id_goes_on, id_brings_none, id_done, id_brings, begun_open}
 use Rattle.twkb_engine.proofs.engine.Engine.id.Goals as goal

@@ -15,7 +15,7 @@ use Rattle.twkb_engine.specs.Collections.{groups_of}
 use Rattle.twkb_engine.specs.Fits.{item_fits, has_members}
 use Rattle.twkb_engine.specs.Taking.{IsFree}
 use Rattle.twkb_engine.specs.declared.next_item.NextItem.TheVariants as next
-use Rattle.twkb_engine.proofs.Alive.{admitted, alive_placed, alive_room}
+use Rattle.twkb_engine.proofs.Admitted.{admitted, alive_placed, alive_room}
 use Rattle.twkb_engine.proofs.Parts.{sums_same}
 use Rattle.twkb_engine.proofs.Members.{count_open, count_ends, count_brings_none, count_brings, count_done, nodes_all, begun_open, still_noted}
 use Rattle.twkb_engine.proofs.engine.Engine.member_count.Goals as goal

@@ -11,7 +11,7 @@ use Rattle.twkb_body.specs.Head.{head_of, kind_of}
 use Rattle.twkb_engine.specs.State.{step_at, sums_of, size_roles}
 use Rattle.twkb_engine.specs.Collections.{groups_of}
 use Rattle.twkb_engine.specs.Taking.{IsFree, past_parts, header_row}
-use Rattle.twkb_engine.proofs.Alive.{admitted}
+use Rattle.twkb_engine.proofs.Admitted.{admitted}
 use Rattle.twkb_engine.proofs.Parts.{takes_landed, metadata_way, metadata_brings, bare, sums_same, add_zero, point_allowed}
 use Rattle.twkb_engine.proofs.engine.Engine.metadata_byte.Goals as goal
 

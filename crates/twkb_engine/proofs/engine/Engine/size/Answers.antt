@@ -4,7 +4,7 @@ use Rattle.twkb_num.proofs.VarintLemmas.{IsVarint-varint_of}
 use Rattle.twkb_grammar.specs.Roles as role
 use Rattle.twkb_engine.specs.State.{box_roles}
 use Rattle.twkb_engine.specs.declared.next_item.NextItem.TheVariants as next
-use Rattle.twkb_engine.proofs.Alive.{alive_placed, option_admitted}
+use Rattle.twkb_engine.proofs.Admitted.{alive_placed, option_admitted}
 use Rattle.twkb_engine.proofs.Parts.{option_way, option_brings, sums_same, add_zero}
 use Rattle.twkb_engine.proofs.engine.Engine.size.Goals as goal
 

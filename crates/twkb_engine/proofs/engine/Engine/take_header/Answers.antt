@@ -4,7 +4,7 @@ use Rattle.twkb_num.specs.Zigzag.{unzigzag_of}
 use Rattle.twkb_grammar.specs.Fault.{announces_point}
 use Rattle.twkb_grammar.specs.Machine as machine
 use Rattle.twkb_grammar.specs.Machine.{kind_at, kind_number}
-use Rattle.twkb_outline.specs.Outline.{begins}
+use Rattle.twkb_outline.specs.Outline.{Outline, begins}
 use Rattle.twkb_outline.specs.Growing.{id_in}
 use Rattle.twkb_outline.proofs.Judging.{on_err}
 use Rattle.twkb_front.specs.Parts.{sized_head}
@@ -54,8 +54,11 @@ returns-clause-led g c = λ rs front s.
     let kind_is : kind_of sm.head.kind ≡ kind = ap kind_of t.kind ∙ ap step_kind b.step in
     let precision : sm.head.precision ≡ unzigzag_of (h.type_byte / 16) = ap (λ (x : machine.Head). x.precision) t.head ∙ ap step_precision b.step in
     let meta : sm.head.metadata ≡ h.metadata = ap (λ (x : machine.Head). x.meta) t.head in
+    let from : Outline = (groups_of sm.collections, begins (kind_of sm.head.kind) (sized_head sm.head.precision sm.head.metadata h.parts.size (sm.bytes + h.from))) in
+    let to : Outline = (groups_of d.collections, begins kind (sized_head (unzigzag_of (h.type_byte / 16)) h.metadata h.parts.size (d.bytes + h.from))) in
+    let there : from ≡ to = λ i. (groups_of (collections i), begins (kind_is i) (sized_head (precision i) (meta i) h.parts.size (bytes i + h.from))) in
     let step : outline_in e ≡ (groups_of d.collections, begins kind (sized_head (unzigzag_of (h.type_byte / 16)) h.metadata h.parts.size (d.bytes + h.from))) =
-        last.step ∙ λ i. (groups_of (collections i), begins (kind_is i) (sized_head (precision i) (meta i) h.parts.size (bytes i + h.from))) in
+        last.step ∙ there in
     let at : IsHeadAt (length (groups_of sm.collections)) (id_in (groups_of sm.collections)) e.head =
         record { depth_is = ap (λ (x : place.Head). x.depth) last.head ∙ t.placed.depth_is; id_is = ap (λ (x : place.Head). x.id) last.head ∙ t.placed.id_is } in
     let placed = any_placed e.next e (subst (λ cs. IsHeadAt (length (groups_of cs)) (id_in (groups_of cs)) e.head) (sym last.collections) at) in
