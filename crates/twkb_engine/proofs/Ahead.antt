@@ -1,11 +1,11 @@
 -- An engine after a header that is complete at the start of the bytes.
-use Rattle.std.proofs.Common.{◌≡◌, ◌≢◌, ℕ, suc, ◌+◌, ◌-◌, ◌<◌, ◌≤◌, ◌%◌, ◌/◌, List, [], ◌∷◌, ◌++◌, append_assoc, append-nil, length, take, drop, Bool, true, false, ◌||◌, nat_eq, nat_lt, inr, refl, sym, ap, subst, ◌∙◌, Some, None, arith}
-use Rattle.std.specs.Prelude.{ℤ, pos, Option, get_or, if◌then◌else◌}
+use Rattle.std.proofs.Common.{◌≡◌, ℕ, ◌+◌, ◌-◌, ◌<◌, ◌≤◌, ◌%◌, ◌/◌, List, [], ◌∷◌, ◌++◌, append_assoc, append-nil, length, take, drop, false, ◌||◌, nat_eq, nat_lt, inr, refl, sym, ap, subst, ◌∙◌, None, arith}
+use Rattle.std.specs.Prelude.{ℤ, pos, get_or, if◌then◌else◌}
 use Rattle.std.proofs.Math.Seq.{take-suc}
-use Rattle.std.proofs.lemmas.List.{length-drop, length-take, take_rest, drop-drop}
+use Rattle.std.proofs.lemmas.List.{length-drop, take_rest, drop-drop}
 use Rattle.std.proofs.lemmas.Bool.Decides.{nat_tests}
 use Rattle.twkb_num.specs.Zigzag.{unzigzag_of}
-use Rattle.twkb_points.specs.Point.{Point, origin}
+use Rattle.twkb_points.specs.Point.{origin}
 use Rattle.twkb_tree.specs.Rows.{Row}
 use Rattle.twkb_grammar.specs.Bits.{bit}
 use Rattle.twkb_grammar.specs.Roles as role
@@ -17,7 +17,7 @@ use Rattle.twkb_grammar.specs.Machine as machine
 use Rattle.twkb_grammar.specs.Machine.{Sums, nothing, kind_at, kind_number}
 use Rattle.twkb_grammar.proofs.NotedEnds.{all_open}
 use Rattle.twkb_grammar.proofs.Frames.{reached_frames}
-use Rattle.twkb_outline.specs.Outline.{Outline, Step, OnHeader, OnMetadata, begins, step_role}
+use Rattle.twkb_outline.specs.Outline.{Outline, Step, OnHeader, OnMetadata, begins}
 use Rattle.twkb_outline.specs.Growing.{id_in}
 use Rattle.twkb_outline.specs.Noting.{NotedOutline, notes_in}
 use Rattle.twkb_outline.specs.Parts.{IsJudged, PartIn}
@@ -33,7 +33,7 @@ use Rattle.twkb_front.proofs.HeaderParts.{read_ahead}
 use Rattle.twkb_body.specs.Head.{kind_of, IsHeadAt}
 use Rattle.twkb_engine.specs.State.{step_at, outline_in, sums_of, IsPlaced, allowance_of}
 use Rattle.twkb_engine.specs.Collections.{groups_of}
-use Rattle.twkb_engine.specs.Standing.{StandsAt, LeadsOn, StopsIn, held_in, notes_at}
+use Rattle.twkb_engine.specs.Standing.{StandsAt, LeadsOn, held_in, notes_at}
 use Rattle.twkb_engine.specs.Notes.{NotesGo, open_in}
 use Rattle.twkb_engine.specs.declared.next_item.NextItem.{NextItem}
 use Rattle.twkb_engine.specs.declared.next_item.NextItem.TheVariants as next

@@ -1,5 +1,5 @@
 -- The parts of a header, and what comes after it.
-use Rattle.std.proofs.Common.{◌≡◌, ℕ, zero, suc, ◌+◌, ◌-◌, ◌<◌, ◌≤◌, ◌^◌, List, [], ◌∷◌, ◌++◌, length, Bool, true, false, ◌&&◌, nat_le, inr, refl, sym, ap, subst, ◌∙◌, OnOk, IfOk, Result, Ok, Err, Some, None, arith}
+use Rattle.std.proofs.Common.{◌≡◌, ℕ, ◌+◌, ◌-◌, ◌<◌, ◌≤◌, ◌^◌, List, [], ◌∷◌, ◌++◌, length, Bool, true, false, ◌&&◌, nat_le, inr, refl, sym, ap, subst, ◌∙◌, OnOk, Result, Ok, Err, Some, None, arith}
 use Rattle.std.specs.Prelude.{ℤ, Option, if◌then◌else◌}
 use Rattle.std.proofs.lemmas.Bool.Decides.{nat_tests}
 use Rattle.twkb_points.specs.Point.{Point}
@@ -7,7 +7,7 @@ use Rattle.twkb_tree.specs.Rows.{Row}
 use Rattle.twkb_grammar.specs.Roles as role
 use Rattle.twkb_grammar.specs.Roles.{Role, where_set}
 use Rattle.twkb_grammar.specs.Fault.{Reason, TooManyPoints, moved}
-use Rattle.twkb_grammar.specs.PlainReader.{is_exact, unless}
+use Rattle.twkb_grammar.specs.PlainReader.{unless}
 use Rattle.twkb_grammar.specs.Machine.{asked, with_option}
 use Rattle.twkb_grammar.specs.Bits.{bit}
 use Rattle.twkb_grammar.specs.Noting.{Notes}
@@ -20,8 +20,7 @@ use Rattle.twkb_outline.specs.Reading.{open_count}
 use Rattle.twkb_tree.specs.declared.kind.Kind.{Kind}
 use Rattle.twkb_tree.specs.declared.kind.Kind.TheVariants as kinds
 use Rattle.twkb_body.specs.Head.{head_of, kind_of, IsHeadAt}
-use Rattle.twkb_engine.specs.State.{step_at, step_of, outline_in, sums_of, size_roles, IsPlaced}
-use Rattle.twkb_engine.specs.Stops.{reason_of}
+use Rattle.twkb_engine.specs.State.{step_at, step_of, outline_in, sums_of, size_roles}
 use Rattle.twkb_engine.specs.Taking.{Takes, Lands, LeadsTo, IsFree, SameBlob, BeginsAt, way_of, brings, sums_with, past_parts, header_row}
 use Rattle.twkb_engine.specs.declared.stop.Stop.{Stop}
 use Rattle.twkb_engine.specs.declared.stop.Stop.TheVariants.{Memory, Refused}

@@ -1,5 +1,5 @@
-use Rattle.std.proofs.Common.{rules, [], refl}
-use Rattle.twkb_engine.specs.State.{size_roles, box_roles}
+use Rattle.std.proofs.Common.{rules}
+use Rattle.twkb_engine.specs.State.{box_roles}
 use Rattle.twkb_engine.specs.Taking.{Lands, past_parts, header_row}
 use Rattle.twkb_engine.proofs.Parts.{takes_led}
 use Rattle.twkb_engine.proofs.engine.Engine.after_size.Goals as goal

@@ -1,4 +1,4 @@
-use Rattle.std.proofs.Common.{◌≡◌, ℕ, ◌+◌, [], ◌∷◌, refl, arith, rules}
+use Rattle.std.proofs.Common.{[], ◌∷◌, refl, rules}
 use Rattle.twkb_grammar.specs.Roles as role
 use Rattle.twkb_engine.specs.State.{size_roles}
 use Rattle.twkb_engine.specs.Taking.{IsFree}

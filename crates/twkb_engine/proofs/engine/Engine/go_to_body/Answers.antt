@@ -1,4 +1,4 @@
-use Rattle.std.proofs.Common.{rules, ◌∙◌, ap, refl, subst, sym, true}
+use Rattle.std.proofs.Common.{◌∙◌, ap}
 use Rattle.twkb_engine.specs.Fits.{item_fits, lists_fit}
 use Rattle.twkb_engine.proofs.Parts.{header_fits, header_lists, header_begins}
 use Rattle.twkb_engine.proofs.engine.Engine.go_to_body.Goals as goal

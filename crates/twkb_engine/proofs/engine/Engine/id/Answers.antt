@@ -1,4 +1,4 @@
-use Rattle.std.proofs.Common.{◌≡◌, suc, ◌+◌, ◌<◌, ◌≤◌, ◌^◌, ◌∙◌, [], ◌∷◌, ◌++◌, length, true, Ok, Some, refl, sym, ap, subst, arith, rules, SFits, w64, to_z-of_z}
+use Rattle.std.proofs.Common.{◌≡◌, suc, ◌<◌, ◌≤◌, ◌^◌, ◌∙◌, [], ◌∷◌, ◌++◌, length, true, Ok, Some, refl, sym, ap, subst, arith, rules, SFits, w64, to_z-of_z}
 use Rattle.std.proofs.lemmas.Result.{err_from_is_err_and}
 use Rattle.twkb_front.proofs.Steps.{unzigzag_back}
 use Rattle.twkb_num.specs.Zigzag.{unzigzag_of}

@@ -1,4 +1,4 @@
-use Rattle.std.proofs.Common.{◌≡◌, ◌+◌, ◌-◌, ◌≤◌, ◌∙◌, [], ◌∷◌, length, false, None, refl, sym, ap, subst, arith, rules}
+use Rattle.std.proofs.Common.{◌≡◌, ◌+◌, ◌-◌, ◌≤◌, ◌∙◌, [], ◌∷◌, length, false, None, refl, sym, ap, subst, rules}
 use Rattle.std.specs.Prelude.{if◌then◌else◌}
 use Rattle.twkb_grammar.specs.Bits.{bit}
 use Rattle.twkb_grammar.specs.Fault.{announces_point}
@@ -7,7 +7,7 @@ use Rattle.twkb_grammar.specs.PlainReader.{objection}
 use Rattle.twkb_grammar.specs.Roles as role
 use Rattle.twkb_outline.specs.Outline.{step_role}
 use Rattle.twkb_outline.specs.Admitting.{Admits}
-use Rattle.twkb_body.specs.Head.{head_of, kind_of}
+use Rattle.twkb_body.specs.Head.{kind_of}
 use Rattle.twkb_engine.specs.State.{step_at, sums_of, size_roles}
 use Rattle.twkb_engine.specs.Collections.{groups_of}
 use Rattle.twkb_engine.specs.Taking.{IsFree, past_parts, header_row}

@@ -1,4 +1,4 @@
-use Rattle.std.proofs.Common.{◌≡◌, ℕ, ◌+◌, refl, arith}
+use Rattle.std.proofs.Common.{refl, arith}
 use Rattle.twkb_num.specs.Varint.{varint_of}
 use Rattle.twkb_num.proofs.VarintLemmas.{IsVarint-varint_of}
 use Rattle.twkb_grammar.specs.Roles as role

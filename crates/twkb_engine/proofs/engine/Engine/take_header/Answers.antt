@@ -1,4 +1,4 @@
-use Rattle.std.proofs.Common.{◌≡◌, ◌<◌, ◌≤◌, ◌-◌, ◌+◌, ◌%◌, ◌/◌, ◌∙◌, length, refl, sym, ap, subst, rules, arith}
+use Rattle.std.proofs.Common.{◌≡◌, ◌<◌, ◌≤◌, ◌-◌, ◌+◌, ◌%◌, ◌/◌, ◌∙◌, length, sym, ap, subst, rules}
 use Rattle.std.specs.Prelude.{get_or, if◌then◌else◌}
 use Rattle.twkb_num.specs.Zigzag.{unzigzag_of}
 use Rattle.twkb_grammar.specs.Fault.{announces_point}
@@ -42,7 +42,8 @@ returns-clause-led g c = λ rs front s.
     let kind = kind_at (h.type_byte % 16) in
     let points = c.from-points.result in
     let one : points ≡ (if announces_point (kind_number (kind_of c.kind.result)) h.metadata then 1 else 0) = search rules in
-    let announced = one ∙ ap (λ k. if announces_point (kind_number k) h.metadata then 1 else 0) (ap kind_of c.kind.ensures ∙ kind_shown kind) in
+    let shown_kind : kind_of c.kind.result ≡ kind = ap kind_of c.kind.ensures ∙ kind_shown kind in
+    let announced : points ≡ (if announces_point (kind_number kind) h.metadata then 1 else 0) = one ∙ ap (λ k. if announces_point (kind_number k) h.metadata then 1 else 0) shown_kind in
     let few : points ≤ d.limits.points - d.points = search rules in
     let b = c.in_ok-begin_geometry.ensures in
     let t = c.set_metadata.ensures in
