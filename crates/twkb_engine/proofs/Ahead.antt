@@ -74,7 +74,7 @@ abbrev pub step_precision : Step → ℤ
 step_precision (OnMetadata k p) = p
 step_precision _ = pos 0
 
--- a header is behind it, whatever comes next
+-- its header is that of the geometry in the open collections, whatever comes next
 pub any_placed : (n : NextItem) (e : Engine) → (let gs = groups_of e.collections in IsHeadAt (length gs) (id_in gs) e.head) → IsPlaced n e
 any_placed next.TypeByte e p = tt
 any_placed next.MetadataByte e p = tt
@@ -112,7 +112,7 @@ module _ (d : Engine) (rs : List Row) (rest : List ℕ) (h : FrontHeader) (is : 
       let told : ℕ → Notes = λ start. notes_in start s.outlined in
       let stood : NotedOutline d.limits s.front (sums_of d) (outline_in d) rs told = record { outlined = s.outlined; notes = λ start. refl } in
       let there : NotedOutline d.limits front (sums_of d) (groups_of d.collections, OnHeader) rs told =
-          subst (λ l. NotedOutline d.limits l (sums_of d) (groups_of d.collections, OnHeader) rs told) whole_front (subst (λ n. NotedOutline d.limits s.front (sums_of d) (groups_of d.collections, step_at n d) rs told) is stood) in
+      subst (λ l. NotedOutline d.limits l (sums_of d) (groups_of d.collections, OnHeader) rs told) whole_front (subst (λ n. NotedOutline d.limits s.front (sums_of d) (groups_of d.collections, step_at n d) rs told) is stood) in
       noted_item d.limits front (sums_of d) (groups_of d.collections, OnHeader) rs told type_item there refl (low, refl) (type_free (h.type_byte % 16) found.some_type found.known_type)
 
   one_byte : take 1 rest ≡ h.type_byte ∷ []
@@ -143,22 +143,22 @@ module _ (d : Engine) (rs : List Row) (rest : List ℕ) (h : FrontHeader) (is : 
         let two = found.two in
         let same : h.metadata ≡ meta = found.metadata ∙ sym (second rest) in
         let parts : PartsInFront h.metadata (drop 2 rest) h.parts.size h.parts.from h.parts.used = found.parts in
-        let behind : take (length left - 1) (drop 1 left) ≡ drop 2 rest = take_rest left 1 ∙ drop-drop 1 1 rest in
+        let others : take (length left - 1) (drop 1 left) ≡ drop 2 rest = take_rest left 1 ∙ drop-drop 1 1 rest in
         let parts_here : PartsInFront meta (take (length left - 1) (drop 1 left)) h.parts.size h.parts.from h.parts.used =
-            subst (λ x. PartsInFront x (take (length left - 1) (drop 1 left)) h.parts.size h.parts.from h.parts.used) same (subst (λ l. PartsInFront h.metadata l h.parts.size h.parts.from h.parts.used) (sym behind) parts) in
+        subst (λ x. PartsInFront x (take (length left - 1) (drop 1 left)) h.parts.size h.parts.from h.parts.used) same (subst (λ l. PartsInFront h.metadata l h.parts.size h.parts.from h.parts.used) (sym others) parts) in
         let free : objection d.limits at (role.Metadata (kind_number kind_here)) h.metadata ≡ None = point_allowed (announces_point (kind_number kind_here) h.metadata) d.limits.points (d.points + 0) points announced (omega (arith, kept)) (omega (arith, few)) in
         let more : d.points + points ≡ (d.points + 0) + (if announces_point (kind_number kind_here) h.metadata then 1 else 0) = ap (λ x. x + points) (add_zero d.points) ∙ ap (λ x. (d.points + 0) + x) announced in
         let read = read_ahead d.limits (front ++ h.type_byte ∷ []) at gs kind_here precision_here rs (λ start. note_header (start + d.bytes) d.points h.type_byte (notes_in start s.outlined)) left h.parts.size h.parts.from h.parts.used (d.points + points)
-            (omega (arith, length-drop 1 rest, two)) (subst (λ x. x < 256) same low_meta) (subst (λ x. bit x 4 ≡ false) same found.body)
-            (subst (λ x. objection d.limits at (role.Metadata (kind_number kind_here)) x ≡ None) same free)
-            (more ∙ ap (λ x. (d.points + 0) + (if announces_point (kind_number kind_here) x then 1 else 0)) same) parts_here after_type in
+        (omega (arith, length-drop 1 rest, two)) (subst (λ x. x < 256) same low_meta) (subst (λ x. bit x 4 ≡ false) same found.body)
+        (subst (λ x. objection d.limits at (role.Metadata (kind_number kind_here)) x ≡ None) same free)
+        (more ∙ ap (λ x. (d.points + 0) + (if announces_point (kind_number kind_here) x then 1 else 0)) same) parts_here after_type in
         let used_is : 1 + (1 + h.parts.used) ≡ h.used = (let u = found.used in omega (arith, u)) in
         let bytes : (front ++ h.type_byte ∷ []) ++ take (1 + h.parts.used) left ≡ front ++ take h.used rest =
-            append_assoc front (h.type_byte ∷ []) (take (1 + h.parts.used) left)
-            ∙ ap (λ l. front ++ l) (ap (λ l. l ++ take (1 + h.parts.used) left) (sym one_byte)
-            ∙ (ap (λ l. take 1 rest ++ take (1 + h.parts.used) l) (sym (take_rest rest 1)) ∙ (sym (used_join rest 1 (1 + h.parts.used)) ∙ ap (λ n. take n rest) used_is))) in
+        append_assoc front (h.type_byte ∷ []) (take (1 + h.parts.used) left)
+        ∙ ap (λ l. front ++ l) (ap (λ l. l ++ take (1 + h.parts.used) left) (sym one_byte)
+        ∙ (ap (λ l. take 1 rest ++ take (1 + h.parts.used) l) (sym (take_rest rest 1)) ∙ (sym (used_join rest 1 (1 + h.parts.used)) ∙ ap (λ n. take n rest) used_is))) in
         let sums : (let e : Sums = record { bytes = at.bytes + (1 + h.parts.used); position = at.position; nodes = at.nodes; points = d.points + points } in e) ≡ record { bytes = d.bytes + h.used; position = origin; nodes = d.nodes; points = d.points + points } =
-            sums_same _ _ _ _ _ _ _ _ (let u = found.used in omega (arith, u)) refl (sym (add_zero d.nodes)) refl in
+        sums_same _ _ _ _ _ _ _ _ (let u = found.used in omega (arith, u)) refl (sym (add_zero d.nodes)) refl in
         let from_is : (at.bytes + 1) + h.parts.from ≡ d.bytes + h.from = (let f = found.from in omega (arith, f)) in
         let o : ℕ → ℕ → Outline = λ x from. (gs, begins kind_here (sized_head precision_here x h.parts.size from)) in
         let told : ℕ → ℕ → Notes = λ x start. note_metadata x (note_header (start + d.bytes) d.points h.type_byte (notes_in start s.outlined)) in

@@ -166,9 +166,9 @@ module _ (d m : Engine) (n : ℕ) (is : d.next ≡ next.MetadataByte) (none : bi
       let gs = groups_of d.collections in
       let way : (b : ℕ) → List outline.Group → machine.Kind → machine.Head → Result Outline Reason = λ b os k h. outline_ends b (os, options k h (size_roles h.meta)) in
       let there : past_parts m (size_roles m.head.metadata) ≡ way (d.bytes + 1) gs (kind_of d.head.kind) (bare d n) =
-          ap (λ b. way b (groups_of m.collections) (kind_of m.head.kind) (head_of m.head)) bytes
-          ∙ (ap (λ cs. way (d.bytes + 1) (groups_of cs) (kind_of m.head.kind) (head_of m.head)) collections
-          ∙ (ap (λ k. way (d.bytes + 1) gs (kind_of k) (head_of m.head)) kind ∙ ap (λ h. way (d.bytes + 1) gs (kind_of d.head.kind) h) head)) in
+      ap (λ b. way b (groups_of m.collections) (kind_of m.head.kind) (head_of m.head)) bytes
+      ∙ (ap (λ cs. way (d.bytes + 1) (groups_of cs) (kind_of m.head.kind) (head_of m.head)) collections
+      ∙ (ap (λ k. way (d.bytes + 1) gs (kind_of k) (head_of m.head)) kind ∙ ap (λ h. way (d.bytes + 1) gs (kind_of d.head.kind) h) head)) in
       ap (λ i. outline_ends (d.bytes + 1) (outline_advanced (d.bytes + 1) n (gs, step_at i d))) is
       ∙ (ap (λ parts. outline_ends (d.bytes + 1) (gs, options (kind_of d.head.kind) (bare d n) parts)) (asked_sizes n none) ∙ sym there)
 
@@ -177,9 +177,9 @@ module _ (d m : Engine) (n : ℕ) (is : d.next ≡ next.MetadataByte) (none : bi
       let gs = groups_of d.collections in
       let row : ℕ → Option ℤ → machine.Kind → machine.Head → Change = λ x i q h. header_change x i q h.precision h.meta (size_roles h.meta) in
       let there : header_row m (size_roles m.head.metadata) ≡ row (length gs) (id_in gs) (kind_of d.head.kind) (bare d n) =
-          ap (λ x. row x m.head.id (kind_of m.head.kind) (head_of m.head)) placed.depth_is
-          ∙ (ap (λ x. row (length (groups_of m.collections)) x (kind_of m.head.kind) (head_of m.head)) placed.id_is
-          ∙ (ap (λ cs. row (length (groups_of cs)) (id_in (groups_of cs)) (kind_of m.head.kind) (head_of m.head)) collections
-          ∙ (ap (λ q. row (length gs) (id_in gs) (kind_of q) (head_of m.head)) kind ∙ ap (λ h. row (length gs) (id_in gs) (kind_of d.head.kind) h) head))) in
+      ap (λ x. row x m.head.id (kind_of m.head.kind) (head_of m.head)) placed.depth_is
+      ∙ (ap (λ x. row (length (groups_of m.collections)) x (kind_of m.head.kind) (head_of m.head)) placed.id_is
+      ∙ (ap (λ cs. row (length (groups_of cs)) (id_in (groups_of cs)) (kind_of m.head.kind) (head_of m.head)) collections
+      ∙ (ap (λ q. row (length gs) (id_in gs) (kind_of q) (head_of m.head)) kind ∙ ap (λ h. row (length gs) (id_in gs) (kind_of d.head.kind) h) head))) in
       ap (λ i. change_of d.position n (gs, step_at i d)) is
       ∙ (ap (λ parts. header_change (length gs) (id_in gs) (kind_of d.head.kind) d.head.precision n parts) (asked_sizes n none) ∙ sym there)

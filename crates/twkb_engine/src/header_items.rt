@@ -271,11 +271,7 @@ impl Engine {
 
     // Goes past the header: to the body, or to the count of members; a geometry without a body ends.
     #[inline(always)]
-    fn begin_body<S: SpanNotes>(
-        &mut self,
-        flat: &mut Flat,
-        spans: &mut S,
-    ) -> Result<bool, Stop>
+    fn begin_body<S: SpanNotes>(&mut self, flat: &mut Flat, spans: &mut S) -> Result<bool, Stop>
         requires typed { is_typed self.old.head.kind ≡ true }
         requires shut { are_shut self.old.points_left self.old.rings_left self.old.members_left ≡ true }
         requires inside { IsInside self.old.next }

@@ -160,7 +160,8 @@ impl Engine {
     {
         push_row(flat, own_row(&self.head))?;
         if self.head.kind == Kind::Collection {
-            self.collections.push(&self.head, &mut self.ids, self.members_left)?;
+            self.collections
+                .push(&self.head, &mut self.ids, self.members_left)?;
             self.members_left = 0;
             self.next = NextItem::TypeByte;
             return Ok(());

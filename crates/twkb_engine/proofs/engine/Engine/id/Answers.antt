@@ -33,9 +33,13 @@ returns-then-count-self-clause-taken c =
     let pushed = simp to_z-of_z at c.in_ok-push.ensures.pushed in
     let more = ids_read c.push.new.self in
     let one : more ≡ ids_read d.ids ++ unzigzag_of n ∷ [] = pushed ∙ ap (λ z. ids_read d.ids ++ z ∷ []) (sym (unzigzag_back c.unzigzag.result n c.unzigzag.ensures)) in
-    let few : length more ≤ d.members_left = omega (arith, c.count.ensures, c.if-count-self.true) in
-    (refl, id_goes_on d n c.args.width c.requires.next more one few, sums_same _ _ _ _ _ _ _ _ refl refl (add_zero _) (add_zero _),
-    sym (ap (λ x. applied x rs) (id_brings_none d n c.args.width c.requires.next more one few)), record { limits = refl; start = refl })
+    let few : length more ≤ d.members_left = omega (arith, c.count.ensures, c.if-count-self.true) in (
+      refl,
+      id_goes_on d n c.args.width c.requires.next more one few,
+      sums_same _ _ _ _ _ _ _ _ refl refl (add_zero _) (add_zero _),
+      sym (ap (λ x. applied x rs) (id_brings_none d n c.args.width c.requires.next more one few)),
+      record { limits = refl; start = refl },
+    )
 
 pub begin_members-requires-clause-row : goal.begin_members-requires-clause-row
 begin_members-requires-clause-row c =
@@ -74,12 +78,13 @@ returns-clause-taken c =
     let has : has_members d.head.kind ≡ true = sym (ap (λ i. item_fits i d.head.kind) c.requires.next) ∙ d.item_fits in
     let placed = alive_placed rs d next.Id c.requires.next (λ p. p) c.requires.alive in
     let b = c.in_ok-begin_members.ensures in
-    let ids : Some more ≡ ids_of c.begin.new.self = sym c.begin.ensures in
-    (refl,
-    id_done d n c.args.width c.requires.next more one all ∙ (ap (λ i. Ok (members_open (many_of d.head.kind) (head_of d.head) (groups_of d.collections) i (suc d.members_left))) ids ∙ ap Ok (sym b.step)),
-    b.sums ∙ sums_same _ _ _ _ _ _ _ _ refl refl (add_zero _) (add_zero _),
-    b.rows ∙ sym (ap (λ x. applied x rs) (id_brings d n c.args.width c.requires.next more one all placed has)),
-    record { limits = b.same.limits; start = b.same.start })
+    let ids : Some more ≡ ids_of c.begin.new.self = sym c.begin.ensures in (
+      refl,
+      id_done d n c.args.width c.requires.next more one all ∙ (ap (λ i. Ok (members_open (many_of d.head.kind) (head_of d.head) (groups_of d.collections) i (suc d.members_left))) ids ∙ ap Ok (sym b.step)),
+      b.sums ∙ sums_same _ _ _ _ _ _ _ _ refl refl (add_zero _) (add_zero _),
+      b.rows ∙ sym (ap (λ x. applied x rs) (id_brings d n c.args.width c.requires.next more one all placed has)),
+      record { limits = b.same.limits; start = b.same.start },
+    )
 
 pub returns-clause-begun : goal.returns-clause-begun
 returns-clause-begun c =

@@ -83,12 +83,13 @@ returns-clause-taken g c =
     let placed = alive_placed rs d next.MemberCount c.requires.next (λ p. p) c.requires.alive in
     let free : IsFree (role.Count what) n d = search rules in
     let b = c.in_ok-begin_members.ensures in
-    let ids : None ≡ ids_of c.restart.new.self = sym (c.restart.ensures.ids ∙ ap (λ b. if b then Some [] else None) c.if-has_ids.false) in
-    (free,
-    count_done d n c.args.width c.requires.next (n - 1) some bare ∙ (ap (λ i. Ok (members_open (many_of d.head.kind) (head_of d.head) (groups_of d.collections) i (suc (n - 1)))) ids ∙ ap Ok (sym b.step)),
-    b.sums ∙ sums_same _ _ _ _ _ _ _ _ refl refl (ap (λ x. d.nodes + x) (sym (nodes_all (many_of d.head.kind) level n))) (ap (λ x. d.points + x) c.member_points-points.ensures),
-    b.rows ∙ sym (ap (λ x. applied x rs) (count_brings d n c.args.width c.requires.next what placed has (n - 1) some bare)),
-    record { limits = b.same.limits; start = b.same.start })
+    let ids : None ≡ ids_of c.restart.new.self = sym (c.restart.ensures.ids ∙ ap (λ b. if b then Some [] else None) c.if-has_ids.false) in (
+      free,
+      count_done d n c.args.width c.requires.next (n - 1) some bare ∙ (ap (λ i. Ok (members_open (many_of d.head.kind) (head_of d.head) (groups_of d.collections) i (suc (n - 1)))) ids ∙ ap Ok (sym b.step)),
+      b.sums ∙ sums_same _ _ _ _ _ _ _ _ refl refl (ap (λ x. d.nodes + x) (sym (nodes_all (many_of d.head.kind) level n))) (ap (λ x. d.points + x) c.member_points-points.ensures),
+      b.rows ∙ sym (ap (λ x. applied x rs) (count_brings d n c.args.width c.requires.next what placed has (n - 1) some bare)),
+      record { limits = b.same.limits; start = b.same.start },
+    )
 
 pub returns-clause-noted : goal.returns-clause-noted
 returns-clause-noted g c =

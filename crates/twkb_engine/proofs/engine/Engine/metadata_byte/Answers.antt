@@ -28,7 +28,7 @@ after_extended-requires-clause-may g c =
     let one : c.from-points.result ≡ (if announces_point k meta then 1 else 0) = search rules in
     let fits : c.from-points.result ≤ d.limits.points - d.points = search rules in
     let free : IsFree (role.Metadata k) n d =
-        subst (λ x. objection d.limits (sums_of d) (role.Metadata k) x ≡ None) byte (point_allowed (announces_point k meta) d.limits.points d.points c.from-points.result one d.points_kept fits) in
+    subst (λ x. objection d.limits (sums_of d) (role.Metadata k) x ≡ None) byte (point_allowed (announces_point k meta) d.limits.points d.points c.from-points.result one d.points_kept fits) in
     let none : bit n 3 ≡ false = subst (λ x. bit x 3 ≡ false) byte (sym c.has_extended.ensures ∙ c.if-has_extended.false) in
     subst (λ x. Admits x rs) (metadata_brings d m n c.requires.next none s.same.collections s.kind (s.head ∙ ap (bare d) byte) k s.placed)
     (admitted rs d (role.Metadata k) n (n ∷ []) c.requires.alive (ap (λ i. step_role (length (groups_of d.collections)) d.bytes (step_at i d)) c.requires.next) (c.requires.byte, refl) free)
@@ -46,7 +46,7 @@ returns-clause-taken g c =
     let one : c.from-points.result ≡ (if announces_point k meta then 1 else 0) = search rules in
     let fits : c.from-points.result ≤ d.limits.points - d.points = search rules in
     let free : IsFree (role.Metadata k) n d =
-        subst (λ x. objection d.limits (sums_of d) (role.Metadata k) x ≡ None) byte (point_allowed (announces_point k meta) d.limits.points d.points c.from-points.result one d.points_kept fits) in
+    subst (λ x. objection d.limits (sums_of d) (role.Metadata k) x ≡ None) byte (point_allowed (announces_point k meta) d.limits.points d.points c.from-points.result one d.points_kept fits) in
     let none : bit n 3 ≡ false = subst (λ x. bit x 3 ≡ false) byte (sym c.has_extended.ensures ∙ c.if-has_extended.false) in
     let head = s.head ∙ ap (bare d) byte in
     let more = ap (λ x. d.points + (if announces_point k x then 1 else 0)) byte in

@@ -59,9 +59,9 @@ returns-clause-led g c = λ rs front s.
     let to : Outline = (groups_of d.collections, begins kind (sized_head (unzigzag_of (h.type_byte / 16)) h.metadata h.parts.size (d.bytes + h.from))) in
     let there : from ≡ to = λ i. (groups_of (collections i), begins (kind_is i) (sized_head (precision i) (meta i) h.parts.size (bytes i + h.from))) in
     let step : outline_in e ≡ (groups_of d.collections, begins kind (sized_head (unzigzag_of (h.type_byte / 16)) h.metadata h.parts.size (d.bytes + h.from))) =
-        last.step ∙ there in
+    last.step ∙ there in
     let at : IsHeadAt (length (groups_of sm.collections)) (id_in (groups_of sm.collections)) e.head =
-        record { depth_is = ap (λ (x : place.Head). x.depth) last.head ∙ t.placed.depth_is; id_is = ap (λ (x : place.Head). x.id) last.head ∙ t.placed.id_is } in
+    record { depth_is = ap (λ (x : place.Head). x.depth) last.head ∙ t.placed.depth_is; id_is = ap (λ (x : place.Head). x.id) last.head ∙ t.placed.id_is } in
     let placed = any_placed e.next e (subst (λ cs. IsHeadAt (length (groups_of cs)) (id_in (groups_of cs)) e.head) (sym last.collections) at) in
     header_leads d rs rest h c.requires.next c.requires.alone found low front s low_meta points announced few g.S.SpanNotes.holds c.args.spans.now c.begin_geometry.new.spans c.set_metadata.new.spans e
     (last.kept.limits ∙ (t.same.limits ∙ b.same.limits)) (last.kept.held ∙ (t.same.held ∙ (b.same.held ∙ c.requires.alone))) (last.same.start ∙ (t.same.start ∙ b.same.start)) placed
