@@ -66,7 +66,7 @@ item_unkept r n width d e rs more res is same free past =
 pub body_passed : (way : Result Outline Reason) (gs : List Group) (h : machine.Head) (f : machine.Form) (ids : Ids) (lists : List ℕ) (n : ℕ) → way ≡ Ok (gs, OnBody h f ids (Wanted n lists)) → Passes way
 body_passed way gs h f ids lists n is = subst Passes (sym is) tt
 
-add_zero : (a : ℕ) → a ≡ a + 0
+pub add_zero : (a : ℕ) → a ≡ a + 0
 add_zero a = omega arith
 
 -- ---- a y

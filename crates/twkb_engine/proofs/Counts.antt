@@ -28,9 +28,7 @@ use Rattle.twkb_engine.specs.declared.next_item.NextItem.{NextItem}
 use Rattle.twkb_engine.specs.declared.next_item.NextItem.TheVariants as next
 use Rattle.twkb_engine.specs.declared.engine.Engine.{Engine}
 use Rattle.twkb_engine.proofs.Admitted.{admitted, alive_placed}
-
-add_zero : (a : ℕ) → a ≡ a + 0
-add_zero a = omega arith
+use Rattle.twkb_engine.proofs.BodyItems.{add_zero}
 
 -- ---- lists of a kind
 
