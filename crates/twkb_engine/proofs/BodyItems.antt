@@ -1,5 +1,5 @@
 -- The items of a body: what a number leads to, and what it brings.
-use Rattle.std.proofs.Common.{◌≡◌, ℕ, zero, suc, ◌+◌, ◌-◌, ◌<◌, ◌^◌, List, [], ◌∷◌, ◌++◌, length, refl, sym, ap, ◌∙◌, subst, arith, inr, Bool, true, false, ◌||◌, ◌&&◌, nat_eq, if◌then◌else◌, Result, Ok, Err, Some, None}
+use Rattle.std.proofs.Common.{◌≡◌, ℕ, zero, suc, ◌+◌, ◌-◌, ◌<◌, ◌^◌, List, length, refl, sym, ap, ◌∙◌, subst, arith, inr, Bool, true, false, if◌then◌else◌, Result, Ok, Err, None}
 use Rattle.std.specs.Prelude.{ℤ, ◌+ℤ◌, Option, not}
 use Rattle.std.specs.Result.{IsErrAnd}
 use Rattle.std.proofs.lemmas.Result.{err_from_is_err_and}
@@ -26,9 +26,8 @@ use Rattle.twkb_outline.specs.Parts.{Passes}
 use Rattle.twkb_body.specs.Head.{head_of, form_of, IsHeadAt}
 use Rattle.twkb_body.specs.Ids.{ids_of}
 use Rattle.twkb_engine.specs.Collections.{groups_of}
-use Rattle.twkb_engine.specs.State.{step_at, outline_in, sums_of, ids_in, IsNext, IsPlaced}
-use Rattle.twkb_engine.specs.Fits.{lists_of, left_fit, lists_fit, has_lines, has_areas, has_members}
-use Rattle.twkb_engine.specs.Stops.{reason_of}
+use Rattle.twkb_engine.specs.State.{step_at, sums_of, ids_in, IsNext}
+use Rattle.twkb_engine.specs.Fits.{lists_of, left_fit, lists_fit, has_lines, has_members}
 use Rattle.twkb_engine.specs.Taking.{Takes, Lands, IsFree, SameBlob, BeginsAt, way_of, brings, sums_with, point_row}
 use Rattle.twkb_engine.specs.Standing.{IsAlive}
 use Rattle.twkb_engine.specs.declared.stop.Stop.{Stop}

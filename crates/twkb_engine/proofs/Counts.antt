@@ -1,9 +1,8 @@
 -- The counts of a body: what they lead to, and the rows that they bring.
-use Rattle.std.proofs.Common.{◌≡◌, ℕ, zero, suc, ◌+◌, ◌-◌, ◌<◌, ◌^◌, List, [], ◌∷◌, length, refl, sym, ap, ◌∙◌, subst, arith, Bool, true, false, ◌&&◌, nat_eq, if◌then◌else◌, Result, Ok, Some, None}
+use Rattle.std.proofs.Common.{◌≡◌, ℕ, zero, suc, ◌+◌, ◌-◌, ◌<◌, ◌^◌, List, ◌∷◌, length, refl, sym, ap, ◌∙◌, subst, arith, Bool, true, ◌&&◌, nat_eq, if◌then◌else◌, Result, Ok, None}
 use Rattle.std.specs.Prelude.{ℤ, Option}
 use Rattle.twkb_num.specs.Varint.{varint_of}
 use Rattle.twkb_num.proofs.VarintLemmas.{IsVarint-varint_of}
-use Rattle.twkb_points.specs.Point.{Point}
 use Rattle.twkb_tree.specs.Tree.{Ids}
 use Rattle.twkb_tree.specs.Rows.{Row, first_id}
 use Rattle.twkb_tree.specs.declared.kind.Kind.{Kind}
@@ -11,17 +10,16 @@ use Rattle.twkb_tree.specs.declared.kind.Kind.TheVariants as kinds
 use Rattle.twkb_grammar.specs.Roles as role
 use Rattle.twkb_grammar.specs.Roles.{Role}
 use Rattle.twkb_grammar.specs.Fault.{Reason, moved}
-use Rattle.twkb_grammar.specs.Machine as machine
 use Rattle.twkb_grammar.specs.Machine.{Sums, listed}
 use Rattle.twkb_grammar.proofs.RoleBytes.{number_gives}
-use Rattle.twkb_outline.specs.Outline.{Outline, Group, Step, OnBody, Wanted, shut, listing, step_role, outline_ends, outline_advanced}
+use Rattle.twkb_outline.specs.Outline.{Outline, Step, OnBody, Wanted, shut, listing, step_role, outline_ends, outline_advanced}
 use Rattle.twkb_outline.specs.Growing.{Change, NewRow, id_in, change_of, list_row}
 use Rattle.twkb_outline.specs.Admitting.{Admits}
 use Rattle.twkb_body.specs.Head.{head_of, form_of, IsHeadAt}
 use Rattle.twkb_body.specs.Ids.{ids_of}
 use Rattle.twkb_engine.specs.Collections.{groups_of}
-use Rattle.twkb_engine.specs.State.{step_at, outline_in, sums_of, ids_in, IsNext, IsPlaced}
-use Rattle.twkb_engine.specs.Fits.{lists_of, line_lists_of, area_lists_of, left_fit, lists_fit, item_fits, has_lines, has_areas, has_members, is_bodied}
+use Rattle.twkb_engine.specs.State.{step_at, ids_in, IsNext, IsPlaced}
+use Rattle.twkb_engine.specs.Fits.{lists_of, line_lists_of, area_lists_of, left_fit, lists_fit, item_fits, has_lines, has_areas, has_members}
 use Rattle.twkb_engine.specs.Taking.{IsFree, way_of, brings, sums_with}
 use Rattle.twkb_engine.specs.Standing.{IsAlive}
 use Rattle.twkb_engine.specs.declared.next_item.NextItem.{NextItem}
