@@ -83,8 +83,8 @@ module _ (d : Engine) (n width : ℕ) (item : NextItem) (inner : ℕ) (lists : L
         let f = form_of d.head.kind in
         let there : IsHeadAt (length gs) (id_in gs) d.head = alive_placed rs d item is placed alive in
         let own : row ≡ list_row d.head.depth d.head.id d.head.precision f (first_id (ids_in d)) inner =
-            made
-            ∙ (ap (λ (m : Option ℤ). list_row d.head.depth d.head.id d.head.precision f m inner) first ∙ row_there d.head.kind (ids_of d.ids) d.head.depth d.head.id d.head.precision inner has) in
+        made
+        ∙ (ap (λ (m : Option ℤ). list_row d.head.depth d.head.id d.head.precision f m inner) first ∙ row_there d.head.kind (ids_of d.ids) d.head.depth d.head.id d.head.precision inner has) in
         ap (λ (s : Step). change_of (moved d.position (role.Count (listed inner)) n) n (gs, s)) step_is
         ∙ (ap (λ (x : ℕ). let c : Change = NewRow (list_row x (id_in gs) d.head.precision f (first_id (ids_in d)) inner) in c) (sym there.depth_is)
         ∙ (ap (λ (x : Option ℤ). let c : Change = NewRow (list_row d.head.depth x d.head.precision f (first_id (ids_in d)) inner) in c) (sym there.id_is)
@@ -145,8 +145,8 @@ module _ (d : Engine) (n width : ℕ) (is : d.next ≡ next.RingCount) where
   pub rings_empty : n ≡ 0 → way_of n width d ≡ outline_ends (d.bytes + width) (groups_of d.collections, shut (head_of d.head) (form_of d.head.kind) (ids_in d) 0 (lists_of d.head.kind 0 d.rings_left d.members_left))
   rings_empty none =
       let lists : lists_of d.head.kind 0 d.rings_left d.members_left ≡ 0 ∷ 0 ∷ area_lists_of d.head.kind d.members_left =
-          line_lists d.head.kind 0 d.rings_left d.members_left (areas_lined d.head.kind area)
-          ∙ (ap (λ (l : List ℕ). 0 ∷ l) (area_lists d.head.kind d.rings_left d.members_left area) ∙ ap (λ (r : ℕ). 0 ∷ r ∷ area_lists_of d.head.kind d.members_left) no_rings_left) in
+      line_lists d.head.kind 0 d.rings_left d.members_left (areas_lined d.head.kind area)
+      ∙ (ap (λ (l : List ℕ). 0 ∷ l) (area_lists d.head.kind d.rings_left d.members_left area) ∙ ap (λ (r : ℕ). 0 ∷ r ∷ area_lists_of d.head.kind d.members_left) no_rings_left) in
       list_empty d n width next.RingCount 1 (area_lists_of d.head.kind d.members_left) is refl none
       ∙ ap (λ (l : List ℕ). outline_ends (d.bytes + width) (groups_of d.collections, shut (head_of d.head) (form_of d.head.kind) (ids_in d) 0 l)) (sym lists)
 

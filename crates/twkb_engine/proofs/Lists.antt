@@ -77,7 +77,7 @@ pub next_placed : (d e : Engine) → e.next ≡ first_item d.head.kind → is_bo
 next_placed d e en body eh eg at =
     placed_by d.head.kind e.next e en body
     (subst (λ (gs : List OpenCollection). IsHeadAt (length (groups_of gs)) (id_in (groups_of gs)) e.head) (sym eg)
-      (subst (λ (h : Head). IsHeadAt (length (groups_of d.collections)) (id_in (groups_of d.collections)) h) (sym eh) at))
+    (subst (λ (h : Head). IsHeadAt (length (groups_of d.collections)) (id_in (groups_of d.collections)) h) (sym eh) at))
 
 -- ---- what a point brings
 

@@ -38,6 +38,6 @@ returns-clause-taken g c =
       points_begin d c.args.count c.args.width c.requires.next (omega (arith, c.if-count-eq0.false)),
       point_sums (sums_of d) c.args.count c.args.width,
       c.in_ok-push_row.ensures.pushed
-      ∙ ap (λ (h : Change). applied h c.args.flat.now) (sym (points_bring d c.args.count c.args.width c.requires.next c.args.flat.now c.requires.alive (row_with c.line_row-row.result []) c.first.result c.first.ensures c.line_row-row.ensures)),
+          ∙ ap (λ (h : Change). applied h c.args.flat.now) (sym (points_bring d c.args.count c.args.width c.requires.next c.args.flat.now c.requires.alive (row_with c.line_row-row.result []) c.first.result c.first.ensures c.line_row-row.ensures)),
       record { limits = refl; start = refl },
     )

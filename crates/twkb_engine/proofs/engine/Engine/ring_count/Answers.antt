@@ -38,6 +38,6 @@ returns-clause-taken g c =
       rings_begin d c.args.count c.args.width c.requires.next (omega (arith, c.if-count-eq0.false)),
       ring_sums (sums_of d) c.args.count c.args.width,
       c.in_ok-push_row.ensures.pushed
-      ∙ ap (λ (h : Change). applied h c.args.flat.now) (sym (rings_bring d c.args.count c.args.width c.requires.next c.args.flat.now c.requires.alive (row_with c.ring_list_row-row.result []) c.first.result c.first.ensures c.ring_list_row-row.ensures)),
+          ∙ ap (λ (h : Change). applied h c.args.flat.now) (sym (rings_bring d c.args.count c.args.width c.requires.next c.args.flat.now c.requires.alive (row_with c.ring_list_row-row.result []) c.first.result c.first.ensures c.ring_list_row-row.ensures)),
       record { limits = refl; start = refl },
     )
