@@ -1,5 +1,5 @@
 -- What holds of an engine that some bytes lead to.
-use Rattle.std.proofs.Common.{◌≡◌, ℕ, ◌+◌, ◌<◌, ◌^◌, List, [], ◌∷◌, length, refl, sym, ap, ◌∙◌, subst, None, Some, arith}
+use Rattle.std.proofs.Common.{◌≡◌, ℕ, ◌<◌, List, [], length, sym, ap, ◌∙◌, subst, arith}
 use Rattle.std.specs.Prelude.{ℤ, Option}
 use Rattle.std.proofs.Props.{props}
 use Rattle.std.proofs.Math.Logic.{∥∥₁_elim, ∥∥₁_map}
@@ -8,7 +8,7 @@ use Rattle.twkb_tree.specs.Rows.{Row}
 use Rattle.twkb_grammar.specs.Roles.{Role}
 use Rattle.twkb_grammar.specs.Fault.{moved}
 use Rattle.twkb_grammar.specs.Reading.{Gives}
-use Rattle.twkb_outline.specs.Outline.{Step, OnOption, step_role}
+use Rattle.twkb_outline.specs.Outline.{OnOption, step_role}
 use Rattle.twkb_outline.specs.Growing.{id_in, change_of, header_change}
 use Rattle.twkb_outline.specs.Admitting.{Admits}
 use Rattle.twkb_outline.proofs.Admitting.{somewhere_admitted}
