@@ -1,5 +1,5 @@
 -- The items of a body: what a number leads to, and what it brings.
-use Rattle.std.proofs.Common.{◌≡◌, ℕ, zero, suc, ◌+◌, ◌-◌, ◌<◌, ◌^◌, List, [], ◌∷◌, ◌++◌, length, refl, sym, ap, ◌∙◌, subst, arith, inr, Bool, true, false, ◌||◌, ◌&&◌, nat_eq, if◌then◌else◌, Result, Ok, Err, Some, None}
+use Rattle.std.proofs.Common.{◌≡◌, ℕ, zero, suc, ◌+◌, ◌-◌, ◌<◌, ◌^◌, List, length, refl, sym, ap, ◌∙◌, subst, arith, inr, Bool, true, false, if◌then◌else◌, Result, Ok, Err, None}
 use Rattle.std.specs.Prelude.{ℤ, ◌+ℤ◌, Option, not}
 use Rattle.std.specs.Result.{IsErrAnd}
 use Rattle.std.proofs.lemmas.Result.{err_from_is_err_and}
@@ -26,9 +26,8 @@ use Rattle.twkb_outline.specs.Parts.{Passes}
 use Rattle.twkb_body.specs.Head.{head_of, form_of, IsHeadAt}
 use Rattle.twkb_body.specs.Ids.{ids_of}
 use Rattle.twkb_engine.specs.Collections.{groups_of}
-use Rattle.twkb_engine.specs.State.{step_at, outline_in, sums_of, ids_in, IsNext, IsPlaced}
-use Rattle.twkb_engine.specs.Fits.{lists_of, left_fit, lists_fit, has_lines, has_areas, has_members}
-use Rattle.twkb_engine.specs.Stops.{reason_of}
+use Rattle.twkb_engine.specs.State.{step_at, sums_of, ids_in, IsNext}
+use Rattle.twkb_engine.specs.Fits.{lists_of, left_fit, lists_fit, has_lines, has_members}
 use Rattle.twkb_engine.specs.Taking.{Takes, Lands, IsFree, SameBlob, BeginsAt, way_of, brings, sums_with, point_row}
 use Rattle.twkb_engine.specs.Standing.{IsAlive}
 use Rattle.twkb_engine.specs.declared.stop.Stop.{Stop}
@@ -66,7 +65,7 @@ item_unkept r n width d e rs more res is same free past =
 pub body_passed : (way : Result Outline Reason) (gs : List Group) (h : machine.Head) (f : machine.Form) (ids : Ids) (lists : List ℕ) (n : ℕ) → way ≡ Ok (gs, OnBody h f ids (Wanted n lists)) → Passes way
 body_passed way gs h f ids lists n is = subst Passes (sym is) tt
 
-add_zero : (a : ℕ) → a ≡ a + 0
+pub add_zero : (a : ℕ) → a ≡ a + 0
 add_zero a = omega arith
 
 -- ---- a y

@@ -1,5 +1,6 @@
 pub mod Collections
 pub mod Admitted
+pub mod Counts
 pub mod Ends
 pub mod Lists
 pub mod BodyItems

@@ -1,5 +1,5 @@
 -- The ends of lists in a body.
-use Rattle.std.proofs.Common.{◌≡◌, ◌≢◌, ◌+◌, ◌-◌, ◌≤◌, ◌<◌, ℕ, zero, suc, List, [], ◌∷◌, length, refl, sym, ap, subst, ◌∙◌, arith, true, false, Bool, nat_eq, ◌||◌, ◌&&◌, if◌then◌else◌, Result, Ok, None}
+use Rattle.std.proofs.Common.{◌≡◌, ◌-◌, ◌<◌, ℕ, zero, suc, List, length, refl, sym, ap, subst, ◌∙◌, arith, true, if◌then◌else◌, Result, Ok, None}
 use Rattle.std.specs.Prelude.{ℤ, Option}
 use Rattle.twkb_points.specs.Point.{Point}
 use Rattle.twkb_tree.specs.Tree.{Ids}
@@ -14,7 +14,7 @@ use Rattle.twkb_body.specs.Head.{head_of, form_of, IsHeadAt}
 use Rattle.twkb_body.specs.Ids.{ids_of}
 use Rattle.twkb_engine.specs.Collections.{groups_of}
 use Rattle.twkb_engine.specs.State.{step_at, outline_in, IsPlaced}
-use Rattle.twkb_engine.specs.Fits.{lists_of, left_fit, has_members, has_lines, has_areas, is_bodied, first_item, item_fits, lists_fit, IsInside}
+use Rattle.twkb_engine.specs.Fits.{lists_of, left_fit, has_members, is_bodied, first_item, item_fits, lists_fit, IsInside}
 use Rattle.twkb_engine.specs.Taking.{past_value, point_row}
 use Rattle.twkb_engine.specs.declared.next_item.NextItem.{NextItem}
 use Rattle.twkb_engine.specs.declared.open_collections.OpenCollection.{OpenCollection}

@@ -1,6 +1,5 @@
 use Rattle.std.proofs.Common.{◌-◌}
 use Rattle.twkb_grammar.specs.PlainReader.{is_exact as exact}
-use Rattle.twkb_flat.specs.Rows.{row_with}
 use Rattle.twkb_engine.specs.Collections.{groups_of}
 use Rattle.twkb_engine.specs.Taking.{past_end, own_row}
 use Rattle.twkb_engine.proofs.Ends.{past_ends, lands_passed, lands_brought, lands_stopped, lands_unkept, own_pushed}

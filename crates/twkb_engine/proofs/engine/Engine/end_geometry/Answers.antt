@@ -1,4 +1,4 @@
-use Rattle.std.proofs.Common.{◌≡◌, ◌+◌, ◌-◌, ap, length, arith}
+use Rattle.std.proofs.Common.{◌+◌, ◌-◌, ap, length, arith}
 use Rattle.twkb_grammar.specs.Machine.{Sums}
 use Rattle.twkb_engine.specs.Collections.{groups_of}
 use Rattle.twkb_engine.proofs.Ends.{all_ended, some_ended, end_noted}

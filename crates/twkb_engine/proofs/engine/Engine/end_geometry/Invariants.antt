@@ -5,7 +5,7 @@ use Rattle.twkb_outline.specs.Outline.{outline_past_end}
 use Rattle.twkb_engine.specs.Collections.{groups_of}
 use Rattle.twkb_engine.specs.Fits.{are_shut}
 use Rattle.twkb_engine.specs.State.{sums_of}
-use Rattle.twkb_engine.specs.Taking.{SameBlob, Keeps, past_end}
+use Rattle.twkb_engine.specs.Taking.{past_end}
 use Rattle.twkb_engine.proofs.engine.Engine.end_geometry.Given as goal
 
 -- what ends with the geometries that ended is what ends with the first one, and so many ends were noted

@@ -1,4 +1,4 @@
-use Rattle.std.proofs.Common.{Result, Bool, sym, subst}
+use Rattle.std.proofs.Common.{Result, sym, subst}
 use Rattle.twkb_grammar.specs.Fault.{Reason}
 use Rattle.twkb_outline.specs.Outline.{Outline}
 use Rattle.twkb_outline.specs.Growing.{Nothing}

@@ -1,11 +1,9 @@
 use Rattle.std.proofs.Common.{[]}
-use Rattle.twkb_tree.specs.Rows.{Row}
-use Rattle.twkb_outline.specs.Growing.{Change, NewRow}
-use Rattle.twkb_outline.specs.Admitting.{Admits}
+use Rattle.twkb_outline.specs.Growing.{NewRow}
 use Rattle.twkb_flat.specs.Rows.{row_with}
 use Rattle.twkb_engine.specs.Fits.{lists_of}
-use Rattle.twkb_engine.specs.Taking.{past_value, point_row}
-use Rattle.twkb_engine.proofs.Ends.{past_lists, lands_passed, lands_brought, lands_stopped, lands_unkept}
+use Rattle.twkb_engine.specs.Taking.{past_value}
+use Rattle.twkb_engine.proofs.Ends.{past_lists, lands_passed, lands_brought, lands_unkept}
 use Rattle.twkb_engine.proofs.engine.Engine.put_empty.Goals as goal
 
 pub returns-in_err-push_row-clause-shut : goal.returns-in_err-push_row-clause-shut
