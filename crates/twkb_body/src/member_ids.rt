@@ -87,8 +87,9 @@ impl MemberIds {
 
     /// All ids were read: the first member begins. Takes no memory.
     pub fn begin(&mut self)
-        ensures { self.old.has_ids ≡ true → ids_of self.new ≡ Some (ids_read self.old) }
+        ensures { ids_of self.new ≡ Some (ids_read self.old) }
     {
+        self.has_ids = true;
         self.ids.reverse();
     }
 

@@ -1,4 +1,12 @@
 pub mod Collections
+pub mod Admitted
+pub mod Ends
+pub mod Lists
+pub mod BodyItems
+pub mod Counts
+pub mod Parts
+pub mod Members
+pub mod Ahead
 pub mod Steps
 pub mod Feeds
 pub mod Many

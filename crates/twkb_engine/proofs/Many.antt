@@ -46,7 +46,7 @@ led_to rs more d e bytes to p none held limits begins sums is run placed = λ fr
       ap (λ start. notes_in start n.outlined) begins ∙ n.notes d.start,
     )
 
-place_at : (d e : Engine) → e.collections ≡ d.collections → e.head ≡ d.head → IsHeadAt (length (groups_of d.collections)) (id_in (groups_of d.collections)) d.head → IsHeadAt (length (groups_of e.collections)) (id_in (groups_of e.collections)) e.head
+pub place_at : (d e : Engine) → e.collections ≡ d.collections → e.head ≡ d.head → IsHeadAt (length (groups_of d.collections)) (id_in (groups_of d.collections)) d.head → IsHeadAt (length (groups_of e.collections)) (id_in (groups_of e.collections)) e.head
 place_at d e cs h p = subst (λ c. IsHeadAt (length (groups_of c)) (id_in (groups_of c)) e.head) (sym cs) (subst (IsHeadAt (length (groups_of d.collections)) (id_in (groups_of d.collections))) (sym h) p)
 
 place_kept : (d e : Engine) → e.next ≡ next.X → e.collections ≡ d.collections → e.head ≡ d.head → IsHeadAt (length (groups_of d.collections)) (id_in (groups_of d.collections)) d.head → IsPlaced e.next e

@@ -1,37 +1,41 @@
 -- What a helper leads to that goes past a value, as the engine's answer to a piece.
-use Rattle.std.proofs.Common.{◌≡◌, inr, ℕ, zero, suc, ◌+◌, ◌<◌, ◌≤◌, List, [], ◌∷◌, ◌++◌, length, take, refl, sym, ap, ◌∙◌, subst, append-nil, length-append, arith, true, false, Bool, Result, Ok, Err, OnOk, IfOk}
+use Rattle.std.proofs.Common.{◌≡◌, inr, ℕ, ◌+◌, ◌<◌, ◌≤◌, List, [], ◌∷◌, ◌++◌, length, take, refl, sym, ap, ◌∙◌, subst, append-nil, length-append, arith, true, false, Bool, Option, Result, Ok, Err, OnOk, IfOk}
+use Rattle.std.specs.Prelude.{ℤ, if◌then◌else◌, None}
 use Rattle.std.proofs.lemmas.List.{length-take-le}
-use Rattle.twkb_tree.specs.Tree.{Ids}
-use Rattle.twkb_tree.specs.Rows.{Row}
+use Rattle.twkb_points.specs.Point.{Point}
+use Rattle.twkb_tree.specs.Rows.{Row, first_id}
 use Rattle.twkb_grammar.specs.Blob.{Blob}
 use Rattle.twkb_grammar.specs.Fault.{FirstFault}
-use Rattle.twkb_grammar.specs.Machine.{Head, Form}
+use Rattle.twkb_grammar.specs.Machine.{Form}
 use Rattle.twkb_grammar.specs.Noting.{Notes, note_ends_to}
 use Rattle.twkb_grammar.specs.Spans.{spans_of_blob}
-use Rattle.twkb_outline.specs.Outline.{Outline, Group, Step, OnFinished, outline_ends, shut}
-use Rattle.twkb_outline.specs.Growing.{Change, applied}
-use Rattle.twkb_outline.specs.Reading.{OutlineLanded, open_count}
+use Rattle.twkb_outline.specs.Outline.{Outline, Group, Step, OnBody, Wanted, OnFinished, outline_ends, shut}
+use Rattle.twkb_outline.specs.Growing.{Change, applied, id_in, point_change}
+use Rattle.twkb_outline.specs.Admitting.{Admits}
+use Rattle.twkb_outline.specs.Reading.{Outlined, OutlineLanded, open_count, sums_past}
 use Rattle.twkb_outline.specs.Noting.{NotedOutline, notes_in}
 use Rattle.twkb_outline.specs.Parts.{PartIn, IsJudged}
+use Rattle.twkb_outline.proofs.Admitting.{admitted_by, point_admitted}
+use Rattle.twkb_outline.proofs.NotedPairs.{noted_point}
 use Rattle.twkb_outline.proofs.Outlined.{outlined_bytes, outlined_ends}
 use Rattle.twkb_outline.proofs.Judging.{landed_judged}
+use Rattle.twkb_front.specs.Front.{PointInFront}
+use Rattle.twkb_body.specs.declared.head.Head.{Head}
+use Rattle.twkb_body.specs.Head.{head_of, form_of, IsHeadAt}
+use Rattle.twkb_body.specs.Ids.{ids_of}
 use Rattle.twkb_engine.specs.Collections.{groups_of}
-use Rattle.twkb_engine.specs.State.{IsPlaced, sums_of, outline_in, allowance_of}
-use Rattle.twkb_engine.specs.Taking.{Lands, past}
+use Rattle.twkb_engine.specs.Fits.{lists_of, left_fit, lists_fit, item_fits, is_bodied, has_members, IsInside}
+use Rattle.twkb_engine.specs.State.{IsPlaced, sums_of, outline_in, allowance_of, step_at, ids_in}
+use Rattle.twkb_engine.specs.Taking.{Lands, past, past_value, point_row}
 use Rattle.twkb_engine.specs.Notes.{NotesGo, AreOpen, notes_past, open_in}
-use Rattle.twkb_engine.specs.Standing.{StandsAt, IsFed, with_used, notes_at, held_in, offset_in}
+use Rattle.twkb_engine.specs.Standing.{StandsAt, IsAlive, FedBy, IsFed, with_used, notes_at, held_in, offset_in}
 use Rattle.twkb_engine.specs.Stops.{reason_of}
-use Rattle.twkb_engine.specs.declared.blob_reason.BlobReason.{BlobReason}
 use Rattle.twkb_engine.specs.declared.engine.Engine.{Engine}
+use Rattle.twkb_engine.specs.declared.next_item.NextItem.TheVariants as next
 use Rattle.twkb_engine.specs.declared.stop.Stop.{Stop}
 use Rattle.twkb_engine.specs.declared.stop.Stop.TheVariants.{Memory, Refused}
-use Rattle.twkb_engine.proofs.Steps.{noted_ends, outlined_blob, stands_begun}
-
--- past a value the geometry is still open
-pub open_past : (gs : List Group) (h : Head) (f : Form) (ids : Ids) (depth : ℕ) (lists : List ℕ) → open_count (gs, shut h f ids depth lists) ≡ suc (length gs)
-open_past gs h f ids depth [] = refl
-open_past gs h f ids depth (zero ∷ lists) = open_past gs h f ids (suc depth) lists
-open_past gs h f ids depth (suc left ∷ lists) = refl
+use Rattle.twkb_engine.proofs.Steps.{all_whole, open_noted, noted_ends, outlined_blob, stands_begun}
+use Rattle.twkb_engine.proofs.Many.{IsFurther, place_at}
 
 module _ {S : Type 0} (holds : S → Notes → Type 0) (Known : Type 0) (bs piece front : List ℕ) (rs more : List Row) (d e : Engine) (old new : S) (step : Step) (change : Change) (told : ℕ → Notes) (used : ℕ)
     (stood : NotedOutline d.limits front (sums_of d) (groups_of d.collections, step) (applied change rs) told) (noted : Known → AreOpen d (told d.start) × holds old (told d.start)) (some : 0 < used) (within : used ≤ length piece) (at : front ≡ bs ++ take used piece)
@@ -71,3 +75,89 @@ module _ {S : Type 0} (holds : S → Notes → Type 0) (Known : Type 0) (bs piec
   landed_fed (Err Memory) t go placed = record { used = used; some = some; within = within; part = subst (IsJudged d.limits) at (landed_judged d.limits front (sums_of d) (applied change rs) (past d step) landed t) }
   landed_fed (Err (Refused why)) t go placed = record { used = used; some = some; within = within; fault = λ rest. subst (λ l. FirstFault d.limits (l ++ rest) (offset_in e) (reason_of why)) at
       (subst (λ k. FirstFault d.limits (front ++ rest) k (reason_of why)) (sym t.1) (subst (OutlineLanded d.limits front (sums_of d) (applied change rs)) t.0 landed rest)) }
+
+-- ---- a point in front
+
+-- the header is that of the geometry in the open collections
+placed_at_x : (rs : List Row) (bs : List ℕ) (d : Engine) → d.next ≡ next.X → StandsAt bs rs d → IsHeadAt (length (groups_of d.collections)) (id_in (groups_of d.collections)) d.head
+placed_at_x rs bs d is s = subst (λ i. IsPlaced i d) is s.placed
+
+-- what a point changes, by where its header stands
+same_change : (to : Point) (gs : List Group) (h : Head) (f : Form) (member : Option ℤ) → IsHeadAt (length gs) (id_in gs) h → point_change to (length gs) (id_in gs) h.precision f member ≡ point_change to h.depth h.id h.precision f member
+same_change to gs h f member at = ap (λ d. point_change to d (id_in gs) h.precision f member) (sym at.depth_is) ∙ ap (λ i. point_change to h.depth i h.precision f member) (sym at.id_is)
+
+module _ (rs : List Row) (d : Engine) (is : d.next ≡ next.X) (last : d.points_left ≡ 0) where
+  -- where a point is wanted that is the last of its list, or in none
+  abbrev point_step : Step
+  point_step = OnBody (head_of d.head) (form_of d.head.kind) (ids_in d) (Wanted 0 (lists_of d.head.kind 0 d.rings_left d.members_left))
+
+  -- and where it leads to
+  abbrev point_past : Step
+  point_past = shut (head_of d.head) (form_of d.head.kind) (ids_in d) 0 (lists_of d.head.kind 0 d.rings_left d.members_left)
+
+  here : outline_in d ≡ (groups_of d.collections, point_step)
+  here = ap (λ i. (groups_of d.collections, step_at i d)) is ∙ ap (λ p. (groups_of d.collections, OnBody (head_of d.head) (form_of d.head.kind) (ids_in d) (Wanted 0 (lists_of d.head.kind p d.rings_left d.members_left)))) last
+
+  pub point_fits : left_fit d.head.kind 0 d.rings_left d.members_left ≡ true
+  point_fits = subst (λ p. left_fit d.head.kind p d.rings_left d.members_left ≡ true) last (subst (λ i. lists_fit i d.head.kind d.points_left d.rings_left d.members_left ≡ true) is d.lists_fit)
+
+  pub point_bodied : is_bodied d.head.kind ≡ true
+  point_bodied = subst (λ i. item_fits i d.head.kind ≡ true) is d.item_fits
+
+  pub point_inside : IsInside d.next
+  point_inside = subst IsInside (sym is) tt
+
+  module _ (rest : List ℕ) (to : Point) (used : ℕ) (cut : PointInFront d.position rest to used) where
+    -- the rows take it
+    pub front_admits : IsAlive rs d → Admits (point_row to d) rs
+    front_admits alive = admitted_by ((bs : List ℕ) × StandsAt bs rs d) (point_row to d) rs alive (λ s.
+        let gs = groups_of d.collections in
+        let f = form_of d.head.kind in
+        let o = subst (λ o. Outlined d.limits s.1.front (sums_of d) o rs) here s.1.outlined in
+        subst (λ c. Admits c rs) (same_change to gs d.head f (first_id (ids_in d)) (placed_at_x rs s.0 d is s.1))
+        (point_admitted d.limits d.allowed s.1.front (sums_of d) gs (head_of d.head) f (ids_in d) (lists_of d.head.kind 0 d.rings_left d.members_left) rs (take used rest) to o cut.pair))
+
+    -- it was read, before the ends after it
+    point_noted : (bs : List ℕ) (s : StandsAt bs rs d) → NotedOutline d.limits (s.front ++ take used rest) (sums_past (sums_of d) (take used rest) to) (groups_of d.collections, point_past) (applied (point_row to d) rs) (λ start. notes_in start s.outlined)
+    point_noted bs s =
+        let gs = groups_of d.collections in
+        let f = form_of d.head.kind in
+        let lists = lists_of d.head.kind 0 d.rings_left d.members_left in
+        let told : ℕ → Notes = λ start. notes_in start s.outlined in
+        let stood = subst (λ o. NotedOutline d.limits s.front (sums_of d) o rs told) here (record { outlined = s.outlined; notes = λ start. refl }) in
+        subst (λ c. NotedOutline d.limits (s.front ++ take used rest) (sums_past (sums_of d) (take used rest) to) (gs, point_past) (applied c rs) told) (same_change to gs d.head f (first_id (ids_in d)) (placed_at_x rs bs d is s))
+        (noted_point d.limits s.front (sums_of d) gs (head_of d.head) f (ids_in d) lists rs told (take used rest) to stood cut.pair)
+
+    module _ {S : Type 0} (holds : S → Notes → Type 0) (m e : Engine) (more : List Row) (old new : S) (q : IsFurther d m used to 0) (none : held_in d ≡ []) where
+      -- the engine before those ends, which differs in bytes and position
+      there : (groups_of d.collections, point_past) ≡ (groups_of m.collections, shut (head_of m.head) (form_of m.head.kind) (ids_in m) 0 (lists_of m.head.kind 0 m.rings_left m.members_left))
+      there = sym (λ t. (groups_of (q.collections t), shut (head_of (q.head t)) (form_of (q.head t).kind) (if has_members (q.head t).kind then ids_of (q.ids t) else None) 0 (lists_of (q.head t).kind 0 (q.rings_left t) (q.members_left t))))
+
+      row_there : point_row to d ≡ point_row to m
+      row_there = sym (λ t. point_change to (q.head t).depth (q.head t).id (q.head t).precision (form_of (q.head t).kind) (first_id (if has_members (q.head t).kind then ids_of (q.ids t) else None)))
+
+      sums_there : sums_past (sums_of d) (take used rest) to ≡ sums_of m
+      sums_there = let size : d.bytes + length (take used rest) ≡ m.bytes = omega (arith, q.bytes, length-take-le used rest cut.within) in
+          λ t. record { bytes = size t; position = sym q.position t; nodes = sym q.nodes t; points = sym q.points t }
+
+      open_there : open_in d ≡ open_in m
+      open_there = ap open_count (here ∙ sym (ap (λ i. (groups_of m.collections, step_at i m)) (q.next ∙ is)
+          ∙ (λ t. (groups_of (q.collections t), OnBody (head_of (q.head t)) (form_of (q.head t).kind) (if has_members (q.head t).kind then ids_of (q.ids t) else None) (Wanted 0 (lists_of (q.head t).kind (q.points_left t) (q.rings_left t) (q.members_left t))))))
+
+      -- the answer to it is the answer to the piece
+      pub point_fed : (answer : Result Bool Stop) → e.limits ≡ m.limits → e.held ≡ m.held
+          → Lands (past_value m 0 (lists_of m.head.kind 0 m.rings_left m.members_left)) (point_row to m) m rs answer e more → IfOk answer (λ ends. NotesGo holds (notes_past m e ends) m old new)
+          → (IsHeadAt (length (groups_of m.collections)) (id_in (groups_of m.collections)) m.head → OnOk answer (IsPlaced e.next e)) → FedBy holds d rs old rest (with_used used answer) e more new
+      point_fed answer limits held lands go placed = λ bs s.
+          let told : ℕ → Notes = λ start. notes_in start s.outlined in
+          let front : List ℕ = s.front ++ take used rest in
+          let Known : Type 0 = holds old (notes_at s) in
+          let a = subst (λ o. NotedOutline d.limits front (sums_past (sums_of d) (take used rest) to) o (applied (point_row to d) rs) told) there (point_noted bs s) in
+          let b = subst (λ c. NotedOutline d.limits front (sums_past (sums_of d) (take used rest) to) (groups_of m.collections, shut (head_of m.head) (form_of m.head.kind) (ids_in m) 0 (lists_of m.head.kind 0 m.rings_left m.members_left)) (applied c rs) told) row_there a in
+          let c = subst (λ x. NotedOutline d.limits front x (groups_of m.collections, shut (head_of m.head) (form_of m.head.kind) (ids_in m) 0 (lists_of m.head.kind 0 m.rings_left m.members_left)) (applied (point_row to m) rs) told) sums_there b in
+          let stood = subst (λ l. NotedOutline l front (sums_of m) (groups_of m.collections, shut (head_of m.head) (form_of m.head.kind) (ids_in m) 0 (lists_of m.head.kind 0 m.rings_left m.members_left)) (applied (point_row to m) rs) told) (sym q.limits) c in
+          let are_open : length (told m.start).begun ≡ open_in m = open_noted d.limits s.front (sums_of d) (outline_in d) rs s.outlined m.start ∙ open_there in
+          let fed = landed_fed holds Known bs rest front rs more m e old new (shut (head_of m.head) (form_of m.head.kind) (ids_in m) 0 (lists_of m.head.kind 0 m.rings_left m.members_left)) (point_row to m) told used stood
+              (λ known. (are_open, subst (λ x. holds old (told x)) (sym q.start) known)) cut.some cut.within (ap (λ l. l ++ take used rest) (sym (all_whole bs rs d none s))) limits (held ∙ (q.held ∙ none)) answer lands go
+              (placed (place_at d m q.collections q.head (placed_at_x rs bs d is s))) in
+          subst (λ l. IsFed holds Known l d.start bs rest (with_used used answer) more e new) q.limits (subst (λ x. IsFed holds Known (allowance_of m) x bs rest (with_used used answer) more e new) q.start fed)

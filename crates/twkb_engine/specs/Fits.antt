@@ -91,6 +91,24 @@ lists_fit next.RingCount k p r m = nat_eq p 0 && (nat_eq r 0 && left_fit k p r m
 lists_fit next.Id k p r m = nat_eq p 0 && nat_eq r 0
 lists_fit _ k p r m = are_shut p r m
 
+-- the item after the header of a geometry of this kind: that of its body, or the count of its members
+abbrev pub header_item : Kind → NextItem
+header_item kinds.Point = next.X
+header_item kinds.Linestring = next.PointCount
+header_item kinds.Polygon = next.RingCount
+header_item _ = next.MemberCount
+
+-- the first item of a body of this kind, or of a member of a multi-geometry of this kind; of a collection's member, its type byte
+abbrev pub first_item : Kind → NextItem
+first_item kinds.Point = next.X
+first_item kinds.MultiPoint = next.X
+first_item kinds.Linestring = next.PointCount
+first_item kinds.MultiLinestring = next.PointCount
+first_item kinds.Ring = next.PointCount
+first_item kinds.Polygon = next.RingCount
+first_item kinds.MultiPolygon = next.RingCount
+first_item kinds.Collection = next.TypeByte
+
 -- more collections than can be open: limits let at most 32 nest
 abbrev pub depth_cap : ℕ
 depth_cap = 64
@@ -101,3 +119,8 @@ IsByte next.TypeByte = ⊤
 IsByte next.MetadataByte = ⊤
 IsByte next.ExtendedByte = ⊤
 IsByte _ = ⊥
+
+-- a geometry is begun, by its type byte
+abbrev pub IsInside : NextItem → Type 0
+IsInside next.TypeByte = ⊥
+IsInside _ = ⊤

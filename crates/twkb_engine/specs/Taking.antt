@@ -54,7 +54,7 @@ pub record SameBlob (d e : Engine) : Type 0 where
   pub limits : e.limits ≡ d.limits
   pub start : e.start ≡ d.start
 
--- its limits, and the bytes that it holds of a number
+-- it keeps its limits, and the bytes that it holds of a number
 pub record Keeps (d e : Engine) : Type 0 where
   pub limits : e.limits ≡ d.limits
   pub held : e.held ≡ d.held
@@ -68,6 +68,10 @@ pub record SameBut (d e : Engine) : Type 0 where
   pub points : e.points ≡ d.points
   pub collections : e.collections ≡ d.collections
   pub next : e.next ≡ d.next
+  pub held : e.held ≡ d.held
+  pub points_left : e.points_left ≡ d.points_left
+  pub rings_left : e.rings_left ≡ d.rings_left
+  pub members_left : e.members_left ≡ d.members_left
 
 -- What an engine answers to an item of this role and number, of so many bytes: it leads on past the ends after it; or the blob ends with it; or it was judged, and so
 -- were the sizes that end with it, but there is no memory for what it brings; or the grammar's first reason refuses it, or a size at its end.
@@ -90,6 +94,14 @@ Lands way change d rs (Ok false) e more = (way ≡ Ok (outline_in e)) × (sums_o
 Lands way change d rs (Ok true) e more = (way ≡ Ok ([], OnFinished)) × (more ≡ applied change rs) × BeginsAt (d.start + d.bytes) e
 Lands way change d rs (Err Memory) e more = Passes way
 Lands way change d rs (Err (Refused why)) e more = (way ≡ Err (reason_of why)) × (e.bytes ≡ d.bytes)
+
+-- An item of this role and number, of so many bytes, leads that way, with this change of the rows, to where this engine stands before the ends that follow it.
+pub record LeadsTo (r : Role) (n width : ℕ) (d : Engine) (way : Result Outline Reason) (change : Change) (m : Engine) : Type 0 where
+  pub free : IsFree r n d
+  pub way_is : way_of n width d ≡ way
+  pub brings_is : brings r n d ≡ change
+  pub sums_is : sums_of m ≡ sums_with (sums_of d) r n width
+  pub same : SameBlob d m
 
 -- past this step of the geometry that is read
 abbrev pub past : Engine → Step → Result Outline Reason

@@ -1,11 +1,12 @@
 //! The items of a body: coordinates, and counts of points and of rings.
-ghost use Rattle.std.specs.Prelude.{◌≡◌, ◌≢◌, ◌+◌, ◌≤◌, ◌^◌, [], true, List, Ok, IfOk, OnOk};
+ghost use Rattle.std.specs.Prelude.{◌≡◌, ◌≢◌, ◌+◌, ◌≤◌, ◌^◌, [], true, false, List, length, Ok, IfOk, OnOk};
 ghost use Rattle.twkb_tree.specs.Rows.{Row as TableRow};
 ghost use Rattle.twkb_grammar.specs.Roles as role;
 ghost use Rattle.twkb_grammar.specs.Machine.{listed};
 ghost use Rattle.twkb_flat.specs.Rows.{row_with};
-ghost use Rattle.twkb_outline.specs.Growing.{NewRow};
+ghost use Rattle.twkb_outline.specs.Growing.{NewRow, Nothing, id_in};
 ghost use Rattle.twkb_outline.specs.Admitting.{Admits};
+ghost use Rattle.twkb_body.specs.Head.{IsHeadAt};
 ghost use Rattle.twkb_engine.specs.declared.next_item.NextItem.TheVariants as next;
 
 use crate::blob_reason::BlobReason;
@@ -21,8 +22,9 @@ use twkb_points::Pt;
 
 impl Engine {
     ghost use Rattle.twkb_engine.specs.State.{IsPlaced, outline_in, sums_of};
-    ghost use Rattle.twkb_engine.specs.Fits.{lists_of, left_fit, is_bodied};
-    ghost use Rattle.twkb_engine.specs.Taking.{Takes, Lands, SameBlob, past_end, past_value, point_row};
+    ghost use Rattle.twkb_engine.specs.Collections.{groups_of};
+    ghost use Rattle.twkb_engine.specs.Fits.{lists_of, left_fit, is_bodied, are_shut, IsInside};
+    ghost use Rattle.twkb_engine.specs.Taking.{Takes, Lands, SameBlob, Keeps, past_end, past_value, point_row};
     ghost use Rattle.twkb_engine.specs.Notes.{NotesGo, notes_with, notes_past, open_in};
     ghost use Rattle.twkb_engine.specs.Standing.{IsAlive};
 
@@ -34,6 +36,7 @@ impl Engine {
         ensures taken { (rs : List TableRow) → Takes role.X number width self.old rs result self.new rs }
         ensures begun { OnOk result (open_in self.new ≡ open_in self.old) }
         ensures placed { IsPlaced self.old.next self.old → OnOk result (IsPlaced self.new.next self.new) }
+        ensures kept { Keeps self.old self.new }
     {
         let Some(position) = moved_x(self.position, unzigzag(number)) else {
             return Err(Stop::Refused(BlobReason::CoordinateRange));
@@ -59,6 +62,7 @@ impl Engine {
         ensures taken { Takes role.Y number width self.old flat.old result self.new flat.new }
         ensures noted { IfOk result (λ ends. NotesGo S.holds (notes_with role.Y number width self.old self.new ends) self.old spans.old spans.new) }
         ensures placed { IsPlaced self.old.next self.old → OnOk result (IsPlaced self.new.next self.new) }
+        ensures kept { Keeps self.old self.new }
     {
         let Some(position) = moved_y(self.position, unzigzag(number)) else {
             return Err(Stop::Refused(BlobReason::CoordinateRange));
@@ -83,20 +87,18 @@ impl Engine {
         spans: &mut S,
         position: Pt,
     ) -> Result<bool, Stop>
-        requires room { self.old.start + self.old.bytes ≤ 2 ^ 63 }
         requires last { self.old.points_left ≡ 0 }
+        requires fits { left_fit self.old.head.kind 0 self.old.rings_left self.old.members_left ≡ true }
+        requires bodied { is_bodied self.old.head.kind ≡ true }
+        requires inside { IsInside self.old.next }
         requires may { Admits (point_row position self.old) flat.old }
         ensures shut { Lands (past_value self.old 0 (lists_of self.old.head.kind 0 self.old.rings_left self.old.members_left)) (point_row position self.old) self.old flat.old result self.new flat.new }
         ensures noted { IfOk result (λ ends. NotesGo S.holds (notes_past self.old self.new ends) self.old spans.old spans.new) }
-        ensures placed { IsPlaced self.old.next self.old → OnOk result (IsPlaced self.new.next self.new) }
+        ensures placed { IsHeadAt (length (groups_of self.old.collections)) (id_in (groups_of self.old.collections)) self.old.head → OnOk result (IsPlaced self.new.next self.new) }
+        ensures kept { Keeps self.old self.new }
     {
         let member = self.ids.first();
-        let ends = if self.ends_with_list() {
-            self.end_geometry(spans)?
-        } else {
-            self.end_list();
-            false
-        };
+        let ends = self.end_value(spans)?;
         put_point(flat, &self.head, member, position)?;
         Ok(ends)
     }
@@ -116,6 +118,7 @@ impl Engine {
         ensures taken { Takes (role.Count (listed 0)) count width self.old flat.old result self.new flat.new }
         ensures noted { IfOk result (λ ends. NotesGo S.holds (notes_with (role.Count (listed 0)) count width self.old self.new ends) self.old spans.old spans.new) }
         ensures placed { IsPlaced self.old.next self.old → OnOk result (IsPlaced self.new.next self.new) }
+        ensures kept { Keeps self.old self.new }
     {
         if let Some(reason) = self.too_many(0, count) {
             return Err(Stop::Refused(reason));
@@ -147,6 +150,7 @@ impl Engine {
         ensures taken { Takes (role.Count (listed 1)) count width self.old flat.old result self.new flat.new }
         ensures noted { IfOk result (λ ends. NotesGo S.holds (notes_with (role.Count (listed 1)) count width self.old self.new ends) self.old spans.old spans.new) }
         ensures placed { IsPlaced self.old.next self.old → OnOk result (IsPlaced self.new.next self.new) }
+        ensures kept { Keeps self.old self.new }
     {
         if let Some(reason) = self.too_many(count, 0) {
             return Err(Stop::Refused(reason));
@@ -170,18 +174,37 @@ impl Engine {
         spans: &mut S,
         row: Row,
     ) -> Result<bool, Stop>
-        requires empty { self.old.points_left ≡ 0 }
-        requires room { self.old.start + self.old.bytes ≤ 2 ^ 63 }
+        requires last { self.old.points_left ≡ 0 }
+        requires fits { left_fit self.old.head.kind 0 self.old.rings_left self.old.members_left ≡ true }
+        requires bodied { is_bodied self.old.head.kind ≡ true }
+        requires inside { IsInside self.old.next }
         requires may { Admits (NewRow (row_with row [])) flat.old }
         ensures shut { Lands (past_value self.old 0 (lists_of self.old.head.kind 0 self.old.rings_left self.old.members_left)) (NewRow (row_with row [])) self.old flat.old result self.new flat.new }
         ensures noted { IfOk result (λ ends. NotesGo S.holds (notes_past self.old self.new ends) self.old spans.old spans.new) }
+        ensures placed { IsHeadAt (length (groups_of self.old.collections)) (id_in (groups_of self.old.collections)) self.old.head → OnOk result (IsPlaced self.new.next self.new) }
+        ensures kept { Keeps self.old self.new }
+    {
+        let ends = self.end_value(spans)?;
+        push_row(flat, row)?;
+        Ok(ends)
+    }
+
+    // Goes past the end of a list of points, or of a point that is in none: to the next ring or member, or past the end of the geometry.
+    #[inline(always)]
+    fn end_value<S: SpanNotes>(&mut self, spans: &mut S) -> Result<bool, Stop>
+        requires last { self.old.points_left ≡ 0 }
+        requires fits { left_fit self.old.head.kind 0 self.old.rings_left self.old.members_left ≡ true }
+        requires bodied { is_bodied self.old.head.kind ≡ true }
+        requires inside { IsInside self.old.next }
+        ensures ended { (rs : List TableRow) → Lands (past_value self.old 0 (lists_of self.old.head.kind 0 self.old.rings_left self.old.members_left)) Nothing self.old rs result self.new rs }
+        ensures noted { IfOk result (λ ends. NotesGo S.holds (notes_past self.old self.new ends) self.old spans.old spans.new) }
+        ensures head { self.new.head ≡ self.old.head }
+        ensures placed { IsHeadAt (length (groups_of self.old.collections)) (id_in (groups_of self.old.collections)) self.old.head → OnOk result (IsPlaced self.new.next self.new) }
+        ensures kept { Keeps self.old self.new }
     {
         if self.ends_with_list() {
-            let whole = self.end_geometry(spans)?;
-            push_row(flat, row)?;
-            return Ok(whole);
+            return self.end_geometry(spans);
         }
-        push_row(flat, row)?;
         self.end_list();
         Ok(false)
     }
@@ -190,6 +213,8 @@ impl Engine {
     #[inline(always)]
     fn ends_with_list(&self) -> bool
         ensures ends { result ≡ true → past_value self.now 0 (lists_of self.now.head.kind 0 self.now.rings_left self.now.members_left) ≡ past_end self.now }
+        ensures shut { result ≡ true → are_shut 0 self.now.rings_left self.now.members_left ≡ true }
+        ensures more { result ≡ false → self.now.rings_left + self.now.members_left ≢ 0 }
     {
         self.rings_left == 0 && self.members_left == 0
     }
@@ -203,8 +228,12 @@ impl Engine {
         requires left { self.old.rings_left + self.old.members_left ≢ 0 }
         ensures step { past_value self.old 0 (lists_of self.old.head.kind 0 self.old.rings_left self.old.members_left) ≡ Ok (outline_in self.new) }
         ensures sums { sums_of self.new ≡ sums_of self.old }
-        ensures same { SameBlob self.old self.new }
+        ensures blob { SameBlob self.old self.new }
         ensures head { self.new.head ≡ self.old.head }
+        ensures same { self.new.collections ≡ self.old.collections }
+        ensures inside { IsInside self.new.next }
+        ensures placed { IsHeadAt (length (groups_of self.old.collections)) (id_in (groups_of self.old.collections)) self.old.head → IsPlaced self.new.next self.new }
+        ensures kept { Keeps self.old self.new }
     {
         if self.rings_left > 0 {
             self.rings_left -= 1;

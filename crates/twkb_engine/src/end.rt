@@ -1,5 +1,5 @@
 //! The end of a geometry.
-ghost use Rattle.std.specs.Prelude.{◌≡◌, ◌-◌, true, IfOk, List};
+ghost use Rattle.std.specs.Prelude.{◌≡◌, ◌-◌, true, IfOk, OnOk, List};
 ghost use Rattle.twkb_grammar.specs.PlainReader.{is_exact as exact};
 ghost use Rattle.twkb_outline.specs.Growing.{Nothing};
 ghost use Rattle.twkb_outline.specs.Admitting.{Admits};
@@ -26,17 +26,21 @@ fn is_exact(head: &Head, bytes: u64) -> bool
 }
 
 impl Engine {
-    ghost use Rattle.twkb_engine.specs.Fits.{are_shut};
-    ghost use Rattle.twkb_engine.specs.Taking.{Lands, past_end, own_row};
+    ghost use Rattle.twkb_engine.specs.State.{IsPlaced};
+    ghost use Rattle.twkb_engine.specs.Fits.{are_shut, IsInside};
+    ghost use Rattle.twkb_engine.specs.Taking.{Lands, Keeps, past_end, own_row};
     ghost use Rattle.twkb_engine.specs.Notes.{NotesGo, notes_past};
 
     // Ends the geometry that is read, and each collection of which it is the last member, while their sizes are exact; returns whether the
     // blob ends with it. Takes no memory.
     pub(crate) fn end_geometry<S: SpanNotes>(&mut self, spans: &mut S) -> Result<bool, Stop>
         requires shut { are_shut self.old.points_left self.old.rings_left self.old.members_left ≡ true }
+        requires inside { IsInside self.old.next }
         ensures ended { (rs : List Row) → Lands (past_end self.old) Nothing self.old rs result self.new rs }
         ensures noted { IfOk result (λ ends. NotesGo S.holds (notes_past self.old self.new ends) self.old spans.old spans.new) }
         ensures head { self.new.head ≡ self.old.head }
+        ensures placed { OnOk result (IsPlaced self.new.next self.new) }
+        ensures kept { Keeps self.old self.new }
     {
         let mut head = self.head;
         loop {
@@ -65,9 +69,12 @@ impl Engine {
         spans: &mut S,
     ) -> Result<bool, Stop>
         requires shut { are_shut self.old.points_left self.old.rings_left self.old.members_left ≡ true }
+        requires inside { IsInside self.old.next }
         requires row { Admits (own_row self.old) flat.old }
         ensures ended { Lands (past_end self.old) (own_row self.old) self.old flat.old result self.new flat.new }
         ensures noted { IfOk result (λ ends. NotesGo S.holds (notes_past self.old self.new ends) self.old spans.old spans.new) }
+        ensures placed { OnOk result (IsPlaced self.new.next self.new) }
+        ensures kept { Keeps self.old self.new }
     {
         let ends = self.end_geometry(spans)?;
         push_row(flat, own_row(&self.head))?;

@@ -109,6 +109,26 @@ impl Engine {
                 return Ok((used, false));
             }
         }
+        self.take_point(flat, spans, rest)
+    }
+
+    // Takes a point that is the last of its list, or in none, if it is complete; returns how many bytes were taken, or 0, and whether the
+    // blob ends with them.
+    #[inline(always)]
+    fn take_point<S: SpanNotes>(
+        &mut self,
+        flat: &mut Flat,
+        spans: &mut S,
+        rest: &[u8],
+    ) -> Result<(usize, bool), Stop>
+        requires next { self.old.next ≡ X }
+        requires last { self.old.points_left ≡ 0 }
+        requires room { place_in self.old + length rest.now ≤ 2 ^ 63 }
+        requires alone { held_in self.old ≡ [] }
+        requires alive { IsAlive flat.old self.old }
+        ensures limits { self.new.limits ≡ self.old.limits }
+        ensures fed { FedBy S.holds self.old flat.old spans.old rest.now result self.new flat.new spans.new }
+    {
         let Some((position, used)) = front_point(self.position, rest) else {
             return Ok((0, false));
         };
@@ -154,6 +174,8 @@ impl Engine {
         ensures memory { OnErr result (StopsIn flat.old self.old rest.now) }
         ensures kept { Keeps self.old self.new }
         ensures start { self.new.start ≡ self.old.start }
+        ensures next { self.new.next ≡ self.old.next }
+        ensures lists { self.new.points_left ≡ self.old.points_left }
     {
         let depth = self.head.depth + 1;
         let most = self.members_left;

@@ -1,13 +1,14 @@
 //! The items of a header: type byte, metadata byte, extended byte, size and box.
-ghost use Rattle.std.specs.Prelude.{◌≡◌, ◌+◌, ◌≤◌, ◌<◌, ◌^◌, ◌/◌, ◌%◌, ℕ, List, [], None, false, IfOk, OnOk, OnErr, Ok, length, take};
+ghost use Rattle.std.specs.Prelude.{◌≡◌, ◌+◌, ◌≤◌, ◌<◌, ◌^◌, ◌/◌, ◌%◌, ℕ, List, [], None, true, false, IfOk, OnOk, OnErr, Ok, length, take};
 ghost use Rattle.twkb_tree.specs.Rows.{Row};
 ghost use Rattle.twkb_grammar.specs.Roles as role;
+ghost use Rattle.twkb_grammar.specs.Roles.{Role};
 ghost use Rattle.twkb_grammar.specs.Fault.{announces_point as announces};
 ghost use Rattle.twkb_grammar.specs.Machine.{kind_number, kind_at};
 ghost use Rattle.twkb_num.specs.Zigzag.{unzigzag_of};
 ghost use Rattle.twkb_points.specs.Point.{origin as origin_of};
 ghost use Rattle.twkb_grammar.specs.Bits.{bit};
-ghost use Rattle.twkb_grammar.specs.Noting.{note_header, note_metadata};
+ghost use Rattle.twkb_grammar.specs.Noting.{Notes, note_header, note_metadata};
 ghost use Rattle.twkb_outline.specs.Outline.{OnMetadata, begins};
 ghost use Rattle.twkb_outline.specs.Growing.{id_in};
 ghost use Rattle.twkb_outline.specs.Admitting.{Admits};
@@ -31,7 +32,8 @@ const BOX_REST: u8 = 3;
 impl Engine {
     ghost use Rattle.twkb_engine.specs.State.{IsPlaced, outline_in, sums_of, size_roles, box_roles};
     ghost use Rattle.twkb_engine.specs.Collections.{groups_of};
-    ghost use Rattle.twkb_engine.specs.Taking.{Takes, Lands, SameBlob, SameBut, past_parts, header_row};
+    ghost use Rattle.twkb_engine.specs.Fits.{IsInside, are_shut, is_typed};
+    ghost use Rattle.twkb_engine.specs.Taking.{Takes, Lands, LeadsTo, SameBlob, SameBut, Keeps, past_parts, header_row};
     ghost use Rattle.twkb_engine.specs.Notes.{NotesGo, notes_with, notes_past};
     ghost use Rattle.twkb_engine.specs.Standing.{IsAlive, LeadsOn, StopsIn, held_in};
 
@@ -42,8 +44,10 @@ impl Engine {
         spans: &mut S,
         byte: TypeByte,
     ) -> Result<(), AllocError>
+        requires next { self.old.next ≡ next.TypeByte }
         requires room { self.old.start + self.old.bytes ≤ 2 ^ 63 }
-        ensures typed { OnMetadata (kind_of self.new.head.kind) self.new.head.precision ≡ OnMetadata (kind_at (byte % 16)) (unzigzag_of (byte / 16)) }
+        ensures typed { is_typed self.new.head.kind ≡ true }
+        ensures step { OnMetadata (kind_of self.new.head.kind) self.new.head.precision ≡ OnMetadata (kind_at (byte % 16)) (unzigzag_of (byte / 16)) }
         ensures noted { OnOk result (NotesGo S.holds (note_header (self.old.start + self.old.bytes) self.old.points byte) self.old spans.old spans.new) }
         ensures position { self.new.position ≡ origin_of }
         ensures same { SameBut self.old self.new }
@@ -60,7 +64,9 @@ impl Engine {
         ensures head { head_of self.new.head ≡ record { precision = self.old.head.precision; meta = metadata; size = None; from = self.old.bytes } }
         ensures placed { IsHeadAt (length (groups_of self.new.collections)) (id_in (groups_of self.new.collections)) self.new.head }
         ensures kind { self.new.head.kind ≡ self.old.head.kind }
+        ensures position { self.new.position ≡ self.old.position }
         ensures noted { NotesGo S.holds (note_metadata metadata) self.old spans.old spans.new }
+        ensures told { (w : Notes) → S.holds spans.old w → S.holds spans.new (note_metadata metadata w) }
         ensures same { SameBut self.old self.new }
     {
         spans.set_metadata(metadata.byte());
@@ -92,6 +98,7 @@ impl Engine {
         ensures taken { (rs : List Row) → Takes role.Header number 1 self.old rs result self.new rs }
         ensures noted { IfOk result (λ ends. NotesGo S.holds (notes_with role.Header number 1 self.old self.new ends) self.old spans.old spans.new) }
         ensures placed { IsPlaced self.old.next self.old → OnOk result (IsPlaced self.new.next self.new) }
+        ensures kept { Keeps self.old self.new }
     {
         let byte = TypeByte::from_number(number);
         if !byte.names_type() {
@@ -118,14 +125,14 @@ impl Engine {
         ensures taken { Takes (role.Metadata (kind_number (kind_of self.old.head.kind))) number 1 self.old flat.old result self.new flat.new }
         ensures noted { IfOk result (λ ends. NotesGo S.holds (notes_with (role.Metadata (kind_number (kind_of self.old.head.kind))) number 1 self.old self.new ends) self.old spans.old spans.new) }
         ensures placed { IsPlaced self.old.next self.old → OnOk result (IsPlaced self.new.next self.new) }
+        ensures kept { Keeps self.old self.new }
     {
         let metadata = Metadata::from_number(number);
-        if self.announces_point(self.head.kind, metadata) {
-            if self.points >= u64::from(self.limits.points()) {
-                return Err(Stop::Refused(BlobReason::TooManyPoints));
-            }
-            self.points += 1;
+        let points = u64::from(self.announces_point(self.head.kind, metadata));
+        if points > u64::from(self.limits.points()) - self.points {
+            return Err(Stop::Refused(BlobReason::TooManyPoints));
         }
+        self.points += points;
         self.bytes += 1;
         self.set_metadata(spans, metadata);
         if metadata.has_extended() {
@@ -150,6 +157,7 @@ impl Engine {
         ensures taken { Takes role.Extended number 1 self.old flat.old result self.new flat.new }
         ensures noted { IfOk result (λ ends. NotesGo S.holds (notes_with role.Extended number 1 self.old self.new ends) self.old spans.old spans.new) }
         ensures placed { IsPlaced self.old.next self.old → OnOk result (IsPlaced self.new.next self.new) }
+        ensures kept { Keeps self.old self.new }
     {
         if number % 4 != 0 {
             return Err(Stop::Refused(BlobReason::ExtraDimensions));
@@ -174,6 +182,7 @@ impl Engine {
         ensures taken { Takes role.Size number width self.old flat.old result self.new flat.new }
         ensures noted { IfOk result (λ ends. NotesGo S.holds (notes_with role.Size number width self.old self.new ends) self.old spans.old spans.new) }
         ensures placed { IsPlaced self.old.next self.old → OnOk result (IsPlaced self.new.next self.new) }
+        ensures kept { Keeps self.old self.new }
     {
         self.bytes += width;
         self.head.size = Some(number);
@@ -196,6 +205,7 @@ impl Engine {
         ensures taken { (number : ℕ) → Takes role.Box number width self.old flat.old result self.new flat.new }
         ensures noted { (number : ℕ) → IfOk result (λ ends. NotesGo S.holds (notes_with role.Box number width self.old self.new ends) self.old spans.old spans.new) }
         ensures placed { IsPlaced self.old.next self.old → OnOk result (IsPlaced self.new.next self.new) }
+        ensures kept { Keeps self.old self.new }
     {
         self.bytes += width;
         if left > 0 {
@@ -214,11 +224,16 @@ impl Engine {
         metadata: Metadata,
     ) -> Result<bool, Stop>
         requires same { metadata ≡ self.old.head.metadata }
+        requires typed { is_typed self.old.head.kind ≡ true }
+        requires shut { are_shut self.old.points_left self.old.rings_left self.old.members_left ≡ true }
+        requires inside { IsInside self.old.next }
         requires room { self.old.start + self.old.bytes ≤ 2 ^ 63 }
         requires may { Admits (header_row self.old (size_roles self.old.head.metadata)) flat.old }
         ensures landed { Lands (past_parts self.old (size_roles self.old.head.metadata)) (header_row self.old (size_roles self.old.head.metadata)) self.old flat.old result self.new flat.new }
+        ensures taken { (r : Role) (n width : ℕ) (d : Engine) → LeadsTo r n width d (past_parts self.old (size_roles self.old.head.metadata)) (header_row self.old (size_roles self.old.head.metadata)) self.old → Takes r n width d flat.old result self.new flat.new }
         ensures noted { IfOk result (λ ends. NotesGo S.holds (notes_past self.old self.new ends) self.old spans.old spans.new) }
         ensures placed { IsHeadAt (length (groups_of self.old.collections)) (id_in (groups_of self.old.collections)) self.old.head → OnOk result (IsPlaced self.new.next self.new) }
+        ensures kept { Keeps self.old self.new }
     {
         if metadata.has_size() {
             self.next = NextItem::Size;
@@ -236,11 +251,16 @@ impl Engine {
         metadata: Metadata,
     ) -> Result<bool, Stop>
         requires same { metadata ≡ self.old.head.metadata }
+        requires typed { is_typed self.old.head.kind ≡ true }
+        requires shut { are_shut self.old.points_left self.old.rings_left self.old.members_left ≡ true }
+        requires inside { IsInside self.old.next }
         requires room { self.old.start + self.old.bytes ≤ 2 ^ 63 }
         requires may { Admits (header_row self.old (box_roles self.old.head.metadata)) flat.old }
         ensures landed { Lands (past_parts self.old (box_roles self.old.head.metadata)) (header_row self.old (box_roles self.old.head.metadata)) self.old flat.old result self.new flat.new }
+        ensures taken { (r : Role) (n width : ℕ) (d : Engine) → LeadsTo r n width d (past_parts self.old (box_roles self.old.head.metadata)) (header_row self.old (box_roles self.old.head.metadata)) self.old → Takes r n width d flat.old result self.new flat.new }
         ensures noted { IfOk result (λ ends. NotesGo S.holds (notes_past self.old self.new ends) self.old spans.old spans.new) }
         ensures placed { IsHeadAt (length (groups_of self.old.collections)) (id_in (groups_of self.old.collections)) self.old.head → OnOk result (IsPlaced self.new.next self.new) }
+        ensures kept { Keeps self.old self.new }
     {
         if metadata.has_box() {
             self.next = NextItem::BoxNumber { left: BOX_REST };
@@ -251,16 +271,17 @@ impl Engine {
 
     // Goes past the header: to the body, or to the count of members; a geometry without a body ends.
     #[inline(always)]
-    fn begin_body<S: SpanNotes>(
-        &mut self,
-        flat: &mut Flat,
-        spans: &mut S,
-    ) -> Result<bool, Stop>
+    fn begin_body<S: SpanNotes>(&mut self, flat: &mut Flat, spans: &mut S) -> Result<bool, Stop>
+        requires typed { is_typed self.old.head.kind ≡ true }
+        requires shut { are_shut self.old.points_left self.old.rings_left self.old.members_left ≡ true }
+        requires inside { IsInside self.old.next }
         requires room { self.old.start + self.old.bytes ≤ 2 ^ 63 }
         requires may { Admits (header_row self.old []) flat.old }
         ensures landed { Lands (past_parts self.old []) (header_row self.old []) self.old flat.old result self.new flat.new }
+        ensures taken { (r : Role) (n width : ℕ) (d : Engine) → LeadsTo r n width d (past_parts self.old []) (header_row self.old []) self.old → Takes r n width d flat.old result self.new flat.new }
         ensures noted { IfOk result (λ ends. NotesGo S.holds (notes_past self.old self.new ends) self.old spans.old spans.new) }
         ensures placed { IsHeadAt (length (groups_of self.old.collections)) (id_in (groups_of self.old.collections)) self.old.head → OnOk result (IsPlaced self.new.next self.new) }
+        ensures kept { Keeps self.old self.new }
     {
         if Metadata::from_byte(self.head.metadata).is_empty() {
             return self.end_empty(flat, spans);
@@ -272,16 +293,16 @@ impl Engine {
     // The body begins, or the count of members comes next.
     #[inline(always)]
     fn go_to_body(&mut self)
-        requires body { bit self.old.head.metadata 4 ≡ false }
+        requires typed { is_typed self.old.head.kind ≡ true }
+        requires shut { are_shut self.old.points_left self.old.rings_left self.old.members_left ≡ true }
         ensures step { outline_in self.new ≡ (groups_of self.old.collections, begins (kind_of self.old.head.kind) (head_of self.old.head)) }
+        ensures head { self.new.head ≡ self.old.head }
+        ensures collections { self.new.collections ≡ self.old.collections }
         ensures sums { sums_of self.new ≡ sums_of self.old }
         ensures same { SameBlob self.old self.new }
+        ensures kept { Keeps self.old self.new }
     {
-        self.ids.restart(false);
-        self.next = match self.head.kind {
-            Kind::Point | Kind::Linestring | Kind::Polygon => NextItem::first_of(self.head.kind),
-            _ => NextItem::MemberCount,
-        };
+        self.next = NextItem::after_header(self.head.kind);
     }
 
     // Takes a header that is complete, with a body after it; returns how many bytes it has, or 0, and then it changes nothing: a point that
@@ -299,6 +320,8 @@ impl Engine {
         ensures led { (rs : List Row) → IfOk result (λ used. LeadsOn S.holds rs self.old spans.old (take used rest.now) rs self.new spans.new) }
         ensures memory { (rs : List Row) → OnErr result (StopsIn rs self.old rest.now) }
         ensures same { result ≡ Ok 0 → self.new ≡ self.old }
+        ensures start { self.new.start ≡ self.old.start }
+        ensures kept { Keeps self.old self.new }
     {
         let Some(header) = front_header(rest) else {
             return Ok(0);

@@ -1,6 +1,7 @@
 //! The items before the members of a multi-geometry or a collection: their count and their ids.
-ghost use Rattle.std.specs.Prelude.{◌≡◌, ◌+◌, ◌≤◌, ◌<◌, ◌^◌, nat_lt, suc, length, None, IfOk, OnOk};
+ghost use Rattle.std.specs.Prelude.{◌≡◌, ℕ, ◌+◌, ◌≤◌, ◌<◌, ◌^◌, nat_lt, suc, length, None, IfOk, OnOk};
 ghost use Rattle.twkb_grammar.specs.Roles as role;
+ghost use Rattle.twkb_grammar.specs.Roles.{Role};
 ghost use Rattle.twkb_grammar.specs.Fault as fault;
 ghost use Rattle.twkb_grammar.specs.Fault.{points_of};
 ghost use Rattle.twkb_grammar.specs.PlainReader.{unless, objection};
@@ -18,6 +19,7 @@ use crate::engine::Engine;
 use crate::next_item::NextItem;
 use crate::span_notes::SpanNotes;
 use crate::stop::Stop;
+use std::alloc::AllocError;
 use twkb_body::{own_row, push_row};
 use twkb_flat::Flat;
 use twkb_header::Metadata;
@@ -28,8 +30,8 @@ impl Engine {
     ghost use Rattle.twkb_engine.specs.State.{IsPlaced, outline_in, sums_of};
     ghost use Rattle.twkb_engine.specs.Collections.{groups_of};
     ghost use Rattle.twkb_engine.specs.Fits.{depth_cap};
-    ghost use Rattle.twkb_engine.specs.Taking.{Takes, SameBlob, own_row};
-    ghost use Rattle.twkb_engine.specs.Notes.{NotesGo, notes_with, open_in};
+    ghost use Rattle.twkb_engine.specs.Taking.{Takes, LeadsTo, SameBlob, Keeps, own_row, past_end};
+    ghost use Rattle.twkb_engine.specs.Notes.{NotesGo, notes_with, notes_past, open_in};
     ghost use Rattle.twkb_engine.specs.Standing.{IsAlive};
 
     // Why there may not be so many rows and points more.
@@ -46,10 +48,22 @@ impl Engine {
         None
     }
 
+    // The points that so many members announce.
+    #[inline(always)]
+    fn member_points(&self, count: u64) -> u64
+        ensures { result ≡ points_of (first_count (many_of self.now.head.kind) (length (groups_of self.now.collections))) count }
+    {
+        if self.head.kind == Kind::MultiPoint {
+            return count;
+        }
+        0
+    }
+
     // Why there may not be so many members, with so many points.
     #[inline(always)]
     fn too_many_members(&self, count: u64, points: u64) -> Option<BlobReason>
-        requires { points ≡ points_of (first_count (many_of self.now.head.kind) (length (groups_of self.now.collections))) count }
+        requires next { self.now.next ≡ next.MemberCount }
+        requires points { points ≡ points_of (first_count (many_of self.now.head.kind) (length (groups_of self.now.collections))) count }
         ensures { objection_of result ≡ objection self.now.limits (sums_of self.now) (role.Count (first_count (many_of self.now.head.kind) (length (groups_of self.now.collections)))) count }
     {
         let nest = self.limits.nest() as usize;
@@ -74,8 +88,9 @@ impl Engine {
         ensures taken { Takes (role.Count (first_count (many_of self.old.head.kind) (length (groups_of self.old.collections)))) count width self.old flat.old result self.new flat.new }
         ensures noted { IfOk result (λ ends. NotesGo S.holds (notes_with (role.Count (first_count (many_of self.old.head.kind) (length (groups_of self.old.collections)))) count width self.old self.new ends) self.old spans.old spans.new) }
         ensures placed { IsPlaced self.old.next self.old → OnOk result (IsPlaced self.new.next self.new) }
+        ensures kept { Keeps self.old self.new }
     {
-        let points = if self.head.kind == Kind::MultiPoint { count } else { 0 };
+        let points = self.member_points(count);
         if let Some(reason) = self.too_many_members(count, points) {
             return Err(Stop::Refused(reason));
         }
@@ -83,15 +98,30 @@ impl Engine {
         self.nodes += count;
         self.points += points;
         if count == 0 {
-            return self.end_empty(flat, spans);
+            return self.end_counted(flat, spans);
         }
+        let has_ids = Metadata::from_byte(self.head.metadata).has_ids();
+        self.ids.restart(has_ids);
         self.members_left = count - 1;
-        if Metadata::from_byte(self.head.metadata).has_ids() {
-            self.ids.restart(true);
-            self.next = NextItem::Id;
+        self.next = NextItem::Id;
+        if has_ids {
             return Ok(false);
         }
-        self.begin_members(flat)
+        self.begin_members(flat)?;
+        Ok(false)
+    }
+
+    // Ends a geometry whose count was taken, and is 0. Its row takes memory.
+    #[inline(always)]
+    fn end_counted<S: SpanNotes>(&mut self, flat: &mut Flat, spans: &mut S) -> Result<bool, Stop>
+        requires next { self.old.next ≡ next.MemberCount }
+        requires row { Admits (own_row self.old) flat.old }
+        ensures taken { (r : Role) (n width : ℕ) (d : Engine) → LeadsTo r n width d (past_end self.old) (own_row self.old) self.old → Takes r n width d flat.old result self.new flat.new }
+        ensures noted { IfOk result (λ ends. NotesGo S.holds (notes_past self.old self.new ends) self.old spans.old spans.new) }
+        ensures placed { OnOk result (IsPlaced self.new.next self.new) }
+        ensures kept { Keeps self.old self.new }
+    {
+        self.end_empty(flat, spans)
     }
 
     // Takes an id. It takes memory.
@@ -103,18 +133,22 @@ impl Engine {
         ensures taken { Takes role.Id number width self.old flat.old result self.new flat.new }
         ensures begun { OnOk result (open_in self.new ≡ open_in self.old) }
         ensures placed { IsPlaced self.old.next self.old → OnOk result (IsPlaced self.new.next self.new) }
+        ensures kept { Keeps self.old self.new }
     {
         self.bytes += width;
         self.ids.push(unzigzag(number))?;
+        self.next = NextItem::Id;
         if self.ids.count() <= self.members_left {
             return Ok(false);
         }
         self.ids.begin();
-        self.begin_members(flat)
+        self.begin_members(flat)?;
+        Ok(false)
     }
 
     // A geometry with members has its row, and the first of them begins. A row and an open collection take memory.
-    fn begin_members(&mut self, flat: &mut Flat) -> Result<bool, Stop>
+    fn begin_members(&mut self, flat: &mut Flat) -> Result<(), AllocError>
+        requires next { self.old.next ≡ next.Id }
         requires row { Admits (own_row self.old) flat.old }
         requires room { length self.old.collections < depth_cap }
         ensures step { OnOk result (outline_in self.new ≡ members_open (many_of self.old.head.kind) (head_of self.old.head) (groups_of self.old.collections) (ids_of self.old.ids) (suc self.old.members_left)) }
@@ -122,13 +156,17 @@ impl Engine {
         ensures sums { sums_of self.new ≡ sums_of self.old }
         ensures same { SameBlob self.old self.new }
         ensures placed { IsPlaced next.MemberCount self.old → OnOk result (IsPlaced self.new.next self.new) }
+        ensures kept { Keeps self.old self.new }
     {
         push_row(flat, own_row(&self.head))?;
         if self.head.kind == Kind::Collection {
-            self.collections.push(&self.head, &mut self.ids, self.members_left)?;
+            self.collections
+                .push(&self.head, &mut self.ids, self.members_left)?;
             self.members_left = 0;
+            self.next = NextItem::TypeByte;
+            return Ok(());
         }
         self.next = NextItem::first_of(self.head.kind);
-        Ok(false)
+        Ok(())
     }
 }

@@ -1,6 +1,6 @@
 //! The item that comes next.
 ghost use Rattle.std.specs.Prelude.{◌≡◌, ◌↔◌, true, IsTrue};
-ghost use Rattle.twkb_engine.specs.Fits.{IsByte};
+ghost use Rattle.twkb_engine.specs.Fits.{IsByte, first_item, header_item};
 
 use twkb_tree::Kind;
 
@@ -43,9 +43,24 @@ impl NextItem {
         )
     }
 
+    // The item after the header of a geometry of this kind: that of its body, or the count of its members.
+    #[inline(always)]
+    pub(crate) fn after_header(kind: Kind) -> NextItem
+        ensures { result ≡ header_item kind }
+    {
+        match kind {
+            Kind::Point => NextItem::X,
+            Kind::Linestring => NextItem::PointCount,
+            Kind::Polygon => NextItem::RingCount,
+            _ => NextItem::MemberCount,
+        }
+    }
+
     // The first item of a body of this kind, or of a member of a multi-geometry of this kind; of a collection's member, its type byte.
     #[inline(always)]
-    pub(crate) fn first_of(kind: Kind) -> NextItem {
+    pub(crate) fn first_of(kind: Kind) -> NextItem
+        ensures { result ≡ first_item kind }
+    {
         match kind {
             Kind::Point | Kind::MultiPoint => NextItem::X,
             Kind::Linestring | Kind::MultiLinestring | Kind::Ring => NextItem::PointCount,

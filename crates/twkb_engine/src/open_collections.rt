@@ -1,5 +1,5 @@
 //! The collections that are open.
-ghost use Rattle.std.specs.Prelude.{◌≡◌, ◌≤◌, ◌<◌, ◌-◌, ◌++◌, ◌∷◌, [], ℕ, List, length, take, true, Ok, OnOk, OnErr};
+ghost use Rattle.std.specs.Prelude.{◌≡◌, ◌≤◌, ◌+◌, ◌-◌, ◌++◌, ◌∷◌, [], ℕ, List, length, take, true, Ok, OnOk, OnErr};
 ghost use Rattle.twkb_grammar.specs.PlainReader.{is_exact as exact};
 ghost use Rattle.twkb_outline.specs.Outline.{OnHeader, outline_past_end};
 ghost use Rattle.twkb_outline.specs.Growing.{id_in};
@@ -149,7 +149,8 @@ impl OpenCollections {
         ensures blob { IfBlob result (self.old ≡ []) }
         ensures goes_on { IfNext result ((bytes : ℕ) → outline_past_end true bytes (groups_of self.old) ≡ Ok (groups_of self.new, OnHeader)) }
         ensures goes_up { IfCollection result (λ h. (bytes : ℕ) → outline_past_end (exact h.size (bytes - h.from)) bytes (groups_of self.new) ≡ outline_past_end true bytes (groups_of self.old)) }
-        ensures fewer { IfCollection result (λ h. length self.new < length self.old) }
+        ensures fewer { IfCollection result (λ h. length self.new + 1 ≡ length self.old) }
+        ensures same { IfNext result (length self.new ≡ length self.old) }
         ensures as_many { length self.new ≤ length self.old }
     {
         if self.count == 0 {

@@ -88,7 +88,7 @@ parts_whole meta bytes size from used none first next =
 -- ---- a reader behind a metadata byte
 
 -- a metadata byte in front, and all parts that it asks for
-read_ahead : (limits : Allowance) (front : List ℕ) (e : Sums) (gs : List Group) (k : Kind) (precision : ℤ) (rows : List Row) (told : ℕ → Notes) (rest : List ℕ) (size : Option ℕ) (from used points : ℕ) → (let meta : ℕ = get_or rest 0 0 in 0 < length rest → meta < 256 → bit meta 4 ≡ false
+pub read_ahead : (limits : Allowance) (front : List ℕ) (e : Sums) (gs : List Group) (k : Kind) (precision : ℤ) (rows : List Row) (told : ℕ → Notes) (rest : List ℕ) (size : Option ℕ) (from used points : ℕ) → (let meta : ℕ = get_or rest 0 0 in 0 < length rest → meta < 256 → bit meta 4 ≡ false
     → objection limits e (Metadata (kind_number k)) meta ≡ None → points ≡ e.points + points_by (Metadata (kind_number k)) meta → PartsInFront meta (take (length rest - 1) (drop 1 rest)) size from used → NotedOutline limits front e (gs, OnMetadata k precision) rows told
     → NotedOutline limits (front ++ take (1 + used) rest) (record { bytes = e.bytes + (1 + used); position = e.position; nodes = e.nodes; points = points }) (gs, begins k (sized_head precision meta size ((e.bytes + 1) + from))) rows (λ start. note_metadata meta (told start)))
 read_ahead limits front e gs k precision rows told rest size from used points some low full free announced p there =

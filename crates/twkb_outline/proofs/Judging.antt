@@ -6,7 +6,7 @@ use Rattle.twkb_grammar.specs.Roles.{Role}
 use Rattle.twkb_grammar.specs.Fault.{Reason}
 use Rattle.twkb_grammar.specs.Machine.{Sums}
 use Rattle.twkb_grammar.proofs.ExactEnds.{NoEnd}
-use Rattle.twkb_outline.specs.Outline.{Outline, Step, OnHeader, OnId, OnBody, OnFinished, Wanted, WantedY, Full, step_role}
+use Rattle.twkb_outline.specs.Outline.{Outline, Step, OnHeader, OnMetadata, OnId, OnBody, OnFinished, Wanted, WantedY, Full, step_role}
 use Rattle.twkb_outline.specs.Reading.{Outlined, OutlineLanded}
 use Rattle.twkb_outline.proofs.Outlined.{outlined_part}
 use Rattle.twkb_outline.proofs.ExactOutlines.{outlined_exact}
@@ -16,6 +16,7 @@ use Rattle.twkb_outline.specs.Parts.{IsJudged, PartIn, IsPastEnds, Passes}
 -- no geometry's end comes next
 next_no_end : (level bytes : ℕ) (s : Step) (role : Role) → IsPastEnds s → step_role level bytes s ≡ Some role → NoEnd role
 next_no_end level bytes OnHeader role past says = λ d c e. cc
+next_no_end level bytes (OnMetadata k p) role past says = λ d c e. cc
 next_no_end level bytes (OnId m h members ids left) role past says = λ d c e. cc
 next_no_end level bytes (OnBody h f ids (Wanted zero lefts)) role past says = λ d c e. cc
 next_no_end level bytes (OnBody h f ids (Wanted (suc inner) lefts)) role past says = λ d c e. cc

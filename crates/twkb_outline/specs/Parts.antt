@@ -2,7 +2,7 @@
 use Rattle.std.specs.Prelude.{ℕ, ◌<◌, ◌≤◌, List, ◌++◌, length, take, Result, Ok, Err, ⊤}
 use Rattle.twkb_tree.specs.Limits.{Allowance}
 use Rattle.twkb_grammar.specs.Fault.{Reason, IsPart, FirstFault, SizeMismatch}
-use Rattle.twkb_outline.specs.Outline.{Outline, Step, OnHeader, OnId, OnBody, OnFinished}
+use Rattle.twkb_outline.specs.Outline.{Outline, Step, OnHeader, OnMetadata, OnId, OnBody, OnFinished}
 
 -- Whole items that are a part, and whatever follows no size is found wrong at their end: those of the geometries that end there are exact too.
 pub record IsJudged (limits : Allowance) (bytes : List ℕ) : Type 0 where
@@ -19,6 +19,7 @@ pub record PartIn (limits : Allowance) (bs piece : List ℕ) : Type 0 where
 -- An item comes next, inside its geometry or at its front; or nothing does.
 abbrev pub IsPastEnds : Step → Type 0
 IsPastEnds OnHeader = ⊤
+IsPastEnds (OnMetadata k p) = ⊤
 IsPastEnds (OnId m h members ids left) = ⊤
 IsPastEnds (OnBody h f ids s) = ⊤
 IsPastEnds OnFinished = ⊤
