@@ -78,6 +78,11 @@ module _ {S : Type 0} (holds : S → Notes → Type 0) (Known : Type 0) (bs piec
 
 -- ---- a point in front
 
+-- an answer that is another by an equation
+pub answered_as : {S : Type 0} (holds : S → Notes → Type 0) (rest : List ℕ) (rs more : List Row) (d e : Engine) (old new : S) (used : ℕ) (answer other : Result Bool Stop) → answer ≡ other
+    → FedBy holds d rs old rest (with_used used answer) e more new → FedBy holds d rs old rest (with_used used other) e more new
+answered_as holds rest rs more d e old new used answer other is fed = subst (λ a. FedBy holds d rs old rest (with_used used a) e more new) is fed
+
 -- the header is that of the geometry in the open collections
 placed_at_x : (rs : List Row) (bs : List ℕ) (d : Engine) → d.next ≡ next.X → StandsAt bs rs d → IsHeadAt (length (groups_of d.collections)) (id_in (groups_of d.collections)) d.head
 placed_at_x rs bs d is s = subst (λ i. IsPlaced i d) is s.placed
@@ -130,7 +135,7 @@ module _ (rs : List Row) (d : Engine) (is : d.next ≡ next.X) (last : d.points_
 
     module _ {S : Type 0} (holds : S → Notes → Type 0) (m e : Engine) (more : List Row) (old new : S) (q : IsFurther d m used to 0) (none : held_in d ≡ []) where
       -- the engine before those ends, which differs in bytes and position
-      there : (groups_of d.collections, point_past) ≡ (groups_of m.collections, shut (head_of m.head) (form_of m.head.kind) (ids_in m) 0 (lists_of m.head.kind 0 m.rings_left m.members_left))
+      there : ◌≡◌ {A = Outline} (groups_of d.collections, point_past) (groups_of m.collections, shut (head_of m.head) (form_of m.head.kind) (ids_in m) 0 (lists_of m.head.kind 0 m.rings_left m.members_left))
       there = sym (λ t. (groups_of (q.collections t), shut (head_of (q.head t)) (form_of (q.head t).kind) (if has_members (q.head t).kind then ids_of (q.ids t) else None) 0 (lists_of (q.head t).kind 0 (q.rings_left t) (q.members_left t))))
 
       row_there : point_row to d ≡ point_row to m
@@ -140,9 +145,11 @@ module _ (rs : List Row) (d : Engine) (is : d.next ≡ next.X) (last : d.points_
       sums_there = let size : d.bytes + length (take used rest) ≡ m.bytes = omega (arith, q.bytes, length-take-le used rest cut.within) in
           λ t. record { bytes = size t; position = sym q.position t; nodes = sym q.nodes t; points = sym q.points t }
 
+      wanted_there : ◌≡◌ {A = Outline} (groups_of m.collections, step_at next.X m) (groups_of d.collections, point_step)
+      wanted_there = λ t. (groups_of (q.collections t), OnBody (head_of (q.head t)) (form_of (q.head t).kind) (if has_members (q.head t).kind then ids_of (q.ids t) else None) (Wanted 0 (lists_of (q.head t).kind (q.points_left t) (q.rings_left t) (q.members_left t))))
+
       open_there : open_in d ≡ open_in m
-      open_there = ap open_count (here ∙ sym (ap (λ i. (groups_of m.collections, step_at i m)) (q.next ∙ is)
-          ∙ (λ t. (groups_of (q.collections t), OnBody (head_of (q.head t)) (form_of (q.head t).kind) (if has_members (q.head t).kind then ids_of (q.ids t) else None) (Wanted 0 (lists_of (q.head t).kind (q.points_left t) (q.rings_left t) (q.members_left t))))))
+      open_there = ap open_count (here ∙ sym (ap (λ i. (groups_of m.collections, step_at i m)) (q.next ∙ is) ∙ wanted_there))
 
       -- the answer to it is the answer to the piece
       pub point_fed : (answer : Result Bool Stop) → e.limits ≡ m.limits → e.held ≡ m.held
