@@ -1,5 +1,5 @@
 //! Canonical decimals: digits without a leading zero, after a minus sign where the number is negative.
-ghost use Rattle.std.specs.Prelude.{◌≡◌, [], ◌∷◌, ◌++◌, IfSome, OnOk, OnErr};
+ghost use Rattle.std.specs.Prelude.{◌≡◌, ◌++◌, IfSome, OnOk, OnErr};
 ghost use Rattle.std.specs.Fmt.{signed_decimal};
 ghost use Rattle.twkb_table.specs.Fields.{Reads, IsDepthField, IsIdField, IsPrecisionField, IsOptionalId, IsOptionalPrecision};
 
@@ -7,9 +7,6 @@ use itoa::Buffer;
 use std::alloc::AllocError;
 
 const GREATEST_DEPTH: i64 = 999;
-
-// The greatest number of one digit.
-const GREATEST_DIGIT: i64 = 9;
 
 // The greatest number that is an i64 with any digit more behind it.
 const MOST_BEFORE_A_DIGIT: u64 = 922_337_203_685_477_579;
@@ -136,18 +133,6 @@ pub fn parse_optional_precision(field: &[u8]) -> Option<Option<i8>>
     match parse_precision(field) {
         Some(precision) => Some(Some(precision)),
         None => None,
-    }
-}
-
-// The digit of a number of one digit, as most numbers are.
-#[inline(always)]
-pub(crate) fn one_digit(number: i64) -> Option<u8>
-    ensures { IfSome result (λ digit. signed_decimal number ≡ digit ∷ []) }
-{
-    if 0 <= number && number <= GREATEST_DIGIT {
-        Some(b'0' + number as u8)
-    } else {
-        None
     }
 }
 

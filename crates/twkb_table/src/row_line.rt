@@ -6,7 +6,6 @@ ghost use Rattle.twkb_flat.specs.Rows.{row_with};
 ghost use Rattle.twkb_table.specs.Fields.{optional};
 ghost use Rattle.twkb_table.specs.Printing.{row_lines, Grows};
 
-use crate::decimal::one_digit;
 use itoa::Buffer;
 use std::alloc::AllocError;
 use twkb_flat::Row;
@@ -49,28 +48,18 @@ fn push_head(row: &Row, head: &mut Piece)
     head.push(b',');
 }
 
-// Gathers the canonical decimal of a number.
+// Gathers the canonical decimal of a number. Most have one digit: a byte costs less than a slice.
 #[inline(always)]
 fn push_number(number: i64, head: &mut Piece)
     requires room { length head.old + 20 ≤ 128 }
     ensures pushed { head.new ≡ head.old ++ signed_decimal number }
     ensures short { length head.new ≤ length head.old + 20 }
 {
-    match one_digit(number) {
-        Some(digit) => head.push(digit),
-        None => push_digits(number, head),
-    }
-}
-
-// The same by itoa's printer.
-#[inline(never)]
-fn push_digits(number: i64, head: &mut Piece)
-    requires room { length head.old + 20 ≤ 128 }
-    ensures pushed { head.new ≡ head.old ++ signed_decimal number }
-    ensures short { length head.new ≤ length head.old + 20 }
-{
     let mut buffer = Buffer::new();
-    head.push_all(buffer.format(number).as_bytes());
+    match buffer.format(number).as_bytes() {
+        [digit] => head.push(*digit),
+        digits => head.push_all(digits),
+    }
 }
 
 // Gathers the word of a kind between two commas.
