@@ -6,7 +6,7 @@ ghost use Rattle.twkb_buffer.specs.Numbers.{blob_number_of, point_text_number_of
 ghost use Rattle.twkb_buffer.specs.Texts.{AreWordsOf, HasReason, NamesNoBlob, NamesNoPointText, NamesNoRow, PutsText, with_text};
 
 use twkb_convert::{BlobReason, Cause, PolyReason, RowReason};
-use twkb_request::{VERSION, fault_words};
+use twkb_request::VERSION;
 
 // What is wrong with a text of points, by its number.
 fn point_text_reason(number: u32) -> Option<PolyReason>
@@ -94,13 +94,13 @@ fn cause_of(number: u32) -> Option<Cause>
 
 // The words of the reason with this number.
 #[tactic(auto, using(crate::proofs::TextLemmas::named, crate::proofs::TextLemmas::unnamed))]
-fn words_of(number: u32) -> &'static [u8]
+fn words_of(number: u32) -> &'static str
     ensures words { AreWordsOf number result.now }
     ensures short { length result.now ≤ 31 }
 {
     match cause_of(number) {
-        Some(why) => fault_words(why),
-        None => b"",
+        Some(why) => why.text(),
+        None => "",
     }
 }
 
@@ -121,7 +121,7 @@ fn put(words: &[u8], text: &mut [u8])
 pub fn put_reason(reason: u32, text: &mut [u8]) -> usize
     ensures { PutsText (AreWordsOf reason) text.old text.new result }
 {
-    let words = words_of(reason);
+    let words = words_of(reason).as_bytes();
     put(words, text);
     words.len()
 }

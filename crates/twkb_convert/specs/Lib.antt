@@ -17,3 +17,4 @@ pub mod Unpacked
 pub mod Shown
 pub mod Packed
 pub mod Parts
+pub mod Texts

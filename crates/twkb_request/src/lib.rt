@@ -10,7 +10,7 @@ mod version;
 
 pub use carrying::{carry_out, lack_memory, lack_words, refuse};
 pub use exit_code::status;
-pub use lines::{fault_words, print_line};
+pub use lines::print_line;
 pub use refusal::Refusal;
 pub use request::{Conversion, Request, nested_limits, style_named};
 pub use version::VERSION;
