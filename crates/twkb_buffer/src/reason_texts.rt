@@ -1,12 +1,11 @@
 //! The text of a reason by its number, and the text of the version, for a caller's buffer.
 ghost use Rattle.std.specs.Prelude.{◌≡◌, ◌≢◌, ◌≤◌, IfSome, IsNone, length};
 ghost use Rattle.twkb_convert.specs.declared.report.Cause.{Cause};
-ghost use Rattle.twkb_request.specs.Version.{version_text};
+ghost use Rattle.twkb_convert.specs.Version.{version_text};
 ghost use Rattle.twkb_buffer.specs.Numbers.{blob_number_of, point_text_number_of, row_number_of};
 ghost use Rattle.twkb_buffer.specs.Texts.{AreWordsOf, HasReason, NamesNoBlob, NamesNoPointText, NamesNoRow, PutsText, with_text};
 
-use twkb_convert::{BlobReason, Cause, PolyReason, RowReason};
-use twkb_request::VERSION;
+use twkb_convert::{BlobReason, Cause, PolyReason, RowReason, VERSION};
 
 // What is wrong with a text of points, by its number.
 fn point_text_reason(number: u32) -> Option<PolyReason>

@@ -2,11 +2,11 @@
 ghost use Rattle.std.specs.Prelude.{◌≡◌, ◌<◌};
 ghost use Rattle.twkb_tree.specs.Limits.{IsAllowance, standard_limits};
 ghost use Rattle.twkb_grammar.specs.declared.style.Style.{Style};
-ghost use Rattle.twkb_request.specs.Version.{version_text};
+ghost use Rattle.twkb_convert.specs.Version.{version_text};
 ghost use Rattle.twkb_buffer.specs.Conversions.{MeasuresOutput, PacksSlice, ShowsSlice, UnpacksSlice};
 ghost use Rattle.twkb_buffer.specs.Polylines.{DecodesSlice, EncodesSlice};
 ghost use Rattle.twkb_buffer.specs.Texts.{AreWordsOf, PutsText};
-ghost use Rattle.twkb_buffer.specs.declared.conversion.Conversion.{Conversion};
+ghost use Rattle.twkb_convert.specs.declared.conversion.Conversion.{Conversion};
 ghost use Rattle.twkb_c.specs.Arguments.{IsConversionNumber, IsStyleNumber, allowance_of, arguments_report};
 
 use crate::arguments::{BufferLimits, conversion_of, refused_arguments, style_of};

@@ -7,7 +7,7 @@ ghost use Rattle.twkb_command.specs.CommandLine.{bare_app, command_line, convers
 use crate::help;
 use clap::{Arg, Command, value_parser};
 use std::alloc::{AllocError, Global};
-use twkb_request::VERSION;
+use twkb_convert::VERSION;
 
 // The option `--max-nest`.
 fn max_nest_option<'a>(alloc: Global) -> Arg<'a>

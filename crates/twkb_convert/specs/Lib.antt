@@ -18,3 +18,5 @@ pub mod Shown
 pub mod Packed
 pub mod Parts
 pub mod Texts
+pub mod Conversions
+pub mod Version

@@ -1,20 +1,16 @@
 -- What carrying out a request does, and what is answered where there is none (profile).
 use Rattle.std.specs.Prelude.{ℕ, ◌≡◌, List, [], Option, Result, Ok, Err}
 use Rattle.twkb_io.specs.declared.tap.Tap.{Tap}
-use Rattle.twkb_tree.specs.Limits.{Allowance}
-use Rattle.twkb_grammar.specs.declared.style.Style.{Style}
+use Rattle.twkb_convert.specs.Conversions.{Converts}
 use Rattle.twkb_convert.specs.declared.report.Report.{Report}
 use Rattle.twkb_convert.specs.declared.report.ConvertFault.{ConvertFault}
 use Rattle.twkb_convert.specs.declared.report.Cause.TheVariants as cause
 use Rattle.twkb_request.specs.declared.refusal.Refusal.{Refusal}
 use Rattle.twkb_request.specs.declared.refusal.Refusal.TheVariants as refusal
-use Rattle.twkb_request.specs.declared.request.Conversion.{Conversion}
-use Rattle.twkb_request.specs.declared.request.Conversion.TheVariants as conversion
 use Rattle.twkb_request.specs.declared.request.Request.{Request}
 use Rattle.twkb_request.specs.Lines.{line_of}
 use Rattle.twkb_request.specs.Printing.{IsPrinted}
 use Rattle.twkb_request.specs.ExitCode.{status_of}
-use Rattle.twkb_request.specs.Conversions.{Packs, Shows, Unpacks}
 
 -- the status of an answer
 abbrev pub status_of_answer : Result Report ConvertFault → ℕ
@@ -26,16 +22,10 @@ abbrev pub line_of_answer : Result Report ConvertFault → List ℕ
 line_of_answer (Ok report) = []
 line_of_answer (Err stop) = line_of stop.cause
 
--- the conversion that is asked for answers this, and does this to its reader and writer
-abbrev pub Converts : {R W : Type 0} → Conversion → Allowance → Style → (R → Option (List ℕ)) → (W → Option (List ℕ)) → Tap R → Tap W → Tap R → Tap W → Result Report ConvertFault → Type 0
-Converts conversion.Pack l style remaining contents reader writer reader_after writer_after answer = Packs style l remaining contents reader writer reader_after writer_after answer
-Converts conversion.Unpack l style remaining contents reader writer reader_after writer_after answer = Unpacks l remaining contents reader writer reader_after writer_after answer
-Converts conversion.Show l style remaining contents reader writer reader_after writer_after answer = Shows l remaining contents reader writer reader_after writer_after answer
-
 -- A request is carried out: its status is that of the conversion's answer, and standard error gets the line of a fault.
 pub record CarriesOut {R W E : Type 0} (remaining : R → Option (List ℕ)) (contents : W → Option (List ℕ)) (told : E → Option (List ℕ)) (request : Request) (reader : Tap R) (writer : Tap W) (errors : Tap E) (reader_after : Tap R) (writer_after : Tap W) (errors_after : Tap E) (status : ℕ) : Type 0 where
   pub answer : Result Report ConvertFault
-  pub converts : Converts request.conversion request.limits request.style remaining contents reader writer reader_after writer_after answer
+  pub converts : Converts request.conversion request.limits remaining contents reader writer reader_after writer_after answer
   pub status_is : status ≡ status_of_answer answer
   pub line : IsPrinted told errors (line_of_answer answer) errors_after
 

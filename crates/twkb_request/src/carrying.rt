@@ -1,33 +1,17 @@
 //! A request is carried out, and words without one are answered, over any devices.
 ghost use Rattle.std.specs.Prelude.{◌≡◌, ◌≢◌};
-ghost use Rattle.twkb_request.specs.Carrying.{CarriesOut, Converts, Refuses};
+ghost use Rattle.twkb_request.specs.Carrying.{CarriesOut, Refuses};
 ghost use Rattle.twkb_request.specs.Lines.{line_of, no_text_line};
 ghost use Rattle.twkb_request.specs.Printing.{IsPrinted};
 
 use crate::exit_code::{DONE, MEMORY, USAGE, status};
 use crate::lines::{print_line, print_text};
 use crate::refusal::Refusal;
-use crate::request::{Conversion, Request};
+use crate::request::Request;
 use std::alloc::Global;
 use std::io::{ErrorKind, Read, Write};
-use twkb_convert::{Cause, ConvertFault, Report, pack_styled, show, unpack};
+use twkb_convert::{Cause, convert};
 use twkb_io::Tap;
-
-// Converts what is asked for.
-fn convert<R: Read, W: Write>(
-    alloc: Global,
-    request: Request,
-    reader: &mut Tap<R>,
-    writer: &mut Tap<W>,
-) -> Result<Report, ConvertFault>
-    ensures { Converts request.conversion request.limits request.style R.remaining W.contents reader.old writer.old reader.new writer.new result }
-{
-    match request.conversion {
-        Conversion::Pack => pack_styled(alloc, reader, writer, request.limits, request.style),
-        Conversion::Unpack => unpack(alloc, reader, writer, request.limits),
-        Conversion::Show => show(alloc, reader, writer, request.limits),
-    }
-}
 
 /// Carries out a request, and answers the status: 0 where all was converted, 1 where the input is
 /// refused or a length passes its bound, 3 where a device failed, 4 for want of memory. A fault is
@@ -41,7 +25,7 @@ pub fn carry_out<R: Read, W: Write, E: Write>(
 ) -> u8
     ensures { CarriesOut R.remaining W.contents E.contents request reader.old writer.old errors.old reader.new writer.new errors.new result }
 {
-    match convert(alloc, request, reader, writer) {
+    match convert(alloc, request.conversion, reader, writer, request.limits) {
         Ok(_) => DONE,
         Err(stop) => {
             print_line(errors, stop.cause);

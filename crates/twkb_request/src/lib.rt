@@ -6,11 +6,9 @@ mod exit_code;
 mod lines;
 mod refusal;
 mod request;
-mod version;
 
 pub use carrying::{carry_out, lack_memory, lack_words, refuse};
 pub use exit_code::status;
 pub use lines::print_line;
 pub use refusal::Refusal;
-pub use request::{Conversion, Request, nested_limits, style_named};
-pub use version::VERSION;
+pub use request::{Request, nested_limits, style_named};

@@ -1,28 +1,15 @@
-//! What is converted, within which limits and in which style.
+//! What is converted, and within which limits.
 ghost use Rattle.std.specs.Prelude.{◌≡◌, ◌≤◌, ◌↔◌, IfSome, IsSome, codes};
 ghost use Rattle.twkb_tree.specs.Limits.{standard_limits};
 
-use twkb_convert::Style;
+use twkb_convert::{Conversion, Style};
 use twkb_tree::Limits;
-
-/// What a request converts.
-#[derive(Clone, Copy, PartialEq, Eq, Debug)]
-pub enum Conversion {
-    /// A table to a stream.
-    Pack,
-    /// A stream to a table.
-    Unpack,
-    /// A stream to lines of its headers.
-    Show,
-}
 
 /// What is asked for.
 #[derive(Clone, Copy, PartialEq, Eq, Debug)]
 pub struct Request {
     pub conversion: Conversion,
     pub limits: Limits,
-    /// The style of packed blobs.
-    pub style: Style,
 }
 
 /// The standard limits, with a nesting of 0 to 32, and `None` where it is larger. Takes no memory.

@@ -7,6 +7,8 @@ use Rattle.twkb_convert.specs.Flushing.{IsFlushed, IsFlushedButForDevices}
 use Rattle.twkb_convert.specs.Packed.{Packed, StoppedPacking}
 use Rattle.twkb_convert.specs.Unpacked.{StoppedUnpacking, Unpacked}
 use Rattle.twkb_convert.specs.Shown.{Shown, StoppedShowing}
+use Rattle.twkb_convert.specs.declared.conversion.Conversion.{Conversion}
+use Rattle.twkb_convert.specs.declared.conversion.Conversion.TheVariants as conversion
 use Rattle.twkb_convert.specs.declared.report.ConvertFault.{ConvertFault}
 use Rattle.twkb_convert.specs.declared.report.Report.{Report}
 
@@ -27,3 +29,9 @@ pub record Shows {R W : Type 0} (l : Allowance) (remaining : R → Option (List 
   pub ok : IfOk answer (λ report. Shown l remaining contents reader writer report reader_after writer_after)
   pub err : IfErr answer (λ fault. StoppedShowing l remaining contents reader writer fault reader_after writer_after)
   pub flushed : IsFlushed answer writer_after
+
+-- the conversion that is asked for answers this, and does this to its reader and writer
+abbrev pub Converts : {R W : Type 0} → Conversion → Allowance → (R → Option (List ℕ)) → (W → Option (List ℕ)) → Tap R → Tap W → Tap R → Tap W → Result Report ConvertFault → Type 0
+Converts (conversion.Pack style) l remaining contents reader writer reader_after writer_after answer = Packs style l remaining contents reader writer reader_after writer_after answer
+Converts conversion.Unpack l remaining contents reader writer reader_after writer_after answer = Unpacks l remaining contents reader writer reader_after writer_after answer
+Converts conversion.Show l remaining contents reader writer reader_after writer_after answer = Shows l remaining contents reader writer reader_after writer_after answer

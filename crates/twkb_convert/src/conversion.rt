@@ -1,12 +1,18 @@
-//! The three conversions, over any reader and writer.
-ghost use Rattle.twkb_buffer.specs.Runs.{Ran};
+//! The three conversions by one call, over any reader and writer.
+ghost use Rattle.twkb_convert.specs.Conversions.{Converts};
 
+use crate::packing::pack_styled;
+use crate::report::{ConvertFault, Report};
+use crate::showing::show;
+use crate::unpacking::unpack;
 use std::alloc::Global;
 use std::io::{Read, Write};
-use twkb_convert::{ConvertFault, Limits, Report, Style, Tap, pack_styled, show, unpack};
+use twkb_io::Tap;
+use twkb_tree::Limits;
+use twkb_writer::Style;
 
-/// What a call converts.
-#[derive(Clone, Copy, Debug)]
+/// What is converted.
+#[derive(Clone, Copy, PartialEq, Eq, Debug)]
 pub enum Conversion {
     /// A table to a stream, in a style.
     Pack(Style),
@@ -16,15 +22,15 @@ pub enum Conversion {
     Show,
 }
 
-// Converts all that a reader gives, as its conversion does it.
-pub(crate) fn run<R: Read, W: Write>(
+/// Converts all that a reader gives: `pack_styled`, `unpack` or `show`.
+pub fn convert<R: Read, W: Write>(
     alloc: Global,
     what: Conversion,
     reader: &mut Tap<R>,
     writer: &mut Tap<W>,
     limits: Limits,
 ) -> Result<Report, ConvertFault>
-    ensures { Ran what limits R.remaining W.contents reader.old writer.old result reader.new writer.new }
+    ensures { Converts what limits R.remaining W.contents reader.old writer.old reader.new writer.new result }
 {
     match what {
         Conversion::Pack(style) => pack_styled(alloc, reader, writer, limits, style),
