@@ -9,9 +9,9 @@ use Rattle.twkb_grammar.specs.declared.style.Style.{Style}
 use Rattle.twkb_grammar.specs.declared.style.Style.TheVariants.{Full, Plain}
 use Rattle.twkb_convert.specs.declared.conversion.Conversion.{Conversion}
 use Rattle.twkb_convert.specs.declared.conversion.Conversion.TheVariants as conversion
-use Rattle.twkb_request.specs.declared.refusal.Refusal.{Refusal}
-use Rattle.twkb_request.specs.declared.refusal.Refusal.TheVariants as refusal
-use Rattle.twkb_request.specs.declared.request.Request.{Request}
+use Rattle.twkb_command.specs.declared.refusal.Refusal.{Refusal}
+use Rattle.twkb_command.specs.declared.refusal.Refusal.TheVariants as refusal
+use Rattle.twkb_command.specs.declared.request.Request.{Request}
 
 -- the word of a conversion
 abbrev pub name_of : Conversion → Text

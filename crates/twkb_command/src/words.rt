@@ -5,11 +5,12 @@ ghost use Rattle.twkb_command.specs.CommandLine.{IsCommandLine, command_line};
 ghost use Rattle.twkb_command.specs.Words.{AreLimits, AsksFor, GivesNest, GivesNoNest, HasNest, IsAskedBy, IsConversionName, IsRefusal, IsRefusalAmong, IsStyle, Names, NamesConversion, Reads};
 
 use crate::command_line::command;
+use crate::refusal::Refusal;
+use crate::request::{Request, nested_limits, style_named};
 use clap::error::ErrorKind;
 use clap::{ArgMatches, Error};
 use std::alloc::Global;
 use twkb_convert::{Conversion, Style};
-use twkb_request::{Refusal, Request, nested_limits, style_named};
 use twkb_tree::Limits;
 
 // The matches of the words.

@@ -1,8 +1,8 @@
 //! A request is carried out, and words without one are answered, over any devices.
 ghost use Rattle.std.specs.Prelude.{◌≡◌, ◌≢◌};
-ghost use Rattle.twkb_request.specs.Carrying.{CarriesOut, Refuses};
-ghost use Rattle.twkb_request.specs.Lines.{line_of, no_text_line};
-ghost use Rattle.twkb_request.specs.Printing.{IsPrinted};
+ghost use Rattle.twkb_command.specs.Carrying.{CarriesOut, Refuses};
+ghost use Rattle.twkb_command.specs.Lines.{line_of, no_text_line};
+ghost use Rattle.twkb_command.specs.Printing.{IsPrinted};
 
 use crate::exit_code::{DONE, MEMORY, USAGE, status};
 use crate::lines::{print_line, print_text};

@@ -1,6 +1,6 @@
 //! The status with which a run ends.
 ghost use Rattle.std.specs.Prelude.{◌≡◌};
-ghost use Rattle.twkb_request.specs.ExitCode.{status_of};
+ghost use Rattle.twkb_command.specs.ExitCode.{status_of};
 
 use twkb_convert::Cause;
 

@@ -9,7 +9,7 @@ use Rattle.twkb_io.specs.Taps.{count_failure, device_of}
 use Rattle.twkb_io.specs.declared.output.Output.{Output}
 use Rattle.twkb_io.specs.declared.output.OutFault.{OutFault}
 use Rattle.twkb_io.specs.declared.output.OutFault.TheVariants as fault
-use Rattle.twkb_request.specs.Printing.{Fails, Prints}
+use Rattle.twkb_command.specs.Printing.{Fails, Prints}
 
 -- a fault of a put that was no device's
 device_fault : (e : OutFault) → (e ≡ fault.Spent → ⊥) → (e ≡ fault.TooLong → ⊥) → is_device e ≡ true

@@ -9,7 +9,7 @@ use Rattle.twkb_engine.specs.declared.blob_reason.BlobReason.{BlobReason}
 use Rattle.twkb_engine.specs.Texts.{blob_words}
 use Rattle.twkb_engine.proofs.ShortTexts.{short_blob}
 use Rattle.twkb_convert.specs.declared.report.Cause.{Cause}
-use Rattle.twkb_request.specs.Lines.{cause_text, line_of, reason_text, text_reason}
+use Rattle.twkb_command.specs.Lines.{cause_text, line_of, reason_text, text_reason}
 
 -- what is wrong with a text of points, and where
 pub short_text_reason : (offset : ℕ) (reason : PolyReason) → length (decimal offset) ≤ 40 → length (text_reason offset reason) ≤ 100

@@ -1,4 +1,4 @@
-use Rattle.twkb_request.proofs.lines.put_cause.Goals as goal
+use Rattle.twkb_command.proofs.lines.put_cause.Goals as goal
 
 pub returns-in-Row : goal.returns-in-Row
 returns-in-Row g c = rw c.in-Row.is (record { prints = c.put_row.ensures.prints; short = c.put_row.ensures.short })

@@ -5,12 +5,12 @@ use Rattle.twkb_convert.specs.Conversions.{Converts}
 use Rattle.twkb_convert.specs.declared.report.Report.{Report}
 use Rattle.twkb_convert.specs.declared.report.ConvertFault.{ConvertFault}
 use Rattle.twkb_convert.specs.declared.report.Cause.TheVariants as cause
-use Rattle.twkb_request.specs.declared.refusal.Refusal.{Refusal}
-use Rattle.twkb_request.specs.declared.refusal.Refusal.TheVariants as refusal
-use Rattle.twkb_request.specs.declared.request.Request.{Request}
-use Rattle.twkb_request.specs.Lines.{line_of}
-use Rattle.twkb_request.specs.Printing.{IsPrinted}
-use Rattle.twkb_request.specs.ExitCode.{status_of}
+use Rattle.twkb_command.specs.declared.refusal.Refusal.{Refusal}
+use Rattle.twkb_command.specs.declared.refusal.Refusal.TheVariants as refusal
+use Rattle.twkb_command.specs.declared.request.Request.{Request}
+use Rattle.twkb_command.specs.Lines.{line_of}
+use Rattle.twkb_command.specs.Printing.{IsPrinted}
+use Rattle.twkb_command.specs.ExitCode.{status_of}
 
 -- the status of an answer
 abbrev pub status_of_answer : Result Report ConvertFault → ℕ

@@ -1,6 +1,6 @@
-use Rattle.twkb_request.proofs.PrintLemmas.{prints_join}
-use Rattle.twkb_request.proofs.ShortWords.{short_blob_line}
-use Rattle.twkb_request.proofs.lines.put_blob.Goals as goal
+use Rattle.twkb_command.proofs.PrintLemmas.{prints_join}
+use Rattle.twkb_command.proofs.ShortWords.{short_text_reason}
+use Rattle.twkb_command.proofs.lines.put_text_reason.Goals as goal
 
 pub returns-clause-prints : goal.returns-clause-prints
 returns-clause-prints g c =
@@ -9,4 +9,4 @@ returns-clause-prints g c =
     (join _ _ _ _ _ c.put_text-2.ensures (rw c.text.ensures.words at c.put_text-3.ensures)))
 
 pub returns-clause-short : goal.returns-clause-short
-returns-clause-short g c = short_blob_line c.args.offset c.args.reason c.put_decimal.ensures.short
+returns-clause-short g c = short_text_reason c.args.offset c.args.reason c.put_decimal.ensures.short

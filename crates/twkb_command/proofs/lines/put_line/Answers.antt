@@ -1,6 +1,6 @@
-use Rattle.twkb_request.proofs.PrintLemmas.{prints_join}
-use Rattle.twkb_request.proofs.ShortWords.{short_line}
-use Rattle.twkb_request.proofs.lines.put_line.Goals as goal
+use Rattle.twkb_command.proofs.PrintLemmas.{prints_join}
+use Rattle.twkb_command.proofs.ShortWords.{short_line}
+use Rattle.twkb_command.proofs.lines.put_line.Goals as goal
 
 pub returns-clause-prints : goal.returns-clause-prints
 returns-clause-prints g c =

@@ -1,8 +1,8 @@
 //! The line on standard error that tells why a conversion stopped, and other texts.
-ghost use Rattle.std.specs.Prelude.{◌≡◌, ◌++◌, ◌≤◌, ◌^◌, codes, decimal, length};
+ghost use Rattle.std.specs.Prelude.{◌++◌, ◌≤◌, ◌^◌, codes, decimal, length};
 ghost use Rattle.twkb_engine.specs.Texts.{blob_words};
-ghost use Rattle.twkb_request.specs.Lines.{cause_text, line_of, reason_text, text_reason};
-ghost use Rattle.twkb_request.specs.Printing.{IsPrinted, Prints};
+ghost use Rattle.twkb_command.specs.Lines.{cause_text, line_of, reason_text, text_reason};
+ghost use Rattle.twkb_command.specs.Printing.{IsPrinted, Prints};
 
 use itoa::Buffer;
 use std::io::Write;

@@ -1,4 +1,0 @@
-pub mod Lines
-pub mod Printing
-pub mod ExitCode
-pub mod Carrying
