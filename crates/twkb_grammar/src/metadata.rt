@@ -1,7 +1,7 @@
 //! The metadata byte: what stands between it and the body, and whether there are ids and a body (TWKB, metadata header).
 ghost use Rattle.std.specs.Prelude.{◌≡◌, ℕ, ◌<◌, ◌≤◌, ◌^◌, false};
 ghost use Rattle.twkb_grammar.specs.Bits.{bit};
-ghost use Rattle.twkb_header.specs.Metadata.{bit_value, metadata_number};
+ghost use Rattle.twkb_grammar.specs.Metadata.{bit_value, metadata_number};
 
 use std::marker::Model;
 

@@ -5,7 +5,7 @@ ghost use Rattle.twkb_tree.specs.Tree.{IsPrecision};
 ghost use Rattle.twkb_tree.specs.declared.kind.Kind.TheVariants.{Ring};
 ghost use Rattle.twkb_grammar.specs.Machine.{kind_at};
 ghost use Rattle.twkb_grammar.specs.Noting.{shown};
-ghost use Rattle.twkb_header.specs.TypeByte.{type_of, type_byte, names_type};
+ghost use Rattle.twkb_grammar.specs.TypeByte.{type_of, type_byte, names_type};
 
 use std::marker::Model;
 use twkb_num::zigzag;

@@ -1,6 +1,6 @@
 -- The metadata byte (TWKB, metadata header).
 use Rattle.std.specs.Prelude.{ℕ, ◌+◌, ◌^◌, Bool, if◌then◌else◌}
-use Rattle.twkb_header.specs.declared.metadata.MetadataFlags.{MetadataFlags}
+use Rattle.twkb_grammar.specs.declared.metadata.MetadataFlags.{MetadataFlags}
 
 -- the value of bit k where it is set; bit 0 is the lowest
 abbrev pub bit_value : Bool → ℕ → ℕ
