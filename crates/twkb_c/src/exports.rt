@@ -15,6 +15,7 @@ use twkb_buffer::{
     BufferPoint, BufferReport, Conversion, fill, fill_points, fill_polyline, measure, put_reason,
     put_version,
 };
+use twkb_tree::{NEST_STANDARD, NODES_CAP, POINTS_CAP};
 
 /// Sixteen levels, 2^20 rows and 2^24 points. Takes no memory.
 #[unsafe(no_mangle)]
@@ -22,9 +23,9 @@ pub extern "C" fn polytwkb_standard_limits() -> BufferLimits
     ensures { allowance_of result ≡ standard_limits }
 {
     BufferLimits {
-        nest: 16,
-        nodes: 1 << 20,
-        points: 1 << 24,
+        nest: NEST_STANDARD,
+        nodes: NODES_CAP,
+        points: POINTS_CAP,
     }
 }
 
