@@ -41,6 +41,9 @@ one_point a b more e = record {
   same_entries = ap (λ (w : Work). w.entries) e;
 }
 
+pub two_points : (a b c : Work) → a.point_reads ≤ b.point_reads → b ≡ record a { point_reads = saturated (a.point_reads + 1) } → b.point_reads ≤ c.point_reads → c ≡ record b { point_reads = saturated (b.point_reads + 1) } → Reads a 0 2 c
+two_points a b c more e further f = reads_join a b c 0 1 0 1 0 2 (one_point a b more e) (one_point b c further f) (omega arith) (omega arith)
+
 pub reads_if : (named : Bool) (a b : Work) (n : ℕ) → Reads a (if named then n else 0) 0 b → Reads a n 0 b
 reads_if true a b n r = r
 reads_if false a b n r = reads_join a b b 0 0 0 0 n 0 r (reads_none b 0 0) (omega arith) (omega arith)
