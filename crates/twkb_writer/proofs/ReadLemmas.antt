@@ -1,5 +1,5 @@
 -- Counts of reads add up.
-use Rattle.std.proofs.Common.{◌≡◌, ◌∙◌, ℕ, ◌+◌, ◌<◌, ◌≤◌, ◌^◌, Bool, true, false, refl, arith, ap}
+use Rattle.std.proofs.Common.{◌≡◌, ◌∙◌, ℕ, ◌+◌, ◌<◌, ◌≤◌, ◌^◌, Bool, true, false, refl, sym, subst, arith, ap}
 use Rattle.std.specs.Prelude.{if◌then◌else◌}
 use Rattle.twkb_tree.specs.Tree.{saturated}
 use Rattle.twkb_flat.specs.declared.work.Work.{Work}
@@ -68,6 +68,10 @@ exactly_join a b c n m k j p q r s h i = record {
   same_nodes = s.same_nodes ∙ r.same_nodes;
   same_entries = s.same_entries ∙ r.same_entries;
 }
+
+-- by a count that is the same
+pub exactly_same : (a c : Work) (n m p : ℕ) → ReadsExactly a n m c → p ≡ m → ReadsExactly a n p c
+exactly_same a c n m p r e = subst (λ k. ReadsExactly a n k c) (sym e) r
 
 -- a node more
 pub exactly_node : (a b c : Work) (n m : ℕ) → ReadsExactly a n m b → c ≡ record b { node_reads = saturated (b.node_reads + 1) } → ReadsExactly a (n + 1) m c
