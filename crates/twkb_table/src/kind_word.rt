@@ -53,7 +53,7 @@ fn likely_of_ten(first: u8) -> Kind
 
 /// Appends the word of a kind, with this byte before it and after it. Takes no memory.
 #[inline(always)]
-pub fn push_kind(kind: Kind, around: u8, piece: &mut Piece)
+pub fn push_kind(kind: Kind, around: u8, piece: &mut Piece<128>)
     requires room { length piece.old + 17 ≤ 128 }
     ensures appended { piece.new ≡ piece.old ++ around ∷ (word_of kind ++ around ∷ []) }
     ensures most { length piece.new ≤ length piece.old + 17 }

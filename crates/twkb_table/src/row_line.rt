@@ -21,7 +21,7 @@ pub(crate) fn put_row(row: &Row, points: &[Pt], text: &mut Vec<u8>) -> Result<()
     ensures appended { OnOk result (text.new.items ≡ text.old.items ++ row_lines (row_with row.now points.now ∷ [])) }
     ensures grown { Grows text.old.items text.new.items }
 {
-    let mut line = Piece::new();
+    let mut line = Piece::<128>::new();
     push_head(row, &mut line);
     if let [point] = points {
         encode_point(*point, &mut line);
@@ -35,7 +35,7 @@ pub(crate) fn put_row(row: &Row, points: &[Pt], text: &mut Vec<u8>) -> Result<()
 
 // Gathers the depth, the kind, the id and the precision of a row, each with the comma behind it.
 #[inline(always)]
-fn push_head(row: &Row, head: &mut Piece)
+fn push_head(row: &Row, head: &mut Piece<128>)
     requires empty { head.old ≡ [] }
     ensures gathered { head.new ≡ ((decimal row.now.depth ++ 44 ∷ (word_of row.now.kind ++ 44 ∷ [])) ++ optional row.now.id) ++ 44 ∷ (optional row.now.precision ++ 44 ∷ []) }
     ensures short { length head.new ≤ 79 }
@@ -50,7 +50,7 @@ fn push_head(row: &Row, head: &mut Piece)
 
 // Gathers the canonical decimal of a number. Most have one digit: a byte costs less than a slice.
 #[inline(always)]
-fn push_number(number: i64, head: &mut Piece)
+fn push_number(number: i64, head: &mut Piece<128>)
     requires room { length head.old + 20 ≤ 128 }
     ensures pushed { head.new ≡ head.old ++ signed_decimal number }
     ensures short { length head.new ≤ length head.old + 20 }
@@ -64,7 +64,7 @@ fn push_number(number: i64, head: &mut Piece)
 
 // Gathers the canonical decimal of an id where there is one.
 #[inline(always)]
-fn push_id(id: Option<i64>, head: &mut Piece)
+fn push_id(id: Option<i64>, head: &mut Piece<128>)
     requires room { length head.old + 20 ≤ 128 }
     ensures pushed { head.new ≡ head.old ++ optional id }
     ensures short { length head.new ≤ length head.old + 20 }
@@ -77,7 +77,7 @@ fn push_id(id: Option<i64>, head: &mut Piece)
 
 // Gathers the canonical decimal of a precision where there is one.
 #[inline(always)]
-fn push_precision(precision: Option<i8>, head: &mut Piece)
+fn push_precision(precision: Option<i8>, head: &mut Piece<128>)
     requires room { length head.old + 20 ≤ 128 }
     ensures pushed { head.new ≡ head.old ++ optional precision }
     ensures short { length head.new ≤ length head.old + 20 }
