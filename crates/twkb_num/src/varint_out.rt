@@ -2,6 +2,7 @@
 ghost use Rattle.std.specs.Prelude.{◌≡◌, ◌≤◌, ◌<◌, ◌+◌, ◌%◌, ◌++◌, ◌^◌, length, if◌then◌else◌, nat_lt};
 ghost use Rattle.twkb_num.specs.Varint.{varint_of};
 
+use crate::groups::GOES_ON;
 use crate::piece::Piece;
 use std::simd::u64x2;
 
@@ -13,9 +14,6 @@ const THREE_BYTES: u64 = 1 << 14;
 
 // A number below this has four bytes at most.
 const FIVE_BYTES: u64 = 1 << 28;
-
-// In each byte of a number but the last this bit is set (TWKB specification; LEB128).
-const GOES_ON: u8 = 0x80;
 
 // The bytes of a number that has two at most.
 #[tactic(auto, using(crate::proofs::VarintLemmas::varint_lengths))]
