@@ -1,5 +1,5 @@
 -- The units of a number in a lane of four bytes, as code adds them, and the shortest spelling that they are.
-use Rattle.std.proofs.Common.{◌≡◌, ℕ, zero, suc, ◌+◌, ◌*◌, ◌/◌, ◌%◌, ◌-◌, ◌<◌, ◌≤◌, ◌^◌, ◌⊎◌, Bool, true, false, inl, inr, List, [], ◌∷◌, ◌++◌, take, map, refl, sym, ◌∙◌, ap, arith}
+use Rattle.std.proofs.Common.{◌≡◌, ℕ, zero, suc, ◌+◌, ◌*◌, ◌/◌, ◌%◌, ◌-◌, ◌<◌, ◌≤◌, ◌^◌, ◌⊎◌, Bool, true, false, inl, inr, [], ◌∷◌, ◌++◌, take, map, refl, sym, ◌∙◌, ap, arith}
 use lib.Dec.{leb}
 use lib.Lanes.{number_l, digits_l, mask_l, top}
 use mathlib.Core.Bool.{cond}

@@ -1,11 +1,10 @@
 -- The table of shuffles, and what a shuffle by it gives.
-use Rattle.std.proofs.Common.{◌≡◌, ℕ, zero, suc, ◌+◌, ◌*◌, ◌/◌, ◌%◌, ◌-◌, ◌<◌, ◌≤◌, ◌^◌, Bool, true, false, inl, inr, List, [], ◌∷◌, ◌++◌, take, drop, get_or, refl, sym, subst, ◌∙◌, ap, arith, count_ones, ltb}
+use Rattle.std.proofs.Common.{◌≡◌, ℕ, zero, suc, ◌+◌, ◌*◌, ◌%◌, ◌-◌, ◌<◌, ◌≤◌, Bool, true, false, inl, inr, List, [], ◌∷◌, ◌++◌, take, drop, get_or, refl, sym, subst, ◌∙◌, ap, arith, count_ones, ltb}
 use lib.Dec.{T, leb}
-use lib.Lanes.{number_l, digits_l, Each1}
-use mathlib.Core.Bool.{cond, ◌||◌}
+use lib.Lanes.{number_l, digits_l}
+use mathlib.Core.Bool.{◌||◌}
 use mir.Syntax.{w8}
 use mir.Val.{zeroes}
-use Rattle.std.proofs.Math.Nat.{mod-eq_of_lt}
 use Rattle.std.proofs.lemmas.Bool.{cases_lt, lt-ltb, le-leb, lt-leb}
 use Rattle.std.proofs.lemmas.Simd.{swz_l, SwzOk, SwzOk-from_Each1}
 use Rattle.twkb_num.specs.declared.shuffles.TheConstants.{SHUFFLES}

@@ -1,11 +1,10 @@
 -- Four numbers that are spelled by a shuffle of their units.
-use Rattle.std.proofs.Common.{◌≡◌, ℕ, suc, ◌+◌, ◌*◌, ◌/◌, ◌%◌, ◌-◌, ◌<◌, ◌≤◌, ◌^◌, ◌⊎◌, inl, inr, List, [], ◌∷◌, ◌++◌, take, drop, map, refl, sym, ◌∙◌, ap, arith, count_ones, w8}
+use Rattle.std.proofs.Common.{◌≡◌, ℕ, ◌+◌, ◌*◌, ◌/◌, ◌%◌, ◌-◌, ◌<◌, ◌≤◌, ◌^◌, ◌⊎◌, inl, inr, List, [], ◌++◌, take, drop, map, refl, ◌∙◌, ap, arith, count_ones, w8}
 use lib.Dec.{leb}
 use lib.Lanes.{number_l, digits_l, mask_l, zip2, top}
 use lib.ListN.{replicate}
 use mathlib.Core.Bool.{cond}
 use Rattle.std.proofs.lemmas.Simd.{swz_l, SwzOk, tops_compared, zip2_splat_left}
-use Rattle.std.proofs.lemmas.List.{map-append}
 use Rattle.twkb_num.specs.Alphabet.{leb_unit}
 use Rattle.twkb_num.specs.Four.{unit_over}
 use Rattle.twkb_num.specs.Shuffles.{lane_units, groups_after, marks_of_two, shuffle_of, AreSpelled}

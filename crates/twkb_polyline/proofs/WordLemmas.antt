@@ -1,7 +1,7 @@
 -- The characters of numbers in the bytes of a word.
-use Rattle.std.proofs.Common.{◌≡◌, ℕ, zero, suc, ◌+◌, ◌*◌, ◌/◌, ◌%◌, ◌-◌, ◌<◌, ◌≤◌, ◌^◌, true, [], ◌∷◌, ◌++◌, refl, sym, ◌∙◌, ap, arith, lit≤}
-use Rattle.std.proofs.Math.Nat.{pow-suc, pow-zero, add-mul-div_right, add-mul-mod_self_right, one-le-pow}
-use Rattle.std.proofs.lemmas.Nat.{div_below, le-div, pow-add}
+use Rattle.std.proofs.Common.{◌≡◌, ℕ, zero, suc, ◌+◌, ◌*◌, ◌/◌, ◌%◌, ◌-◌, ◌<◌, ◌≤◌, ◌^◌, true, [], ◌∷◌, sym, ◌∙◌, ap, arith, lit≤}
+use Rattle.std.proofs.Math.Nat.{pow-suc, one-le-pow}
+use Rattle.std.proofs.lemmas.Nat.{div_below, le-div}
 use Rattle.twkb_num.specs.Alphabet.{five_unit}
 use Rattle.twkb_num.specs.Digits.{low_digits}
 use Rattle.twkb_num.specs.Spelling.{shortest}

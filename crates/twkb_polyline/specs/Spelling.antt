@@ -1,5 +1,5 @@
 -- For the steps of a writer: points by pairs, and numbers' characters as the low bytes of a word, the first one lowest.
-use Rattle.std.specs.Prelude.{◌≡◌, ℕ, zero, suc, ◌+◌, ◌*◌, ◌-◌, ◌<◌, ◌≤◌, ◌^◌, List, [], ◌∷◌, ◌++◌}
+use Rattle.std.specs.Prelude.{ℕ, zero, suc, ◌+◌, ◌*◌, ◌-◌, ◌<◌, ◌≤◌, ◌^◌, List, [], ◌∷◌, ◌++◌}
 use Rattle.twkb_num.specs.Digits.{low_digits, number_of}
 use Rattle.twkb_points.specs.Point.{Point}
 
