@@ -1,5 +1,5 @@
 -- The length of the shortest varint, by the place of the number's highest bit.
-use Rattle.std.proofs.Common.{◌≡◌, ℕ, ◌+◌, ◌-◌, ◌*◌, ◌/◌, ◌%◌, ◌<◌, ◌≤◌, ◌^◌, Bool, true, false, inl, inr, List, [], ◌∷◌, zero, suc, length, refl, ◌∙◌, ap, arith, lit<, Fits, w64}
+use Rattle.std.proofs.Common.{◌≡◌, ℕ, ◌+◌, ◌-◌, ◌*◌, ◌/◌, ◌%◌, ◌<◌, ◌≤◌, ◌^◌, inl, inr, List, [], ◌∷◌, zero, suc, length, refl, ◌∙◌, ap, arith, lit<, Fits, w64}
 use lib.Dec.{leb}
 use lib.Lanes.{top, zip2, sum_l, fold_l}
 use mathlib.Core.Bool.{cond}

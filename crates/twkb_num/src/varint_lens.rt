@@ -1,6 +1,5 @@
 //! Lengths of varints, counted four at once with no branch on how many bytes each has.
 ghost use Rattle.std.specs.Prelude.{◌≡◌, ◌≤◌, ◌<◌, ◌+◌, ◌^◌, [], ◌∷◌, length};
-ghost use Rattle.twkb_num.specs.Varint.{varint_of};
 ghost use Rattle.twkb_num.specs.Lens.{four_lens, more_bytes};
 
 use crate::varint::varint_len;
@@ -94,7 +93,9 @@ impl VarintLens {
             self.add_short(first as u32, second as u32, third as u32, fourth as u32);
             return;
         }
-        let lens = varint_len(first) + varint_len(second) + (varint_len(third) + varint_len(fourth));
+        let lens = varint_len(first)
+            + varint_len(second)
+            + (varint_len(third) + varint_len(fourth));
         self.others += u64::from(lens);
     }
 

@@ -1,4 +1,4 @@
-use Rattle.std.proofs.Common.{◌≡◌, ◌≤◌, ◌+◌, ◌%◌, ◌^◌, ◌∙◌, sym, ap, arith, length}
+use Rattle.std.proofs.Common.{◌≤◌, ◌+◌, ◌%◌, ◌^◌, ◌∙◌, sym, ap, arith, length}
 use lib.Lanes.{sum_l, zip2}
 use Rattle.std.proofs.lemmas.Simd.{length-zip2}
 use Rattle.twkb_num.specs.Lens.{four_lens}
