@@ -94,7 +94,9 @@ impl VarintLens {
             self.add_short(first as u32, second as u32, third as u32, fourth as u32);
             return;
         }
-        let lens = varint_len(first) + varint_len(second) + (varint_len(third) + varint_len(fourth));
+        let lens = varint_len(first)
+            + varint_len(second)
+            + (varint_len(third) + varint_len(fourth));
         self.others += u64::from(lens);
     }
 
