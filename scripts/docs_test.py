@@ -32,7 +32,7 @@ import pages
 import promises
 
 REPO = os.path.abspath(os.path.join(os.path.dirname(__file__), ".."))
-FILES = ["README.md", "docs/USING.md", "docs/SCALE.md", "docs/RECIPES.md", "crates/polytwkb/README.md"]
+FILES = ["README.md", "docs/USING.md", "docs/RECIPES.md", "crates/polytwkb/README.md"]
 EXAMPLES = os.path.join(REPO, "crates", "examples", "src")
 CALLER = re.compile(r"\(\.\./examples/src/([a-z_]+\.rt)\):$")
 MARK = "--- end of the command ---"
