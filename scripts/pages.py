@@ -1,12 +1,13 @@
 #!/usr/bin/env python3
-"""Checks of the pages that need no program: how many words each has, where its links lead, and marks that a merge left.
+"""Checks of the pages that need no program: their words, where their links lead, and marks that a merge left.
 
     scripts/pages.py            says what is wrong; status 1 if anything is
     scripts/pages.py --counts   the words of each page beside its limit
 
-A word is what stands between blanks and has a letter or a digit in it, in text, tables, code and pictures alike. Three things are not
-counted: what a script puts between marks (`<!-- NAME: begin -->` and `<!-- NAME: end -->`), other comments, and a proved caller in a
-crate's README, which is a file of crates/examples word for word. A page without a limit is not counted.
+A word is what is between blanks and has a letter or a digit in it, in text, tables, code and pictures alike.
+Not counted are what a script puts between marks (`<!-- NAME: begin -->` and `<!-- NAME: end -->`), other comments,
+and a proved caller in a crate's README, which is a file of crates/examples word for word. A page without a limit
+is not counted.
 
 A link is looked at if it leads to a file of this repository: the file is there, and so is the heading after '#'.
 """
@@ -29,7 +30,10 @@ LIMITS = {
     "CONTRIBUTING.md": 1500,
 }
 # What programs and people outside call; the READMEs of all other crates are those of inner rooms.
-DOORS = ["polytwkb", "twkb_blob", "twkb_buffer", "twkb_c", "twkb_convert", "twkb_geom", "twkb_io", "twkb_polyline", "twkb_table"]
+DOORS = [
+    "polytwkb", "twkb_blob", "twkb_buffer", "twkb_c", "twkb_convert", "twkb_geom", "twkb_io", "twkb_polyline",
+    "twkb_table",
+]
 DOOR, ROOM = 500, 250
 
 GENERATED = re.compile(r"<!-- ([\w ]+): begin -->.*?<!-- \1: end -->", re.S)
@@ -48,8 +52,9 @@ def text_of(page):
 
 def pages():
     """All pages of the repository, as paths from its root."""
-    patterns = ("*.md", "docs/*.md", "crates/*/README.md", "tests/*/README.md", "python/README.md", "bench/plain/README.md")
-    return sorted(os.path.relpath(path, REPO) for pattern in patterns for path in glob.glob(os.path.join(REPO, pattern)))
+    patterns = ("*.md", "docs/*.md", "*/README.md", "*/*/README.md")
+    found = [path for pattern in patterns for path in glob.glob(os.path.join(REPO, pattern))]
+    return sorted({os.path.relpath(path, REPO) for path in found})
 
 
 def limit_of(page):
@@ -74,9 +79,10 @@ def long_pages():
 
 
 def anchors_of(page):
-    """What may stand behind '#' in a link to a page."""
-    headings = HEADING.findall(FENCED.sub("", text_of(page)))
-    return {re.sub(r"[^\w\- ]", "", re.sub(r"\[([^\]]*)\]\([^)]*\)", r"\1", heading)).strip().lower().replace(" ", "-") for heading in headings}
+    """What may come after '#' in a link to a page."""
+    lines = HEADING.findall(FENCED.sub("", text_of(page)))
+    headings = [re.sub(r"\[([^\]]*)\]\([^)]*\)", r"\1", line) for line in lines]
+    return {re.sub(r"[^\w\- ]", "", heading).strip().lower().replace(" ", "-") for heading in headings}
 
 
 def lost_links():

@@ -4,12 +4,13 @@
     scripts/promises.py            says what is wrong or stale; status 1 if anything is
     scripts/promises.py --docs     puts the tables into docs/PROOFS.md, between their marks
 
-A table of promises in a README has the heads Promise, Clause and Edits; the last is left out if the crate has no edits.
+A table of promises in a README has the heads Promise, Clause and Edits; a crate without edits has no third column.
 
-- The names in a cell of Clause stand in backticks. Each is a function, a type or the label of a clause in the crate's src/, or a
-  definition of specs/, of this crate or another.
-- The names in a cell of Edits are those of files must-fail/NAME.edit of this crate; one of another crate stands as `CRATE/NAME`.
-- Each edit of a crate stands beside a promise of its README.
+- The names in a cell of Clause are in backticks. Each is a function, a type or the label of a clause in the crate's
+  src/, or a definition in specs/ of this crate or another.
+- The names in a cell of Edits are those of files must-fail/NAME.edit of this crate; one of another crate is
+  `CRATE/NAME`.
+- Each edit of a crate is beside a promise of its README.
 """
 import glob
 import os
@@ -67,7 +68,7 @@ def rows_of(crate):
 
 
 def backticked(cell):
-    """The names in backticks in a cell, each without what stands before its last `::`."""
+    """The names in backticks in a cell, each without what comes before its last `::`."""
     return [name.split("::")[-1] for name in re.findall(r"`([^`]+)`", cell)]
 
 
@@ -88,7 +89,7 @@ def faults_of(crate, rows, defined):
             if edit not in (edits_of(other) if other else edits):
                 yield f"{here}:{number}: no edit is called `{name}`"
     for name in sorted(edits - shown):
-        yield f"crates/{crate}/must-fail/{name}.edit: stands beside no promise of {here}"
+        yield f"crates/{crate}/must-fail/{name}.edit: is beside no promise of {here}"
 
 
 def tables(rows):
@@ -96,9 +97,9 @@ def tables(rows):
     parts = []
     for crate, own in rows.items():
         if own:
-            lines = [f"| {promise} | {clause} | {cell} |" for _, promise, clause, cell in own]
-            heading = f"### {crate}\n\n[README](../crates/{crate}/README.md)"
-            parts.append("\n".join([heading, "", "| Promise | Clause | Edits |", "|---|---|---|", *lines]))
+            link = f"[README](../crates/{crate}/README.md)"
+            table = [HEAD, ["---"] * len(HEAD), *(row[1:] for row in own)]
+            parts.append("\n".join([f"### {crate}", "", link, "", *(f"| {' | '.join(row)} |" for row in table)]))
     return "\n\n".join(parts)
 
 
