@@ -31,7 +31,7 @@ ZSHDIR ?= $(DATADIR)/zsh/site-functions
 INSTALL ?= install
 
 # The version of the command and of the library, as it stands in the code. The major number is in the name by which programs find the library.
-VERSION := $(shell sed -n 's/^pub const VERSION: &str = "\(.*\)";/\1/p' crates/twkb_request/src/version.rt)
+VERSION := $(shell sed -n 's/^pub const VERSION: &str = "\(.*\)";/\1/p' crates/twkb_convert/src/version.rt)
 SONAME := libpolytwkb.so.$(firstword $(subst ., ,$(VERSION)))
 REAL_NAME := libpolytwkb.so.$(VERSION)
 

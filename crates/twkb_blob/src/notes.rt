@@ -6,8 +6,7 @@ ghost use Rattle.twkb_blob.specs.Located.{note_awaited, measured};
 use std::alloc::{AllocError, Global};
 use std::marker::Model;
 use twkb_engine::Awaited;
-use twkb_grammar::Span;
-use twkb_header::TypeByte;
+use twkb_grammar::{Span, TypeByte};
 
 // The spans so far, and which of them are of geometries that are begun and not ended, the innermost last.
 #[derive(Debug, Drop)]

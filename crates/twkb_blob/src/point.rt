@@ -8,8 +8,7 @@ use crate::root::take_root_point;
 use std::alloc::AllocError;
 use std::io::Read;
 use twkb_flat::Flat;
-use twkb_grammar::Span;
-use twkb_header::TypeByte;
+use twkb_grammar::{Span, TypeByte};
 use twkb_io::Input;
 use twkb_tree::{Kind, Limits};
 

@@ -9,7 +9,7 @@ ghost use Rattle.twkb_blob.specs.Located.{HasPointRow};
 use std::alloc::AllocError;
 use twkb_flat::Flat;
 use twkb_front::{SIZED, Whole, whole_point};
-use twkb_header::TypeByte;
+use twkb_grammar::TypeByte;
 use twkb_tree::Limits;
 
 // A point that stands whole in front with its header, and has the size that this declares, if any.

@@ -1,14 +1,13 @@
 //! The lines of TWKB headers.
-ghost use Rattle.std.specs.Prelude.{◌≡◌, ◌<◌, ◌≤◌, ◌+◌, [], ◌∷◌, ◌++◌, IfSome, IfNone, OnOk, decimal, length, take, true};
+ghost use Rattle.std.specs.Prelude.{◌≡◌, ◌<◌, ◌≤◌, ◌+◌, [], ◌∷◌, ◌++◌, IfSome, IfNone, OnOk, decimal, length, true};
 ghost use Rattle.std.specs.Fmt.{digit_glyph, signed_decimal};
-ghost use Rattle.twkb_tree.specs.Kind.{word_of};
 ghost use Rattle.twkb_convert.specs.SpanLines.{hex_of, span_line, span_lines};
 
 use itoa::{Buffer, Integer};
 use std::alloc::AllocError;
 use twkb_blob::Span;
 use twkb_num::Piece;
-use twkb_tree::Kind;
+use twkb_table::push_kind;
 
 // The greatest number of one digit.
 const GREATEST_DIGIT: u64 = 9;
@@ -30,8 +29,7 @@ fn put_line(span: &Span, text: &mut Vec<u8>) -> Result<(), AllocError>
     let mut line = Piece::new();
     push_count(u64::from(span.level), b' ', &mut line);
     push_number(span.offset, &mut line);
-    let (word, count) = kind_field(span.kind);
-    line.push_front(word, count);
+    push_kind(span.kind, b' ', &mut line);
     push_precision(span.precision, &mut line);
     push_byte(span.metadata, &mut line);
     push_count(span.length, b' ', &mut line);
@@ -107,24 +105,6 @@ fn push_number<I: Integer>(number: I, line: &mut Piece)
 {
     let mut buffer = Buffer::new();
     line.push_all(buffer.format(number).as_bytes());
-}
-
-// The word of a kind between two spaces, and how many bytes these are: what is behind them is not counted.
-#[inline(always)]
-fn kind_field(kind: Kind) -> (&'static [u8; 17], usize)
-    ensures few { result.1 ≤ 17 }
-    ensures word { take result.1 result.0.now ≡ 32 ∷ (word_of kind ++ 32 ∷ []) }
-{
-    match kind {
-        Kind::Point => (b" point           ", 7),
-        Kind::Linestring => (b" linestring      ", 12),
-        Kind::Polygon => (b" polygon         ", 9),
-        Kind::Ring => (b" ring            ", 6),
-        Kind::MultiPoint => (b" multipoint      ", 12),
-        Kind::MultiLinestring => (b" multilinestring ", 17),
-        Kind::MultiPolygon => (b" multipolygon    ", 14),
-        Kind::Collection => (b" collection      ", 12),
-    }
 }
 
 // Appends a byte as two upper-case hexadecimal digits, and a space.

@@ -6,3 +6,4 @@ pub mod Taking
 pub mod Stepping
 pub mod Ahead
 pub mod Admitting
+pub mod ShortTexts

@@ -5,3 +5,4 @@ pub mod Open
 pub mod Building
 pub mod Ahead
 pub mod Standing
+pub mod Texts

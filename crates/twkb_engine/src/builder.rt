@@ -28,7 +28,7 @@ use std::alloc::Global;
 use twkb_body::{GeometryType, Head, Spot, push_row, whole_row};
 use twkb_flat::Flat;
 use twkb_front::{moved_x, moved_y, origin};
-use twkb_header::TypeByte;
+use twkb_grammar::TypeByte;
 use twkb_num::unzigzag;
 use twkb_points::Pt;
 use twkb_tree::Limits;

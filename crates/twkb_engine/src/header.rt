@@ -19,7 +19,7 @@ use crate::typed::Typed;
 use std::alloc::Global;
 use twkb_body::{Body, Form, GeometryType, Head, Lefts, Names, Spot};
 use twkb_front::origin;
-use twkb_header::{Metadata, TypeByte};
+use twkb_grammar::{Metadata, TypeByte};
 use twkb_tree::Kind;
 
 // Where an item of a header leads.

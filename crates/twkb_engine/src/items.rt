@@ -9,7 +9,7 @@ ghost use Rattle.twkb_engine.specs.State.{step_of};
 
 use crate::phase::{Many, Phase};
 use twkb_body::{Form, GeometryType, Spot};
-use twkb_header::Metadata;
+use twkb_grammar::Metadata;
 
 // Whether a geometry of this type and with this metadata byte is a point that its header announces.
 pub(crate) fn announces_point(kind: GeometryType, number: u64) -> bool

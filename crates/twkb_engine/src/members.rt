@@ -23,7 +23,7 @@ use std::alloc::{AllocError, Global};
 use std::mem;
 use twkb_body::{Body, Form, GeometryType, Head, Lefts, Names, Spot, push_row, whole_row};
 use twkb_flat::Flat;
-use twkb_header::Metadata;
+use twkb_grammar::Metadata;
 use twkb_num::unzigzag;
 
 // The type of a geometry with members.

@@ -13,7 +13,7 @@ use crate::items::announces_point;
 use crate::phase::Phase;
 use twkb_body::{GeometryType, Head};
 use twkb_front::front_parts;
-use twkb_header::Metadata;
+use twkb_grammar::Metadata;
 
 // A header whose optional parts stand whole behind its metadata byte, and behind them a body or count: how many bytes these have,
 // and how many points are announced behind them.

@@ -5,7 +5,7 @@ ghost use Rattle.twkb_front.specs.Whole.{HeaderInFront, WholePoint};
 use crate::motion::origin;
 use crate::numbers::GOES_ON;
 use crate::points::front_point;
-use twkb_header::{Metadata, TypeByte};
+use twkb_grammar::{Metadata, TypeByte};
 use twkb_points::Pt;
 
 // Bytes of a header without optional parts: a type byte and a metadata byte.

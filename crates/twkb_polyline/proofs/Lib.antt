@@ -16,3 +16,4 @@ pub mod TextOrFault
 pub mod WholeLemmas
 pub mod WordLemmas
 pub mod OnePoint
+pub mod ShortTexts

@@ -1,5 +1,5 @@
 //! One row of a table as a line.
-ghost use Rattle.std.specs.Prelude.{◌≡◌, ◌≤◌, ◌+◌, [], ◌∷◌, ◌++◌, OnOk, decimal, length, take};
+ghost use Rattle.std.specs.Prelude.{◌≡◌, ◌≤◌, ◌+◌, [], ◌∷◌, ◌++◌, OnOk, decimal, length};
 ghost use Rattle.std.specs.Fmt.{signed_decimal};
 ghost use Rattle.twkb_tree.specs.Kind.{word_of};
 ghost use Rattle.twkb_flat.specs.Rows.{row_with};
@@ -7,13 +7,13 @@ ghost use Rattle.twkb_table.specs.Fields.{optional};
 ghost use Rattle.twkb_table.specs.Printing.{row_lines, Grows};
 
 use crate::decimal::one_digit;
+use crate::kind_word::push_kind;
 use itoa::Buffer;
 use std::alloc::AllocError;
 use twkb_flat::Row;
 use twkb_num::Piece;
 use twkb_points::Pt;
 use twkb_polyline::{encode_into, encode_point};
-use twkb_tree::Kind;
 
 // Appends the line of a row with its points, or a front of it where memory is refused. What stands
 // before the points is gathered first and appended at once, behind one test for memory; the line of a
@@ -42,7 +42,7 @@ fn push_head(row: &Row, head: &mut Piece)
     ensures short { length head.new ≤ 79 }
 {
     push_number(i64::from(row.depth), head);
-    push_kind(row.kind, head);
+    push_kind(row.kind, b',', head);
     push_id(row.id, head);
     head.push(b',');
     push_precision(row.precision, head);
@@ -71,36 +71,6 @@ fn push_digits(number: i64, head: &mut Piece)
 {
     let mut buffer = Buffer::new();
     head.push_all(buffer.format(number).as_bytes());
-}
-
-// Gathers the word of a kind between two commas.
-#[inline(always)]
-fn push_kind(kind: Kind, head: &mut Piece)
-    requires room { length head.old + 17 ≤ 128 }
-    ensures pushed { head.new ≡ head.old ++ 44 ∷ (word_of kind ++ 44 ∷ []) }
-    ensures short { length head.new ≤ length head.old + 17 }
-{
-    let (field, count) = kind_field(kind);
-    head.push_front(field, count);
-}
-
-// The word of a kind between two commas, and how many bytes these are. What is behind them is copied
-// along, so that each copy is of the same size.
-#[inline(always)]
-fn kind_field(kind: Kind) -> (&'static [u8; 17], usize)
-    ensures few { result.1 ≤ 17 }
-    ensures word { take result.1 result.0.now ≡ 44 ∷ (word_of kind ++ 44 ∷ []) }
-{
-    match kind {
-        Kind::Point => (b",point,          ", 7),
-        Kind::Linestring => (b",linestring,     ", 12),
-        Kind::Polygon => (b",polygon,        ", 9),
-        Kind::Ring => (b",ring,           ", 6),
-        Kind::MultiPoint => (b",multipoint,     ", 12),
-        Kind::MultiLinestring => (b",multilinestring,", 17),
-        Kind::MultiPolygon => (b",multipolygon,   ", 14),
-        Kind::Collection => (b",collection,     ", 12),
-    }
 }
 
 // Gathers the canonical decimal of an id where there is one.

@@ -4,15 +4,13 @@ ghost use Rattle.twkb_num.specs.Varint.{varint_of};
 
 use crate::lengths::{FIVE_BYTES, THREE_BYTES, TWO_BYTES, short_len};
 use std::marker::Model;
+use twkb_num::GOES_ON;
 
 // How many bytes a piece holds.
 const ROOM: usize = 4096;
 
 // The most bytes of two numbers.
 const STEP: usize = 20;
-
-// In each byte of a number but the last this bit is set (TWKB specification; LEB128).
-const GOES_ON: u8 = 0x80;
 
 /// What gathers bytes until it has no room for a step more. A contract sees the bytes that it holds.
 #[derive(Drop)]
