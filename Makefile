@@ -6,7 +6,7 @@
 # make demo              the main job on an example
 # make smoke             the built program with real files and pipes
 # make completions-test  the words of the completions and of the manual page against help
-# make docs-test         the commands that documents show, run and compared
+# make docs-test         the commands that documents show, run and compared; the words, links and promises of the pages
 # make recipes           each recipe and the check of parts, where its tools are installed
 # make lib               the library for C into out/, static and shared
 # make lib-test          the examples in C and in Python over it, under valgrind where that is installed
@@ -173,7 +173,7 @@ dist: build lib
 dist-test: dist
 	scripts/dist_test.sh
 
-# The commands that documents show, run and compared.
+# The commands that documents show, run and compared; callers, promises, links, and the words of each page.
 docs-test: build lib
 	scripts/docs_test.py
 

@@ -12,8 +12,8 @@ trap 'rm -rf "$folder"' EXIT
 cd "$folder"
 jobs=${2:-2}
 
-# The line that docs/SCALE.md shows, for a pipe: it packs table.csv into all.twkb.
-line=$(sed -n 's/^    \(parallel .*\)--block 10M/\1--block 100k/p' "$here/../../docs/SCALE.md")
+# The line that docs/USING.md shows, for a pipe: it packs table.csv into all.twkb.
+line=$(sed -n 's/^    \(parallel .*\)--block 10M/\1--block 100k/p' "$here/../../docs/USING.md")
 
 python3 "$here/make_table.py" "${1:-5000}" > table.csv
 for style in full plain; do
