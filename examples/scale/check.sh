@@ -25,7 +25,7 @@ for style in full plain; do
     tail -n +2 table.csv | "$here/pack_part.sh" --style $style | base64 -d | cmp - whole.twkb
     echo "packed in parts, $style: the same $(wc -c < whole.twkb) bytes"
     polytwkb unpack < whole.twkb > whole.csv
-    "$here/unpack_in_parts.sh" whole.twkb parts.csv "$jobs" 50000
+    "$here/unpack_in_parts.sh" whole.twkb parts.csv "$jobs" 50k
     cmp whole.csv parts.csv
     cmp table.csv parts.csv
     echo "unpacked in parts, $style: the same $(wc -c < whole.csv) bytes"
