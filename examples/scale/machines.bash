@@ -68,15 +68,16 @@ check_same() {
     echo "packed and unpacked: the same $(stat -c %s whole.twkb) and $(stat -c %s table.csv) bytes"
 }
 
-# check_lost COMMAND INPUT WHOLE FORM: the last of the workers is lost when a quarter is done. The output
-# is the same, and is not made by one run over the whole: the command is not there for that.
+# check_lost COMMAND INPUT WHOLE FORM: the last of the workers is lost when a quarter of some 50 parts is
+# done. The output is the same, and not made by one run over the whole: the command is not there for that.
 check_lost() {
-    local job due before parts
-    due=$(stat -c %s "$3") before=$(conversions) parts=$("$here/cuts.py" "$4" "$2" 4000000 | wc -l)
+    local job due before bytes parts
+    bytes=$(($(stat -c %s "$2") / 50)) due=$(stat -c %s "$3") before=$(conversions)
+    parts=$("$here/cuts.py" "$4" "$2" "$bytes" | wc -l)
     mkdir -p refusing
     printf '#!/bin/sh\nexit 99\n' > refusing/polytwkb
     chmod +x refusing/polytwkb
-    (PATH=$folder/refusing:$PATH in_parts "$1" "$2" lost.out 4000000) 2> lost.txt &
+    (PATH=$folder/refusing:$PATH in_parts "$1" "$2" lost.out "$bytes") 2> lost.txt &
     job=$!
     until [ "$(stat -c %s lost.out.part 2> /dev/null || echo 0)" -gt $((due / 4)) ]; do
         kill -0 "$job" 2> /dev/null || fail "$1: ended before a worker was lost: $(cat lost.txt)"
