@@ -24,19 +24,19 @@ def table_ends(table, size):
 
 
 def said_end(stream, start):
-    """Where the blob that begins here ends, as it says: 0 if it does not say.
-
-    If the stream ends before, it is that end.
-    """
+    """Where the blob that begins here ends, as it says: 0 if it does not say."""
     try:
         metadata = stream[start + 1]
         if not metadata & 2:
             return 0
-        place, size, shift = start + (3 if metadata & 8 else 2), 0, 0
-        while stream[place] > 127:
-            size |= (stream[place] & 127) << shift
-            place, shift = place + 1, shift + 7
-        return min(place + 1 + (size | stream[place] << shift), len(stream))
+        place = start + (3 if metadata & 8 else 2)
+        size = stream[place]
+        if size > 127:
+            size, shift = size & 127, 7
+            while (byte := stream[place := place + 1]) > 127:
+                size, shift = size | (byte & 127) << shift, shift + 7
+            size |= byte << shift
+        return place + 1 + size
     except IndexError:
         return len(stream)
 
@@ -50,11 +50,11 @@ def read_end(stream, start, size, last_end):
 
 def stream_ends(stream, size, last_end):
     """Where parts of a stream end."""
-    start = end = 0
-    while end < len(stream):
+    start, end, whole = 0, 0, len(stream)
+    while end < whole:
         end = said_end(stream, end) or read_end(stream, end, size, last_end)
-        if end - start >= size or end == len(stream):
-            yield end
+        if end - start >= size or end >= whole:
+            yield min(end, whole)
             start = end
 
 

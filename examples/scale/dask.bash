@@ -11,7 +11,7 @@ done
 
 # start_dask NUMBER: a scheduler, whose address is DASK_SCHEDULER_ADDRESS, and workers of one thread.
 start_dask() {
-    local number file=scheduler${#started[@]}.json
+    local number file=scheduler$count.json
     begin "$python" -m distributed.cli.dask_scheduler --host 127.0.0.1 --port 0 --no-dashboard \
         --scheduler-file "$file"
     until [ -s "$file" ]; do
@@ -26,7 +26,13 @@ start_dask() {
             --nthreads 1 --no-nanny --no-dashboard --memory-limit 0 --local-directory "$folder"
         workers+=("$begun")
     done
-    "$python" -c "from distributed import Client; Client().wait_for_workers($1, 60)"
+    "$python" - "$1" <<'PYTHON'
+import sys
+from distributed import Client
+
+with Client() as client:
+    client.wait_for_workers(int(sys.argv[1]), 60)
+PYTHON
 }
 in_parts() { "$python" "$here/dask_parts.py" --bytes "$4" "$1" "$2" "$3"; }
 

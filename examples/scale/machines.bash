@@ -5,7 +5,7 @@ set -euo pipefail
 here=$(cd "$(dirname "${BASH_SOURCE[0]}")" && pwd)
 PATH=$here/../../bin:$PATH:/usr/sbin
 export PYTHONDONTWRITEBYTECODE=1
-workers=() started=()
+workers=() count=0
 
 need() {
     local tool
@@ -20,22 +20,23 @@ lose() {
     local child
     kill -STOP "$1" 2> /dev/null || return 0
     for child in $(pgrep -P "$1"); do lose "$child"; done
-    kill -KILL "$1"
+    kill -KILL "$1" 2> /dev/null || true
 }
+# finish: ends what this shell has begun and still runs.
 finish() {
-    local process
-    for process in "${started[@]}"; do lose "$process"; done
+    local process shell=$BASHPID
+    for process in $(pgrep -P "$shell"); do lose "$process"; done
 }
 need polytwkb python3 pgrep
 folder=$(mktemp -d)
 trap 'finish; rm -rf "$folder"' EXIT
 cd "$folder"
 
-# begin COMMAND..: runs it until `finish`; `begun` is its process.
+# begin COMMAND..: runs it until `finish`; `begun` is its process, of which this is number `count`.
 begin() {
-    "$@" > "$folder/${#started[@]}.log" 2>&1 < /dev/null &
+    count=$((count + 1))
+    "$@" > "$folder/$count.log" 2>&1 < /dev/null &
     begun=$!
-    started+=("$begun")
     disown
 }
 

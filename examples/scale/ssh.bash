@@ -48,7 +48,7 @@ CONFIG
 start_host() {
     local port name tried
     for tried in 1 2 3 4 5 6 7 8 9; do
-        port=$((20000 + RANDOM % 10000)) name=host${#started[@]}
+        port=$((20000 + RANDOM % 10000)) name=host$count
         begin "$(command -v sshd)" -D -e -f sshd_config -p "$port"
         printf 'Match originalhost %s\n  Port %d\n' "$name" "$port" >> ssh_config
         until ssh -F ssh_config "$name" true 2> ssh.txt; do
@@ -58,7 +58,7 @@ start_host() {
         workers+=("$begun") HOSTS=$HOSTS${HOSTS:+,}$name
         return
     done
-    fail "no sshd: $(tail -n 1 "$((${#started[@]} - 1)).log" ssh.txt)"
+    fail "no sshd: $(tail -n 1 "$count.log" ssh.txt)"
 }
 in_parts() {
     case $1 in

@@ -24,19 +24,18 @@ row() {
     echo "| $1 | $pack | $unpack |"
 }
 
-busy=$(top -b -n 2 -d 1 | awk '/^top/ { round++ } round == 2 && $9 > 20 { print $12 }' | sort | uniq -c)
+busy=$(top -b -n 2 -d 1 | awk '/^top/ { round++ } round == 2 && /^ *[0-9]/ && $9 > 20 { print $12 }')
 make_tables "${1:-200}"
 echo "$(stat -c %s table.csv) bytes, $(stat -c %s whole.twkb) packed, on $(nproc) cores;" \
-    "busy before: ${busy:-nothing}" | tr -s '\n ' ' '
-echo
+    "busy before:" ${busy:-nothing}
 row "one run" one
 (
     source "$here/dask.bash"
     trap finish EXIT
-    for count in 1 2 4; do start_dask $count; row "Dask, workers: $count" in_parts; finish; done
+    for number in 1 2 4; do start_dask $number; row "Dask, workers: $number" in_parts; finish; done
 )
 (
     source "$here/ssh.bash"
     trap finish EXIT
-    for count in 1 2 4; do start_hosts $count; row "ssh, hosts: $count" in_parts; finish; done
+    for number in 1 2 4; do start_hosts $number; row "ssh, hosts: $number" in_parts; finish; done
 )
