@@ -48,9 +48,12 @@ func Version() string {
 	return text(func(room *C.char, length C.size_t) C.size_t { return C.polytwkb_version(room, length) })
 }
 
-// converted returns what a call writes, into a buffer that is made once more if it was too small. Before a refused geometry that is the
-// output of those that are whole.
-func converted(room int, call func(output *C.uint8_t, room C.size_t) C.polytwkb_report) ([]byte, error) {
+// conversion is a call of C with a room for its output.
+type conversion func(output *C.uint8_t, room C.size_t) C.polytwkb_report
+
+// converted returns what a call writes, into a buffer that is made once more if it was too small. If
+// the input is refused, that is the output of the geometries before.
+func converted(room int, call conversion) ([]byte, error) {
 	for {
 		output := make([]byte, room)
 		report := call(start(output), C.size_t(room))
@@ -72,14 +75,16 @@ func converted(room int, call func(output *C.uint8_t, room C.size_t) C.polytwkb_
 // Pack packs a table of any number of geometries to a stream.
 func Pack(table []byte, style C.uint32_t) ([]byte, error) {
 	return converted(len(table)+64, func(output *C.uint8_t, room C.size_t) C.polytwkb_report {
-		return C.polytwkb_pack(start(table), C.size_t(len(table)), output, room, C.polytwkb_standard_limits(), style)
+		limits := C.polytwkb_standard_limits()
+		return C.polytwkb_pack(start(table), C.size_t(len(table)), output, room, limits, style)
 	})
 }
 
 // Unpack unpacks a stream to a table.
 func Unpack(stream []byte) ([]byte, error) {
 	return converted(2*len(stream)+64, func(output *C.uint8_t, room C.size_t) C.polytwkb_report {
-		return C.polytwkb_unpack(start(stream), C.size_t(len(stream)), output, room, C.polytwkb_standard_limits())
+		limits := C.polytwkb_standard_limits()
+		return C.polytwkb_unpack(start(stream), C.size_t(len(stream)), output, room, limits)
 	})
 }
 
