@@ -13,6 +13,7 @@ import argparse
 import collections
 import contextlib
 import itertools
+import logging
 import os
 import shutil
 import sys
@@ -152,6 +153,8 @@ def main():
     words.add_argument("output")
     given = words.parse_args()
     style = given.style if given.command == "pack" else None
+    # what Dask gives up when it ends is no fault of the conversion
+    logging.getLogger("asyncio").setLevel(logging.CRITICAL)
     with Client(given.scheduler) as client:
         paths = os.path.abspath(given.input), os.path.abspath(given.output)
         line = convert(client, *paths, given.bytes, style)
