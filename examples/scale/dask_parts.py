@@ -4,16 +4,20 @@
     dask_parts.py [--scheduler ADDRESS] [--bytes BYTES] [--style STYLE] pack|unpack INPUT OUTPUT
 
 The bytes, the status and the line on standard error are those of one run. The workers have the
-package polytwkb, and find INPUT by the same name. A part has some BYTES (4000000). Without an address
-Dask takes DASK_SCHEDULER_ADDRESS, or starts workers on this machine. If a worker is lost, the others
-convert its parts again. OUTPUT is written if the status is 0, and else left as it was.
+package polytwkb, find INPUT by the same name, and write parts into a folder beside OUTPUT. A part has
+some BYTES (4000000). Without an address Dask takes DASK_SCHEDULER_ADDRESS, or starts workers on this
+machine. If a worker is lost, the others convert again what it had begun. OUTPUT is written if the
+status is 0, and else left as it was.
 """
 import argparse
 import collections
 import contextlib
 import itertools
+import logging
 import os
+import shutil
 import sys
+import tempfile
 
 import polytwkb
 from cuts import parts_of
@@ -38,12 +42,17 @@ def converted(path, start, length, style):
     return table[len(HEADER) :] if start else table
 
 
-def converted_or_none(*part):
-    """The same on a worker: None if the part is refused."""
+def converted_to(folder, path, start, length, style):
+    """On a worker, puts it into a file that is named after the start; False if the part is refused."""
     try:
-        return converted(*part)
+        content = converted(path, start, length, style)
     except polytwkb.Refused:
-        return None
+        return False
+    # by another name first: a worker that was taken for lost may write the same
+    with tempfile.NamedTemporaryFile(dir=folder, delete=False) as file:
+        file.write(content)
+    os.replace(file.name, os.path.join(folder, str(start)))
+    return True
 
 
 def records_in(*part):
@@ -61,26 +70,23 @@ def last_end(blobs):
     return next(ends, 0)
 
 
-def outputs(client, path, parts, style):
-    """Each part and what it converts to, in their order.
-
-    Four parts for each worker are under way, or are fetched and wait for one before them.
-    """
+def outcomes(client, folder, path, parts, style):
+    """Each part, and whether it was not refused, in their order; four for each worker are ahead."""
     most = 4 * max(1, sum(client.nthreads().values()))
-    waiting, fetched, done = collections.deque(), {}, as_completed(with_results=True)
+    waiting, known, done = collections.deque(), {}, as_completed(with_results=True)
 
     def begin(count):
         for part in itertools.islice(parts, count):
-            future = client.submit(converted_or_none, path, *part, style, pure=False)
+            future = client.submit(converted_to, folder, path, *part, style, pure=False)
             waiting.append((part, future.key))
             done.add(future)
 
     begin(most)
-    for future, content in done:
-        fetched[future.key] = content
-        while waiting and waiting[0][1] in fetched:
+    for future, accepted in done:
+        known[future.key] = accepted
+        while waiting and waiting[0][1] in known:
             part, key = waiting.popleft()
-            yield part, fetched.pop(key)
+            yield part, known.pop(key)
             begin(1)
 
 
@@ -103,26 +109,35 @@ def refusal(client, path, parts, style):
     raise AssertionError(f"only the part at byte {start} is refused")
 
 
+def joined(client, folder, path, whole, parts, style):
+    """Writes the whole output into a file; returns the line of a refusal, or None."""
+    done, refused = [], False
+    for part, accepted in outcomes(client, folder, path, parts, style):
+        if refused:
+            continue
+        done.append(part)
+        if not accepted:
+            # no further part is begun, and those that are under way end
+            refused = True
+            parts.close()
+            continue
+        name = os.path.join(folder, str(part[0]))
+        with open(name, "rb") as file:
+            shutil.copyfileobj(file, whole, 1 << 20)
+        os.remove(name)
+    return refusal(client, path, done, style) if refused else None
+
+
 def convert(client, path, output, size, style):
     """Converts a file to another one; returns the line of a refusal, or None."""
     parts = parts_of(path, "table" if style else "stream", size, last_end)
-    done, refused = [], False
     try:
-        with open(output + ".part", "wb") as file:
-            for part, content in outputs(client, path, parts, style):
-                if refused:
-                    continue
-                done.append(part)
-                if content is None:
-                    # no further part is begun, and those that are under way end
-                    refused = True
-                    parts.close()
-                else:
-                    file.write(content)
-        if refused:
-            return refusal(client, path, done, style)
-        os.replace(output + ".part", output)
-        return None
+        beside = tempfile.TemporaryDirectory(prefix=output + ".", ignore_cleanup_errors=True)
+        with beside as folder, open(output + ".part", "wb") as whole:
+            line = joined(client, folder, path, whole, parts, style)
+        if line is None:
+            os.replace(output + ".part", output)
+        return line
     finally:
         with contextlib.suppress(FileNotFoundError):
             os.remove(output + ".part")
@@ -138,8 +153,11 @@ def main():
     words.add_argument("output")
     given = words.parse_args()
     style = given.style if given.command == "pack" else None
+    # what Dask gives up when it ends is no fault of the conversion
+    logging.getLogger("asyncio").setLevel(logging.CRITICAL)
     with Client(given.scheduler) as client:
-        line = convert(client, os.path.abspath(given.input), given.output, given.bytes, style)
+        paths = os.path.abspath(given.input), os.path.abspath(given.output)
+        line = convert(client, *paths, given.bytes, style)
     sys.exit(line and f"polytwkb: {line}")
 
 

@@ -100,7 +100,7 @@ check_refused() {
     in_parts "$1" "$2" refused.out 300000 2> parts.txt || parts=$?
     [ "$one" = 1 ] && [ "$parts" = 1 ] || fail "$1 $2: status $parts, and $one of one run"
     cmp parts.txt one.txt || fail "$1 $2: $(cat parts.txt)"
-    [ ! -e refused.out ] && [ ! -e refused.out.part ] || fail "$1 $2: an output is left"
+    [ -z "$(compgen -G 'refused.out*')" ] || fail "$1 $2: an output is left"
 }
 
 # check_all_refused: tables and streams that are refused in the middle, or from the start.
