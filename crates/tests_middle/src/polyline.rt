@@ -49,7 +49,7 @@ fn each_growth_may_be_refused(rt: HostRuntime) {
 // The first point of Google's worked example, behind a byte.
 #[test]
 fn one_point_is_encoded_behind_a_byte(rt: HostRuntime) {
-    let mut piece = Piece::new();
+    let mut piece = Piece::<128>::new();
     piece.push(b',');
     if let Some(point) = Pt::try_new(-12020000, 3850000) {
         encode_point(point, &mut piece);

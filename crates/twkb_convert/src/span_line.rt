@@ -27,7 +27,7 @@ pub(crate) fn put_lines(spans: &[Span], text: &mut Vec<u8>) -> Result<(), AllocE
 fn put_line(span: &Span, text: &mut Vec<u8>) -> Result<(), AllocError>
     ensures appended { OnOk result (text.new.items ≡ text.old.items ++ span_line span.now) }
 {
-    let mut line = Piece::new();
+    let mut line = Piece::<128>::new();
     push_count(u64::from(span.level), b' ', &mut line);
     push_number(span.offset, &mut line);
     let (word, count) = kind_field(span.kind);
@@ -41,7 +41,7 @@ fn put_line(span: &Span, text: &mut Vec<u8>) -> Result<(), AllocError>
 
 // Appends a precision in decimals, and a space. Few are negative.
 #[inline(always)]
-fn push_precision(precision: i8, line: &mut Piece)
+fn push_precision(precision: i8, line: &mut Piece<128>)
     requires room { length line.old + 21 ≤ 128 }
     ensures appended { line.new ≡ line.old ++ (signed_decimal precision ++ 32 ∷ []) }
     ensures most { length line.new ≤ length line.old + 21 }
@@ -56,7 +56,7 @@ fn push_precision(precision: i8, line: &mut Piece)
 
 // Appends a count in decimals, and a byte behind it. Most counts have a digit or two.
 #[inline(always)]
-fn push_count(count: u64, behind: u8, line: &mut Piece)
+fn push_count(count: u64, behind: u8, line: &mut Piece<128>)
     requires room { length line.old + 21 ≤ 128 }
     ensures appended { line.new ≡ line.old ++ (decimal count ++ behind ∷ []) }
     ensures most { length line.new ≤ length line.old + 21 }
@@ -70,7 +70,7 @@ fn push_count(count: u64, behind: u8, line: &mut Piece)
 
 // Appends a count of two digits or more in decimals.
 #[inline(always)]
-fn push_digits(count: u64, line: &mut Piece)
+fn push_digits(count: u64, line: &mut Piece<128>)
     requires some { 10 ≤ count }
     requires room { length line.old + 20 ≤ 128 }
     ensures appended { line.new ≡ line.old ++ decimal count }
@@ -100,7 +100,7 @@ fn one_digit(number: u64) -> Option<u8>
 
 // Appends a number in decimals. A caller's frame is spared the buffer.
 #[inline(never)]
-fn push_number<I: Integer>(number: I, line: &mut Piece)
+fn push_number<I: Integer>(number: I, line: &mut Piece<128>)
     requires room { length line.old + I.MAX_STR_LEN ≤ 128 }
     ensures appended { line.new ≡ line.old ++ I.text number }
     ensures most { length line.new ≤ length line.old + I.MAX_STR_LEN }
@@ -129,7 +129,7 @@ fn kind_field(kind: Kind) -> (&'static [u8; 17], usize)
 
 // Appends a byte as two upper-case hexadecimal digits, and a space.
 #[inline(always)]
-fn push_byte(byte: u8, line: &mut Piece)
+fn push_byte(byte: u8, line: &mut Piece<128>)
     requires room { length line.old + 3 ≤ 128 }
     ensures appended { line.new ≡ line.old ++ (hex_of byte ++ 32 ∷ []) }
     ensures most { length line.new ≤ length line.old + 3 }

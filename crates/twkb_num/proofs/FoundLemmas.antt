@@ -162,13 +162,16 @@ leb_same : (d : ℕ) (more : Bool) → unit_over 0 128 d more ≡ leb_unit d mor
 leb_same d true = omega arith
 leb_same d false = omega arith
 
--- so four numbers that are found are four varints
+-- so the shortest spelling over 0 is the shortest varint
+pub leb_spelled : (n : ℕ) → shortest (unit_over 0 128) 128 n ≡ shortest leb_unit 128 n
+leb_spelled n = units_same (unit_over 0 128) leb_unit leb_same (digits 128 n)
+
+-- and four numbers that are found are four varints
 pub four_as_varints : (bytes : List ℕ) (a b c d count : ℕ) → FourInFront (unit_over 0 128) 128 bytes a b c d count → FourInFront leb_unit 128 bytes a b c d count
 four_as_varints bytes a b c d count found =
-    let same : (n : ℕ) → shortest (unit_over 0 128) 128 n ≡ shortest leb_unit 128 n = λ n. units_same (unit_over 0 128) leb_unit leb_same (digits 128 n) in
     record {
       within = found.within;
-      spelled = rw (sym (same a), sym (same b), sym (same c), sym (same d)) found.spelled;
+      spelled = rw (sym (leb_spelled a), sym (leb_spelled b), sym (leb_spelled c), sym (leb_spelled d)) found.spelled;
       first_small = found.first_small;
       second_small = found.second_small;
       third_small = found.third_small;

@@ -1,6 +1,10 @@
 -- The length of the shortest varint, by the place of the number's highest bit.
-use Rattle.std.proofs.Common.{◌≡◌, ℕ, ◌+◌, ◌-◌, ◌*◌, ◌/◌, ◌<◌, ◌≤◌, ◌^◌, zero, suc, length, refl, ◌∙◌, ap, arith, lit<}
+use Rattle.std.proofs.Common.{◌≡◌, ℕ, ◌+◌, ◌-◌, ◌*◌, ◌/◌, ◌%◌, ◌<◌, ◌≤◌, ◌^◌, Bool, true, false, inl, inr, zero, suc, length, refl, ◌∙◌, ap, arith, lit<, Fits, w32}
+use lib.Dec.{leb}
+use lib.Lanes.{top}
+use mathlib.Core.Bool.{cond}
 use Rattle.std.proofs.Math.Nat.{pow-le-pow_right}
+use Rattle.std.proofs.lemmas.Bool.{cases_lt, le-leb, lt-leb}
 use Rattle.std.proofs.lemmas.Nat.{leading_top, pow-add}
 use Rattle.std.specs.Int.Count.{count_leading_zeros}
 use Rattle.twkb_num.specs.Varint.{varint_of}
@@ -33,3 +37,81 @@ length_by_zeros n fits =
     let place : 63 - count_leading_zeros 64 (n / 2 * 2 + 1) ≡ j = omega (arith, top.1) in
     let bytes : length (varint_of n) ≡ j / 7 + 1 = length_by_top (j / 7) j n refl top.2 (omega (arith, top.3)) in
     omega (arith, place, bytes)
+
+-- ---- by comparisons
+
+-- what a comparison with a bound adds
+abbrev pub one_from : ℕ → ℕ → ℕ
+one_from bound n = cond (top 31 (cond (leb bound n) 4294967295 0)) 1 0
+
+-- as code adds them
+abbrev pub more_bytes : ℕ → ℕ
+more_bytes n = ((one_from 128 n + one_from 16384 n) % 4294967296 + one_from 2097152 n) % 4294967296
+
+-- a number below 2 ^ 28 has so many bytes after its first
+pub length_by_bounds : (n : ℕ) → n < 2 ^ 28 → length (varint_of n) ≡ more_bytes n + 1
+length_by_bounds n small =
+    elim (cases_lt n 128) [
+      | inl one ↦ rw (lt-leb 128 n one, lt-leb 16384 n (omega arith), lt-leb 2097152 n (omega arith)) (one_byte n one)
+      | inr two ↦ elim (cases_lt n 16384) [
+        | inl below ↦
+            rw (le-leb 128 n two, lt-leb 16384 n below, lt-leb 2097152 n (omega arith))
+            (omega (arith, one_byte_more n two, one_byte (n / 128) (omega arith)))
+        | inr three ↦ elim (cases_lt n 2097152) [
+          | inl below ↦
+              rw (le-leb 128 n two, le-leb 16384 n three, lt-leb 2097152 n below)
+              (omega (arith, one_byte_more n two, one_byte_more (n / 128) (omega arith), one_byte (n / 128 / 128) (omega arith)))
+          | inr four ↦
+              rw (le-leb 128 n two, le-leb 16384 n three, le-leb 2097152 n four)
+              (omega (arith, one_byte_more n two, one_byte_more (n / 128) (omega arith), one_byte_more (n / 128 / 128) (omega arith), one_byte (n / 128 / 128 / 128) (omega arith)))
+        ]
+      ]
+    ]
+
+-- and at most three
+pub few_more : (n : ℕ) → more_bytes n ≤ 3
+few_more n = by_tests (leb 128 n) (leb 16384 n) (leb 2097152 n)
+  where
+    by_tests : (p q r : Bool) → ((cond (top 31 (cond p 4294967295 0)) 1 0 + cond (top 31 (cond q 4294967295 0)) 1 0) % 4294967296 + cond (top 31 (cond r 4294967295 0)) 1 0) % 4294967296 ≤ 3
+    by_tests true true true = omega arith
+    by_tests true true false = omega arith
+    by_tests true false true = omega arith
+    by_tests true false false = omega arith
+    by_tests false true true = omega arith
+    by_tests false true false = omega arith
+    by_tests false false true = omega arith
+    by_tests false false false = omega arith
+
+-- four lanes, as code adds them
+abbrev pub summed : ℕ → ℕ → ℕ → ℕ → ℕ
+summed a b c d = ((((0 + more_bytes a) % 4294967296 + more_bytes b) % 4294967296 + more_bytes c) % 4294967296 + more_bytes d) % 4294967296
+
+-- without a carry
+no_carry : (w x y z : ℕ) → w ≤ 3 → x ≤ 3 → y ≤ 3 → z ≤ 3 → ((((0 + w) % 4294967296 + x) % 4294967296 + y) % 4294967296 + z) % 4294967296 ≡ w + x + y + z
+no_carry w x y z p q r s = omega arith
+
+module _ (a b c d : ℕ) where
+  plain : summed a b c d ≡ more_bytes a + more_bytes b + more_bytes c + more_bytes d
+  plain = no_carry (more_bytes a) (more_bytes b) (more_bytes c) (more_bytes d) (few_more a) (few_more b) (few_more c) (few_more d)
+
+  -- they are sixteen with the first bytes at most
+  at_most : (s w x y z : ℕ) → s ≡ w + x + y + z → w ≤ 3 → x ≤ 3 → y ≤ 3 → z ≤ 3 → s + 4 ≤ 16
+  at_most s w x y z e p q r t = omega arith
+
+  pub lens_most : summed a b c d + 4 ≤ 16
+  lens_most = at_most (summed a b c d) (more_bytes a) (more_bytes b) (more_bytes c) (more_bytes d) plain (few_more a) (few_more b) (few_more c) (few_more d)
+
+  -- so they fit
+  in_word : (n : ℕ) → n ≤ 16 → n < 2 ^ 32
+  in_word n h = omega arith
+
+  pub lens_fit : Fits w32 (summed a b c d + 4)
+  lens_fit = record { fits = in_word (summed a b c d + 4) lens_most }
+
+  total : (s w x y z i j k l : ℕ) → s ≡ w + x + y + z → i ≡ w + 1 → j ≡ x + 1 → k ≡ y + 1 → l ≡ z + 1 → s + 4 ≡ i + j + (k + l)
+  total s w x y z i j k l e p q r t = omega arith
+
+  -- and are the lengths
+  pub lens_are : a < 2 ^ 28 → b < 2 ^ 28 → c < 2 ^ 28 → d < 2 ^ 28 → summed a b c d + 4 ≡ length (varint_of a) + length (varint_of b) + (length (varint_of c) + length (varint_of d))
+  lens_are p q r s =
+      total (summed a b c d) (more_bytes a) (more_bytes b) (more_bytes c) (more_bytes d) _ _ _ _ plain (length_by_bounds a p) (length_by_bounds b q) (length_by_bounds c r) (length_by_bounds d s)

@@ -50,7 +50,7 @@ table_word marks long = eqb-true (get_or PLACES (mask_l marks) 0) (word_for mark
 -- ---- eight marks in front of others
 
 -- their bits stand below the others
-mask_l-append : (xs ys : List Bool) → mask_l (xs ++ ys) ≡ mask_l xs + 2 ^ length xs * mask_l ys
+pub mask_l-append : (xs ys : List Bool) → mask_l (xs ++ ys) ≡ mask_l xs + 2 ^ length xs * mask_l ys
 mask_l-append [] ys = omega arith
 mask_l-append (x ∷ xs) ys =
     let rest = mask_l-append xs ys in

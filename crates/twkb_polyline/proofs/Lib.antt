@@ -3,9 +3,7 @@ pub mod DecodeLemmas
 pub mod EncodeLemmas
 pub mod FarLemmas
 pub mod GroupLemmas
-pub mod JoinLemmas
 pub mod LaneLemmas
-pub mod MarkLemmas
 pub mod NumberLemmas
 pub mod PairLemmas
 pub mod PointLemmas

@@ -22,7 +22,7 @@ pub(crate) fn put_row(row: &Row, points: &[Pt], text: &mut Vec<u8>) -> Result<()
     ensures appended { OnOk result (text.new.items ≡ text.old.items ++ row_lines (row_with row.now points.now ∷ [])) }
     ensures grown { Grows text.old.items text.new.items }
 {
-    let mut line = Piece::new();
+    let mut line = Piece::<128>::new();
     push_head(row, &mut line);
     if let [point] = points {
         encode_point(*point, &mut line);
@@ -36,7 +36,7 @@ pub(crate) fn put_row(row: &Row, points: &[Pt], text: &mut Vec<u8>) -> Result<()
 
 // Gathers the depth, the kind, the id and the precision of a row, each with the comma behind it.
 #[inline(always)]
-fn push_head(row: &Row, head: &mut Piece)
+fn push_head(row: &Row, head: &mut Piece<128>)
     requires empty { head.old ≡ [] }
     ensures gathered { head.new ≡ ((decimal row.now.depth ++ 44 ∷ (word_of row.now.kind ++ 44 ∷ [])) ++ optional row.now.id) ++ 44 ∷ (optional row.now.precision ++ 44 ∷ []) }
     ensures short { length head.new ≤ 79 }
@@ -51,7 +51,7 @@ fn push_head(row: &Row, head: &mut Piece)
 
 // Gathers the canonical decimal of a number.
 #[inline(always)]
-fn push_number(number: i64, head: &mut Piece)
+fn push_number(number: i64, head: &mut Piece<128>)
     requires room { length head.old + 20 ≤ 128 }
     ensures pushed { head.new ≡ head.old ++ signed_decimal number }
     ensures short { length head.new ≤ length head.old + 20 }
@@ -64,7 +64,7 @@ fn push_number(number: i64, head: &mut Piece)
 
 // The same by itoa's printer.
 #[inline(never)]
-fn push_digits(number: i64, head: &mut Piece)
+fn push_digits(number: i64, head: &mut Piece<128>)
     requires room { length head.old + 20 ≤ 128 }
     ensures pushed { head.new ≡ head.old ++ signed_decimal number }
     ensures short { length head.new ≤ length head.old + 20 }
@@ -75,7 +75,7 @@ fn push_digits(number: i64, head: &mut Piece)
 
 // Gathers the word of a kind between two commas.
 #[inline(always)]
-fn push_kind(kind: Kind, head: &mut Piece)
+fn push_kind(kind: Kind, head: &mut Piece<128>)
     requires room { length head.old + 17 ≤ 128 }
     ensures pushed { head.new ≡ head.old ++ 44 ∷ (word_of kind ++ 44 ∷ []) }
     ensures short { length head.new ≤ length head.old + 17 }
@@ -105,7 +105,7 @@ fn kind_field(kind: Kind) -> (&'static [u8; 17], usize)
 
 // Gathers the canonical decimal of an id where there is one.
 #[inline(always)]
-fn push_id(id: Option<i64>, head: &mut Piece)
+fn push_id(id: Option<i64>, head: &mut Piece<128>)
     requires room { length head.old + 20 ≤ 128 }
     ensures pushed { head.new ≡ head.old ++ optional id }
     ensures short { length head.new ≤ length head.old + 20 }
@@ -118,7 +118,7 @@ fn push_id(id: Option<i64>, head: &mut Piece)
 
 // Gathers the canonical decimal of a precision where there is one.
 #[inline(always)]
-fn push_precision(precision: Option<i8>, head: &mut Piece)
+fn push_precision(precision: Option<i8>, head: &mut Piece<128>)
     requires room { length head.old + 20 ≤ 128 }
     ensures pushed { head.new ≡ head.old ++ optional precision }
     ensures short { length head.new ≤ length head.old + 20 }

@@ -30,7 +30,7 @@ pub(crate) fn look_at_reads(work: &Work)
     let _learnt = work.point_reads;
 }
 
-// The points of a row before those up to the end of its geometry, each read once.
+// The points of a row before those up to the end of its geometry, each read once, two at a time from the last on.
 #[inline(always)]
 pub(crate) fn take_points(flat: &Flat, id: NodeId, node: &Node, tail: Tail, work: &mut Work) -> Tail
     requires node { IsNode flat.now id.0 node.now }
@@ -41,12 +41,24 @@ pub(crate) fn take_points(flat: &Flat, id: NodeId, node: &Node, tail: Tail, work
     ensures reads { ReadsExactly work.old 0 node.now.points work.new }
 {
     look_at_reads(work);
-    let mut tail = tail;
-    for back in 0..node.points {
-        let point = flat.point(PointId(node.first.0 + (node.points - 1 - back)), work);
-        tail = tail.behind(point);
+    if node.points == 0 {
+        return tail;
     }
-    tail
+    let last = flat.point(PointId(node.first.0 + (node.points - 1)), work);
+    let mut points = tail.begun(last);
+    let mut back = 1;
+    while node.points - back >= 2 {
+        let place = node.first.0 + (node.points - 1 - back);
+        let next = flat.point(PointId(place), work);
+        let point = flat.point(PointId(place - 1), work);
+        points = points.behind_two(point, next);
+        back += 2;
+    }
+    if back == node.points {
+        return points.tail();
+    }
+    let first = flat.point(node.first, work);
+    points.tail().behind(first)
 }
 
 // Takes in a row that is a geometry of its own, and gives its entry.

@@ -3,12 +3,16 @@ use Rattle.std.proofs.Common.{◌≡◌, ◌≤◌, ◌+◌, ◌*◌, ◌-◌, �
 use Rattle.twkb_points.specs.Point.{Point}
 use Rattle.twkb_writer.specs.Measuring.{points_at}
 use Rattle.twkb_writer.specs.Reads.{ReadsExactly}
-use Rattle.twkb_writer.specs.Tails.{tail_of}
+use Rattle.twkb_writer.specs.Tails.{tail_from, tail_of}
 use Rattle.twkb_writer.proofs.measuring.take_points.Given as goal
 
 abbrev pub invariant-loop-back : goal.invariant-loop-back
 invariant-loop-back l = record {
-  value : (ahead : List Point) → l.fn.tail ≡ tail_of ahead → l.tail ≡ tail_of (drop (l.node.points - l.back) (points_at (drop l.fn.id.0 l.flat)) ++ ahead);
-  most : l.tail.bytes ≤ l.fn.tail.bytes + 20 * l.back;
+  within : l.back ≤ l.node.points;
+  value : (ahead : List Point) → l.fn.tail ≡ tail_of ahead → tail_from l.points ≡ tail_of (drop (l.node.points - l.back) (points_at (drop l.fn.id.0 l.flat)) ++ ahead);
+  most : l.points.bytes ≤ l.fn.tail.bytes + 20 * l.back;
   reads : ReadsExactly l.fn.work 0 l.back l.work;
 }
+
+abbrev pub decreases-loop-back : goal.decreases-loop-back
+decreases-loop-back l = l.node.points - l.back
