@@ -1,14 +1,15 @@
 //! Numbers on both sides of each length's threshold, written four at a time. The bytes and characters are by hand, after the
 //! LEB128 and the Encoded Polyline Algorithm Format.
-use twkb_num::{Piece, four_varints_len};
+use twkb_num::{Piece, VarintLens};
 
 // Whether four numbers are these varints, together so long.
 fn are_varints(numbers: [u64; 4], bytes: &[u8]) -> bool {
     let [first, second, third, fourth] = numbers;
     let mut piece = Piece::<64>::new();
     piece.push_four_varints(first, second, third, fourth);
-    let length = four_varints_len(first, second, third, fourth);
-    (piece.as_slice() == bytes) & (length as usize == bytes.len())
+    let mut lens = VarintLens::from(5);
+    lens.add_four(first, second, third, fourth);
+    (piece.as_slice() == bytes) & (lens.total() as usize == bytes.len() + 5)
 }
 
 #[test]

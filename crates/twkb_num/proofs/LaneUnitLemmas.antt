@@ -187,8 +187,40 @@ lanes_are base radix from_base bound a b c d alphabet within base_is bound_is p 
     ∙ ap (digits_l 256 16) (sym (four_words
     (u a) (u (a / radix)) (u (a / radix / radix)) (u (a / radix / radix / radix)) (u b) (u (b / radix)) (u (b / radix / radix)) (u (b / radix / radix / radix))
     (u c) (u (c / radix)) (u (c / radix / radix)) (u (c / radix / radix / radix)) (u d) (u (d / radix)) (u (d / radix / radix)) (u (d / radix / radix / radix))))
-    ∙ digits-number 256 16 (lane_units base radix a ++ (lane_units base radix b ++ (lane_units base radix c ++ lane_units base radix d))) refl
-    (byte_of a, (byte_of (a / radix), (byte_of (a / radix / radix), (byte_of (a / radix / radix / radix),
-    (byte_of b, (byte_of (b / radix), (byte_of (b / radix / radix), (byte_of (b / radix / radix / radix),
-    (byte_of c, (byte_of (c / radix), (byte_of (c / radix / radix), (byte_of (c / radix / radix / radix),
-    (byte_of d, (byte_of (d / radix), (byte_of (d / radix / radix), (byte_of (d / radix / radix / radix), tt)))))))))))))))))
+    ∙ digits-number 256 16 (lane_units base radix a ++ (lane_units base radix b ++ (lane_units base radix c ++ lane_units base radix d))) refl (
+      byte_of a,
+      (
+        byte_of (a / radix),
+        (
+          byte_of (a / radix / radix),
+          (
+            byte_of (a / radix / radix / radix),
+            (
+              byte_of b,
+              (
+                byte_of (b / radix),
+                (
+                  byte_of (b / radix / radix),
+                  (
+                    byte_of (b / radix / radix / radix),
+                    (
+                      byte_of c,
+                      (
+                        byte_of (c / radix),
+                        (
+                          byte_of (c / radix / radix),
+                          (
+                            byte_of (c / radix / radix / radix),
+                            (byte_of d, (byte_of (d / radix), (byte_of (d / radix / radix), (byte_of (d / radix / radix / radix), tt)))),
+                          ),
+                        ),
+                      ),
+                    ),
+                  ),
+                ),
+              ),
+            ),
+          ),
+        ),
+      ),
+    ))

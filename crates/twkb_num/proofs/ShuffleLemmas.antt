@@ -123,20 +123,74 @@ places_split p q i j k l is js ks ls p_is q_is =
     ∙ ap (λ x. digits_l 256 16 (number_l 256 (shuffle_of i j) + 18446744073709551616 * (x + 18446744073709551616 * 0))) (high ∙ more)
     ∙ ap (λ x. digits_l 256 16 (number_l 256 (shuffle_of i j) + x)) none
     ∙ ap (digits_l 256 16) (two_eights (place_for i j 0) (place_for i j 1) (place_for i j 2) (place_for i j 3) (place_for i j 4) (place_for i j 5) (place_for i j 6) (place_for i j 7) (moved k l))
-    ∙ digits-number 256 16 (shuffle_of i j ++ moved k l) refl
-    (small 0 (place_small i j 0 is js), (small 1 (place_small i j 1 is js), (small 2 (place_small i j 2 is js), (small 3 (place_small i j 3 is js),
-    (small 4 (place_small i j 4 is js), (small 5 (place_small i j 5 is js), (small 6 (place_small i j 6 is js), (small 7 (place_small i j 7 is js),
-    (small_moved 0 (place_small k l 0 ks ls), (small_moved 1 (place_small k l 1 ks ls), (small_moved 2 (place_small k l 2 ks ls), (small_moved 3 (place_small k l 3 ks ls),
-    (small_moved 4 (place_small k l 4 ks ls), (small_moved 5 (place_small k l 5 ks ls), (small_moved 6 (place_small k l 6 ks ls), (small_moved 7 (place_small k l 7 ks ls), tt))))))))))))))))
+    ∙ digits-number 256 16 (shuffle_of i j ++ moved k l) refl (
+      small 0 (place_small i j 0 is js),
+      (
+        small 1 (place_small i j 1 is js),
+        (
+          small 2 (place_small i j 2 is js),
+          (
+            small 3 (place_small i j 3 is js),
+            (
+              small 4 (place_small i j 4 is js),
+              (
+                small 5 (place_small i j 5 is js),
+                (
+                  small 6 (place_small i j 6 is js),
+                  (
+                    small 7 (place_small i j 7 is js),
+                    (
+                      small_moved 0 (place_small k l 0 ks ls),
+                      (
+                        small_moved 1 (place_small k l 1 ks ls),
+                        (
+                          small_moved 2 (place_small k l 2 ks ls),
+                          (
+                            small_moved 3 (place_small k l 3 ks ls),
+                            (small_moved 4 (place_small k l 4 ks ls), (small_moved 5 (place_small k l 5 ks ls), (small_moved 6 (place_small k l 6 ks ls), (small_moved 7 (place_small k l 7 ks ls), tt)))),
+                          ),
+                        ),
+                      ),
+                    ),
+                  ),
+                ),
+              ),
+            ),
+          ),
+        ),
+      ),
+    )
 
 -- `swizzle_dyn` may read them
 pub shuffle_ok : (p q i j k l : ℕ) → i ≤ 3 → j ≤ 3 → k ≤ 3 → l ≤ 3 → p ≡ number_l 256 (shuffle_of i j) → q ≡ number_l 256 (shuffle_of k l)
     → SwzOk w8 16 16 0 (digits_l 256 16 (joined_words p q))
 shuffle_ok p q i j k l is js ks ls p_is q_is =
     subst (λ xs. SwzOk w8 16 16 0 xs) (sym (places_split p q i j k l is js ks ls p_is q_is))
-    (SwzOk-from_Each1 w8 16 1 16 0 (shuffle_of i j ++ moved k l) (omega arith) (omega arith)
-    (place_ok i j 0 is js, (place_ok i j 1 is js, (place_ok i j 2 is js, (place_ok i j 3 is js, (place_ok i j 4 is js, (place_ok i j 5 is js, (place_ok i j 6 is js, (place_ok i j 7 is js,
-    (moved_ok k l 0 ks ls, (moved_ok k l 1 ks ls, (moved_ok k l 2 ks ls, (moved_ok k l 3 ks ls, (moved_ok k l 4 ks ls, (moved_ok k l 5 ks ls, (moved_ok k l 6 ks ls, (moved_ok k l 7 ks ls, tt)))))))))))))))))
+    (SwzOk-from_Each1 w8 16 1 16 0 (shuffle_of i j ++ moved k l) (omega arith) (omega arith) (
+      place_ok i j 0 is js,
+      (
+        place_ok i j 1 is js,
+        (
+          place_ok i j 2 is js,
+          (
+            place_ok i j 3 is js,
+            (
+              place_ok i j 4 is js,
+              (
+                place_ok i j 5 is js,
+                (
+                  place_ok i j 6 is js,
+                  (
+                    place_ok i j 7 is js,
+                    (moved_ok k l 0 ks ls, (moved_ok k l 1 ks ls, (moved_ok k l 2 ks ls, (moved_ok k l 3 ks ls, (moved_ok k l 4 ks ls, (moved_ok k l 5 ks ls, (moved_ok k l 6 ks ls, (moved_ok k l 7 ks ls, tt)))))))),
+                  ),
+                ),
+              ),
+            ),
+          ),
+        ),
+      ),
+    ))
 
 -- ---- what a shuffle gives
 

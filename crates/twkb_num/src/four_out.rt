@@ -50,14 +50,7 @@ pub(crate) fn as_characters(first: u32, second: u32, third: u32, fourth: u32) ->
 // The units of four numbers in an alphabet whose last units are `base` and less than `radix` more, and whose others are
 // `radix` above these.
 #[inline(always)]
-fn spelled(
-    first: u32,
-    second: u32,
-    third: u32,
-    fourth: u32,
-    base: u8,
-    radix: u8,
-) -> FourUnits
+fn spelled(first: u32, second: u32, third: u32, fourth: u32, base: u8, radix: u8) -> FourUnits
     requires alphabet { (radix ≡ 128) ⊎ (radix ≡ 32) }
     requires in_bytes { base + 2 * radix ≤ 256 }
     requires first_small { first < radix ^ 4 }
@@ -101,7 +94,11 @@ fn lanes(first: u32, second: u32, third: u32, fourth: u32, base: u8, radix: u8) 
         + threes % group * u32x4::splat(0x1_0000)
         + fours * u32x4::splat(0x100_0000);
     let marks = numbers.simd_ge(group).select(group, none)
-        + twos.simd_ge(group).select(u32x4::splat(bound * 0x100), none)
-        + threes.simd_ge(group).select(u32x4::splat(bound * 0x1_0000), none);
+        + twos
+            .simd_ge(group)
+            .select(u32x4::splat(bound * 0x100), none)
+        + threes
+            .simd_ge(group)
+            .select(u32x4::splat(bound * 0x1_0000), none);
     (groups + marks + u32x4::splat(u32::from(base) * EACH_BYTE)).to_le_bytes()
 }

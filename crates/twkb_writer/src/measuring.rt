@@ -44,17 +44,16 @@ pub(crate) fn take_points(flat: &Flat, id: NodeId, node: &Node, tail: Tail, work
     if node.points == 0 {
         return tail;
     }
-    let last = flat.point(PointId(node.first.0 + (node.points - 1)), work);
-    let mut points = tail.begun(last);
-    let mut back = 1;
-    while node.points - back >= 2 {
-        let place = node.first.0 + (node.points - 1 - back);
-        let next = flat.point(PointId(place), work);
-        let point = flat.point(PointId(place - 1), work);
+    let last = node.first.0 + (node.points - 1);
+    let point = flat.point(PointId(last), work);
+    let mut points = tail.begun(point);
+    for pair in 0..(node.points - 1) / 2 {
+        let place = last - 2 * pair;
+        let next = flat.point(PointId(place - 1), work);
+        let point = flat.point(PointId(place - 2), work);
         points = points.behind_two(point, next);
-        back += 2;
     }
-    if back == node.points {
+    if node.points % 2 == 1 {
         return points.tail();
     }
     let first = flat.point(node.first, work);

@@ -3,7 +3,8 @@ ghost use Rattle.std.specs.Prelude.{◌≡◌, ◌+◌, ◌≤◌, ◌^◌, [], 
 ghost use Rattle.twkb_points.specs.Point.{Point};
 ghost use Rattle.twkb_writer.specs.Tails.{step_len, from_origin, tail_from, tail_of};
 
-use crate::lengths::{four_len, signed_len};
+use crate::lengths::signed_len;
+use twkb_num::{VarintLens, zigzag};
 use twkb_points::{Bounds, Cursor, Pt, merged};
 
 // What the points from a place on up to the end of their geometry come to.
@@ -18,10 +19,10 @@ pub(crate) struct Tail {
 }
 
 // The same of one point at least.
-#[derive(Clone, Copy)]
+#[derive(Drop)]
 pub(crate) struct NonEmptyTail {
     pub(crate) first: Pt,
-    pub(crate) bytes: u64,
+    pub(crate) bytes: VarintLens,
     pub(crate) bounds: Bounds,
 }
 
@@ -36,17 +37,19 @@ fn step_len(from: Pt, to: Pt) -> u64
     signed_len(x) + signed_len(y)
 }
 
-// The bytes of the way from one point by another to a third.
+// Counts the bytes of the way from one point by another to a third.
+#[tactic(auto, unfolding(crate::specs::Tails::number_len))]
 #[inline(always)]
-fn two_steps_len(from: Pt, by: Pt, to: Pt) -> u64
-    ensures value { result ≡ step_len from by + step_len by to }
-    ensures most { result ≤ 40 }
+fn add_two_steps(bytes: &mut VarintLens, from: Pt, by: Pt, to: Pt)
+    requires room { bytes.old ≤ 2 ^ 31 }
+    ensures value { bytes.new ≡ bytes.old + (step_len from by + step_len by to) }
+    ensures most { bytes.new ≤ bytes.old + 40 }
 {
     let mut cursor = Cursor::origin();
     let _to_the_start = cursor.delta(from);
     let (x, y) = cursor.delta(by);
     let (next_x, next_y) = cursor.delta(to);
-    four_len(x, y, next_x, next_y)
+    bytes.add_four(zigzag(x), zigzag(y), zigzag(next_x), zigzag(next_y));
 }
 
 impl Tail {
@@ -95,7 +98,7 @@ impl Tail {
         }
         NonEmptyTail {
             first: point,
-            bytes: step + self.bytes,
+            bytes: VarintLens::from(step + self.bytes),
             bounds,
         }
     }
@@ -120,7 +123,7 @@ impl NonEmptyTail {
     // The same with two points before them.
     #[inline(always)]
     pub(crate) fn behind_two(self, point: Pt, next: Pt) -> NonEmptyTail
-        requires room { self.bytes ≤ 2 ^ 40 }
+        requires room { self.bytes ≤ 2 ^ 31 }
         ensures value { (ps : List Point) → tail_from self ≡ tail_of ps → tail_from result ≡ tail_of (point ∷ next ∷ ps) }
         ensures most { result.bytes ≤ self.bytes + 40 }
     {
@@ -128,9 +131,11 @@ impl NonEmptyTail {
         others.merge(&self.bounds);
         let mut bounds = Bounds::of(point);
         bounds.merge(&others);
+        let mut bytes = self.bytes;
+        add_two_steps(&mut bytes, point, next, self.first);
         NonEmptyTail {
             first: point,
-            bytes: two_steps_len(point, next, self.first) + self.bytes,
+            bytes,
             bounds,
         }
     }
@@ -138,11 +143,12 @@ impl NonEmptyTail {
     // The same as any tail.
     #[inline(always)]
     pub(crate) fn tail(self) -> Tail
+        requires { self.bytes ≤ 2 ^ 31 }
         ensures { result ≡ tail_from self }
     {
         Tail {
             first: Some(self.first),
-            bytes: self.bytes,
+            bytes: self.bytes.total(),
             bounds: Some(self.bounds),
         }
     }
