@@ -46,13 +46,3 @@ abbrev pub run_of : List Bool → ℕ
 run_of [] = 0
 run_of (true ∷ marks) = 0
 run_of (false ∷ marks) = suc (run_of marks)
-
--- the units are the first sixteen without the base, all of the alphabet, no last group of 0 stands behind others, and a bit
--- of `ends` is set for each last one
-pub record AreUnits (base radix : ℕ) (bytes units : List ℕ) (ends : ℕ) : Type 0 where
-  pub long : 16 ≤ length bytes
-  pub count : length units ≡ 16
-  pub same : take 16 bytes ≡ map (λ u. u + base) units
-  pub below : (k : ℕ) → get_or units k 0 < 2 * radix
-  pub shortest : (k : ℕ) → k < 15 → get_or units (suc k) 0 ≡ 0 → get_or units k 0 < radix
-  pub marks : ends ≡ mask_l (map (λ u. nat_lt u radix) units)
