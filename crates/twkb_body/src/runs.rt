@@ -17,7 +17,8 @@ use crate::lefts::{Lefts, Spot, open_line};
 use crate::site::put_point;
 use std::alloc::AllocError;
 use twkb_flat::Flat;
-use twkb_front::{far_point, front_point, front_two};
+use twkb_front::{far_point, front_eight, front_point, front_two};
+use twkb_num::{BLOCK, varint_ends};
 use twkb_points::Pt;
 
 /// Points that were taken.
@@ -100,6 +101,12 @@ fn keeps_row(body: &Body, lefts: Lefts) -> bool
 // The most bytes of a point whose numbers are short, four bytes each.
 const NEAR: usize = 8;
 
+// From how many points on a row is looked at by blocks.
+const LONG: u64 = 8;
+
+// How many bytes on a block is looked for again.
+const APART: usize = 32;
+
 // Takes points of a list to the last row as far as they stand whole in front, so many at most; and how many of these are left.
 // Takes memory. Two at a time where that goes: the numbers of points that lie near one another are found four at once, and not
 // looked for behind a point that lies far.
@@ -113,8 +120,17 @@ fn take_row(flat: &mut Flat, from: Pt, bytes: &[u8], most: u64) -> Result<(Taken
     let mut position = from;
     let mut left = most;
     let mut is_near = true;
+    let mut next_look = 0;
     while left > 0 {
         if is_near && left > 1 {
+            if used >= next_look && left >= LONG && bytes.len() - used >= BLOCK {
+                let (taken, behind) = take_eights(flat, position, &bytes[used..], left)?;
+                used += taken.used;
+                position = taken.position;
+                left = behind;
+                next_look = used + APART;
+                continue;
+            }
             if let Some((first, second, count)) = front_two(position, &bytes[used..]) {
                 flat.add_two(first, second)?;
                 left -= 2;
@@ -131,6 +147,35 @@ fn take_row(flat: &mut Flat, from: Pt, bytes: &[u8], most: u64) -> Result<(Taken
         position = to;
         used += count;
         is_near = count <= NEAR;
+    }
+    Ok((Taken { used, position }, left))
+}
+
+// Takes points of a list to the last row, eight at a time, as far as their numbers are found in blocks; so many at most; and how
+// many of these are left. Takes memory.
+#[inline(never)]
+fn take_eights(flat: &mut Flat, from: Pt, bytes: &[u8], most: u64) -> Result<(Taken, u64), AllocError>
+    requires line { EndsInLine flat.old }
+    requires room { length (row_points flat.old) + most ≤ 2 ^ 24 }
+    ensures { TakesRow flat.old from bytes.now most result flat.new }
+{
+    let mut used = 0;
+    let mut position = from;
+    let mut left = most;
+    let mut ends: u64 = 0;
+    while left >= 8 {
+        let rest = &bytes[used..];
+        if ends.count_ones() < 16 {
+            ends = varint_ends(rest);
+        }
+        let Some(eight) = front_eight(position, rest, ends) else {
+            break;
+        };
+        flat.add_eight(&eight.points)?;
+        left -= 8;
+        position = eight.points[7];
+        used += eight.used;
+        ends >>= eight.used as u32;
     }
     Ok((Taken { used, position }, left))
 }

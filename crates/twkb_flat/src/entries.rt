@@ -175,6 +175,14 @@ pub(crate) fn count_point(entries: &mut [KeptNode])
     entry.span.points += 1;
 }
 
+// Counts points more of the last node's.
+#[inline(always)]
+pub(crate) fn count_points(entries: &mut [KeptNode], more: u32) {
+    let last = entries.len() - 1;
+    let entry = &mut entries[last];
+    entry.span.points += more;
+}
+
 // Whether the row is a linestring or a ring.
 fn is_line(kind: Kind) -> bool
     ensures { IsTrue result ↔ IsLineKind kind }

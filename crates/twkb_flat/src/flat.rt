@@ -12,7 +12,7 @@ ghost use Rattle.twkb_flat.specs.Rows.{IsNode, row_with};
 
 use crate::admitting::{MOST_POINTS, admits_at, is_next, leaves_room, look, look_at_id};
 use crate::entries::{
-    KeptNode, PlacedRow, count_point, ends_in_line, link, link_last, put_point, put_row,
+    KeptNode, PlacedRow, count_point, count_points, ends_in_line, link, link_last, put_point, put_row,
 };
 use crate::node::{Node, NodeId, PointId, Row};
 use crate::point_source::{Copied, PointSource};
@@ -229,11 +229,24 @@ impl Flat {
         // learnt: the points are in range
         let _learnt = first.x();
         let _learnt = second.x();
-        make_room(&mut self.points)?;
+        make_room(&mut self.points, 2)?;
         self.points.push_reserved(first);
         self.points.push_reserved(second);
         count_point(&mut self.entries);
         count_point(&mut self.entries);
+        Ok(())
+    }
+
+    /// Appends eight points to those of the last row, which is a linestring's or ring's, while there is room, behind one test for
+    /// memory. Takes memory where there is no room for all; an `Err` changes nothing.
+    #[inline(always)]
+    pub fn add_eight(&mut self, eight: &[Pt; 8]) -> Result<(), AllocError>
+    {
+        make_room(&mut self.points, 8)?;
+        for point in eight.iter() {
+            self.points.push_reserved(*point);
+        }
+        count_points(&mut self.entries, 8);
         Ok(())
     }
 

@@ -7,24 +7,24 @@ use twkb_points::Pt;
 // For how many points there is room at least, once two did not fit: a short list then asks for memory once.
 const ROOM: usize = 16;
 
-// Makes room for two points more where there is less. Takes memory only where both do not fit.
+// Makes room for so many points more where there is less. Takes memory only where they do not fit.
 #[inline(always)]
-pub(crate) fn make_room(points: &mut Vec<Pt>) -> Result<(), AllocError>
+pub(crate) fn make_room(points: &mut Vec<Pt>, count: usize) -> Result<(), AllocError>
     ensures same { points.new.items ≡ points.old.items }
-    ensures room { OnOk result (vec_len points.new + 2 ≤ vec_capacity points.new) }
+    ensures room { OnOk result (vec_len points.new + count ≤ vec_capacity points.new) }
 {
-    if points.capacity() - points.len() >= 2 {
+    if points.capacity() - points.len() >= count {
         return Ok(());
     }
-    grow(points)
+    grow(points, count)
 }
 
-// Makes room for two points more: from few on for sixteen in all, and else for twice as many. Takes memory.
+// Makes room for so many points more: from few on for sixteen in all, and else for twice as many. Takes memory.
 #[inline(never)]
-fn grow(points: &mut Vec<Pt>) -> Result<(), AllocError>
+fn grow(points: &mut Vec<Pt>, count: usize) -> Result<(), AllocError>
     ensures same { points.new.items ≡ points.old.items }
-    ensures room { OnOk result (vec_len points.new + 2 ≤ vec_capacity points.new) }
+    ensures room { OnOk result (vec_len points.new + count ≤ vec_capacity points.new) }
 {
-    let more = ROOM.saturating_sub(points.len()).max(2);
+    let more = ROOM.saturating_sub(points.len()).max(count);
     points.reserve(more)
 }

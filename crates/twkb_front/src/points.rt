@@ -6,7 +6,7 @@ ghost use Rattle.twkb_front.specs.Front.{PointInFront, StepsTo, TwoInFront};
 
 use crate::motion::{moved_x, moved_y};
 use crate::numbers::{any_number, byte_number, short_number, wide_number};
-use twkb_num::{four_varints, unzigzag};
+use twkb_num::{BLOCK, four_varints, four_varints_by, unzigzag};
 use twkb_points::Pt;
 
 // The step that a number of five bytes or fewer spells.
@@ -116,4 +116,45 @@ pub fn front_two(from: Pt, bytes: &[u8]) -> Option<(Pt, Pt, usize)>
     let first = near_steps(from, four.first, four.second)?;
     let second = near_steps(first, four.third, four.fourth)?;
     Some((first, second, four.used))
+}
+
+/// Two points, the same by the ends of numbers that `varint_ends` found, moved to where these bytes begin. `None` also where the
+/// point before lies near an end of the range.
+#[inline(always)]
+pub fn front_two_by(from: Pt, bytes: &[u8], ends: u64) -> Option<(Pt, Pt, usize)>
+{
+    if !from.is_inner() {
+        return None;
+    }
+    let four = four_varints_by(bytes, ends)?;
+    let first = Pt::at(from.x() + four.first, from.y() + four.second);
+    let second = Pt::at(first.x() + four.third, first.y() + four.fourth);
+    Some((first, second, four.used))
+}
+
+/// Eight points, and how many bytes they have.
+#[derive(Clone, Copy)]
+pub struct Eight {
+    pub points: [Pt; 8],
+    pub used: usize,
+}
+
+/// Eight points, each by its steps from the one before it, by the ends of numbers that `varint_ends` found, moved to where these
+/// bytes begin. `None` says nothing.
+#[inline(always)]
+pub fn front_eight(from: Pt, bytes: &[u8], ends: u64) -> Option<Eight>
+{
+    if bytes.len() < BLOCK {
+        return None;
+    }
+    let (a, b, two) = front_two_by(from, bytes, ends)?;
+    let (c, d, more) = front_two_by(b, &bytes[two..], ends >> (two as u32))?;
+    let four = two + more;
+    let (e, f, more) = front_two_by(d, &bytes[four..], ends >> (four as u32))?;
+    let six = four + more;
+    let (g, h, more) = front_two_by(f, &bytes[six..], ends >> (six as u32))?;
+    Some(Eight {
+        points: [a, b, c, d, e, f, g, h],
+        used: six + more,
+    })
 }

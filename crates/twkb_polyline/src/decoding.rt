@@ -6,10 +6,10 @@ ghost use Rattle.twkb_polyline.specs.Fault.{IsNumberFault, IsPointFault, IsTextF
 ghost use Rattle.twkb_polyline.specs.Reading.{IsNumberAt, IsPointAt, IsRefusedFrom};
 
 use crate::fault::{PolyFault, PolyReason};
-use crate::pairs::two_points;
+use crate::pairs::{eight_points, two_points};
 use crate::whole::whole_point;
 use std::alloc::Global;
-use twkb_num::{Five, Partial, Step, unzigzag};
+use twkb_num::{BLOCK, Five, Partial, Step, character_ends, unzigzag};
 use twkb_points::{Cursor, PointTail, Pt};
 
 /// The points whose polyline the text is, at most `max` of them (Encoded Polyline Algorithm
@@ -73,8 +73,14 @@ fn read_points<L: PointTail>(text: &[u8], max: u32, points: &mut L) -> Result<()
     let held = points.count();
     let mut cursor = Cursor::origin();
     let mut at = 0;
+    let mut next_look = 0;
     while at < text.len() {
         let read = points.count() - held;
+        if at >= next_look && text.len() - at >= BLOCK {
+            at = read_eights(text, at, max as usize - read, &mut cursor, points)?;
+            next_look = at + APART;
+            continue;
+        }
         if let Some(pair) = two_points(text, at, max as usize - read, &mut cursor) {
             points.put(pair.first)?;
             points.put(pair.second)?;
@@ -89,6 +95,39 @@ fn read_points<L: PointTail>(text: &[u8], max: u32, points: &mut L) -> Result<()
         at = end;
     }
     Ok(())
+}
+
+// How many characters on a block is looked for again.
+const APART: usize = 32;
+
+// Appends points eight at a time, as far as their numbers are found in blocks; so many at most. Where the text goes on.
+#[inline(never)]
+fn read_eights<L: PointTail>(
+    text: &[u8],
+    start: usize,
+    room: usize,
+    cursor: &mut Cursor,
+    points: &mut L,
+) -> Result<usize, PolyFault>
+{
+    let mut at = start;
+    let mut left = room;
+    let mut ends: u64 = 0;
+    while left >= 8 {
+        let rest = &text[at..];
+        if ends.count_ones() < 16 {
+            ends = character_ends(rest);
+        }
+        let Some(eight) = eight_points(cursor.place(), rest, ends) else {
+            break;
+        };
+        points.put_all(&eight.points)?;
+        left -= 8;
+        cursor.go(eight.points[7]);
+        at += eight.used;
+        ends >>= eight.used as u32;
+    }
+    Ok(at)
 }
 
 // The point whose latitude begins at `start`, and where the text goes on.

@@ -3,7 +3,7 @@ ghost use Rattle.std.specs.Prelude.{◌≡◌, ◌≤◌, IfSome, IfNone, length
 ghost use Rattle.twkb_points.specs.Point.{IsInRange};
 ghost use Rattle.twkb_polyline.specs.Reading.{IsPairAt};
 
-use twkb_num::four_characters;
+use twkb_num::{BLOCK, four_characters, four_characters_by};
 use twkb_points::{Cursor, Pt};
 
 // Two points, one behind the other, and where the text goes on.
@@ -41,5 +41,43 @@ pub(crate) fn two_points(
         first,
         second,
         end: start + four.used,
+    })
+}
+
+// Two points by the ends of a block's numbers, and how many characters they have.
+#[inline(always)]
+fn two_by(from: Pt, text: &[u8], ends: u64) -> Option<(Pt, Pt, usize)>
+{
+    if !from.is_inner() {
+        return None;
+    }
+    let four = four_characters_by(text, ends)?;
+    let first = Pt::at(from.x() + four.second, from.y() + four.first);
+    let second = Pt::at(first.x() + four.fourth, first.y() + four.third);
+    Some((first, second, four.used))
+}
+
+// Eight points, one behind the other, and how many characters they have.
+#[derive(Clone, Copy)]
+pub(crate) struct Eight {
+    pub(crate) points: [Pt; 8],
+    pub(crate) used: usize,
+}
+
+#[inline(always)]
+pub(crate) fn eight_points(from: Pt, text: &[u8], ends: u64) -> Option<Eight>
+{
+    if text.len() < BLOCK {
+        return None;
+    }
+    let (a, b, two) = two_by(from, text, ends)?;
+    let (c, d, more) = two_by(b, &text[two..], ends >> (two as u32))?;
+    let four = two + more;
+    let (e, f, more) = two_by(d, &text[four..], ends >> (four as u32))?;
+    let six = four + more;
+    let (g, h, more) = two_by(f, &text[six..], ends >> (six as u32))?;
+    Some(Eight {
+        points: [a, b, c, d, e, f, g, h],
+        used: six + more,
     })
 }
