@@ -1,5 +1,5 @@
 //! Room for points.
-ghost use Rattle.std.specs.Prelude.{◌≡◌, ◌+◌, ◌≤◌, OnOk, vec_len, vec_capacity};
+ghost use Rattle.std.specs.Prelude.{◌≡◌, ◌+◌, ◌≤◌, ◌++◌, OnOk, length, vec_len, vec_capacity};
 
 use std::alloc::AllocError;
 use twkb_points::Pt;
@@ -27,4 +27,15 @@ fn grow(points: &mut Vec<Pt>, count: usize) -> Result<(), AllocError>
 {
     let more = ROOM.saturating_sub(points.len()).max(count);
     points.reserve(more)
+}
+
+// Appends points for which there is room. Takes no memory.
+#[inline(always)]
+pub(crate) fn put_reserved(points: &mut Vec<Pt>, more: &[Pt])
+    requires { vec_len points.old + length more.now ≤ vec_capacity points.old }
+    ensures { points.new.items ≡ points.old.items ++ more.now }
+{
+    for point in more {
+        points.push_reserved(*point);
+    }
 }
