@@ -58,14 +58,23 @@ impl Pt {
         is_inner_coordinate(self.x) && is_inner_coordinate(self.y)
     }
 
-    /// The point at coordinates that are in range. Takes no memory.
-    #[inline(always)]
-    pub fn at(x: i64, y: i64) -> Pt
+    // The point at coordinates that are in range.
+    pub(crate) fn at(x: i64, y: i64) -> Pt
         requires x_in_range { IsCoordinate x }
         requires y_in_range { IsCoordinate y }
         ensures { result ≡ point_at x y }
     {
         Pt { x, y }
+    }
+
+    /// The point that lies `dx` and `dy` from this one, where no coordinate leaves its range. Takes no memory.
+    #[inline(always)]
+    pub fn step(self, dx: i64, dy: i64) -> Pt
+        requires x_in_range { IsCoordinate (self.x +ℤ dx) }
+        requires y_in_range { IsCoordinate (self.y +ℤ dy) }
+        ensures { result ≡ moved_by self dx dy }
+    {
+        Pt::at(self.x + dx, self.y + dy)
     }
 
     // The point that lies `dx` and `dy` from this one, or `None` where a coordinate would leave its range.
