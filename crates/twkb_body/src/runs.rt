@@ -1,5 +1,5 @@
 //! Points that stand whole in front of the bytes, taken many at a time.
-ghost use Rattle.std.specs.Prelude.{◌≡◌, ◌≤◌, ◌+◌, ◌^◌, ℕ, List, ◌∷◌, length, IfSome, true};
+ghost use Rattle.std.specs.Prelude.{◌≡◌, ◌≤◌, ◌+◌, ◌^◌, ℕ, List, ◌∷◌, length, IfOk, IfSome, true};
 ghost use Rattle.twkb_tree.specs.Tree.{Ids};
 ghost use Rattle.twkb_tree.specs.Rows.{Row, row_points};
 ghost use Rattle.twkb_tree.specs.RowGrowth.{EndsInLine};
@@ -101,10 +101,11 @@ fn keeps_row(body: &Body, lefts: Lefts) -> bool
 // The most bytes of a point whose numbers are short, four bytes each.
 const NEAR: usize = 8;
 
-// From how many points on a row is looked at by blocks.
-const LONG: u64 = 8;
+// How many points are taken at once, and how many numbers they have.
+const POINTS: u64 = 8;
+const NUMBERS: u32 = 16;
 
-// How many bytes on a block is looked for again.
+// How many bytes behind the last look blocks are looked for again.
 const APART: usize = 32;
 
 // Takes points of a list to the last row as far as they stand whole in front, so many at most; and how many of these are left.
@@ -123,7 +124,7 @@ fn take_row(flat: &mut Flat, from: Pt, bytes: &[u8], most: u64) -> Result<(Taken
     let mut next_look = 0;
     while left > 0 {
         if is_near && left > 1 {
-            if used >= next_look && left >= LONG && bytes.len() - used >= BLOCK {
+            if used >= next_look && left >= POINTS && bytes.len() - used >= BLOCK {
                 let (taken, behind) = take_eights(flat, position, &bytes[used..], left)?;
                 used += taken.used;
                 position = taken.position;
@@ -157,25 +158,27 @@ fn take_row(flat: &mut Flat, from: Pt, bytes: &[u8], most: u64) -> Result<(Taken
 fn take_eights(flat: &mut Flat, from: Pt, bytes: &[u8], most: u64) -> Result<(Taken, u64), AllocError>
     requires line { EndsInLine flat.old }
     requires room { length (row_points flat.old) + most ≤ 2 ^ 24 }
-    ensures { TakesRow flat.old from bytes.now most result flat.new }
+    ensures taken { TakesRow flat.old from bytes.now most result flat.new }
+    ensures still_line { IfOk result (λ r. EndsInLine flat.new) }
+    ensures still_room { IfOk result (λ r. length (row_points flat.new) + r.1 ≤ 2 ^ 24) }
 {
     let mut used = 0;
     let mut position = from;
     let mut left = most;
     let mut ends: u64 = 0;
-    while left >= 8 {
+    while left >= POINTS {
         let rest = &bytes[used..];
-        if ends.count_ones() < 16 {
+        if ends.count_ones() < NUMBERS {
             ends = varint_ends(rest);
         }
         let Some(eight) = front_eight(position, rest, ends) else {
             break;
         };
-        flat.add_eight(&eight.points)?;
-        left -= 8;
-        position = eight.points[7];
+        flat.add_points(&eight.points)?;
+        left -= POINTS;
+        position = eight.last;
         used += eight.used;
-        ends >>= eight.used as u32;
+        ends = eight.ends;
     }
     Ok((Taken { used, position }, left))
 }
