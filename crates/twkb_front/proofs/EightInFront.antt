@@ -1,10 +1,8 @@
 -- Points in front of bytes, two after two.
-use Rattle.std.proofs.Common.{◌≡◌, ℕ, ◌+◌, ◌-◌, ◌/◌, ◌<◌, ◌^◌, List, [], ◌∷◌, length, take, drop, true, pos, negsuc, sym, ap, ◌∙◌, refl, subst, arith}
+use Rattle.std.proofs.Common.{◌≡◌, ℕ, ◌+◌, ◌-◌, ◌<◌, ◌^◌, List, [], ◌∷◌, length, take, drop, true, pos, negsuc, sym, ap, ◌∙◌, refl, subst, arith}
 use Rattle.std.specs.Prelude.{ℤ, ◌+ℤ◌}
 use Rattle.std.proofs.lemmas.Int.{ints}
 use Rattle.std.proofs.lemmas.List.{drop-drop, take_rest}
-use Rattle.std.proofs.lemmas.Nat.{shr-shr}
-use Rattle.twkb_num.specs.Block.{AreEnds}
 use Rattle.twkb_num.specs.Zigzag.{zigzag_of}
 use Rattle.twkb_num.proofs.ZigzagLemmas.{unzigzag_of-zigzag_of}
 use Rattle.twkb_points.specs.Point.{Point, IsCoordinate, IsInnerCoordinate, moved_by, point_at}
@@ -38,18 +36,6 @@ step_to from to dx dy x_in y_in leads =
     }
 
 -- ---- what is behind some bytes
-
--- the ends that are left
-pub ends_after : (bytes : List ℕ) (ends i j : ℕ) → AreEnds 0 128 (drop j (take (length bytes - i) (drop i bytes))) ends → AreEnds 0 128 (drop (i + j) bytes) ends
-ends_after bytes ends i j are = subst (λ l. AreEnds 0 128 l ends) (ap (drop j) (take_rest bytes i) ∙ drop-drop j i bytes) are
-
--- the same by one shift
-pub ends_behind : (bytes : List ℕ) (ends i j : ℕ) → AreEnds 0 128 (drop j (take (length bytes - i) (drop i bytes))) (ends / 2 ^ i / 2 ^ j) → AreEnds 0 128 (drop (i + j) bytes) (ends / 2 ^ (i + j))
-ends_behind bytes ends i j are = subst (λ n. AreEnds 0 128 (drop (i + j) bytes) n) (shr-shr ends i j) (ends_after bytes (ends / 2 ^ i / 2 ^ j) i j are)
-
--- as a slice has them
-pub ends_in_slice : (bytes : List ℕ) (ends i : ℕ) → AreEnds 0 128 (drop i bytes) ends → AreEnds 0 128 (take (length bytes - i) (drop i bytes)) ends
-ends_in_slice bytes ends i are = subst (λ l. AreEnds 0 128 l ends) (sym (take_rest bytes i)) are
 
 -- two points in a slice
 pub two_in_slice : (from p q : Point) (bytes : List ℕ) (i n : ℕ) → TwoInFront from (take (length bytes - i) (drop i bytes)) p q n → TwoInFront from (drop i bytes) p q n

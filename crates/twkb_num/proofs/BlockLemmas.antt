@@ -6,8 +6,8 @@ use mathlib.Core.Bool.{cond}
 use Rattle.std.specs.Prelude.{nat_eq, nat_lt}
 use Rattle.std.specs.Int.{bit_at, bit_not, trailing_zeros}
 use Rattle.std.proofs.lemmas.Bool.{cases_lt, eq-eqb, lt-ltb, le-ltb}
-use Rattle.std.proofs.lemmas.List.{drop-map, get_or-drop, get_or-map, get_or-take, get_or_past, length-drop, length-map, length-take-le, map-append, length-take, take-map, take-take, take_all, drop-take}
-use Rattle.std.proofs.lemmas.Nat.{and_le_l, le_or_r, or_lt}
+use Rattle.std.proofs.lemmas.List.{drop-drop, drop-map, get_or-drop, get_or-map, get_or-take, get_or_past, length-drop, length-map, length-take-le, map-append, length-take, take-map, take-take, take_all, take_rest, drop-take}
+use Rattle.std.proofs.lemmas.Nat.{and_le_l, le_or_r, or_lt, shr-shr}
 use Rattle.std.proofs.lemmas.Nat.Bits.{bit_at-suc, bit_at_and, bit_at_or, bit_at_not, bit_at-trailing_zeros}
 use Rattle.std.proofs.lemmas.Simd.{bit_mask_l, chunk-fits, mask_l-lt}
 use Rattle.twkb_num.specs.Block.{units_in, AreUnits, AreEnds, AreMarks, AreEndsBefore}
@@ -207,3 +207,15 @@ lanes_read base radix bytes us ends long fit read =
       fit = all_below lanes 256 (omega arith) (λ k low. let is = lane k (omega arith) in omega arith);
       same = λ k low within. let is = lane k low in let at = byte k within in let small = fit k in omega arith;
     })
+
+-- the ends that are left behind some bytes of a slice
+pub ends_after : (base radix : ℕ) (bytes : List ℕ) (ends i j : ℕ) → AreEnds base radix (drop j (take (length bytes - i) (drop i bytes))) ends → AreEnds base radix (drop (i + j) bytes) ends
+ends_after base radix bytes ends i j are = subst (λ l. AreEnds base radix l ends) (ap (drop j) (take_rest bytes i) ∙ drop-drop j i bytes) are
+
+-- the same by one shift
+pub ends_behind : (base radix : ℕ) (bytes : List ℕ) (ends i j : ℕ) → AreEnds base radix (drop j (take (length bytes - i) (drop i bytes))) (ends / 2 ^ i / 2 ^ j) → AreEnds base radix (drop (i + j) bytes) (ends / 2 ^ (i + j))
+ends_behind base radix bytes ends i j are = subst (λ n. AreEnds base radix (drop (i + j) bytes) n) (shr-shr ends i j) (ends_after base radix bytes (ends / 2 ^ i / 2 ^ j) i j are)
+
+-- as a slice has them
+pub ends_in_slice : (base radix : ℕ) (bytes : List ℕ) (ends i : ℕ) → AreEnds base radix (drop i bytes) ends → AreEnds base radix (take (length bytes - i) (drop i bytes)) ends
+ends_in_slice base radix bytes ends i are = subst (λ l. AreEnds base radix l ends) (sym (take_rest bytes i)) are

@@ -9,6 +9,7 @@ pub mod MarkLemmas
 pub mod NumberLemmas
 pub mod PairLemmas
 pub mod PointLemmas
+pub mod PointLists
 pub mod ScanLemmas
 pub mod StopLemmas
 pub mod OneFault

@@ -1,8 +1,7 @@
 use Rattle.std.proofs.Common.{◌<◌, ◌≤◌, ◌+◌, ◌-◌, ◌^◌, ◌≡◌, arith, rules, ap, length, drop, take, subst}
 use Rattle.std.proofs.lemmas.List.{length-drop, take_rest}
-use Rattle.twkb_num.proofs.BlockLemmas.{no_ends}
+use Rattle.twkb_num.proofs.BlockLemmas.{ends_after, no_ends}
 use Rattle.twkb_front.specs.Front.{PointsInFront}
-use Rattle.twkb_front.proofs.EightInFront.{ends_after}
 use Rattle.twkb_body.proofs.PointRuns.{list_none, row_err}
 use Rattle.twkb_body.proofs.PointLists.{line_longer_by, list_eight_more, list_points_stop, points_within}
 use Rattle.twkb_body.proofs.runs.take_eights.Goals as goal
@@ -44,7 +43,7 @@ loop-left-preserved c =
           count c.in-Some.ensures.last some c.in-Some.ensures.points added;
       line = longer.0;
       room = omega (arith, longer.1, count, some, c.loop-left.invariant.room);
-      ends = ends_after c.args.bytes.now eight.ends c.loop-left.used eight.used c.in-Some.ensures.rest;
+      ends = ends_after 0 128 c.args.bytes.now eight.ends c.loop-left.used eight.used c.in-Some.ensures.rest;
     }
 
 pub returns-clause-taken : goal.returns-clause-taken

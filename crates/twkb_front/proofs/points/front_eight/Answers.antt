@@ -1,5 +1,6 @@
 use Rattle.std.proofs.Common.{◌+◌}
-use Rattle.twkb_front.proofs.EightInFront.{ends_after, ends_behind, ends_in_slice, eight_found}
+use Rattle.twkb_num.proofs.BlockLemmas.{ends_after, ends_behind, ends_in_slice}
+use Rattle.twkb_front.proofs.EightInFront.{eight_found}
 use Rattle.twkb_front.proofs.points.front_eight.Goals as goal
 
 pub front_two_by-requires-3-clause-ends : goal.front_two_by-requires-3-clause-ends
@@ -7,14 +8,14 @@ front_two_by-requires-3-clause-ends c =
     let bytes = c.args.bytes.now in
     let two = c.in_ok-a.two in
     let more = c.in_ok-c.more in
-    ends_in_slice bytes _ (two + more) (ends_behind bytes c.args.ends two more c.in_ok-c.ensures.rest)
+    ends_in_slice 0 128 bytes _ (two + more) (ends_behind 0 128 bytes c.args.ends two more c.in_ok-c.ensures.rest)
 
 pub front_two_by-requires-4-clause-ends : goal.front_two_by-requires-4-clause-ends
 front_two_by-requires-4-clause-ends c =
     let bytes = c.args.bytes.now in
     let four = c.in_ok-a.two + c.in_ok-c.more in
     let more = c.in_ok-e.more in
-    ends_in_slice bytes _ (four + more) (ends_behind bytes c.args.ends four more c.in_ok-e.ensures.rest)
+    ends_in_slice 0 128 bytes _ (four + more) (ends_behind 0 128 bytes c.args.ends four more c.in_ok-e.ensures.rest)
 
 pub returns-clause-points : goal.returns-clause-points
 returns-clause-points c =
@@ -24,4 +25,4 @@ returns-clause-points c =
 pub returns-clause-rest : goal.returns-clause-rest
 returns-clause-rest c =
     let six = c.in_ok-a.two + c.in_ok-c.more + c.in_ok-e.more in
-    ends_after c.args.bytes.now _ six c.in_ok-g.more c.in_ok-g.ensures.rest
+    ends_after 0 128 c.args.bytes.now _ six c.in_ok-g.more c.in_ok-g.ensures.rest
