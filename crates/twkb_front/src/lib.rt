@@ -11,5 +11,5 @@ mod whole;
 pub use motion::{moved_x, moved_y, origin};
 pub use numbers::{GOES_ON, front_number};
 pub use parts::{Parts, front_parts};
-pub use points::{far_point, front_point, front_two};
+pub use points::{Eight, far_point, front_eight, front_point, front_two};
 pub use whole::{SIZED, Whole, whole_point};

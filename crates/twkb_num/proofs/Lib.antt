@@ -1,4 +1,5 @@
 pub mod AnswerLemmas
+pub mod BlockLemmas
 pub mod BufferLemmas
 pub mod DigitLemmas
 pub mod FoundLemmas

@@ -7,6 +7,7 @@ pub mod LaneLemmas
 pub mod NumberLemmas
 pub mod PairLemmas
 pub mod PointLemmas
+pub mod PointLists
 pub mod ScanLemmas
 pub mod StopLemmas
 pub mod OneFault
