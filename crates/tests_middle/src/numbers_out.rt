@@ -1,5 +1,7 @@
 //! Numbers on both sides of each length's threshold, written four at a time. The bytes and characters are by hand, after the
 //! LEB128 and the Encoded Polyline Algorithm Format.
+ghost use Rattle.std.specs.Prelude.{◌<◌, ◌^◌};
+
 use twkb_num::{Piece, VarintLens};
 
 // Whether four numbers are these varints, together so long.
@@ -38,9 +40,13 @@ fn longer_varints_are_written_one_by_one(rt: HostRuntime) {
     assert!(rt; five & ten);
 }
 
-// Whether four numbers are these characters.
-fn are_characters(numbers: [u32; 4], text: &[u8]) -> bool {
-    let [first, second, third, fourth] = numbers;
+// Whether four numbers, of four characters at most each, are these characters.
+fn are_characters(first: u32, second: u32, third: u32, fourth: u32, text: &[u8]) -> bool
+    requires first_small { first < 2 ^ 20 }
+    requires second_small { second < 2 ^ 20 }
+    requires third_small { third < 2 ^ 20 }
+    requires fourth_small { fourth < 2 ^ 20 }
+{
     let mut piece = Piece::<16>::new();
     piece.push_four_characters(first, second, third, fourth);
     piece.as_slice() == text
@@ -48,9 +54,9 @@ fn are_characters(numbers: [u32; 4], text: &[u8]) -> bool {
 
 #[test]
 fn four_numbers_are_written_as_characters(rt: HostRuntime) {
-    let one_and_two = are_characters([0, 31, 32, 1023], b"?^_@~^");
-    let two_and_one = are_characters([1023, 32, 31, 0], b"~^_@^?");
-    let three = are_characters([1024, 32767, 0, 1024], b"__@~~^?__@");
-    let four = are_characters([32768, 1048575, 1048575, 32768], b"___@~~~^~~~^___@");
+    let one_and_two = are_characters(0, 31, 32, 1023, b"?^_@~^");
+    let two_and_one = are_characters(1023, 32, 31, 0, b"~^_@^?");
+    let three = are_characters(1024, 32767, 0, 1024, b"__@~~^?__@");
+    let four = are_characters(32768, 1048575, 1048575, 32768, b"___@~~~^~~~^___@");
     assert!(rt; one_and_two & two_and_one & three & four);
 }
