@@ -6,10 +6,10 @@
 # make demo              the main job on an example
 # make smoke             the built program with real files and pipes
 # make completions-test  the words of the completions and of the manual page against help
-# make docs-test         the commands that documents show, run and compared
-# make recipes           each recipe and the check of parts, where its tools are installed
+# make docs-test         the commands that documents show, run and compared; the words, links and promises of the pages
+# make recipes           each recipe and the checks of parts, on many machines too, where its tools are installed
 # make lib               the library for C into out/, static and shared
-# make lib-test          the examples in C and in Python over it, under valgrind where that is installed
+# make lib-test          the examples in C, in Python and in Go over it, where Go is installed; in C under valgrind where that is
 # make lib-bench         times of calls of the library, and of the package for Python beside it
 # make wheel             the package for Python with the shared library, into dist/
 # make python-test       the package for Python over the shared library
@@ -31,7 +31,7 @@ ZSHDIR ?= $(DATADIR)/zsh/site-functions
 INSTALL ?= install
 
 # The version of the command and of the library, as it stands in the code. The major number is in the name by which programs find the library.
-VERSION := $(shell sed -n 's/^pub const VERSION: &str = "\(.*\)";/\1/p' crates/twkb_request/src/version.rt)
+VERSION := $(shell sed -n 's/^pub const VERSION: &str = "\(.*\)";/\1/p' crates/twkb_convert/src/version.rt)
 SONAME := libpolytwkb.so.$(firstword $(subst ., ,$(VERSION)))
 REAL_NAME := libpolytwkb.so.$(VERSION)
 
@@ -72,6 +72,12 @@ out/convert: examples/c/convert.c include/polytwkb.h out/libpolytwkb.a
 out/convert_shared: examples/c/convert.c include/polytwkb.h out/libpolytwkb.so
 	$(CC) -std=c11 -O1 -g -Wall -Wextra -Werror -Iinclude -o $@ $< -Lout -lpolytwkb -Wl,-rpath,'$$ORIGIN'
 
+# That in Go, over the shared library. The cache of Go does not see a new header, so nothing is kept in one.
+out/convert_go: examples/go/convert.go include/polytwkb.h out/libpolytwkb.so
+	rm -rf out/go
+	GO111MODULE=off GOCACHE='$(CURDIR)/out/go' C_INCLUDE_PATH='$(CURDIR)/include' LIBRARY_PATH='$(CURDIR)/out' go build -o $@ $<
+	rm -rf out/go
+
 out/times: bench/library/times.c include/polytwkb.h out/libpolytwkb.a
 	$(CC) -std=c11 -D_GNU_SOURCE -O2 -Wall -Wextra -Werror -Iinclude -o $@ $< out/libpolytwkb.a
 
@@ -87,6 +93,7 @@ lib-test: lib out/convert out/convert_shared
 	out/convert_shared
 	if command -v valgrind > /dev/null; then valgrind -q --error-exitcode=1 --leak-check=full out/convert; fi
 	examples/python/convert.py out/libpolytwkb.so
+	if command -v go > /dev/null; then $(MAKE) -s out/convert_go && LD_LIBRARY_PATH=out out/convert_go; else echo "skip  the library in Go: go is not there"; fi
 
 wheel: lib
 	scripts/wheel.py dist
@@ -173,13 +180,13 @@ dist: build lib
 dist-test: dist
 	scripts/dist_test.sh
 
-# The commands that documents show, run and compared.
+# The commands that documents show, run and compared; callers, promises, links, and the words of each page.
 docs-test: build lib
 	scripts/docs_test.py
 
 # The recipes, the check of parts, and both with an installed program; one whose tools are missing says so and is skipped.
 recipes: build lib
-	@for recipe in examples/recipes/*.sh examples/scale/check.sh tests/recipes/installed.sh; do echo "$$recipe"; $$recipe || exit 1; done
+	@for recipe in examples/recipes/*.sh examples/scale/check*.sh tests/recipes/installed.sh; do echo "$$recipe"; $$recipe || exit 1; done
 
 clean:
 	rm -rf bin out dist bench/out crates/*/out

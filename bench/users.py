@@ -192,7 +192,7 @@ def main():
         file.write(picture(rows))
     if options.docs:
         lines = [line, "", HEAD] + [line_of(row) for row in rows] + ["", PICTURE]
-        put_into("docs/BENCHMARKS.md", "<!-- make bench: begin -->", "<!-- make bench: end -->", "\n".join(lines) + "\n")
+        put_into("docs/PERF.md", "<!-- make bench: begin -->", "<!-- make bench: end -->", "\n".join(lines) + "\n")
         with open("docs/benchmark.svg", "w", encoding="utf-8") as file:
             file.write(picture(rows))
 

@@ -7,14 +7,14 @@
  * of its own, most of all from another language. By ctypes one geometry took 42 microseconds in a call of
  * its own, and 9.5 in a call for many.
  *
- * The library is proved: what each call writes, and what its report tells, is the contract of its
+ * The library is proved: what each call writes, and what its report says, is the contract of its
  * function in crates/twkb_c. It keeps nothing between calls, opens no file and prints nothing. It
  * takes memory by malloc, realloc and free, for one geometry at a time, and gives all of it back.
  * Calls in several threads at once do not disturb one another if their outputs are apart. No call may
  * be made from a signal handler.
  *
  * Of the caller's side nothing is checked. A buffer has its length of bytes, at most 2^63 - 1. An
- * output lies apart from the input, and no one else reads or writes either while a call runs. In C and
+ * output does not overlap the input, and no one else reads or writes either while a call runs. In C and
  * C++ a pointer to a buffer of length 0 may be NULL. A binding that calls the symbols of the shared
  * library and does not read this header passes a pointer that is not NULL for such a buffer too.
  */
@@ -36,11 +36,11 @@ extern "C" {
 
 /* The status of a call. 0, 1, 3 and 4 are those of the command. */
 #define POLYTWKB_DONE 0u      /* all was converted */
-#define POLYTWKB_REFUSED 1u   /* the input is refused: reason and place tell why and where */
+#define POLYTWKB_REFUSED 1u   /* the input is refused: reason and place say why and where */
 #define POLYTWKB_ARGUMENTS 2u /* a limit, the style or the conversion is out of range; nothing was done */
 #define POLYTWKB_DEVICE 3u    /* the input could not be read; no buffer gives that */
 #define POLYTWKB_MEMORY 4u    /* no memory was found */
-#define POLYTWKB_TOO_SMALL 5u /* the output is too small: needed tells how much would do */
+#define POLYTWKB_TOO_SMALL 5u /* the output is too small: needed says how much would do */
 
 /* Why a record of a table is refused: place is the record, counted from 1, which is the header. */
 #define POLYTWKB_BAD_HEADER 1u
@@ -97,7 +97,7 @@ extern "C" {
 
 /* The most that one geometry may have, its members included. */
 typedef struct polytwkb_limits {
-    uint32_t nest;   /* collections that a geometry may stand in, 0 to 32 */
+    uint32_t nest;   /* collections that a geometry may be in, 0 to 32 */
     uint32_t nodes;  /* rows, 1 to 2^20 */
     uint32_t points; /* points, 0 to 2^24 */
 } polytwkb_limits;
@@ -109,11 +109,11 @@ typedef struct polytwkb_report {
     uint64_t place;       /* the refused record, from 1, or the offset of the refused item or the refused point of
                              polytwkb_encode, from 0; else 0 */
     uint64_t text_offset; /* where the polyline of the refused record or of polytwkb_decode is refused, in bytes; else 0 */
-    uint64_t done;        /* geometries whose output stands in the buffer whole */
-    uint64_t sent;        /* bytes that stand at the front of the buffer: a front of the right output; of
+    uint64_t done;        /* geometries whose whole output is in the buffer */
+    uint64_t sent;        /* bytes at the start of the buffer: a prefix of the right output; of
                              polytwkb_decode points */
     uint64_t needed;      /* POLYTWKB_TOO_SMALL: bytes of the whole output, more than the buffer has, or 0
-                             where they could not be told (no memory); else as many as sent */
+                             if they are not known (no memory); else as many as sent */
 } polytwkb_report;
 
 /* Sixteen collections, 2^20 rows and 2^24 points. */
@@ -133,8 +133,8 @@ polytwkb_report polytwkb_show(const uint8_t *input, size_t input_length, uint8_t
 
 /*
  * Converts and keeps nothing of the output: sent is 0, and needed is the length of the whole output,
- * also of an input that is refused; 0 where it could not be told. done and the rest are as the
- * conversion would tell them. Of style only packing takes notice; it is in range all the same.
+ * also of an input that is refused; 0 if it is not known. done and the rest are as the
+ * conversion would report them. Only packing uses style, but it must be in range.
  */
 polytwkb_report polytwkb_measure(uint32_t conversion, const uint8_t *input, size_t input_length,
                                  polytwkb_limits limits, uint32_t style);
@@ -149,7 +149,7 @@ typedef struct polytwkb_point {
  * Writes the encoded polyline of points, which has y before x of each, into the room of a text. Status 0:
  * sent is the length of the text, and done is 1. 1: a point is out of range; reason is
  * POLYTWKB_POLYLINE_RANGE, and place the first such point, counted from 0. 4: no memory was found. 5: the
- * room is too small, and needed is the length of the text. But for 0 the room is as it was: no front of
+ * room is too small, and needed is the length of the text. But for 0 the room is as it was: no part of
  * the text is written. Takes memory for the points and the text.
  */
 polytwkb_report polytwkb_encode(const polytwkb_point *points, size_t count, uint8_t *text, size_t room);

@@ -103,7 +103,7 @@ done
 # ---- the page: each word of the command line, and each text of a fault
 
 page=$(sed 's/\\-/-/g; s/^\.[A-Z]* *//; s/[" ]*$//' man/polytwkb.1)
-texts=$(sed -n 's/.*b"\([a-z][^"]*[a-z0-9]\)"[),;]*$/\1/p' crates/twkb_request/src/lines.rt)
+texts=$(cd crates && sed -n 's/.*=> "\([a-z][^"]*[a-z0-9]\)",$/\1/p' twkb_polyline/src/fault.rt twkb_table/src/reason.rt twkb_engine/src/blob_reason.rt twkb_convert/src/report.rt)
 words=$({ commands_of_help; options_of_help; for command in $(commands_of_help); do options_of_help "$command"; done; } | sort -u)
 compare "the page, long options" "$(grep -e '^--' <<< "$words")" "$(grep -oE -e '--[a-z][a-z-]*' <<< "$page" | sort -u)"
 missing=

@@ -1,9 +1,10 @@
 #!/usr/bin/env python3
 """Runs the commands that documents show, and compares what they print with what the documents say; and compares the callers that the
-READMEs of crates show with the files of the crate `examples`, which the gate proves. A mark that a merge left in a document is told too.
+READMEs of crates show with the files of the crate `examples`, which the gate proves. Then come the words, links and marks of pages
+(scripts/pages.py) and the tables of promises (scripts/promises.py).
 
     scripts/docs_test.py [FILE ..]
-    scripts/docs_test.py --callers      callers and marks alone, for which no program is needed
+    scripts/docs_test.py --pages      all but the commands, for which a program is needed
 
 A block fenced with ```sh is one command, and the block fenced with ```text after it is all that it prints, to standard output and
 standard error; if the next block is another one, it prints nothing. In a block fenced with ```console a line that begins with '$ '
@@ -27,12 +28,14 @@ import subprocess
 import sys
 import tempfile
 
+import pages
+import promises
+
 REPO = os.path.abspath(os.path.join(os.path.dirname(__file__), ".."))
-FILES = ["README.md", "docs/USING.md", "docs/SCALE.md", "docs/RECIPES.md"]
+FILES = ["README.md", "docs/USING.md", "docs/RECIPES.md", "crates/polytwkb/README.md"]
 EXAMPLES = os.path.join(REPO, "crates", "examples", "src")
 CALLER = re.compile(r"\(\.\./examples/src/([a-z_]+\.rt)\):$")
 MARK = "--- end of the command ---"
-MERGE = re.compile(r"(<{7}|>{7}|={7}$)")
 SECONDS = 300
 
 
@@ -180,26 +183,18 @@ def caller_differences():
     return wrong
 
 
-def merge_marks():
-    """How many lines of the documents are marks of a merge, each told on standard output."""
-    wrong = 0
-    for pattern in ("*.md", "docs/*.md", "crates/*/README.md"):
-        for path in sorted(glob.glob(os.path.join(REPO, pattern))):
-            with open(path, encoding="utf-8") as file:
-                for number, line in enumerate(file, 1):
-                    if MERGE.match(line):
-                        wrong += 1
-                        print(f"{os.path.relpath(path, REPO)}:{number}: a mark of a merge")
-    return wrong
+def page_faults():
+    """How much is wrong with pages that shows without a program, each told on standard output."""
+    return caller_differences() + pages.main([]) + promises.main([])
 
 
 def main():
-    if sys.argv[1:] == ["--callers"]:
-        return 1 if caller_differences() + merge_marks() else 0
+    if sys.argv[1:] == ["--pages"]:
+        return 1 if page_faults() else 0
     if not os.access(os.path.join(REPO, "bin", "polytwkb"), os.X_OK):
         print("docs_test: no bin/polytwkb; 'make build' makes it", file=sys.stderr)
         return 2
-    wrong = 0 if sys.argv[1:] else caller_differences() + merge_marks()
+    wrong = 0 if sys.argv[1:] else page_faults()
     for path in sys.argv[1:] or [os.path.join(REPO, name) for name in FILES]:
         if not sys.argv[1:] and not os.path.exists(path):
             continue

@@ -232,7 +232,7 @@ prints "-h" -h
 prints "--version" --version
 prints "-V" -V
 for command in pack unpack show; do prints "$command --help" "$command" --help; done
-version_line() { [ "$("$program" --version)" = "polytwkb $(sed -n 's/^pub const VERSION: &str = "\(.*\)";$/\1/p' crates/twkb_request/src/version.rt)" ]; }
+version_line() { [ "$("$program" --version)" = "polytwkb $(sed -n 's/^pub const VERSION: &str = "\(.*\)";$/\1/p' crates/twkb_convert/src/version.rt)" ]; }
 ends 0 "" "--version is the version of the source" version_line
 
 # ---- a large table: the output is the parts' outputs, joined, and memory stays flat

@@ -1,7 +1,7 @@
 #!/usr/bin/env python3
 """Counts what is to stay small in the sources of crates/.
 
-    scripts/statistics.py            the table of docs/DECISIONS.md
+    scripts/statistics.py            the table of docs/DECISIONS.md, and public items and `use` lines
     scripts/statistics.py --docs     puts it there, between its marks
     scripts/statistics.py --list     each clause, definition, function, test and file that is too long, with its place
 
@@ -216,12 +216,13 @@ def row(what, found, most, unit):
 
 
 def table(counts):
+    return "\n".join(["| What | How many | The longest |", "|---|---|---|", *(row(*limited) for limited in counts.limited())])
+
+
+def others(counts):
+    """What is counted beside the table, for who looks."""
     uses = sorted(counts.uses, key=lambda one: (-one.length, one.path))[:WORST]
     return "\n".join([
-        "| What | How many | The longest |",
-        "|---|---|---|",
-        *(row(*limited) for limited in counts.limited()),
-        "",
         "Public items: " + ", ".join(f"`{crate}` {number}" for crate, number in counts.public.items() if number) + ".",
         "",
         f"`use` lines of the {WORST} files that have the most: " + ", ".join(f"{one.path} {one.length}" for one in uses) + ".",
@@ -244,7 +245,7 @@ def main():
     elif "--docs" in sys.argv[1:]:
         put_into_document(table(counts))
     else:
-        print(table(counts))
+        print(table(counts), others(counts), sep="\n\n")
 
 
 if __name__ == "__main__":

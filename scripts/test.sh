@@ -7,11 +7,11 @@ set -uo pipefail
 cd "$(dirname "$0")/.." || exit 1
 exec < /dev/null
 unset MAKEFLAGS MAKELEVEL
-parts="smoke completions fuzz library documents dist hostile"
+parts="smoke completions fuzz library machines documents dist hostile"
 work=$(mktemp -d)
 trap 'rm -rf "$work"' EXIT
 
-# What the parts take, and the package that brings each.
+# What the parts take, and the package that brings each; but no sshd, which would let others in.
 lacking() {
   local tool package
   while read -r tool package; do
@@ -32,6 +32,9 @@ xxd xxd
 parallel parallel
 node nodejs
 /usr/lib/python3/dist-packages/polyline python3-polyline
+/usr/lib/python3/dist-packages/distributed python3-distributed
+pv pv
+go golang-go
 END
 }
 
@@ -81,11 +84,22 @@ hostile() {
   if lacks "calls that fail in turn" make cc; then tests/hostile/sizes.py bin/polytwkb; else make -s hostile; fi
 }
 documents() { python3 tests/vectors/make.py --check && scripts/docs_test.py && tests/recipes/installed.sh; }
+machines() {
+  local check said
+  for check in dask ssh; do
+    if said=$("examples/scale/check_$check.sh" 20 2>&1); then
+      if [[ $said == "skipped: "* ]]; then echo "skip  many machines, $check: ${said#skipped: }"; else echo "ok    many machines, $check"; fi
+    else
+      echo "FAIL  many machines, $check: $said"
+    fi
+  done
+}
 dist() { lacks dist make cc dpkg-deb || make -s dist-test; }
 library() {
   lacks library make cc && return
   make -s lib-test || return 1
   echo "ok    the library in C and in Python"
+  if command -v go > /dev/null; then echo "ok    the library in Go"; fi
   make -s python-test || return 1
   echo "ok    the package for Python"
   lacks "memory of the library" valgrind || return 0
@@ -126,7 +140,7 @@ if [ $status -eq 0 ]; then
   echo "fuzz: seed $seed"
   make -s bin/refuse.so > /dev/null 2>&1
   lane smoke completions fuzz &
-  lane library documents dist &
+  lane library machines documents dist &
   lane hostile &
   wait
   for name in $parts; do [ -e "$work/$name.counts" ] || echo "0 passed, 1 failed" > "$work/$name.counts"; done

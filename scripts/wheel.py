@@ -29,7 +29,7 @@ def bytes_of(path):
 
 def version():
     """The version of the library, which has to be that of the package."""
-    found = re.search(r'^pub const VERSION: &str = "(.*)";', text_of("crates", "twkb_request", "src", "version.rt"), re.M).group(1)
+    found = re.search(r'^pub const VERSION: &str = "(.*)";', text_of("crates", "twkb_convert", "src", "version.rt"), re.M).group(1)
     named = re.search(r'^VERSION = "(.*)"', text_of("python", "polytwkb", "_library.py"), re.M).group(1)
     if named != found:
         sys.exit(f"wheel.py: the package is of version {named}, and the library of {found}")

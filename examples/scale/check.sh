@@ -12,8 +12,8 @@ trap 'rm -rf "$folder"' EXIT
 cd "$folder"
 jobs=${2:-2}
 
-# The line that docs/SCALE.md shows, for a pipe: it packs table.csv into all.twkb.
-line=$(sed -n 's/^    \(parallel .*\)--block 10M/\1--block 100k/p' "$here/../../docs/SCALE.md")
+# The line that docs/USING.md shows, for a pipe: it packs table.csv into all.twkb.
+line=$(sed -n 's/^    \(parallel .*\)--block 10M/\1--block 100k/p' "$here/../../docs/USING.md")
 
 python3 "$here/make_table.py" "${1:-5000}" > table.csv
 for style in full plain; do
@@ -25,7 +25,7 @@ for style in full plain; do
     tail -n +2 table.csv | "$here/pack_part.sh" --style $style | base64 -d | cmp - whole.twkb
     echo "packed in parts, $style: the same $(wc -c < whole.twkb) bytes"
     polytwkb unpack < whole.twkb > whole.csv
-    "$here/unpack_in_parts.sh" whole.twkb parts.csv "$jobs" 50000
+    "$here/unpack_in_parts.sh" whole.twkb parts.csv "$jobs" 50k
     cmp whole.csv parts.csv
     cmp table.csv parts.csv
     echo "unpacked in parts, $style: the same $(wc -c < whole.csv) bytes"
@@ -65,8 +65,25 @@ if "$here/pack_in_parts.sh" missing.csv parts.twkb 2> parts.txt || ! grep -q 'mi
 fi
 echo "refused in parts as in one run, $(ls tables | wc -l) tables"
 
+# A stream that is cut, and one with a wrong size: the script's status and its text are those of 'polytwkb unpack'.
+polytwkb pack < table.csv > whole.twkb
+mkdir streams
+head -c -1 whole.twkb > streams/cut.twkb
+cp whole.twkb streams/size.twkb
+offset=$(polytwkb show < whole.twkb | awk '$1 == 0 && $6 > 150 && $6 < 190 { print $2 }' | sed -n 800p)
+printf '\001' | dd of=streams/size.twkb bs=1 seek=$((offset + 2)) conv=notrunc status=none
+for file in streams/*; do
+    whole=0 parts=0
+    rm -f parts.csv
+    polytwkb unpack < "$file" > /dev/null 2> whole.txt || whole=$?
+    "$here/unpack_in_parts.sh" "$file" parts.csv "$jobs" 50k 2> parts.txt || parts=$?
+    [ "$parts" = "$whole" ] && [ "$whole" = 1 ] && cmp parts.txt whole.txt || fail "unpack_in_parts.sh $file: $(cat parts.txt)"
+    [ ! -e parts.csv ] || fail "unpack_in_parts.sh $file: a table is left"
+done
+echo "refused in parts as in one run, $(ls streams | wc -l) streams"
+
 # The line leaves no stream of a table with a part that is refused.
-rm all.twkb
+rm -f all.twkb
 cp tables/refused.csv table.csv
 if bash -c "$line" 2> line.txt || [ -e all.twkb ]; then fail "a refused part, and a stream is left: $line"; fi
 echo "refused by the line, and no stream is left"

@@ -1,34 +1,44 @@
 #!/usr/bin/env bash
-# Packs a table in parts, on many cores: the bytes, the status and the text on standard error of 'polytwkb pack < TABLE > STREAM'.
+# Packs a table in parts, on many cores or machines: the bytes, the status and the text on standard
+# error of 'polytwkb pack < TABLE > STREAM'.
 #
-#   pack_in_parts.sh TABLE STREAM [JOBS [BLOCK]] [-- OPTION ..]
+#   pack_in_parts.sh TABLE STREAM [JOBS [BYTES]] [-- OPTION ..]
+#   HOSTS=one,two pack_in_parts.sh ..
 #
-# JOBS run at once (all cores if none is given), each on some BLOCK of the table (10M). Options after -- are those of
-# 'polytwkb pack'. STREAM is written if the status is 0, and else left as it was. Needs GNU parallel, and polytwkb on the path.
+# JOBS run at once (all cores if none is given), each on some BYTES of the table (10M). Options after --
+# are those of 'polytwkb pack'. STREAM is written if the status is 0, and else left as it was. Needs GNU
+# parallel, python3, and polytwkb on the path.
+#
+# With HOSTS so many jobs run on each of these, by ssh. They have polytwkb on the path, and find the
+# table by the same name. If one is lost, the others pack its parts again.
 set -euo pipefail
+here=$(cd "$(dirname "$0")" && pwd)
 
 own=()
 while [ $# -gt 0 ] && [ "$1" != -- ]; do own+=("$1"); shift; done
 [ $# -eq 0 ] || shift
-table=${own[0]:?a table} stream=${own[1]:?a stream} jobs=${own[2]:-100%} block=${own[3]:-10M}
+table=${own[0]:?a table} stream=${own[1]:?a stream} jobs=${own[2]:-100%} bytes=${own[3]:-10M}
 command -v parallel > /dev/null || { echo "pack_in_parts.sh: needs GNU parallel" >&2; exit 127; }
 trap 'rm -f "$stream.part"' EXIT
 
-# Whether the file begins with the header's line: parallel gives each part the first line, and does not look at it.
-has_header_line() {
-    case $(head -c 34 "$table" 2> /dev/null | tr -d '\0'; echo .) in
-    depth,kind,id,precision,polyline$'\n'* | depth,kind,id,precision,polyline$'\r\n'*) ;;
-    *) false ;;
-    esac
+# Packs a part: the table, start and length are given, and options. Only the first has the header's line.
+pack_part() {
+    set -o pipefail
+    { [ "$2" = 0 ] || echo depth,kind,id,precision,polyline
+      dd if="$1" iflag=skip_bytes,count_bytes skip="$2" count="$3" bs=64K status=none; } |
+        polytwkb pack "${@:4}"
 }
+export -f pack_part
 
-# A cut stands between a newline and '0,': before a row of depth 0. Each part gets the header's line again.
 pack_parts() {
-    [ -f "$table" ] && has_header_line &&
-        parallel --no-notice -q -j "$jobs" -k --halt now,fail=1 --pipepart -a "$table" --block "$block" \
-            --header : --recend '\n' --recstart '0,' polytwkb pack "$@" > "$stream.part" 2> /dev/null
+    local name
+    name=$(printf '%q' "$(realpath "$table")")
+    "$here/cuts.py" table "$table" "$(numfmt --from=iec "${bytes^^}")" |
+        SHELL=$BASH parallel --no-notice -j "$jobs" -k --halt now,fail=1 \
+            ${HOSTS:+--sshlogin "$HOSTS" --retries 3 --env pack_part} \
+            --colsep ' ' pack_part "$name" '{1}' '{2}' "$@" > "$stream.part"
 }
 
-# If a part is refused, one run over the whole names the record; it also packs a table that has no lines to cut at.
-pack_parts "$@" || polytwkb pack "$@" < "$table" > "$stream.part"
+# If a part is refused, one run over the whole names the record.
+pack_parts "$@" 2> /dev/null || polytwkb pack "$@" < "$table" > "$stream.part"
 mv "$stream.part" "$stream"

@@ -1,6 +1,6 @@
 #!/usr/bin/env bash
 # Times conversions in parts on 1, 2 and 4 cores, best of three, beside one run. times.sh [GEOMETRIES]
-# Prints lines of the table in docs/SCALE.md. Wants a quiet machine; 2,000,000 geometries are a table of some 280 MB.
+# Prints lines of the table in docs/PERF.md. Wants a quiet machine; 2,000,000 geometries are a table of some 280 MB.
 set -euo pipefail
 here=$(cd "$(dirname "$0")" && pwd)
 PATH=$here/../../bin:$PATH

@@ -1,32 +1,36 @@
 #!/usr/bin/env bash
-# Unpacks a stream in parts, on many cores: the same bytes as 'polytwkb unpack < STREAM > TABLE'.
+# Unpacks a stream in parts, on many cores or machines: the bytes, the status and the text on standard
+# error of 'polytwkb unpack < STREAM > TABLE'.
 #
 #   unpack_in_parts.sh STREAM TABLE [JOBS [BYTES]]
+#   HOSTS=one,two unpack_in_parts.sh ..
 #
-# JOBS run at once (all cores where none is given), each on blobs of some BYTES together (10000000). The stream is cut
-# at the offsets that 'polytwkb show' prints. Needs GNU parallel, and polytwkb on the path.
+# JOBS run at once (all cores if none is given), each on blobs of some BYTES together (10M). TABLE is
+# written if the status is 0, and else left as it was. Needs GNU parallel, python3, and polytwkb on the
+# path. HOSTS are as for pack_in_parts.sh.
 set -euo pipefail
-export stream=${1:?a stream}
-table=${2:?a table} jobs=${3:-100%} bytes=${4:-10000000}
+here=$(cd "$(dirname "$0")" && pwd)
+stream=${1:?a stream} table=${2:?a table} jobs=${3:-100%} bytes=${4:-10M}
+command -v parallel > /dev/null || { echo "unpack_in_parts.sh: needs GNU parallel" >&2; exit 127; }
+trap 'rm -f "$table.part"' EXIT
 
-# Writes the rows of a part: its offset and its length are given. The first part alone has the header.
+# Unpacks a part: the stream, start and length are given. Only the first keeps the header's line.
 unpack_part() {
     set -o pipefail
-    dd if="$stream" iflag=skip_bytes,count_bytes skip="$1" count="$2" bs=64K status=none |
-        polytwkb unpack | if [ "$1" = 0 ]; then cat; else tail -n +2; fi
+    dd if="$1" iflag=skip_bytes,count_bytes skip="$2" count="$3" bs=64K status=none |
+        polytwkb unpack | if [ "$2" = 0 ]; then cat; else tail -n +2; fi
 }
 export -f unpack_part
 
-# Lines of level 0 are blobs. Prints offset and length of blobs joined to parts of so many bytes or more.
-parts() {
-    polytwkb show < "$stream" | awk -v bytes="$bytes" '
-        # print alone rounds numbers above 2^31 in some kinds of awk
-        function part() { printf "%.0f %.0f\n", from, held; from += held; held = 0 }
-        $1 == 0 { held += $6; if (held >= bytes) part() }
-        END { if (held || !from) part() }'
+unpack_parts() {
+    local name
+    name=$(printf '%q' "$(realpath "$stream")")
+    "$here/cuts.py" stream "$stream" "$(numfmt --from=iec "${bytes^^}")" |
+        SHELL=$BASH parallel --no-notice -j "$jobs" -k --halt now,fail=1 \
+            ${HOSTS:+--sshlogin "$HOSTS" --retries 3 --env unpack_part} \
+            --colsep ' ' unpack_part "$name" '{1}' '{2}' > "$table.part"
 }
 
-trap 'rm -f "$table.part" "$table.cuts"' EXIT
-parts > "$table.cuts"
-SHELL=$BASH parallel --no-notice -j "$jobs" -k --halt now,fail=1 --colsep ' ' unpack_part < "$table.cuts" > "$table.part"
+# If a part is refused, one run over the whole names the byte.
+unpack_parts 2> /dev/null || polytwkb unpack < "$stream" > "$table.part"
 mv "$table.part" "$table"

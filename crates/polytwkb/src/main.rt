@@ -4,9 +4,8 @@
 use std::env;
 use std::io::BufWriter;
 use std::process::ExitCode;
-use twkb_command::run;
+use twkb_command::{lack_memory, lack_words, run};
 use twkb_io::{Ending, Tap};
-use twkb_request::{lack_memory, lack_words};
 
 fn main(rt: HostRuntime) -> ExitCode {
     // a terminal would go on behind the end that was told

@@ -17,6 +17,8 @@ mod memory;
 #[cfg(test)]
 mod num;
 #[cfg(test)]
+mod numbers_out;
+#[cfg(test)]
 mod pairs;
 #[cfg(test)]
 mod points;

@@ -60,7 +60,7 @@ fn numbers_have_their_zigzag_forms(rt: HostRuntime) {
 // A word of two bytes, two bytes of three, and others behind a first one.
 #[test]
 fn a_piece_gathers_bytes(rt: HostRuntime) {
-    let mut piece = Piece::new();
+    let mut piece = Piece::<128>::new();
     piece.push(b'1');
     piece.push_low(0x3332, 2);
     piece.push_front(b"45 ", 2);

@@ -46,10 +46,55 @@ fn each_growth_may_be_refused(rt: HostRuntime) {
     assert!(rt; is_read(alloc, NEAR, 9) & is_read(alloc, FAR, 9) & is_read(alloc, MIXED, 28));
 }
 
+// So many points, each as far from the one before it.
+fn made_points(alloc: Global, count: u32, step: i64) -> Option<Vec<Pt>> {
+    let mut points = Vec::new(alloc);
+    for place in 0..count {
+        let x = i64::from(place).wrapping_mul(step);
+        let point = Pt::try_new(x, x.wrapping_mul(-3))?;
+        if points.push(point).is_err() {
+            return None;
+        }
+    }
+    Some(points)
+}
+
+// Whether such points are read from their text, or memory is refused.
+fn are_read_back(alloc: Global, count: u32, step: i64) -> bool {
+    let Some(points) = made_points(alloc, count, step) else {
+        return true;
+    };
+    let Ok(text) = encode(alloc, &points) else {
+        return true;
+    };
+    match decode(alloc, &text, count) {
+        Ok(read) => read.as_slice() == points.as_slice(),
+        Err(fault) => fault == PolyFault::Memory,
+    }
+}
+
+// The same for each count on both sides of what a block holds, eight points and their multiples.
+fn counts_are_read_back(alloc: Global, step: i64) -> bool {
+    let mut all = true;
+    for count in 0..40 {
+        all &= are_read_back(alloc, count, step);
+    }
+    all
+}
+
+// Numbers of one to six characters: those of up to four are found in blocks.
+#[test]
+fn points_are_read_in_blocks_as_one_by_one(rt: HostRuntime) {
+    let alloc = rt.alloc();
+    let short = counts_are_read_back(alloc, 3) & counts_are_read_back(alloc, 300);
+    let long = counts_are_read_back(alloc, 20_000) & counts_are_read_back(alloc, 500_000);
+    assert!(rt; short & long & counts_are_read_back(alloc, 40_000_000));
+}
+
 // The first point of Google's worked example, behind a byte.
 #[test]
 fn one_point_is_encoded_behind_a_byte(rt: HostRuntime) {
-    let mut piece = Piece::new();
+    let mut piece = Piece::<128>::new();
     piece.push(b',');
     if let Some(point) = Pt::try_new(-12020000, 3850000) {
         encode_point(point, &mut piece);

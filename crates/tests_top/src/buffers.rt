@@ -6,9 +6,8 @@ use twkb_buffer::{
     BufferPoint, BufferReport, Conversion, fill, fill_points, fill_polyline, measure, put_reason,
     put_version,
 };
-use twkb_convert::Style;
+use twkb_convert::{Style, VERSION};
 use twkb_geom::Limits;
-use twkb_request::{Conversion as Asked, VERSION};
 
 const TABLE: &[u8] = b"depth,kind,id,precision,polyline\n0,linestring,,0,AAGG\n";
 
@@ -137,21 +136,12 @@ fn points_become_a_polyline_and_it_the_points(rt: HostRuntime) {
     assert!(rt; is_polyline(rt.alloc()));
 }
 
-// What is asked of a buffer.
-fn conversion_of(what: Asked) -> Conversion {
-    match what {
-        Asked::Pack => Conversion::Pack(Style::Full),
-        Asked::Unpack => Conversion::Unpack,
-        Asked::Show => Conversion::Show,
-    }
-}
-
 // Whether a worked conversion writes its output and reports whether the input is refused later, or runs out of memory after a prefix of the output.
 // The input is there in one piece.
 fn fills_or_lacks(alloc: Global, worked: &Worked) -> bool {
     let mut room = [0u8; 190];
-    let what = conversion_of(worked.what);
-    let report = fill(alloc, what, worked.input, &mut room, Limits::standard());
+    let limits = Limits::standard();
+    let report = fill(alloc, worked.what, worked.input, &mut room, limits);
     let is_front = match room.get(..report.sent as usize) {
         Some(sent) => worked.output.starts_with(sent),
         None => false,

@@ -5,8 +5,7 @@ ghost use Rattle.twkb_grammar.specs.Noting.{no_notes};
 use std::alloc::{AllocError, Global};
 use std::marker::Model;
 use twkb_engine::SpanNotes;
-use twkb_grammar::Span;
-use twkb_header::TypeByte;
+use twkb_grammar::{Span, TypeByte};
 
 // The spans so far, and the places of those whose geometries are begun and not ended, the innermost last.
 #[derive(Debug, Drop)]

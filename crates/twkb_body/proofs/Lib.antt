@@ -1,2 +1,3 @@
 pub mod PointRuns
 pub mod IdRuns
+pub mod PointLists

@@ -53,7 +53,7 @@ module _ (h : Head) where
 -- ---- a point
 
 -- what a point changes, by where its header stands
-same_change : (to : Point) (gs : List Group) (h : Head) (f : Form) (member : Option ℤ) → IsHeadAt (length gs) (id_in gs) h → point_change to (length gs) (id_in gs) h.precision f member ≡ point_change to h.depth h.id h.precision f member
+pub same_change : (to : Point) (gs : List Group) (h : Head) (f : Form) (member : Option ℤ) → IsHeadAt (length gs) (id_in gs) h → point_change to (length gs) (id_in gs) h.precision f member ≡ point_change to h.depth h.id h.precision f member
 same_change to gs h f member at = ap (λ d. point_change to d (id_in gs) h.precision f member) (sym at.depth_is) ∙ ap (λ i. point_change to h.depth i h.precision f member) (sym at.id_is)
 
 -- what a point leads to

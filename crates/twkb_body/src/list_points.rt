@@ -1,5 +1,5 @@
 //! Points of a list, and members of a multipoint, many at once.
-ghost use Rattle.std.specs.Prelude.{◌≡◌, ◌≤◌, ◌+◌, ◌^◌, length};
+ghost use Rattle.std.specs.Prelude.{◌≡◌, ◌≤◌, ◌+◌, ◌^◌, length, IfOk};
 ghost use Rattle.twkb_tree.specs.Rows.{row_points};
 ghost use Rattle.twkb_tree.specs.RowGrowth.{EndsInLine};
 ghost use Rattle.twkb_flat.specs.Members.{EndsInMember};
@@ -9,7 +9,8 @@ ghost use Rattle.twkb_body.specs.Running.{TakesRow, TakesMembers};
 use crate::member_ids::MemberIds;
 use std::alloc::AllocError;
 use twkb_flat::Flat;
-use twkb_front::{front_point, front_two};
+use twkb_front::{front_eight, front_point, front_two};
+use twkb_num::{BLOCK, varint_ends};
 use twkb_points::Pt;
 
 /// Points that were taken.
@@ -23,6 +24,14 @@ pub struct Taken {
 
 // The most bytes of a point whose numbers are short, four bytes each.
 const NEAR: usize = 8;
+
+// How many points are taken at once, and how many numbers they have.
+const POINTS: u64 = 8;
+
+const NUMBERS: u32 = 16;
+
+// How many bytes after the last look blocks are looked for again.
+const APART: usize = 32;
 
 /// Takes points of a list to the last row as far as they are complete, at most `most`; and how many of these are left. Takes memory. Two at
 /// a time if that goes: the numbers of points that lie near one another are found four at once, and not looked for after a point that
@@ -42,8 +51,17 @@ pub fn take_row(
     let mut position = from;
     let mut left = most;
     let mut is_near = true;
+    let mut next_look = 0;
     while left > 0 {
         if is_near && left > 1 {
+            if used >= next_look && left >= POINTS && bytes.len() - used >= BLOCK {
+                let (taken, behind) = take_eights(flat, position, &bytes[used..], left)?;
+                used += taken.used;
+                position = taken.position;
+                left = behind;
+                next_look = used + APART;
+                continue;
+            }
             if let Some((first, second, count)) = front_two(position, &bytes[used..]) {
                 flat.add_two(first, second)?;
                 left -= 2;
@@ -60,6 +78,42 @@ pub fn take_row(
         position = to;
         used += count;
         is_near = count <= NEAR;
+    }
+    Ok((Taken { used, position }, left))
+}
+
+// Takes points of a list to the last row, eight at a time, as far as their numbers are found in blocks; at most `most`; and how
+// many of these are left. Takes memory.
+#[inline(never)]
+fn take_eights(
+    flat: &mut Flat,
+    from: Pt,
+    bytes: &[u8],
+    most: u64,
+) -> Result<(Taken, u64), AllocError>
+    requires line { EndsInLine flat.old }
+    requires room { length (row_points flat.old) + most ≤ 2 ^ 24 }
+    ensures taken { TakesRow flat.old from bytes.now most result flat.new }
+    ensures still_line { IfOk result (λ r. EndsInLine flat.new) }
+    ensures still_room { IfOk result (λ r. length (row_points flat.new) + r.1 ≤ 2 ^ 24) }
+{
+    let mut used = 0;
+    let mut position = from;
+    let mut left = most;
+    let mut ends: u64 = 0;
+    while left >= POINTS {
+        let rest = &bytes[used..];
+        if ends.count_ones() < NUMBERS {
+            ends = varint_ends(rest);
+        }
+        let Some(eight) = front_eight(position, rest, ends) else {
+            break;
+        };
+        flat.add_points(&eight.points)?;
+        left -= POINTS;
+        position = eight.last;
+        used += eight.used;
+        ends = eight.ends;
     }
     Ok((Taken { used, position }, left))
 }

@@ -19,8 +19,8 @@ use Rattle.twkb_buffer.specs.Calls.{Answers, Counts, IsRefusal, refused_length, 
 use Rattle.twkb_buffer.specs.Conversions.{Finished, HasLength, Stopped}
 use Rattle.twkb_buffer.specs.Lengths.{PacksTo, ShowsTo, UnpacksTo}
 use Rattle.twkb_buffer.specs.Slices.{PackedFront, PackedSlice, ShownFront, ShownSlice, UnpackedFront, UnpackedSlice}
-use Rattle.twkb_buffer.specs.declared.conversion.Conversion.{Conversion}
-use Rattle.twkb_buffer.specs.declared.conversion.Conversion.TheVariants as conversion
+use Rattle.twkb_convert.specs.declared.conversion.Conversion.{Conversion}
+use Rattle.twkb_convert.specs.declared.conversion.Conversion.TheVariants as conversion
 
 packed_length : (style : Style) (l : Allowance) (table written : List ℕ) (done n : ℕ) → PackedSlice style l table written done → n ≡ length written → PacksTo style l table n
 packed_length style l table written done n p e = λ records all.

@@ -13,14 +13,14 @@ use Rattle.twkb_table.specs.CsvRecords.{AreRecordsOf}
 use Rattle.twkb_convert.specs.Listed.{ExplainsListingCause, Listed, StoppedListing}
 use Rattle.twkb_convert.specs.Packed.{ExplainsPackingCause, Packed, StoppedPacking}
 use Rattle.twkb_convert.specs.RefusedRows.{MayBeWritten}
+use Rattle.twkb_convert.specs.Conversions.{Converts}
 use Rattle.twkb_convert.specs.declared.report.ConvertFault.{ConvertFault}
 use Rattle.twkb_convert.specs.declared.report.Report.{Report}
 use Rattle.twkb_buffer.specs.Calls.{Answers, Ends, Stops}
 use Rattle.twkb_buffer.specs.Conversions.{Finished, Stopped}
-use Rattle.twkb_buffer.specs.Runs.{Ran}
 use Rattle.twkb_buffer.specs.Slices.{ListedFront, ListedSlice, PackedFront, PackedSlice}
-use Rattle.twkb_buffer.specs.declared.conversion.Conversion.{Conversion}
-use Rattle.twkb_buffer.specs.declared.conversion.Conversion.TheVariants as conversion
+use Rattle.twkb_convert.specs.declared.conversion.Conversion.{Conversion}
+use Rattle.twkb_convert.specs.declared.conversion.Conversion.TheVariants as conversion
 
 -- These bytes were written behind what the writer held, and agree with the answer.
 pub record Wrote {W : Type 0} (Ended : Ends) (Halted : Stops) (contents : W → Option (List ℕ)) (writer written : Tap W) (answer : Result Report ConvertFault) : Type 0 where
@@ -120,11 +120,11 @@ module _ {R W : Type 0} (l : Allowance) (input : List ℕ) (remaining : R → Op
     );
   }
 
-  pub ran : (what : Conversion) (answer : Result Report ConvertFault) → Ran what l remaining contents reader writer answer read written
+  pub ran : (what : Conversion) (answer : Result Report ConvertFault) → Converts what l remaining contents reader writer read written answer
       → Wrote (Finished what l input) (Stopped what l input) contents writer written answer
-  ran (conversion.Pack style) (Ok report) p = packed style report p
-  ran (conversion.Pack style) (Err fault) p = packed_front style fault p
-  ran conversion.Unpack (Ok report) p = listed _ _ _ report p
-  ran conversion.Unpack (Err fault) p = listed_front _ _ _ fault p
-  ran conversion.Show (Ok report) p = listed _ _ _ report p
-  ran conversion.Show (Err fault) p = listed_front _ _ _ fault p
+  ran (conversion.Pack style) (Ok report) p = packed style report p.ok
+  ran (conversion.Pack style) (Err fault) p = packed_front style fault p.err
+  ran conversion.Unpack (Ok report) p = listed _ _ _ report p.ok
+  ran conversion.Unpack (Err fault) p = listed_front _ _ _ fault p.err
+  ran conversion.Show (Ok report) p = listed _ _ _ report p.ok
+  ran conversion.Show (Err fault) p = listed_front _ _ _ fault p.err

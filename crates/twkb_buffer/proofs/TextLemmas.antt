@@ -12,7 +12,7 @@ use Rattle.twkb_engine.specs.declared.blob_reason.BlobReason.{BlobReason}
 use Rattle.twkb_engine.specs.declared.blob_reason.BlobReason.TheVariants as blob
 use Rattle.twkb_convert.specs.declared.report.Cause.{Cause}
 use Rattle.twkb_convert.specs.declared.report.Cause.TheVariants as cause
-use Rattle.twkb_request.specs.Lines.{cause_words}
+use Rattle.twkb_convert.specs.Texts.{cause_words}
 use Rattle.twkb_buffer.specs.Numbers.{blob_number_of, point_text_number_of, reason_number_of, row_number_of}
 use Rattle.twkb_buffer.specs.Texts.{AreWordsOf, HasReason, NamesNoBlob, NamesNoPointText, NamesNoRow, with_text}
 

@@ -2,8 +2,8 @@
 use Rattle.std.specs.Prelude.{ℕ, List}
 use Rattle.twkb_tree.specs.Limits.{Allowance}
 use Rattle.twkb_grammar.specs.declared.style.Style.{Style}
-use Rattle.twkb_buffer.specs.declared.conversion.Conversion.{Conversion}
-use Rattle.twkb_buffer.specs.declared.conversion.Conversion.TheVariants as conversion
+use Rattle.twkb_convert.specs.declared.conversion.Conversion.{Conversion}
+use Rattle.twkb_convert.specs.declared.conversion.Conversion.TheVariants as conversion
 use Rattle.twkb_buffer.specs.declared.report.BufferReport.{BufferReport}
 use Rattle.twkb_buffer.specs.Calls.{Ends, FillsSlice, Measures, Stops}
 use Rattle.twkb_buffer.specs.Lengths.{PacksTo, ShowsTo, UnpacksTo}

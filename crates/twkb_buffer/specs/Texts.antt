@@ -1,7 +1,7 @@
 -- The text of a reason by its number, and how a text is put into a buffer (profile).
 use Rattle.std.specs.Prelude.{◌≡◌, ◌≢◌, ◌≤◌, ℕ, List, [], ◌∷◌, ◌++◌, length, take, drop}
 use Rattle.twkb_convert.specs.declared.report.Cause.{Cause}
-use Rattle.twkb_request.specs.Lines.{cause_words}
+use Rattle.twkb_convert.specs.Texts.{cause_words}
 use Rattle.twkb_buffer.specs.Numbers.{reason_number_of}
 
 -- the input is refused for this cause, and the number is that of its reason

@@ -4,14 +4,13 @@ ghost use Rattle.twkb_buffer.specs.Calls.{Fills};
 ghost use Rattle.twkb_buffer.specs.Conversions.{FillsOutput, Finished, Stopped};
 ghost use Rattle.twkb_buffer.specs.Fillers.{buffer_of, filled_of};
 
-use crate::conversion::{Conversion, run};
 use crate::filler::Filler;
 use crate::measuring::output_length;
 use crate::reason_numbers::TOO_SMALL;
 use crate::report::{BufferReport, finished, stopped};
 use std::alloc::Global;
 use std::mem;
-use twkb_convert::{ConvertFault, Limits, Report, Tap};
+use twkb_convert::{Conversion, ConvertFault, Limits, Report, Tap, convert};
 
 // Converts a slice into that of a filler which has filled nothing. Meanwhile the filler is that of
 // the tap; it is moved back, so that who made it sees that the loan is still in it.
@@ -28,7 +27,7 @@ fn run_into(
 {
     let mut reader = Tap::new(input);
     let mut writer = Tap::new(mem::replace(filler, Filler::new(&mut [])));
-    let answer = run(alloc, what, &mut reader, &mut writer, limits);
+    let answer = convert(alloc, what, &mut reader, &mut writer, limits);
     *filler = writer.into_inner();
     answer
 }

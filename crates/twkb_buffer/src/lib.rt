@@ -1,7 +1,6 @@
 //! The conversions from a buffer to a buffer.
 #![tactic(auto)]
 
-mod conversion;
 mod filler;
 mod filling;
 mod measuring;
@@ -11,10 +10,10 @@ mod reason_numbers;
 mod reason_texts;
 mod report;
 
-pub use conversion::Conversion;
 pub use filling::fill;
 pub use measuring::measure;
 pub use point::BufferPoint;
 pub use polylines::{fill_points, fill_polyline};
 pub use reason_texts::{put_reason, put_version};
 pub use report::BufferReport;
+pub use twkb_convert::Conversion;

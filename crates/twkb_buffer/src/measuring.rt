@@ -3,11 +3,10 @@ ghost use Rattle.std.specs.Prelude.{◌≡◌, IfSome};
 ghost use Rattle.twkb_buffer.specs.Calls.{Counts, MeasuresBy, whole_length_of};
 ghost use Rattle.twkb_buffer.specs.Conversions.{Finished, HasLength, MeasuresOutput, Stopped};
 
-use crate::conversion::{Conversion, run};
 use crate::report::{BufferReport, finished, stopped};
 use std::alloc::Global;
 use std::io;
-use twkb_convert::{Cause, ConvertFault, Limits, Report, Tap};
+use twkb_convert::{Cause, Conversion, ConvertFault, Limits, Report, Tap, convert};
 
 // Converts a slice, and keeps nothing of the output.
 fn count_output(
@@ -20,7 +19,7 @@ fn count_output(
 {
     let mut reader = Tap::new(input);
     let mut writer = Tap::new(io::sink());
-    run(alloc, what, &mut reader, &mut writer, limits)
+    convert(alloc, what, &mut reader, &mut writer, limits)
 }
 
 // How many bytes an answer counts, where they are the whole output: also of a refused input.

@@ -1,12 +1,11 @@
 //! The text of a reason by its number, and the text of the version, for a caller's buffer.
 ghost use Rattle.std.specs.Prelude.{◌≡◌, ◌≢◌, ◌≤◌, IfSome, IsNone, length};
 ghost use Rattle.twkb_convert.specs.declared.report.Cause.{Cause};
-ghost use Rattle.twkb_request.specs.Version.{version_text};
+ghost use Rattle.twkb_convert.specs.Version.{version_text};
 ghost use Rattle.twkb_buffer.specs.Numbers.{blob_number_of, point_text_number_of, row_number_of};
 ghost use Rattle.twkb_buffer.specs.Texts.{AreWordsOf, HasReason, NamesNoBlob, NamesNoPointText, NamesNoRow, PutsText, with_text};
 
-use twkb_convert::{BlobReason, Cause, PolyReason, RowReason};
-use twkb_request::{VERSION, fault_words};
+use twkb_convert::{BlobReason, Cause, PolyReason, RowReason, VERSION};
 
 // What is wrong with a text of points, by its number.
 fn point_text_reason(number: u32) -> Option<PolyReason>
@@ -94,13 +93,13 @@ fn cause_of(number: u32) -> Option<Cause>
 
 // The words of the reason with this number.
 #[tactic(auto, using(crate::proofs::TextLemmas::named, crate::proofs::TextLemmas::unnamed))]
-fn words_of(number: u32) -> &'static [u8]
+fn words_of(number: u32) -> &'static str
     ensures words { AreWordsOf number result.now }
     ensures short { length result.now ≤ 31 }
 {
     match cause_of(number) {
-        Some(why) => fault_words(why),
-        None => b"",
+        Some(why) => why.text(),
+        None => "",
     }
 }
 
@@ -121,7 +120,7 @@ fn put(words: &[u8], text: &mut [u8])
 pub fn put_reason(reason: u32, text: &mut [u8]) -> usize
     ensures { PutsText (AreWordsOf reason) text.old text.new result }
 {
-    let words = words_of(reason);
+    let words = words_of(reason).as_bytes();
     put(words, text);
     words.len()
 }

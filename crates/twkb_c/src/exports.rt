@@ -2,11 +2,11 @@
 ghost use Rattle.std.specs.Prelude.{◌≡◌, ◌<◌};
 ghost use Rattle.twkb_tree.specs.Limits.{IsAllowance, standard_limits};
 ghost use Rattle.twkb_grammar.specs.declared.style.Style.{Style};
-ghost use Rattle.twkb_request.specs.Version.{version_text};
+ghost use Rattle.twkb_convert.specs.Version.{version_text};
 ghost use Rattle.twkb_buffer.specs.Conversions.{MeasuresOutput, PacksSlice, ShowsSlice, UnpacksSlice};
 ghost use Rattle.twkb_buffer.specs.Polylines.{DecodesSlice, EncodesSlice};
 ghost use Rattle.twkb_buffer.specs.Texts.{AreWordsOf, PutsText};
-ghost use Rattle.twkb_buffer.specs.declared.conversion.Conversion.{Conversion};
+ghost use Rattle.twkb_convert.specs.declared.conversion.Conversion.{Conversion};
 ghost use Rattle.twkb_c.specs.Arguments.{IsConversionNumber, IsStyleNumber, allowance_of, arguments_report};
 
 use crate::arguments::{BufferLimits, conversion_of, refused_arguments, style_of};
@@ -15,6 +15,7 @@ use twkb_buffer::{
     BufferPoint, BufferReport, Conversion, fill, fill_points, fill_polyline, measure, put_reason,
     put_version,
 };
+use twkb_tree::{NEST_STANDARD, NODES_CAP, POINTS_CAP};
 
 /// Sixteen levels, 2^20 rows and 2^24 points. Takes no memory.
 #[unsafe(no_mangle)]
@@ -22,9 +23,9 @@ pub extern "C" fn polytwkb_standard_limits() -> BufferLimits
     ensures { allowance_of result ≡ standard_limits }
 {
     BufferLimits {
-        nest: 16,
-        nodes: 1 << 20,
-        points: 1 << 24,
+        nest: NEST_STANDARD,
+        nodes: NODES_CAP,
+        points: POINTS_CAP,
     }
 }
 

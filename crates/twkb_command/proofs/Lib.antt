@@ -5,3 +5,5 @@ pub mod CommandLineLemmas
 pub mod NamedLemmas
 pub mod Asked
 pub mod RefusalLemmas
+pub mod PrintLemmas
+pub mod ShortWords

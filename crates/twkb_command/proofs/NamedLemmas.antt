@@ -13,7 +13,8 @@ use Rattle.clap.specs.declared.error.Error.{Error}
 use Rattle.clap.specs.declared.parser.matches.ArgMatches.{ArgMatches}
 use Rattle.clap.proofs.OnLiterals.{clap_on_literals}
 use Rattle.twkb_command.specs.CommandLine.{command_line}
-use Rattle.twkb_request.specs.declared.request.Conversion.TheVariants as conversion
+use Rattle.twkb_grammar.specs.declared.style.Style.TheVariants.{Full}
+use Rattle.twkb_convert.specs.declared.conversion.Conversion.TheVariants as conversion
 use Rattle.twkb_command.specs.Words.{NamesConversion}
 use Rattle.twkb_command.proofs.PassedLemmas.{last_none}
 
@@ -91,7 +92,7 @@ names_line styles = refl
 
 name_of_conversion : (used : Option (Text × List Row)) → NamesOneOf conversion_names used → NamesConversion used
 name_of_conversion None named = named
-name_of_conversion (Some p) (inl is) = (conversion.Pack, sym is)
+name_of_conversion (Some p) (inl is) = (conversion.Pack Full, sym is)
 name_of_conversion (Some p) (inr (inl is)) = (conversion.Unpack, sym is)
 name_of_conversion (Some p) (inr (inr (inl is))) = (conversion.Show, sym is)
 name_of_conversion (Some p) (inr (inr (inr none))) = absurd none

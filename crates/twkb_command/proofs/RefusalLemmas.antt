@@ -6,9 +6,9 @@ use Rattle.clap.specs.declared.error.Error.{Error}
 use Rattle.clap.specs.declared.error.kind.ErrorKind.{ErrorKind}
 use Rattle.clap.specs.declared.error.kind.ErrorKind.TheVariants.{DisplayHelp, DisplayVersion, OutOfMemory}
 use Rattle.twkb_io.specs.declared.tap.Tap.{Tap}
-use Rattle.twkb_request.specs.declared.refusal.Refusal.{Refusal}
-use Rattle.twkb_request.specs.declared.refusal.Refusal.TheVariants as refusal
-use Rattle.twkb_request.specs.Carrying.{Refuses, TellsMemory}
+use Rattle.twkb_command.specs.declared.refusal.Refusal.{Refusal}
+use Rattle.twkb_command.specs.declared.refusal.Refusal.TheVariants as refusal
+use Rattle.twkb_command.specs.Carrying.{Refuses, TellsMemory}
 use Rattle.twkb_command.specs.Runs.{Answers, LacksMemory}
 use Rattle.twkb_command.specs.Words.{IsRefusal, IsRefusalAmong}
 

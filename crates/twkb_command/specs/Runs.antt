@@ -5,10 +5,10 @@ use Rattle.clap.specs.declared.error.kind.ErrorKind.{ErrorKind}
 use Rattle.clap.specs.declared.error.kind.ErrorKind.TheVariants.{DisplayHelp, DisplayVersion}
 use Rattle.twkb_io.specs.declared.tap.Tap.{Tap}
 use Rattle.twkb_convert.specs.declared.report.Cause.TheVariants as cause
-use Rattle.twkb_request.specs.declared.request.Request.{Request}
-use Rattle.twkb_request.specs.Carrying.{CarriesOut}
-use Rattle.twkb_request.specs.Lines.{line_of}
-use Rattle.twkb_request.specs.Printing.{IsPrinted}
+use Rattle.twkb_command.specs.declared.request.Request.{Request}
+use Rattle.twkb_command.specs.Carrying.{CarriesOut}
+use Rattle.twkb_command.specs.Lines.{line_of}
+use Rattle.twkb_command.specs.Printing.{IsPrinted}
 use Rattle.twkb_command.specs.Words.{AsksFor}
 
 -- No memory was found to read the words: nothing is converted, and standard error gets the line that says so.

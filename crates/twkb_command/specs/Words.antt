@@ -7,15 +7,15 @@ use Rattle.clap.specs.declared.error.kind.ErrorKind.TheVariants.{DisplayHelp, Di
 use Rattle.twkb_tree.specs.Limits.{Allowance, standard_limits}
 use Rattle.twkb_grammar.specs.declared.style.Style.{Style}
 use Rattle.twkb_grammar.specs.declared.style.Style.TheVariants.{Full, Plain}
-use Rattle.twkb_request.specs.declared.request.Conversion.{Conversion}
-use Rattle.twkb_request.specs.declared.request.Conversion.TheVariants as conversion
-use Rattle.twkb_request.specs.declared.refusal.Refusal.{Refusal}
-use Rattle.twkb_request.specs.declared.refusal.Refusal.TheVariants as refusal
-use Rattle.twkb_request.specs.declared.request.Request.{Request}
+use Rattle.twkb_convert.specs.declared.conversion.Conversion.{Conversion}
+use Rattle.twkb_convert.specs.declared.conversion.Conversion.TheVariants as conversion
+use Rattle.twkb_command.specs.declared.refusal.Refusal.{Refusal}
+use Rattle.twkb_command.specs.declared.refusal.Refusal.TheVariants as refusal
+use Rattle.twkb_command.specs.declared.request.Request.{Request}
 
 -- the word of a conversion
 abbrev pub name_of : Conversion → Text
-name_of conversion.Pack = codes "pack"
+name_of (conversion.Pack style) = codes "pack"
 name_of conversion.Unpack = codes "unpack"
 name_of conversion.Show = codes "show"
 
@@ -43,11 +43,17 @@ abbrev pub IsStyle : Option Text → Style → Type 0
 IsStyle None style = style ≡ Full
 IsStyle (Some name) style = (style ≡ Plain) ↔ (name ≡ codes "plain")
 
--- the rows of a subcommand name this conversion, with these limits and this style
+-- the subcommand of this name is this conversion, with the style that its option gives
+abbrev pub Names : Text → Option Text → Conversion → Type 0
+Names name given (conversion.Pack style) = (name ≡ codes "pack") × IsStyle given style
+Names name given conversion.Unpack = name ≡ codes "unpack"
+Names name given conversion.Show = name ≡ codes "show"
+
+-- the rows of a subcommand name this conversion, with its style and these limits
 abbrev pub IsAskedBy : Option (Text × List Row) → Request → Type 0
 IsAskedBy None request = ⊥
 IsAskedBy (Some (name, rows)) request =
-    (name ≡ name_of request.conversion) × AreLimits (one_of (codes "max-nest") rows) request.limits × IsStyle (first_of (codes "style") rows) request.style
+    Names name (first_of (codes "style") rows) request.conversion × AreLimits (one_of (codes "max-nest") rows) request.limits
 
 -- the option of a subcommand gives nothing, or a number from 0 to 32
 abbrev pub HasNest : Option (Text × List Row) → Type 0
@@ -63,7 +69,7 @@ abbrev pub NamesConversion : Option (Text × List Row) → Type 0
 NamesConversion None = ⊥
 NamesConversion (Some (name, rows)) = IsConversionName name
 
--- the words name this conversion, with these limits and this style
+-- the words name this conversion, with its style and these limits
 abbrev pub AsksFor : App → List Text → Request → Type 0
 AsksFor line words request = IsAskedBy (subcommand_of line words) request
 

@@ -7,7 +7,8 @@ ghost use Rattle.twkb_command.specs.CommandLine.{bare_app, command_line, convers
 use crate::help;
 use clap::{Arg, Command, value_parser};
 use std::alloc::{AllocError, Global};
-use twkb_request::VERSION;
+use twkb_convert::VERSION;
+use twkb_tree::NEST_CAP;
 
 // The option `--max-nest`.
 fn max_nest_option<'a>(alloc: Global) -> Arg<'a>
@@ -17,7 +18,7 @@ fn max_nest_option<'a>(alloc: Global) -> Arg<'a>
     let nest = Arg::new(alloc, "max-nest")
         .long("max-nest")
         .value_name("N")
-        .value_parser(value_parser!(u32).range(0..=32));
+        .value_parser(value_parser!(u32).range(0..=i64::from(NEST_CAP)));
     described(nest, help::MAX_NEST)
 }
 

@@ -5,11 +5,11 @@ ghost use Rattle.twkb_command.specs.CommandLine.{IsCommandLine};
 ghost use Rattle.twkb_command.specs.Runs.{RunsAccepted, RunsRefused};
 ghost use Rattle.twkb_command.specs.Words.{IsOneRequest};
 
+use crate::carrying::{carry_out, refuse};
 use crate::words::read_words;
 use std::alloc::Global;
 use std::io::{Read, Write};
 use twkb_io::Tap;
-use twkb_request::{carry_out, refuse};
 
 /// Runs the command with its words, of which the first is the program's name, and answers its
 /// status: 0 where all was converted, or where help or the version was asked for, 1 where the input

@@ -2,14 +2,15 @@
 ghost use Rattle.std.specs.Prelude.{◌≡◌, [], map, string_bytes, codes, IfNone, IfOk, IfErr, IfSome, OnOk};
 ghost use Rattle.clap.specs.Words.{App, FailsBy, fault_of, first_value, found_of, kind_of, one_text, subcommand_of, subcommand_rows_of};
 ghost use Rattle.twkb_command.specs.CommandLine.{IsCommandLine, command_line};
-ghost use Rattle.twkb_command.specs.Words.{AreLimits, AsksFor, GivesNest, GivesNoNest, HasNest, IsAskedBy, IsConversionName, IsRefusal, IsRefusalAmong, IsStyle, NamesConversion, Reads, name_of};
+ghost use Rattle.twkb_command.specs.Words.{AreLimits, AsksFor, GivesNest, GivesNoNest, HasNest, IsAskedBy, IsConversionName, IsRefusal, IsRefusalAmong, IsStyle, Names, NamesConversion, Reads};
 
 use crate::command_line::command;
+use crate::refusal::Refusal;
+use crate::request::{Request, nested_limits, style_named};
 use clap::error::ErrorKind;
 use clap::{ArgMatches, Error};
 use std::alloc::Global;
-use twkb_convert::Style;
-use twkb_request::{Conversion, Refusal, Request, nested_limits, style_named};
+use twkb_convert::{Conversion, Style};
 use twkb_tree::Limits;
 
 // The matches of the words.
@@ -24,19 +25,6 @@ fn matches_of<'a>(
     ensures kinds { FailsBy (fault_of (command_line styles.entry) (map string_bytes words.entry.now)) result }
 {
     command(alloc, styles)?.try_get_matches_from(words)
-}
-
-// The conversion of a name.
-fn conversion_of(name: &str) -> Conversion
-    requires { IsConversionName name.now }
-    ensures { name.now ≡ name_of result }
-{
-    match name {
-        "pack" => Conversion::Pack,
-        "unpack" => Conversion::Unpack,
-        "show" => Conversion::Show,
-        _ => unreachable!(),
-    }
 }
 
 // The standard limits, with the nesting that the matches of a subcommand give, if it is one.
@@ -72,6 +60,19 @@ fn style_of(matches: &ArgMatches<'_>) -> Style
     }
 }
 
+// The conversion that a subcommand of this name is, in the style that its matches give.
+fn conversion_of(name: &str, matches: &ArgMatches<'_>) -> Conversion
+    requires { IsConversionName name.now }
+    ensures { Names name.now (first_value (found_of matches.now) (codes "style")) result }
+{
+    match name {
+        "pack" => Conversion::Pack(style_of(matches)),
+        "unpack" => Conversion::Unpack,
+        "show" => Conversion::Show,
+        _ => unreachable!(),
+    }
+}
+
 // What the matches of the words ask for.
 fn request_of(matches: &ArgMatches<'_>) -> Request
     requires named { NamesConversion (subcommand_rows_of matches.now) }
@@ -80,9 +81,8 @@ fn request_of(matches: &ArgMatches<'_>) -> Request
 {
     match matches.subcommand() {
         Some((name, inner)) => Request {
-            conversion: conversion_of(name),
+            conversion: conversion_of(name, inner),
             limits: limits_of(inner),
-            style: style_of(inner),
         },
         None => unreachable!(),
     }

@@ -17,3 +17,6 @@ pub mod Unpacked
 pub mod Shown
 pub mod Packed
 pub mod Parts
+pub mod Texts
+pub mod Conversions
+pub mod Version

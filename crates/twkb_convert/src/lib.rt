@@ -4,6 +4,7 @@
 mod blob_sending;
 mod blob_text;
 mod blob_writing;
+mod conversion;
 mod draining;
 pub mod laws;
 mod listing;
@@ -16,7 +17,9 @@ mod span_line;
 mod stream_listing;
 mod table_sending;
 mod unpacking;
+mod version;
 
+pub use conversion::{Conversion, convert};
 pub use packing::{pack, pack_counted, pack_styled};
 pub use report::{Cause, ConvertFault, Report};
 pub use showing::show;
@@ -28,3 +31,4 @@ pub use twkb_table::RowReason;
 pub use twkb_tree::Limits;
 pub use twkb_writer::Style;
 pub use unpacking::unpack;
+pub use version::VERSION;

@@ -1,4 +1,7 @@
 //! What a conversion answers.
+ghost use Rattle.std.specs.Prelude.{◌≡◌, ◌≤◌, length};
+ghost use Rattle.twkb_convert.specs.Texts.{cause_words};
+
 use thiserror::Error;
 use twkb_blob::BlobReason;
 use twkb_table::RowReason;
@@ -14,6 +17,7 @@ pub struct Report {
 
 /// Why a conversion stopped.
 #[derive(Clone, Copy, Debug, PartialEq, Eq, Error)]
+#[error("{}", self.text())]
 pub enum Cause {
     /// A record of the table that is packed is refused. Records are counted from 1, which is the
     /// header.
@@ -24,21 +28,35 @@ pub enum Cause {
     #[error("byte {offset}: {reason}")]
     Blob { offset: u64, reason: BlobReason },
     /// A read failed.
-    #[error("read failed")]
     ReadDevice,
     /// A write or a flush failed, or a write took nothing.
-    #[error("write failed")]
     WriteDevice,
     /// No memory was found.
-    #[error("out of memory")]
     Memory,
     /// More than 2^62 bytes would be written or, of a stream, read; or a table's reader gave 2^64 - 1
     /// bytes and no end.
-    #[error("input or output too long")]
     TooLong,
     /// The table that is packed has a record of number 2^32.
-    #[error("too many records")]
     TooManyRecords,
+}
+
+impl Cause {
+    /// The cause in a few words, without its place. Takes no memory.
+    #[tactic(auto, using(crate::proofs::ShortTexts::short_cause))]
+    pub fn text(self) -> &'static str
+        ensures words { result.now ≡ cause_words self }
+        ensures short { length (cause_words self) ≤ 31 }
+    {
+        match self {
+            Cause::Row { reason, .. } => reason.text(),
+            Cause::Blob { reason, .. } => reason.text(),
+            Cause::ReadDevice => "read failed",
+            Cause::WriteDevice => "write failed",
+            Cause::Memory => "out of memory",
+            Cause::TooLong => "input or output too long",
+            Cause::TooManyRecords => "too many records",
+        }
+    }
 }
 
 /// Where a conversion stopped, and why.

@@ -1,14 +1,13 @@
 //! The lines of TWKB headers.
-ghost use Rattle.std.specs.Prelude.{◌≡◌, ◌<◌, ◌≤◌, ◌+◌, [], ◌∷◌, ◌++◌, IfSome, IfNone, OnOk, decimal, length, take, true};
+ghost use Rattle.std.specs.Prelude.{◌≡◌, ◌<◌, ◌≤◌, ◌+◌, [], ◌∷◌, ◌++◌, IfSome, IfNone, OnOk, decimal, length, true};
 ghost use Rattle.std.specs.Fmt.{digit_glyph, signed_decimal};
-ghost use Rattle.twkb_tree.specs.Kind.{word_of};
 ghost use Rattle.twkb_convert.specs.SpanLines.{hex_of, span_line, span_lines};
 
 use itoa::{Buffer, Integer};
 use std::alloc::AllocError;
 use twkb_blob::Span;
 use twkb_num::Piece;
-use twkb_tree::Kind;
+use twkb_table::push_kind;
 
 // The greatest number of one digit.
 const GREATEST_DIGIT: u64 = 9;
@@ -27,11 +26,10 @@ pub(crate) fn put_lines(spans: &[Span], text: &mut Vec<u8>) -> Result<(), AllocE
 fn put_line(span: &Span, text: &mut Vec<u8>) -> Result<(), AllocError>
     ensures appended { OnOk result (text.new.items ≡ text.old.items ++ span_line span.now) }
 {
-    let mut line = Piece::new();
+    let mut line = Piece::<128>::new();
     push_count(u64::from(span.level), b' ', &mut line);
     push_number(span.offset, &mut line);
-    let (word, count) = kind_field(span.kind);
-    line.push_front(word, count);
+    push_kind(span.kind, b' ', &mut line);
     push_precision(span.precision, &mut line);
     push_byte(span.metadata, &mut line);
     push_count(span.length, b' ', &mut line);
@@ -41,7 +39,7 @@ fn put_line(span: &Span, text: &mut Vec<u8>) -> Result<(), AllocError>
 
 // Appends a precision in decimals, and a space. Few are negative.
 #[inline(always)]
-fn push_precision(precision: i8, line: &mut Piece)
+fn push_precision(precision: i8, line: &mut Piece<128>)
     requires room { length line.old + 21 ≤ 128 }
     ensures appended { line.new ≡ line.old ++ (signed_decimal precision ++ 32 ∷ []) }
     ensures most { length line.new ≤ length line.old + 21 }
@@ -56,7 +54,7 @@ fn push_precision(precision: i8, line: &mut Piece)
 
 // Appends a count in decimals, and a byte behind it. Most counts have a digit or two.
 #[inline(always)]
-fn push_count(count: u64, behind: u8, line: &mut Piece)
+fn push_count(count: u64, behind: u8, line: &mut Piece<128>)
     requires room { length line.old + 21 ≤ 128 }
     ensures appended { line.new ≡ line.old ++ (decimal count ++ behind ∷ []) }
     ensures most { length line.new ≤ length line.old + 21 }
@@ -70,7 +68,7 @@ fn push_count(count: u64, behind: u8, line: &mut Piece)
 
 // Appends a count of two digits or more in decimals.
 #[inline(always)]
-fn push_digits(count: u64, line: &mut Piece)
+fn push_digits(count: u64, line: &mut Piece<128>)
     requires some { 10 ≤ count }
     requires room { length line.old + 20 ≤ 128 }
     ensures appended { line.new ≡ line.old ++ decimal count }
@@ -100,7 +98,7 @@ fn one_digit(number: u64) -> Option<u8>
 
 // Appends a number in decimals. A caller's frame is spared the buffer.
 #[inline(never)]
-fn push_number<I: Integer>(number: I, line: &mut Piece)
+fn push_number<I: Integer>(number: I, line: &mut Piece<128>)
     requires room { length line.old + I.MAX_STR_LEN ≤ 128 }
     ensures appended { line.new ≡ line.old ++ I.text number }
     ensures most { length line.new ≤ length line.old + I.MAX_STR_LEN }
@@ -109,27 +107,9 @@ fn push_number<I: Integer>(number: I, line: &mut Piece)
     line.push_all(buffer.format(number).as_bytes());
 }
 
-// The word of a kind between two spaces, and how many bytes these are: what is behind them is not counted.
-#[inline(always)]
-fn kind_field(kind: Kind) -> (&'static [u8; 17], usize)
-    ensures few { result.1 ≤ 17 }
-    ensures word { take result.1 result.0.now ≡ 32 ∷ (word_of kind ++ 32 ∷ []) }
-{
-    match kind {
-        Kind::Point => (b" point           ", 7),
-        Kind::Linestring => (b" linestring      ", 12),
-        Kind::Polygon => (b" polygon         ", 9),
-        Kind::Ring => (b" ring            ", 6),
-        Kind::MultiPoint => (b" multipoint      ", 12),
-        Kind::MultiLinestring => (b" multilinestring ", 17),
-        Kind::MultiPolygon => (b" multipolygon    ", 14),
-        Kind::Collection => (b" collection      ", 12),
-    }
-}
-
 // Appends a byte as two upper-case hexadecimal digits, and a space.
 #[inline(always)]
-fn push_byte(byte: u8, line: &mut Piece)
+fn push_byte(byte: u8, line: &mut Piece<128>)
     requires room { length line.old + 3 ≤ 128 }
     ensures appended { line.new ≡ line.old ++ (hex_of byte ++ 32 ∷ []) }
     ensures most { length line.new ≤ length line.old + 3 }

@@ -12,3 +12,4 @@ pub mod Feeds
 pub mod Many
 pub mod RootPoints
 pub mod Points
+pub mod ShortTexts

@@ -20,9 +20,9 @@ use Rattle.twkb_outline.proofs.NotedPairs.{noted_point}
 use Rattle.twkb_outline.proofs.Outlined.{outlined_bytes, outlined_ends}
 use Rattle.twkb_outline.proofs.Judging.{landed_judged}
 use Rattle.twkb_front.specs.Front.{PointInFront}
-use Rattle.twkb_body.specs.declared.head.Head.{Head}
 use Rattle.twkb_body.specs.Head.{head_of, form_of, IsHeadAt}
 use Rattle.twkb_body.specs.Ids.{ids_of}
+use Rattle.twkb_body.proofs.PointRuns.{same_change}
 use Rattle.twkb_engine.specs.Collections.{groups_of}
 use Rattle.twkb_engine.specs.Fits.{lists_of, left_fit, lists_fit, item_fits, is_bodied, has_members, IsInside}
 use Rattle.twkb_engine.specs.State.{IsPlaced, sums_of, outline_in, allowance_of, step_at, ids_in}
@@ -86,10 +86,6 @@ answered_as holds rest rs more d e old new used answer other is fed = subst (λ 
 -- the header is that of the geometry in the open collections
 placed_at_x : (rs : List Row) (bs : List ℕ) (d : Engine) → d.next ≡ next.X → StandsAt bs rs d → IsHeadAt (length (groups_of d.collections)) (id_in (groups_of d.collections)) d.head
 placed_at_x rs bs d is s = subst (λ i. IsPlaced i d) is s.placed
-
--- what a point changes, by where its header stands
-same_change : (to : Point) (gs : List Group) (h : Head) (f : Form) (member : Option ℤ) → IsHeadAt (length gs) (id_in gs) h → point_change to (length gs) (id_in gs) h.precision f member ≡ point_change to h.depth h.id h.precision f member
-same_change to gs h f member at = ap (λ d. point_change to d (id_in gs) h.precision f member) (sym at.depth_is) ∙ ap (λ i. point_change to h.depth i h.precision f member) (sym at.id_is)
 
 module _ (rs : List Row) (d : Engine) (is : d.next ≡ next.X) (last : d.points_left ≡ 0) where
   -- where a point is wanted that is the last of its list, or in none

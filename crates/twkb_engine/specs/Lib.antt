@@ -6,3 +6,4 @@ pub mod Ends
 pub mod Taking
 pub mod Notes
 pub mod Standing
+pub mod Texts

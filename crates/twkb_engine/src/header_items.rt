@@ -23,7 +23,7 @@ use crate::stop::Stop;
 use std::alloc::AllocError;
 use twkb_flat::Flat;
 use twkb_front::{front_header, origin};
-use twkb_header::{Metadata, TypeByte};
+use twkb_grammar::{Metadata, TypeByte};
 use twkb_tree::Kind;
 
 // Numbers of a box after the first.

@@ -22,7 +22,7 @@ use crate::stop::Stop;
 use std::alloc::AllocError;
 use twkb_body::{own_row, push_row};
 use twkb_flat::Flat;
-use twkb_header::Metadata;
+use twkb_grammar::Metadata;
 use twkb_num::unzigzag;
 use twkb_tree::Kind;
 

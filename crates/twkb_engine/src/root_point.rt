@@ -9,8 +9,7 @@ use crate::span_notes::SpanNotes;
 use std::alloc::AllocError;
 use twkb_flat::Flat;
 use twkb_front::{SIZED, Whole, whole_point};
-use twkb_grammar::Span;
-use twkb_header::TypeByte;
+use twkb_grammar::{Span, TypeByte};
 use twkb_tree::Kind;
 
 // A point at the start of the bytes with its header, if it has the size that this declares, if any.

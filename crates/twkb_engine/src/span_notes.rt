@@ -3,8 +3,7 @@ ghost use Rattle.std.specs.Prelude.{◌≡◌, ◌<◌, ◌^◌, ◌∷◌, [], 
 ghost use Rattle.twkb_grammar.specs.Noting.{Notes, no_notes, note_header, note_metadata, note_end};
 
 use std::alloc::AllocError;
-use twkb_grammar::Span;
-use twkb_header::TypeByte;
+use twkb_grammar::{Span, TypeByte};
 
 /// What takes down the spans of the geometries that a reader reads.
 pub trait SpanNotes {

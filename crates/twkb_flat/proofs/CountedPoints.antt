@@ -23,7 +23,7 @@ pub record HasCounted (es after : List KeptNode) : Type 0 where
   pub links : links_in after ≡ links_in es
 
 -- the rows have the points
-rows_have : (rows : List TableRow) (es : List KeptNode) (ps : List Point) → StandFor rows es ps → length (row_points rows) ≡ length ps
+pub rows_have : (rows : List TableRow) (es : List KeptNode) (ps : List Point) → StandFor rows es ps → length (row_points rows) ≡ length ps
 rows_have rows es ps s = ap (λ (rs : List TableRow). length (row_points rs)) (sym s.view) ∙ ap (λ (qs : List Point). length qs) (flat_points (map span_of es) ps s.flat.laid)
 
 -- the rows end in a line as before

@@ -77,7 +77,7 @@ laid_room at total (e ∷ f ∷ es) (first, rest) few = laid_room (at + e.span.p
 
 -- ---- what is kept
 
-some_spans : (ss : List PlacedRow) (ps : List Point) (rows : List TableRow) → listed ss ps ≡ rows → EndsInLine rows → 0 < length ss
+pub some_spans : (ss : List PlacedRow) (ps : List Point) (rows : List TableRow) → listed ss ps ≡ rows → EndsInLine rows → 0 < length ss
 some_spans [] ps rows view e = let t : [] ≡ e.front ++ e.last ∷ [] = view ∙ e.whole in absurd (omega (arith, ap (λ (rs : List TableRow). length rs) t, length-append e.front (e.last ∷ [])))
 some_spans (s ∷ ss) ps rows view e = omega arith
 

@@ -1,5 +1,6 @@
 pub mod AdmitLemmas
 pub mod ClosingLemmas
+pub mod CountedMore
 pub mod CountedPoints
 pub mod EntryLemmas
 pub mod FlatLaws

@@ -73,6 +73,22 @@ last_longer [] = []
 last_longer (s ∷ []) = longer s ∷ []
 last_longer (s ∷ t ∷ ss) = s ∷ last_longer (t ∷ ss)
 
+-- a span of so many points more
+abbrev pub longer_by : ℕ → PlacedRow → PlacedRow
+longer_by n s = record { row = s.row; first = s.first; points = s.points + n }
+
+-- the spans, the last of which has so many more
+abbrev pub last_longer_by : ℕ → List PlacedRow → List PlacedRow
+last_longer_by n [] = []
+last_longer_by n (s ∷ []) = longer_by n s ∷ []
+last_longer_by n (s ∷ t ∷ ss) = s ∷ last_longer_by n (t ∷ ss)
+
+-- so many more can be counted of the last entry
+abbrev pub LastHasRoomFor : ℕ → List KeptNode → Type 0
+LastHasRoomFor n [] = ⊤
+LastHasRoomFor n (e ∷ []) = e.span.points + n < 2 ^ 32
+LastHasRoomFor n (e ∷ f ∷ es) = LastHasRoomFor n (f ∷ es)
+
 -- the last entry has fewer points than can be counted
 abbrev pub LastHasRoom : List KeptNode → Type 0
 LastHasRoom [] = ⊤

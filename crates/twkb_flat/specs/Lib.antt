@@ -1,3 +1,4 @@
+pub mod Adding
 pub mod Admitting
 pub mod Entries
 pub mod Lasts

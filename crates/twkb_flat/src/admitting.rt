@@ -10,19 +10,16 @@ ghost use Rattle.twkb_flat.specs.Rows.{row_with};
 
 use crate::node::Row;
 use twkb_points::Pt;
-use twkb_tree::{Kind, Limits, OpenRow, Standing, row_rules};
-
-// The least precision.
-const LEAST_PRECISION: i8 = -8;
-
-// The greatest precision.
-const GREATEST_PRECISION: i8 = 7;
+use twkb_tree::{
+    GREATEST_PRECISION, Kind, LEAST_PRECISION, Limits, NODES_CAP, OpenRow, POINTS_CAP, Standing,
+    row_rules,
+};
 
 // The rows of the largest geometry.
-const MOST_NODES: u64 = 1 << 20;
+const MOST_NODES: u64 = NODES_CAP as u64;
 
 // The points of the largest geometry.
-pub(crate) const MOST_POINTS: u64 = 1 << 24;
+pub(crate) const MOST_POINTS: u64 = POINTS_CAP as u64;
 
 // Tells a proof that an id is in range. It changes nothing.
 pub(crate) fn look_at_id(id: Option<i64>)

@@ -2,7 +2,7 @@
 ghost use Rattle.std.specs.Prelude.{◌≡◌, ◌<◌, ◌≤◌, ◌+◌, ◌^◌, ◌↔◌, ◌++◌, ◌∷◌, [], IsTrue, ℕ, List, length, map, take, slice_set, slice_get, OnOk, OnErr, IfErr};
 ghost use Rattle.twkb_points.specs.Point.{Point};
 ghost use Rattle.twkb_tree.specs.Open.{ids_by};
-ghost use Rattle.twkb_flat.specs.Entries.{span_of, depths_in, links_in, listed, last_longer, LastHasRoom, IsPut, IsUnlinked};
+ghost use Rattle.twkb_flat.specs.Entries.{span_of, depths_in, links_in, listed, last_longer, LastHasRoom, LastHasRoomFor, last_longer_by, IsPut, IsUnlinked};
 ghost use Rattle.twkb_flat.specs.Links.{levels, OpenPlace, Linked, AreClosed, MayFollow};
 ghost use Rattle.twkb_flat.specs.Lasts.{IsLineKind, LastIsLine};
 
@@ -173,6 +173,19 @@ pub(crate) fn count_point(entries: &mut [KeptNode])
     let last = entries.len() - 1;
     let entry = &mut entries[last];
     entry.span.points += 1;
+}
+
+// Counts so many points more of the last node's.
+#[inline(always)]
+pub(crate) fn count_points(entries: &mut [KeptNode], more: u32)
+    requires some { 0 < length entries.old }
+    requires room { LastHasRoomFor more entries.old }
+    ensures spans { map span_of entries.new ≡ last_longer_by more (map span_of entries.old) }
+    ensures links { links_in entries.new ≡ links_in entries.old }
+{
+    let last = entries.len() - 1;
+    let entry = &mut entries[last];
+    entry.span.points += more;
 }
 
 // Whether the row is a linestring or a ring.

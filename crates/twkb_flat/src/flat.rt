@@ -8,15 +8,17 @@ ghost use Rattle.twkb_tree.specs.RowGrowth.{EndsInLine, point_added};
 ghost use Rattle.twkb_tree.specs.Accepted.{Continues};
 ghost use Rattle.twkb_tree.specs.RowLists.{AreValidRowsOfOne};
 ghost use Rattle.twkb_flat.specs.Members.{EndsInMember};
+ghost use Rattle.twkb_flat.specs.Adding.{points_added};
 ghost use Rattle.twkb_flat.specs.Rows.{IsNode, row_with};
 
 use crate::admitting::{MOST_POINTS, admits_at, is_next, leaves_room, look, look_at_id};
 use crate::entries::{
-    KeptNode, PlacedRow, count_point, ends_in_line, link, link_last, put_point, put_row,
+    KeptNode, PlacedRow, count_point, count_points, ends_in_line, link, link_last, put_point,
+    put_row,
 };
 use crate::node::{Node, NodeId, PointId, Row};
 use crate::point_source::{Copied, PointSource};
-use crate::room::make_room;
+use crate::room::{make_room, put_reserved};
 use crate::work::Work;
 use std::alloc::{AllocError, Global};
 use std::marker::Model;
@@ -229,11 +231,27 @@ impl Flat {
         // learnt: the points are in range
         let _learnt = first.x();
         let _learnt = second.x();
-        make_room(&mut self.points)?;
+        make_room(&mut self.points, 2)?;
         self.points.push_reserved(first);
         self.points.push_reserved(second);
         count_point(&mut self.entries);
         count_point(&mut self.entries);
+        Ok(())
+    }
+
+    /// Appends points to those of the last row, which is a linestring's or ring's, while there is room, after one test for memory.
+    /// Takes memory where there is no room for all; an `Err` changes nothing.
+    #[inline(always)]
+    pub fn add_points(&mut self, points: &[Pt]) -> Result<(), AllocError>
+        requires line { EndsInLine self.old }
+        requires room { length (row_points self.old) + length points.now ≤ 2 ^ 24 }
+        ensures added { OnOk result (self.new ≡ points_added points.now self.old) }
+        ensures same { OnErr result (self.new ≡ self.old) }
+    {
+        look(points);
+        make_room(&mut self.points, points.len())?;
+        put_reserved(&mut self.points, points);
+        count_points(&mut self.entries, points.len() as u32);
         Ok(())
     }
 

@@ -1,5 +1,5 @@
 //! Room for points.
-ghost use Rattle.std.specs.Prelude.{◌≡◌, ◌+◌, ◌≤◌, OnOk, vec_len, vec_capacity};
+ghost use Rattle.std.specs.Prelude.{◌≡◌, ◌+◌, ◌≤◌, ◌++◌, OnOk, length, vec_len, vec_capacity};
 
 use std::alloc::AllocError;
 use twkb_points::Pt;
@@ -7,24 +7,35 @@ use twkb_points::Pt;
 // For how many points there is room at least, once two did not fit: a short list then asks for memory once.
 const ROOM: usize = 16;
 
-// Makes room for two points more where there is less. Takes memory only where both do not fit.
+// Makes room for so many points more where there is less. Takes memory only where they do not fit.
 #[inline(always)]
-pub(crate) fn make_room(points: &mut Vec<Pt>) -> Result<(), AllocError>
+pub(crate) fn make_room(points: &mut Vec<Pt>, count: usize) -> Result<(), AllocError>
     ensures same { points.new.items ≡ points.old.items }
-    ensures room { OnOk result (vec_len points.new + 2 ≤ vec_capacity points.new) }
+    ensures room { OnOk result (vec_len points.new + count ≤ vec_capacity points.new) }
 {
-    if points.capacity() - points.len() >= 2 {
+    if points.capacity() - points.len() >= count {
         return Ok(());
     }
-    grow(points)
+    grow(points, count)
 }
 
-// Makes room for two points more: from few on for sixteen in all, and else for twice as many. Takes memory.
+// Makes room for so many points more: from few on for sixteen in all, and else for twice as many. Takes memory.
 #[inline(never)]
-fn grow(points: &mut Vec<Pt>) -> Result<(), AllocError>
+fn grow(points: &mut Vec<Pt>, count: usize) -> Result<(), AllocError>
     ensures same { points.new.items ≡ points.old.items }
-    ensures room { OnOk result (vec_len points.new + 2 ≤ vec_capacity points.new) }
+    ensures room { OnOk result (vec_len points.new + count ≤ vec_capacity points.new) }
 {
-    let more = ROOM.saturating_sub(points.len()).max(2);
+    let more = ROOM.saturating_sub(points.len()).max(count);
     points.reserve(more)
+}
+
+// Appends points for which there is room. Takes no memory.
+#[inline(always)]
+pub(crate) fn put_reserved(points: &mut Vec<Pt>, more: &[Pt])
+    requires { vec_len points.old + length more.now ≤ vec_capacity points.old }
+    ensures { points.new.items ≡ points.old.items ++ more.now }
+{
+    for point in more {
+        points.push_reserved(*point);
+    }
 }

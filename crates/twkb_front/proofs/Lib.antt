@@ -1,3 +1,4 @@
+pub mod EightInFront
 pub mod Ranges
 pub mod Steps
 pub mod InFront

@@ -1,5 +1,5 @@
 -- What stands in front of bytes.
-use Rattle.std.specs.Prelude.{◌≡◌, true, ◌+ℤ◌, ℕ, ◌+◌, ◌<◌, ◌≤◌, List, length, take, drop}
+use Rattle.std.specs.Prelude.{◌≡◌, true, ◌+ℤ◌, ℕ, ◌+◌, ◌<◌, ◌≤◌, List, [], ◌∷◌, length, take, drop}
 use Rattle.twkb_num.specs.Varint.{IsVarint}
 use Rattle.twkb_num.specs.Zigzag.{unzigzag_of}
 use Rattle.twkb_points.specs.Point.{Point, point_at}
@@ -25,6 +25,16 @@ pub record TwoInFront (from : Point) (bytes : List ℕ) (first second : Point) (
   pub all : count ≡ first_count + second_count
   pub leads : PointInFront from bytes first first_count
   pub goes_on : PointInFront first (drop first_count bytes) second second_count
+
+-- so many of the bytes are these points, each by its steps from the one before it
+abbrev pub PointsInFront : Point → List ℕ → List Point → ℕ → Type 0
+PointsInFront from bytes [] count = count ≡ 0
+PointsInFront from bytes (p ∷ ps) count = (first : ℕ) × (rest : ℕ) × (count ≡ first + rest) × PointInFront from bytes p first × PointsInFront p (drop first bytes) ps rest
+
+-- the last of these points, or where there are none the point before them
+abbrev pub last_of : Point → List Point → Point
+last_of from [] = from
+last_of from (p ∷ ps) = last_of p ps
 
 -- two numbers spell the steps from one point to another, both in range
 pub record StepsTo (from : Point) (x y : ℕ) (to : Point) : Type 0 where

@@ -3,7 +3,7 @@ ghost use Rattle.std.specs.Prelude.{IfSome};
 ghost use Rattle.twkb_front.specs.Header.{HeaderInFront};
 
 use crate::parts::{Parts, front_parts};
-use twkb_header::{Metadata, TypeByte};
+use twkb_grammar::{Metadata, TypeByte};
 
 // Bytes of a header without optional parts: a type byte and a metadata byte.
 const BARE: usize = 2;

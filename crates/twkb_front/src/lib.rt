@@ -13,5 +13,5 @@ pub use header::{FrontHeader, front_header};
 pub use motion::{moved_x, moved_y, origin};
 pub use numbers::front_number;
 pub use parts::Parts;
-pub use points::{front_point, front_two};
+pub use points::{Eight, front_eight, front_point, front_two};
 pub use whole::{SIZED, Whole, whole_point};

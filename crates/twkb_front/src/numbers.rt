@@ -2,10 +2,7 @@
 ghost use Rattle.std.specs.Prelude.{◌<◌, ◌^◌, IfSome};
 ghost use Rattle.twkb_front.specs.Front.{NumberInFront};
 
-use twkb_num::{Leb128, Partial, Step};
-
-// A byte with this bit set goes on (TWKB, varints).
-pub(crate) const GOES_ON: u8 = 0x80;
+use twkb_num::{GOES_ON, Leb128, Partial, Step};
 
 // What the seven bits of a second byte weigh, a third, a fourth and a fifth one.
 const SECOND: u64 = 1 << 7;

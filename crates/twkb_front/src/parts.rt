@@ -3,7 +3,7 @@ ghost use Rattle.std.specs.Prelude.{IfSome};
 ghost use Rattle.twkb_front.specs.Parts.{SizeInFront, BoxInFront, PartsInFront};
 
 use crate::numbers::front_number;
-use twkb_header::Metadata;
+use twkb_grammar::Metadata;
 
 // Sides of a box (TWKB, bounding box).
 const SIDES: usize = 4;

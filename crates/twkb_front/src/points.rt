@@ -1,12 +1,13 @@
 //! Points that are complete at the start of bytes, each by its two steps from the one before it.
-ghost use Rattle.std.specs.Prelude.{◌≡◌, ◌<◌, ◌^◌, IfSome};
+ghost use Rattle.std.specs.Prelude.{◌≡◌, ◌<◌, ◌≤◌, ◌/◌, ◌^◌, IfSome, length, drop};
+ghost use Rattle.twkb_num.specs.Block.{AreEnds};
 ghost use Rattle.twkb_num.specs.Zigzag.{zigzag_of};
 ghost use Rattle.twkb_points.specs.Point.{IsCoordinate};
-ghost use Rattle.twkb_front.specs.Front.{PointInFront, StepsTo, TwoInFront};
+ghost use Rattle.twkb_front.specs.Front.{PointInFront, PointsInFront, StepsTo, TwoInFront, last_of};
 
 use crate::motion::{moved_x, moved_y};
 use crate::numbers::{long_number, short_number};
-use twkb_num::{four_varints, unzigzag};
+use twkb_num::{BLOCK, four_varints, four_varints_by, unzigzag};
 use twkb_points::Pt;
 
 // The step that a number of five bytes or fewer spells.
@@ -79,4 +80,63 @@ pub fn front_two(from: Pt, bytes: &[u8]) -> Option<(Pt, Pt, usize)>
     let first = near_steps(from, four.first, four.second)?;
     let second = near_steps(first, four.third, four.fourth)?;
     Some((first, second, four.used))
+}
+
+/// The same by the ends of numbers that `varint_ends` found, moved to where these bytes begin; not found where the point before
+/// them is no inner one. After the two the ends moved by as many bits are those of the bytes after them.
+#[inline(always)]
+pub fn front_two_by(from: Pt, bytes: &[u8], ends: u64) -> Option<(Pt, Pt, usize)>
+    requires long { 16 ≤ length bytes.now }
+    requires ends { AreEnds 0 128 bytes.now ends }
+    ensures two { IfSome result (λ front. TwoInFront from bytes.now front.0 front.1 front.2) }
+    ensures few { IfSome result (λ front. front.2 ≤ 16) }
+    ensures rest { IfSome result (λ front. AreEnds 0 128 (drop front.2 bytes.now) (ends / 2 ^ front.2)) }
+{
+    if !from.is_inner() {
+        return None;
+    }
+    let four = four_varints_by(bytes, ends)?;
+    let one = from.step(four.first, four.second);
+    let two = one.step(four.third, four.fourth);
+    Some((one, two, four.used))
+}
+
+/// Eight points that stand in front of bytes.
+#[derive(Clone, Copy, Debug, PartialEq, Eq)]
+pub struct Eight {
+    pub points: [Pt; 8],
+    /// The last of them.
+    pub last: Pt,
+    /// How many bytes they have.
+    pub used: usize,
+    /// The ends of numbers behind these bytes.
+    pub ends: u64,
+}
+
+/// Eight points, each by its steps from the one before it, by the ends of numbers that `varint_ends` found, moved to where these
+/// bytes begin. `None` says nothing.
+#[inline(always)]
+pub fn front_eight(from: Pt, bytes: &[u8], ends: u64) -> Option<Eight>
+    requires { AreEnds 0 128 bytes.now ends }
+    ensures points { IfSome result (λ eight. PointsInFront from bytes.now eight.points eight.used) }
+    ensures count { IfSome result (λ eight. length eight.points ≡ 8) }
+    ensures last { IfSome result (λ eight. last_of from eight.points ≡ eight.last) }
+    ensures rest { IfSome result (λ eight. AreEnds 0 128 (drop eight.used bytes.now) eight.ends) }
+{
+    if bytes.len() < BLOCK {
+        return None;
+    }
+    let (a, b, two) = front_two_by(from, bytes, ends)?;
+    let (c, d, more) = front_two_by(b, &bytes[two..], ends >> (two as u32))?;
+    let four = two + more;
+    let (e, f, more) = front_two_by(d, &bytes[four..], ends >> (four as u32))?;
+    let six = four + more;
+    let behind = ends >> (six as u32);
+    let (g, h, more) = front_two_by(f, &bytes[six..], behind)?;
+    Some(Eight {
+        points: [a, b, c, d, e, f, g, h],
+        last: h,
+        used: six + more,
+        ends: behind >> (more as u32),
+    })
 }

@@ -3,9 +3,9 @@ ghost use Rattle.std.specs.Prelude.{◌≤◌, IfSome};
 ghost use Rattle.twkb_front.specs.Whole.{HeaderInFront, WholePoint};
 
 use crate::motion::origin;
-use crate::numbers::GOES_ON;
 use crate::points::front_point;
-use twkb_header::{Metadata, TypeByte};
+use twkb_grammar::{Metadata, TypeByte};
+use twkb_num::GOES_ON;
 use twkb_points::Pt;
 
 // Bytes of a header without optional parts: a type byte and a metadata byte.

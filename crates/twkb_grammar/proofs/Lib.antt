@@ -44,3 +44,4 @@ pub mod NotedEnds
 pub mod TakenItems
 pub mod Following
 pub mod SpanLaws
+mod LowestByte

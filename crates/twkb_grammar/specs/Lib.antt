@@ -10,3 +10,5 @@ pub mod PlainReader
 pub mod Reading
 pub mod Noting
 pub mod Samples
+pub mod TypeByte
+pub mod Metadata

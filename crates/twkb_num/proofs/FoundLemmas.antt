@@ -1,11 +1,12 @@
--- Four numbers that are found among sixteen units.
+-- Four numbers that are found among units.
 use Rattle.std.proofs.Common.{◌≡◌, ℕ, zero, suc, ◌+◌, ◌-◌, ◌*◌, ◌%◌, ◌<◌, ◌≤◌, ◌^◌, ◌⊎◌, Bool, true, false, inl, inr, List, [], ◌∷◌, ◌++◌, length, take, drop, map, get_or, refl, sym, ◌∙◌, ap, arith}
 use Rattle.std.specs.Prelude.{nat_lt}
 use Rattle.std.proofs.Math.Nat.{pow-suc, pow-le-pow_right, one-le-pow}
 use Rattle.std.proofs.lemmas.Bool.{cases_lt, lt-ltb, le-ltb}
 use Rattle.std.proofs.lemmas.List.{drop-map, take-map, drop-drop, get_or-drop, length-drop, length-map, map-append, take-take}
 use Rattle.std.proofs.lemmas.Nat.{mod_below, mul-le}
-use Rattle.twkb_num.specs.Four.{unit_over, number_in_front, run_of, AreUnits, FourInFront}
+use Rattle.twkb_num.specs.Four.{unit_over, number_in_front, run_of, FourInFront}
+use Rattle.twkb_num.specs.Block.{AreUnits}
 use Rattle.twkb_num.specs.Alphabet.{leb_unit}
 use Rattle.twkb_num.specs.Digits.{digits}
 use Rattle.twkb_num.specs.Spelling.{shortest, units_of}
@@ -48,15 +49,14 @@ number_small radix more us alphabet short =
 
 -- the units from `at` to the next that ends a number spell it
 pub spelled_at : (base radix at : ℕ) (bytes us : List ℕ) (ends more n : ℕ) → (radix ≡ 128) ⊎ (radix ≡ 32) → AreUnits base radix bytes us ends
-    → more ≡ run_of (drop at (marks_of radix us)) → at + more < 16 → n ≡ number_in_front radix more (drop at us)
+    → more ≡ run_of (drop at (marks_of radix us)) → at + more < length us → n ≡ number_in_front radix more (drop at us)
     → map (λ u. u + base) (take (suc more) (drop at us)) ≡ shortest (unit_over base radix) radix n
 spelled_at base radix at bytes us ends more n alphabet read more_is within n_is =
     let p : 2 ≤ radix = elim alphabet [ inl e ↦ omega arith | inr e ↦ omega arith ] in
-    let count = read.count in
     let rest = drop at us in
     let marks_are : drop at (marks_of radix us) ≡ marks_of radix rest = drop-map (λ u. nat_lt u radix) at us in
     let run : more ≡ run_of (marks_of radix rest) = more_is ∙ ap run_of marks_are in
-    let long : length rest ≡ 16 - at = length-drop at us ∙ ap (λ n. n - at) count in
+    let long : length rest ≡ length us - at = length-drop at us in
     let below : (k : ℕ) → get_or rest k 0 < 2 * radix = λ k. omega (arith, get_or-drop at us k 0, read.below (at + k)) in
     let last : 0 < run_of (marks_of radix rest) → 0 < get_or rest (run_of (marks_of radix rest)) 0 = λ some. last_at base radix at bytes us ends more read run within (omega arith) in
     let number : n ≡ number_in_front radix (run_of (marks_of radix rest)) rest =
@@ -64,7 +64,7 @@ spelled_at base radix at bytes us ends more n alphabet read more_is within n_is 
     rw (number, run) (number_spelled base radix rest p below (omega arith) last)
   where
     last_at : (base radix at : ℕ) (bytes us : List ℕ) (ends more : ℕ) → AreUnits base radix bytes us ends → more ≡ run_of (marks_of radix (drop at us))
-        → at + more < 16 → 0 < more → 0 < get_or (drop at us) (run_of (marks_of radix (drop at us))) 0
+        → at + more < length us → 0 < more → 0 < get_or (drop at us) (run_of (marks_of radix (drop at us))) 0
     last_at base radix at bytes us ends zero read run within some = absurd (omega arith)
     last_at base radix at bytes us ends (suc more) read run within some =
         elim (cases_lt 0 (get_or us (suc (at + more)) 0)) [
@@ -88,7 +88,7 @@ take_none (suc j) [] none = refl
 take_none (suc j) (u ∷ us) none = absurd (cc)
 
 -- a list up to a place, and from there on
-take_apart : (i j k : ℕ) (us : List ℕ) → k ≡ i + j → take k us ≡ take i us ++ take j (drop i us)
+pub take_apart : (i j k : ℕ) (us : List ℕ) → k ≡ i + j → take k us ≡ take i us ++ take j (drop i us)
 take_apart zero j k us is = ap (λ n. take n us) (let e : k ≡ j = omega arith in e)
 take_apart (suc i) j k [] is = take_none k [] refl ∙ sym (take_none j [] refl)
 take_apart (suc i) j zero (u ∷ us) is = absurd (omega arith)
@@ -132,16 +132,15 @@ four_found base radix bytes us ends i j k l second third fourth count a b c d al
     let fourth_at = are.fourth_at in
     let count_is = are.count_is in
     let marks_long = length-map us (λ u. nat_lt u radix) in
-    let sixteen = read.count in
     let fits = are.within in
-    let bytes_long = read.long in
+    let bytes_long = read.within in
     let one = spelled_at base radix 0 bytes us ends i a alphabet read are.first_run (omega arith) a_is in
     let two = spelled_at base radix second bytes us ends j b alphabet read are.second_run (omega arith) b_is in
     let three = spelled_at base radix third bytes us ends k c alphabet read are.third_run (omega arith) c_is in
     let four = spelled_at base radix fourth bytes us ends l d alphabet read are.fourth_run (omega arith) d_is in
     record {
       within = omega arith;
-      spelled = sym (take-take count 16 bytes (omega arith)) ∙ ap (take count) read.same ∙ take-map (λ u. u + base) count us
+      spelled = sym (take-take count (length us) bytes (omega arith)) ∙ ap (take count) read.same ∙ take-map (λ u. u + base) count us
           ∙ four_pieces (λ u. u + base) i j k l second third fourth count us _ _ _ _ second_at third_at fourth_at count_is one two three four;
       first_small = rw a_is (number_small radix i (drop 0 us) alphabet are.first_short);
       second_small = rw b_is (number_small radix j (drop second us) alphabet are.second_short);
@@ -162,13 +161,16 @@ leb_same : (d : ℕ) (more : Bool) → unit_over 0 128 d more ≡ leb_unit d mor
 leb_same d true = omega arith
 leb_same d false = omega arith
 
--- so four numbers that are found are four varints
+-- so the shortest spelling over 0 is the shortest varint
+pub leb_spelled : (n : ℕ) → shortest (unit_over 0 128) 128 n ≡ shortest leb_unit 128 n
+leb_spelled n = units_same (unit_over 0 128) leb_unit leb_same (digits 128 n)
+
+-- and four numbers that are found are four varints
 pub four_as_varints : (bytes : List ℕ) (a b c d count : ℕ) → FourInFront (unit_over 0 128) 128 bytes a b c d count → FourInFront leb_unit 128 bytes a b c d count
 four_as_varints bytes a b c d count found =
-    let same : (n : ℕ) → shortest (unit_over 0 128) 128 n ≡ shortest leb_unit 128 n = λ n. units_same (unit_over 0 128) leb_unit leb_same (digits 128 n) in
     record {
       within = found.within;
-      spelled = rw (sym (same a), sym (same b), sym (same c), sym (same d)) found.spelled;
+      spelled = rw (sym (leb_spelled a), sym (leb_spelled b), sym (leb_spelled c), sym (leb_spelled d)) found.spelled;
       first_small = found.first_small;
       second_small = found.second_small;
       third_small = found.third_small;

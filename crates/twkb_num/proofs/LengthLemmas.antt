@@ -1,8 +1,13 @@
 -- The length of the shortest varint, by the place of the number's highest bit.
-use Rattle.std.proofs.Common.{◌≡◌, ℕ, ◌+◌, ◌-◌, ◌*◌, ◌/◌, ◌<◌, ◌≤◌, ◌^◌, zero, suc, length, refl, ◌∙◌, ap, arith, lit<}
+use Rattle.std.proofs.Common.{◌≡◌, ℕ, ◌+◌, ◌-◌, ◌*◌, ◌/◌, ◌%◌, ◌<◌, ◌≤◌, ◌^◌, inl, inr, List, [], ◌∷◌, zero, suc, length, refl, ◌∙◌, ap, arith, lit<, Fits, w64}
+use lib.Dec.{leb}
+use lib.Lanes.{top, zip2, sum_l, fold_l}
+use mathlib.Core.Bool.{cond}
 use Rattle.std.proofs.Math.Nat.{pow-le-pow_right}
+use Rattle.std.proofs.lemmas.Bool.{cases_lt, le-leb, lt-leb}
 use Rattle.std.proofs.lemmas.Nat.{leading_top, pow-add}
 use Rattle.std.specs.Int.Count.{count_leading_zeros}
+use Rattle.twkb_num.specs.Lens.{four_lens, more_bytes}
 use Rattle.twkb_num.specs.Varint.{varint_of}
 use Rattle.twkb_num.proofs.VarintLemmas.{one_byte, one_byte_more}
 
@@ -33,3 +38,113 @@ length_by_zeros n fits =
     let place : 63 - count_leading_zeros 64 (n / 2 * 2 + 1) ≡ j = omega (arith, top.1) in
     let bytes : length (varint_of n) ≡ j / 7 + 1 = length_by_top (j / 7) j n refl top.2 (omega (arith, top.3)) in
     omega (arith, place, bytes)
+
+-- ---- by comparisons
+
+-- what a comparison with a bound adds
+abbrev pub one_from : ℕ → ℕ → ℕ
+one_from bound n = cond (top 31 (cond (leb bound n) 4294967295 0)) 1 0
+
+-- as code adds them
+abbrev pub added : ℕ → ℕ
+added n = ((one_from 128 n + one_from 16384 n) % 4294967296 + one_from 2097152 n) % 4294967296
+
+-- a number below 2 ^ 28 has so many bytes after its first
+length_by_bounds : (n : ℕ) → n < 2 ^ 28 → length (varint_of n) ≡ added n + 1
+length_by_bounds n small =
+    elim (cases_lt n 128) [
+      | inl one ↦ rw (lt-leb 128 n one, lt-leb 16384 n (omega arith), lt-leb 2097152 n (omega arith)) (one_byte n one)
+      | inr two ↦ elim (cases_lt n 16384) [
+        | inl below ↦
+            rw (le-leb 128 n two, lt-leb 16384 n below, lt-leb 2097152 n (omega arith))
+            (omega (arith, one_byte_more n two, one_byte (n / 128) (omega arith)))
+        | inr three ↦ elim (cases_lt n 2097152) [
+          | inl below ↦
+              rw (le-leb 128 n two, le-leb 16384 n three, lt-leb 2097152 n below)
+              (omega (arith, one_byte_more n two, one_byte_more (n / 128) (omega arith), one_byte (n / 128 / 128) (omega arith)))
+          | inr four ↦
+              rw (le-leb 128 n two, le-leb 16384 n three, le-leb 2097152 n four)
+              (omega (arith, one_byte_more n two, one_byte_more (n / 128) (omega arith), one_byte_more (n / 128 / 128) (omega arith), one_byte (n / 128 / 128 / 128) (omega arith)))
+        ]
+      ]
+    ]
+
+-- which is what code adds
+pub added_is : (n : ℕ) → n < 2 ^ 28 → added n ≡ more_bytes n
+added_is n small = omega (arith, length_by_bounds n small)
+
+-- one to four bytes
+short_length : (n : ℕ) → n < 2 ^ 28 → (1 ≤ length (varint_of n)) × (length (varint_of n) ≤ 4)
+short_length n small =
+    elim (cases_lt n 128) [
+      | inl one ↦ let e = one_byte n one in (omega arith, omega arith)
+      | inr two ↦ elim (cases_lt n 16384) [
+        | inl below ↦ let e = one_byte_more n two in let f = one_byte (n / 128) (omega arith) in (omega arith, omega arith)
+        | inr three ↦ elim (cases_lt n 2097152) [
+          | inl below ↦ let e = one_byte_more n two in let f = one_byte_more (n / 128) (omega arith) in let g = one_byte (n / 128 / 128) (omega arith) in (omega arith, omega arith)
+          | inr four ↦
+              let e = one_byte_more n two in let f = one_byte_more (n / 128) (omega arith) in let g = one_byte_more (n / 128 / 128) (omega arith) in
+              let h = one_byte (n / 128 / 128 / 128) (omega arith) in (omega arith, omega arith)
+        ]
+      ]
+    ]
+
+-- ---- lanes that are added up
+
+-- four lanes more
+lanes_more : (w x y z a b c d : ℕ) → w + (x + (y + (z + 0))) ≤ 2 ^ 31 → a ≤ 3 → b ≤ 3 → c ≤ 3 → d ≤ 3
+    → (w + a) % 4294967296 + ((x + b) % 4294967296 + ((y + c) % 4294967296 + ((z + d) % 4294967296 + 0))) ≡ w + (x + (y + (z + 0))) + (a + b + c + d)
+lanes_more w x y z a b c d room p q r s = omega arith
+
+-- the sum of lanes and others, with four lengths more
+whole : (s o t i j k l a b c d : ℕ) → t ≡ s + (a + b + c + d) → i ≡ a + 1 → j ≡ b + 1 → k ≡ c + 1 → l ≡ d + 1 → t + (o + 4) ≡ s + o + (i + j + (k + l))
+whole s o t i j k l a b c d e p q r u = omega arith
+
+-- a length is one and what is more
+one_more : (n : ℕ) → n < 2 ^ 28 → (length (varint_of n) ≡ more_bytes n + 1) × (more_bytes n ≤ 3)
+one_more n small = let short = short_length n small in (omega (arith, short.0), omega (arith, short.1))
+
+pub lens_added : (ls : List ℕ) (o a b c d : ℕ) → length ls ≡ 4 → sum_l ls + o ≤ 2 ^ 31 → a < 2 ^ 28 → b < 2 ^ 28 → c < 2 ^ 28 → d < 2 ^ 28
+    → sum_l (zip2 (λ x y. (x + y) % 4294967296) ls (more_bytes a ∷ more_bytes b ∷ more_bytes c ∷ more_bytes d ∷ [])) + (o + 4) ≡ sum_l ls + o + four_lens a b c d
+lens_added (w ∷ x ∷ y ∷ z ∷ []) o a b c d four room p q r s =
+    let i = one_more a p in
+    let j = one_more b q in
+    let k = one_more c r in
+    let l = one_more d s in
+    whole (w + (x + (y + (z + 0)))) o _ _ _ _ _ (more_bytes a) (more_bytes b) (more_bytes c) (more_bytes d)
+    (lanes_more w x y z (more_bytes a) (more_bytes b) (more_bytes c) (more_bytes d) (omega (arith, room)) i.1 j.1 k.1 l.1) i.0 j.0 k.0 l.0
+lens_added [] o a b c d four room p q r s = absurd (omega arith)
+lens_added (w ∷ []) o a b c d four room p q r s = absurd (omega arith)
+lens_added (w ∷ x ∷ []) o a b c d four room p q r s = absurd (omega arith)
+lens_added (w ∷ x ∷ y ∷ []) o a b c d four room p q r s = absurd (omega arith)
+lens_added (w ∷ x ∷ y ∷ z ∷ v ∷ ls) o a b c d four room p q r s = absurd (omega arith)
+
+-- four lengths of four at most
+four_fours : (i j k l : ℕ) → i ≤ 4 → j ≤ 4 → k ≤ 4 → l ≤ 4 → i + j + (k + l) ≤ 16
+four_fours i j k l p q r s = omega arith
+
+pub few_lens : (a b c d : ℕ) → a < 2 ^ 28 → b < 2 ^ 28 → c < 2 ^ 28 → d < 2 ^ 28 → four_lens a b c d ≤ 16
+few_lens a b c d p q r s = four_fours _ _ _ _ (short_length a p).1 (short_length b q).1 (short_length c r).1 (short_length d s).1
+
+-- so a sum grows by sixteen at most
+pub grown_few : (new old more : ℕ) → new ≡ old + more → more ≤ 16 → new ≤ old + 16
+grown_few new old more e few = omega arith
+
+-- lanes whose sum fits are added up without a carry
+pub lanes_total : (ls : List ℕ) (o : ℕ) → length ls ≡ 4 → sum_l ls + o ≤ 2 ^ 31 → fold_l (λ s x. (s + x) % 4294967296) 0 ls ≡ sum_l ls
+lanes_total (w ∷ x ∷ y ∷ z ∷ []) o four room = omega (arith, room)
+lanes_total [] o four room = absurd (omega arith)
+lanes_total (w ∷ []) o four room = absurd (omega arith)
+lanes_total (w ∷ x ∷ []) o four room = absurd (omega arith)
+lanes_total (w ∷ x ∷ y ∷ []) o four room = absurd (omega arith)
+lanes_total (w ∷ x ∷ y ∷ z ∷ v ∷ ls) o four room = absurd (omega arith)
+
+-- and with the others are the whole
+pub total_is : (ls : List ℕ) (sum o now : ℕ) → length ls ≡ 4 → sum ≡ fold_l (λ s x. (s + x) % 4294967296) 0 ls → sum_l ls + o ≡ now → now ≤ 2 ^ 31 → sum + o ≡ now
+total_is ls sum o now four sum_is whole room =
+    let lanes = lanes_total ls o four (omega (arith, whole, room)) in
+    ap (λ x. x + o) (sum_is ∙ lanes) ∙ whole
+
+-- which fits
+pub total_fits : (sum o now : ℕ) → sum + o ≡ now → now ≤ 2 ^ 31 → Fits w64 (sum + o)
+total_fits sum o now is room = record { fits = omega arith }

@@ -44,18 +44,10 @@ front_stored bytes held stored at room count within view few =
     ∙ ap (λ bs. take at bytes ++ bs) (take-append-le count stored (post_of at room bytes) few)
     ∙ ap (λ bs. bs ++ take count stored) view
 
--- eight bytes from a place on, after a word is stored there
-whole_chunk : (bytes stored : List ℕ) (at room word : ℕ) → room ≡ 8 → at + 8 ≤ length bytes → stored ≡ to_le_bytes w64 word → put_chunk 0 (mid_of at room bytes) stored ≡ to_le_bytes w64 word
-whole_chunk bytes stored at room word eight within same =
-    let whole : length stored ≡ 8 = ap length same in
-    put_chunk_whole (mid_of at room bytes) stored (omega (arith, whole, length-take room (drop at bytes), length-drop at bytes)) ∙ same
-
--- the lowest bytes of a word, of which all eight are stored
-pub low_stored : (bytes held stored : List ℕ) (at room count word : ℕ) → room ≡ 8 → at + 8 ≤ length bytes → take at bytes ≡ held → count ≤ 8 → stored ≡ to_le_bytes w64 word
-    → take (at + count) (put_mid at room bytes (put_chunk 0 (mid_of at room bytes) stored)) ≡ held ++ low_digits 256 count word
-low_stored bytes held stored at room count word eight within view few same =
-    let chunk = whole_chunk bytes stored at room word eight within same in
-    let whole : length (put_chunk 0 (mid_of at room bytes) stored) ≡ 8 = ap length chunk in
-    front_stored bytes held (put_chunk 0 (mid_of at room bytes) stored) at room count (omega (arith, within)) view (omega (arith, whole))
+-- some of eight bytes, of which all eight are stored
+pub eight_stored : (bytes held stored : List ℕ) (at room count : ℕ) → room ≡ 8 → at + 8 ≤ length bytes → take at bytes ≡ held → count ≤ 8 → length stored ≡ 8
+    → take (at + count) (put_mid at room bytes (put_chunk 0 (mid_of at room bytes) stored)) ≡ held ++ take count stored
+eight_stored bytes held stored at room count eight within view few long =
+    let chunk : put_chunk 0 (mid_of at room bytes) stored ≡ stored = put_chunk_whole (mid_of at room bytes) stored (omega (arith, length-take room (drop at bytes), length-drop at bytes)) in
+    front_stored bytes held (put_chunk 0 (mid_of at room bytes) stored) at room count (omega (arith, within)) view (omega (arith, ap length chunk))
     ∙ ap (λ bs. held ++ take count bs) chunk
-    ∙ ap (λ bs. held ++ bs) (take-le_bytes count word few)

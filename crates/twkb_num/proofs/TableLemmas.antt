@@ -1,16 +1,15 @@
--- The table of places: each word is held against its definition, by computing.
-use Rattle.std.proofs.Common.{◌≡◌, ℕ, zero, suc, ◌+◌, ◌*◌, ◌%◌, ◌<◌, ◌≤◌, ◌^◌, ◌==◌, Bool, true, false, ◌&&◌, List, [], ◌∷◌, ◌++◌, length, take, drop, get_or, refl, sym, ◌∙◌, ap, arith}
+-- The tables of places and of units: each word is held against its definition, by computing.
+use Rattle.std.proofs.Common.{◌≡◌, ℕ, zero, suc, ◌+◌, ◌*◌, ◌%◌, ◌<◌, ◌^◌, ◌==◌, Bool, true, false, ◌&&◌, List, [], ◌∷◌, ◌++◌, length, take, drop, get_or, replicate, length-append, refl, sym, ◌∙◌, ap, arith}
 use Rattle.std.specs.Prelude.{nat_lt, if◌then◌else◌}
 use Rattle.std.proofs.Math.Nat.{pow-suc}
 use Rattle.std.proofs.lemmas.Bool.{and_parts, eqb-true, ltb-true}
-use Rattle.std.proofs.lemmas.List.{drop-append-le, length-drop, length-take-le, take-append-drop}
+use Rattle.std.proofs.lemmas.List.{drop-append-le, length-drop, length-replicate, length-take-le, take-append-drop}
 use Rattle.std.proofs.lemmas.Simd.{mask_l-lt}
-use lib.Count.{count_trailing_zeros}
+use mathlib.Core.Bool.{cond}
 use lib.Lanes.{mask_l, number_l}
-use Rattle.twkb_num.specs.declared.places.TheConstants.{PLACES}
+use Rattle.twkb_num.specs.declared.places.TheConstants.{PLACES, USED}
 use Rattle.twkb_num.specs.Four.{places_in, run_of}
 use Rattle.twkb_num.specs.Places.{run_behind, AreTwo}
-use Rattle.twkb_num.proofs.MarkLemmas.{cleared, length-cleared, run_of-cleared, zeros_below}
 
 -- the first two marks that are set end numbers of four units at most
 abbrev is_two : List Bool → Bool
@@ -47,10 +46,23 @@ table_is = refl
 table_word : (marks : List Bool) → length marks ≡ 8 → get_or PLACES (mask_l marks) 0 ≡ word_for marks
 table_word marks long = eqb-true (get_or PLACES (mask_l marks) 0) (word_for marks) (passes_at 8 (λ ms. get_or PLACES (mask_l ms) 0 == word_for ms) marks table_is long)
 
+-- the units for eight marks
+abbrev units_for : List Bool → ℕ
+units_for marks = if is_two marks then suc (suc (run_of marks + run_behind marks)) else 0
+
+-- the other table has the units of each eight marks
+used_table_is : passes 8 (λ marks. get_or USED (mask_l marks) 0 == units_for marks) ≡ true
+unfolding passes
+used_table_is = refl
+
+-- at each index
+table_units : (marks : List Bool) → length marks ≡ 8 → get_or USED (mask_l marks) 0 ≡ units_for marks
+table_units marks long = eqb-true (get_or USED (mask_l marks) 0) (units_for marks) (passes_at 8 (λ ms. get_or USED (mask_l ms) 0 == units_for ms) marks used_table_is long)
+
 -- ---- eight marks in front of others
 
 -- their bits stand below the others
-mask_l-append : (xs ys : List Bool) → mask_l (xs ++ ys) ≡ mask_l xs + 2 ^ length xs * mask_l ys
+pub mask_l-append : (xs ys : List Bool) → mask_l (xs ++ ys) ≡ mask_l xs + 2 ^ length xs * mask_l ys
 mask_l-append [] ys = omega arith
 mask_l-append (x ∷ xs) ys =
     let rest = mask_l-append xs ys in
@@ -88,44 +100,65 @@ even_word marks word is even = by_test (is_two marks) (two_places marks) word is
     by_test true places word is even = (refl, is)
     by_test false places word is even = absurd (omega arith)
 
--- a mark that is set makes a number
-mask_above : (marks : List Bool) → run_of marks < length marks → 0 < mask_l marks
-mask_above [] within = absurd (omega arith)
-mask_above (true ∷ marks) within = omega arith
-mask_above (false ∷ marks) within = let rest = mask_above marks (omega arith) in omega arith
+-- ---- marks that others which are not set follow
 
--- so does the second without the first
-cleared_above : (marks : List Bool) → suc (run_of marks + run_behind marks) < length marks → 0 < mask_l (cleared marks)
-cleared_above [] within = absurd (omega arith)
-cleared_above (true ∷ marks) within = let rest = mask_above marks (omega arith) in omega arith
-cleared_above (false ∷ marks) within = let rest = cleared_above marks (omega arith) in omega arith
+-- these add nothing
+pub mask_l-padded : (marks : List Bool) (n : ℕ) → mask_l (marks ++ replicate n false) ≡ mask_l marks
+mask_l-padded [] zero = refl
+mask_l-padded [] (suc n) = let rest = mask_l-padded [] n in omega arith
+mask_l-padded (mark ∷ marks) n = ap (λ m. cond mark 1 0 + 2 * m) (mask_l-padded marks n)
 
--- What the table has for the marks in front.
-pub two_found : (marks : List Bool) (places : ℕ) → 8 ≤ length marks → length marks ≤ 16 → places ≡ get_or PLACES (mask_l marks % 256) 0 → places % 2 ≡ 0
-    → AreTwo marks places (count_trailing_zeros 64 (mask_l (cleared marks)) + 1)
-two_found marks places long short is even =
-    let front = take 8 marks in
-    let rest = drop 8 marks in
-    let eight : length front ≡ 8 = length-take-le 8 marks long in
-    let whole : front ++ rest ≡ marks = take-append-drop 8 marks in
-    let joined : mask_l marks ≡ mask_l front + 2 ^ length front * mask_l rest = ap mask_l (sym whole) ∙ mask_l-append front rest in
+-- so the first that is set is one of the others
+first_within : (marks : List Bool) (n : ℕ) → run_of (marks ++ replicate n false) < length marks + n → (run_of marks < length marks) × (run_of (marks ++ replicate n false) ≡ run_of marks)
+first_within [] n within = absurd (let none = unset n in omega arith)
+  where
+    unset : (n : ℕ) → run_of (replicate n false) ≡ n
+    unset zero = refl
+    unset (suc n) = ap suc (unset n)
+first_within (true ∷ marks) n within = (omega arith, refl)
+first_within (false ∷ marks) n within =
+    let rest = first_within marks n (omega arith) in
+    (omega (arith, rest.0), ap suc rest.1)
+
+-- and the second
+second_within : (marks : List Bool) (n : ℕ) → suc (run_of (marks ++ replicate n false) + run_behind (marks ++ replicate n false)) < length marks + n
+    → (run_of (marks ++ replicate n false) ≡ run_of marks) × (run_behind (marks ++ replicate n false) ≡ run_behind marks) × (suc (run_of marks + run_behind marks) < length marks)
+second_within marks n within =
+    let first = first_within marks n (omega arith) in
+    let at = suc (run_of marks) in
+    let apart : drop (suc (run_of (marks ++ replicate n false))) (marks ++ replicate n false) ≡ drop at marks ++ replicate n false =
+    ap (λ k. drop (suc k) (marks ++ replicate n false)) first.1 ∙ drop-append-le at marks (replicate n false) (omega (arith, first.0)) in
+    let behind : run_behind (marks ++ replicate n false) ≡ run_of (drop at marks ++ replicate n false) = ap run_of apart in
+    let long = length-drop at marks in
+    let second = first_within (drop at marks) n (omega (arith, first.0, first.1)) in
+    (first.1, behind ∙ second.1, omega (arith, first.0, second.0))
+
+-- What the tables have for the marks in front.
+pub two_found : (marks : List Bool) (places used : ℕ) → places ≡ get_or PLACES (mask_l marks % 256) 0 → used ≡ get_or USED (mask_l marks % 256) 0 → places % 2 ≡ 0 → AreTwo marks places used
+two_found marks places used is used_is even =
+    let all = marks ++ replicate 8 false in
+    let all_long : length all ≡ length marks + 8 = length-append marks (replicate 8 false) ∙ ap (λ n. length marks + n) (length-replicate 8 false) in
+    let front = take 8 all in
+    let rest = drop 8 all in
+    let eight : length front ≡ 8 = length-take-le 8 all (omega arith) in
+    let whole : front ++ rest ≡ all = take-append-drop 8 all in
+    let joined : mask_l marks ≡ mask_l front + 2 ^ length front * mask_l rest = sym (mask_l-padded marks 8) ∙ ap mask_l (sym whole) ∙ mask_l-append front rest in
     let power : 2 ^ length front ≡ 256 = ap (λ n. 2 ^ n) eight in
     let small = mask_l-lt front in
     let parts : mask_l marks ≡ mask_l front + 256 * mask_l rest = joined ∙ ap (λ n. mask_l front + n * mask_l rest) power in
     let index : mask_l marks % 256 ≡ mask_l front = omega arith in
     let two = even_word front places (is ∙ ap (λ i. get_or PLACES i 0) index ∙ table_word front eight) even in
+    let count : used ≡ units_for front = used_is ∙ ap (λ i. get_or USED i 0) index ∙ table_units front eight in
     let facts = is_two-true front two.0 in
-    let first : run_of marks ≡ run_of front = ap run_of (sym whole) ∙ run_of-append front rest (omega arith) in
-    let second : run_behind marks ≡ run_behind front = ap run_behind (sym whole) ∙ run_behind-append front rest facts.2 in
-    let within : suc (run_of marks + run_behind marks) < length marks = omega arith in
-    let some = cleared_above marks within in
-    let cleared_long = length-cleared marks in
-    let zeros = zeros_below (cleared marks) (omega arith) some in
-    let at_second = run_of-cleared marks some in
+    let first : run_of all ≡ run_of front = ap run_of (sym whole) ∙ run_of-append front rest (omega arith) in
+    let second : run_behind all ≡ run_behind front = ap run_behind (sym whole) ∙ run_behind-append front rest facts.2 in
+    let same = second_within marks 8 (omega arith) in
+    let units : units_for front ≡ suc (suc (run_of front + run_behind front)) = rw two.0 refl in
     record {
-      first_short = omega arith;
-      second_short = omega arith;
-      used_is = omega arith;
-      within = omega arith;
-      places_are = two.1 ∙ rw (second, first) refl;
+      first_short = omega (arith, same.0);
+      second_short = omega (arith, same.1);
+      used_is = omega (arith, same.0, same.1);
+      within = omega (arith, same.0, same.1, same.2);
+      places_are = two.1 ∙ ap (λ i. number_l 256 (places_in 0 i ++ places_in (suc i) (run_behind front))) (sym first ∙ same.0)
+          ∙ ap (λ j. number_l 256 (places_in 0 (run_of marks) ++ places_in (suc (run_of marks)) j)) (sym second ∙ same.1);
     }

@@ -1,15 +1,15 @@
 -- Two numbers in front, and two behind them.
-use Rattle.std.proofs.Common.{◌≡◌, ℕ, suc, ◌+◌, ◌*◌, ◌/◌, ◌<◌, ◌≤◌, ◌^◌, ◌⊎◌, Bool, List, [], ◌∷◌, ◌++◌, length, drop, map, get_or, refl, ◌∙◌, ap, arith}
+use Rattle.std.proofs.Common.{◌≡◌, ℕ, zero, suc, ◌+◌, ◌*◌, ◌/◌, ◌%◌, ◌<◌, ◌≤◌, ◌^◌, ◌⊎◌, Bool, List, [], ◌∷◌, ◌++◌, length, drop, map, get_or, refl, sym, ◌∙◌, ap, arith}
 use lib.Lanes.{mask_l, number_l, digits_l}
 use mir.Syntax.{w8}
 use Rattle.std.specs.Prelude.{nat_lt}
-use Rattle.std.proofs.lemmas.List.{drop-drop, length-drop, length-map}
+use Rattle.std.proofs.lemmas.List.{drop-drop, get_or-drop, length-drop, length-map}
 use Rattle.std.proofs.lemmas.Simd.{swz_l, SwzOk}
-use Rattle.twkb_num.specs.Four.{number_in_front, places_in, joined_groups, run_of, AreUnits}
+use Rattle.twkb_num.specs.Four.{number_in_front, places_in, joined_groups, run_of}
 use Rattle.twkb_num.specs.Places.{run_behind, AreTwo}
 use Rattle.twkb_num.proofs.FourLemmas.{marks_of}
 use Rattle.twkb_num.proofs.MarkLemmas.{mask_l-drop}
-use Rattle.twkb_num.proofs.PlaceLemmas.{sixteen_places, places_moved, places_of_two, places_below, places_ok, words_are, word_found, unit_fits, four_same}
+use Rattle.twkb_num.proofs.PlaceLemmas.{sixteen_places, places_moved, places_of_two, places_below, places_ok, words_are, word_found, four_same}
 
 -- two numbers in front, and two behind them
 pub record AreTwice (marks : List Bool) (places used later_places later_used : ℕ) : Type 0 where
@@ -17,22 +17,14 @@ pub record AreTwice (marks : List Bool) (places used later_places later_used : �
   pub high : AreTwo (drop used marks) later_places later_used
 
 -- as they are found by the bits of the units, and by those behind the first two
-pub twice_found : (base radix : ℕ) (bytes us : List ℕ) (ends places used later_places later_used : ℕ) → AreUnits base radix bytes us ends
-    → ((marks : List Bool) → 8 ≤ length marks → length marks ≤ 16 → ends ≡ mask_l marks → AreTwo marks places used)
-    → ((marks : List Bool) → 8 ≤ length marks → length marks ≤ 16 → ends / 2 ^ used ≡ mask_l marks → AreTwo marks later_places later_used)
+pub twice_found : (radix : ℕ) (us : List ℕ) (ends places used later_places later_used : ℕ) → ends ≡ mask_l (marks_of radix us)
+    → ((marks : List Bool) → ends ≡ mask_l marks → AreTwo marks places used)
+    → ((marks : List Bool) → ends / 2 ^ used ≡ mask_l marks → AreTwo marks later_places later_used)
     → AreTwice (marks_of radix us) places used later_places later_used
-twice_found base radix bytes us ends places used later_places later_used read first later =
-    let marks = marks_of radix us in
-    let sixteen : length marks ≡ 16 = length-map us (λ u. nat_lt u radix) ∙ read.count in
-    let two = first marks (omega arith) (omega arith) read.marks in
-    let first_short = two.first_short in
-    let second_short = two.second_short in
-    let used_is = two.used_is in
-    let rest_long = length-drop used marks in
-    record {
-      low = two;
-      high = later (drop used marks) (omega arith) (omega arith) (ap (λ n. n / 2 ^ used) read.marks ∙ mask_l-drop used marks);
-    }
+twice_found radix us ends places used later_places later_used is first later = record {
+  low = first (marks_of radix us) is;
+  high = later (drop used (marks_of radix us)) (ap (λ n. n / 2 ^ used) is ∙ mask_l-drop used (marks_of radix us));
+}
 
 -- four numbers by the marks of their last units: how many units each has behind its first, at most three, where all but the
 -- first begin, and how many units these are
@@ -120,23 +112,69 @@ four_places_ok marks places used moved later_places later_used same twice =
     0 (suc (run_of marks)) used (used + suc (run_of (drop used marks))) (run_of marks) (run_behind marks) (run_of (drop used marks)) (run_behind (drop used marks))
     (omega arith) (omega arith) (omega arith) (omega arith) (four_places marks places used moved later_places later_used same twice)
 
+-- ---- lanes that hold units
+
+-- the first units of a number tell it
+front_same : (radix more : ℕ) (us vs : List ℕ) → more < length us → more < length vs → ((k : ℕ) → k ≤ more → get_or us k 0 ≡ get_or vs k 0)
+    → number_in_front radix more us ≡ number_in_front radix more vs
+front_same radix more [] vs within fits same = absurd (omega arith)
+front_same radix more (u ∷ us) [] within fits same = absurd (omega arith)
+front_same radix zero (u ∷ us) (v ∷ vs) within fits same = ap (λ n. n % radix) (same 0 (omega arith))
+front_same radix (suc more) (u ∷ us) (v ∷ vs) within fits same =
+    let first : u ≡ v = same 0 (omega arith) in
+    let rest = front_same radix more us vs (omega arith) (omega arith) (λ k few. same (suc k) (omega arith)) in
+    rw (first, rest) refl
+
+-- sixteen lanes that are bytes, and units as far as there are some
+pub record AreLanes (lanes us : List ℕ) : Type 0 where
+  pub count : length lanes ≡ 16
+  pub fit : (k : ℕ) → get_or lanes k 0 < 256
+  pub same : (k : ℕ) → k < 16 → k < length us → get_or lanes k 0 ≡ get_or us k 0
+
+-- so they tell a number of these units
+lanes_tell : (radix at more : ℕ) (lanes us : List ℕ) → AreLanes lanes us → at + more ≤ 15 → at + more < length us → number_in_front radix more (drop at lanes) ≡ number_in_front radix more (drop at us)
+lanes_tell radix at more lanes us are within fits =
+    let count = are.count in
+    let lanes_long = length-drop at lanes in
+    let us_long = length-drop at us in
+    front_same radix more (drop at lanes) (drop at us) (omega arith) (omega arith)
+    (λ k few. get_or-drop at lanes k 0 ∙ are.same (at + k) (omega arith) (omega arith) ∙ sym (get_or-drop at us k 0))
+
 -- The groups that they bring are those of the four numbers.
-pub numbers_found : (base radix : ℕ) (bytes us : List ℕ) (ends places used moved later_places later_used : ℕ)
-    → (radix ≡ 128) ⊎ (radix ≡ 32) → AreUnits base radix bytes us ends → moved ≡ used → AreTwice (marks_of radix us) places used later_places later_used
-    → map (joined_groups radix) (digits_l 4294967296 4 (number_l 256 (swz_l w8 16 us 0 (digits_l 256 16 (both_places places moved later_places)))))
+pub numbers_found : (radix : ℕ) (lanes us : List ℕ) (places used moved later_places later_used : ℕ)
+    → (radix ≡ 128) ⊎ (radix ≡ 32) → AreLanes lanes us → moved ≡ used → AreTwice (marks_of radix us) places used later_places later_used
+    → map (joined_groups radix) (digits_l 4294967296 4 (number_l 256 (swz_l w8 16 lanes 0 (digits_l 256 16 (both_places places moved later_places)))))
     ≡ number_in_front radix (run_of (marks_of radix us)) (drop 0 us)
     ∷ number_in_front radix (run_behind (marks_of radix us)) (drop (suc (run_of (marks_of radix us))) us)
     ∷ number_in_front radix (run_of (drop used (marks_of radix us))) (drop used us)
     ∷ number_in_front radix (run_behind (drop used (marks_of radix us))) (drop (used + suc (run_of (drop used (marks_of radix us)))) us) ∷ []
-numbers_found base radix bytes us ends places used moved later_places later_used alphabet read same twice =
+numbers_found radix lanes us places used moved later_places later_used alphabet are same twice =
     let marks = marks_of radix us in
     let four = twice_two marks places used later_places later_used twice in
+    let low_used = twice.low.used_is in
     let second = suc (run_of marks) in
     let fourth = used + suc (run_of (drop used marks)) in
-    let fit : (n : ℕ) → get_or us n 0 < 256 = λ n. unit_fits radix (get_or us n 0) alphabet (read.below n) in
-    let number = λ (at more : ℕ) (inside : at + more ≤ 15) (short : more ≤ 3). word_found radix at more us alphabet read.count fit inside short in
-    ap (map (joined_groups radix)) (words_are us (both_places places moved later_places)
+    let marks_long : length marks ≡ length us = length-map us (λ u. nat_lt u radix) in
+    let within = four.within in
+    let count = four.count_is in
+    let number = λ (at more : ℕ) (inside : at + more ≤ 15) (fits : at + more < length us) (short : more ≤ 3).
+    word_found radix at more lanes alphabet are.count are.fit inside short ∙ lanes_tell radix at more lanes us are inside fits in
+    ap (map (joined_groups radix)) (words_are lanes (both_places places moved later_places)
     0 second used fourth (run_of marks) (run_behind marks) (run_of (drop used marks)) (run_behind (drop used marks))
-    fit (omega arith) (omega arith) (omega arith) (omega arith) (four_places marks places used moved later_places later_used same twice))
-    ∙ four_same _ _ _ _ _ _ _ _ (number 0 (run_of marks) (omega arith) four.first_short) (number second (run_behind marks) (omega arith) four.second_short)
-    (number used (run_of (drop used marks)) (omega arith) four.third_short) (number fourth (run_behind (drop used marks)) (omega arith) four.fourth_short)
+    are.fit (omega arith) (omega arith) (omega arith) (omega arith) (four_places marks places used moved later_places later_used same twice))
+    ∙ four_same _ _ _ _ _ _ _ _ (number 0 (run_of marks) (omega arith) (omega arith) four.first_short) (number second (run_behind marks) (omega arith) (omega arith) four.second_short)
+    (number used (run_of (drop used marks)) (omega arith) (omega arith) four.third_short) (number fourth (run_behind (drop used marks)) (omega arith) (omega arith) four.fourth_short)
+
+-- they have sixteen units at most
+pub few_used : (marks : List Bool) (places used later_places later_used : ℕ) → AreTwice marks places used later_places later_used → (used + later_used ≤ 16) × (used + later_used ≤ length marks)
+few_used marks places used later_places later_used twice =
+    let four = twice_two marks places used later_places later_used twice in
+    let low = twice.low in
+    let high = twice.high in
+    let a = low.first_short in
+    let b = low.second_short in
+    let c = high.first_short in
+    let d = high.second_short in
+    let e = low.used_is in
+    let f = high.used_is in
+    (omega arith, four.within)

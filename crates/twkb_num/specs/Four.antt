@@ -1,7 +1,6 @@
 -- Four numbers in front of units, each in its shortest spelling.
-use Rattle.std.specs.Prelude.{◌≡◌, ℕ, zero, suc, ◌+◌, ◌*◌, ◌/◌, ◌%◌, ◌<◌, ◌≤◌, ◌^◌, Bool, true, false, List, [], ◌∷◌, ◌++◌, length, take, map, get_or, nat_lt, nat_le, if◌then◌else◌}
+use Rattle.std.specs.Prelude.{◌≡◌, ℕ, zero, suc, ◌+◌, ◌*◌, ◌/◌, ◌%◌, ◌<◌, ◌≤◌, ◌^◌, Bool, true, false, List, [], ◌∷◌, ◌++◌, length, take, nat_le, if◌then◌else◌}
 use Rattle.std.specs.Int.{w32, cast_unsigned}
-use lib.Lanes.{mask_l}
 use Rattle.twkb_num.specs.Spelling.{shortest}
 use Rattle.twkb_num.specs.Zigzag.{unzigzag_of}
 
@@ -46,13 +45,3 @@ abbrev pub run_of : List Bool → ℕ
 run_of [] = 0
 run_of (true ∷ marks) = 0
 run_of (false ∷ marks) = suc (run_of marks)
-
--- the units are the first sixteen without the base, all of the alphabet, no last group of 0 stands behind others, and a bit
--- of `ends` is set for each last one
-pub record AreUnits (base radix : ℕ) (bytes units : List ℕ) (ends : ℕ) : Type 0 where
-  pub long : 16 ≤ length bytes
-  pub count : length units ≡ 16
-  pub same : take 16 bytes ≡ map (λ u. u + base) units
-  pub below : (k : ℕ) → get_or units k 0 < 2 * radix
-  pub shortest : (k : ℕ) → k < 15 → get_or units (suc k) 0 ≡ 0 → get_or units k 0 < radix
-  pub marks : ends ≡ mask_l (map (λ u. nat_lt u radix) units)

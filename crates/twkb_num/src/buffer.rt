@@ -3,29 +3,15 @@ ghost use Rattle.std.specs.Prelude.{◌≡◌, ◌^◌};
 ghost use Rattle.twkb_num.specs.Spelling.{shortest};
 
 use crate::groups::Groups;
-use std::marker::Model;
+use crate::piece::Piece;
 
 // The most units that a spelling has: 64 bits in groups of five.
 const ROOM: usize = 13;
 
-/// A spelling in an array of its own, 1 to 13 units. A contract sees the list of its units.
-#[derive(Drop)]
-pub struct NumBuf {
-    units: [u8; ROOM],
-    len: usize,
-}
+/// A spelling in a piece of its own, 1 to 13 units. A contract sees the list of its units.
+pub type NumBuf = Piece<13>;
 
-impl Model for NumBuf {
-    ghost use Rattle.std.specs.Prelude.{ℕ, ◌≤◌, List, take};
-
-    ghost Value = { List ℕ };
-
-    ghost view = { λ b. take b.len b.units };
-
-    ghost invariant = { λ b. b.len ≤ 13 };
-}
-
-impl NumBuf {
+impl Piece<13> {
     /// The shortest spelling of the number in an alphabet: as many groups as its bits need, and one for 0 (LEB128; Encoded
     /// Polyline Algorithm Format). Takes no memory.
     pub fn put<G: Groups>(number: u64) -> NumBuf
@@ -42,16 +28,9 @@ impl NumBuf {
             rest >>= bits;
         }
         units[len] = G::to_unit(rest as u8, false);
-        NumBuf {
-            units,
+        Piece {
+            bytes: units,
             len: len + 1,
         }
-    }
-
-    /// The units, first to last.
-    pub fn as_slice(&self) -> &[u8]
-        ensures { result.now ≡ self.now }
-    {
-        &self.units[..self.len]
     }
 }

@@ -1,10 +1,12 @@
 //! Four numbers that stand whole in front, read at once.
-ghost use Rattle.std.specs.Prelude.{IfSome, ◌≡◌, ◌+◌, ◌*◌, ◌<◌, ◌^◌, ◌⊎◌, map};
+ghost use Rattle.std.specs.Prelude.{IfSome, ◌≡◌, ◌+◌, ◌*◌, ◌<◌, ◌^◌, ◌⊎◌, ◌/◌, ◌≤◌, length, drop, map};
 ghost use lib.Lanes.{digits_l, number_l};
 ghost use Rattle.twkb_num.specs.Alphabet.{five_unit, leb_unit};
 ghost use Rattle.twkb_num.specs.Zigzag.{zigzag_of};
-ghost use Rattle.twkb_num.specs.Four.{FourInFront, unit_over, joined_groups, unzigzagged_bits, AreUnits};
+ghost use Rattle.twkb_num.specs.Four.{FourInFront, unit_over, joined_groups, unzigzagged_bits};
+ghost use Rattle.twkb_num.specs.Block.{AreEnds};
 
+use crate::block::few_ends;
 use crate::places::two_in_front;
 use std::simd::{u8x16, u16x8, u32x4, u64x2};
 
@@ -38,6 +40,32 @@ pub fn four_characters(text: &[u8]) -> Option<Four>
     four_in_front(text, 63, 32, 63)
 }
 
+/// The same as `four_varints`, by the ends that `varint_ends` found, moved to where these bytes begin. After the four the ends
+/// moved by as many bits are those of the bytes after them.
+#[inline(always)]
+pub fn four_varints_by(bytes: &[u8], ends: u64) -> Option<Four>
+    requires long { 16 ≤ length bytes.now }
+    requires ends { AreEnds 0 128 bytes.now ends }
+    ensures four { IfSome result (λ f. FourInFront leb_unit 128 bytes.now (zigzag_of f.first) (zigzag_of f.second) (zigzag_of f.third) (zigzag_of f.fourth) f.used) }
+    ensures few { IfSome result (λ f. f.used ≤ 16) }
+    ensures rest { IfSome result (λ f. AreEnds 0 128 (drop f.used bytes.now) (ends / 2 ^ f.used)) }
+{
+    four_by(bytes, ends, 0, 128)
+}
+
+/// The same as `four_characters`, by the ends that `character_ends` found, moved to where this text begins. After the four the
+/// ends moved by as many bits are those of the text after them.
+#[inline(always)]
+pub fn four_characters_by(text: &[u8], ends: u64) -> Option<Four>
+    requires long { 16 ≤ length text.now }
+    requires ends { AreEnds 63 32 text.now ends }
+    ensures four { IfSome result (λ f. FourInFront five_unit 32 text.now (zigzag_of f.first) (zigzag_of f.second) (zigzag_of f.third) (zigzag_of f.fourth) f.used) }
+    ensures few { IfSome result (λ f. f.used ≤ 16) }
+    ensures rest { IfSome result (λ f. AreEnds 63 32 (drop f.used text.now) (ends / 2 ^ f.used)) }
+{
+    four_by(text, ends, 63, 32)
+}
+
 // A number below 0x100, times this, stands in each of eight bytes.
 const EACH_PLACE: u64 = 0x0101_0101_0101_0101;
 
@@ -50,12 +78,29 @@ fn four_in_front(bytes: &[u8], base: u8, radix: u8, most: u8) -> Option<Four>
     requires in_bytes { most + base < 256 }
     ensures { IfSome result (λ f. FourInFront (unit_over base radix) radix bytes.now (zigzag_of f.first) (zigzag_of f.second) (zigzag_of f.third) (zigzag_of f.fourth) f.used) }
 {
-    let front = front_units(bytes, base, radix, most)?;
-    let low = two_in_front(front.ends)?;
-    let high = two_in_front(front.ends >> low.used)?;
+    if bytes.len() < 16 {
+        return None;
+    }
+    let ends = few_ends(bytes, base, radix, most);
+    four_by(bytes, ends, base, radix)
+}
+
+// The same, by the ends of the numbers.
+#[inline(always)]
+fn four_by(bytes: &[u8], ends: u64, base: u8, radix: u8) -> Option<Four>
+    requires alphabet { (radix ≡ 128) ⊎ (radix ≡ 32) }
+    requires long { 16 ≤ length bytes.now }
+    requires ends { AreEnds base radix bytes.now ends }
+    ensures four { IfSome result (λ f. FourInFront (unit_over base radix) radix bytes.now (zigzag_of f.first) (zigzag_of f.second) (zigzag_of f.third) (zigzag_of f.fourth) f.used) }
+    ensures few { IfSome result (λ f. f.used ≤ 16) }
+    ensures rest { IfSome result (λ f. AreEnds base radix (drop f.used bytes.now) (ends / 2 ^ f.used)) }
+{
+    let low = two_in_front(ends)?;
+    let high = two_in_front(ends >> low.used)?;
     let high_places = high.places + u64::from(low.used) * EACH_PLACE;
     let places = u64x2::from_array([low.places, high_places]).to_le_bytes();
-    let numbers = joined(front.units.swizzle_dyn(places), radix);
+    let units = u8x16::from_slice(bytes) - u8x16::splat(base);
+    let numbers = joined(units.swizzle_dyn(places), radix);
     let [first, second, third, fourth] = unzigzagged(numbers).to_array();
     Some(Four {
         first: i64::from(first.cast_signed()),
@@ -64,33 +109,6 @@ fn four_in_front(bytes: &[u8], base: u8, radix: u8, most: u8) -> Option<Four>
         fourth: i64::from(fourth.cast_signed()),
         used: (low.used + high.used) as usize,
     })
-}
-
-// Sixteen units above their alphabet's base, and a bit for each that ends a number.
-#[derive(Drop)]
-struct Front {
-    units: u8x16,
-    ends: u64,
-}
-
-// The first sixteen units, where each is one of the alphabet and none of these is a last group of 0 behind others.
-#[inline(always)]
-fn front_units(bytes: &[u8], base: u8, radix: u8, most: u8) -> Option<Front>
-    requires bound { most < 2 * radix }
-    requires in_bytes { most + base < 256 }
-    ensures { IfSome result (λ f. AreUnits base radix bytes.now f.units f.ends) }
-{
-    if bytes.len() < 16 {
-        return None;
-    }
-    let units = u8x16::from_slice(bytes) - u8x16::splat(base);
-    let ends = units.simd_lt(u8x16::splat(radix)).to_bitmask();
-    let zeros = units.simd_eq(u8x16::splat(0)).to_bitmask();
-    let bad = units.simd_gt(u8x16::splat(most)).to_bitmask();
-    if bad | (zeros & !(2 * ends + 1)) != 0 {
-        return None;
-    }
-    Some(Front { units, ends })
 }
 
 // The numbers whose groups the bytes hold, four bytes for each. The groups of two bytes are joined first, then the twos.

@@ -34,8 +34,8 @@ pub trait Groups {
     ghost laws: { AlphabetLaws BITS MAX_LEN unit_of group_of };
 }
 
-// A varint's byte has this bit set where more follow.
-const GOES_ON: u8 = 0x80;
+/// The bit that each byte of a varint has but its last (TWKB specification; LEB128).
+pub const GOES_ON: u8 = 0x80;
 
 /// The bytes of varints: seven bits each, 128 added where more follow (TWKB specification; LEB128).
 #[derive(Clone, Copy, Debug, PartialEq, Eq)]

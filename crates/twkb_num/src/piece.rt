@@ -1,37 +1,38 @@
 //! Bytes that are gathered on the stack, on their way to a text.
-ghost use Rattle.std.specs.Prelude.{◌≡◌, ◌↔◌, ◌≤◌, ◌<◌, ◌+◌, ◌++◌, [], ◌∷◌, IsTrue, length, take};
+ghost use Rattle.std.specs.Prelude.{◌≡◌, ◌↔◌, ◌≤◌, ◌<◌, ◌+◌, ◌^◌, ◌++◌, [], ◌∷◌, IsTrue, length, take};
+ghost use Rattle.twkb_num.specs.Alphabet.{five_unit};
 ghost use Rattle.twkb_num.specs.Digits.{low_digits};
+ghost use Rattle.twkb_num.specs.Spelling.{shortest};
+ghost use Rattle.twkb_num.specs.Varint.{varint_of};
 
+use crate::four_out::{as_characters, as_varints};
 use std::marker::Model;
 use std::simd::u8x8;
-
-// How many bytes a piece holds.
-const ROOM: usize = 128;
 
 // The bytes of a word.
 const WORD: usize = 8;
 
-/// Gathers up to 128 bytes on the stack, behind no test for memory. A contract sees the bytes that it holds.
+/// Gathers up to `ROOM` bytes on the stack, behind no test for memory. A contract sees the bytes that it holds.
 #[derive(Drop)]
-pub struct Piece {
-    bytes: [u8; ROOM],
-    len: usize,
+pub struct Piece<const ROOM: usize> {
+    pub(crate) bytes: [u8; ROOM],
+    pub(crate) len: usize,
 }
 
-impl Model for Piece {
+impl<const ROOM: usize> Model for Piece<ROOM> {
     ghost use Rattle.std.specs.Prelude.{ℕ, ◌≤◌, List, take};
 
     ghost Value = { List ℕ };
 
     ghost view = { λ p. take p.len p.bytes };
 
-    ghost invariant = { λ p. p.len ≤ 128 };
+    ghost invariant = { λ p. p.len ≤ ROOM };
 }
 
-impl Piece {
+impl<const ROOM: usize> Piece<ROOM> {
     /// A piece without bytes. Takes no memory.
     #[inline(always)]
-    pub fn new() -> Piece
+    pub fn new() -> Self
         ensures { result ≡ [] }
     {
         Piece {
@@ -59,8 +60,8 @@ impl Piece {
     /// Whether there is room for so many bytes more. Takes no memory.
     #[inline(always)]
     pub fn has_room(&self, count: usize) -> bool
-        requires { count ≤ 128 }
-        ensures { IsTrue result ↔ (length self.now + count ≤ 128) }
+        requires { count ≤ ROOM }
+        ensures { IsTrue result ↔ (length self.now + count ≤ ROOM) }
     {
         self.len <= ROOM - count
     }
@@ -68,7 +69,7 @@ impl Piece {
     /// Appends a byte. Takes no memory.
     #[inline(always)]
     pub fn push(&mut self, byte: u8)
-        requires { length self.old < 128 }
+        requires { length self.old < ROOM }
         ensures { self.new ≡ self.old ++ byte ∷ [] }
     {
         let at = self.len;
@@ -80,13 +81,57 @@ impl Piece {
     #[inline(always)]
     pub fn push_low(&mut self, word: u64, count: u32)
         requires few { count ≤ 8 }
-        requires room { length self.old + 8 ≤ 128 }
+        requires room { length self.old + 8 ≤ ROOM }
         ensures { self.new ≡ self.old ++ low_digits 256 count word }
     {
+        self.push_eight(u8x8::from_array(word.to_le_bytes()), count);
+    }
+
+    // Appends the first `count` of eight bytes: all of them by one store of a vector, since to copy a slice asks first whether
+    // both places overlap.
+    #[inline(always)]
+    fn push_eight(&mut self, bytes: u8x8, count: u32)
+        requires few { count ≤ 8 }
+        requires room { length self.old + 8 ≤ ROOM }
+        ensures { self.new ≡ self.old ++ take count bytes }
+    {
         let at = self.len;
-        // stored as a vector: to copy a slice asks first whether both places overlap
-        u8x8::from_array(word.to_le_bytes()).copy_to_slice(&mut self.bytes[at..at + WORD]);
+        let places = &mut self.bytes[..];
+        bytes.copy_to_slice(&mut places[at..at + WORD]);
         self.len = at + count as usize;
+    }
+
+    // Appends the shortest varints of four numbers, with no branch on how many bytes each has.
+    #[inline(always)]
+    pub(crate) fn push_varints(&mut self, first: u32, second: u32, third: u32, fourth: u32)
+        requires first_small { first < 2 ^ 28 }
+        requires second_small { second < 2 ^ 28 }
+        requires third_small { third < 2 ^ 28 }
+        requires fourth_small { fourth < 2 ^ 28 }
+        requires room { length self.old + 16 ≤ ROOM }
+        ensures appended { self.new ≡ self.old ++ ((varint_of first ++ varint_of second) ++ (varint_of third ++ varint_of fourth)) }
+        ensures most { length self.new ≤ length self.old + 16 }
+    {
+        let four = as_varints(first, second, third, fourth);
+        self.push_eight(four.units.extract::<0, 8>(), four.low);
+        self.push_eight(four.units.extract::<8, 8>(), four.high);
+    }
+
+    /// Appends the characters of four numbers of a polyline (Encoded Polyline Algorithm Format), with no branch on how many each
+    /// has. Takes no memory.
+    #[inline(always)]
+    pub fn push_four_characters(&mut self, first: u32, second: u32, third: u32, fourth: u32)
+        requires first_small { first < 2 ^ 20 }
+        requires second_small { second < 2 ^ 20 }
+        requires third_small { third < 2 ^ 20 }
+        requires fourth_small { fourth < 2 ^ 20 }
+        requires room { length self.old + 16 ≤ ROOM }
+        ensures appended { self.new ≡ self.old ++ ((shortest five_unit 32 first ++ shortest five_unit 32 second) ++ (shortest five_unit 32 third ++ shortest five_unit 32 fourth)) }
+        ensures most { length self.new ≤ length self.old + 16 }
+    {
+        let four = as_characters(first, second, third, fourth);
+        self.push_eight(four.units.extract::<0, 8>(), four.low);
+        self.push_eight(four.units.extract::<8, 8>(), four.high);
     }
 
     /// Appends the first `count` of these bytes: all of them by stores of a fixed size, and what is too much is not counted. Takes
@@ -94,22 +139,24 @@ impl Piece {
     #[inline(always)]
     pub fn push_front<const N: usize>(&mut self, bytes: &[u8; N], count: usize)
         requires few { count ≤ N }
-        requires room { length self.old + N ≤ 128 }
+        requires room { length self.old + N ≤ ROOM }
         ensures { self.new ≡ self.old ++ take count bytes.now }
     {
         let at = self.len;
-        self.bytes[at..at + N].copy_from_slice(bytes);
+        let places = &mut self.bytes[..];
+        places[at..at + N].copy_from_slice(bytes);
         self.len = at + count;
     }
 
     /// Appends these bytes. Takes no memory.
     #[inline(always)]
     pub fn push_all(&mut self, bytes: &[u8])
-        requires { length self.old + length bytes.now ≤ 128 }
+        requires { length self.old + length bytes.now ≤ ROOM }
         ensures { self.new ≡ self.old ++ bytes.now }
     {
         let at = self.len;
-        self.bytes[at..at + bytes.len()].copy_from_slice(bytes);
+        let places = &mut self.bytes[..];
+        places[at..at + bytes.len()].copy_from_slice(bytes);
         self.len = at + bytes.len();
     }
 }

@@ -1,5 +1,5 @@
 //! Where the units of two numbers stand, found by the units that end one.
-ghost use Rattle.std.specs.Prelude.{IfSome, ◌≡◌, ◌≤◌, length, List, Bool};
+ghost use Rattle.std.specs.Prelude.{IfSome, ◌≡◌, List, Bool};
 ghost use lib.Lanes.{mask_l};
 ghost use Rattle.twkb_num.specs.Places.{AreTwo};
 
@@ -13,16 +13,16 @@ pub(crate) struct Two {
 // The first two numbers, by a bit for each unit that ends one. `None` where there are no two, or one has more than four units.
 #[inline(always)]
 pub(crate) fn two_in_front(ends: u64) -> Option<Two>
-    ensures { IfSome result (λ two. (marks : List Bool) → 8 ≤ length marks → length marks ≤ 16 → ends ≡ mask_l marks → AreTwo marks two.places two.used) }
+    ensures { IfSome result (λ two. (marks : List Bool) → ends ≡ mask_l marks → AreTwo marks two.places two.used) }
 {
-    let places = PLACES[(ends % 256) as usize];
+    let eight = (ends % 256) as usize;
+    let places = PLACES[eight];
     if places % 2 != 0 {
         return None;
     }
-    let after = ends & ends.wrapping_sub(1);
     Some(Two {
         places,
-        used: after.trailing_zeros() + 1,
+        used: u32::from(USED[eight]),
     })
 }
 
@@ -94,4 +94,25 @@ static PLACES: [u64; 256] = [
     0x8383_0403_8002_0100, 0x8181_0201_8080_8000, 0x8282_8202_8080_0100, 0x8181_8101_8080_8000,
     0x8484_8404_0302_0100, 0x8103_0201_8080_8000, 0x8282_0302_8080_0100, 0x8181_8101_8080_8000,
     0x8383_8303_8002_0100, 0x8181_0201_8080_8000, 0x8282_8202_8080_0100, 0x8181_8101_8080_8000,
+];
+
+// By the same bits: how many units these two numbers have; 0 where two do not end there.
+#[rattlefmt::skip]
+static USED: [u8; 256] = [
+    0, 0, 0, 2, 0, 3, 3, 2, 0, 4, 4, 2, 4, 3, 3, 2,
+    0, 5, 5, 2, 5, 3, 3, 2, 5, 4, 4, 2, 4, 3, 3, 2,
+    0, 0, 6, 2, 6, 3, 3, 2, 6, 4, 4, 2, 4, 3, 3, 2,
+    0, 5, 5, 2, 5, 3, 3, 2, 5, 4, 4, 2, 4, 3, 3, 2,
+    0, 0, 0, 2, 7, 3, 3, 2, 7, 4, 4, 2, 4, 3, 3, 2,
+    0, 5, 5, 2, 5, 3, 3, 2, 5, 4, 4, 2, 4, 3, 3, 2,
+    0, 0, 6, 2, 6, 3, 3, 2, 6, 4, 4, 2, 4, 3, 3, 2,
+    0, 5, 5, 2, 5, 3, 3, 2, 5, 4, 4, 2, 4, 3, 3, 2,
+    0, 0, 0, 2, 0, 3, 3, 2, 8, 4, 4, 2, 4, 3, 3, 2,
+    0, 5, 5, 2, 5, 3, 3, 2, 5, 4, 4, 2, 4, 3, 3, 2,
+    0, 0, 6, 2, 6, 3, 3, 2, 6, 4, 4, 2, 4, 3, 3, 2,
+    0, 5, 5, 2, 5, 3, 3, 2, 5, 4, 4, 2, 4, 3, 3, 2,
+    0, 0, 0, 2, 7, 3, 3, 2, 7, 4, 4, 2, 4, 3, 3, 2,
+    0, 5, 5, 2, 5, 3, 3, 2, 5, 4, 4, 2, 4, 3, 3, 2,
+    0, 0, 6, 2, 6, 3, 3, 2, 6, 4, 4, 2, 4, 3, 3, 2,
+    0, 5, 5, 2, 5, 3, 3, 2, 5, 4, 4, 2, 4, 3, 3, 2,
 ];

@@ -27,6 +27,14 @@ IsCoordinate n = (negsuc (2 ^ 62 - 1) ≤ℤ n) × (n ≤ℤ pos (2 ^ 62 - 1))
 abbrev pub IsInRange : Point → Type 0
 IsInRange p = IsCoordinate p.x × IsCoordinate p.y
 
+-- from -2 ^ 61 to 2 ^ 61 - 1, so that few short steps do not lead out of the range of a coordinate
+abbrev pub IsInnerCoordinate : ℤ → Type 0
+IsInnerCoordinate n = (negsuc (2 ^ 61 - 1) ≤ℤ n) × (n ≤ℤ pos (2 ^ 61 - 1))
+
+-- both coordinates are
+abbrev pub IsInner : Point → Type 0
+IsInner p = IsInnerCoordinate p.x × IsInnerCoordinate p.y
+
 -- each point is in range
 abbrev pub AreInRange : List Point → Type 0
 AreInRange ps = AllByRecursion IsInRange ps

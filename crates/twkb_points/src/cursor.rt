@@ -34,6 +34,22 @@ impl Cursor {
         Cursor { at: Pt::at(0, 0) }
     }
 
+    /// Where the cursor stands. Takes no memory.
+    #[inline(always)]
+    pub fn place(&self) -> Pt
+        ensures { result ≡ self.now }
+    {
+        self.at
+    }
+
+    /// Moves the cursor to the point. Takes no memory.
+    #[inline(always)]
+    pub fn go(&mut self, to: Pt)
+        ensures { self.new ≡ to }
+    {
+        self.at = to;
+    }
+
     /// How far the point lies from where the cursor stands, x before y, in the points' unit: each from -(2^63 - 1) to
     /// 2^63 - 1. The cursor moves there. Takes no memory.
     pub fn delta(&mut self, to: Pt) -> (i64, i64)

@@ -1,6 +1,6 @@
 //! A point with coordinates in range.
 ghost use Rattle.std.specs.Prelude.{◌≡◌, ◌↔◌, ◌+ℤ◌, IsTrue, IsSome, IfSome};
-ghost use Rattle.twkb_points.specs.Point.{IsCoordinate, IsInRange, point_at, moved_by};
+ghost use Rattle.twkb_points.specs.Point.{IsCoordinate, IsInRange, IsInnerCoordinate, IsInner, point_at, moved_by};
 
 use std::marker::Model;
 
@@ -9,6 +9,12 @@ const LEAST: i64 = -(1 << 62);
 
 // The greatest coordinate, 2^62 - 1.
 const GREATEST: i64 = (1 << 62) - 1;
+
+// The least coordinate of an inner point, -2^61.
+const INNER_LEAST: i64 = -(1 << 61);
+
+// The greatest, 2^61 - 1.
+const INNER_GREATEST: i64 = (1 << 61) - 1;
 
 /// A point whose coordinates are from -2^62 to 2^62 - 1, so that the difference of any two fits 64 bits (a choice of
 /// this project). They are whole numbers, in a unit that the point does not know: TWKB and polylines keep the decimals
@@ -44,6 +50,14 @@ impl Pt {
         }
     }
 
+    /// Whether both coordinates are from -2^61 to 2^61 - 1. Takes no memory.
+    #[inline(always)]
+    pub fn is_inner(&self) -> bool
+        ensures { IsTrue result ↔ IsInner self.now }
+    {
+        is_inner_coordinate(self.x) && is_inner_coordinate(self.y)
+    }
+
     // The point at coordinates that are in range.
     pub(crate) fn at(x: i64, y: i64) -> Pt
         requires x_in_range { IsCoordinate x }
@@ -51,6 +65,16 @@ impl Pt {
         ensures { result ≡ point_at x y }
     {
         Pt { x, y }
+    }
+
+    /// The point that lies `dx` and `dy` from this one, where no coordinate leaves its range. Takes no memory.
+    #[inline(always)]
+    pub fn step(self, dx: i64, dy: i64) -> Pt
+        requires x_in_range { IsCoordinate (self.x +ℤ dx) }
+        requires y_in_range { IsCoordinate (self.y +ℤ dy) }
+        ensures { result ≡ moved_by self dx dy }
+    {
+        Pt::at(self.x + dx, self.y + dy)
     }
 
     // The point that lies `dx` and `dy` from this one, or `None` where a coordinate would leave its range.
@@ -79,6 +103,14 @@ impl Pt {
     {
         self.y
     }
+}
+
+// Whether the number is from -2^61 to 2^61 - 1.
+#[inline(always)]
+fn is_inner_coordinate(number: i64) -> bool
+    ensures { IsTrue result ↔ IsInnerCoordinate number }
+{
+    INNER_LEAST <= number && number <= INNER_GREATEST
 }
 
 // Whether the number is in the range of a coordinate.

@@ -3,12 +3,11 @@ pub mod DecodeLemmas
 pub mod EncodeLemmas
 pub mod FarLemmas
 pub mod GroupLemmas
-pub mod JoinLemmas
 pub mod LaneLemmas
-pub mod MarkLemmas
 pub mod NumberLemmas
 pub mod PairLemmas
 pub mod PointLemmas
+pub mod PointLists
 pub mod ScanLemmas
 pub mod StopLemmas
 pub mod OneFault
@@ -16,3 +15,4 @@ pub mod TextOrFault
 pub mod WholeLemmas
 pub mod WordLemmas
 pub mod OnePoint
+pub mod ShortTexts

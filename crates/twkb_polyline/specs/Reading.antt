@@ -1,10 +1,10 @@
 -- What stands at a place in a text, for the steps of a reader.
-use Rattle.std.specs.Prelude.{◌≡◌, ℕ, ℤ, ◌+◌, ◌<◌, ◌≤◌, ◌-ℤ◌, drop, length, List, ◌++◌}
+use Rattle.std.specs.Prelude.{◌≡◌, ℕ, ℤ, ◌+◌, ◌<◌, ◌≤◌, ◌-ℤ◌, drop, length, List, [], ◌∷◌, ◌++◌}
 use Rattle.std.specs.Int.Digits.{AllBelowBase}
 use Rattle.twkb_num.specs.Alphabet.{five_unit}
 use Rattle.twkb_num.specs.Digits.{number_of}
 use Rattle.twkb_num.specs.Spelling.{open_units}
-use Rattle.twkb_points.specs.Point.{Point}
+use Rattle.twkb_points.specs.Point.{Point, IsInRange}
 use Rattle.twkb_polyline.specs.Polyline.{number_text}
 use Rattle.twkb_polyline.specs.Fault.{StartsWithNumber}
 use Rattle.twkb_polyline.specs.declared.fault.PolyReason.{PolyReason}
@@ -39,6 +39,30 @@ pub record IsPairAt (text : List ℕ) (start : ℕ) (p q r : Point) (end : ℕ) 
   pub middle : ℕ
   pub first : IsPointAt text start p q middle
   pub second : IsPointAt text middle q r end
+
+-- These points stand from `start` on, each in range and the first after p, the last of them (or p) is q, and the text goes on at `end`.
+abbrev pub ArePointsAt : List ℕ → ℕ → Point → List Point → Point → ℕ → Type 0
+ArePointsAt text start p [] q end = (q ≡ p) × (end ≡ start)
+ArePointsAt text start p (r ∷ rs) q end = (middle : ℕ) × IsPointAt text start p r middle × IsInRange r × ArePointsAt text middle r rs q end
+
+-- Points that stand from `start` on, at most `room`, were put behind `old`.
+pub record HasPutOn (text : List ℕ) (start room : ℕ) (p : Point) (old new : List Point) (q : Point) (end : ℕ) : Type 0 where
+  pub ps : List Point
+  pub points : ArePointsAt text start p ps q end
+  pub few : length ps ≤ room
+  pub appended : new ≡ old ++ ps
+
+-- Points stand from `start` on, at most `room`, for the last of which memory was refused.
+pub record IsShortOfMemory (text : List ℕ) (start room : ℕ) (p : Point) : Type 0 where
+  pub ps : List Point
+  pub last : Point
+  pub middle : ℕ
+  pub points : ArePointsAt text start p ps last middle
+  pub few : length ps < room
+  pub next : Point
+  pub end : ℕ
+  pub point : IsPointAt text middle last next end
+  pub in_range : IsInRange next
 
 -- the fault of what stands from `start` on, with its offset in the text
 abbrev pub IsRefusedFrom : ℕ → (ℕ → PolyReason → Type 0) → PolyFault → Type 0

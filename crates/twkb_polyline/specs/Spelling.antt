@@ -1,5 +1,5 @@
 -- For the steps of a writer: points by pairs, and numbers' characters as the low bytes of a word, the first one lowest.
-use Rattle.std.specs.Prelude.{◌≡◌, ℕ, zero, suc, ◌+◌, ◌*◌, ◌-◌, ◌<◌, ◌≤◌, ◌^◌, List, [], ◌∷◌, ◌++◌}
+use Rattle.std.specs.Prelude.{ℕ, zero, suc, ◌+◌, ◌*◌, ◌-◌, ◌<◌, ◌≤◌, ◌^◌, List, [], ◌∷◌, ◌++◌}
 use Rattle.twkb_num.specs.Digits.{low_digits, number_of}
 use Rattle.twkb_points.specs.Point.{Point}
 
@@ -23,18 +23,3 @@ abbrev pub marks : ℕ → ℕ
 marks zero = 0
 marks (suc zero) = 0
 marks (suc (suc k)) = 32 + 256 * marks (suc k)
-
--- The groups of n stand in a lane of four bytes, each with its mark.
-pub record IsMarked (n lane : ℕ) : Type 0 where
-  pub count : ℕ
-  pub groups : HasGroups n count
-  pub few : count ≤ 4
-  pub marked : lane ≡ spread 4 n + marks count
-
--- The groups of two numbers stand in the lower and in the upper lane of a word.
-pub record AreMarked (first second word : ℕ) : Type 0 where
-  pub low : ℕ
-  pub high : ℕ
-  pub lanes : word ≡ low + 2 ^ 32 * high
-  pub lower : IsMarked first low
-  pub upper : IsMarked second high

@@ -1,15 +1,15 @@
 //! Text to points.
-ghost use Rattle.std.specs.Prelude.{◌≡◌, ℕ, ◌<◌, List, ◌++◌, length, drop, ◌⊎◌, ◌∷◌, [], IfOk, IfErr, IfSome, IfNone, OnOk, OnErr, MatchResult};
+ghost use Rattle.std.specs.Prelude.{◌≡◌, ℕ, ◌<◌, ◌≤◌, List, ◌++◌, length, drop, ◌⊎◌, ◌∷◌, [], IfOk, IfErr, IfSome, IfNone, OnOk, OnErr, MatchResult};
 ghost use Rattle.twkb_points.specs.Point.{Point, IsInRange};
 ghost use Rattle.twkb_polyline.specs.Polyline.{AppendsDecoded, DecodesTo};
 ghost use Rattle.twkb_polyline.specs.Fault.{IsNumberFault, IsPointFault, IsTextFault, IsRefused};
-ghost use Rattle.twkb_polyline.specs.Reading.{IsNumberAt, IsPointAt, IsRefusedFrom};
+ghost use Rattle.twkb_polyline.specs.Reading.{HasPutOn, IsNumberAt, IsPointAt, IsRefusedFrom, IsShortOfMemory};
 
 use crate::fault::{PolyFault, PolyReason};
-use crate::pairs::two_points;
+use crate::pairs::{eight_points, two_points};
 use crate::whole::whole_point;
-use std::alloc::Global;
-use twkb_num::{Five, Partial, Step, unzigzag};
+use std::alloc::{AllocError, Global};
+use twkb_num::{BLOCK, Five, Partial, Step, character_ends, unzigzag};
 use twkb_points::{Cursor, PointTail, Pt};
 
 /// The points whose polyline the text is, at most `max` of them (Encoded Polyline Algorithm
@@ -73,8 +73,14 @@ fn read_points<L: PointTail>(text: &[u8], max: u32, points: &mut L) -> Result<()
     let held = points.count();
     let mut cursor = Cursor::origin();
     let mut at = 0;
+    let mut next_look = 0;
     while at < text.len() {
         let read = points.count() - held;
+        if at >= next_look && text.len() - at >= BLOCK {
+            at = read_eights(text, at, max as usize - read, &mut cursor, points)?;
+            next_look = at + APART;
+            continue;
+        }
         if let Some(pair) = two_points(text, at, max as usize - read, &mut cursor) {
             points.put(pair.first)?;
             points.put(pair.second)?;
@@ -89,6 +95,49 @@ fn read_points<L: PointTail>(text: &[u8], max: u32, points: &mut L) -> Result<()
         at = end;
     }
     Ok(())
+}
+
+// How many points are taken at once, and how many numbers they have.
+const POINTS: usize = 8;
+
+const NUMBERS: u32 = 16;
+
+// How many characters behind the last look blocks are looked for again.
+const APART: usize = 32;
+
+// Appends points from `start` on, eight at a time, as far as their numbers are found in blocks, so many at most. Where the text goes
+// on. After an `Err` those before the refusal are there.
+#[inline(never)]
+fn read_eights<L: PointTail>(
+    text: &[u8],
+    start: usize,
+    room: usize,
+    cursor: &mut Cursor,
+    points: &mut L,
+) -> Result<usize, AllocError>
+    requires { start ≤ length text.now }
+    ensures read { IfOk result (λ end. HasPutOn text.now start room cursor.old (L.held points.old) (L.held points.new) cursor.new end) }
+    ensures refused { OnErr result (IsShortOfMemory text.now start room cursor.old) }
+    ensures grown { (more : List Point) × (L.held points.new ≡ L.held points.old ++ more) }
+{
+    let mut at = start;
+    let mut left = room;
+    let mut ends: u64 = 0;
+    while left >= POINTS {
+        let rest = &text[at..];
+        if ends.count_ones() < NUMBERS {
+            ends = character_ends(rest);
+        }
+        let Some(eight) = eight_points(cursor.place(), rest, ends) else {
+            break;
+        };
+        points.put_all(&eight.points)?;
+        cursor.go(eight.last);
+        left -= POINTS;
+        at += eight.used;
+        ends = eight.ends;
+    }
+    Ok(at)
 }
 
 // The point whose latitude begins at `start`, and where the text goes on.

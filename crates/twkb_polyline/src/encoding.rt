@@ -34,7 +34,7 @@ pub fn encode_into(points: &[Pt], text: &mut Vec<u8>) -> Result<(), AllocError>
 
 /// Appends the polyline of one point to a piece (Encoded Polyline Algorithm Format): at most 26 characters. Takes no memory.
 #[inline(always)]
-pub fn encode_point(point: Pt, piece: &mut Piece)
+pub fn encode_point(point: Pt, piece: &mut Piece<128>)
     requires room { length piece.old + 32 ≤ 128 }
     ensures appended { piece.new ≡ piece.old ++ polyline (point ∷ []) }
     ensures most { length piece.new ≤ length piece.old + 26 }
@@ -69,7 +69,7 @@ fn put_pairs(pairs: &[[Pt; 2]], cursor: &mut Cursor, text: &mut Vec<u8>) -> Resu
     ensures grown { (more : List ℕ) × (text.new.items ≡ text.old.items ++ more) }
 {
     let mut moved = *cursor;
-    let mut piece = Piece::new();
+    let mut piece = Piece::<128>::new();
     for pair in pairs {
         push_pair(&mut moved, pair, &mut piece, text)?;
     }
@@ -83,7 +83,7 @@ fn put_pairs(pairs: &[[Pt; 2]], cursor: &mut Cursor, text: &mut Vec<u8>) -> Resu
 fn push_pair(
     cursor: &mut Cursor,
     pair: &[Pt; 2],
-    piece: &mut Piece,
+    piece: &mut Piece<128>,
     text: &mut Vec<u8>,
 ) -> Result<(), AllocError>
     ensures appended { OnOk result (text.new.items ++ piece.new ≡ text.old.items ++ piece.old ++ polyline_from cursor.old pair.now) }
@@ -110,14 +110,14 @@ fn put_point(cursor: &mut Cursor, point: Pt, text: &mut Vec<u8>) -> Result<(), A
     ensures moved { cursor.new ≡ point }
     ensures same { OnErr result (text.new.items ≡ text.old.items) }
 {
-    let mut characters = Piece::new();
+    let mut characters = Piece::<128>::new();
     push_point(cursor, point, &mut characters);
     flush(&mut characters, text)
 }
 
 // Appends the characters of a point to what the piece holds.
 #[inline(always)]
-fn push_point(cursor: &mut Cursor, point: Pt, piece: &mut Piece)
+fn push_point(cursor: &mut Cursor, point: Pt, piece: &mut Piece<128>)
     requires room { length piece.old + 32 ≤ 128 }
     ensures appended { piece.new ≡ piece.old ++ polyline_from cursor.old (point ∷ []) }
     ensures most { length piece.new ≤ length piece.old + 26 }

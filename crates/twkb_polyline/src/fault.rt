@@ -1,36 +1,48 @@
 //! Why a text is no polyline, and where.
-ghost use Rattle.std.specs.Prelude.{◌≡◌};
+ghost use Rattle.std.specs.Prelude.{◌≡◌, ◌≤◌, length};
+ghost use Rattle.twkb_polyline.specs.Texts.{point_text_words};
 
 use std::alloc::AllocError;
 use thiserror::Error;
 
 /// Why a text is no polyline: what is met first from its front (reasons and order: profile).
 #[derive(Clone, Copy, Debug, PartialEq, Eq, Error)]
+#[error("{}", self.text())]
 pub enum PolyReason {
     /// A character with a code outside 63 to 126.
-    #[error("bad character")]
     BadChar,
     /// The text ends before the last character of a number.
-    #[error("number cut short")]
     Cut,
     /// A thirteenth character of a number that goes on, or whose group is 16 or more.
-    #[error("number too long")]
     TooLong,
     /// A number of more than one character whose last group is 0.
-    #[error("padded number")]
     Padded,
     /// The text ends after a latitude.
-    #[error("latitude without longitude")]
     Half,
     /// A coordinate outside -2^62 to 2^62 - 1.
-    #[error("coordinate out of range")]
     Range,
     /// Text is left after as many points as are allowed.
-    #[error("too many points")]
     TooMany,
 }
 
 impl PolyReason {
+    /// The reason in a few words. Takes no memory.
+    #[tactic(auto, using(crate::proofs::ShortTexts::short_point_text))]
+    pub fn text(self) -> &'static str
+        ensures words { result.now ≡ point_text_words self }
+        ensures short { length (point_text_words self) ≤ 31 }
+    {
+        match self {
+            PolyReason::BadChar => "bad character",
+            PolyReason::Cut => "number cut short",
+            PolyReason::TooLong => "number too long",
+            PolyReason::Padded => "padded number",
+            PolyReason::Half => "latitude without longitude",
+            PolyReason::Range => "coordinate out of range",
+            PolyReason::TooMany => "too many points",
+        }
+    }
+
     // The refusal for this reason at this offset.
     pub(crate) fn at(self, offset: usize) -> PolyFault
         ensures { result ≡ PolyFault.At offset self }

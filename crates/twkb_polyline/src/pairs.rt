@@ -1,9 +1,10 @@
 //! Two points whose numbers stand whole in a text, read at once.
-ghost use Rattle.std.specs.Prelude.{◌≡◌, ◌≤◌, IfSome, IfNone, length};
+ghost use Rattle.std.specs.Prelude.{◌≡◌, ◌≤◌, ◌/◌, ◌^◌, IfSome, IfNone, length, drop};
+ghost use Rattle.twkb_num.specs.Block.{AreEnds};
 ghost use Rattle.twkb_points.specs.Point.{IsInRange};
-ghost use Rattle.twkb_polyline.specs.Reading.{IsPairAt};
+ghost use Rattle.twkb_polyline.specs.Reading.{ArePointsAt, IsPairAt};
 
-use twkb_num::four_characters;
+use twkb_num::{BLOCK, four_characters, four_characters_by};
 use twkb_points::{Cursor, Pt};
 
 // Two points, one behind the other, and where the text goes on.
@@ -41,5 +42,64 @@ pub(crate) fn two_points(
         first,
         second,
         end: start + four.used,
+    })
+}
+
+// The points that four numbers in front lead to, by the ends that `character_ends` found, moved to where this text begins, and how
+// many characters they have; not found where the point before them is no inner one. Behind these characters the ends are moved by
+// as many bits.
+#[inline(always)]
+fn two_by(from: Pt, text: &[u8], ends: u64) -> Option<(Pt, Pt, usize)>
+    requires long { 16 ≤ length text.now }
+    requires ends { AreEnds 63 32 text.now ends }
+    ensures read { IfSome result (λ two. IsPairAt text.now 0 from two.0 two.1 two.2) }
+    ensures in_range { IfSome result (λ two. IsInRange two.0 × IsInRange two.1) }
+    ensures few { IfSome result (λ two. two.2 ≤ 16) }
+    ensures rest { IfSome result (λ two. AreEnds 63 32 (drop two.2 text.now) (ends / 2 ^ two.2)) }
+{
+    if !from.is_inner() {
+        return None;
+    }
+    let four = four_characters_by(text, ends)?;
+    let one = from.step(four.second, four.first);
+    let two = one.step(four.fourth, four.third);
+    Some((one, two, four.used))
+}
+
+// Eight points in front of a text, one behind the other.
+#[derive(Clone, Copy)]
+pub(crate) struct Eight {
+    pub(crate) points: [Pt; 8],
+    // The last of them.
+    pub(crate) last: Pt,
+    // How many characters they have.
+    pub(crate) used: usize,
+    // The ends of numbers behind these.
+    pub(crate) ends: u64,
+}
+
+// The points that sixteen numbers in front lead to. `None` says nothing.
+#[inline(always)]
+pub(crate) fn eight_points(from: Pt, text: &[u8], ends: u64) -> Option<Eight>
+    requires { AreEnds 63 32 text.now ends }
+    ensures points { IfSome result (λ eight. ArePointsAt text.now 0 from eight.points eight.last eight.used) }
+    ensures count { IfSome result (λ eight. length eight.points ≡ 8) }
+    ensures rest { IfSome result (λ eight. AreEnds 63 32 (drop eight.used text.now) eight.ends) }
+{
+    if text.len() < BLOCK {
+        return None;
+    }
+    let (a, b, two) = two_by(from, text, ends)?;
+    let (c, d, more) = two_by(b, &text[two..], ends >> (two as u32))?;
+    let four = two + more;
+    let (e, f, more) = two_by(d, &text[four..], ends >> (four as u32))?;
+    let six = four + more;
+    let behind = ends >> (six as u32);
+    let (g, h, more) = two_by(f, &text[six..], behind)?;
+    Some(Eight {
+        points: [a, b, c, d, e, f, g, h],
+        last: h,
+        used: six + more,
+        ends: behind >> (more as u32),
     })
 }

@@ -6,7 +6,7 @@ use twkb_num::Piece;
 
 // Appends what the piece holds to the text and empties it, or changes nothing where memory is refused.
 #[inline(always)]
-pub(crate) fn flush(piece: &mut Piece, text: &mut Vec<u8>) -> Result<(), AllocError>
+pub(crate) fn flush(piece: &mut Piece<128>, text: &mut Vec<u8>) -> Result<(), AllocError>
     ensures appended { OnOk result (text.new.items ≡ text.old.items ++ piece.old) }
     ensures emptied { OnOk result (piece.new ≡ []) }
     ensures same { OnErr result (text.new.items ≡ text.old.items) }
@@ -20,7 +20,7 @@ pub(crate) fn flush(piece: &mut Piece, text: &mut Vec<u8>) -> Result<(), AllocEr
 #[inline(always)]
 pub(crate) fn make_room(
     count: usize,
-    piece: &mut Piece,
+    piece: &mut Piece<128>,
     text: &mut Vec<u8>,
 ) -> Result<(), AllocError>
     requires { count ≤ 128 }

@@ -3,7 +3,7 @@
 ghost use Rattle.std.specs.Prelude.{◌≡◌, ◌+◌, ◌<◌, ◌≤◌, ◌^◌, [], ◌∷◌, ℕ, List, ◌++◌, length, OnOk};
 ghost use Rattle.twkb_num.specs.Alphabet.{five_unit};
 ghost use Rattle.twkb_num.specs.Spelling.{shortest};
-ghost use Rattle.twkb_polyline.specs.Spelling.{spread, HasGroups, AreMarked};
+ghost use Rattle.twkb_polyline.specs.Spelling.{spread, HasGroups};
 
 use crate::piece::make_room;
 use std::alloc::AllocError;
@@ -25,9 +25,6 @@ const FOUR_GROUPS: u64 = 1 << 20;
 // Numbers below it have at most eight, which a word of 64 bits holds.
 const EIGHT_GROUPS: u64 = 1 << 40;
 
-// The marks of a lane of four groups: 32 in each byte.
-const MARKS: u64 = 0x2020_2020;
-
 // Appends the characters of four numbers to what the piece holds, or a front of all that to the text
 // where memory is refused. Nearly all numbers of a track are below 2^20.
 #[inline(always)]
@@ -37,7 +34,7 @@ pub(crate) fn push_four(
     second: u64,
     third: u64,
     fourth: u64,
-    piece: &mut Piece,
+    piece: &mut Piece<128>,
     text: &mut Vec<u8>,
 ) -> Result<(), AllocError>
     ensures appended { OnOk result (text.new.items ++ piece.new ≡ text.old.items ++ piece.old
@@ -46,7 +43,9 @@ pub(crate) fn push_four(
     ensures grown { (more : List ℕ) × (text.new.items ≡ text.old.items ++ more) }
 {
     make_room(STEP, piece, text)?;
-    let all = first | second | third | fourth;
+    let either = u64x2::from_array([first, second]) | u64x2::from_array([third, fourth]);
+    let [low, high] = either.to_array();
+    let all = low | high;
     if all < TWO_GROUPS {
         push_characters(first, second, third, fourth, piece);
         return Ok(());
@@ -57,16 +56,14 @@ pub(crate) fn push_four(
         push_two(third, fourth, piece);
         return Ok(());
     }
-    let (low, high) = mark_four(first as u32, second as u32, third as u32, fourth as u32);
-    push_marked(first, second, low, piece);
-    push_marked(third, fourth, high, piece);
+    piece.push_four_characters(first as u32, second as u32, third as u32, fourth as u32);
     Ok(())
 }
 
 // Appends the characters of four numbers that have one each, as those of short steps have all: four
 // bytes of one word.
 #[inline(always)]
-fn push_characters(first: u64, second: u64, third: u64, fourth: u64, piece: &mut Piece)
+fn push_characters(first: u64, second: u64, third: u64, fourth: u64, piece: &mut Piece<128>)
     requires first_few { first < 32 }
     requires second_few { second < 32 }
     requires third_few { third < 32 }
@@ -85,21 +82,6 @@ fn push_characters(first: u64, second: u64, third: u64, fourth: u64, piece: &mut
     piece.push_low(u64::from(u32::from_le_bytes(characters)), 4);
 }
 
-// Appends the characters of two numbers whose groups stand in a word with their marks. A number has a
-// group more than marks, and 63 more in each byte makes it a character.
-#[inline(always)]
-fn push_marked(first: u64, second: u64, word: u64, piece: &mut Piece)
-    requires marked { AreMarked first second word }
-    requires room { length piece.old + 8 ≤ 128 }
-    ensures appended { piece.new ≡ piece.old ++ (shortest five_unit 32 first ++ shortest five_unit 32 second) }
-    ensures few { length piece.new ≤ length piece.old + 8 }
-{
-    let count = (word & MARKS).count_ones() + 1;
-    let more = ((word >> 32) & MARKS).count_ones() + 1;
-    let joined = word % (1 << 32) + ((word >> 32) << (8 * count));
-    piece.push_low(joined + 0x3f3f_3f3f_3f3f_3f3f, count + more);
-}
-
 // The character of a number of one group.
 #[inline(always)]
 fn one_character(number: u64) -> u8
@@ -113,7 +95,7 @@ fn one_character(number: u64) -> u8
 // its lower and its upper four groups.
 #[inline(always)]
 #[tactic(auto, using(std::proofs::lemmas::Nat::le_or_l, std::proofs::lemmas::Nat::le_or_r))]
-pub(crate) fn push_two(first: u64, second: u64, piece: &mut Piece)
+pub(crate) fn push_two(first: u64, second: u64, piece: &mut Piece<128>)
     requires room { length piece.old + 32 ≤ 128 }
     ensures appended { piece.new ≡ piece.old ++ (shortest five_unit 32 first ++ shortest five_unit 32 second) }
     ensures most { length piece.new ≤ length piece.old + 26 }
@@ -140,7 +122,7 @@ pub(crate) fn push_two(first: u64, second: u64, piece: &mut Piece)
 
 // Appends the characters of a number of any size: at most 13. Few texts have one that needs this.
 #[inline(never)]
-fn push_one(number: u64, piece: &mut Piece)
+fn push_one(number: u64, piece: &mut Piece<128>)
     requires room { length piece.old + 13 ≤ 128 }
     ensures appended { piece.new ≡ piece.old ++ shortest five_unit 32 number }
     ensures most { length piece.new ≤ length piece.old + 13 }
@@ -165,32 +147,9 @@ fn spread_four(first: u32, second: u32, third: u32, fourth: u32) -> u32x4
         + ((numbers >> 15) << 24)
 }
 
-// The groups of four numbers, two numbers in each word, each group but a number's last marked by 32.
-#[inline(always)]
-fn mark_four(first: u32, second: u32, third: u32, fourth: u32) -> (u64, u64)
-    requires first_few { first < 2 ^ 20 }
-    requires second_few { second < 2 ^ 20 }
-    requires third_few { third < 2 ^ 20 }
-    requires fourth_few { fourth < 2 ^ 20 }
-    ensures low { AreMarked first second result.0 }
-    ensures high { AreMarked third fourth result.1 }
-{
-    let numbers = u32x4::from_array([first, second, third, fourth]);
-    let none = u32x4::splat(0);
-    let has_two = numbers.simd_ge(u32x4::splat(1 << 5));
-    let has_three = numbers.simd_ge(u32x4::splat(1 << 10));
-    let has_four = numbers.simd_ge(u32x4::splat(1 << 15));
-    let lanes = spread_four(first, second, third, fourth)
-        + has_two.select(u32x4::splat(0x20), none)
-        + has_three.select(u32x4::splat(0x2000), none)
-        + has_four.select(u32x4::splat(0x20_0000), none);
-    let [low, high] = u64x2::from_le_bytes(lanes.to_le_bytes()).to_array();
-    (low, high)
-}
-
 // Appends the characters of a number whose groups stand in a word, each in a byte.
 #[inline(always)]
-fn push_spread(number: u64, groups: u64, piece: &mut Piece)
+fn push_spread(number: u64, groups: u64, piece: &mut Piece<128>)
     requires few { number < 2 ^ 40 }
     requires groups { groups ≡ spread 8 number }
     requires room { length piece.old + 8 ≤ 128 }

@@ -1,6 +1,5 @@
 -- Canonical decimals, as std reads and prints them.
-use Rattle.std.proofs.Common.{◌≡◌, ℕ, ◌+◌, ◌-◌, ◌<◌, ◌≤◌, ◌^◌, int_le, nat_abs, ◌==◌, true, false, List, [], ◌∷◌, length, slice_index_or, get_or, take, decimal, ◌++◌, ◌*◌, ◌/◌, ◌%◌, Result, Ok, Err, sym, ◌∙◌, ap, subst, arith, ℤ, pos, negsuc, FitsSigned, w64}
-use Rattle.std.proofs.lemmas.Bool.{leb-true}
+use Rattle.std.proofs.Common.{◌≡◌, ℕ, ◌+◌, ◌-◌, ◌<◌, ◌≤◌, ◌^◌, ◌==◌, false, List, [], ◌∷◌, length, slice_index_or, get_or, take, decimal, ◌++◌, ◌*◌, ◌/◌, ◌%◌, Result, Ok, Err, sym, ◌∙◌, ap, subst, arith, ℤ, pos, negsuc, FitsSigned, w64}
 use Rattle.std.proofs.lemmas.Int.{ints}
 use Rattle.std.proofs.lemmas.List.{take_more}
 use Rattle.std.specs.Fmt.{signed_decimal}
@@ -67,11 +66,6 @@ one_digit (d ∷ []) some few low high =
     let spelled : decimal (d - 48) ≡ d ∷ [] = decimal_digit (d - 48) (omega arith) ∙ ap (λ n. n ∷ []) value in
     (sym spelled, depth-id (d - 48) (omega arith))
 one_digit (d ∷ e ∷ rest) some few low high = absurd (omega arith)
-
--- a number of one digit is spelled by its digit
-pub digit_put : (number seen : ℤ) → seen ≡ number → int_le (pos 0) seen ≡ true → int_le seen (pos 9) ≡ true → signed_decimal number ≡ (48 + nat_abs seen) ∷ []
-digit_put number (pos n) same least most = ap signed_decimal (sym same) ∙ decimal_digit n (let few = leb-true n 9 most in omega arith)
-digit_put number (negsuc n) same least most = absurd (cc least)
 
 -- the first digit alone
 pub digit_first : (field : List ℕ) → false ≡ (length field == 0) → 49 ≤ get_or field 0 0 → get_or field 0 0 ≤ 57 → decimal (get_or field 0 0 - 48) ≡ take 1 field

@@ -28,3 +28,4 @@ pub mod TableSteps
 pub mod Tables
 pub mod Unquoted
 pub mod Verdicts
+pub mod ShortTexts

@@ -20,3 +20,4 @@ pub mod Standing
 pub mod TableReading
 pub mod Text
 pub mod Waiting
+pub mod Texts

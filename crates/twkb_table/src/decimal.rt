@@ -1,22 +1,22 @@
 //! Canonical decimals: digits without a leading zero, after a minus sign where the number is negative.
-ghost use Rattle.std.specs.Prelude.{◌≡◌, [], ◌∷◌, ◌++◌, IfSome, OnOk, OnErr};
+ghost use Rattle.std.specs.Prelude.{◌≡◌, ◌++◌, IfSome, OnOk, OnErr};
 ghost use Rattle.std.specs.Fmt.{signed_decimal};
 ghost use Rattle.twkb_table.specs.Fields.{Reads, IsDepthField, IsIdField, IsPrecisionField, IsOptionalId, IsOptionalPrecision};
 
 use itoa::Buffer;
 use std::alloc::AllocError;
+use twkb_tree::{GREATEST_PRECISION, LEAST_PRECISION};
 
 const GREATEST_DEPTH: i64 = 999;
-
-// The greatest number of one digit.
-const GREATEST_DIGIT: i64 = 9;
 
 // The greatest number that is an i64 with any digit more behind it.
 const MOST_BEFORE_A_DIGIT: u64 = 922_337_203_685_477_579;
 
-const LEAST_PRECISION: i64 = -8;
+// The least precision, as a number of any size.
+const LEAST: i64 = LEAST_PRECISION as i64;
 
-const GREATEST_PRECISION: i64 = 7;
+// The greatest precision, as a number of any size.
+const GREATEST: i64 = GREATEST_PRECISION as i64;
 
 /// The depth from 0 to 999 whose canonical decimal the field is, if it is one (profile). Takes no
 /// memory.
@@ -102,9 +102,7 @@ pub fn parse_precision(field: &[u8]) -> Option<i8>
     ensures reads { Reads (IsPrecisionField field.now) result }
 {
     match parse_id(field) {
-        Some(precision) if LEAST_PRECISION <= precision && precision <= GREATEST_PRECISION => {
-            Some(precision as i8)
-        }
+        Some(precision) if LEAST <= precision && precision <= GREATEST => Some(precision as i8),
         _ => None,
     }
 }
@@ -136,18 +134,6 @@ pub fn parse_optional_precision(field: &[u8]) -> Option<Option<i8>>
     match parse_precision(field) {
         Some(precision) => Some(Some(precision)),
         None => None,
-    }
-}
-
-// The digit of a number of one digit, as most numbers are.
-#[inline(always)]
-pub(crate) fn one_digit(number: i64) -> Option<u8>
-    ensures { IfSome result (λ digit. signed_decimal number ≡ digit ∷ []) }
-{
-    if 0 <= number && number <= GREATEST_DIGIT {
-        Some(b'0' + number as u8)
-    } else {
-        None
     }
 }
 

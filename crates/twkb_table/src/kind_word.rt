@@ -1,9 +1,10 @@
-//! The words of the kinds.
-ghost use Rattle.std.specs.Prelude.{◌≡◌};
+//! The words of the kinds, read from a field and appended to a text.
+ghost use Rattle.std.specs.Prelude.{◌≡◌, ◌≤◌, ◌+◌, [], ◌∷◌, ◌++◌, length};
 ghost use Rattle.twkb_table.specs.Fields.{Reads};
 ghost use Rattle.twkb_table.specs.KindWord.{likely, likely_of_ten};
 ghost use Rattle.twkb_tree.specs.Kind.{word_of};
 
+use twkb_num::Piece;
 use twkb_tree::Kind;
 
 /// The kind whose word the field is, if it is one: `point`, `linestring`, `polygon`, `ring`,
@@ -16,7 +17,7 @@ pub fn parse_kind(field: &[u8]) -> Option<Kind>
         return None;
     }
     let kind = likely_kind(field.len(), field[0]);
-    if field == kind_word(kind) {
+    if field == kind.word() {
         Some(kind)
     } else {
         None
@@ -50,19 +51,16 @@ fn likely_of_ten(first: u8) -> Kind
     }
 }
 
-// The word of a kind.
+/// Appends the word of a kind, with this byte before it and after it. Takes no memory.
 #[inline(always)]
-pub(crate) fn kind_word(kind: Kind) -> &'static [u8]
-    ensures { result.now ≡ word_of kind }
+pub fn push_kind(kind: Kind, around: u8, piece: &mut Piece<128>)
+    requires room { length piece.old + 17 ≤ 128 }
+    ensures appended { piece.new ≡ piece.old ++ around ∷ (word_of kind ++ around ∷ []) }
+    ensures most { length piece.new ≤ length piece.old + 17 }
 {
-    match kind {
-        Kind::Point => b"point",
-        Kind::Linestring => b"linestring",
-        Kind::Polygon => b"polygon",
-        Kind::Ring => b"ring",
-        Kind::MultiPoint => b"multipoint",
-        Kind::MultiLinestring => b"multilinestring",
-        Kind::MultiPolygon => b"multipolygon",
-        Kind::Collection => b"collection",
-    }
+    let (word, count) = kind.padded_name();
+    piece.push(around);
+    // all of a word with its spaces: each copy is of one size
+    piece.push_front(word, count);
+    piece.push(around);
 }

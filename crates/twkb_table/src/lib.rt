@@ -28,7 +28,7 @@ pub use decimal::{
 pub use flat_text::put_flat_rows;
 pub use header::header_text;
 pub use judging::{JudgeFault, judge};
-pub use kind_word::parse_kind;
+pub use kind_word::{parse_kind, push_kind};
 pub use printing::{put_rows, rows_text};
 pub use reason::RowReason;
 pub use record_source::{RecordSource, SourceFault};

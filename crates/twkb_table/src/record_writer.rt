@@ -8,7 +8,6 @@ ghost use Rattle.twkb_table.specs.Printing.{row_lines};
 ghost use Rattle.twkb_table.specs.RecordWriting.{IsBare, IsReady, Writes, text_of};
 
 use crate::fields::Fields;
-use crate::kind_word::kind_word;
 use csv::Writer;
 use itoa::Buffer;
 use std::alloc::{AllocError, Global};
@@ -47,7 +46,7 @@ impl RecordWriter {
         let mut precision = Buffer::new();
         let fields = Fields {
             depth: number_field(Some(i64::from(row.depth)), &mut depth),
-            kind: kind_word(row.kind),
+            kind: row.kind.word(),
             id: number_field(row.id, &mut id),
             precision: number_field(widened(row.precision), &mut precision),
             polyline: self.line.as_slice(),

@@ -1,19 +1,18 @@
 //! One row of a table as a line.
-ghost use Rattle.std.specs.Prelude.{◌≡◌, ◌≤◌, ◌+◌, [], ◌∷◌, ◌++◌, OnOk, decimal, length, take};
+ghost use Rattle.std.specs.Prelude.{◌≡◌, ◌≤◌, ◌+◌, [], ◌∷◌, ◌++◌, OnOk, decimal, length};
 ghost use Rattle.std.specs.Fmt.{signed_decimal};
 ghost use Rattle.twkb_tree.specs.Kind.{word_of};
 ghost use Rattle.twkb_flat.specs.Rows.{row_with};
 ghost use Rattle.twkb_table.specs.Fields.{optional};
 ghost use Rattle.twkb_table.specs.Printing.{row_lines, Grows};
 
-use crate::decimal::one_digit;
+use crate::kind_word::push_kind;
 use itoa::Buffer;
 use std::alloc::AllocError;
 use twkb_flat::Row;
 use twkb_num::Piece;
 use twkb_points::Pt;
 use twkb_polyline::{encode_into, encode_point};
-use twkb_tree::Kind;
 
 // Appends the line of a row with its points, or a front of it where memory is refused. What stands
 // before the points is gathered first and appended at once, behind one test for memory; the line of a
@@ -22,7 +21,7 @@ pub(crate) fn put_row(row: &Row, points: &[Pt], text: &mut Vec<u8>) -> Result<()
     ensures appended { OnOk result (text.new.items ≡ text.old.items ++ row_lines (row_with row.now points.now ∷ [])) }
     ensures grown { Grows text.old.items text.new.items }
 {
-    let mut line = Piece::new();
+    let mut line = Piece::<128>::new();
     push_head(row, &mut line);
     if let [point] = points {
         encode_point(*point, &mut line);
@@ -36,76 +35,36 @@ pub(crate) fn put_row(row: &Row, points: &[Pt], text: &mut Vec<u8>) -> Result<()
 
 // Gathers the depth, the kind, the id and the precision of a row, each with the comma behind it.
 #[inline(always)]
-fn push_head(row: &Row, head: &mut Piece)
+fn push_head(row: &Row, head: &mut Piece<128>)
     requires empty { head.old ≡ [] }
     ensures gathered { head.new ≡ ((decimal row.now.depth ++ 44 ∷ (word_of row.now.kind ++ 44 ∷ [])) ++ optional row.now.id) ++ 44 ∷ (optional row.now.precision ++ 44 ∷ []) }
     ensures short { length head.new ≤ 79 }
 {
     push_number(i64::from(row.depth), head);
-    push_kind(row.kind, head);
+    push_kind(row.kind, b',', head);
     push_id(row.id, head);
     head.push(b',');
     push_precision(row.precision, head);
     head.push(b',');
 }
 
-// Gathers the canonical decimal of a number.
+// Gathers the canonical decimal of a number. Most have one digit: a byte costs less than a slice.
 #[inline(always)]
-fn push_number(number: i64, head: &mut Piece)
-    requires room { length head.old + 20 ≤ 128 }
-    ensures pushed { head.new ≡ head.old ++ signed_decimal number }
-    ensures short { length head.new ≤ length head.old + 20 }
-{
-    match one_digit(number) {
-        Some(digit) => head.push(digit),
-        None => push_digits(number, head),
-    }
-}
-
-// The same by itoa's printer.
-#[inline(never)]
-fn push_digits(number: i64, head: &mut Piece)
+fn push_number(number: i64, head: &mut Piece<128>)
     requires room { length head.old + 20 ≤ 128 }
     ensures pushed { head.new ≡ head.old ++ signed_decimal number }
     ensures short { length head.new ≤ length head.old + 20 }
 {
     let mut buffer = Buffer::new();
-    head.push_all(buffer.format(number).as_bytes());
-}
-
-// Gathers the word of a kind between two commas.
-#[inline(always)]
-fn push_kind(kind: Kind, head: &mut Piece)
-    requires room { length head.old + 17 ≤ 128 }
-    ensures pushed { head.new ≡ head.old ++ 44 ∷ (word_of kind ++ 44 ∷ []) }
-    ensures short { length head.new ≤ length head.old + 17 }
-{
-    let (field, count) = kind_field(kind);
-    head.push_front(field, count);
-}
-
-// The word of a kind between two commas, and how many bytes these are. What is behind them is copied
-// along, so that each copy is of the same size.
-#[inline(always)]
-fn kind_field(kind: Kind) -> (&'static [u8; 17], usize)
-    ensures few { result.1 ≤ 17 }
-    ensures word { take result.1 result.0.now ≡ 44 ∷ (word_of kind ++ 44 ∷ []) }
-{
-    match kind {
-        Kind::Point => (b",point,          ", 7),
-        Kind::Linestring => (b",linestring,     ", 12),
-        Kind::Polygon => (b",polygon,        ", 9),
-        Kind::Ring => (b",ring,           ", 6),
-        Kind::MultiPoint => (b",multipoint,     ", 12),
-        Kind::MultiLinestring => (b",multilinestring,", 17),
-        Kind::MultiPolygon => (b",multipolygon,   ", 14),
-        Kind::Collection => (b",collection,     ", 12),
+    match buffer.format(number).as_bytes() {
+        [digit] => head.push(*digit),
+        digits => head.push_all(digits),
     }
 }
 
 // Gathers the canonical decimal of an id where there is one.
 #[inline(always)]
-fn push_id(id: Option<i64>, head: &mut Piece)
+fn push_id(id: Option<i64>, head: &mut Piece<128>)
     requires room { length head.old + 20 ≤ 128 }
     ensures pushed { head.new ≡ head.old ++ optional id }
     ensures short { length head.new ≤ length head.old + 20 }
@@ -118,7 +77,7 @@ fn push_id(id: Option<i64>, head: &mut Piece)
 
 // Gathers the canonical decimal of a precision where there is one.
 #[inline(always)]
-fn push_precision(precision: Option<i8>, head: &mut Piece)
+fn push_precision(precision: Option<i8>, head: &mut Piece<128>)
     requires room { length head.old + 20 ≤ 128 }
     ensures pushed { head.new ≡ head.old ++ optional precision }
     ensures short { length head.new ≤ length head.old + 20 }

@@ -3,6 +3,7 @@ pub mod Copied
 pub mod ExtentSteps
 pub mod Forest
 pub mod InRange
+pub mod KindWords
 pub mod LargestLimits
 pub mod LimitLaws
 pub mod MemberSteps

@@ -8,6 +8,12 @@ use crate::lists::{Areas, Ids, Lines, Pts};
 use std::marker::Model;
 use twkb_points::Pt;
 
+/// The least precision: decimals of coordinates (TWKB, type and precision).
+pub const LEAST_PRECISION: i8 = -8;
+
+/// The greatest precision.
+pub const GREATEST_PRECISION: i8 = 7;
+
 /// The members of a collection, of which there may be none. A contract sees the list of their trees.
 #[cycle(geometry)]
 #[derive(Debug, Drop)]
@@ -182,7 +188,7 @@ impl Geometry {
         ensures bad_precision { (result ≡ Err (shape, GeomFault.BadPrecision)) ↔ (¬ IsPrecision precision) }
         ensures bad_ids { (result ≡ Err (shape, GeomFault.BadIds)) ↔ (IsPrecision precision × (¬ HasFitIds shape)) }
     {
-        if precision < -8 || precision > 7 {
+        if precision < LEAST_PRECISION || precision > GREATEST_PRECISION {
             return Err((shape, GeomFault::BadPrecision));
         }
         if !shape.has_fit_ids() {

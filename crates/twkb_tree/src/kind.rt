@@ -1,5 +1,5 @@
 //! Kinds of rows, and their words.
-ghost use Rattle.std.specs.Prelude.{◌≡◌};
+ghost use Rattle.std.specs.Prelude.{◌≡◌, ◌≤◌, take};
 ghost use Rattle.twkb_tree.specs.Kind.{word_of};
 
 /// What a row of a table holds: one of the seven shapes, or a ring of a polygon.
@@ -24,19 +24,40 @@ pub enum Kind {
 }
 
 impl Kind {
-    /// The table's word, in ASCII. Takes no memory.
+    /// The table's word in ASCII, with spaces after it so that each copy is of one size, and its length. Takes no memory.
+    #[inline(always)]
+    pub fn padded_name(self) -> (&'static [u8; 16], usize)
+        ensures few { result.1 ≤ 15 }
+        ensures word { take result.1 result.0.now ≡ word_of self }
+    {
+        match self {
+            Kind::Point => (b"point           ", 5),
+            Kind::Linestring => (b"linestring      ", 10),
+            Kind::Polygon => (b"polygon         ", 7),
+            Kind::Ring => (b"ring            ", 4),
+            Kind::MultiPoint => (b"multipoint      ", 10),
+            Kind::MultiLinestring => (b"multilinestring ", 15),
+            Kind::MultiPolygon => (b"multipolygon    ", 12),
+            Kind::Collection => (b"collection      ", 10),
+        }
+    }
+
+    /// The table's word, as the bytes of a field. Takes no memory.
+    #[inline(always)]
+    pub fn word(self) -> &'static [u8]
+        ensures { result.now ≡ word_of self }
+    {
+        let (padded, count) = self.padded_name();
+        &padded[..count]
+    }
+
+    /// The table's word, as text. Takes no memory.
     pub fn name(self) -> &'static str
         ensures { result.now ≡ word_of self }
     {
-        match self {
-            Kind::Point => "point",
-            Kind::Linestring => "linestring",
-            Kind::Polygon => "polygon",
-            Kind::Ring => "ring",
-            Kind::MultiPoint => "multipoint",
-            Kind::MultiLinestring => "multilinestring",
-            Kind::MultiPolygon => "multipolygon",
-            Kind::Collection => "collection",
+        match str::from_utf8(self.word()) {
+            Ok(name) => name,
+            Err(_) => unreachable!(),
         }
     }
 }

@@ -20,9 +20,9 @@ mod standing;
 mod validity;
 
 pub use fault::GeomFault;
-pub use geometry::{Geometry, Members, Shape};
+pub use geometry::{GREATEST_PRECISION, Geometry, LEAST_PRECISION, Members, Shape};
 pub use kind::Kind;
-pub use limits::Limits;
+pub use limits::{Limits, NEST_CAP, NEST_STANDARD, NODES_CAP, POINTS_CAP};
 pub use lists::{Areas, IdList, Ids, Item, Items, Lines, Pts};
 pub use open_rows::OpenRow;
 pub use parts::{id_at, own_parts};

@@ -24,13 +24,17 @@ impl Model for Limits {
     ghost inverse = { λ l. record { nest = l.nest; nodes = l.nodes; points = l.points } };
 }
 
-const NEST_STANDARD: u32 = 16;
+/// The levels of collections in the standard limits (profile).
+pub const NEST_STANDARD: u32 = 16;
 
-const NEST_CAP: u32 = 32;
+/// The most levels of collections that limits allow (profile).
+pub const NEST_CAP: u32 = 32;
 
-const NODES_CAP: u32 = 1 << 20;
+/// The most rows of a geometry that limits allow (profile).
+pub const NODES_CAP: u32 = 1 << 20;
 
-const POINTS_CAP: u32 = 1 << 24;
+/// The most points of a geometry that limits allow (profile).
+pub const POINTS_CAP: u32 = 1 << 24;
 
 impl Limits {
     /// Limits of `nest` 0 to 32, `nodes` 1 to 2^20 and `points` 0 to 2^24, and `None` where one is not. Takes no memory.

@@ -14,8 +14,8 @@ use Rattle.twkb_grammar.specs.Items.{header_byte, kind_of, flags}
 use Rattle.twkb_grammar.specs.Written.{is_point, has_any, boxed, box_of, flag_bits, flags_of_tree, kind_of_tree, metadata_byte, framed, written, canonical_blob}
 use Rattle.twkb_grammar.specs.declared.style.Style.{Style}
 use Rattle.twkb_grammar.specs.declared.style.Style.TheVariants.{Full, Plain}
-use Rattle.twkb_header.specs.TypeByte.{type_of, type_byte}
-use Rattle.twkb_header.specs.Metadata.{bit_value}
+use Rattle.twkb_grammar.specs.TypeByte.{type_of, type_byte}
+use Rattle.twkb_grammar.specs.Metadata.{bit_value}
 use Rattle.twkb_writer.specs.Bytes.{is_bare, metadata_of, size_bytes, box_bytes, header, signed}
 use Rattle.twkb_writer.specs.Sizes.{body_of, own_body, bounds_of, content_of, entry_of}
 use Rattle.twkb_writer.specs.declared.sizes.Entry.{Entry}

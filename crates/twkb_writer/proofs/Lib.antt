@@ -16,7 +16,6 @@ pub mod MeasuringTrees
 pub mod MeasuringWork
 pub mod MemberLemmas
 pub mod PartRows
-pub mod PieceLemmas
 pub mod PointLemmas
 pub mod PrecisionLemmas
 pub mod PutLemmas

@@ -1,7 +1,7 @@
 -- The points of a node, read from the last to the first.
-use Rattle.std.proofs.Common.{◌≡◌, ℕ, ◌+◌, ◌-◌, ◌<◌, List, ◌∷◌, ◌++◌, length, drop, take, get_or, Some, sym, ◌∙◌, ap, subst, arith}
+use Rattle.std.proofs.Common.{◌≡◌, ℕ, ◌+◌, ◌-◌, ◌<◌, ◌≤◌, List, [], ◌∷◌, ◌++◌, length, drop, take, get_or, Some, refl, sym, ◌∙◌, ap, subst, arith}
 use Rattle.std.specs.Prelude.{slice_get}
-use Rattle.std.proofs.lemmas.List.{get_or-append-add, get_or_append_left, at_drop_more}
+use Rattle.std.proofs.lemmas.List.{get_or-append-add, get_or_append_left, at_drop_more, drop_all}
 use Rattle.std.proofs.lemmas.Option.{get_or_from_slice_get}
 use Rattle.twkb_points.specs.Point.{Point}
 use Rattle.twkb_tree.specs.Rows.{Row, row_points}
@@ -44,3 +44,47 @@ tail_back rows i node is count back p ahead new counted below read new_is =
     ∙ ap (λ n. tail_of ((p ∷ drop n own) ++ ahead)) (sym here)
     ∙ ap (λ l. tail_of (l ++ ahead)) (sym (read_back rows i node is (count - 1 - back) p (omega arith) read))
     ∙ ap (λ n. tail_of (drop n own ++ ahead)) there
+
+-- with two points before them
+pub tail_two : (rows : List Row) (i : ℕ) (node : Node) → IsNode rows i node → (back j k : ℕ) (p q : Point) (ahead : List Point) (new : Tail) → back + 2 ≤ node.points
+    → j ≡ node.first.0 + (node.points - 1 - back) → k + 1 ≡ j → slice_get (row_points rows) j ≡ Some q → slice_get (row_points rows) k ≡ Some p
+    → new ≡ tail_of (p ∷ q ∷ (drop (node.points - back) (points_at (drop i rows)) ++ ahead))
+    → new ≡ tail_of (drop (node.points - (back + 2)) (points_at (drop i rows)) ++ ahead)
+tail_two rows i node is back j k p q ahead new within j_is k_is last before new_is =
+    let own : List Point = points_at (drop i rows) in
+    let here : node.points - 1 - back + 1 ≡ node.points - back = omega arith in
+    let there : node.points - 1 - back ≡ node.points - (back + 1) = omega arith in
+    let behind : drop (node.points - (back + 1)) own ≡ q ∷ drop (node.points - back) own =
+    ap (λ n. drop n own) (sym there)
+    ∙ read_back rows i node is (node.points - 1 - back) q (omega arith) (ap (slice_get (row_points rows)) (sym j_is) ∙ last)
+    ∙ ap (λ n. q ∷ drop n own) here in
+    let place : k ≡ node.first.0 + (node.points - 1 - (back + 1)) = omega arith in
+    let next : back + 1 + 1 ≡ back + 2 = omega arith in
+    tail_back rows i node is node.points (back + 1) p ahead new refl (omega arith) (ap (slice_get (row_points rows)) (sym place) ∙ before) (new_is ∙ ap (λ l. tail_of (p ∷ (l ++ ahead))) (sym behind))
+    ∙ ap (λ n. tail_of (drop (node.points - n) own ++ ahead)) next
+
+-- with the first point before the others
+pub tail_first : (rows : List Row) (i : ℕ) (node : Node) → IsNode rows i node → (count back : ℕ) (p : Point) (ahead : List Point) (new : Tail) → count ≡ node.points → back + 1 ≡ count
+    → slice_get (row_points rows) node.first.0 ≡ Some p
+    → new ≡ tail_of (p ∷ (drop (count - back) (points_at (drop i rows)) ++ ahead))
+    → new ≡ tail_of (points_at (drop i rows) ++ ahead)
+tail_first rows i node is count back p ahead new counted last read new_is =
+    let own : List Point = points_at (drop i rows) in
+    let place : node.first.0 ≡ node.first.0 + (count - 1 - back) = omega arith in
+    let all : count - (back + 1) ≡ 0 = omega arith in
+    tail_back rows i node is count back p ahead new counted (omega arith) (ap (slice_get (row_points rows)) (sym place) ∙ read) new_is
+    ∙ ap (λ n. tail_of (drop n own ++ ahead)) all
+
+-- with the last point before those ahead
+pub tail_last : (rows : List Row) (i : ℕ) (node : Node) → IsNode rows i node → (p : Point) (ahead : List Point) (new : Tail) → 1 ≤ node.points
+    → slice_get (row_points rows) (node.first.0 + (node.points - 1)) ≡ Some p
+    → new ≡ tail_of (p ∷ ahead)
+    → new ≡ tail_of (drop (node.points - 1) (points_at (drop i rows)) ++ ahead)
+tail_last rows i node is p ahead new some read new_is =
+    let own : List Point = points_at (drop i rows) in
+    let all : node.points - 1 + 1 ≡ node.points = omega arith in
+    let long : length own ≡ node.points = ap length (own_at rows i node is) ∙ is.count in
+    let none : drop (node.points - 1 + 1) own ≡ [] = drop_all (node.points - 1 + 1) own (omega (arith, all, long)) in
+    new_is
+    ∙ ap (λ l. tail_of ((p ∷ l) ++ ahead)) (sym none)
+    ∙ ap (λ l. tail_of (l ++ ahead)) (sym (read_back rows i node is (node.points - 1) p (omega arith) read))

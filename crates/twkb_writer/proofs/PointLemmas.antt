@@ -1,5 +1,5 @@
 -- The points of a node, one after another.
-use Rattle.std.proofs.Common.{◌≡◌, ◌∙◌, ℕ, suc, ◌+◌, ◌-◌, ◌<◌, ◌≤◌, List, [], ◌∷◌, ◌++◌, take, drop, Some, ap, arith}
+use Rattle.std.proofs.Common.{◌≡◌, ◌∙◌, ℕ, suc, ◌+◌, ◌-◌, ◌<◌, ◌≤◌, List, [], ◌∷◌, ◌++◌, take, drop, Some, sym, ap, arith, append_assoc}
 use Rattle.std.specs.Prelude.{slice_get, ◌-ℤ◌}
 use Rattle.std.proofs.lemmas.List.{drop_more}
 use Rattle.std.proofs.lemmas.Option.{get_or_from_slice_get, slice_get_within}
@@ -22,6 +22,25 @@ way_more ps i end at p h e = ap (way_bytes at) (part_more ps i end p h e)
 pub end_more : (ps : List Point) (i end : ℕ) (at p : Point) → i < end → slice_get ps i ≡ Some p
     → way_end at (take (end - i) (drop i ps)) ≡ way_end p (take (end - (i + 1)) (drop (i + 1) ps))
 end_more ps i end at p h e = ap (way_end at) (part_more ps i end p h e)
+
+-- the way to the next two, and on
+pub way_two : (ps : List Point) (i end : ℕ) (at p q : Point) → i + 2 ≤ end → slice_get ps i ≡ Some p → slice_get ps (i + 1) ≡ Some q
+    → way_bytes at (take (end - i) (drop i ps)) ≡ (step_bytes (p.x -ℤ at.x, p.y -ℤ at.y) ++ step_bytes (q.x -ℤ p.x, q.y -ℤ p.y)) ++ way_bytes q (take (end - (i + 2)) (drop (i + 2) ps))
+way_two ps i end at p q h e f =
+    let first = step_bytes (p.x -ℤ at.x, p.y -ℤ at.y) in
+    let second = step_bytes (q.x -ℤ p.x, q.y -ℤ p.y) in
+    let place : i + 1 + 1 ≡ i + 2 = omega arith in
+    way_more ps i end at p (omega arith) e
+    ∙ ap (λ bs. first ++ bs) (way_more ps (i + 1) end p q (omega arith) f)
+    ∙ ap (λ k. first ++ (second ++ way_bytes q (take (end - k) (drop k ps)))) place
+    ∙ sym (append_assoc first second (way_bytes q (take (end - (i + 2)) (drop (i + 2) ps))))
+
+-- where it ends
+pub end_two : (ps : List Point) (i end : ℕ) (at p q : Point) → i + 2 ≤ end → slice_get ps i ≡ Some p → slice_get ps (i + 1) ≡ Some q
+    → way_end at (take (end - i) (drop i ps)) ≡ way_end q (take (end - (i + 2)) (drop (i + 2) ps))
+end_two ps i end at p q h e f =
+    let place : i + 1 + 1 ≡ i + 2 = omega arith in
+    end_more ps i end at p (omega arith) e ∙ end_more ps (i + 1) end p q (omega arith) f ∙ ap (λ k. way_end q (take (end - k) (drop k ps))) place
 
 -- no points are left
 pub nothing_left : (ps : List Point) (i end : ℕ) → end ≤ i → take (end - i) (drop i ps) ≡ []

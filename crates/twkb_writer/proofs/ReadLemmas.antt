@@ -1,5 +1,5 @@
 -- Counts of reads add up.
-use Rattle.std.proofs.Common.{◌≡◌, ◌∙◌, ℕ, ◌+◌, ◌<◌, ◌≤◌, ◌^◌, Bool, true, false, refl, arith, ap}
+use Rattle.std.proofs.Common.{◌≡◌, ◌∙◌, ℕ, ◌+◌, ◌<◌, ◌≤◌, ◌^◌, Bool, true, false, refl, sym, subst, arith, ap}
 use Rattle.std.specs.Prelude.{if◌then◌else◌}
 use Rattle.twkb_tree.specs.Tree.{saturated}
 use Rattle.twkb_flat.specs.declared.work.Work.{Work}
@@ -41,6 +41,9 @@ one_point a b more e = record {
   same_entries = ap (λ (w : Work). w.entries) e;
 }
 
+pub two_points : (a b c : Work) → a.point_reads ≤ b.point_reads → b ≡ record a { point_reads = saturated (a.point_reads + 1) } → b.point_reads ≤ c.point_reads → c ≡ record b { point_reads = saturated (b.point_reads + 1) } → Reads a 0 2 c
+two_points a b c more e further f = reads_join a b c 0 1 0 1 0 2 (one_point a b more e) (one_point b c further f) (omega arith) (omega arith)
+
 pub reads_if : (named : Bool) (a b : Work) (n : ℕ) → Reads a (if named then n else 0) 0 b → Reads a n 0 b
 reads_if true a b n r = r
 reads_if false a b n r = reads_join a b b 0 0 0 0 n 0 r (reads_none b 0 0) (omega arith) (omega arith)
@@ -65,6 +68,10 @@ exactly_join a b c n m k j p q r s h i = record {
   same_nodes = s.same_nodes ∙ r.same_nodes;
   same_entries = s.same_entries ∙ r.same_entries;
 }
+
+-- by a count that is the same
+pub exactly_same : (a c : Work) (n m p : ℕ) → ReadsExactly a n m c → p ≡ m → ReadsExactly a n p c
+exactly_same a c n m p r e = subst (λ k. ReadsExactly a n k c) (sym e) r
 
 -- a node more
 pub exactly_node : (a b c : Work) (n m : ℕ) → ReadsExactly a n m b → c ≡ record b { node_reads = saturated (b.node_reads + 1) } → ReadsExactly a (n + 1) m c

@@ -10,9 +10,9 @@ use Rattle.twkb_tree.specs.declared.kind.Kind.TheVariants as kind
 use Rattle.twkb_tree.specs.Rows.{Row}
 use Rattle.twkb_grammar.specs.declared.style.Style.{Style}
 use Rattle.twkb_grammar.specs.declared.style.Style.TheVariants.{Full, Plain}
-use Rattle.twkb_header.specs.TypeByte.{type_byte}
-use Rattle.twkb_header.specs.Metadata.{metadata_number}
-use Rattle.twkb_header.specs.declared.metadata.MetadataFlags.{MetadataFlags}
+use Rattle.twkb_grammar.specs.TypeByte.{type_byte}
+use Rattle.twkb_grammar.specs.Metadata.{metadata_number}
+use Rattle.twkb_grammar.specs.declared.metadata.MetadataFlags.{MetadataFlags}
 use Rattle.twkb_writer.specs.declared.sizes.Entry.{Entry}
 
 -- ---- numbers

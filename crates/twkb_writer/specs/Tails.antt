@@ -4,6 +4,7 @@ use Rattle.twkb_num.specs.Zigzag.{zigzag_of}
 use Rattle.twkb_num.specs.Varint.{varint_of}
 use Rattle.twkb_points.specs.Point.{Point, origin}
 use Rattle.twkb_points.specs.Extent.{extent}
+use Rattle.twkb_writer.specs.declared.tails.NonEmptyTail.{NonEmptyTail}
 use Rattle.twkb_writer.specs.declared.tails.Tail.{Tail}
 
 -- how many bytes a number has
@@ -40,3 +41,7 @@ tail_of ps = record { first = first_of ps; bytes = inner_len ps; bounds = extent
 -- the bytes of the whole way from the origin
 abbrev pub from_origin : Tail → ℕ
 from_origin t = elim t.first [ None ↦ 0 | Some p ↦ step_len origin p + t.bytes ]
+
+-- some points of which there is one at least, as any
+abbrev pub tail_from : NonEmptyTail → Tail
+tail_from t = record { first = Some t.first; bytes = t.bytes; bounds = Some t.bounds }

@@ -1,5 +1,5 @@
 //! Bytes that are put to a sink through a piece.
-ghost use Rattle.std.specs.Prelude.{◌≡◌, ◌≤◌, ◌+◌, ◌-ℤ◌, length, flat_map, [], ◌∷◌};
+ghost use Rattle.std.specs.Prelude.{◌≡◌, ◌≤◌, ◌+◌, ◌++◌, ◌-ℤ◌, length, flat_map, [], ◌∷◌};
 ghost use Rattle.twkb_num.specs.Zigzag.{zigzag_of};
 ghost use Rattle.twkb_num.specs.Varint.{varint_of};
 ghost use Rattle.twkb_writer.specs.Bytes.{signed, id_bytes, step_bytes};
@@ -9,6 +9,9 @@ use std::mem::replace;
 use twkb_io::Sink;
 use twkb_num::zigzag;
 use twkb_points::{Cursor, Pt};
+
+// The most bytes of the four numbers of two points.
+const STEP: usize = 40;
 
 // A sink, the piece in which bytes are gathered on their way to it, and the fault by which it refused some: what is put then is lost.
 #[derive(Drop)]
@@ -49,13 +52,13 @@ impl<'a, 'b, 'c, S: Sink> Gatherer<'a, 'b, 'c, S, S::Fault> {
         }
     }
 
-    // Puts what the piece holds where it has no room for a step, two numbers.
+    // Puts what the piece holds where it has no room for two points.
     #[inline(always)]
     fn make_room(&mut self)
         ensures put { Put S.took S.refused self.old [] self.new }
-        ensures room { length self.new.piece.now + 20 ≤ 4096 }
+        ensures room { length self.new.piece.now + 40 ≤ 4096 }
     {
-        if self.piece.has_room() {
+        if self.piece.has_room(STEP) {
             return;
         }
         self.empty();
@@ -65,7 +68,7 @@ impl<'a, 'b, 'c, S: Sink> Gatherer<'a, 'b, 'c, S, S::Fault> {
     #[inline(never)]
     fn empty(&mut self)
         ensures put { Put S.took S.refused self.old [] self.new }
-        ensures room { length self.new.piece.now + 20 ≤ 4096 }
+        ensures room { length self.new.piece.now + 40 ≤ 4096 }
     {
         self.flush();
     }
@@ -86,7 +89,7 @@ impl<'a, 'b, 'c, S: Sink> Gatherer<'a, 'b, 'c, S, S::Fault> {
         ensures { Put S.took S.refused self.old (varint_of number) self.new }
     {
         self.make_room();
-        self.piece.push_number(number);
+        self.piece.push_varint(number);
     }
 
     // Puts a whole number, by its zigzag form.
@@ -125,7 +128,19 @@ impl<'a, 'b, 'c, S: Sink> Gatherer<'a, 'b, 'c, S, S::Fault> {
     {
         self.make_room();
         let (x, y) = step_to(cursor, to);
-        self.piece.push_number(x);
-        self.piece.push_number(y);
+        self.piece.push_varint(x);
+        self.piece.push_varint(y);
+    }
+
+    // Puts the differences to two points, one after the other, where the cursor moves.
+    #[inline(always)]
+    pub(crate) fn put_steps(&mut self, cursor: &mut Cursor, first: Pt, second: Pt)
+        ensures put { Put S.took S.refused self.old (step_bytes (first.x -ℤ cursor.old.x, first.y -ℤ cursor.old.y) ++ step_bytes (second.x -ℤ first.x, second.y -ℤ first.y)) self.new }
+        ensures moved { cursor.new ≡ second }
+    {
+        self.make_room();
+        let (x, y) = step_to(cursor, first);
+        let (next_x, next_y) = step_to(cursor, second);
+        self.piece.push_four_varints(x, y, next_x, next_y);
     }
 }

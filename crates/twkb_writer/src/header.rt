@@ -7,8 +7,7 @@ ghost use Rattle.twkb_writer.specs.Putting.{Put};
 use crate::gatherer::Gatherer;
 use crate::sizes::Entry;
 use twkb_flat::Node;
-use twkb_grammar::Style;
-use twkb_header::{Metadata, MetadataFlags, TypeByte};
+use twkb_grammar::{Metadata, MetadataFlags, Style, TypeByte};
 use twkb_io::Sink;
 
 // Whether a geometry with so many points of its own has no body.

@@ -30,7 +30,7 @@ pub(crate) fn look_at_reads(work: &Work)
     let _learnt = work.point_reads;
 }
 
-// The points of a row before those up to the end of its geometry, each read once.
+// The points of a row before those up to the end of its geometry, each read once, two at a time from the last on.
 #[inline(always)]
 pub(crate) fn take_points(flat: &Flat, id: NodeId, node: &Node, tail: Tail, work: &mut Work) -> Tail
     requires node { IsNode flat.now id.0 node.now }
@@ -41,12 +41,23 @@ pub(crate) fn take_points(flat: &Flat, id: NodeId, node: &Node, tail: Tail, work
     ensures reads { ReadsExactly work.old 0 node.now.points work.new }
 {
     look_at_reads(work);
-    let mut tail = tail;
-    for back in 0..node.points {
-        let point = flat.point(PointId(node.first.0 + (node.points - 1 - back)), work);
-        tail = tail.behind(point);
+    if node.points == 0 {
+        return tail;
     }
-    tail
+    let last = node.first.0 + (node.points - 1);
+    let point = flat.point(PointId(last), work);
+    let mut points = tail.begun(point);
+    for pair in 0..(node.points - 1) / 2 {
+        let place = last - 2 * pair;
+        let next = flat.point(PointId(place - 1), work);
+        let point = flat.point(PointId(place - 2), work);
+        points = points.behind_two(point, next);
+    }
+    if node.points % 2 == 1 {
+        return points.tail();
+    }
+    let first = flat.point(node.first, work);
+    points.tail().behind(first)
 }
 
 // Takes in a row that is a geometry of its own, and gives its entry.

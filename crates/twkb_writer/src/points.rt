@@ -11,7 +11,7 @@ use twkb_flat::{Flat, Node, PointId, Work};
 use twkb_io::Sink;
 use twkb_points::Cursor;
 
-// Puts the way of a cursor through a node's own points. Reads each once.
+// Puts the way of a cursor through a node's own points, two at a time. Reads each once.
 #[inline(always)]
 pub(crate) fn put_points<S: Sink>(
     flat: &Flat,
@@ -27,7 +27,15 @@ pub(crate) fn put_points<S: Sink>(
     ensures reads { Reads work.old 0 node.now.points work.new }
 {
     let first = node.first.0;
-    for index in first..first + node.points {
+    let end = first + node.points;
+    let mut index = first;
+    while end - index >= 2 {
+        let to = flat.point(PointId(index), work);
+        let next = flat.point(PointId(index + 1), work);
+        gatherer.put_steps(cursor, to, next);
+        index += 2;
+    }
+    if index < end {
         let to = flat.point(PointId(index), work);
         gatherer.put_step(cursor, to);
     }

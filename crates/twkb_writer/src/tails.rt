@@ -1,9 +1,10 @@
 //! The points from a place on up to the end of their geometry, taken in from the last to the first.
 ghost use Rattle.std.specs.Prelude.{◌≡◌, ◌+◌, ◌≤◌, ◌^◌, [], ◌∷◌, List};
 ghost use Rattle.twkb_points.specs.Point.{Point};
-ghost use Rattle.twkb_writer.specs.Tails.{step_len, from_origin, tail_of};
+ghost use Rattle.twkb_writer.specs.Tails.{step_len, from_origin, tail_from, tail_of};
 
 use crate::lengths::signed_len;
+use twkb_num::{VarintLens, zigzag};
 use twkb_points::{Bounds, Cursor, Pt, merged};
 
 // What the points from a place on up to the end of their geometry come to.
@@ -17,6 +18,14 @@ pub(crate) struct Tail {
     pub(crate) bounds: Option<Bounds>,
 }
 
+// The same of one point at least.
+#[derive(Drop)]
+pub(crate) struct NonEmptyTail {
+    pub(crate) first: Pt,
+    pub(crate) bytes: VarintLens,
+    pub(crate) bounds: Bounds,
+}
+
 // The bytes of the way from one point to the next.
 fn step_len(from: Pt, to: Pt) -> u64
     ensures value { result ≡ step_len from to }
@@ -26,6 +35,21 @@ fn step_len(from: Pt, to: Pt) -> u64
     let _to_the_start = cursor.delta(from);
     let (x, y) = cursor.delta(to);
     signed_len(x) + signed_len(y)
+}
+
+// Counts the bytes of the way from one point by another to a third.
+#[tactic(auto, unfolding(crate::specs::Tails::number_len))]
+#[inline(always)]
+fn add_two_steps(bytes: &mut VarintLens, from: Pt, by: Pt, to: Pt)
+    requires room { bytes.old ≤ 2 ^ 31 }
+    ensures value { bytes.new ≡ bytes.old + (step_len from by + step_len by to) }
+    ensures most { bytes.new ≤ bytes.old + 40 }
+{
+    let mut cursor = Cursor::origin();
+    let _to_the_start = cursor.delta(from);
+    let (x, y) = cursor.delta(by);
+    let (next_x, next_y) = cursor.delta(to);
+    bytes.add_four(zigzag(x), zigzag(y), zigzag(next_x), zigzag(next_y));
 }
 
 impl Tail {
@@ -57,6 +81,28 @@ impl Tail {
         }
     }
 
+    // The same with a point before them, so that there is one.
+    #[inline(always)]
+    pub(crate) fn begun(self, point: Pt) -> NonEmptyTail
+        requires room { self.bytes ≤ 2 ^ 40 }
+        ensures value { (ps : List Point) → self ≡ tail_of ps → tail_from result ≡ tail_of (point ∷ ps) }
+        ensures most { result.bytes ≤ self.bytes + 20 }
+    {
+        let step = match self.first {
+            Some(next) => step_len(point, next),
+            None => 0,
+        };
+        let mut bounds = Bounds::of(point);
+        if let Some(others) = self.bounds {
+            bounds.merge(&others);
+        }
+        NonEmptyTail {
+            first: point,
+            bytes: VarintLens::from(step + self.bytes),
+            bounds,
+        }
+    }
+
     // The bytes of all their differences, where the first counts from (0, 0).
     pub(crate) fn from_origin(&self) -> u64
         requires room { self.now.bytes ≤ 2 ^ 40 }
@@ -69,6 +115,41 @@ impl Tail {
                 signed_len(x) + signed_len(y) + self.bytes
             }
             None => 0,
+        }
+    }
+}
+
+impl NonEmptyTail {
+    // The same with two points before them.
+    #[inline(always)]
+    pub(crate) fn behind_two(self, point: Pt, next: Pt) -> NonEmptyTail
+        requires room { self.bytes ≤ 2 ^ 31 }
+        ensures value { (ps : List Point) → tail_from self ≡ tail_of ps → tail_from result ≡ tail_of (point ∷ next ∷ ps) }
+        ensures most { result.bytes ≤ self.bytes + 40 }
+    {
+        let mut others = Bounds::of(next);
+        others.merge(&self.bounds);
+        let mut bounds = Bounds::of(point);
+        bounds.merge(&others);
+        let mut bytes = self.bytes;
+        add_two_steps(&mut bytes, point, next, self.first);
+        NonEmptyTail {
+            first: point,
+            bytes,
+            bounds,
+        }
+    }
+
+    // The same as any tail.
+    #[inline(always)]
+    pub(crate) fn tail(self) -> Tail
+        requires { self.bytes ≤ 2 ^ 31 }
+        ensures { result ≡ tail_from self }
+    {
+        Tail {
+            first: Some(self.first),
+            bytes: self.bytes.total(),
+            bounds: Some(self.bounds),
         }
     }
 }

@@ -6,7 +6,13 @@ use twkb_io::{Fuse, FuseEnd, Output, Tap};
 use twkb_writer::{Style, measure_flat, write_flat};
 
 // Whether a device with room for so many bytes takes that front of the form's blob, and only the whole blob is told as written.
-fn keeps_a_front(alloc: Global, flat: &Flat, style: Style, blob: &[u8], room: usize) -> bool {
+pub(super) fn keeps_a_front(
+    alloc: Global,
+    flat: &Flat,
+    style: Style,
+    blob: &[u8],
+    room: usize,
+) -> bool {
     let mut work = Work::new();
     let Ok(sizes) = measure_flat(alloc, flat, style, &mut work) else {
         return false;

@@ -1,10 +1,9 @@
 //! The line and the status of causes, as docs/FORMATS.md has them. Those of other records and items are rows of the program `vectors`.
 use std::alloc::Global;
-use twkb_command::status;
+use twkb_command::{print_line, status};
 use twkb_convert::{BlobReason, Cause};
 use twkb_io::Tap;
 use twkb_polyline::PolyReason;
-use twkb_request::print_line;
 use twkb_table::RowReason;
 
 // A cause, its status and its line.

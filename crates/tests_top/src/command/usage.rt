@@ -3,8 +3,8 @@ use super::{Ended, POINT_TABLE, run_over};
 use crate::devices::{AMPLE, SOUND};
 use std::alloc::Global;
 use std::io::ErrorKind;
+use twkb_command::lack_words;
 use twkb_io::Tap;
-use twkb_request::lack_words;
 
 // Whether a run ended with 2, with a text on standard error alone, which has this in it.
 fn names(ended: &Ended, named: &str) -> bool {

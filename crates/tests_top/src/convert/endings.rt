@@ -4,9 +4,8 @@ use examples::Account;
 use std::alloc::Global;
 use std::io;
 use std::io::{ErrorKind, Read};
-use twkb_convert::Cause;
+use twkb_convert::{Cause, Conversion, Style};
 use twkb_io::{Ending, Tap};
-use twkb_request::Conversion;
 
 // Gives a text, then tells its end once, and then fails.
 #[derive(Drop)]
@@ -42,7 +41,7 @@ struct Input {
 const TABLE: &[u8] = b"depth,kind,id,precision,polyline\n0,point,,0,AC\n0,point,,0,AA\n";
 
 const PACKED: Input = Input {
-    what: Conversion::Pack,
+    what: Conversion::Pack(Style::Full),
     text: TABLE,
     done: 2,
     sent: 10,
@@ -115,6 +114,6 @@ fn a_read_that_fails_behind_the_end_is_a_failed_read(rt: HostRuntime) {
         sent: 10,
         stopped: Some(Cause::ReadDevice),
     };
-    let is_told = account(rt.alloc(), Conversion::Pack, &mut reader) == due;
+    let is_told = account(rt.alloc(), Conversion::Pack(Style::Full), &mut reader) == due;
     assert!(rt; is_told);
 }

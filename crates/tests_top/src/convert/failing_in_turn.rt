@@ -5,9 +5,8 @@ use super::worked::{WORKED, Worked};
 use crate::devices::{Failing, SOUND};
 use examples::Account;
 use std::alloc::Global;
-use twkb_convert::Cause;
+use twkb_convert::{Cause, Conversion, Style};
 use twkb_io::FuseEnd;
-use twkb_request::Conversion;
 
 // How many geometries are done where so many bytes of the output are written.
 fn done_with(worked: &Worked, sent: usize) -> u64 {
@@ -70,7 +69,7 @@ fn each_write_that_fails_or_takes_nothing_is_told_behind_the_bytes_before_it(rt:
 // How many bytes are written where a read fails behind so many: of a table a front of the blobs, of a stream what stands
 // in front of its first blob, and all once that is whole.
 fn sent_before(worked: &Worked, given: usize, written: usize) -> usize {
-    if worked.what == Conversion::Pack {
+    if worked.what == Conversion::Pack(Style::Full) {
         written
     } else if given < worked.whole {
         worked.before
@@ -143,7 +142,9 @@ fn a_conversion_flushes_once_and_last_and_a_flush_that_fails_comes_before_other_
 
 // Whether want of memory may be told behind so many bytes: of a stream, in front of the blob or behind all output.
 fn may_want(worked: &Worked, sent: usize) -> bool {
-    worked.what == Conversion::Pack || sent == worked.output.len() || sent == worked.before
+    worked.what == Conversion::Pack(Style::Full)
+        || sent == worked.output.len()
+        || sent == worked.before
 }
 
 // Whether a conversion is whole, or is told behind a front of the output to want memory, or, where the writer in memory

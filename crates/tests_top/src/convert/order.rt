@@ -2,8 +2,7 @@
 use super::runs::carried;
 use crate::devices::{Failing, SOUND};
 use std::alloc::Global;
-use twkb_convert::Cause;
-use twkb_request::Conversion;
+use twkb_convert::{Cause, Conversion, Style};
 
 // A conversion, how many bytes are written of it, and how many are read for them.
 #[derive(Clone, Copy)]
@@ -24,7 +23,7 @@ const UNPACKED: Asked = Asked {
 
 // Three points, and a row that is none.
 const PACKED: Asked = Asked {
-    what: Conversion::Pack,
+    what: Conversion::Pack(Style::Full),
     input: b"depth,kind,id,precision,polyline\n0,point,,0,AC\n0,point,,0,AA\n0,point,,0,AC\n0,pont,,0,\n",
     taken: 0,
     read: 61,

@@ -3,10 +3,9 @@ use crate::devices::{Failing, cut_reader, cut_writer};
 use examples::Account;
 use std::alloc::Global;
 use std::io::{Read, Write};
-use twkb_convert::{ConvertFault, Report, pack, show, unpack};
+use twkb_convert::{Conversion, ConvertFault, Report, convert};
 use twkb_geom::Limits;
 use twkb_io::Tap;
-use twkb_request::Conversion;
 
 // An answer, as an account of it.
 fn account_of(answer: Result<Report, ConvertFault>) -> Account {
@@ -32,11 +31,7 @@ pub fn carry_out<R: Read, W: Write>(
     writer: &mut Tap<W>,
 ) -> Account {
     let limits = Limits::standard();
-    account_of(match what {
-        Conversion::Pack => pack(alloc, reader, writer, limits),
-        Conversion::Unpack => unpack(alloc, reader, writer, limits),
-        Conversion::Show => show(alloc, reader, writer, limits),
-    })
+    account_of(convert(alloc, what, reader, writer, limits))
 }
 
 /// What a conversion did, what was written, how many bytes it read, how many writes and flushes it asked for, and

@@ -1,6 +1,5 @@
 //! Conversions worked by hand.
-use twkb_convert::{BlobReason, Cause, RowReason};
-use twkb_request::Conversion;
+use twkb_convert::{BlobReason, Cause, Conversion, RowReason, Style};
 
 /// A conversion, its input and the whole of its output, which is that of no geometry, of one, or for a table of two.
 #[derive(Clone, Copy)]
@@ -58,7 +57,7 @@ const BAD_TYPE: Cause = Cause::Blob {
 
 const PACKED: Worked = Worked {
     name: "a point is packed",
-    what: Conversion::Pack,
+    what: Conversion::Pack(Style::Full),
     input: POINT,
     output: POINT_BLOB,
     before: 0,

@@ -1,13 +1,26 @@
 use Rattle.std.proofs.Common.{◌<◌, arith}
 use Rattle.twkb_body.proofs.PointRuns.{line_longer, line_longer_by_two, list_none, list_more, list_two_more, list_stops, row_err}
+use Rattle.twkb_body.proofs.PointLists.{list_on, list_stops_on}
 use Rattle.twkb_body.proofs.list_points.take_row.Goals as goal
 
 pub loop-left-init : goal.loop-left-init
 loop-left-init c = record { leads = list_none c.args.flat.now c.args.from c.args.bytes.now c.args.most; line = c.requires.line; room = c.requires.room }
 
+pub returns-in_err-taken : goal.returns-in_err-taken
+returns-in_err-taken c =
+    row_err _ c.args.flat.now _ c.args.from c.args.bytes.now c.args.most c.from_residual.result c.from_residual.ensures.1
+    (list_stops_on c.args.flat.now c.loop-left.flat c.args.most c.loop-left.left c.args.from c.args.bytes.now _ c.loop-left.invariant.leads c.in_err-taken.ensures.taken)
+
+pub loop-left-preserved-then-bytes-used-ge-BLOCK : goal.loop-left-preserved-then-bytes-used-ge-BLOCK
+loop-left-preserved-then-bytes-used-ge-BLOCK c = record {
+  leads = list_on c.args.flat.now c.loop-left.flat c.take_eights.new.flat c.args.most c.loop-left.left c.in_ok-taken.behind c.args.from c.args.bytes.now _ c.in_ok-taken.taken c.loop-left.invariant.leads c.in_ok-taken.ensures.taken;
+  line = c.in_ok-taken.ensures.still_line;
+  room = c.in_ok-taken.ensures.still_room;
+}
+
 pub returns-in_err-add_two : goal.returns-in_err-add_two
 returns-in_err-add_two c =
-    row_err _ c.args.flat.now _ c.args.from c.args.bytes.now c.args.most c.from_residual.result c.from_residual.ensures.1
+    row_err _ c.args.flat.now _ c.args.from c.args.bytes.now c.args.most c.from_residual-in_err-add_two.result c.from_residual-in_err-add_two.ensures.1
     (list_stops c.args.flat.now c.loop-left.flat c.args.most c.loop-left.left _ c.args.from _ c.args.bytes.now _ c.loop-left.invariant.leads (omega (arith, c.loop-left-test.true)) c.in-Some.ensures.leads)
 
 pub returns-in_err-add_point : goal.returns-in_err-add_point

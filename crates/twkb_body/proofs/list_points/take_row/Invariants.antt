@@ -1,4 +1,4 @@
-use Rattle.std.proofs.Common.{length, ◌+◌, ◌≤◌, ◌^◌}
+use Rattle.std.proofs.Common.{length, ◌+◌, ◌-◌, ◌≤◌, ◌^◌}
 use Rattle.twkb_tree.specs.Rows.{row_points}
 use Rattle.twkb_tree.specs.RowGrowth.{EndsInLine}
 use Rattle.twkb_body.specs.Running.{ListLeads}
@@ -12,5 +12,6 @@ invariant-loop-left l = record {
   room : length (row_points l.flat) + l.left ≤ 2 ^ 24;
 }
 
+-- a look for blocks takes no point where there are none, and is not made again before `next_look`
 abbrev pub decreases-loop-left : goal.decreases-loop-left
-decreases-loop-left l = l.left
+decreases-loop-left l = l.left + (length l.bytes - l.next_look)

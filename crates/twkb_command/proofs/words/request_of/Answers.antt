@@ -17,4 +17,4 @@ returns c =
     let used = used_is c.args.matches.now c.in-Some.name.now (rows_of (found_of inner)) c.in-Some.ensures.name c.in-Some.ensures.rows in
     let text = one_text-rows (found_of inner) (codes "max-nest") in
     let style = first_value-rows (found_of inner) (codes "style") in
-    rw used (c.conversion_of.ensures, rw (← text) c.limits_of.ensures, rw (← style) c.style_of.ensures)
+    rw used (rw (← style) c.conversion_of.ensures, rw (← text) c.limits_of.ensures)

@@ -8,7 +8,7 @@ pub returns : goal.returns
 returns c =
     let fits : SFits w8 c.args.span.now.precision = search rules in
     let level = rw c.from.ensures at c.push_count.ensures.appended in
-    let kind = rw c.kind_field-count.ensures.word at c.push_front.ensures in
+    let kind = c.push_kind.ensures.appended in
     let precision = simp (to_z-of_z w8 c.args.span.now.precision fits) at c.push_precision.ensures.appended in
     let line : c.push_count-3.new.line ≡ c.new-line.result ++ span_line c.args.span.now = c.push_count-3.ensures.appended
     ∙ words_put c.new-line.result (32 ∷ []) _ _ _ _ _ _ _ _ _ _ _ _ _

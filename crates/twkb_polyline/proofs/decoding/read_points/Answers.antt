@@ -1,6 +1,7 @@
-use Rattle.std.proofs.Common.{◌≡◌, ◌∙◌, ◌+◌, ◌<◌, ◌≤◌, [], ◌∷◌, ◌++◌, length, refl, ap, append_assoc, arith}
+use Rattle.std.proofs.Common.{◌≡◌, ◌∙◌, ◌+◌, ◌-◌, ◌<◌, ◌≤◌, ◌^◌, rules, [], ◌∷◌, ◌++◌, length, refl, ap, append_assoc, arith}
 use Rattle.std.proofs.lemmas.Result.{err_from_is_err_and}
 use Rattle.twkb_polyline.proofs.DecodeLemmas.{read_count, has_read_all, has_read_none, has_read_more, has_read_pair, one_too_many, text_refused, no_memory, no_memory_between}
+use Rattle.twkb_polyline.proofs.PointLists.{has_read_points, no_memory_on, points_end, points_from}
 use Rattle.twkb_polyline.proofs.decoding.read_points.Goals as goal
 
 pub loop-at-init : goal.loop-at-init
@@ -33,9 +34,48 @@ loop-at-preserved-in-Some g c =
       held = c.loop-at.invariant.held;
     })
 
+pub returns-in_err-at-clause-refuses : goal.returns-in_err-at-clause-refuses
+returns-in_err-at-clause-refuses g c =
+    let p = err_from_is_err_and c.from_residual.result c.from_residual.ensures.1 in
+    let old = g.L.PointTail.held c.args.points.now in
+    let held = g.L.PointTail.held c.loop-at.points in
+    let read = c.loop-at.invariant.read in
+    let count = read_count c.args.text.now c.args.max c.loop-at.at c.loop-at.cursor old held read in
+    rw (p.1, p.2) (no_memory_on c.args.text.now c.args.max c.loop-at.at _ c.loop-at.cursor old held read c.in_err-at.ensures.refused (omega (arith, c.count.ensures, c.loop-at.invariant.held, read.few, count)))
+
+pub overflow_add-next_look : goal.overflow_add-next_look
+overflow_add-next_look g c =
+    let put = c.in_ok-at.ensures.read in
+    let end = points_end put.ps c.args.text.now c.loop-at.at c.in_ok-at.at _ _ c.loop-at.invariant.read.within put.points in
+    let few : length c.args.text.now + 32 < 2 ^ 64 = search rules in
+    record { fits = omega (arith, end, few) }
+
+pub loop-at-smaller-then-text-at-ge-BLOCK : goal.loop-at-smaller-then-text-at-ge-BLOCK
+loop-at-smaller-then-text-at-ge-BLOCK g c =
+    let put = c.in_ok-at.ensures.read in
+    let text = c.args.text.now in
+    let end = points_end put.ps text c.loop-at.at c.in_ok-at.at _ _ c.loop-at.invariant.read.within put.points in
+    let on = points_from put.ps text c.loop-at.at c.in_ok-at.at _ _ put.points in
+    let smaller : length text - c.in_ok-at.at + (length text - (c.in_ok-at.at + 32)) < length text - c.loop-at.at + (length text - c.loop-at.next_look) =
+    omega (arith, end, on, c.if-at-next_look.true, c.if-text-at-ge-BLOCK.true) in
+    smaller
+
+pub loop-at-preserved-then-text-at-ge-BLOCK : goal.loop-at-preserved-then-text-at-ge-BLOCK
+loop-at-preserved-then-text-at-ge-BLOCK g c =
+    let old = g.L.PointTail.held c.args.points.now in
+    let held = g.L.PointTail.held c.loop-at.points in
+    let read = c.loop-at.invariant.read in
+    let put = c.in_ok-at.ensures.read in
+    let count = read_count c.args.text.now c.args.max c.loop-at.at c.loop-at.cursor old held read in
+    record {
+      read = has_read_points put.ps c.args.text.now c.args.max c.loop-at.at c.in_ok-at.at c.loop-at.cursor c.read_eights.new.cursor old held (g.L.PointTail.held c.read_eights.new.points) read put.points
+          (omega (arith, c.count.ensures, c.loop-at.invariant.held, read.few, put.few, count)) put.appended;
+      held = c.loop-at.invariant.held;
+    }
+
 pub returns-in_err-put-clause-refuses : goal.returns-in_err-put-clause-refuses
 returns-in_err-put-clause-refuses g c =
-    let p = err_from_is_err_and c.from_residual.result c.from_residual.ensures.1 in
+    let p = err_from_is_err_and c.from_residual-in_err-put.result c.from_residual-in_err-put.ensures.1 in
     let old = g.L.PointTail.held c.args.points.now in
     let held = g.L.PointTail.held c.loop-at.points in
     let read = c.loop-at.invariant.read in

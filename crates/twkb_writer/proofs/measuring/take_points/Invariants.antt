@@ -3,12 +3,12 @@ use Rattle.std.proofs.Common.{◌≡◌, ◌≤◌, ◌+◌, ◌*◌, ◌-◌, �
 use Rattle.twkb_points.specs.Point.{Point}
 use Rattle.twkb_writer.specs.Measuring.{points_at}
 use Rattle.twkb_writer.specs.Reads.{ReadsExactly}
-use Rattle.twkb_writer.specs.Tails.{tail_of}
+use Rattle.twkb_writer.specs.Tails.{tail_from, tail_of}
 use Rattle.twkb_writer.proofs.measuring.take_points.Given as goal
 
-abbrev pub invariant-loop-back : goal.invariant-loop-back
-invariant-loop-back l = record {
-  value : (ahead : List Point) → l.fn.tail ≡ tail_of ahead → l.tail ≡ tail_of (drop (l.node.points - l.back) (points_at (drop l.fn.id.0 l.flat)) ++ ahead);
-  most : l.tail.bytes ≤ l.fn.tail.bytes + 20 * l.back;
-  reads : ReadsExactly l.fn.work 0 l.back l.work;
+abbrev pub invariant-loop-pair : goal.invariant-loop-pair
+invariant-loop-pair l = record {
+  value : (ahead : List Point) → l.fn.tail ≡ tail_of ahead → tail_from l.points ≡ tail_of (drop (l.node.points - (1 + 2 * l.pair)) (points_at (drop l.fn.id.0 l.flat)) ++ ahead);
+  most : l.points.bytes ≤ l.fn.tail.bytes + 20 * (1 + 2 * l.pair);
+  reads : ReadsExactly l.fn.work 0 (1 + 2 * l.pair) l.work;
 }

@@ -1,12 +1,10 @@
-use Rattle.std.proofs.Common.{◌+◌, ◌≤◌, length, ap, arith}
-use Rattle.std.proofs.lemmas.List.{length-take-le}
-use Rattle.twkb_num.proofs.PieceLemmas.{low_stored}
+use Rattle.std.proofs.Common.{◌++◌, ◌∙◌, ap, take}
+use Rattle.twkb_num.proofs.PieceLemmas.{take-le_bytes}
 use Rattle.twkb_num.proofs.piece.Piece.push_low.Goals as goal
 
 pub returns : goal.returns
-returns c =
-    let bytes = c.self.inside.bytes in
-    let len = c.self.inside.len in
-    let held = length-take-le len bytes (omega (arith, c.self.invariant, c.self.told)) in
-    let within : len + 8 ≤ length bytes = omega (arith, c.self.told, held, ap length c.self.view_is, c.requires.room) in
-    low_stored bytes _ _ len _ c.args.count c.args.word (omega arith) within c.self.view_is c.requires.few c.to_le_bytes.ensures
+returns g c =
+    let held = c.args.self.now in
+    c.push_eight.ensures
+    ∙ ap (λ bs. held ++ take c.args.count bs) c.to_le_bytes.ensures
+    ∙ ap (λ bs. held ++ bs) (take-le_bytes c.args.count c.args.word c.requires.few)

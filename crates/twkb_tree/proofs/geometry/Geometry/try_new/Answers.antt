@@ -2,8 +2,8 @@ use Rattle.twkb_tree.proofs.Shapes.{IsTree-tree_of, IsTreeInRange-tree_of}
 use Rattle.std.proofs.Common.{rules}
 use Rattle.twkb_tree.proofs.geometry.Geometry.try_new.Goals as goal
 
-pub returns-then-precision-ltminus8 : goal.returns-then-precision-ltminus8
-returns-then-precision-ltminus8 c = search rules
+pub returns-then-precision-lt-LEAST_PRECISION : goal.returns-then-precision-lt-LEAST_PRECISION
+returns-then-precision-lt-LEAST_PRECISION c = search rules
 
 pub returns-then-not-has_fit_ids : goal.returns-then-not-has_fit_ids
 returns-then-not-has_fit_ids c = search rules

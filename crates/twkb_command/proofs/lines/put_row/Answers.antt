@@ -1,0 +1,12 @@
+use Rattle.twkb_command.proofs.PrintLemmas.{prints_join}
+use Rattle.twkb_command.proofs.ShortWords.{short_row_line}
+use Rattle.twkb_command.proofs.lines.put_row.Goals as goal
+
+pub returns-clause-prints : goal.returns-clause-prints
+returns-clause-prints g c =
+    let join = prints_join g.W.Write.contents in
+    join _ _ _ _ _ c.put_text.ensures (join _ _ _ _ _ c.put_decimal.ensures.prints
+    (join _ _ _ _ _ c.put_text-2.ensures c.put_row_reason.ensures.prints))
+
+pub returns-clause-short : goal.returns-clause-short
+returns-clause-short g c = short_row_line c.args.number c.args.reason c.put_decimal.ensures.short c.put_row_reason.ensures.short

@@ -1,0 +1,32 @@
+//! The status with which a run ends.
+ghost use Rattle.std.specs.Prelude.{◌≡◌};
+ghost use Rattle.twkb_command.specs.ExitCode.{status_of};
+
+use twkb_convert::Cause;
+
+// Everything was converted, or help was asked for and given.
+pub(crate) const DONE: u8 = 0;
+
+// The input is refused, or too long.
+const REFUSED: u8 = 1;
+
+// The words of the command line are refused.
+pub(crate) const USAGE: u8 = 2;
+
+// A device failed.
+const DEVICE: u8 = 3;
+
+// No memory was found.
+pub(crate) const MEMORY: u8 = 4;
+
+/// The status of a conversion that stopped: 1 where the input is refused or a length passes its
+/// bound, 3 where a device failed, 4 for want of memory.
+pub fn status(cause: &Cause) -> u8
+    ensures { result ≡ status_of cause.now }
+{
+    match cause {
+        Cause::Row { .. } | Cause::Blob { .. } | Cause::TooLong | Cause::TooManyRecords => REFUSED,
+        Cause::ReadDevice | Cause::WriteDevice => DEVICE,
+        Cause::Memory => MEMORY,
+    }
+}

@@ -1,0 +1,118 @@
+//! The line on standard error that tells why a conversion stopped, and other texts.
+ghost use Rattle.std.specs.Prelude.{◌++◌, ◌≤◌, ◌^◌, codes, decimal, length};
+ghost use Rattle.twkb_engine.specs.Texts.{blob_words};
+ghost use Rattle.twkb_command.specs.Lines.{cause_text, line_of, reason_text, text_reason};
+ghost use Rattle.twkb_command.specs.Printing.{IsPrinted, Prints};
+
+use itoa::Buffer;
+use std::io::Write;
+use twkb_convert::{BlobReason, Cause};
+use twkb_io::{Output, Sink, Tap};
+use twkb_polyline::PolyReason;
+use twkb_table::RowReason;
+
+// Puts a text, unless a put before was refused.
+fn put_text<W: Write>(output: &mut Output<'_, W>, text: &str)
+    ensures { Prints W.contents output.old text.now output.new }
+{
+    let _ = output.put(text.as_bytes());
+}
+
+// Puts a number in decimals.
+fn put_decimal<W: Write>(output: &mut Output<'_, W>, number: u64)
+    ensures prints { Prints W.contents output.old (decimal number) output.new }
+    ensures short { length (decimal number) ≤ 40 }
+{
+    let mut buffer = Buffer::new();
+    put_text(output, buffer.format(number));
+}
+
+// Puts what is wrong with a text of points, and where.
+fn put_text_reason<W: Write>(output: &mut Output<'_, W>, offset: usize, reason: PolyReason)
+    ensures prints { Prints W.contents output.old (text_reason offset reason) output.new }
+    ensures short { length (text_reason offset reason) ≤ 100 }
+{
+    put_text(output, "polyline at ");
+    put_decimal(output, offset as u64);
+    put_text(output, ": ");
+    put_text(output, reason.text());
+}
+
+// Puts what is wrong with a record.
+fn put_row_reason<W: Write>(output: &mut Output<'_, W>, reason: RowReason)
+    ensures prints { Prints W.contents output.old (reason_text reason) output.new }
+    ensures short { length (reason_text reason) ≤ 100 }
+{
+    match reason {
+        RowReason::Polyline(offset, fault) => put_text_reason(output, offset, fault),
+        _ => put_text(output, reason.text()),
+    }
+}
+
+// Puts which record is refused, and why.
+fn put_row<W: Write>(output: &mut Output<'_, W>, number: u64, reason: RowReason)
+    ensures prints { Prints W.contents output.old (codes "record " ++ (decimal number ++ (codes ": " ++ reason_text reason))) output.new }
+    ensures short { length (codes "record " ++ (decimal number ++ (codes ": " ++ reason_text reason))) ≤ 160 }
+{
+    put_text(output, "record ");
+    put_decimal(output, number);
+    put_text(output, ": ");
+    put_row_reason(output, reason);
+}
+
+// Puts which item is refused, and why.
+fn put_blob<W: Write>(output: &mut Output<'_, W>, offset: u64, reason: BlobReason)
+    ensures prints { Prints W.contents output.old (codes "byte " ++ (decimal offset ++ (codes ": " ++ blob_words reason))) output.new }
+    ensures short { length (codes "byte " ++ (decimal offset ++ (codes ": " ++ blob_words reason))) ≤ 160 }
+{
+    put_text(output, "byte ");
+    put_decimal(output, offset);
+    put_text(output, ": ");
+    put_text(output, reason.text());
+}
+
+// Puts where a conversion stopped, and why.
+fn put_cause<W: Write>(output: &mut Output<'_, W>, cause: Cause)
+    ensures prints { Prints W.contents output.old (cause_text cause) output.new }
+    ensures short { length (cause_text cause) ≤ 160 }
+{
+    match cause {
+        Cause::Row { number, reason } => put_row(output, number, reason),
+        Cause::Blob { offset, reason } => put_blob(output, offset, reason),
+        _ => put_text(output, cause.text()),
+    }
+}
+
+// Puts the line of a cause.
+fn put_line<W: Write>(output: &mut Output<'_, W>, cause: Cause)
+    ensures prints { Prints W.contents output.old (line_of cause) output.new }
+    ensures short { length (line_of cause) ≤ 200 }
+{
+    put_text(output, "polytwkb: ");
+    put_cause(output, cause);
+    put_text(output, "\n");
+}
+
+// Puts a text, and flushes.
+fn put_flushed<W: Write>(output: &mut Output<'_, W>, text: &str)
+    ensures { Prints W.contents output.old text.now output.new }
+{
+    put_text(output, text);
+    let _ = output.flush();
+}
+
+// Prints a text and flushes, up to the first write that fails. Takes no memory.
+pub(crate) fn print_text<W: Write>(device: &mut Tap<W>, text: &str)
+    ensures { length text.now ≤ 2 ^ 62 → IsPrinted W.contents device.old text.now device.new }
+{
+    let mut output = Output::new(device);
+    put_flushed(&mut output, text);
+}
+
+/// Prints the line of a cause, up to the first write that fails. Takes no memory.
+pub fn print_line<W: Write>(device: &mut Tap<W>, cause: Cause)
+    ensures { IsPrinted W.contents device.old (line_of cause) device.new }
+{
+    let mut output = Output::new(device);
+    put_line(&mut output, cause);
+}

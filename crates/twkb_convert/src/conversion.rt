@@ -1,0 +1,40 @@
+//! The three conversions by one call, over any reader and writer.
+ghost use Rattle.twkb_convert.specs.Conversions.{Converts};
+
+use crate::packing::pack_styled;
+use crate::report::{ConvertFault, Report};
+use crate::showing::show;
+use crate::unpacking::unpack;
+use std::alloc::Global;
+use std::io::{Read, Write};
+use twkb_io::Tap;
+use twkb_tree::Limits;
+use twkb_writer::Style;
+
+/// What is converted.
+#[derive(Clone, Copy, PartialEq, Eq, Debug)]
+pub enum Conversion {
+    /// A table to a stream, in a style.
+    Pack(Style),
+    /// A stream to a table.
+    Unpack,
+    /// A stream to lines of its headers.
+    Show,
+}
+
+/// Converts all that a reader gives: `pack_styled`, `unpack` or `show`.
+pub fn convert<R: Read, W: Write>(
+    alloc: Global,
+    what: Conversion,
+    reader: &mut Tap<R>,
+    writer: &mut Tap<W>,
+    limits: Limits,
+) -> Result<Report, ConvertFault>
+    ensures { Converts what limits R.remaining W.contents reader.old writer.old reader.new writer.new result }
+{
+    match what {
+        Conversion::Pack(style) => pack_styled(alloc, reader, writer, limits, style),
+        Conversion::Unpack => unpack(alloc, reader, writer, limits),
+        Conversion::Show => show(alloc, reader, writer, limits),
+    }
+}

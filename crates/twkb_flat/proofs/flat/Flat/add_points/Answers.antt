@@ -1,0 +1,28 @@
+use Rattle.std.proofs.Common.{List, ◌++◌, length, ap, ◌∙◌}
+use Rattle.std.specs.Vec.{with_items}
+use Rattle.twkb_points.specs.Point.{Point}
+use Rattle.twkb_flat.specs.Adding.{points_added}
+use Rattle.twkb_flat.proofs.CountedPoints.{StandFor}
+use Rattle.twkb_flat.proofs.CountedMore.{points_more, can_count_more, vec_counted_by}
+use Rattle.twkb_flat.proofs.flat.Flat.add_points.Goals.{After-self, After-count_points}
+use Rattle.twkb_flat.proofs.flat.Flat.add_points.Goals as goal
+
+-- before anything is appended
+before : (c : After-self) → StandFor c.args.self.now c.self.inside.entries.items c.self.inside.points.items
+before c = record { flat = c.self.invariant; view = c.self.view_is; line = c.requires.line }
+
+-- behind the points
+behind : (c : After-count_points) → StandFor (points_added c.args.points.now c.args.self.now) (with_items c.self.inside.entries c.count_points.new.entries).items c.put_reserved.new.points.items
+behind c =
+    let counted = vec_counted_by (length c.args.points.now) c.self.inside.entries c.deref_mut.result.now c.count_points.new.entries c.deref_mut.ensures.value c.count_points.ensures.spans c.count_points.ensures.links in
+    let appended = c.put_reserved.ensures ∙ ap (λ (ps : List Point). ps ++ c.args.points.now) c.in_ok-make_room.ensures.same in
+    points_more c.args.points.now _ _ _ _ _ (record { flat = c.self.invariant; view = c.self.view_is; line = c.requires.line }) c.requires.room c.look.ensures counted.0 counted.1 appended
+
+pub count_points-requires-clause-room : goal.count_points-requires-clause-room
+count_points-requires-clause-room c = (can_count_more (length c.args.points.now) _ _ _ _ (before (goal.at.count_points-requires-clause-room c).After-self) c.requires.room c.deref_mut.ensures.value).1
+
+pub invariant_of-self-2 : goal.invariant_of-self-2
+invariant_of-self-2 c = (behind (goal.at.invariant_of-self-2 c).After-count_points).flat
+
+pub returns-clause-added : goal.returns-clause-added
+returns-clause-added c = (behind (goal.at.returns-clause-added c).After-count_points).view

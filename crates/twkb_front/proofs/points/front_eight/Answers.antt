@@ -1,0 +1,28 @@
+use Rattle.std.proofs.Common.{◌+◌}
+use Rattle.twkb_num.proofs.BlockLemmas.{ends_after, ends_behind, ends_in_slice}
+use Rattle.twkb_front.proofs.EightInFront.{eight_found}
+use Rattle.twkb_front.proofs.points.front_eight.Goals as goal
+
+pub front_two_by-requires-3-clause-ends : goal.front_two_by-requires-3-clause-ends
+front_two_by-requires-3-clause-ends c =
+    let bytes = c.args.bytes.now in
+    let two = c.in_ok-a.two in
+    let more = c.in_ok-c.more in
+    ends_in_slice 0 128 bytes _ (two + more) (ends_behind 0 128 bytes c.args.ends two more c.in_ok-c.ensures.rest)
+
+pub front_two_by-requires-4-clause-ends : goal.front_two_by-requires-4-clause-ends
+front_two_by-requires-4-clause-ends c =
+    let bytes = c.args.bytes.now in
+    let four = c.in_ok-a.two + c.in_ok-c.more in
+    let more = c.in_ok-e.more in
+    ends_in_slice 0 128 bytes _ (four + more) (ends_behind 0 128 bytes c.args.ends four more c.in_ok-e.ensures.rest)
+
+pub returns-clause-points : goal.returns-clause-points
+returns-clause-points c =
+    eight_found c.args.from c.in_ok-a.a c.in_ok-a.b c.in_ok-c.c c.in_ok-c.d c.in_ok-e.e c.in_ok-e.f c.in_ok-g.g c.in_ok-g.h c.args.bytes.now
+    c.in_ok-a.two c.in_ok-c.more c.in_ok-e.more c.in_ok-g.more c.in_ok-a.ensures.two c.in_ok-c.ensures.two c.in_ok-e.ensures.two c.in_ok-g.ensures.two
+
+pub returns-clause-rest : goal.returns-clause-rest
+returns-clause-rest c =
+    let six = c.in_ok-a.two + c.in_ok-c.more + c.in_ok-e.more in
+    ends_after 0 128 c.args.bytes.now _ six c.in_ok-g.more c.in_ok-g.ensures.rest

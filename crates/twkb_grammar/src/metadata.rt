@@ -1,0 +1,172 @@
+//! The metadata byte: what stands between it and the body, and whether there are ids and a body (TWKB, metadata header).
+ghost use Rattle.std.specs.Prelude.{◌≡◌, ℕ, ◌<◌, ◌≤◌, ◌^◌, false};
+ghost use Rattle.twkb_grammar.specs.Bits.{bit};
+ghost use Rattle.twkb_grammar.specs.Metadata.{bit_value, metadata_number};
+
+use std::marker::Model;
+
+// Bit of a metadata byte: a box follows.
+const BOX: u32 = 0;
+
+// Bit of a metadata byte: a size follows.
+const SIZE: u32 = 1;
+
+// Bit of a metadata byte: ids follow the count of members.
+const IDS: u32 = 2;
+
+// Bit of a metadata byte: the extended dimensions byte follows.
+const EXTENDED: u32 = 3;
+
+// Bit of a metadata byte: there is no body.
+const EMPTY: u32 = 4;
+
+/// What the metadata byte of a geometry without extended dimensions says.
+#[derive(Clone, Copy, Debug)]
+pub struct MetadataFlags {
+    /// A box follows.
+    pub has_box: bool,
+    /// A size follows.
+    pub has_size: bool,
+    /// Ids follow the count of members.
+    pub has_ids: bool,
+    /// There is no body.
+    pub is_empty: bool,
+}
+
+/// The metadata byte of a geometry (TWKB, metadata header). A contract sees its number.
+#[derive(Clone, Copy, Debug, PartialEq, Eq)]
+pub struct Metadata {
+    byte: u8,
+}
+
+impl Model for Metadata {
+    ghost use Rattle.std.specs.Prelude.{ℕ};
+
+    ghost Value = { ℕ };
+
+    ghost view = { λ m. m.byte };
+
+    ghost inverse = { λ n. record { byte = n } };
+}
+
+// The value of this bit where it is set.
+#[inline]
+fn bit_if(is_set: bool, position: u32) -> u8
+    requires { position < 8 }
+    ensures value { result ≡ bit_value is_set position }
+    ensures small { result ≤ 2 ^ position }
+{
+    u8::from(is_set) << position
+}
+
+impl Metadata {
+    /// That of a geometry with these parts. What is written is read again.
+    #[inline]
+    pub fn of(flags: MetadataFlags) -> Metadata
+        ensures number { result ≡ metadata_number flags }
+        ensures has_box { bit result 0 ≡ flags.has_box }
+        ensures has_size { bit result 1 ≡ flags.has_size }
+        ensures has_ids { bit result 2 ≡ flags.has_ids }
+        ensures has_extended { bit result 3 ≡ false }
+        ensures is_empty { bit result 4 ≡ flags.is_empty }
+    {
+        Metadata {
+            byte: bit_if(flags.has_box, BOX)
+                + bit_if(flags.has_size, SIZE)
+                + bit_if(flags.has_ids, IDS)
+                + bit_if(flags.is_empty, EMPTY),
+        }
+    }
+
+    /// The metadata byte that was read.
+    #[inline]
+    pub fn from_byte(byte: u8) -> Metadata
+        ensures { result ≡ byte }
+    {
+        Metadata { byte }
+    }
+
+    /// The same, as the number of an item; above 255 its lowest byte.
+    #[inline]
+    pub fn from_number(number: u64) -> Metadata
+        ensures whole { number < 256 → result ≡ number }
+        ensures bits { (k : ℕ) → k < 8 → bit result k ≡ bit number k }
+    {
+        Metadata {
+            byte: (number % 256) as u8,
+        }
+    }
+
+    /// That of a geometry with a body alone.
+    #[inline]
+    pub fn plain() -> Metadata
+        ensures { result ≡ 0 }
+    {
+        Metadata { byte: 0 }
+    }
+
+    /// That of a geometry with a body behind its size.
+    #[inline]
+    pub fn sized() -> Metadata
+        ensures { result ≡ 2 }
+    {
+        Metadata { byte: 1 << SIZE }
+    }
+
+    /// The byte itself.
+    #[inline]
+    pub fn byte(self) -> u8
+        ensures { result ≡ self }
+    {
+        self.byte
+    }
+
+    // Whether this bit is set; bit 0 is the lowest.
+    #[inline]
+    fn has_bit(self, position: u32) -> bool
+        requires { position < 8 }
+        ensures { result ≡ bit self position }
+    {
+        self.byte >> position & 1 == 1
+    }
+
+    /// Whether a box follows.
+    #[inline]
+    pub fn has_box(self) -> bool
+        ensures { result ≡ bit self 0 }
+    {
+        self.has_bit(BOX)
+    }
+
+    /// Whether a size follows.
+    #[inline]
+    pub fn has_size(self) -> bool
+        ensures { result ≡ bit self 1 }
+    {
+        self.has_bit(SIZE)
+    }
+
+    /// Whether ids follow the count of members.
+    #[inline]
+    pub fn has_ids(self) -> bool
+        ensures { result ≡ bit self 2 }
+    {
+        self.has_bit(IDS)
+    }
+
+    /// Whether the extended dimensions byte follows.
+    #[inline]
+    pub fn has_extended(self) -> bool
+        ensures { result ≡ bit self 3 }
+    {
+        self.has_bit(EXTENDED)
+    }
+
+    /// Whether there is no body.
+    #[inline]
+    pub fn is_empty(self) -> bool
+        ensures { result ≡ bit self 4 }
+    {
+        self.has_bit(EMPTY)
+    }
+}

@@ -1,5 +1,0 @@
-use Rattle.twkb_header.proofs.LowestByte.{bit-lowest_byte}
-use Rattle.twkb_header.proofs.metadata.Metadata.from_number.Goals as goal
-
-pub returns-clause-bits : goal.returns-clause-bits
-returns-clause-bits c = bit-lowest_byte c.args.number

@@ -1,2 +1,0 @@
-pub mod TypeByte
-pub mod Metadata

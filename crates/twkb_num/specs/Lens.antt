@@ -1,0 +1,11 @@
+-- How many bytes four varints have together.
+use Rattle.std.specs.Prelude.{ℕ, ◌+◌, ◌-◌, length}
+use Rattle.twkb_num.specs.Varint.{varint_of}
+
+-- how many bytes the shortest varint of a number has after its first
+abbrev pub more_bytes : ℕ → ℕ
+more_bytes n = length (varint_of n) - 1
+
+-- the bytes of the shortest varints of four numbers
+abbrev pub four_lens : ℕ → ℕ → ℕ → ℕ → ℕ
+four_lens a b c d = length (varint_of a) + length (varint_of b) + (length (varint_of c) + length (varint_of d))

@@ -1,0 +1,104 @@
+//! Four numbers spelled at once, with no branch on how many units each has: in tracks numbers of one, two and three units are
+//! mixed, and no processor foresees which comes next.
+ghost use Rattle.std.specs.Prelude.{◌≡◌, ◌≤◌, ◌<◌, ◌+◌, ◌++◌, ◌*◌, ◌^◌, ◌⊎◌};
+ghost use Rattle.twkb_num.specs.Alphabet.{five_unit, leb_unit};
+ghost use Rattle.twkb_num.specs.Four.{unit_over};
+ghost use Rattle.twkb_num.specs.Shuffles.{lane_units, AreSpelled};
+
+use crate::shuffles::shuffle;
+use std::simd::{u8x16, u32x4, u64x2};
+
+// Four numbers' units: those of the first two in the first eight bytes, those of the others in the last eight, and how many
+// of either count.
+#[derive(Drop)]
+pub(crate) struct FourUnits {
+    pub(crate) units: u8x16,
+    pub(crate) low: u32,
+    pub(crate) high: u32,
+}
+
+// A number below 0x100, times this, stands in each of four bytes.
+const EACH_BYTE: u32 = 0x0101_0101;
+
+// Eight in each of eight bytes.
+const EIGHTS: u64 = 0x0808_0808_0808_0808;
+
+// The shortest varints of four numbers.
+#[inline(always)]
+pub(crate) fn as_varints(first: u32, second: u32, third: u32, fourth: u32) -> FourUnits
+    requires first_small { first < 2 ^ 28 }
+    requires second_small { second < 2 ^ 28 }
+    requires third_small { third < 2 ^ 28 }
+    requires fourth_small { fourth < 2 ^ 28 }
+    ensures { AreSpelled leb_unit 128 first second third fourth result.units result.low result.high }
+{
+    spelled(first, second, third, fourth, 0, 128)
+}
+
+// The characters of four numbers.
+#[inline(always)]
+pub(crate) fn as_characters(first: u32, second: u32, third: u32, fourth: u32) -> FourUnits
+    requires first_small { first < 2 ^ 20 }
+    requires second_small { second < 2 ^ 20 }
+    requires third_small { third < 2 ^ 20 }
+    requires fourth_small { fourth < 2 ^ 20 }
+    ensures { AreSpelled five_unit 32 first second third fourth result.units result.low result.high }
+{
+    spelled(first, second, third, fourth, 63, 32)
+}
+
+// The units of four numbers in an alphabet whose last units are `base` and less than `radix` more, and whose others are
+// `radix` above these.
+#[inline(always)]
+fn spelled(first: u32, second: u32, third: u32, fourth: u32, base: u8, radix: u8) -> FourUnits
+    requires alphabet { (radix ≡ 128) ⊎ (radix ≡ 32) }
+    requires in_bytes { base + 2 * radix ≤ 256 }
+    requires first_small { first < radix ^ 4 }
+    requires second_small { second < radix ^ 4 }
+    requires third_small { third < radix ^ 4 }
+    requires fourth_small { fourth < radix ^ 4 }
+    ensures { AreSpelled (unit_over base radix) radix first second third fourth result.units result.low result.high }
+{
+    let units = lanes(first, second, third, fourth, base, radix);
+    let marks = units.simd_ge(u8x16::splat(base + radix)).to_bitmask();
+    let low = marks % 256;
+    let high = marks / 256;
+    let places = u64x2::from_array([shuffle(low), shuffle(high)]) + u64x2::from_array([0, EIGHTS]);
+    FourUnits {
+        units: units.swizzle_dyn(places.to_le_bytes()),
+        low: low.count_ones() + 2,
+        high: high.count_ones() + 2,
+    }
+}
+
+// The units of four numbers, each number's in a lane of four bytes.
+#[inline(always)]
+fn lanes(first: u32, second: u32, third: u32, fourth: u32, base: u8, radix: u8) -> u8x16
+    requires alphabet { (radix ≡ 128) ⊎ (radix ≡ 32) }
+    requires in_bytes { base + 2 * radix ≤ 256 }
+    requires first_small { first < radix ^ 4 }
+    requires second_small { second < radix ^ 4 }
+    requires third_small { third < radix ^ 4 }
+    requires fourth_small { fourth < radix ^ 4 }
+    ensures { result ≡ lane_units base radix first ++ (lane_units base radix second ++ (lane_units base radix third ++ lane_units base radix fourth)) }
+{
+    let bound = u32::from(radix);
+    let group = u32x4::splat(bound);
+    let none = u32x4::splat(0);
+    let numbers = u32x4::from_array([first, second, third, fourth]);
+    let twos = numbers / group;
+    let threes = twos / group;
+    let fours = threes / group;
+    let groups = numbers % group
+        + twos % group * u32x4::splat(0x100)
+        + threes % group * u32x4::splat(0x1_0000)
+        + fours * u32x4::splat(0x100_0000);
+    let marks = numbers.simd_ge(group).select(group, none)
+        + twos
+            .simd_ge(group)
+            .select(u32x4::splat(bound * 0x100), none)
+        + threes
+            .simd_ge(group)
+            .select(u32x4::splat(bound * 0x1_0000), none);
+    (groups + marks + u32x4::splat(u32::from(base) * EACH_BYTE)).to_le_bytes()
+}

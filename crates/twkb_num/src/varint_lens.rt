@@ -1,0 +1,110 @@
+//! Lengths of varints, counted four at once with no branch on how many bytes each has.
+ghost use Rattle.std.specs.Prelude.{◌≡◌, ◌≤◌, ◌<◌, ◌+◌, ◌^◌, [], ◌∷◌, length};
+ghost use Rattle.twkb_num.specs.Lens.{four_lens, more_bytes};
+
+use crate::varint::varint_len;
+use std::marker::Model;
+use std::simd::{u32x4, u64x2};
+
+// A number below this has four bytes at most (TWKB specification; LEB128).
+const FIVE_BYTES: u64 = 1 << 28;
+
+// The least number of four bytes, of three and of two.
+const FOUR_BYTES: u32 = 1 << 21;
+
+const THREE_BYTES: u32 = 1 << 14;
+
+const TWO_BYTES: u32 = 1 << 7;
+
+/// How many bytes some varints have together: those of short numbers are counted in lanes, and added up at the end. A contract
+/// sees the sum.
+#[derive(Drop)]
+pub struct VarintLens {
+    lanes: u32x4,
+    others: u64,
+}
+
+impl Model for VarintLens {
+    ghost use Rattle.std.specs.Prelude.{◌≡◌, ◌+◌, ℕ, length};
+    ghost use lib.Lanes.{sum_l};
+
+    ghost Value = { ℕ };
+
+    ghost view = { λ s. sum_l s.lanes + s.others };
+
+    ghost invariant = { λ s. length s.lanes ≡ 4 };
+}
+
+// How many bytes each of four numbers has after its first.
+#[inline(always)]
+fn more_lens(first: u32, second: u32, third: u32, fourth: u32) -> u32x4
+    requires first_small { first < 2 ^ 28 }
+    requires second_small { second < 2 ^ 28 }
+    requires third_small { third < 2 ^ 28 }
+    requires fourth_small { fourth < 2 ^ 28 }
+    ensures { result ≡ more_bytes first ∷ more_bytes second ∷ more_bytes third ∷ more_bytes fourth ∷ [] }
+{
+    let numbers = u32x4::from_array([first, second, third, fourth]);
+    let none = u32x4::splat(0);
+    let one = u32x4::splat(1);
+    numbers.simd_ge(u32x4::splat(TWO_BYTES)).select(one, none)
+        + numbers.simd_ge(u32x4::splat(THREE_BYTES)).select(one, none)
+        + numbers.simd_ge(u32x4::splat(FOUR_BYTES)).select(one, none)
+}
+
+impl VarintLens {
+    /// So many bytes, of no varint. Takes no memory.
+    #[inline(always)]
+    pub fn from(bytes: u64) -> VarintLens
+        ensures { result ≡ bytes }
+    {
+        VarintLens {
+            lanes: u32x4::splat(0),
+            others: bytes,
+        }
+    }
+
+    // Counts the varints of four numbers of four bytes at most.
+    #[inline(always)]
+    fn add_short(&mut self, first: u32, second: u32, third: u32, fourth: u32)
+        requires first_small { first < 2 ^ 28 }
+        requires second_small { second < 2 ^ 28 }
+        requires third_small { third < 2 ^ 28 }
+        requires fourth_small { fourth < 2 ^ 28 }
+        requires room { self.old ≤ 2 ^ 31 }
+        ensures value { self.new ≡ self.old + four_lens first second third fourth }
+        ensures most { self.new ≤ self.old + 16 }
+    {
+        self.lanes += more_lens(first, second, third, fourth);
+        self.others += 4;
+    }
+
+    /// Counts the bytes of the shortest varints of four numbers (TWKB specification; LEB128). Takes no memory.
+    #[inline(always)]
+    #[tactic(auto, using(std::proofs::lemmas::Nat::le_or_l, std::proofs::lemmas::Nat::le_or_r))]
+    pub fn add_four(&mut self, first: u64, second: u64, third: u64, fourth: u64)
+        requires room { self.old ≤ 2 ^ 31 }
+        ensures value { self.new ≡ self.old + four_lens first second third fourth }
+        ensures most { self.new ≤ self.old + 40 }
+    {
+        let either = u64x2::from_array([first, second]) | u64x2::from_array([third, fourth]);
+        let [low, high] = either.to_array();
+        if low | high < FIVE_BYTES {
+            self.add_short(first as u32, second as u32, third as u32, fourth as u32);
+            return;
+        }
+        let lens = varint_len(first)
+            + varint_len(second)
+            + (varint_len(third) + varint_len(fourth));
+        self.others += u64::from(lens);
+    }
+
+    /// The sum. Takes no memory.
+    #[inline(always)]
+    pub fn total(&self) -> u64
+        requires { self.now ≤ 2 ^ 31 }
+        ensures { result ≡ self.now }
+    {
+        u64::from(self.lanes.reduce_sum()) + self.others
+    }
+}

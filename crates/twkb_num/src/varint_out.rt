@@ -1,0 +1,116 @@
+//! Varints that are appended to a piece.
+ghost use Rattle.std.specs.Prelude.{◌≡◌, ◌≤◌, ◌<◌, ◌+◌, ◌%◌, ◌++◌, ◌^◌, length, if◌then◌else◌, nat_lt};
+ghost use Rattle.twkb_num.specs.Varint.{varint_of};
+
+use crate::groups::GOES_ON;
+use crate::piece::Piece;
+use std::simd::u64x2;
+
+// A number below this has one byte (TWKB specification; LEB128).
+const TWO_BYTES: u64 = 1 << 7;
+
+// A number below this has two bytes at most.
+const THREE_BYTES: u64 = 1 << 14;
+
+// A number below this has four bytes at most.
+const FIVE_BYTES: u64 = 1 << 28;
+
+// The bytes of a number that has two at most.
+#[tactic(auto, using(crate::proofs::VarintLemmas::varint_lengths))]
+fn short_len(number: u64) -> usize
+    requires { number < 2 ^ 14 }
+    ensures value { result ≡ length (varint_of number) }
+    ensures most { result ≤ 2 }
+{
+    if number < TWO_BYTES { 1 } else { 2 }
+}
+
+// The first byte of a number.
+fn lead_byte(number: u64) -> u8
+    ensures { result ≡ (if nat_lt number 128 then number else number % 128 + 128) }
+{
+    if number < TWO_BYTES {
+        number as u8
+    } else {
+        (number % TWO_BYTES) as u8 + GOES_ON
+    }
+}
+
+impl<const ROOM: usize> Piece<ROOM> {
+    // Appends a number that has two bytes at most, both written at once.
+    #[inline(always)]
+    fn push_short(&mut self, number: u64)
+        requires small { number < 2 ^ 14 }
+        requires room { length self.old + 2 ≤ ROOM }
+        ensures { self.new ≡ self.old ++ varint_of number }
+    {
+        let at = self.len;
+        self.bytes[at] = lead_byte(number);
+        self.bytes[at + 1] = (number / TWO_BYTES) as u8;
+        self.len = at + short_len(number);
+    }
+
+    // Appends a number that has three bytes or four.
+    #[inline(never)]
+    fn push_middle(&mut self, number: u64)
+        requires more { 2 ^ 14 ≤ number }
+        requires small { number < 2 ^ 28 }
+        requires room { length self.old + 4 ≤ ROOM }
+        ensures { self.new ≡ self.old ++ varint_of number }
+    {
+        let high = number / TWO_BYTES;
+        self.push(lead_byte(number));
+        self.push(lead_byte(high));
+        self.push_short(high / TWO_BYTES);
+    }
+
+    // Appends any number, byte by byte.
+    #[inline(never)]
+    fn push_long(&mut self, number: u64)
+        requires { length self.old + 10 ≤ ROOM }
+        ensures { self.new ≡ self.old ++ varint_of number }
+    {
+        let mut rest = number;
+        while rest >= TWO_BYTES {
+            self.push(lead_byte(rest));
+            rest /= TWO_BYTES;
+        }
+        self.push(rest as u8);
+    }
+
+    /// Appends a number, by its shortest varint: at most ten bytes (TWKB specification; LEB128). Takes no memory.
+    #[inline(always)]
+    pub fn push_varint(&mut self, number: u64)
+        requires { length self.old + 10 ≤ ROOM }
+        ensures value { self.new ≡ self.old ++ varint_of number }
+        ensures most { length self.new ≤ length self.old + 10 }
+    {
+        if number < THREE_BYTES {
+            self.push_short(number);
+        } else if number < FIVE_BYTES {
+            self.push_middle(number);
+        } else {
+            self.push_long(number);
+        }
+    }
+
+    /// Appends four numbers, by their shortest varints (TWKB specification; LEB128). Where all have four bytes at most, as in
+    /// nearly all tracks, there is no branch on how many each has. Takes no memory.
+    #[inline(always)]
+    #[tactic(auto, using(std::proofs::lemmas::Nat::le_or_l, std::proofs::lemmas::Nat::le_or_r))]
+    pub fn push_four_varints(&mut self, first: u64, second: u64, third: u64, fourth: u64)
+        requires { length self.old + 40 ≤ ROOM }
+        ensures { self.new ≡ self.old ++ ((varint_of first ++ varint_of second) ++ (varint_of third ++ varint_of fourth)) }
+    {
+        let either = u64x2::from_array([first, second]) | u64x2::from_array([third, fourth]);
+        let [low, high] = either.to_array();
+        if low | high < FIVE_BYTES {
+            self.push_varints(first as u32, second as u32, third as u32, fourth as u32);
+            return;
+        }
+        self.push_varint(first);
+        self.push_varint(second);
+        self.push_varint(third);
+        self.push_varint(fourth);
+    }
+}

@@ -1,0 +1,15 @@
+-- The text of a reason is short.
+use Rattle.std.proofs.Common.{◌≤◌, length, arith}
+use Rattle.twkb_polyline.specs.declared.fault.PolyReason.{PolyReason}
+use Rattle.twkb_polyline.specs.declared.fault.PolyReason.TheVariants as text
+use Rattle.twkb_polyline.specs.Texts.{point_text_words}
+
+-- what is wrong with a text of points
+pub short_point_text : (reason : PolyReason) → length (point_text_words reason) ≤ 31
+short_point_text text.BadChar = omega arith
+short_point_text text.Cut = omega arith
+short_point_text text.TooLong = omega arith
+short_point_text text.Padded = omega arith
+short_point_text text.Half = omega arith
+short_point_text text.Range = omega arith
+short_point_text text.TooMany = omega arith

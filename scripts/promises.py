@@ -1,0 +1,127 @@
+#!/usr/bin/env python3
+"""Makes the tables of promises in docs/PROOFS.md from the READMEs of the crates and their folders must-fail/.
+
+    scripts/promises.py            says what is wrong or stale; status 1 if anything is
+    scripts/promises.py --docs     puts the tables into docs/PROOFS.md, between their marks
+
+A table of promises in a README has the heads Promise, Clause and Edits; a crate without edits has no third column.
+
+- The names in a cell of Clause are in backticks. Each is a function, a type or the label of a clause in the crate's
+  src/, or a definition in specs/ of this crate or another.
+- The names in a cell of Edits are those of files must-fail/NAME.edit of this crate; one of another crate is
+  `CRATE/NAME`.
+- Each edit of a crate is beside a promise of its README.
+"""
+import glob
+import os
+import re
+import sys
+
+REPO = os.path.abspath(os.path.join(os.path.dirname(__file__), ".."))
+DOCUMENT = os.path.join(REPO, "docs", "PROOFS.md")
+BEGIN, END = "<!-- promises: begin -->", "<!-- promises: end -->"
+HEAD = ["Promise", "Clause", "Edits"]
+
+IN_SOURCES = re.compile(r"\b(?:fn|struct|enum|trait|mod|ghost|ensures|requires)\s+([A-Za-z_]\w*)")
+IN_SPECS = re.compile(r"^\s*(?:(?:abbrev|unfoldable|record|data|pub|inline|ruleset)\s+)*([A-Za-z_][\w-]*)", re.M)
+
+
+def crates():
+    """The crates, in the order of crates.txt."""
+    with open(os.path.join(REPO, "crates.txt"), encoding="utf-8") as file:
+        return [line.split(":")[0].split()[0] for line in file if ":" in line and not line.startswith("#")]
+
+
+def names_in(crate, folder, ending, pattern):
+    """What a pattern finds in the files of a folder of a crate."""
+    found = set()
+    for path in glob.glob(os.path.join(REPO, "crates", crate, folder, "**", "*" + ending), recursive=True):
+        with open(path, encoding="utf-8") as file:
+            found.update(pattern.findall(file.read()))
+    return found
+
+
+def edits_of(crate):
+    """The names of the edits of a crate."""
+    paths = glob.glob(os.path.join(REPO, "crates", crate, "must-fail", "*.edit"))
+    return {os.path.basename(path).removesuffix(".edit") for path in paths}
+
+
+def cells_of(line):
+    """The cells of a line of a table."""
+    return [cell.strip() for cell in line.strip().strip("|").split("|")]
+
+
+def rows_of(crate):
+    """The rows of the tables of promises in a crate's README: the line's number, promise, clause and edits of each."""
+    with open(os.path.join(REPO, "crates", crate, "README.md"), encoding="utf-8") as file:
+        lines = file.read().split("\n")
+    rows, inside = [], False
+    for number, line in enumerate(lines, 1):
+        if not line.startswith("|"):
+            inside = False
+        elif cells_of(line) in (HEAD, HEAD[:2]):
+            inside = True
+        elif inside and not line.startswith("|---"):
+            rows.append((number, *(cells_of(line) + [""])[:3]))
+    return rows
+
+
+def backticked(cell):
+    """The names in backticks in a cell, each without what comes before its last `::`."""
+    return [name.split("::")[-1] for name in re.findall(r"`([^`]+)`", cell)]
+
+
+def faults_of(crate, rows, defined):
+    """What is wrong with the rows of a crate, a line each."""
+    here = f"crates/{crate}/README.md"
+    written = names_in(crate, "src", ".rt", IN_SOURCES)
+    shown, edits = set(), edits_of(crate)
+    for number, promise, clause, cell in rows:
+        if not backticked(clause):
+            yield f"{here}:{number}: no clause beside '{promise}'"
+        for name in backticked(clause):
+            if name not in written and name not in defined:
+                yield f"{here}:{number}: nothing is called `{name}`"
+        for name in backticked(cell):
+            other, _, edit = name.rpartition("/")
+            shown.add(name)
+            if edit not in (edits_of(other) if other else edits):
+                yield f"{here}:{number}: no edit is called `{name}`"
+    for name in sorted(edits - shown):
+        yield f"crates/{crate}/must-fail/{name}.edit: is beside no promise of {here}"
+
+
+def tables(rows):
+    """The tables for the document: one for each crate that has promises."""
+    parts = []
+    for crate, own in rows.items():
+        if own:
+            link = f"[README](../crates/{crate}/README.md)"
+            table = [HEAD, ["---"] * len(HEAD), *(row[1:] for row in own)]
+            parts.append("\n".join([f"### {crate}", "", link, "", *(f"| {' | '.join(row)} |" for row in table)]))
+    return "\n\n".join(parts)
+
+
+def main(words):
+    rows = {crate: rows_of(crate) for crate in crates()}
+    defined = set().union(*(names_in(crate, "specs", ".antt", IN_SPECS) for crate in rows))
+    wrong = [fault for crate, own in rows.items() for fault in faults_of(crate, own, defined)]
+    with open(DOCUMENT, encoding="utf-8") as file:
+        text = file.read()
+    before, rest = text.split(BEGIN)
+    made = f"{before}{BEGIN}\n{tables(rows)}\n{END}{rest.split(END)[1]}"
+    if "--docs" in words:
+        with open(DOCUMENT, "w", encoding="utf-8") as file:
+            file.write(made)
+    elif made != text:
+        wrong.append("docs/PROOFS.md: the tables of promises are stale; scripts/promises.py --docs makes them anew")
+    for fault in wrong:
+        print(fault)
+    promises, edits = sum(map(len, rows.values())), sum(len(edits_of(crate)) for crate in rows)
+    print(f"{'FAIL' if wrong else 'ok  '}  docs/PROOFS.md: {promises} promises, {edits} edits, {len(wrong)} faults")
+    return len(wrong)
+
+
+if __name__ == "__main__":
+    sys.exit(1 if main(sys.argv[1:]) else 0)
