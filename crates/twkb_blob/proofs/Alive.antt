@@ -1,23 +1,25 @@
 -- Engines that some bytes lead to, after a geometry, after a piece, and before one.
-use Rattle.std.proofs.Common.{◌≡◌, ℕ, List, [], ◌++◌, sym, subst, Bool, true, false, Ok}
+use Rattle.std.proofs.Common.{◌≡◌, ℕ, ◌+◌, ◌≤◌, List, [], ◌++◌, length, take, length-append, sym, subst, Bool, true, false, Ok, arith}
 use Rattle.std.specs.Prelude.{if◌then◌else◌}
-use Rattle.std.proofs.Math.Logic.{∥∥₁_map}
-use Rattle.twkb_tree.specs.Limits.{Allowance}
+use Rattle.std.proofs.lemmas.List.{length-take-le}
+use Rattle.std.proofs.Math.Logic.{∥∥₁_elim, ∥∥₁_map}
+use Rattle.std.proofs.Props.{props}
 use Rattle.twkb_tree.specs.Rows.{Row}
-use Rattle.twkb_engine.specs.Standing.{StandsAt, IsAlive, IsStep, IsFed}
+use Rattle.twkb_grammar.specs.Noting.{Notes}
+use Rattle.twkb_engine.specs.Standing.{IsAlive, FedBy, count_of}
 use Rattle.twkb_engine.specs.declared.engine.Engine.{Engine}
+use Rattle.twkb_engine.proofs.Feeds.{count_is}
 
--- a geometry ended with a byte
-pub step_ended : (limits : Allowance) (rs more : List Row) (d e : Engine) (bytes : List ℕ) → ((bs : List ℕ) → StandsAt bs rs d → IsStep limits (bs ++ bytes) (Ok true) more e) → IsAlive rs d → IsAlive [] e
-step_ended limits rs more d e bytes run alive = ∥∥₁_map alive (λ s. ([], (run s.0 s.1).3))
+module _ {S : Type 0} (holds : S → Notes → Type 0) (rs more : List Row) (d e : Engine) (old new : S) (piece : List ℕ) (used : ℕ) where
+  -- a geometry ended in a piece
+  pub fed_ended : FedBy holds d rs old piece (Ok (used, true)) e more new → IsAlive rs d → IsAlive [] e
+  fed_ended run alive = ∥∥₁_map alive (λ s. ([], (run s.0 s.1).2))
 
--- a whole piece was used
-pub fed_on : (limits : Allowance) (rs more : List Row) (d e : Engine) (piece : List ℕ) (used : ℕ) → ((bs : List ℕ) → StandsAt bs rs d → IsFed limits bs piece (Ok (used, false)) more e) → IsAlive rs d → IsAlive more e
-fed_on limits rs more d e piece used run alive = ∥∥₁_map alive (λ s. (s.0 ++ piece, (run s.0 s.1).1))
-
--- a geometry ended in a piece
-pub fed_ended : (limits : Allowance) (rs more : List Row) (d e : Engine) (piece : List ℕ) (used : ℕ) → ((bs : List ℕ) → StandsAt bs rs d → IsFed limits bs piece (Ok (used, true)) more e) → IsAlive rs d → IsAlive [] e
-fed_ended limits rs more d e piece used run alive = ∥∥₁_map alive (λ s. ([], (run s.0 s.1).1))
+  -- it took no more bytes than there is room for
+  pub fed_few : (ends : Bool) (most : ℕ) → FedBy holds d rs old piece (Ok (used, ends)) e more new → IsAlive rs d → (d.start + count_of d) + length piece ≤ most → e.start + count_of e ≤ most
+  fed_few false most run alive room = ∥∥₁_elim alive (Prim.hlevel props) (λ s. let f = run s.0 s.1 in
+      omega (arith, room, f.0, f.1, count_is s.0 rs d s.1, count_is (s.0 ++ take used piece) more e f.2, length-append s.0 (take used piece), length-take-le used piece f.0))
+  fed_few true most run alive room = ∥∥₁_elim alive (Prim.hlevel props) (λ s. let f = run s.0 s.1 in let within = f.0.within in omega (arith, room, within, f.3, count_is s.0 rs d s.1, count_is [] [] e f.2))
 
 -- the rows in a form that was begun are those of the geometry that is read
 pub of_begun : (rs : List Row) (d : Engine) (whole : Bool) → whole ≡ false → IsAlive (if whole then [] else rs) d → IsAlive rs d

@@ -3,7 +3,7 @@ use Rattle.std.proofs.Common.{◌≡◌, ℕ, zero, suc, ◌-◌, ◌<◌, ◌�
 use Rattle.std.proofs.lemmas.List.{reverse-append}
 use Rattle.twkb_grammar.specs.Noting.{changed_at}
 use Rattle.twkb_grammar.specs.declared.span.Span.{Span}
-use Rattle.twkb_blob.specs.Located.{measured}
+use Rattle.twkb_blob.specs.Places.{measured}
 
 -- the item at the place is set
 pub changed_set : {A : Type 0} (xs : List A) (i : ℕ) (f : A → A) (d : A) → i < length xs → set xs i (f (get_or xs i d)) ≡ changed_at i f xs

@@ -20,13 +20,18 @@ use Rattle.twkb_grammar.proofs.Streams.{first_item, no_stream, one_stream_fault}
 use Rattle.twkb_grammar.proofs.Frames.{reached_frames}
 use Rattle.twkb_grammar.proofs.Standing.{none_longer}
 use Rattle.twkb_outline.specs.Reading.{open_count}
-use Rattle.twkb_engine.specs.Building.{sums_of}
-use Rattle.twkb_engine.specs.Standing.{StandsAt, IsEnd, allowance_of, held_in, offset_in, open_in}
+use Rattle.twkb_outline.proofs.Notings.{same_count}
+use Rattle.twkb_engine.specs.State.{allowance_of, sums_of}
+use Rattle.twkb_engine.specs.Notes.{open_in}
+use Rattle.twkb_engine.specs.Standing.{StandsAt, IsEnd, held_in, offset_in}
+use Rattle.twkb_engine.proofs.Steps.{next_role, next_no_end, next_number}
+use Rattle.twkb_outline.specs.Outline.{outline_role}
+use Rattle.twkb_outline.proofs.Outlined.{same_role}
+use Rattle.twkb_engine.proofs.Feeds.{count_is}
 use Rattle.twkb_engine.specs.declared.engine.Engine.{Engine}
 use Rattle.twkb_blob.specs.Sessions.{Stands, HeldOf, FramesOf, AreOpen, begun_by, ended_by, begun_rows, session_limits}
 use Rattle.twkb_blob.specs.declared.session.Session.{Session}
-use Rattle.twkb_blob.proofs.Standing.{OffsetLaw, counted, so_many, ended, cut_short}
-use Rattle.twkb_blob.proofs.Noted.{NoteLaws, stands_of}
+use Rattle.twkb_blob.proofs.Standing.{so_many, ended, cut_short}
 
 -- ---- headers less ends
 
@@ -112,9 +117,9 @@ no_front [] b e = refl
 no_front (x ∷ a) b e = absurd cc
 
 -- the geometries that are begun are those of the items that were taken
-frames_are : NoteLaws → (bs : List ℕ) (rs : List Row) (d : Engine) (s : StandsAt bs rs d) → open_in d ≡ open_after 0 s.outlined.reached.items
-frames_are laws bs rs d s =
-    sym (laws.count s.outlined.stack ∙ ap open_count s.outlined.outline) ∙ reached_frames (allowance_of d) s.front (sums_of d.builder) s.outlined.stack s.outlined.reached
+frames_are : (bs : List ℕ) (rs : List Row) (d : Engine) (s : StandsAt bs rs d) → open_in d ≡ open_after 0 s.outlined.reached.items
+frames_are bs rs d s =
+    sym (same_count s.outlined.stack.0 s.outlined.stack.1 ∙ ap open_count s.outlined.outline) ∙ reached_frames (allowance_of d) s.front (sums_of d) s.outlined.stack s.outlined.reached
 
 -- the items before the place where one is missing are those that a reader has taken
 before_is : (limits : Allowance) (bytes : List ℕ) (e : Sums) (st : Stack) (held : List ℕ) (s : reading.Stands limits bytes [] e st held) (offset : ℕ) → bytes ≡ s.middle ++ held
@@ -134,33 +139,54 @@ before_is limits bytes e st held s offset at f =
         absurd (none_beyond_fault limits bytes offset Truncated f.fault s.reached.items held (ran_part limits s.reached.items st s.reached.ran) (ap (λ l. l ++ held) s.reached.spelled ∙ sym at) n)
     go (same i) = i
 
+-- where an engine stands, a reader of a stream of one blob does
+stands_of : (bs : List ℕ) (rs : List Row) (d : Engine) → IsOpenVarint (held_in d) → (s : StandsAt bs rs d) → reading.Stands (allowance_of d) bs [] (sums_of d) s.outlined.stack (held_in d)
+stands_of bs rs d o s =
+    let r = next_role d in
+    record {
+      front = [];
+      middle = s.front;
+      whole = s.whole;
+      blobs = refl;
+      reached = s.outlined.reached;
+      role = r.0;
+      wants = same_role (sums_of d) s.outlined.stack ∙ (ap (λ p. outline_role (sums_of d) p) s.outlined.outline ∙ r.1);
+      spelled = next_no_end d;
+      go_on = o.high;
+      few = omega (arith, o.room);
+      number = elim s.spelled [
+        | inl spelled ↦ inr (next_number d spelled)
+        | inr none ↦ inl none
+      ];
+    }
+
 -- ---- what a session answers
 
 -- the bytes that it holds
-pub held_told : OffsetLaw → (bytes : List ℕ) (gs : List Tree) (old : Session) (s : Stands bytes gs old) (between : Bool) → IsEnd (session_limits old) s.rest (offset_in old.engine) between
+pub held_told : (bytes : List ℕ) (gs : List Tree) (old : Session) (s : Stands bytes gs old) (between : Bool) → IsEnd (session_limits old) s.rest (offset_in old.engine) between
     → HeldOf (session_limits old) bytes gs (length (held_in old.engine))
-held_told law bytes gs old s true none =
-    inl (ended bytes gs old s none, (let n : length s.rest ≡ 0 = ap length none in omega (arith, n, counted law s.rest (begun_rows old) old.engine s.begun)))
-held_told law bytes gs old s false first =
-    inr (old.start + offset_in old.engine, cut_short bytes gs old (offset_in old.engine) s first, omega (arith, so_many law bytes gs old s))
+held_told bytes gs old s true none =
+    inl (ended bytes gs old s none, (let n : length s.rest ≡ 0 = ap length none in omega (arith, n, count_is s.rest (begun_rows old) old.engine s.begun)))
+held_told bytes gs old s false first =
+    inr (old.engine.start + offset_in old.engine, cut_short bytes gs old (offset_in old.engine) s first, omega (arith, so_many bytes gs old s))
 
 -- the geometries that are begun
-pub frames_told : NoteLaws → (bytes : List ℕ) (gs : List Tree) (old : Session) (s : Stands bytes gs old) → IsOpenVarint (held_in old.engine) → (between : Bool)
+pub frames_told : (bytes : List ℕ) (gs : List Tree) (old : Session) (s : Stands bytes gs old) → IsOpenVarint (held_in old.engine) → (between : Bool)
     → IsEnd (session_limits old) s.rest (offset_in old.engine) between → FramesOf (session_limits old) bytes gs (open_in old.engine)
-frames_told laws bytes gs old s o true none =
+frames_told bytes gs old s o true none =
     let b = s.begun in
     let front : b.front ≡ [] = no_front b.front (held_in old.engine) (sym b.whole ∙ none) in
     let items : b.outlined.reached.items ≡ [] = no_items b.outlined.reached.items b.outlined.stack b.outlined.reached.ran.runs (b.outlined.reached.spelled ∙ front) in
-    inl (ended bytes gs old s none, frames_are laws s.rest (begun_rows old) old.engine b ∙ ap (open_after 0) items)
-frames_told laws bytes gs old s o false first =
+    inl (ended bytes gs old s none, frames_are s.rest (begun_rows old) old.engine b ∙ ap (open_after 0) items)
+frames_told bytes gs old s o false first =
     let limits = session_limits old in
     let b = s.begun in
-    let stands = stands_of laws s.rest (begun_rows old) old.engine o b in
+    let stands = stands_of s.rest (begun_rows old) old.engine o b in
     let cut : StreamFault limits bytes gs (length s.front + offset_in old.engine) Truncated =
     record { front = s.front; rest = s.rest; within = offset_in old.engine; whole = s.whole; blobs = s.blobs; first = first; place = refl } in
     let before : first.fault.before ≡ b.outlined.reached.items =
-    before_is limits s.rest (sums_of old.engine.builder) b.outlined.stack (held_in old.engine) stands (offset_in old.engine) b.whole first in
-    let many : open_in old.engine ≡ open_after 0 first.fault.before = frames_are laws s.rest (begun_rows old) old.engine b ∙ ap (open_after 0) (sym before) in
+    before_is limits s.rest (sums_of old.engine) b.outlined.stack (held_in old.engine) stands (offset_in old.engine) b.whole first in
+    let many : open_in old.engine ≡ open_after 0 first.fault.before = frames_are s.rest (begun_rows old) old.engine b ∙ ap (open_after 0) (sym before) in
     inr (length s.front + offset_in old.engine, cut, subst (λ n. AreOpen first.fault.before n) (sym many) (part_open limits first.fault.before first.alive))
 
 -- ---- the bytes tell both

@@ -1,5 +1,5 @@
 -- What an engine answers that is fed a piece, or the held bytes of an input.
-use Rattle.std.specs.Prelude.{◌≡◌, ◌+◌, ◌<◌, ◌^◌, ℕ, zero, suc, List, [], ◌++◌, length, Bool, true, false, Result, Ok, Err, IfSome, ⊤}
+use Rattle.std.specs.Prelude.{◌≡◌, ◌+◌, ◌-◌, ◌<◌, ◌^◌, ◌⊎◌, take, ℕ, zero, suc, List, [], ◌++◌, length, Bool, true, false, Result, Ok, Err, IfSome, ⊤}
 use Rattle.std.specs.Io.KnownBytes.{IsAtEnd}
 use Rattle.std.specs.declared.io.traits.Read.{Ghosts}
 use Rattle.twkb_tree.specs.Tree.{Tree}
@@ -19,12 +19,14 @@ use Rattle.twkb_blob.specs.Readers.{Left, Makes, PartAhead}
 use Rattle.twkb_blob.specs.declared.fault.BlobFault.{BlobFault}
 use Rattle.twkb_blob.specs.declared.fault.BlobFault.TheVariants as fault
 
--- What it answers to a piece: it used all of it, or up to the end of a blob; or there was no memory, or an item was refused; or the stream has no room for all of it.
+-- What it answers to a piece: it used all of it, or up to the end of a blob; or there was no memory, or an item was refused; or the stream has no room for all of it, and it
+-- took what there is room for.
 abbrev pub FedPiece : {S : Type 0} → (S → Notes → Type 0) → Engine → List Row → S → List ℕ → Result (ℕ × Bool) BlobFault → Engine → List Row → S → Type 0
 FedPiece holds d rs old piece (Ok fed) e more new = (bs : List ℕ) (s : StandsAt bs rs d) → IsFed holds (holds old (notes_at s)) (allowance_of d) d.start bs piece (Ok fed) more e new
 FedPiece holds d rs old piece (Err fault.Memory) e more new = (bs : List ℕ) → StandsAt bs rs d → PartIn (allowance_of d) bs piece
 FedPiece holds d rs old piece (Err (fault.At offset reason)) e more new = (bs : List ℕ) → StandsAt bs rs d → (within : ℕ) × RefusedIn (allowance_of d) bs piece within (reason_of reason) × (offset ≡ d.start + within)
-FedPiece holds d rs old piece (Err (fault.Device why)) e more new = (why ≡ TooLong) × (2 ^ 62 < (d.start + count_of d) + length piece)
+FedPiece holds d rs old piece (Err (fault.Device why)) e more new =
+    (why ≡ TooLong) × (2 ^ 62 < (d.start + count_of d) + length piece) × ((bs : List ℕ) → StandsAt bs rs d → StandsAt (bs ++ take (2 ^ 62 - (d.start + count_of d)) piece) more e)
 FedPiece holds d rs old piece (Err fault.Spent) e more new = ⊥
 
 -- what the end of a stream is to an engine

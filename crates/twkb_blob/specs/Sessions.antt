@@ -8,7 +8,7 @@ use Rattle.twkb_grammar.specs.Blob.{Stream}
 use Rattle.twkb_grammar.specs.Fault.{StreamFault, Truncated}
 use Rattle.twkb_engine.specs.State.{allowance_of}
 use Rattle.twkb_engine.specs.Notes.{open_in}
-use Rattle.twkb_engine.specs.Standing.{StandsAt, held_in, place_in}
+use Rattle.twkb_engine.specs.Standing.{StandsAt, held_in, offset_in}
 use Rattle.twkb_engine.specs.Stops.{reason_of}
 use Rattle.twkb_outline.specs.Parts.{PartIn}
 use Rattle.twkb_io.specs.declared.input.InFault.TheVariants.{TooLong}
@@ -109,10 +109,10 @@ FedFlat bytes gs piece (Ok (used, false)) s = FedSession bytes gs piece (Ok (use
 FedFlat bytes gs piece (Ok (used, true)) s = (g : Tree) × FedSession bytes gs piece (Ok (used, Some g)) s × (session_rows s ≡ rows 0 g)
 FedFlat bytes gs piece (Err why) s = FedSession bytes gs piece (Err why) s
 
--- what a piece of one byte is answered, where an engine answered it
-abbrev pub byte_answer : Session → Result Bool Stop → Result (ℕ × Bool) BlobFault
-byte_answer s (Ok ended) = Ok (1, ended)
-byte_answer s (Err stop) = Err (fault_of (place_in s.engine) stop)
+-- what a piece of one byte is answered, if an engine answered it whose blob began at this offset
+abbrev pub byte_answer : (start : ℕ) → Session → Result Bool Stop → Result (ℕ × Bool) BlobFault
+byte_answer start s (Ok ended) = Ok (1, ended)
+byte_answer start s (Err stop) = Err (fault_of (start + offset_in s.engine) stop)
 
 -- what a call answers that tells how many bytes it took, where it is told beside whether a geometry ended
 abbrev pub with_end : Bool → Result ℕ BlobFault → Result (ℕ × Bool) BlobFault

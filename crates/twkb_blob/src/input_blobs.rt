@@ -41,9 +41,11 @@ pub(crate) fn feed_piece<S: SpanNotes>(
     requires alive { IsAlive flat.old engine.old }
     ensures limits { engine.new.limits ≡ engine.old.limits }
     ensures within { IfOk result (λ fed. fed.0 ≤ length piece.now) }
+    ensures all { IfOk result (λ fed. fed.1 ≡ false → fed.0 ≡ length piece.now) }
     ensures unread { failed_by_read result ≡ false }
     ensures fed { FedPiece S.holds engine.old flat.old spans.old piece.now result engine.new flat.new spans.new }
 {
+    let start = engine.start();
     let taken = engine.offset() + engine.held() as u64;
     let count = room_in(taken, piece)?;
     match engine.feed(flat, spans, &piece[..count]) {
@@ -53,7 +55,7 @@ pub(crate) fn feed_piece<S: SpanNotes>(
             }
             Ok((used, ends))
         }
-        Err(stop) => Err(fault_at(engine.offset(), stop)),
+        Err(stop) => Err(fault_at(start + engine.bytes(), stop)),
     }
 }
 

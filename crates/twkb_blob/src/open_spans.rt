@@ -1,6 +1,7 @@
 //! The spans of a blob that is read, as far as they are known.
 ghost use Rattle.std.specs.Prelude.{◌≡◌};
-ghost use Rattle.twkb_grammar.specs.Noting.{no_notes};
+ghost use Rattle.twkb_grammar.specs.Noting.{no_notes, changed_at};
+ghost use Rattle.twkb_blob.specs.Places.{measured};
 
 use std::alloc::{AllocError, Global};
 use std::marker::Model;
@@ -21,6 +22,26 @@ impl Model for OpenSpans {
     ghost Value = { Notes };
 
     ghost view = { λ o. record { spans = o.spans.items; begun = reverse o.open.items } };
+}
+
+// Sets the metadata byte of the span at this place, if there is one.
+fn set_metadata(spans: &mut Vec<Span>, index: usize, metadata: u8)
+    ensures { spans.new.items ≡ changed_at index (λ s. record s { metadata = metadata }) spans.old.items }
+{
+    if index < spans.len() {
+        spans[index].metadata = metadata;
+    }
+}
+
+// Sets length and points of the span at this place, if there is one, whose geometry ends at this offset, with so many points so far.
+fn set_end(spans: &mut Vec<Span>, index: usize, offset: u64, points: u64)
+    ensures { spans.new.items ≡ changed_at index (measured offset points) spans.old.items }
+{
+    if index < spans.len() {
+        let span = &mut spans[index];
+        span.length = offset.saturating_sub(span.offset);
+        span.points = points.saturating_sub(span.points);
+    }
 }
 
 impl OpenSpans {
@@ -91,20 +112,14 @@ impl SpanNotes for OpenSpans {
     fn set_metadata(&mut self, byte: u8) {
         if let Some(place) = self.open.last() {
             let place = *place;
-            if place < self.spans.len() {
-                self.spans[place].metadata = byte;
-            }
+            set_metadata(&mut self.spans, place, byte);
         }
     }
 
     #[inline(always)]
     fn end(&mut self, offset: u64, points: u64) {
         if let Some(place) = self.open.pop() {
-            if place < self.spans.len() {
-                let span = &mut self.spans[place];
-                span.length = offset.saturating_sub(span.offset);
-                span.points = points.saturating_sub(span.points);
-            }
+            set_end(&mut self.spans, place, offset, points);
         }
     }
 

@@ -27,7 +27,7 @@ pub struct Session {
     /// Whether the form still has the rows of the last geometry.
     is_whole: bool,
     spent: bool,
-    ghost taken_few: { engine.start + count_of engine ≤ 2 ^ 62 },
+    ghost taken_few: { spent ≡ false → engine.start + count_of engine ≤ 2 ^ 62 },
     ghost alive: { spent ≡ false → IsAlive (if is_whole then [] else rows.flat) engine },
 }
 
@@ -163,9 +163,10 @@ impl Session {
         }
         self.begin();
         if piece.len() == 1 && self.engine.offset() < MAX_BYTES - 16 {
+            let start = self.engine.start();
             return match self.feed_byte(piece[0]) {
                 Ok(_) => Ok(1),
-                Err(stop) => Err(fault_at(self.engine.offset(), stop)),
+                Err(stop) => Err(fault_at(start + self.engine.bytes(), stop)),
             };
         }
         self.spent = true;
@@ -182,7 +183,7 @@ impl Session {
         requires live { self.old.spent ≡ false }
         requires begun { self.old.is_whole ≡ false }
         requires room { count_of self.old.engine + self.old.engine.start < 2 ^ 62 }
-        ensures fed { (bytes : List ℕ) (gs : List Tree) → Stands bytes gs self.old → FedFlat bytes gs (byte ∷ []) (byte_answer self.new result) self.new }
+        ensures fed { (bytes : List ℕ) (gs : List Tree) → Stands bytes gs self.old → FedFlat bytes gs (byte ∷ []) (byte_answer self.old.engine.start self.new result) self.new }
         ensures whole { IfOk result (λ ended. self.new.is_whole ≡ ended) }
         ensures stays { is_spent self.new ≡ is_err result }
         ensures limits { session_limits self.new ≡ session_limits self.old }

@@ -98,7 +98,7 @@ root_spans limits start used piece g to b long made =
     let first : p ≡ first_precision (take used piece) = ap (λ n. unzigzag_of (n / 16)) (sym (get_or-take used piece 0 0 (omega (arith, long)))) in
     sym (point_spans limits (take used piece) g start p own b first (sym made, refl, refl, refl))
 
-blob_judged : (limits : Allowance) (bytes : List ℕ) (g : Tree) → Blob limits bytes g → IsJudged limits bytes
+pub blob_judged : (limits : Allowance) (bytes : List ℕ) (g : Tree) → Blob limits bytes g → IsJudged limits bytes
 blob_judged limits bytes g b = record {
   part = blob_is_part limits bytes g b;
   exact = λ more f. no_fault limits (bytes ++ more) more g (length bytes) SizeMismatch (record { front = bytes; whole = refl; blob = b }) f.fault;

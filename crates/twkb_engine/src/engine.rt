@@ -151,6 +151,22 @@ impl Engine {
         self.held.len()
     }
 
+    /// Where the blob begins that is read, in bytes from the stream's start. Takes no memory.
+    #[inline(always)]
+    pub fn start(&self) -> u64
+        ensures { result ≡ self.now.start }
+    {
+        self.start
+    }
+
+    /// Bytes of the blob that is read, up to where the next item begins. Takes no memory.
+    #[inline(always)]
+    pub fn bytes(&self) -> u64
+        ensures { result ≡ offset_in self.now }
+    {
+        self.bytes
+    }
+
     /// Where the next item begins, in bytes from the stream's start; after a refusal, the refused one. Takes no memory.
     #[inline(always)]
     pub fn offset(&self) -> u64

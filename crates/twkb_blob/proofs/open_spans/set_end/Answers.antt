@@ -1,7 +1,7 @@
 use Rattle.std.proofs.Common.{◌<◌, length, arith}
-use Rattle.twkb_blob.specs.Located.{measured}
+use Rattle.twkb_blob.specs.Places.{measured}
 use Rattle.twkb_blob.proofs.Changing.{end_set, changed_past}
-use Rattle.twkb_blob.proofs.notes.set_end.Goals as goal
+use Rattle.twkb_blob.proofs.open_spans.set_end.Goals as goal
 
 pub returns-then-index-len : goal.returns-then-index-len
 returns-then-index-len c =

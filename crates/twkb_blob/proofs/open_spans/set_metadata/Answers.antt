@@ -1,6 +1,6 @@
 use Rattle.std.proofs.Common.{◌<◌, length, arith}
 use Rattle.twkb_blob.proofs.Changing.{metadata_set, changed_past}
-use Rattle.twkb_blob.proofs.notes.set_metadata.Goals as goal
+use Rattle.twkb_blob.proofs.open_spans.set_metadata.Goals as goal
 
 pub returns-then-index-len : goal.returns-then-index-len
 returns-then-index-len c =
