@@ -12,7 +12,7 @@ use twkb_grammar::{Span, TypeByte};
 #[derive(Debug, Drop)]
 pub(crate) struct OpenSpans {
     spans: Vec<Span>,
-    open: Vec<usize>,
+    begun: Vec<usize>,
 }
 
 impl Model for OpenSpans {
@@ -21,7 +21,7 @@ impl Model for OpenSpans {
 
     ghost Value = { Notes };
 
-    ghost view = { λ o. record { spans = o.spans.items; begun = reverse o.open.items } };
+    ghost view = { λ o. record { spans = o.spans.items; begun = reverse o.begun.items } };
 }
 
 // Sets the metadata byte of the span at this place, if there is one.
@@ -51,7 +51,7 @@ impl OpenSpans {
     {
         OpenSpans {
             spans: Vec::new(alloc),
-            open: Vec::new(alloc),
+            begun: Vec::new(alloc),
         }
     }
 
@@ -59,8 +59,8 @@ impl OpenSpans {
     pub fn from_spans(spans: Vec<Span>) -> OpenSpans
         ensures { result.spans ≡ spans.items }
     {
-        let open = Vec::new(*spans.allocator());
-        OpenSpans { spans, open }
+        let begun = Vec::new(*spans.allocator());
+        OpenSpans { spans, begun }
     }
 
     /// Forgets the spans, and keeps their room for others. Takes no memory.
@@ -68,7 +68,7 @@ impl OpenSpans {
         ensures { self.new ≡ no_notes }
     {
         self.spans.clear();
-        self.open.clear();
+        self.begun.clear();
     }
 
     /// The spans. Takes no memory.
@@ -93,7 +93,7 @@ impl SpanNotes for OpenSpans {
 
     #[inline(always)]
     fn begin(&mut self, offset: u64, points: u64, byte: TypeByte) -> Result<(), AllocError> {
-        let level = self.open.len().min(u32::MAX as usize) as u32;
+        let level = self.begun.len().min(u32::MAX as usize) as u32;
         let place = self.spans.len();
         self.spans.push(Span {
             level,
@@ -104,13 +104,13 @@ impl SpanNotes for OpenSpans {
             length: 0,
             points,
         })?;
-        self.open.push(place)?;
+        self.begun.push(place)?;
         Ok(())
     }
 
     #[inline(always)]
     fn set_metadata(&mut self, byte: u8) {
-        if let Some(place) = self.open.last() {
+        if let Some(place) = self.begun.last() {
             let place = *place;
             set_metadata(&mut self.spans, place, byte);
         }
@@ -118,7 +118,7 @@ impl SpanNotes for OpenSpans {
 
     #[inline(always)]
     fn end(&mut self, offset: u64, points: u64) {
-        if let Some(place) = self.open.pop() {
+        if let Some(place) = self.begun.pop() {
             set_end(&mut self.spans, place, offset, points);
         }
     }

@@ -137,6 +137,7 @@ impl Engine {
         ensures ended { (bs : List ℕ) (rs : List Row) → StandsAt bs rs self.now → IsEnd (allowance_of self.now) bs (offset_in self.now) result }
         ensures alone { result ≡ true → held_in self.now ≡ [] }
         ensures none { result ≡ true → self.now.bytes ≡ 0 }
+        ensures some { result ≡ false → 0 < count_of self.now }
     {
         self.held.len() == 0 && self.bytes == 0
     }
