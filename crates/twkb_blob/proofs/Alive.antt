@@ -16,10 +16,10 @@ module _ {S : Type 0} (holds : S → Notes → Type 0) (rs more : List Row) (d e
   fed_ended run alive = ∥∥₁_map alive (λ s. ([], (run s.0 s.1).2))
 
   -- it took no more bytes than there is room for
-  pub fed_few : (ends : Bool) (most : ℕ) → FedBy holds d rs old piece (Ok (used, ends)) e more new → IsAlive rs d → (d.start + count_of d) + length piece ≤ most → e.start + count_of e ≤ most
+  pub fed_few : (ends : Bool) (most : ℕ) → FedBy holds d rs old piece (Ok (used, ends)) e more new → IsAlive rs d → (d.start + count_of d) + used ≤ most → e.start + count_of e ≤ most
   fed_few false most run alive room = ∥∥₁_elim alive (Prim.hlevel props) (λ s. let f = run s.0 s.1 in
       omega (arith, room, f.0, f.1, count_is s.0 rs d s.1, count_is (s.0 ++ take used piece) more e f.2, length-append s.0 (take used piece), length-take-le used piece f.0))
-  fed_few true most run alive room = ∥∥₁_elim alive (Prim.hlevel props) (λ s. let f = run s.0 s.1 in let within = f.0.within in omega (arith, room, within, f.3, count_is s.0 rs d s.1, count_is [] [] e f.2))
+  fed_few true most run alive room = ∥∥₁_elim alive (Prim.hlevel props) (λ s. let f = run s.0 s.1 in omega (arith, room, f.3, count_is s.0 rs d s.1, count_is [] [] e f.2))
 
 -- the rows in a form that was begun are those of the geometry that is read
 pub of_begun : (rs : List Row) (d : Engine) (whole : Bool) → whole ≡ false → IsAlive (if whole then [] else rs) d → IsAlive rs d

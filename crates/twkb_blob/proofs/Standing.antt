@@ -2,7 +2,7 @@
 use Rattle.std.proofs.Common.{◌≡◌, ℕ, zero, suc, ◌+◌, ◌-◌, ◌<◌, ◌≤◌, ◌^◌, inl, inr, List, [], ◌∷◌, ◌++◌, length, take, refl, sym, ap, ◌∙◌, subst, append_assoc, length-append, Bool, true, false, Option, Some, None, IfSome, Ok, Err, arith}
 use Rattle.std.proofs.Math.Seq.{take-length}
 use Rattle.std.proofs.lemmas.List.{append-nil, append_cancel_left, length-take-le}
-use Rattle.std.specs.Prelude.{if◌then◌else◌}
+use Rattle.std.specs.Prelude.{if◌then◌else◌, is_ok}
 use Rattle.twkb_tree.specs.Tree.{Tree}
 use Rattle.twkb_tree.specs.Rows.{Row, rows}
 use Rattle.twkb_tree.specs.Limits.{Allowance, IsValid, largest_limits}
@@ -21,7 +21,8 @@ use Rattle.twkb_engine.proofs.RootPoints.{blob_judged}
 use Rattle.twkb_engine.specs.declared.engine.Engine.{Engine}
 use Rattle.twkb_engine.specs.declared.blob_reason.BlobReason.{BlobReason}
 use Rattle.twkb_blob.specs.Faults.{fault_of}
-use Rattle.twkb_blob.specs.Sessions.{Stands, PartAt, FedSession, FedFlat, AreBegun, IsTooLong, begun_rows, session_limits, session_rows}
+use Rattle.twkb_blob.specs.Feeding.{end_at}
+use Rattle.twkb_blob.specs.Sessions.{Stands, PartAt, FedSession, FedFlat, AreBegun, IsTooLong, Finished, begun_rows, session_limits, session_rows}
 use Rattle.twkb_blob.specs.declared.session.Session.{Session}
 use Rattle.twkb_blob.specs.declared.fault.BlobFault.TheVariants as fault
 use Rattle.twkb_blob.proofs.Trees.{TreeLaw, last_tree, tree_made, not_none}
@@ -182,3 +183,16 @@ ended bytes gs old s none = subst (λ l. Stream (session_limits old) l gs) (sym 
 -- the stream ends inside a blob
 pub cut_short : (bytes : List ℕ) (gs : List Tree) (old : Session) (within : ℕ) (s : Stands bytes gs old) → FirstFault (session_limits old) s.rest within Truncated → StreamFault (session_limits old) bytes gs (old.engine.start + within) Truncated
 cut_short bytes gs old within s first = record { front = s.front; rest = s.rest; within = within; whole = s.whole; blobs = s.blobs; first = first; place = ap (λ n. n + within) s.start }
+
+-- what the end of a stream is answered
+pub finished_with : (bytes : List ℕ) (gs : List Tree) (old : Session) (s : Stands bytes gs old) (count : ℕ) → IsEnd (session_limits old) s.rest (offset_in old.engine) (is_ok (end_at (place_in old.engine) count)) → Finished (session_limits old) bytes gs (end_at (place_in old.engine) count)
+finished_with bytes gs old s zero none = ended bytes gs old s none
+finished_with bytes gs old s (suc n) first = cut_short bytes gs old (offset_in old.engine) s first
+
+-- bytes of the piece were used, or those up to the end of a geometry
+pub fed_session : {S : Type 0} (holds : S → Notes → Type 0) (known : Type 0) (bytes : List ℕ) (gs : List Tree) (piece : List ℕ) (old new : Session) (used : ℕ) (ends : Bool) (v : S) (s : Stands bytes gs old) → (old.engine.start + count_of old.engine) + used ≤ 2 ^ 62
+    → (ends ≡ false → used ≡ length piece) → session_limits new ≡ session_limits old → new.spent ≡ false → new.is_whole ≡ ends → IsFed holds known (session_limits old) old.engine.start s.rest piece (Ok (used, ends)) (session_rows new) new.engine v
+    → FedFlat bytes gs piece (Ok (used, ends)) new
+fed_session holds known bytes gs piece old new used false v s few all limits live is f =
+    went_on bytes gs piece old new used s (omega (arith, few, all refl, so_many bytes gs old s)) limits f.1 live is (all refl) f.2
+fed_session holds known bytes gs piece old new used true v s few all limits live is f = gave bytes gs piece old new used s (omega (arith, few, so_many bytes gs old s)) limits f.3 live is f.0 f.2

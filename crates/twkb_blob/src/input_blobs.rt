@@ -4,7 +4,7 @@ ghost use Rattle.twkb_tree.specs.Rows.{Row};
 ghost use Rattle.twkb_io.specs.Taps.{count_failure};
 ghost use Rattle.twkb_io.specs.Inputs.{input_failures, input_tap};
 ghost use Rattle.twkb_engine.specs.State.{allowance_of};
-ghost use Rattle.twkb_engine.specs.Standing.{StandsAt, IsAlive, IsEnd, offset_in, place_in};
+ghost use Rattle.twkb_engine.specs.Standing.{StandsAt, IsAlive, IsEnd, count_of, offset_in, place_in};
 ghost use Rattle.twkb_blob.specs.Readers.{failed_by_read};
 ghost use Rattle.twkb_blob.specs.Feeding.{FedPiece, ReadsBlob, ends_at};
 
@@ -42,6 +42,7 @@ pub(crate) fn feed_piece<S: SpanNotes>(
     ensures limits { engine.new.limits ≡ engine.old.limits }
     ensures within { IfOk result (λ fed. fed.0 ≤ length piece.now) }
     ensures all { IfOk result (λ fed. fed.1 ≡ false → fed.0 ≡ length piece.now) }
+    ensures room { IfOk result (λ fed. (engine.old.start + count_of engine.old) + fed.0 ≤ 2 ^ 62) }
     ensures unread { failed_by_read result ≡ false }
     ensures fed { FedPiece S.holds engine.old flat.old spans.old piece.now result engine.new flat.new spans.new }
 {

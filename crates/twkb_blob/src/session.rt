@@ -281,6 +281,8 @@ impl Session {
         ensures state { result ≡ session_held self.now }
         ensures few { result ≤ 9 }
     {
+        // learnt: the engine stands after bytes that it took
+        let _learnt = self.engine.is_between();
         self.engine.held()
     }
 
@@ -290,6 +292,10 @@ impl Session {
         ensures state { result ≡ session_open self.now }
         ensures few { (bytes : List ℕ) (gs : List Tree) → Stands bytes gs self.now → result ≤ (session_limits self.now).nest + 1 }
     {
+        // learnt: what it holds begins a number
+        let _learnt = self.engine.held();
+        // learnt: the engine stands after bytes that it took
+        let _learnt = self.engine.is_between();
         self.engine.open_geometries()
     }
 }

@@ -1,4 +1,5 @@
 use Rattle.std.proofs.Common.{rules, ◌≡◌, ◌+◌, ◌≤◌, length, take, ℕ, sym, subst, arith, Err, false}
+use Rattle.std.proofs.lemmas.List.{length-take}
 use Rattle.twkb_engine.specs.State.{allowance_of}
 use Rattle.twkb_engine.specs.Standing.{notes_at, offset_in, count_of}
 use Rattle.twkb_engine.proofs.Feeds.{used_within}
@@ -19,6 +20,11 @@ pub returns-else-not-ends-clause-within : goal.returns-else-not-ends-clause-with
 returns-else-not-ends-clause-within g c =
     let few = used_within g.S.SpanNotes.holds (take c.in_ok-count.count c.args.piece.now) c.in-Ok.used c.in-Ok.ends c.args.flat.now c.feed.new.flat c.args.engine.now c.feed.new.self c.args.spans.now c.feed.new.spans c.requires.alive c.in-Ok.ensures.fed in
     omega (arith, few, short_cut c.in_ok-count.count c.args.piece.now)
+
+pub returns-else-not-ends-clause-room : goal.returns-else-not-ends-clause-room
+returns-else-not-ends-clause-room g c =
+    let few = used_within g.S.SpanNotes.holds (take c.in_ok-count.count c.args.piece.now) c.in-Ok.used c.in-Ok.ends c.args.flat.now c.feed.new.flat c.args.engine.now c.feed.new.self c.args.spans.now c.feed.new.spans c.requires.alive c.in-Ok.ensures.fed in
+    omega (arith, few, length-take c.in_ok-count.count c.args.piece.now, c.in_ok-count.ensures.fits, c.offset.ensures, c.held.ensures.held)
 
 pub returns-else-not-ends-clause-fed : goal.returns-else-not-ends-clause-fed
 returns-else-not-ends-clause-fed g c = λ bs s.

@@ -1,5 +1,6 @@
 use Rattle.std.proofs.Common.{sym, subst, rules}
-use Rattle.twkb_engine.specs.Standing.{allowance_of}
+use Rattle.twkb_tree.proofs.RootLaws.{one_geometry}
+use Rattle.twkb_engine.specs.State.{allowance_of}
 use Rattle.twkb_blob.specs.Sessions.{PartAt, FedSession}
 use Rattle.twkb_blob.proofs.Standing.{gave_found, no_tree}
 use Rattle.twkb_blob.proofs.session.Session.give_tree.Goals as goal
@@ -11,4 +12,4 @@ returns-in_default-clause-fed c = λ bytes piece gs was s same fed.
 
 pub returns-clause-fed : goal.returns-clause-fed
 returns-clause-fed c = λ bytes piece gs was s same fed.
-    gave_found c.one_reading.ensures.one bytes gs piece c.args.self.now c.args.used c.in-Ok.found fed (λ none. let is = none in search rules) c.in-Ok.ensures.rows c.in-Ok.ensures.valid
+    gave_found one_geometry bytes gs piece c.args.self.now c.args.used c.in-Ok.found fed (λ none. let is = none in search rules) c.in-Ok.ensures.rows c.in-Ok.ensures.valid
