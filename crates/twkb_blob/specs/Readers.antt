@@ -61,6 +61,12 @@ told_by {R} {read} input = read.remaining (device_of (input_tap input).now)
 abbrev pub IsFull : {R : Type 0} {read : Ghosts R} → Input R read → Input R read → Type 0
 IsFull old new = (given new ≡ 2 ^ 62) × IfSome (rest_of old) (λ rest. 2 ^ 62 < given old + length rest)
 
+-- why an input gave no further byte: its reader failed and no byte was held; it has more than 2^62 bytes; or it was refused before
+abbrev pub HasNone : {R : Type 0} {read : Ghosts R} → InFault → Input R read → Input R read → Type 0
+HasNone stopped.Read old new = rest_of new ≡ told_by new
+HasNone stopped.TooLong old new = IsFull old new
+HasNone stopped.Spent old new = input_spent old ≡ true
+
 -- Why an input gave no byte: its reader failed, which its tap counts, and no byte was held; it has more than 2^62 bytes; or it was refused before.
 abbrev pub Stops : {R : Type 0} {read : Ghosts R} → InFault → Input R read → Input R read → Type 0
 Stops stopped.Read old new = Left old new [] × (rest_of new ≡ told_by new)

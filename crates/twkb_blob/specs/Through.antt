@@ -12,7 +12,7 @@ use Rattle.twkb_io.specs.declared.input.InFault.{InFault}
 use Rattle.twkb_io.specs.declared.input.InFault.TheVariants as stopped
 use Rattle.twkb_io.specs.Inputs.{given, rest_of, is_spent as input_spent}
 use Rattle.twkb_engine.specs.Stops.{reason_of}
-use Rattle.twkb_blob.specs.Readers.{Left, IsFull, told_by, is_spent, has_ended, reader_input, ready_at}
+use Rattle.twkb_blob.specs.Readers.{Left, HasNone, is_spent, has_ended, reader_input, ready_at}
 use Rattle.twkb_blob.specs.Spanned.{NotesEnd}
 use Rattle.twkb_blob.specs.Sessions.{AreBegun, PartAt, Stands, session_limits, session_rows}
 use Rattle.twkb_blob.specs.declared.fault.BlobFault.{BlobFault}
@@ -50,12 +50,6 @@ pub record EndsAll {R : Type 0} {read : Ghosts R} (limits : Allowance) (bytes : 
   pub left : Left old new more
   pub all : IfSome (rest_of old) (λ rest. rest ≡ more)
   pub blobs : Stream limits (bytes ++ more) gs
-
--- why an input gave no further byte: its reader failed and no byte was held; it has more than 2^62 bytes; or it was refused before
-abbrev pub HasNone : {R : Type 0} {read : Ghosts R} → InFault → Input R read → Input R read → Type 0
-HasNone stopped.Read old new = rest_of new ≡ told_by new
-HasNone stopped.TooLong old new = IsFull old new
-HasNone stopped.Spent old new = input_spent old ≡ true
 
 -- The input gave no byte behind some, and with the bytes before these are whole blobs, or cut inside a further one.
 pub record HaltsWithin {R : Type 0} {read : Ghosts R} (limits : Allowance) (bytes : List ℕ) (gs : List Tree) (why : InFault) (old new : Input R read) : Type 0 where
