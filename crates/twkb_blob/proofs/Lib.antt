@@ -4,3 +4,6 @@ pub mod Cuts
 pub mod Standing
 pub mod Alive
 pub mod Counts
+pub mod Answering
+pub mod Abreast
+pub mod Calls
