@@ -55,9 +55,9 @@ module _ {S : Type 0} (holds : S → Notes → Type 0) {R : Type 0} {read : Ghos
   -- it left the input
   read_made : holds told no_notes → ReadsBlob holds d [] told a c (Ok true) e more spans → ReadsInto holds limits a c (Ok true) more spans
   read_made none h =
-      let (g, made, says, is, rest) = h [] s in
-      let at : HoldsSpans holds spans (given a) made.blob = subst (λ n. HoldsSpans holds spans n made.blob) begun (says (subst (holds told) (sym (none_noted [] d s)) none)) in
-      subst (λ l. (g : Tree) × (made : Makes l [] a c g) × HoldsSpans holds spans (given a) made.blob × (more ≡ rows 0 g)) own (g, made, at, is)
+      let got = h [] s in
+      let at : HoldsSpans holds spans (given a) got.1.blob = subst (λ n. HoldsSpans holds spans n got.1.blob) begun (got.2 (subst (holds told) (sym (none_noted [] d s)) none)) in
+      subst (λ l. (g : Tree) × (made : Makes l [] a c g) × HoldsSpans holds spans (given a) made.blob × (more ≡ rows 0 g)) own (got.0, got.1, at, got.3)
 
   -- the input gave no byte after some
   halted : (between : Bool) (why : InFault) (bytes : List ℕ) (kept : List Row) → allowance_of e ≡ allowance_of d → ((bs : List ℕ) (rs : List Row) → StandsAt bs rs e → IsEnd (allowance_of e) bs (offset_in e) between)

@@ -40,6 +40,10 @@ not_ended state.Ready is = refl
 not_ended state.Ended is = absurd cc
 not_ended state.Spent is = absurd cc
 
+is_false : (b : Bool) → ¬ (b ≡ true) → b ≡ false
+is_false true not = absurd (not refl)
+is_false false not = refl
+
 module _ {R : Type 0} {read : Ghosts R} where
   -- one that is not ready stays as it is
   at_rest : (r : Reader R read) (s : State) → r.state ≡ s → ¬ (ready_at s ≡ Ok true) → ReadsNext false r r (ready_at s)
@@ -85,10 +89,6 @@ module _ {R : Type 0} {read : Ghosts R} where
     going_on = going;
     for_good = λ is. absurd (let live = not_ended old.state ready in cc (is, live));
   }
-
-  is_false : (b : Bool) → ¬ (b ≡ true) → b ≡ false
-  is_false true not = absurd (not refl)
-  is_false false not = refl
 
   module _ (old new : Reader R read) (answer : Result Bool BlobFault) (h : ReadsNext false old new answer) {A : Type 0} (fact : IfGoingOn old A) where
     going_on : ¬ (answer ≡ Err fault.Spent) → ¬ (answer ≡ Ok false) → A

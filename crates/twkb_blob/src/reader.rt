@@ -270,13 +270,9 @@ impl<'a, R: Read> Reader<'a, R> {
         }
         let mut engine = Engine::new(alloc, self.limits, self.input.offset());
         let found = read_blob(&mut self.input, &mut engine, flat, spans);
-        if let Ok(true) = found {
-            return self.answered(found);
-        }
         // learnt: where the engine stands, the bytes end inside a blob, or there are none
         let _learnt = engine.is_between();
-        flat.clear();
-        self.answered(found)
+        self.answered(keep_rows(found, flat))
     }
 
     // Reads the next blob through a session, and its spans.
@@ -318,6 +314,20 @@ impl<'a, R: Read> Reader<'a, R> {
             }
         }
     }
+}
+
+// Leaves rows in a form only if a geometry was read; returns the same.
+#[inline(always)]
+fn keep_rows(found: Result<bool, BlobFault>, flat: &mut Flat) -> Result<bool, BlobFault>
+    ensures same { result ≡ found }
+    ensures made { found ≡ Ok true → flat.new ≡ flat.old }
+    ensures cleared { (found ≡ Ok true) ⊎ (flat.new ≡ []) }
+{
+    if let Ok(true) = found {
+        return found;
+    }
+    flat.clear();
+    found
 }
 
 // Leaves spans in a list only if a geometry was read; returns the same.

@@ -1,3 +1,4 @@
+use Rattle.std.specs.Prelude.{⊤}
 use Rattle.twkb_grammar.specs.Noting.{Notes}
 use Rattle.twkb_engine.specs.declared.span_notes.NoSpans.{NoSpans}
 use Rattle.twkb_blob.specs.Readers.{reader_input, reader_limits}
