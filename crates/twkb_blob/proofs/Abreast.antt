@@ -71,7 +71,7 @@ cut_behind limits bytes more gs first (inr (offset, cut)) = let k = fault_behind
 part_behind : (limits : Allowance) (bytes : List ℕ) (gs : List Tree) (piece : List ℕ) → Stream limits bytes gs → PartAt limits bytes gs piece → PartIn limits [] piece
 part_behind limits bytes gs piece first h =
     let whole : bytes ++ [] ≡ h.front ++ h.rest = append-nil bytes ∙ h.whole in
-    let one : bytes ≡ h.front = same_blobs limits bytes h.front [] h.rest gs first h.blobs whole in
+    let one : bytes ≡ h.front = same_blobs limits gs bytes h.front [] h.rest first h.blobs whole in
     subst (λ l. PartIn limits l piece) (sym (peel bytes h.front [] h.rest one whole)) h.part
 
 known_part : (limits : Allowance) (known : Option (List ℕ)) (bytes : List ℕ) (gs : List Tree) → Stream limits bytes gs → IfSome known (λ rest. PartAt limits bytes gs rest) → IfSome known (λ rest. PartIn limits [] rest)
