@@ -197,7 +197,7 @@ whole_or_cut limits bytes gs hs offset s f =
     no_stream limits f.front f.rest hs gs f.within Truncated f.blobs f.first.fault (subst (λ l. Stream limits l gs) f.whole s)
 
 -- the same blobs in front of the same bytes
-same_blobs : (limits : Allowance) (gs : List Tree) (a b x y : List ℕ) → Stream limits a gs → Stream limits b gs → a ++ x ≡ b ++ y → a ≡ b
+pub same_blobs : (limits : Allowance) (gs : List Tree) (a b x y : List ℕ) → Stream limits a gs → Stream limits b gs → a ++ x ≡ b ++ y → a ≡ b
 same_blobs limits [] a b x y s t e = s ∙ sym t
 same_blobs limits (g ∷ gs) a b x y s t e =
     let whole : s.0 ++ (s.1 ++ x) ≡ t.0 ++ (t.1 ++ y) = sym (append_assoc s.0 s.1 x) ∙ (ap (λ l. l ++ x) (sym s.2) ∙ (e ∙ (ap (λ l. l ++ y) t.2 ∙ append_assoc t.0 t.1 y))) in

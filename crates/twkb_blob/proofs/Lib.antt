@@ -4,3 +4,4 @@ pub mod Cuts
 pub mod Standing
 pub mod Alive
 pub mod Counts
+pub mod Onward

@@ -1,5 +1,5 @@
 //! A stream of blobs that comes in pieces.
-ghost use Rattle.std.specs.Prelude.{◌≡◌, ◌<◌, ◌≤◌, ◌^◌, ◌↔◌, ◌+◌, ◌⊎◌, ◌∷◌, [], if◌then◌else◌, List, ℕ, true, false, Ok, Err, None, is_err, length, IfOk, IfErr, IfSome};
+ghost use Rattle.std.specs.Prelude.{◌≡◌, ◌<◌, ◌≤◌, ◌^◌, ◌↔◌, ◌+◌, ◌⊎◌, ◌∷◌, [], ⊥, if◌then◌else◌, List, ℕ, true, false, Ok, Err, None, is_err, length, IfOk, IfErr, IfSome};
 ghost use Rattle.twkb_tree.specs.Tree.{Tree};
 ghost use Rattle.twkb_tree.specs.Rows.{rows};
 ghost use Rattle.twkb_tree.specs.Limits.{IsValid, largest_limits};
@@ -48,7 +48,7 @@ fn refused(fault: BlobFault) -> Result<(usize, Option<Geometry>), BlobFault>
 }
 
 impl Session {
-    ghost use Rattle.twkb_blob.specs.Sessions.{Stands, FedFlat, FedSession, Finished, HeldOf, FramesOf, begun_rows, byte_answer, with_end, is_spent, session_limits, session_held, session_open, session_rows};
+    ghost use Rattle.twkb_blob.specs.Sessions.{Stands, FedFlat, FedSession, Finished, HeldOf, FramesOf, begun_rows, HasEnd, byte_answer, with_end, is_spent, session_limits, session_held, session_open, session_rows};
     ghost use Rattle.twkb_blob.specs.Through.{IsThrough};
     ghost use Rattle.twkb_blob.specs.Spanned.{NotesEnd};
 
@@ -125,7 +125,10 @@ impl Session {
         ensures spent { self.new.spent ≡ true }
         ensures engine { self.new.engine ≡ self.old.engine }
         ensures rows { session_rows self.new ≡ [] }
+        ensures end { HasEnd self.new.engine }
     {
+        // learnt: the engine stands after bytes that it took
+        let _learnt = self.engine.is_between();
         self.rows.flat.clear();
         self.spent = true;
     }
@@ -169,12 +172,35 @@ impl Session {
                 Err(stop) => Err(fault_at(start + self.engine.bytes(), stop)),
             };
         }
+        self.feed_many(piece)
+    }
+
+    // Takes a piece of any length, and returns how many bytes of it.
+    #[inline(always)]
+    fn feed_many(&mut self, piece: &[u8]) -> Result<usize, BlobFault>
+        requires live { self.old.spent ≡ false }
+        requires begun { self.old.is_whole ≡ false }
+        ensures fed { (bytes : List ℕ) (gs : List Tree) → Stands bytes gs self.old → FedFlat bytes gs piece.now (with_end self.new.is_whole result) self.new }
+        ensures within { IfOk result (λ used. used ≤ length piece.now) }
+        ensures unread { failed_by_read result ≡ false }
+        ensures unspent { (result ≡ Err BlobFault.Spent) → ⊥ }
+        ensures stays { is_spent self.new ≡ is_err result }
+        ensures limits { session_limits self.new ≡ session_limits self.old }
+    {
+        // while it is fed nothing is known of the engine
         self.spent = true;
-        let (used, ends) =
-            feed_piece(&mut self.engine, &mut self.rows.flat, &mut NoSpans, piece)?;
-        self.is_whole = ends;
-        self.spent = false;
-        Ok(used)
+        match feed_piece(&mut self.engine, &mut self.rows.flat, &mut NoSpans, piece) {
+            Ok((used, ends)) => {
+                self.is_whole = ends;
+                self.spent = false;
+                Ok(used)
+            }
+            Err(fault) => {
+                // learnt: the engine stands after bytes that it took
+                let _learnt = self.engine.is_between();
+                Err(fault)
+            }
+        }
     }
 
     // Takes a piece of one byte, which needs neither a cut nor a loop. Returns whether a geometry ends with it.
@@ -221,9 +247,11 @@ impl Session {
             return Err(BlobFault::Spent);
         }
         self.begin();
+        self.spent = true;
         let found = read_blob(input, &mut self.engine, &mut self.rows.flat, spans);
         if let Ok(true) = found {
             self.is_whole = true;
+            self.spent = false;
             return found;
         }
         self.give_up();
