@@ -1,5 +1,5 @@
 -- Pieces of an input that lead an engine on, as the answer of one that reads a blob.
-use Rattle.std.proofs.Common.{◌≡◌, ℕ, zero, suc, ◌+◌, ◌-◌, ◌<◌, ◌≤◌, ◌^◌, List, [], ◌∷◌, ◌++◌, length, take, refl, sym, ap, ◌∙◌, subst, append_assoc, append-nil, length-append, Result, Ok, Err, true, false, arith, inl, inr}
+use Rattle.std.proofs.Common.{◌≡◌, ℕ, zero, suc, ◌+◌, ◌-◌, ◌<◌, ◌≤◌, ◌^◌, List, [], ◌∷◌, ◌++◌, length, take, refl, sym, ap, ◌∙◌, subst, append_assoc, append-nil, length-append, Bool, nat_eq, Result, Ok, Err, true, false, arith, inl, inr}
 use Rattle.std.proofs.lemmas.List.{length-take-le}
 use Rattle.std.proofs.Math.Logic.{∥∥₁_elim, ∥∥₁_map}
 use Rattle.std.proofs.Props.{props}
@@ -15,13 +15,14 @@ use Rattle.twkb_outline.specs.Parts.{PartIn}
 use Rattle.twkb_io.specs.declared.input.Input.{Input}
 use Rattle.twkb_io.specs.declared.input.InFault.{InFault}
 use Rattle.twkb_io.specs.declared.input.InFault.TheVariants.{Read, TooLong, Spent}
+use Rattle.twkb_io.specs.Taps.{count_failure}
 use Rattle.twkb_io.specs.Inputs.{given, rest_of, is_spent, is_read_fault}
 use Rattle.twkb_engine.specs.State.{allowance_of}
 use Rattle.twkb_engine.specs.Standing.{StandsAt, IsAlive, IsEnd, LeadsOn, FedBy, HoldsSpans, RefusedIn, notes_at, count_of, offset_in, place_in}
 use Rattle.twkb_engine.specs.Stops.{reason_of}
 use Rattle.twkb_engine.specs.declared.blob_reason.BlobReason.TheVariants as reason
 use Rattle.twkb_engine.specs.declared.engine.Engine.{Engine}
-use Rattle.twkb_engine.proofs.Feeds.{count_is}
+use Rattle.twkb_engine.proofs.Feeds.{count_is, is_some}
 use Rattle.twkb_blob.specs.Feeding.{FedPiece, ReadsBlob, end_at, ends_at}
 use Rattle.twkb_blob.specs.Readers.{HasNone, Left, failed_by_read}
 use Rattle.twkb_blob.specs.declared.fault.BlobFault.{BlobFault}
@@ -42,11 +43,32 @@ end_refused : (offset count : ℕ) (why : BlobFault) → ◌≡◌ {A = Result �
 end_refused offset zero why e = absurd cc
 end_refused offset (suc n) why e = cc
 
--- a failed read of an input is one of a reader
-pub read_failed : {A B : Type 0} (r : Result A InFault) (why : InFault) → r ≡ Err why → is_read_fault r ≡ failed_by_read {A = B} (Err (fault.Device why))
-read_failed r Read is = ap is_read_fault is
-read_failed r TooLong is = ap is_read_fault is
-read_failed r Spent is = ap is_read_fault is
+-- a failed read of an input is counted as one of a reader
+pub read_failed : {A : Type 0} (B : Type 0) (r : Result A InFault) (why : InFault) (now mid old : ℕ) → r ≡ Err why → now ≡ count_failure (is_read_fault r) mid → mid ≡ old → now ≡ count_failure (failed_by_read {A = B} (Err (fault.Device why))) old
+read_failed B r Read now mid old is counted same = counted ∙ (ap (λ f. count_failure (is_read_fault f) mid) is ∙ ap (count_failure true) same)
+read_failed B r TooLong now mid old is counted same = counted ∙ (ap (λ f. count_failure (is_read_fault f) mid) is ∙ same)
+read_failed B r Spent now mid old is counted same = counted ∙ (ap (λ f. count_failure (is_read_fault f) mid) is ∙ same)
+
+-- an answer that is no failed read counts none
+pub unread_same : {A : Type 0} (r : Result A BlobFault) (now old : ℕ) → failed_by_read r ≡ false → now ≡ old → now ≡ count_failure (failed_by_read r) old
+unread_same r now old unread same = same ∙ ap (λ b. count_failure b old) (sym unread)
+
+-- the end of a stream is no failed read
+pub end_unread : (B : Type 0) (offset count : ℕ) (why : BlobFault) → ◌≡◌ {A = Result ⊤ BlobFault} (Err why) (end_at offset count) → failed_by_read {A = B} (Err why) ≡ false
+end_unread B offset count why e = ap (λ f. failed_by_read {A = B} (Err f)) (end_refused offset count why e)
+
+-- a piece without bytes, and one with some
+pub none_in : (piece : List ℕ) (empty : Bool) → empty ≡ nat_eq (length piece) 0 → empty ≡ true → piece ≡ []
+none_in [] empty is on = refl
+none_in (x ∷ piece) empty is on = absurd (let off = is ∙ is_some (length (x ∷ piece)) (omega arith) in cc (on, off))
+
+pub some_in : (piece : List ℕ) (empty : Bool) → empty ≡ nat_eq (length piece) 0 → empty ≡ false → 0 < length piece
+some_in [] empty is off = absurd (cc (is, off))
+some_in (x ∷ piece) empty is off = omega arith
+
+-- no bytes lead on
+pub leads_none : {S : Type 0} (holds : S → Notes → Type 0) (rs : List Row) (d : Engine) (told : S) → LeadsOn holds rs d told [] rs d told
+leads_none holds rs d told = λ bs s. subst (λ l. (t : StandsAt l rs d) × (holds told (notes_at s) → holds told (notes_at t))) (sym (append-nil bs)) (s, λ known. known)
 
 module _ {S : Type 0} (holds : S → Notes → Type 0) {R : Type 0} {read : Ghosts R} (rs mid : List Row) (d e : Engine) (told now : S) (a b : Input R read) (bytes : List ℕ)
     (left : Left a b bytes) (leads : LeadsOn holds rs d told bytes mid e now) (limits : e.limits ≡ d.limits) (start : e.start ≡ d.start) where
