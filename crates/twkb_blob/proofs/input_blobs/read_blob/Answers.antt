@@ -1,4 +1,4 @@
-use Rattle.std.proofs.Common.{◌≡◌, ◌∙◌, ◌+◌, ◌-◌, ◌<◌, ◌≤◌, ◌^◌, ◌++◌, [], take, length, Bool, refl, sym, ap, subst, arith, true, false, Ok, Err}
+use Rattle.std.proofs.Common.{◌≡◌, ◌∙◌, ◌<◌, ◌^◌, ◌++◌, [], take, length, Bool, refl, sym, ap, subst, arith, false, Ok, Err}
 use Rattle.std.proofs.lemmas.Result.{err_from_is_err_and}
 use Rattle.twkb_io.specs.Taps.{failures_of}
 use Rattle.twkb_io.specs.Inputs.{given, input_failures, unused}
