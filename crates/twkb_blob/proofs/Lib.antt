@@ -5,3 +5,5 @@ pub mod Standing
 pub mod Alive
 pub mod Counts
 pub mod Onward
+pub mod Pieces
+pub mod Leading
