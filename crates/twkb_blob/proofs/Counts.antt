@@ -173,6 +173,7 @@ held_told bytes gs old s false first =
 -- the geometries that are begun
 pub frames_told : (bytes : List ℕ) (gs : List Tree) (old : Session) (s : Stands bytes gs old) → IsOpenVarint (held_in old.engine) → (between : Bool)
     → IsEnd (session_limits old) s.rest (offset_in old.engine) between → FramesOf (session_limits old) bytes gs (open_in old.engine)
+unfolding stands_of
 frames_told bytes gs old s o true none =
     let b = s.begun in
     let front : b.front ≡ [] = no_front b.front (held_in old.engine) (sym b.whole ∙ none) in

@@ -1,5 +1,5 @@
 //! A stream of blobs that comes in pieces.
-ghost use Rattle.std.specs.Prelude.{◌≡◌, ◌<◌, ◌≤◌, ◌^◌, ◌↔◌, ◌+◌, ◌⊎◌, ◌∷◌, [], ⊥, if◌then◌else◌, List, ℕ, true, false, Ok, Err, None, is_err, length, IfOk, IfErr, IfSome};
+ghost use Rattle.std.specs.Prelude.{◌≡◌, ◌<◌, ◌≤◌, ◌^◌, ◌↔◌, ◌+◌, ◌⊎◌, ◌∷◌, [], if◌then◌else◌, List, ℕ, true, false, Ok, Err, None, is_err, length, IfOk, IfErr, IfSome};
 ghost use Rattle.twkb_tree.specs.Tree.{Tree};
 ghost use Rattle.twkb_tree.specs.Rows.{rows};
 ghost use Rattle.twkb_tree.specs.Limits.{IsValid, largest_limits};
@@ -166,6 +166,8 @@ impl Session {
         }
         self.begin();
         if piece.len() == 1 && self.engine.offset() < MAX_BYTES - 16 {
+            // learnt: it holds at most nine bytes
+            let _learnt = self.engine.held();
             let start = self.engine.start();
             return match self.feed_byte(piece[0]) {
                 Ok(_) => Ok(1),
