@@ -1,5 +1,5 @@
 -- A session goes on, gives a geometry, refuses or ends.
-use Rattle.std.proofs.Common.{◌≡◌, ℕ, zero, suc, ◌+◌, ◌-◌, ◌<◌, ◌≤◌, ◌^◌, inl, inr, List, [], ◌∷◌, ◌++◌, length, take, refl, sym, ap, ◌∙◌, subst, append_assoc, length-append, Bool, true, false, Option, Some, None, IfSome, Ok, Err, arith}
+use Rattle.std.proofs.Common.{◌≡◌, ℕ, zero, suc, ◌+◌, ◌-◌, ◌<◌, ◌≤◌, ◌^◌, inl, inr, List, [], ◌∷◌, ◌++◌, length, take, get_or, refl, sym, ap, ◌∙◌, subst, append_assoc, length-append, Bool, true, false, Option, Some, None, IfSome, Ok, Err, arith}
 use Rattle.std.proofs.Math.Seq.{take-length}
 use Rattle.std.proofs.lemmas.List.{append-nil, append_cancel_left, length-take-le}
 use Rattle.std.specs.Prelude.{if◌then◌else◌, is_ok}
@@ -15,7 +15,7 @@ use Rattle.twkb_engine.specs.declared.stop.Stop.{Stop}
 use Rattle.twkb_engine.specs.declared.stop.Stop.TheVariants.{Memory, Refused}
 use Rattle.twkb_grammar.specs.Noting.{Notes}
 use Rattle.twkb_outline.specs.Parts.{PartIn, IsJudged}
-use Rattle.twkb_engine.specs.Standing.{StandsAt, IsFed, IsEnd, MadeIn, RefusedIn, count_of, held_in, offset_in, place_in}
+use Rattle.twkb_engine.specs.Standing.{StandsAt, FedBy, IsFed, IsEnd, notes_at, MadeIn, RefusedIn, count_of, held_in, offset_in, place_in}
 use Rattle.twkb_engine.proofs.Feeds.{count_is}
 use Rattle.twkb_engine.proofs.RootPoints.{blob_judged}
 use Rattle.twkb_engine.specs.declared.engine.Engine.{Engine}
@@ -153,6 +153,13 @@ pub stops : {S : Type 0} (holds : S → Notes → Type 0) (known : Type 0) (star
 stops holds known start bytes gs piece old new Memory rs v s limits h = lacks bytes gs piece old new s limits h
 stops holds known start bytes gs piece old new (Refused r) rs v s limits h = refuses bytes gs piece old new (offset_in new.engine) r s limits h
 
+-- a piece that was not cut
+pub stopped_at : {S : Type 0} (holds : S → Notes → Type 0) (offset : ℕ) (bytes : List ℕ) (gs : List Tree) (piece : List ℕ) (old new : Session) (stop : Stop) (more : List Row) (w v : S) (s : Stands bytes gs old) → old.is_whole ≡ false
+    → offset ≡ old.engine.start + offset_in new.engine → session_limits new ≡ session_limits old → FedBy holds old.engine (session_rows old) w piece (Err stop) new.engine more v → FedSession bytes gs piece (Err (fault_of offset stop)) new
+stopped_at holds offset bytes gs piece old new stop more w v s opened at limits run =
+    let k = begun_at bytes gs old s opened in
+    subst (λ n. FedSession bytes gs piece (Err (fault_of n stop)) new) (sym at) (stops holds (holds w (notes_at k)) old.engine.start bytes gs piece old new stop more v s limits (run s.rest k))
+
 -- a piece was refused
 pub piece_stopped : {S : Type 0} (holds : S → Notes → Type 0) (bytes : List ℕ) (gs : List Tree) (piece : List ℕ) (old new : Session) (why : BlobFault) (more : List Row) (w v : S) (s : Stands bytes gs old) → old.is_whole ≡ false → session_limits new ≡ session_limits old
     → HasEnd new.engine → FedPiece holds old.engine (session_rows old) w piece (Err why) new.engine more v → FedSession bytes gs piece (Err why) new
@@ -216,6 +223,12 @@ end_unread offset (suc n) = refl
 pub end_unspent : (offset count : ℕ) → end_at offset count ≡ Err fault.Spent → ⊥
 end_unspent offset zero e = absurd cc
 end_unspent offset (suc n) e = absurd cc
+
+-- one byte is a piece
+pub one_byte : (xs : List ℕ) (x : ℕ) → length xs ≡ 1 → x ≡ get_or xs 0 0 → x ∷ [] ≡ xs
+one_byte [] x one at = absurd (omega (arith, one))
+one_byte (y ∷ []) x one at = ap (λ n. n ∷ []) at
+one_byte (y ∷ (z ∷ ys)) x one at = absurd (omega (arith, one))
 
 -- bytes of the piece were used, or those up to the end of a geometry
 pub fed_session : {S : Type 0} (holds : S → Notes → Type 0) (known : Type 0) (bytes : List ℕ) (gs : List Tree) (piece : List ℕ) (old new : Session) (used : ℕ) (ends : Bool) (v : S) (s : Stands bytes gs old) → (old.engine.start + count_of old.engine) + used ≤ 2 ^ 62

@@ -13,8 +13,7 @@ use Rattle.twkb_engine.specs.declared.engine.Engine.{Engine}
 use Rattle.twkb_engine.specs.Stops.{reason_of}
 use Rattle.twkb_outline.specs.Parts.{PartIn}
 use Rattle.twkb_io.specs.declared.input.InFault.TheVariants.{TooLong}
-use Rattle.twkb_engine.specs.declared.stop.Stop.{Stop}
-use Rattle.twkb_blob.specs.Faults.{RefusedAt, fault_of}
+use Rattle.twkb_blob.specs.Faults.{RefusedAt}
 use Rattle.twkb_blob.specs.declared.session.Session.{Session}
 use Rattle.twkb_blob.specs.declared.fault.BlobFault.{BlobFault}
 use Rattle.twkb_blob.specs.declared.fault.BlobFault.TheVariants as fault
@@ -113,11 +112,6 @@ abbrev pub FedFlat : List ℕ → List Tree → List ℕ → Result (ℕ × Bool
 FedFlat bytes gs piece (Ok (used, false)) s = FedSession bytes gs piece (Ok (used, None)) s
 FedFlat bytes gs piece (Ok (used, true)) s = (g : Tree) × FedSession bytes gs piece (Ok (used, Some g)) s × (session_rows s ≡ rows 0 g)
 FedFlat bytes gs piece (Err why) s = FedSession bytes gs piece (Err why) s
-
--- what a piece of one byte is answered, if an engine answered it whose blob began at this offset
-abbrev pub byte_answer : (start : ℕ) → Session → Result Bool Stop → Result (ℕ × Bool) BlobFault
-byte_answer start s (Ok ended) = Ok (1, ended)
-byte_answer start s (Err stop) = Err (fault_of (start + offset_in s.engine) stop)
 
 -- what a call answers that tells how many bytes it took, where it is told beside whether a geometry ended
 abbrev pub with_end : Bool → Result ℕ BlobFault → Result (ℕ × Bool) BlobFault

@@ -12,7 +12,7 @@ use crate::fault::{BlobFault, fault_at};
 use crate::input_blobs::{at_end, feed_piece, read_blob};
 use std::alloc::{AllocError, Global};
 use std::io::Read;
-use twkb_engine::{Engine, NoSpans, SpanNotes, Stop};
+use twkb_engine::{Engine, NoSpans, SpanNotes};
 use twkb_flat::{Flat, Rows};
 use twkb_io::{Input, MAX_BYTES};
 use twkb_tree::{Geometry, Limits};
@@ -48,7 +48,7 @@ fn refused(fault: BlobFault) -> Result<(usize, Option<Geometry>), BlobFault>
 }
 
 impl Session {
-    ghost use Rattle.twkb_blob.specs.Sessions.{Stands, FedFlat, FedSession, Finished, HeldOf, FramesOf, begun_rows, HasEnd, byte_answer, with_end, is_spent, session_limits, session_held, session_open, session_rows};
+    ghost use Rattle.twkb_blob.specs.Sessions.{Stands, FedFlat, FedSession, Finished, HeldOf, FramesOf, begun_rows, HasEnd, with_end, is_spent, session_limits, session_held, session_open, session_rows};
     ghost use Rattle.twkb_blob.specs.Through.{IsThrough};
     ghost use Rattle.twkb_blob.specs.Spanned.{NotesEnd};
 
@@ -168,11 +168,7 @@ impl Session {
         if piece.len() == 1 && self.engine.offset() < MAX_BYTES - 16 {
             // learnt: it holds at most nine bytes
             let _learnt = self.engine.held();
-            let start = self.engine.start();
-            return match self.feed_byte(piece[0]) {
-                Ok(_) => Ok(1),
-                Err(stop) => Err(fault_at(start + self.engine.bytes(), stop)),
-            };
+            return self.feed_byte(piece[0]);
         }
         self.feed_many(piece)
     }
@@ -205,25 +201,28 @@ impl Session {
         }
     }
 
-    // Takes a piece of one byte, which needs neither a cut nor a loop. Returns whether a geometry ends with it.
+    // Takes a piece of one byte, which needs neither a cut nor a loop, and returns 1.
     #[inline(always)]
-    fn feed_byte(&mut self, byte: u8) -> Result<bool, Stop>
+    fn feed_byte(&mut self, byte: u8) -> Result<usize, BlobFault>
         requires live { self.old.spent ≡ false }
         requires begun { self.old.is_whole ≡ false }
         requires room { count_of self.old.engine + self.old.engine.start < 2 ^ 62 }
-        ensures fed { (bytes : List ℕ) (gs : List Tree) → Stands bytes gs self.old → FedFlat bytes gs (byte ∷ []) (byte_answer self.old.engine.start self.new result) self.new }
-        ensures whole { IfOk result (λ ended. self.new.is_whole ≡ ended) }
+        ensures fed { (bytes : List ℕ) (gs : List Tree) → Stands bytes gs self.old → FedFlat bytes gs (byte ∷ []) (with_end self.new.is_whole result) self.new }
+        ensures one { IfOk result (λ used. used ≡ 1) }
+        ensures unread { failed_by_read result ≡ false }
+        ensures unspent { (result ≡ Err BlobFault.Spent) → ⊥ }
         ensures stays { is_spent self.new ≡ is_err result }
         ensures limits { session_limits self.new ≡ session_limits self.old }
     {
+        let start = self.engine.start();
         match self.engine.take_byte(&mut self.rows.flat, &mut NoSpans, byte) {
             Ok(ends) => {
                 self.is_whole = ends;
-                Ok(ends)
+                Ok(1)
             }
             Err(stop) => {
                 self.spent = true;
-                Err(stop)
+                Err(fault_at(start + self.engine.bytes(), stop))
             }
         }
     }
@@ -250,14 +249,21 @@ impl Session {
         }
         self.begin();
         self.spent = true;
-        let found = read_blob(input, &mut self.engine, &mut self.rows.flat, spans);
-        if let Ok(true) = found {
-            self.is_whole = true;
-            self.spent = false;
-            return found;
+        match read_blob(input, &mut self.engine, &mut self.rows.flat, spans) {
+            Ok(true) => {
+                self.is_whole = true;
+                self.spent = false;
+                Ok(true)
+            }
+            Ok(false) => {
+                self.give_up();
+                Ok(false)
+            }
+            Err(fault) => {
+                self.give_up();
+                Err(fault)
+            }
         }
-        self.give_up();
-        found
     }
 
     // Clears the form if it still has the rows of the last geometry.
