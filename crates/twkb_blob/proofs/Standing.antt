@@ -1,5 +1,5 @@
 -- A session goes on, gives a geometry, refuses or ends.
-use Rattle.std.proofs.Common.{◌≡◌, ℕ, zero, suc, ◌+◌, ◌-◌, ◌<◌, ◌≤◌, ◌^◌, inl, inr, List, [], ◌∷◌, ◌++◌, length, take, refl, sym, ap, ◌∙◌, subst, append_assoc, length-append, Bool, true, false, Option, Some, None, IfSome, Ok, Err, arith}
+use Rattle.std.proofs.Common.{◌≡◌, ℕ, zero, suc, ◌+◌, ◌-◌, ◌<◌, ◌≤◌, ◌^◌, inl, inr, List, [], ◌∷◌, ◌++◌, length, take, get_or, refl, sym, ap, ◌∙◌, subst, append_assoc, length-append, Bool, true, false, Option, Some, None, IfSome, Ok, Err, arith}
 use Rattle.std.proofs.Math.Seq.{take-length}
 use Rattle.std.proofs.lemmas.List.{append-nil, append_cancel_left, length-take-le}
 use Rattle.std.specs.Prelude.{if◌then◌else◌, is_ok}
@@ -15,15 +15,17 @@ use Rattle.twkb_engine.specs.declared.stop.Stop.{Stop}
 use Rattle.twkb_engine.specs.declared.stop.Stop.TheVariants.{Memory, Refused}
 use Rattle.twkb_grammar.specs.Noting.{Notes}
 use Rattle.twkb_outline.specs.Parts.{PartIn, IsJudged}
-use Rattle.twkb_engine.specs.Standing.{StandsAt, IsFed, IsEnd, MadeIn, RefusedIn, count_of, held_in, offset_in, place_in}
+use Rattle.twkb_engine.specs.Standing.{StandsAt, FedBy, IsFed, IsEnd, notes_at, MadeIn, RefusedIn, count_of, held_in, offset_in, place_in}
 use Rattle.twkb_engine.proofs.Feeds.{count_is}
 use Rattle.twkb_engine.proofs.RootPoints.{blob_judged}
 use Rattle.twkb_engine.specs.declared.engine.Engine.{Engine}
 use Rattle.twkb_engine.specs.declared.blob_reason.BlobReason.{BlobReason}
 use Rattle.twkb_blob.specs.Faults.{fault_of}
-use Rattle.twkb_blob.specs.Feeding.{end_at}
-use Rattle.twkb_blob.specs.Sessions.{Stands, PartAt, FedSession, FedFlat, AreBegun, IsTooLong, Finished, begun_rows, session_limits, session_rows}
+use Rattle.twkb_blob.specs.Feeding.{FedPiece, end_at}
+use Rattle.twkb_blob.specs.Readers.{failed_by_read}
+use Rattle.twkb_blob.specs.Sessions.{Stands, PartAt, FedSession, FedFlat, AreBegun, IsTooLong, HasEnd, Finished, begun_rows, session_limits, session_rows}
 use Rattle.twkb_blob.specs.declared.session.Session.{Session}
+use Rattle.twkb_blob.specs.declared.fault.BlobFault.{BlobFault}
 use Rattle.twkb_blob.specs.declared.fault.BlobFault.TheVariants as fault
 use Rattle.twkb_blob.proofs.Trees.{TreeLaw, last_tree, tree_made, not_none}
 
@@ -77,6 +79,19 @@ went_on bytes gs piece old new used s few limits start live opened all h =
       },
     )
 
+-- a session between two blobs, which has the rows of the last one
+pub between : (bytes : List ℕ) (gs : List Tree) (new : Session) → Stream (session_limits new) bytes gs → new.engine.start ≡ length bytes → length bytes ≤ 2 ^ 62 → new.spent ≡ false → new.is_whole ≡ true → StandsAt [] [] new.engine → Stands bytes gs new
+between bytes gs new stream start few live closed begun = record {
+  front = bytes;
+  rest = [];
+  whole = sym (append-nil bytes);
+  few = few;
+  blobs = stream;
+  begun = subst (λ rs. StandsAt [] rs new.engine) (sym (whole_rows new closed)) begun;
+  start = start;
+  live = live;
+}
+
 -- a geometry ends in the piece
 pub gave : (bytes : List ℕ) (gs : List Tree) (piece : List ℕ) (old new : Session) (used : ℕ) (s : Stands bytes gs old) → length bytes + used ≤ 2 ^ 62 → session_limits new ≡ session_limits old → new.engine.start ≡ old.engine.start + (length s.rest + used)
     → new.spent ≡ false → new.is_whole ≡ true → MadeIn (session_limits old) s.rest piece used (session_rows new) → StandsAt [] [] new.engine → FedFlat bytes gs piece (Ok (used, true)) new
@@ -92,16 +107,7 @@ gave bytes gs piece old new used s few limits start live closed made begun =
         made.some,
         made.within,
         stream,
-        record {
-          front = bytes ++ take used piece;
-          rest = [];
-          whole = sym (append-nil (bytes ++ take used piece));
-          few = omega (arith, long, few);
-          blobs = stream;
-          begun = subst (λ rs. StandsAt [] rs new.engine) (sym (whole_rows new closed)) begun;
-          start = omega (arith, long, start, many, s.start);
-          live = live;
-        },
+        between (bytes ++ take used piece) (gs ++ g ∷ []) new stream (omega (arith, long, start, many, s.start)) (omega (arith, long, few)) live closed begun,
       ),
       made.made,
     )
@@ -111,14 +117,13 @@ begun_end : (limits : Allowance) (bytes : List ℕ) (gs : List Tree) (front rest
 begun_end limits bytes gs front rest offset true whole blobs none = inl (subst (λ l. Stream limits l gs) (sym (whole ∙ (ap (λ l. front ++ l) none ∙ append-nil front))) blobs)
 begun_end limits bytes gs front rest offset false whole blobs first = inr (length front + offset, record { front = front; rest = rest; within = offset; whole = whole; blobs = blobs; first = first; place = refl })
 
--- the bytes up to the most that a session takes are begun, and more follow
-pub too_long : (bytes : List ℕ) (gs : List Tree) (piece : List ℕ) (old : Session) (room offset : ℕ) (between : Bool) (s : Stands bytes gs old) → room ≡ 2 ^ 62 - length bytes → 2 ^ 62 < length bytes + length piece
-    → IsEnd (session_limits old) (s.rest ++ take room piece) offset between → IsTooLong (session_limits old) bytes gs piece
-too_long bytes gs piece old room offset between s is past end = record {
-  past = past;
-  begun = subst (λ n. AreBegun (session_limits old) (bytes ++ take n piece) gs) is
-      (begun_end (session_limits old) (bytes ++ take room piece) gs s.front (s.rest ++ take room piece) offset between (ap (λ l. l ++ take room piece) s.whole ∙ append_assoc s.front s.rest (take room piece)) s.blobs end);
-}
+-- bytes after which an engine stands are begun
+pub begun_after : (bytes more : List ℕ) (gs : List Tree) (kept : List Row) (old : Session) (e : Engine) (s : Stands bytes gs old) → allowance_of e ≡ session_limits old → HasEnd e → StandsAt (s.rest ++ more) kept e
+    → AreBegun (session_limits old) (bytes ++ more) gs
+begun_after bytes more gs kept old e s limits ends h =
+    let end = ends (s.rest ++ more) kept h in
+    begun_end (session_limits old) (bytes ++ more) gs s.front (s.rest ++ more) (offset_in e) end.0 (ap (λ l. l ++ more) s.whole ∙ append_assoc s.front s.rest more) s.blobs
+    (subst (λ l. IsEnd l (s.rest ++ more) (offset_in e) end.0) limits end.1)
 
 -- an item is refused in the piece
 pub refuses : (bytes : List ℕ) (gs : List Tree) (piece : List ℕ) (old new : Session) (within : ℕ) (r : BlobReason) (s : Stands bytes gs old) → session_limits new ≡ session_limits old → RefusedIn (session_limits old) s.rest piece within (reason_of r)
@@ -147,6 +152,27 @@ pub stops : {S : Type 0} (holds : S → Notes → Type 0) (known : Type 0) (star
     → IsFed holds known (session_limits old) start s.rest piece (Err stop) rs new.engine v → FedSession bytes gs piece (Err (fault_of (old.engine.start + offset_in new.engine) stop)) new
 stops holds known start bytes gs piece old new Memory rs v s limits h = lacks bytes gs piece old new s limits h
 stops holds known start bytes gs piece old new (Refused r) rs v s limits h = refuses bytes gs piece old new (offset_in new.engine) r s limits h
+
+-- a piece that was not cut
+pub stopped_at : {S : Type 0} (holds : S → Notes → Type 0) (offset : ℕ) (bytes : List ℕ) (gs : List Tree) (piece : List ℕ) (old new : Session) (stop : Stop) (more : List Row) (w v : S) (s : Stands bytes gs old) → old.is_whole ≡ false
+    → offset ≡ old.engine.start + offset_in new.engine → session_limits new ≡ session_limits old → FedBy holds old.engine (session_rows old) w piece (Err stop) new.engine more v → FedSession bytes gs piece (Err (fault_of offset stop)) new
+stopped_at holds offset bytes gs piece old new stop more w v s opened at limits run =
+    let k = begun_at bytes gs old s opened in
+    subst (λ n. FedSession bytes gs piece (Err (fault_of n stop)) new) (sym at) (stops holds (holds w (notes_at k)) old.engine.start bytes gs piece old new stop more v s limits (run s.rest k))
+
+-- a piece was refused
+pub piece_stopped : {S : Type 0} (holds : S → Notes → Type 0) (bytes : List ℕ) (gs : List Tree) (piece : List ℕ) (old new : Session) (why : BlobFault) (more : List Row) (w v : S) (s : Stands bytes gs old) → old.is_whole ≡ false → session_limits new ≡ session_limits old
+    → HasEnd new.engine → FedPiece holds old.engine (session_rows old) w piece (Err why) new.engine more v → FedSession bytes gs piece (Err why) new
+piece_stopped holds bytes gs piece old new fault.Memory more w v s opened limits ends h = lacks bytes gs piece old new s limits (h s.rest (begun_at bytes gs old s opened))
+piece_stopped holds bytes gs piece old new (fault.At offset reason) more w v s opened limits ends h =
+    let r = h s.rest (begun_at bytes gs old s opened) in
+    subst (λ n. FedSession bytes gs piece (Err (fault.At n reason)) new) (sym r.2) (refuses bytes gs piece old new r.0 reason s limits r.1)
+piece_stopped holds bytes gs piece old new (fault.Device why) more w v s opened limits ends h =
+    let many = so_many bytes gs old s in
+    let taken : ℕ = old.engine.start + count_of old.engine in
+    let begun = begun_after bytes (take (2 ^ 62 - taken) piece) gs more old new.engine s limits ends (h.2 s.rest (begun_at bytes gs old s opened)) in
+    (h.0, subst (λ l. IsTooLong l bytes gs piece) (sym limits) (record { past = omega (arith, many, h.1); begun = subst (λ n. AreBegun (session_limits old) (bytes ++ take (2 ^ 62 - n) piece) gs) (sym many) begun }))
+piece_stopped holds bytes gs piece old new fault.Spent more w v s opened limits ends h = absurd h
 
 -- the tree that is made of the rows is the geometry
 pub gave_tree : TreeLaw → (bytes : List ℕ) (gs : List Tree) (piece : List ℕ) (new : Session) (used : ℕ) (h : Tree) → FedFlat bytes gs piece (Ok (used, true)) new → rows 0 h ≡ session_rows new → IsValid largest_limits h
@@ -188,6 +214,21 @@ cut_short bytes gs old within s first = record { front = s.front; rest = s.rest;
 pub finished_with : (bytes : List ℕ) (gs : List Tree) (old : Session) (s : Stands bytes gs old) (count : ℕ) → IsEnd (session_limits old) s.rest (offset_in old.engine) (is_ok (end_at (place_in old.engine) count)) → Finished (session_limits old) bytes gs (end_at (place_in old.engine) count)
 finished_with bytes gs old s zero none = ended bytes gs old s none
 finished_with bytes gs old s (suc n) first = cut_short bytes gs old (offset_in old.engine) s first
+
+-- that is no failed read, and not the answer of a session that is spent
+pub end_unread : (offset count : ℕ) → failed_by_read (end_at offset count) ≡ false
+end_unread offset zero = refl
+end_unread offset (suc n) = refl
+
+pub end_unspent : (offset count : ℕ) → end_at offset count ≡ Err fault.Spent → ⊥
+end_unspent offset zero e = absurd cc
+end_unspent offset (suc n) e = absurd cc
+
+-- one byte is a piece
+pub one_byte : (xs : List ℕ) (x : ℕ) → length xs ≡ 1 → x ≡ get_or xs 0 0 → x ∷ [] ≡ xs
+one_byte [] x one at = absurd (omega (arith, one))
+one_byte (y ∷ []) x one at = ap (λ n. n ∷ []) at
+one_byte (y ∷ (z ∷ ys)) x one at = absurd (omega (arith, one))
 
 -- bytes of the piece were used, or those up to the end of a geometry
 pub fed_session : {S : Type 0} (holds : S → Notes → Type 0) (known : Type 0) (bytes : List ℕ) (gs : List Tree) (piece : List ℕ) (old new : Session) (used : ℕ) (ends : Bool) (v : S) (s : Stands bytes gs old) → (old.engine.start + count_of old.engine) + used ≤ 2 ^ 62

@@ -8,12 +8,12 @@ use Rattle.twkb_grammar.specs.Blob.{Stream}
 use Rattle.twkb_grammar.specs.Fault.{StreamFault, Truncated}
 use Rattle.twkb_engine.specs.State.{allowance_of}
 use Rattle.twkb_engine.specs.Notes.{open_in}
-use Rattle.twkb_engine.specs.Standing.{StandsAt, held_in, offset_in}
+use Rattle.twkb_engine.specs.Standing.{StandsAt, IsEnd, held_in, offset_in}
+use Rattle.twkb_engine.specs.declared.engine.Engine.{Engine}
 use Rattle.twkb_engine.specs.Stops.{reason_of}
 use Rattle.twkb_outline.specs.Parts.{PartIn}
 use Rattle.twkb_io.specs.declared.input.InFault.TheVariants.{TooLong}
-use Rattle.twkb_engine.specs.declared.stop.Stop.{Stop}
-use Rattle.twkb_blob.specs.Faults.{RefusedAt, fault_of}
+use Rattle.twkb_blob.specs.Faults.{RefusedAt}
 use Rattle.twkb_blob.specs.declared.session.Session.{Session}
 use Rattle.twkb_blob.specs.declared.fault.BlobFault.{BlobFault}
 use Rattle.twkb_blob.specs.declared.fault.BlobFault.TheVariants as fault
@@ -79,6 +79,10 @@ AreOpen is n = n + sum_by (λ i. ended_by i.role) is ≡ sum_by (λ i. begun_by 
 abbrev pub FramesOf : Allowance → List ℕ → List Tree → ℕ → Type 0
 FramesOf limits bytes gs n = (Stream limits bytes gs × (n ≡ 0)) ⊎ ((offset : ℕ) × (cut : StreamFault limits bytes gs offset Truncated) × AreOpen cut.first.fault.before n)
 
+-- wherever the engine stands, it stands at an end of bytes: between two blobs, or in one that is cut
+abbrev pub HasEnd : Engine → Type 0
+HasEnd e = (bs : List ℕ) (rs : List Row) → StandsAt bs rs e → (between : Bool) × IsEnd (allowance_of e) bs (offset_in e) between
+
 -- the piece goes past 2^62 bytes, and up to there no geometry ends in it and no item is refused
 pub record IsTooLong (limits : Allowance) (bytes : List ℕ) (gs : List Tree) (piece : List ℕ) : Type 0 where
   pub past : 2 ^ 62 < length bytes + length piece
@@ -108,11 +112,6 @@ abbrev pub FedFlat : List ℕ → List Tree → List ℕ → Result (ℕ × Bool
 FedFlat bytes gs piece (Ok (used, false)) s = FedSession bytes gs piece (Ok (used, None)) s
 FedFlat bytes gs piece (Ok (used, true)) s = (g : Tree) × FedSession bytes gs piece (Ok (used, Some g)) s × (session_rows s ≡ rows 0 g)
 FedFlat bytes gs piece (Err why) s = FedSession bytes gs piece (Err why) s
-
--- what a piece of one byte is answered, if an engine answered it whose blob began at this offset
-abbrev pub byte_answer : (start : ℕ) → Session → Result Bool Stop → Result (ℕ × Bool) BlobFault
-byte_answer start s (Ok ended) = Ok (1, ended)
-byte_answer start s (Err stop) = Err (fault_of (start + offset_in s.engine) stop)
 
 -- what a call answers that tells how many bytes it took, where it is told beside whether a geometry ended
 abbrev pub with_end : Bool → Result ℕ BlobFault → Result (ℕ × Bool) BlobFault

@@ -12,7 +12,7 @@ use crate::fault::{BlobFault, fault_at};
 use crate::input_blobs::{at_end, feed_piece, read_blob};
 use std::alloc::{AllocError, Global};
 use std::io::Read;
-use twkb_engine::{Engine, NoSpans, SpanNotes, Stop};
+use twkb_engine::{Engine, NoSpans, SpanNotes};
 use twkb_flat::{Flat, Rows};
 use twkb_io::{Input, MAX_BYTES};
 use twkb_tree::{Geometry, Limits};
@@ -48,7 +48,7 @@ fn refused(fault: BlobFault) -> Result<(usize, Option<Geometry>), BlobFault>
 }
 
 impl Session {
-    ghost use Rattle.twkb_blob.specs.Sessions.{Stands, FedFlat, FedSession, Finished, HeldOf, FramesOf, begun_rows, byte_answer, with_end, is_spent, session_limits, session_held, session_open, session_rows};
+    ghost use Rattle.twkb_blob.specs.Sessions.{Stands, FedFlat, FedSession, Finished, HeldOf, FramesOf, begun_rows, HasEnd, with_end, is_spent, session_limits, session_held, session_open, session_rows};
     ghost use Rattle.twkb_blob.specs.Through.{IsThrough};
     ghost use Rattle.twkb_blob.specs.Spanned.{NotesEnd};
 
@@ -125,7 +125,10 @@ impl Session {
         ensures spent { self.new.spent ≡ true }
         ensures engine { self.new.engine ≡ self.old.engine }
         ensures rows { session_rows self.new ≡ [] }
+        ensures end { HasEnd self.new.engine }
     {
+        // learnt: the engine stands after bytes that it took
+        let _learnt = self.engine.is_between();
         self.rows.flat.clear();
         self.spent = true;
     }
@@ -163,39 +166,63 @@ impl Session {
         }
         self.begin();
         if piece.len() == 1 && self.engine.offset() < MAX_BYTES - 16 {
-            let start = self.engine.start();
-            return match self.feed_byte(piece[0]) {
-                Ok(_) => Ok(1),
-                Err(stop) => Err(fault_at(start + self.engine.bytes(), stop)),
-            };
+            // learnt: it holds at most nine bytes
+            let _learnt = self.engine.held();
+            return self.feed_byte(piece[0]);
         }
-        self.spent = true;
-        let (used, ends) =
-            feed_piece(&mut self.engine, &mut self.rows.flat, &mut NoSpans, piece)?;
-        self.is_whole = ends;
-        self.spent = false;
-        Ok(used)
+        self.feed_many(piece)
     }
 
-    // Takes a piece of one byte, which needs neither a cut nor a loop. Returns whether a geometry ends with it.
+    // Takes a piece of any length, and returns how many bytes of it.
     #[inline(always)]
-    fn feed_byte(&mut self, byte: u8) -> Result<bool, Stop>
+    fn feed_many(&mut self, piece: &[u8]) -> Result<usize, BlobFault>
         requires live { self.old.spent ≡ false }
         requires begun { self.old.is_whole ≡ false }
-        requires room { count_of self.old.engine + self.old.engine.start < 2 ^ 62 }
-        ensures fed { (bytes : List ℕ) (gs : List Tree) → Stands bytes gs self.old → FedFlat bytes gs (byte ∷ []) (byte_answer self.old.engine.start self.new result) self.new }
-        ensures whole { IfOk result (λ ended. self.new.is_whole ≡ ended) }
+        ensures fed { (bytes : List ℕ) (gs : List Tree) → Stands bytes gs self.old → FedFlat bytes gs piece.now (with_end self.new.is_whole result) self.new }
+        ensures within { IfOk result (λ used. used ≤ length piece.now) }
+        ensures unread { failed_by_read result ≡ false }
+        ensures unspent { (result ≡ Err BlobFault.Spent) → ⊥ }
         ensures stays { is_spent self.new ≡ is_err result }
         ensures limits { session_limits self.new ≡ session_limits self.old }
     {
+        // while it is fed nothing is known of the engine
+        self.spent = true;
+        match feed_piece(&mut self.engine, &mut self.rows.flat, &mut NoSpans, piece) {
+            Ok((used, ends)) => {
+                self.is_whole = ends;
+                self.spent = false;
+                Ok(used)
+            }
+            Err(fault) => {
+                // learnt: the engine stands after bytes that it took
+                let _learnt = self.engine.is_between();
+                Err(fault)
+            }
+        }
+    }
+
+    // Takes a piece of one byte, which needs neither a cut nor a loop, and returns 1.
+    #[inline(always)]
+    fn feed_byte(&mut self, byte: u8) -> Result<usize, BlobFault>
+        requires live { self.old.spent ≡ false }
+        requires begun { self.old.is_whole ≡ false }
+        requires room { count_of self.old.engine + self.old.engine.start < 2 ^ 62 }
+        ensures fed { (bytes : List ℕ) (gs : List Tree) → Stands bytes gs self.old → FedFlat bytes gs (byte ∷ []) (with_end self.new.is_whole result) self.new }
+        ensures one { IfOk result (λ used. used ≡ 1) }
+        ensures unread { failed_by_read result ≡ false }
+        ensures unspent { (result ≡ Err BlobFault.Spent) → ⊥ }
+        ensures stays { is_spent self.new ≡ is_err result }
+        ensures limits { session_limits self.new ≡ session_limits self.old }
+    {
+        let start = self.engine.start();
         match self.engine.take_byte(&mut self.rows.flat, &mut NoSpans, byte) {
             Ok(ends) => {
                 self.is_whole = ends;
-                Ok(ends)
+                Ok(1)
             }
             Err(stop) => {
                 self.spent = true;
-                Err(stop)
+                Err(fault_at(start + self.engine.bytes(), stop))
             }
         }
     }
@@ -221,13 +248,22 @@ impl Session {
             return Err(BlobFault::Spent);
         }
         self.begin();
-        let found = read_blob(input, &mut self.engine, &mut self.rows.flat, spans);
-        if let Ok(true) = found {
-            self.is_whole = true;
-            return found;
+        self.spent = true;
+        match read_blob(input, &mut self.engine, &mut self.rows.flat, spans) {
+            Ok(true) => {
+                self.is_whole = true;
+                self.spent = false;
+                Ok(true)
+            }
+            Ok(false) => {
+                self.give_up();
+                Ok(false)
+            }
+            Err(fault) => {
+                self.give_up();
+                Err(fault)
+            }
         }
-        self.give_up();
-        found
     }
 
     // Clears the form if it still has the rows of the last geometry.
