@@ -1,5 +1,5 @@
 -- The answers of a reader, of what was read into a form.
-use Rattle.std.proofs.Common.{◌≡◌, ℕ, ◌+◌, ◌<◌, inl, inr, ◌⊎◌, List, [], ◌++◌, length, length-append, take, refl, sym, ap, ◌∙◌, subst, Bool, Option, Some, None, Result, Ok, Err, true, false, arith}
+use Rattle.std.proofs.Common.{◌≡◌, ℕ, ◌+◌, ◌<◌, inl, inr, ◌⊎◌, List, [], length, length-append, refl, sym, ap, ◌∙◌, subst, Bool, Option, Some, None, Result, Ok, Err, true, false, arith}
 use Rattle.std.proofs.Math.Seq.{take-append_seam}
 use Rattle.std.proofs.lemmas.List.{nil_from_length}
 use Rattle.std.specs.Prelude.{IfSome}

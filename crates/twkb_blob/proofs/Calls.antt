@@ -1,12 +1,12 @@
 -- What every call of a reader says, by whether the reader is ready.
-use Rattle.std.proofs.Common.{◌≡◌, refl, sym, ap, ◌∙◌, subst, Bool, Option, Some, None, Result, Ok, Err, true, false}
+use Rattle.std.proofs.Common.{◌≡◌, refl, sym, ap, ◌∙◌, subst, Bool, Result, Ok, Err, true, false}
 use Rattle.std.specs.Prelude.{◌↔◌, is_err}
 use Rattle.std.specs.declared.io.traits.Read.{Ghosts}
 use Rattle.twkb_io.specs.Taps.{count_failure}
 use Rattle.twkb_io.specs.Inputs.{input_failures, input_tap}
 use Rattle.twkb_io.specs.declared.input.Input.{Input}
 use Rattle.twkb_io.specs.declared.input.InFault.TheVariants as stopped
-use Rattle.twkb_blob.specs.Readers.{ReadsNext, ended_at, failed_by_read, has_ended, is_spent, ready_at, reader_input, reader_limits, spent_at}
+use Rattle.twkb_blob.specs.Readers.{ReadsNext, ended_at, failed_by_read, has_ended, is_spent, ready_at, spent_at}
 use Rattle.twkb_blob.specs.Through.{IfGoingOn}
 use Rattle.twkb_blob.specs.declared.fault.BlobFault.{BlobFault}
 use Rattle.twkb_blob.specs.declared.fault.BlobFault.TheVariants as fault

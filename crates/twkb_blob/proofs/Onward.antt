@@ -1,5 +1,5 @@
 -- A blob of an input that a session reads, after the bytes that it has.
-use Rattle.std.proofs.Common.{◌≡◌, ◌⊎◌, ℕ, ◌+◌, ◌<◌, ◌≤◌, ◌^◌, inl, inr, List, [], ◌∷◌, ◌++◌, length, refl, sym, ap, ◌∙◌, subst, append_assoc, append-nil, length-append, Bool, true, false, Option, Some, None, IfSome, Result, Ok, Err, arith}
+use Rattle.std.proofs.Common.{◌≡◌, ℕ, ◌+◌, inl, inr, List, [], ◌∷◌, ◌++◌, length, refl, sym, ap, ◌∙◌, subst, append_assoc, append-nil, length-append, Bool, true, false, Option, Some, None, IfSome, Result, Ok, Err, arith}
 use Rattle.std.specs.Io.KnownBytes.{IsAtEnd}
 use Rattle.std.specs.declared.io.traits.Read.{Ghosts}
 use Rattle.twkb_tree.specs.Tree.{Tree}

@@ -1,5 +1,5 @@
 -- A session goes on, gives a geometry, refuses or ends.
-use Rattle.std.proofs.Common.{◌≡◌, ℕ, zero, suc, ◌+◌, ◌-◌, ◌<◌, ◌≤◌, ◌^◌, inl, inr, List, [], ◌∷◌, ◌++◌, length, take, get_or, refl, sym, ap, ◌∙◌, subst, append_assoc, length-append, Bool, true, false, Option, Some, None, IfSome, Ok, Err, arith}
+use Rattle.std.proofs.Common.{◌≡◌, ℕ, zero, suc, ◌+◌, ◌-◌, ◌≤◌, ◌^◌, inl, inr, List, [], ◌∷◌, ◌++◌, length, take, get_or, refl, sym, ap, ◌∙◌, subst, append_assoc, length-append, Bool, true, false, Option, Some, None, IfSome, Ok, Err, arith}
 use Rattle.std.proofs.Math.Seq.{take-length}
 use Rattle.std.proofs.lemmas.List.{append-nil, append_cancel_left, length-take-le}
 use Rattle.std.specs.Prelude.{if◌then◌else◌, is_ok}
@@ -15,7 +15,7 @@ use Rattle.twkb_engine.specs.declared.stop.Stop.{Stop}
 use Rattle.twkb_engine.specs.declared.stop.Stop.TheVariants.{Memory, Refused}
 use Rattle.twkb_grammar.specs.Noting.{Notes}
 use Rattle.twkb_outline.specs.Parts.{PartIn, IsJudged}
-use Rattle.twkb_engine.specs.Standing.{StandsAt, FedBy, IsFed, IsEnd, notes_at, MadeIn, RefusedIn, count_of, held_in, offset_in, place_in}
+use Rattle.twkb_engine.specs.Standing.{StandsAt, FedBy, IsFed, IsEnd, notes_at, MadeIn, RefusedIn, count_of, offset_in, place_in}
 use Rattle.twkb_engine.proofs.Feeds.{count_is}
 use Rattle.twkb_engine.proofs.RootPoints.{blob_judged}
 use Rattle.twkb_engine.specs.declared.engine.Engine.{Engine}

@@ -9,7 +9,6 @@ ghost use Rattle.twkb_io.specs.Inputs.{input_failures, input_tap};
 
 use crate::fault::BlobFault;
 use crate::input_blobs::read_blob;
-use crate::open_spans::OpenSpans;
 use crate::session::Session;
 use crate::spans::{Located, Spans};
 use std::alloc::Global;

@@ -215,7 +215,10 @@ impl Session {
         ensures limits { session_limits self.new ≡ session_limits self.old }
     {
         let start = self.engine.start();
-        match self.engine.take_byte(&mut self.rows.flat, &mut NoSpans, byte) {
+        match self
+            .engine
+            .take_byte(&mut self.rows.flat, &mut NoSpans, byte)
+        {
             Ok(ends) => {
                 self.is_whole = ends;
                 Ok(1)
