@@ -1,5 +1,5 @@
 //! A blob that is read item by item into a flat form.
-ghost use Rattle.std.specs.Prelude.{◌≡◌, ◌+◌, ◌≤◌, ◌<◌, ◌^◌, ◌∷◌, [], ℕ, List, true, false, Ok, IfOk, OnOk, length};
+ghost use Rattle.std.specs.Prelude.{◌≡◌, ◌+◌, ◌≤◌, ◌<◌, ◌^◌, [], ℕ, List, true, false, IfOk, OnOk, length};
 ghost use Rattle.twkb_num.specs.Varint.{IsOpenVarint};
 ghost use Rattle.twkb_tree.specs.Rows.{Row};
 ghost use Rattle.twkb_tree.specs.Limits.{IsAllowance};
@@ -54,7 +54,7 @@ impl Engine {
     ghost use Rattle.twkb_engine.specs.Fits.{IsByte, are_shut};
     ghost use Rattle.twkb_engine.specs.Taking.{Takes, BeginsAt, Keeps};
     ghost use Rattle.twkb_engine.specs.Notes.{NotesGo, notes_with, open_in};
-    ghost use Rattle.twkb_engine.specs.Standing.{StandsAt, IsAlive, IsEnd, held_in, offset_in, place_in};
+    ghost use Rattle.twkb_engine.specs.Standing.{StandsAt, IsAlive, IsEnd, count_of, held_in, offset_in, place_in};
 
     /// One that has read nothing, at this offset of a stream. Takes no memory.
     pub fn new(alloc: Global, limits: Limits, start: u64) -> Engine

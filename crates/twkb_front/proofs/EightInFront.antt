@@ -1,4 +1,4 @@
--- Points in front of bytes, two after two.
+-- Points at the start of bytes, two after two.
 use Rattle.std.proofs.Common.{◌≡◌, ℕ, ◌+◌, ◌-◌, ◌<◌, ◌^◌, List, [], ◌∷◌, length, take, drop, true, pos, negsuc, sym, ap, ◌∙◌, refl, subst, arith}
 use Rattle.std.specs.Prelude.{ℤ, ◌+ℤ◌}
 use Rattle.std.proofs.lemmas.Int.{ints}
@@ -35,13 +35,13 @@ step_to from to dx dy x_in y_in leads =
       leads = leads ∙ (λ i. point_at (from.x +ℤ x_is i) (from.y +ℤ y_is i));
     }
 
--- ---- what is behind some bytes
+-- ---- what is after some bytes
 
 -- two points in a slice
 pub two_in_slice : (from p q : Point) (bytes : List ℕ) (i n : ℕ) → TwoInFront from (take (length bytes - i) (drop i bytes)) p q n → TwoInFront from (drop i bytes) p q n
 two_in_slice from p q bytes i n two = subst (λ l. TwoInFront from l p q n) (take_rest bytes i) two
 
--- two points, and others behind them
+-- two points, and others after them
 pub two_then : (from p q : Point) (bytes : List ℕ) (n m : ℕ) (ps : List Point) → TwoInFront from bytes p q n → PointsInFront q (drop n bytes) ps m → PointsInFront from bytes (p ∷ q ∷ ps) (n + m)
 two_then from p q bytes n m ps two rest =
     let behind : drop n bytes ≡ drop two.second_count (drop two.first_count bytes) = ap (λ k. drop k bytes) two.all ∙ sym (drop-drop two.second_count two.first_count bytes) in (

@@ -82,7 +82,7 @@ pub fn front_two(from: Pt, bytes: &[u8]) -> Option<(Pt, Pt, usize)>
     Some((first, second, four.used))
 }
 
-/// The same by the ends of numbers that `varint_ends` found, moved to where these bytes begin; not found where the point before
+/// Two points by the ends of numbers that `varint_ends` found, moved to the start of these bytes; not found if the point before
 /// them is no inner one. After the two the ends moved by as many bits are those of the bytes after them.
 #[inline(always)]
 pub fn front_two_by(from: Pt, bytes: &[u8], ends: u64) -> Option<(Pt, Pt, usize)>
@@ -101,7 +101,7 @@ pub fn front_two_by(from: Pt, bytes: &[u8], ends: u64) -> Option<(Pt, Pt, usize)
     Some((one, two, four.used))
 }
 
-/// Eight points that stand in front of bytes.
+/// Eight points that are complete at the start of bytes.
 #[derive(Clone, Copy, Debug, PartialEq, Eq)]
 pub struct Eight {
     pub points: [Pt; 8],
@@ -109,12 +109,12 @@ pub struct Eight {
     pub last: Pt,
     /// How many bytes they have.
     pub used: usize,
-    /// The ends of numbers behind these bytes.
+    /// The ends of the numbers after these bytes.
     pub ends: u64,
 }
 
-/// Eight points, each by its steps from the one before it, by the ends of numbers that `varint_ends` found, moved to where these
-/// bytes begin. `None` says nothing.
+/// Eight points, each by its steps from the one before it, by the ends of numbers that `varint_ends` found, moved to the start of
+/// these bytes. `None` says nothing.
 #[inline(always)]
 pub fn front_eight(from: Pt, bytes: &[u8], ends: u64) -> Option<Eight>
     requires { AreEnds 0 128 bytes.now ends }
