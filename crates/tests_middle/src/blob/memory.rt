@@ -14,6 +14,10 @@ const NAMED: &[u8] =
 const DEEP: &[u8] =
     b"\x07\x00\x01\x07\x00\x01\x07\x00\x01\x07\x00\x01\x07\x00\x01\x07\x00\x01\x01\x10";
 
+// A multipoint of six points with ids, all but the first and the last taken at once. Seven rows, one span.
+const SIX: &[u8] =
+    b"\x04\x04\x06\x02\x02\x02\x02\x02\x02\x02\x02\x02\x02\x02\x02\x02\x02\x02\x02\x02\x02";
+
 /// A line of twenty points, each near the one before it, so that they are taken two at a time where they come in one piece. One row, one span.
 pub const NEAR: &[u8] =
     b"\x02\x00\x14\x02\x02\x02\x02\x02\x02\x02\x02\x02\x02\x02\x02\x02\x02\x02\x02\x02\x02\x02\x02\x02\x02\x02\x02\x02\x02\x02\x02\x02\x02\x02\x02\x02\x02\x02\x02\x02\x02\x02\x02";
@@ -31,17 +35,17 @@ fn gives_or_lacks(alloc: Global, way: Way, blob: &[u8], count: u64) -> bool {
 }
 
 // Whether that is so of all blobs.
-fn all_give_or_lack(alloc: Global, way: Way, named: u64, deep: u64) -> bool {
-    let are_named = gives_or_lacks(alloc, way, NAMED, named);
+fn all_give_or_lack(alloc: Global, way: Way, named: u64, deep: u64, six: u64) -> bool {
+    let are_named = gives_or_lacks(alloc, way, NAMED, named) & gives_or_lacks(alloc, way, SIX, six);
     are_named & gives_or_lacks(alloc, way, DEEP, deep) & gives_or_lacks(alloc, way, NEAR, 1)
 }
 
 #[test]
 fn each_growth_of_a_reader_may_be_refused(rt: HostRuntime) {
-    let trees = all_give_or_lack(rt.alloc(), Way::Tree, 7, 7);
-    let rows = all_give_or_lack(rt.alloc(), Way::Rows, 7, 7);
-    let spans = all_give_or_lack(rt.alloc(), Way::Spans, 3, 7);
-    assert!(rt; trees & rows & spans & all_give_or_lack(rt.alloc(), Way::Located, 3, 7));
+    let trees = all_give_or_lack(rt.alloc(), Way::Tree, 7, 7, 7);
+    let rows = all_give_or_lack(rt.alloc(), Way::Rows, 7, 7, 7);
+    let spans = all_give_or_lack(rt.alloc(), Way::Spans, 3, 7, 1);
+    assert!(rt; trees & rows & spans & all_give_or_lack(rt.alloc(), Way::Located, 3, 7, 1));
 }
 
 // Whether this is want of memory, and the session is spent.
@@ -94,7 +98,7 @@ fn is_fed_or_lacks(alloc: Global, way: Way, bytes: &[u8], rows: u32) -> bool {
 // Whether that is so of all blobs.
 fn all_are_fed_or_lack(alloc: Global, way: Way) -> bool {
     let are_deep = is_fed_or_lacks(alloc, way, NAMED, 7) & is_fed_or_lacks(alloc, way, DEEP, 7);
-    are_deep & is_fed_or_lacks(alloc, way, NEAR, 1)
+    are_deep & is_fed_or_lacks(alloc, way, SIX, 7) & is_fed_or_lacks(alloc, way, NEAR, 1)
 }
 
 #[test]
