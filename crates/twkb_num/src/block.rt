@@ -2,6 +2,7 @@
 ghost use Rattle.std.specs.Prelude.{◌+◌, ◌*◌, ◌<◌, ◌≤◌, ℕ, List, length, take, drop};
 ghost use Rattle.twkb_num.specs.Block.{AreEnds, AreMarks, AreEndsBefore, units_in};
 
+use crate::alphabet::{Alphabet, POLYLINES, VARINTS};
 use std::simd::u8x16;
 
 /// How many units a block has.
@@ -13,7 +14,7 @@ pub const BLOCK: usize = 64;
 pub fn varint_ends(bytes: &[u8]) -> u64
     ensures { AreEnds 0 128 bytes.now result }
 {
-    block_ends(bytes, 0, 128, 255)
+    block_ends(bytes, VARINTS)
 }
 
 /// A bit for each of the first 64 characters that ends a number of a polyline, up to the first that is outside the alphabet or a
@@ -22,7 +23,7 @@ pub fn varint_ends(bytes: &[u8]) -> u64
 pub fn character_ends(text: &[u8]) -> u64
     ensures { AreEnds 63 32 text.now result }
 {
-    block_ends(text, 63, 32, 63)
+    block_ends(text, POLYLINES)
 }
 
 // Bits for units: those that end a number, those that are 0, and those outside the alphabet.
@@ -35,26 +36,26 @@ pub(crate) struct Marks {
 
 // The marks of the sixteen units from a place on.
 #[inline(always)]
-fn sixteen(bytes: &[u8], at: usize, base: u8, radix: u8, most: u8) -> Marks
+fn sixteen(bytes: &[u8], at: usize, alphabet: Alphabet) -> Marks
     requires long { at + 16 ≤ length bytes.now }
-    ensures { AreMarks radix most (units_in base (take 16 (drop at bytes.now))) result }
+    ensures { AreMarks alphabet.radix alphabet.most (units_in alphabet.base (take 16 (drop at bytes.now))) result }
 {
-    let units = u8x16::from_slice(&bytes[at..]) - u8x16::splat(base);
+    let units = u8x16::from_slice(&bytes[at..]) - u8x16::splat(alphabet.base);
     Marks {
-        ends: units.simd_lt(u8x16::splat(radix)).to_bitmask(),
+        ends: units.simd_lt(u8x16::splat(alphabet.radix)).to_bitmask(),
         zeros: units.simd_eq(u8x16::splat(0)).to_bitmask(),
-        bad: units.simd_gt(u8x16::splat(most)).to_bitmask(),
+        bad: units.simd_gt(u8x16::splat(alphabet.most)).to_bitmask(),
     }
 }
 
 // The marks of 32 units from a place on.
 #[inline(always)]
-fn thirty_two(bytes: &[u8], at: usize, base: u8, radix: u8, most: u8) -> Marks
+fn thirty_two(bytes: &[u8], at: usize, alphabet: Alphabet) -> Marks
     requires long { at + 32 ≤ length bytes.now }
-    ensures { AreMarks radix most (units_in base (take 32 (drop at bytes.now))) result }
+    ensures { AreMarks alphabet.radix alphabet.most (units_in alphabet.base (take 32 (drop at bytes.now))) result }
 {
-    let low = sixteen(bytes, at, base, radix, most);
-    let high = sixteen(bytes, at + 16, base, radix, most);
+    let low = sixteen(bytes, at, alphabet);
+    let high = sixteen(bytes, at + 16, alphabet);
     Marks {
         ends: low.ends + high.ends * 0x1_0000,
         zeros: low.zeros + high.zeros * 0x1_0000,
@@ -64,12 +65,12 @@ fn thirty_two(bytes: &[u8], at: usize, base: u8, radix: u8, most: u8) -> Marks
 
 // The marks of 64 units.
 #[inline(always)]
-fn sixty_four(bytes: &[u8], base: u8, radix: u8, most: u8) -> Marks
+fn sixty_four(bytes: &[u8], alphabet: Alphabet) -> Marks
     requires long { 64 ≤ length bytes.now }
-    ensures { AreMarks radix most (units_in base (take 64 bytes.now)) result }
+    ensures { AreMarks alphabet.radix alphabet.most (units_in alphabet.base (take 64 bytes.now)) result }
 {
-    let low = thirty_two(bytes, 0, base, radix, most);
-    let high = thirty_two(bytes, 32, base, radix, most);
+    let low = thirty_two(bytes, 0, alphabet);
+    let high = thirty_two(bytes, 32, alphabet);
     Marks {
         ends: low.ends + high.ends * 0x1_0000_0000,
         zeros: low.zeros + high.zeros * 0x1_0000_0000,
@@ -89,26 +90,26 @@ fn before_fault(marks: Marks) -> u64
 
 // The ends of 64 units, 0 where there are fewer.
 #[inline(always)]
-fn block_ends(bytes: &[u8], base: u8, radix: u8, most: u8) -> u64
-    requires bound { most < 2 * radix }
-    requires in_bytes { most + base < 256 }
-    ensures { AreEnds base radix bytes.now result }
+fn block_ends(bytes: &[u8], alphabet: Alphabet) -> u64
+    requires bound { alphabet.most < 2 * alphabet.radix }
+    requires in_bytes { alphabet.most + alphabet.base < 256 }
+    ensures { AreEnds alphabet.base alphabet.radix bytes.now result }
 {
     if bytes.len() < BLOCK {
         return 0;
     }
-    before_fault(sixty_four(bytes, base, radix, most))
+    before_fault(sixty_four(bytes, alphabet))
 }
 
 // The ends of sixteen units, 0 where there are fewer.
 #[inline(always)]
-pub(crate) fn few_ends(bytes: &[u8], base: u8, radix: u8, most: u8) -> u64
-    requires bound { most < 2 * radix }
-    requires in_bytes { most + base < 256 }
-    ensures { AreEnds base radix bytes.now result }
+pub(crate) fn few_ends(bytes: &[u8], alphabet: Alphabet) -> u64
+    requires bound { alphabet.most < 2 * alphabet.radix }
+    requires in_bytes { alphabet.most + alphabet.base < 256 }
+    ensures { AreEnds alphabet.base alphabet.radix bytes.now result }
 {
     if bytes.len() < 16 {
         return 0;
     }
-    before_fault(sixteen(bytes, 0, base, radix, most))
+    before_fault(sixteen(bytes, 0, alphabet))
 }

@@ -5,6 +5,7 @@ ghost use Rattle.twkb_num.specs.Alphabet.{five_unit, leb_unit};
 ghost use Rattle.twkb_num.specs.Four.{unit_over};
 ghost use Rattle.twkb_num.specs.Shuffles.{lane_units, AreSpelled};
 
+use crate::alphabet::{Alphabet, POLYLINES, VARINTS};
 use crate::shuffles::shuffle;
 use std::simd::{u8x16, u32x4, u64x2};
 
@@ -32,7 +33,7 @@ pub(crate) fn as_varints(first: u32, second: u32, third: u32, fourth: u32) -> Fo
     requires fourth_small { fourth < 2 ^ 28 }
     ensures { AreSpelled leb_unit 128 first second third fourth result.units result.low result.high }
 {
-    spelled(first, second, third, fourth, 0, 128)
+    spelled(first, second, third, fourth, VARINTS)
 }
 
 // The characters of four numbers.
@@ -44,23 +45,24 @@ pub(crate) fn as_characters(first: u32, second: u32, third: u32, fourth: u32) ->
     requires fourth_small { fourth < 2 ^ 20 }
     ensures { AreSpelled five_unit 32 first second third fourth result.units result.low result.high }
 {
-    spelled(first, second, third, fourth, 63, 32)
+    spelled(first, second, third, fourth, POLYLINES)
 }
 
-// The units of four numbers in an alphabet whose last units are `base` and less than `radix` more, and whose others are
-// `radix` above these.
+// The units of four numbers in an alphabet.
 #[inline(always)]
-fn spelled(first: u32, second: u32, third: u32, fourth: u32, base: u8, radix: u8) -> FourUnits
-    requires alphabet { (radix ≡ 128) ⊎ (radix ≡ 32) }
-    requires in_bytes { base + 2 * radix ≤ 256 }
-    requires first_small { first < radix ^ 4 }
-    requires second_small { second < radix ^ 4 }
-    requires third_small { third < radix ^ 4 }
-    requires fourth_small { fourth < radix ^ 4 }
-    ensures { AreSpelled (unit_over base radix) radix first second third fourth result.units result.low result.high }
+fn spelled(first: u32, second: u32, third: u32, fourth: u32, alphabet: Alphabet) -> FourUnits
+    requires known { (alphabet.radix ≡ 128) ⊎ (alphabet.radix ≡ 32) }
+    requires in_bytes { alphabet.base + 2 * alphabet.radix ≤ 256 }
+    requires first_small { first < alphabet.radix ^ 4 }
+    requires second_small { second < alphabet.radix ^ 4 }
+    requires third_small { third < alphabet.radix ^ 4 }
+    requires fourth_small { fourth < alphabet.radix ^ 4 }
+    ensures { AreSpelled (unit_over alphabet.base alphabet.radix) alphabet.radix first second third fourth result.units result.low result.high }
 {
-    let units = lanes(first, second, third, fourth, base, radix);
-    let marks = units.simd_ge(u8x16::splat(base + radix)).to_bitmask();
+    let units = lanes(first, second, third, fourth, alphabet);
+    let marks = units
+        .simd_ge(u8x16::splat(alphabet.base + alphabet.radix))
+        .to_bitmask();
     let low = marks % 256;
     let high = marks / 256;
     let places = u64x2::from_array([shuffle(low), shuffle(high)]) + u64x2::from_array([0, EIGHTS]);
@@ -73,16 +75,16 @@ fn spelled(first: u32, second: u32, third: u32, fourth: u32, base: u8, radix: u8
 
 // The units of four numbers, each number's in a lane of four bytes.
 #[inline(always)]
-fn lanes(first: u32, second: u32, third: u32, fourth: u32, base: u8, radix: u8) -> u8x16
-    requires alphabet { (radix ≡ 128) ⊎ (radix ≡ 32) }
-    requires in_bytes { base + 2 * radix ≤ 256 }
-    requires first_small { first < radix ^ 4 }
-    requires second_small { second < radix ^ 4 }
-    requires third_small { third < radix ^ 4 }
-    requires fourth_small { fourth < radix ^ 4 }
-    ensures { result ≡ lane_units base radix first ++ (lane_units base radix second ++ (lane_units base radix third ++ lane_units base radix fourth)) }
+fn lanes(first: u32, second: u32, third: u32, fourth: u32, alphabet: Alphabet) -> u8x16
+    requires known { (alphabet.radix ≡ 128) ⊎ (alphabet.radix ≡ 32) }
+    requires in_bytes { alphabet.base + 2 * alphabet.radix ≤ 256 }
+    requires first_small { first < alphabet.radix ^ 4 }
+    requires second_small { second < alphabet.radix ^ 4 }
+    requires third_small { third < alphabet.radix ^ 4 }
+    requires fourth_small { fourth < alphabet.radix ^ 4 }
+    ensures { result ≡ lane_units alphabet.base alphabet.radix first ++ (lane_units alphabet.base alphabet.radix second ++ (lane_units alphabet.base alphabet.radix third ++ lane_units alphabet.base alphabet.radix fourth)) }
 {
-    let bound = u32::from(radix);
+    let bound = u32::from(alphabet.radix);
     let group = u32x4::splat(bound);
     let none = u32x4::splat(0);
     let numbers = u32x4::from_array([first, second, third, fourth]);
@@ -100,5 +102,5 @@ fn lanes(first: u32, second: u32, third: u32, fourth: u32, base: u8, radix: u8) 
         + threes
             .simd_ge(group)
             .select(u32x4::splat(bound * 0x1_0000), none);
-    (groups + marks + u32x4::splat(u32::from(base) * EACH_BYTE)).to_le_bytes()
+    (groups + marks + u32x4::splat(u32::from(alphabet.base) * EACH_BYTE)).to_le_bytes()
 }

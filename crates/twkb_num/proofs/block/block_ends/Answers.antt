@@ -4,5 +4,5 @@ use Rattle.twkb_num.proofs.block.block_ends.Goals as goal
 
 pub returns : goal.returns
 returns c =
-    ends_of c.args.base c.args.radix c.args.most 64 c.before_fault.result c.args.bytes.now c.requires.bound c.requires.in_bytes (omega (arith, c.if-bytes-lt-BLOCK.false)) c.type_inv.bytes
-    (c.before_fault.ensures c.args.radix c.args.most _ c.sixty_four.ensures)
+    ends_of c.args.alphabet.base c.args.alphabet.radix c.args.alphabet.most 64 c.before_fault.result c.args.bytes.now c.requires.bound c.requires.in_bytes (omega (arith, c.if-bytes-lt-BLOCK.false)) c.type_inv.bytes
+    (c.before_fault.ensures c.args.alphabet.radix c.args.alphabet.most _ c.sixty_four.ensures)
