@@ -28,7 +28,7 @@ abbrev pub StopsCopy : {S F : Type 0} → (S → List ℕ → S → Type 0) → 
 StopsCopy took refused rest from (stop.Source why) left to = (front : List ℕ) × Consumes rest left front × took from front to
 StopsCopy took refused rest from (stop.Sink why) left to = (front : List ℕ) × BeginsWith rest front × refused from front why to
 
--- a copy stops within one piece, of which no byte leaves the input
+-- a copy stops within one piece: no byte of it leaves the input, and the sink took a prefix of it
 abbrev pub StopsPiece : {S F : Type 0} → (S → List ℕ → F → S → Type 0) → Option (List ℕ) → S → CopyFault F → S → Type 0
 StopsPiece refused rest from (stop.Source why) to = to ≡ from
 StopsPiece refused rest from (stop.Sink why) to = (front : List ℕ) × BeginsWith rest front × refused from front why to
