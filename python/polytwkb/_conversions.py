@@ -12,7 +12,7 @@ class Limits(NamedTuple):
     """The most that one geometry may have, its members included."""
 
     nest: int = 16
-    """Collections that a geometry may stand in, 0 to 32."""
+    """Collections that a geometry may be in, 0 to 32."""
     nodes: int = 1 << 20
     """Rows, 1 to 2^20."""
     points: int = 1 << 24

@@ -13,7 +13,8 @@ const NEAR: &[u8] = b"AAAAAAAAAAAAAAAAAA";
 const MIXED: &[u8] =
     b"A_C__C___CA_C__C___CA_C__C___CA_C__C___CA_C__C___CA_C__C___CA_C__C___CA_C__C___CA_C__C___CA_C__C___CA_C__C___CA_C__C___CA_C__C___CA_C__C___C";
 
-// Whether the text is written of these points, or memory is refused; and by a lent vector that is then empty.
+// Whether the text is that of these points, or memory is refused; also if it is appended to a
+// borrowed vector, which stays empty after a refusal.
 fn is_written(alloc: Global, points: &[Pt], text: &[u8]) -> bool {
     let mut lent = Vec::new(alloc);
     let is_lent = match encode_into(points, &mut lent) {
@@ -26,8 +27,8 @@ fn is_written(alloc: Global, points: &[Pt], text: &[u8]) -> bool {
     }
 }
 
-// Whether the points of the text, of which there are so many at most, are read and give it again, or memory is refused; and by a
-// lent vector that is then empty.
+// Whether the points of the text, at most `most`, are read and give it again, or memory is
+// refused; also if they are appended to a borrowed vector, which stays empty after a refusal.
 fn is_read(alloc: Global, text: &[u8], most: u32) -> bool {
     let mut lent = Vec::new(alloc);
     let is_lent = match decode_into(text, most, &mut lent) {
@@ -46,7 +47,7 @@ fn each_growth_may_be_refused(rt: HostRuntime) {
     assert!(rt; is_read(alloc, NEAR, 9) & is_read(alloc, FAR, 9) & is_read(alloc, MIXED, 28));
 }
 
-// So many points, each as far from the one before it.
+// Makes `count` points, each as far from the one before it.
 fn made_points(alloc: Global, count: u32, step: i64) -> Option<Vec<Pt>> {
     let mut points = Vec::new(alloc);
     for place in 0..count {
@@ -73,7 +74,8 @@ fn are_read_back(alloc: Global, count: u32, step: i64) -> bool {
     }
 }
 
-// The same for each count on both sides of what a block holds, eight points and their multiples.
+// Whether points are read back for each count on both sides of what a block holds: eight points
+// and multiples of eight.
 fn counts_are_read_back(alloc: Global, step: i64) -> bool {
     let mut all = true;
     for count in 0..40 {
@@ -91,7 +93,7 @@ fn points_are_read_in_blocks_as_one_by_one(rt: HostRuntime) {
     assert!(rt; short & long & counts_are_read_back(alloc, 40_000_000));
 }
 
-// The first point of Google's worked example, behind a byte.
+// The first point of Google's worked example, after a byte.
 #[test]
 fn one_point_is_encoded_behind_a_byte(rt: HostRuntime) {
     let mut piece = Piece::<128>::new();

@@ -1,4 +1,4 @@
-//! The flat form of a geometry: its rows in preorder, and their points in one list.
+//! The flat form of a geometry: its rows in preorder, and all their points in one list.
 #![tactic(auto)]
 
 mod admitting;

@@ -2,12 +2,12 @@
 use Rattle.std.proofs.Common.{◌≡◌, ℕ, ℤ, pos, negsuc, ◌+◌, ◌*◌, ◌/◌, ◌%◌, ◌<◌, zero, suc, refl, ap, arith}
 use Rattle.twkb_num.specs.Zigzag.{zigzag_of, unzigzag_of}
 
--- a number is that of its form
+-- unzigzag undoes zigzag
 pub unzigzag_of-zigzag_of : (n : ℤ) → unzigzag_of (zigzag_of n) ≡ n
 unzigzag_of-zigzag_of (pos n) = let e : (2 * n) % 2 ≡ 0 = omega arith in let d : (2 * n) / 2 ≡ n = omega arith in rw (e, d)
 unzigzag_of-zigzag_of (negsuc n) = let e : (2 * n + 1) % 2 ≡ 1 = omega arith in let d : (2 * n + 1) / 2 ≡ n = omega arith in rw (e, d)
 
--- a form is that of its number
+-- zigzag undoes unzigzag
 pub zigzag_of-unzigzag_of : (n : ℕ) → zigzag_of (unzigzag_of n) ≡ n
 zigzag_of-unzigzag_of n = go (n % 2) refl (omega arith)
   where
@@ -16,7 +16,7 @@ zigzag_of-unzigzag_of n = go (n % 2) refl (omega arith)
     go (suc zero) e h = rw e (omega arith)
     go (suc (suc r)) e h = absurd (omega arith)
 
--- numbers of one form are one
+-- numbers with the same zigzag form are equal
 pub zigzag_one : (m n : ℤ) → zigzag_of m ≡ zigzag_of n → m ≡ n
 zigzag_one (pos m) (pos n) e = let h : m ≡ n = omega arith in ap pos h
 zigzag_one (pos m) (negsuc n) e = absurd (omega arith)

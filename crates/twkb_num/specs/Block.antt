@@ -1,14 +1,14 @@
--- Where the numbers in front of units end.
+-- Where numbers end among the first units of some bytes.
 use Rattle.std.specs.Prelude.{◌≡◌, ℕ, suc, ◌+◌, ◌-◌, ◌*◌, ◌%◌, ◌<◌, ◌≤◌, ◌^◌, List, length, take, map, get_or, nat_lt, nat_eq}
 use lib.Lanes.{mask_l}
 use Rattle.twkb_num.specs.declared.block.Marks.{Marks}
 
--- bytes without the base of an alphabet, those below it far above
+-- bytes less the base of an alphabet; those below the base become large
 abbrev pub units_in : ℕ → List ℕ → List ℕ
 units_in base bytes = map (λ b. (b + (2 ^ 8 - base)) % 2 ^ 8) bytes
 
--- these units without the base are in front of the bytes, all of the alphabet, no last group of 0 stands behind others, and a bit
--- of `ends` is set for each last one
+-- these are the first bytes less the base, all in the alphabet, no number is padded, and `ends`
+-- has a bit for each unit that ends a number
 pub record AreUnits (base radix : ℕ) (bytes units : List ℕ) (ends : ℕ) : Type 0 where
   pub within : length units ≤ length bytes
   pub same : take (length units) bytes ≡ map (λ u. u + base) units
@@ -16,18 +16,18 @@ pub record AreUnits (base radix : ℕ) (bytes units : List ℕ) (ends : ℕ) : T
   pub shortest : (k : ℕ) → suc k < length units → get_or units (suc k) 0 ≡ 0 → get_or units k 0 < radix
   pub marks : ends ≡ mask_l (map (λ u. nat_lt u radix) units)
 
--- a bit is set for each unit that ends a number, in front of the bytes as far as they are looked at
+-- `ends` has a bit for each unit that ends a number, among the units that were looked at
 pub record AreEnds (base radix : ℕ) (bytes : List ℕ) (ends : ℕ) : Type 0 where
   pub units : List ℕ
   pub are : AreUnits base radix bytes units ends
 
--- a bit is set for each unit that ends a number, for each that is 0, and for each above `most`
+-- bits for the units that end a number, for those that are 0, and for those above `most`
 pub record AreMarks (radix most : ℕ) (units : List ℕ) (m : Marks) : Type 0 where
   pub ends : m.ends ≡ mask_l (map (λ u. nat_lt u radix) units)
   pub zeros : m.zeros ≡ mask_l (map (λ u. nat_eq u 0) units)
   pub bad : m.bad ≡ mask_l (map (λ u. nat_lt most u) units)
 
--- the ends of the first so many units, where none is above `most` and no last group of 0 stands behind others
+-- `ends` are the ends of some first units, of which none is above `most` and none pads a number
 pub record AreEndsBefore (radix most : ℕ) (units : List ℕ) (ends : ℕ) : Type 0 where
   pub count : ℕ
   pub marks : ends ≡ mask_l (map (λ u. nat_lt u radix) (take count units))

@@ -1,15 +1,16 @@
-//! Where the numbers in front of units end.
+//! Where numbers end in a block of 64 units, as a word with a bit for each unit.
 ghost use Rattle.std.specs.Prelude.{◌+◌, ◌*◌, ◌<◌, ◌≤◌, ℕ, List, length, take, drop};
 ghost use Rattle.twkb_num.specs.Block.{AreEnds, AreMarks, AreEndsBefore, units_in};
 
 use crate::alphabet::{Alphabet, POLYLINES, VARINTS};
 use std::simd::u8x16;
 
-/// How many units a block has.
+/// The number of units in a block.
 pub const BLOCK: usize = 64;
 
-/// A bit for each of the first 64 bytes that ends a varint, up to the first that is a padded number's last (TWKB specification;
-/// LEB128); 0 where there are fewer bytes. Takes no memory.
+/// Sets a bit for each of the first 64 bytes that ends a varint, and stops at the first number
+/// that is padded (TWKB specification; LEB128). Returns 0 if there are fewer than 64 bytes. Takes
+/// no memory.
 #[inline(always)]
 pub fn varint_ends(bytes: &[u8]) -> u64
     ensures { AreEnds 0 128 bytes.now result }
@@ -17,8 +18,9 @@ pub fn varint_ends(bytes: &[u8]) -> u64
     block_ends(bytes, VARINTS)
 }
 
-/// A bit for each of the first 64 characters that ends a number of a polyline, up to the first that is outside the alphabet or a
-/// padded number's last (Encoded Polyline Algorithm Format); 0 where there are fewer characters. Takes no memory.
+/// Sets a bit for each of the first 64 characters that ends a number of a polyline, and stops at
+/// the first character outside the alphabet and at the first number that is padded (Encoded
+/// Polyline Algorithm Format). Returns 0 if there are fewer than 64 characters. Takes no memory.
 #[inline(always)]
 pub fn character_ends(text: &[u8]) -> u64
     ensures { AreEnds 63 32 text.now result }
@@ -26,7 +28,7 @@ pub fn character_ends(text: &[u8]) -> u64
     block_ends(text, POLYLINES)
 }
 
-// Bits for units: those that end a number, those that are 0, and those outside the alphabet.
+// One bit for each unit: whether it ends a number, is 0, or is outside the alphabet.
 #[derive(Clone, Copy)]
 pub(crate) struct Marks {
     pub(crate) ends: u64,
@@ -34,7 +36,7 @@ pub(crate) struct Marks {
     pub(crate) bad: u64,
 }
 
-// The marks of the sixteen units from a place on.
+// Marks the sixteen units that begin at a place.
 #[inline(always)]
 fn sixteen(bytes: &[u8], at: usize, alphabet: Alphabet) -> Marks
     requires long { at + 16 ≤ length bytes.now }
@@ -48,7 +50,7 @@ fn sixteen(bytes: &[u8], at: usize, alphabet: Alphabet) -> Marks
     }
 }
 
-// The marks of 32 units from a place on.
+// Marks the 32 units that begin at a place.
 #[inline(always)]
 fn thirty_two(bytes: &[u8], at: usize, alphabet: Alphabet) -> Marks
     requires long { at + 32 ≤ length bytes.now }
@@ -63,7 +65,7 @@ fn thirty_two(bytes: &[u8], at: usize, alphabet: Alphabet) -> Marks
     }
 }
 
-// The marks of 64 units.
+// Marks the first 64 units.
 #[inline(always)]
 fn sixty_four(bytes: &[u8], alphabet: Alphabet) -> Marks
     requires long { 64 ≤ length bytes.now }
@@ -78,17 +80,18 @@ fn sixty_four(bytes: &[u8], alphabet: Alphabet) -> Marks
     }
 }
 
-// The ends in front of the first unit outside the alphabet, and of the first that goes on to a last group of 0.
+// Keeps the ends before the first fault: a unit outside the alphabet, or a last group of 0 that
+// pads a number.
 #[inline(always)]
 fn before_fault(marks: Marks) -> u64
     ensures { (radix most : ℕ) (units : List ℕ) → AreMarks radix most units marks → AreEndsBefore radix most units result }
 {
-    // the last bit bounds the place, and costs the last unit of 64
+    // the last bit bounds the place of the first fault; the price is the last of the 64 units
     let faults = marks.bad | (marks.zeros / 2 & !marks.ends) | 1 << 63;
     marks.ends % (1 << faults.trailing_zeros())
 }
 
-// The ends of 64 units, 0 where there are fewer.
+// The ends among the first 64 units, or 0 if there are fewer units.
 #[inline(always)]
 fn block_ends(bytes: &[u8], alphabet: Alphabet) -> u64
     requires bound { alphabet.most < 2 * alphabet.radix }
@@ -101,7 +104,7 @@ fn block_ends(bytes: &[u8], alphabet: Alphabet) -> u64
     before_fault(sixty_four(bytes, alphabet))
 }
 
-// The ends of sixteen units, 0 where there are fewer.
+// The ends among the first sixteen units, or 0 if there are fewer units.
 #[inline(always)]
 pub(crate) fn few_ends(bytes: &[u8], alphabet: Alphabet) -> u64
     requires bound { alphabet.most < 2 * alphabet.radix }

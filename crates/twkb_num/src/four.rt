@@ -1,4 +1,4 @@
-//! Four numbers that stand whole in front, read at once.
+//! Four complete numbers at the start of some bytes, read at once.
 ghost use Rattle.std.specs.Prelude.{IfSome, ◌≡◌, ◌+◌, ◌*◌, ◌<◌, ◌^◌, ◌⊎◌, ◌/◌, ◌≤◌, length, drop, map};
 ghost use lib.Lanes.{digits_l, number_l};
 ghost use Rattle.twkb_num.specs.Alphabet.{five_unit, leb_unit};
@@ -11,7 +11,7 @@ use crate::block::few_ends;
 use crate::places::two_in_front;
 use std::simd::{u8x16, u16x8, u32x4, u64x2};
 
-/// Four whole numbers in front of bytes, and how many bytes these are.
+/// Four signed numbers, and the number of bytes that spell them.
 #[derive(Clone, Copy, Debug, PartialEq, Eq)]
 pub struct Four {
     pub first: i64,
@@ -21,9 +21,9 @@ pub struct Four {
     pub used: usize,
 }
 
-/// Four whole numbers in front, each by the varint of its zigzag form, in its shortest spelling of four bytes at most (TWKB
-/// specification; LEB128). `None` says nothing: such numbers are not found where there are fewer than sixteen bytes. Takes no
-/// memory.
+/// Fast path: reads the four signed numbers at the start of the bytes, if each has a shortest
+/// varint of at most four bytes (TWKB specification; LEB128). `None` proves nothing about the
+/// bytes: it is also the answer for fewer than sixteen bytes. Takes no memory.
 #[inline(always)]
 pub fn four_varints(bytes: &[u8]) -> Option<Four>
     ensures { IfSome result (λ f. FourInFront leb_unit 128 bytes.now (zigzag_of f.first) (zigzag_of f.second) (zigzag_of f.third) (zigzag_of f.fourth) f.used) }
@@ -31,9 +31,10 @@ pub fn four_varints(bytes: &[u8]) -> Option<Four>
     four_in_front(bytes, VARINTS)
 }
 
-/// Four whole numbers of a polyline in front, each by the characters of its zigzag form, which is below 2^28 and in its shortest
-/// spelling (Encoded Polyline Algorithm Format). `None` says nothing: such numbers are not found where one has more than four
-/// characters, or where there are fewer than sixteen in all. Takes no memory.
+/// Fast path: reads the four signed numbers at the start of a polyline's text, if each zigzag
+/// form is below 2^28 and in its shortest spelling (Encoded Polyline Algorithm Format). `None`
+/// proves nothing about the text: it is also the answer if a number has more than four
+/// characters, or if there are fewer than sixteen in all. Takes no memory.
 #[inline(always)]
 pub fn four_characters(text: &[u8]) -> Option<Four>
     ensures { IfSome result (λ f. FourInFront five_unit 32 text.now (zigzag_of f.first) (zigzag_of f.second) (zigzag_of f.third) (zigzag_of f.fourth) f.used) }
@@ -41,8 +42,8 @@ pub fn four_characters(text: &[u8]) -> Option<Four>
     four_in_front(text, POLYLINES)
 }
 
-/// The same as `four_varints`, by the ends that `varint_ends` found, moved to where these bytes begin. After the four the ends
-/// moved by as many bits are those of the bytes after them.
+/// Like `four_varints`, from the ends that `varint_ends` found, shifted to the start of these
+/// bytes. Shifted by `used` more, they are the ends of the bytes after the four numbers.
 #[inline(always)]
 pub fn four_varints_by(bytes: &[u8], ends: u64) -> Option<Four>
     requires long { 16 ≤ length bytes.now }
@@ -54,8 +55,8 @@ pub fn four_varints_by(bytes: &[u8], ends: u64) -> Option<Four>
     four_by(bytes, ends, VARINTS)
 }
 
-/// The same as `four_characters`, by the ends that `character_ends` found, moved to where this text begins. After the four the
-/// ends moved by as many bits are those of the text after them.
+/// Like `four_characters`, from the ends that `character_ends` found, shifted to the start of
+/// this text. Shifted by `used` more, they are the ends of the text after the four numbers.
 #[inline(always)]
 pub fn four_characters_by(text: &[u8], ends: u64) -> Option<Four>
     requires long { 16 ≤ length text.now }
@@ -67,7 +68,7 @@ pub fn four_characters_by(text: &[u8], ends: u64) -> Option<Four>
     four_by(text, ends, POLYLINES)
 }
 
-// A number below 0x100, times this, stands in each of eight bytes.
+// Times a number below 0x100: that number in each of eight bytes.
 const EACH_PLACE: u64 = 0x0101_0101_0101_0101;
 
 // Reads four complete numbers of an alphabet.
@@ -85,7 +86,7 @@ fn four_in_front(bytes: &[u8], alphabet: Alphabet) -> Option<Four>
     four_by(bytes, ends, alphabet)
 }
 
-// The same, by the ends of the numbers.
+// Reads four numbers whose ends are known.
 #[inline(always)]
 fn four_by(bytes: &[u8], ends: u64, alphabet: Alphabet) -> Option<Four>
     requires known { (alphabet.radix ≡ 128) ⊎ (alphabet.radix ≡ 32) }
@@ -111,7 +112,7 @@ fn four_by(bytes: &[u8], ends: u64, alphabet: Alphabet) -> Option<Four>
     })
 }
 
-// The numbers whose groups the bytes hold, four bytes for each. The groups of two bytes are joined first, then the twos.
+// Joins the groups of each four bytes to a number: first two by two, then the pairs.
 #[inline(always)]
 fn joined(units: u8x16, radix: u8) -> u32x4
     requires alphabet { (radix ≡ 128) ⊎ (radix ≡ 32) }
@@ -127,7 +128,7 @@ fn joined(units: u8x16, radix: u8) -> u32x4
     lanes % low + lanes / low * square
 }
 
-// The numbers whose zigzag forms these are, in 32 bits each.
+// Undoes zigzag in four lanes of 32 bits.
 #[inline(always)]
 fn unzigzagged(forms: u32x4) -> u32x4
     ensures { result ≡ map unzigzagged_bits forms }

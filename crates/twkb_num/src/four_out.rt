@@ -1,5 +1,5 @@
-//! Four numbers spelled at once, with no branch on how many units each has: in tracks numbers of one, two and three units are
-//! mixed, and no processor foresees which comes next.
+//! Four numbers spelled at once, with no branch on their lengths: tracks mix numbers of one, two
+//! and three units, so such a branch can't be predicted.
 ghost use Rattle.std.specs.Prelude.{◌≡◌, ◌≤◌, ◌<◌, ◌+◌, ◌++◌, ◌*◌, ◌^◌, ◌⊎◌};
 ghost use Rattle.twkb_num.specs.Alphabet.{five_unit, leb_unit};
 ghost use Rattle.twkb_num.specs.Four.{unit_over};
@@ -9,8 +9,8 @@ use crate::alphabet::{Alphabet, POLYLINES, VARINTS};
 use crate::shuffles::shuffle;
 use std::simd::{u8x16, u32x4, u64x2};
 
-// Four numbers' units: those of the first two in the first eight bytes, those of the others in the last eight, and how many
-// of either count.
+// The units of four numbers: two numbers in the first eight bytes, two in the last eight, and how
+// many bytes of each half are used.
 #[derive(Drop)]
 pub(crate) struct FourUnits {
     pub(crate) units: u8x16,
@@ -18,13 +18,13 @@ pub(crate) struct FourUnits {
     pub(crate) high: u32,
 }
 
-// A number below 0x100, times this, stands in each of four bytes.
+// Times a number below 0x100: that number in each of four bytes.
 const EACH_BYTE: u32 = 0x0101_0101;
 
-// Eight in each of eight bytes.
+// The number eight in each of eight bytes.
 const EIGHTS: u64 = 0x0808_0808_0808_0808;
 
-// The shortest varints of four numbers.
+// Spells four numbers by their shortest varints.
 #[inline(always)]
 pub(crate) fn as_varints(first: u32, second: u32, third: u32, fourth: u32) -> FourUnits
     requires first_small { first < 2 ^ 28 }
@@ -36,7 +36,7 @@ pub(crate) fn as_varints(first: u32, second: u32, third: u32, fourth: u32) -> Fo
     spelled(first, second, third, fourth, VARINTS)
 }
 
-// The characters of four numbers.
+// Spells four numbers by the characters of a polyline.
 #[inline(always)]
 pub(crate) fn as_characters(first: u32, second: u32, third: u32, fourth: u32) -> FourUnits
     requires first_small { first < 2 ^ 20 }
@@ -73,7 +73,7 @@ fn spelled(first: u32, second: u32, third: u32, fourth: u32, alphabet: Alphabet)
     }
 }
 
-// The units of four numbers, each number's in a lane of four bytes.
+// The units of four numbers, four bytes for each number.
 #[inline(always)]
 fn lanes(first: u32, second: u32, third: u32, fourth: u32, alphabet: Alphabet) -> u8x16
     requires known { (alphabet.radix ≡ 128) ⊎ (alphabet.radix ≡ 32) }

@@ -1,4 +1,4 @@
-//! Two points whose numbers stand whole in a text, read at once.
+//! Several points whose numbers are complete in the text, read at once.
 ghost use Rattle.std.specs.Prelude.{◌≡◌, ◌≤◌, ◌/◌, ◌^◌, IfSome, IfNone, length, drop};
 ghost use Rattle.twkb_num.specs.Block.{AreEnds};
 ghost use Rattle.twkb_points.specs.Point.{IsInRange};
@@ -7,7 +7,7 @@ ghost use Rattle.twkb_polyline.specs.Reading.{ArePointsAt, IsPairAt};
 use twkb_num::{BLOCK, four_characters, four_characters_by};
 use twkb_points::{Cursor, Pt};
 
-// Two points, one behind the other, and where the text goes on.
+// Two points, one after the other, and where the text goes on.
 #[derive(Clone, Copy)]
 pub(crate) struct Pair {
     pub(crate) first: Pt,
@@ -15,7 +15,8 @@ pub(crate) struct Pair {
     pub(crate) end: usize,
 }
 
-// The points whose four numbers begin at `start`, where there is room for both. `None` says nothing.
+// Fast path: reads the two points whose four numbers begin at `start`, if there is room for both.
+// `None` proves nothing about the text.
 #[inline(always)]
 pub(crate) fn two_points(
     text: &[u8],
@@ -45,9 +46,10 @@ pub(crate) fn two_points(
     })
 }
 
-// The points that four numbers in front lead to, by the ends that `character_ends` found, moved to where this text begins, and how
-// many characters they have; not found where the point before them is no inner one. Behind these characters the ends are moved by
-// as many bits.
+// Fast path: reads the two points at the start of the text, and the number of their characters.
+// `ends` are the ends that `character_ends` found, shifted to where this text begins; shifted by
+// that number more, they are the ends after the two points. `None` if the point before them is
+// not an inner one, or if the four numbers are not found.
 #[inline(always)]
 fn two_by(from: Pt, text: &[u8], ends: u64) -> Option<(Pt, Pt, usize)>
     requires long { 16 ≤ length text.now }
@@ -66,19 +68,19 @@ fn two_by(from: Pt, text: &[u8], ends: u64) -> Option<(Pt, Pt, usize)>
     Some((one, two, four.used))
 }
 
-// Eight points in front of a text, one behind the other.
+// The first eight points of a text.
 #[derive(Clone, Copy)]
 pub(crate) struct Eight {
     pub(crate) points: [Pt; 8],
-    // The last of them.
+    // The last of the eight points.
     pub(crate) last: Pt,
-    // How many characters they have.
+    // The number of characters of the eight points.
     pub(crate) used: usize,
-    // The ends of numbers behind these.
+    // The ends of the numbers after the eight points.
     pub(crate) ends: u64,
 }
 
-// The points that sixteen numbers in front lead to. `None` says nothing.
+// Fast path: reads the eight points of the first sixteen numbers. `None` proves nothing about the text.
 #[inline(always)]
 pub(crate) fn eight_points(from: Pt, text: &[u8], ends: u64) -> Option<Eight>
     requires { AreEnds 63 32 text.now ends }
