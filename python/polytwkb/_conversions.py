@@ -23,7 +23,7 @@ class Header(NamedTuple):
     """A TWKB header in a stream, as `polytwkb show` lists it."""
 
     level: int
-    """How many geometries it stands in: 0 for a blob."""
+    """How many collections it is in: 0 for a blob."""
     offset: int
     """Where it begins, in bytes from the start of the stream."""
     kind: str

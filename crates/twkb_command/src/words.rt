@@ -1,4 +1,4 @@
-//! From the words of a command line to a request.
+//! Reading the words of a command line as a request.
 ghost use Rattle.std.specs.Prelude.{◌≡◌, [], map, string_bytes, codes, IfNone, IfOk, IfErr, IfSome, OnOk};
 ghost use Rattle.clap.specs.Words.{App, FailsBy, fault_of, first_value, found_of, kind_of, one_text, subcommand_of, subcommand_rows_of};
 ghost use Rattle.twkb_command.specs.CommandLine.{IsCommandLine, command_line};

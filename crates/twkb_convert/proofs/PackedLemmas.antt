@@ -1,4 +1,4 @@
--- From an output to what a caller of a conversion sees.
+-- From an output to the result that a conversion's caller sees.
 use Rattle.twkb_convert.proofs.Prelude.{◌≡◌, ◌∙◌, ◌<◌, ◌^◌, ℕ, List, Bool, true, false, Option, ap, arith, refl, subst, sym, inl, inr, Appends, IsAtEnd, bytes_given, count_failure, device_of, failures_of, output_tap, sent_of, Tap, Output, Tree, Allowance, canonical_stream, Style, Changes, IsDeviceCause, TableObstacle, Unfinished, Tally, Cause}
 use Rattle.twkb_io.specs.declared.output.OutFault.TheVariants as out
 use Rattle.twkb_table.specs.declared.table_fault.TableFault.TheVariants as fault

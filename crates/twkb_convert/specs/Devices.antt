@@ -15,7 +15,7 @@ IsDeviceCause false false why = (why ≢ cause.ReadDevice) × (why ≢ cause.Wri
 abbrev pub CountsOne : Bool → ℕ → ℕ → Type 0
 CountsOne failed before after = after ≡ count_failure failed before
 
--- the count changed, if there were failures
+-- the count changed exactly if there were failures
 abbrev pub Changes : Bool → ℕ → ℕ → Type 0
 Changes true before after = after ≢ before
 Changes false before after = after ≡ before

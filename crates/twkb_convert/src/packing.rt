@@ -1,4 +1,4 @@
-//! From a table to a stream.
+//! Packing a table into a stream.
 ghost use Rattle.std.specs.Prelude.{◌≡◌, ◌<◌, ◌^◌, ◌⊎◌, IfOk, IfErr, true};
 ghost use Rattle.twkb_grammar.specs.declared.style.Style.TheVariants.{Full};
 ghost use Rattle.twkb_convert.specs.Devices.{Changes, IsDeviceCause};

@@ -94,7 +94,7 @@ module _ (f : Role → ℕ → ℕ) (c : Counted → ℕ → ℕ) (counts : (k :
   box_total true (i ∷ j ∷ k ∷ l ∷ []) have =
       omega (arith, ap (λ r. f r i.number) have.0, box i.number, ap (λ r. f r j.number) have.2.0, box j.number, ap (λ r. f r k.number) have.2.2.0, box k.number, ap (λ r. f r l.number) have.2.2.2.0, box l.number)
 
-  -- the total of a frame is that of its body
+  -- the total of a frame is that of its metadata byte and its body
   pub framed_total : (kind : ℕ) (p : ℤ) (own : Flags) (Body : List Item → Type 0) (is : List Item) → (fr : Framed kind p own Body is) → total f is ≡ f (Metadata kind) fr.meta + total f fr.body
   framed_total kind p own Body is fr =
       let last = end_item (declared fr.size) (fr.box ++ fr.body) in

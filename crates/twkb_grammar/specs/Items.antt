@@ -67,7 +67,8 @@ kind_of (multi_point ids ps) = 4
 kind_of (multi_line ids lines) = 5
 kind_of (multi_polygon ids areas) = 6
 
--- The type byte: the type in bits 0 to 3, and the precision as a zigzag number in bits 4 to 7 (TWKB, type and precision).
+-- The type byte: the type in bits 0 to 3, and the precision as a zigzag number in bits 4 to 7
+-- (TWKB, type and precision).
 abbrev pub header_byte : ℕ → ℤ → ℕ
 header_byte kind precision = kind + 16 * zigzag_of precision
 

@@ -126,9 +126,9 @@ pub data Many : Type 0 where
 pub data Phase : Type 0 where
   AtHeader : Phase
   AtMetadata : Kind → ℤ → Phase
-  AtOption : Kind → Head → Role → List Role → Phase  -- extended byte, size and box numbers, as far as they are expected
+  AtOption : Kind → Head → Role → List Role → Phase  -- the optional part expected next, and those after it
   AtCount : Many → Head → Phase  -- the count before ids
-  AtId : Many → Head → (members : ℕ) → (ids : List ℤ) → (left : ℕ) → Phase  -- `left` more after this one
+  AtId : Many → Head → (members : ℕ) → (ids : List ℤ) → (left : ℕ) → Phase  -- `left` ids follow this one
   AtBody : Head → (f : Form) → Ids → Body (depth_of f) → Phase
   AtEnd : Head → Tree → Phase
   Finished : Tree → Phase
@@ -137,7 +137,7 @@ pub data Phase : Type 0 where
 pub record Sums : Type 0 where
   pub bytes : ℕ
   pub position : Point
-  pub nodes : ℕ  -- announced, the root included
+  pub nodes : ℕ  -- the number announced, the root included
   pub points : ℕ
 
 -- The sums before the first item.

@@ -8,7 +8,7 @@ pub data Counted : Type 0 where
   Rings : Counted  -- the rings of a polygon
   Points : Counted  -- the members of a multipoint
   Parts : Counted  -- the members of a multilinestring or multipolygon
-  Geometries : (level : ℕ) → Counted  -- the members of a collection that stands inside `level` collections
+  Geometries : (level : ℕ) → Counted  -- the members of a collection inside `level` collections
 
 -- What is at a place of a blob (TWKB, structure).
 pub data Role : Type 0 where

@@ -47,7 +47,7 @@ pub record Sent {W : Type 0} (contents : W → Option (List ℕ)) (old : Output 
   pub appends : Appends (written contents old) (written contents new) bytes
   pub sent : sent_of new ≡ sent_of old + length bytes
 
--- no put was refused in between
+-- these bytes were sent, and no put was refused
 pub record Took {W : Type 0} (contents : W → Option (List ℕ)) (old : Output W) (bytes : List ℕ) (new : Output W) : Type 0 where
   pub sends : Sent contents old bytes new
   pub failures : output_failures new ≡ output_failures old

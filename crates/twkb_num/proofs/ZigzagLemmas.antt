@@ -1,4 +1,4 @@
--- The two zigzag functions undo each other, and no two numbers have one form.
+-- The two zigzag functions undo each other, and no two numbers have the same form.
 use Rattle.std.proofs.Common.{◌≡◌, ℕ, ℤ, pos, negsuc, ◌+◌, ◌*◌, ◌/◌, ◌%◌, ◌<◌, zero, suc, refl, ap, arith}
 use Rattle.twkb_num.specs.Zigzag.{zigzag_of, unzigzag_of}
 

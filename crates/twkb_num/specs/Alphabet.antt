@@ -28,7 +28,8 @@ leb_group u = if nat_lt u 128 then Some (u, false) else Some (u - 128, true)
 abbrev pub five_unit : ℕ → Bool → ℕ
 five_unit d more = (if more then d + 32 else d) + 63
 
--- the digit that a character stands for, and whether more follow: `?` to `^` are the last of their spelling, `_` to `~` are not
+-- the digit that a character stands for, and whether more follow: `?` to `^` are the last of
+-- their spelling, `_` to `~` are not
 abbrev pub five_group : ℕ → Option (ℕ × Bool)
 five_group u =
     if nat_lt u 63 then None else

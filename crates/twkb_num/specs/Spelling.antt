@@ -18,7 +18,8 @@ open_units unit ds = map (λ d. unit d true) ds
 abbrev pub shortest : (ℕ → Bool → ℕ) → ℕ → ℕ → List ℕ
 shortest unit base n = units_of unit (digits base n)
 
--- the units spell n, a number of 64 bits, by 1 to `longest` digits, of which the last may be 0 (profile: padding is read)
+-- the units spell n, a number of 64 bits, by 1 to `longest` digits, of which the last may be 0
+-- (profile: padding is read)
 pub record IsSpelling (unit : ℕ → Bool → ℕ) (base longest : ℕ) (units : List ℕ) (n : ℕ) : Type 0 where
   pub ds : List ℕ
   pub spelled : units ≡ units_of unit ds

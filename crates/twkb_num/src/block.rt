@@ -8,8 +8,8 @@ use std::simd::u8x16;
 /// The number of units in a block.
 pub const BLOCK: usize = 64;
 
-/// Sets a bit for each of the first 64 bytes that ends a varint, and stops at the first number
-/// that is padded (TWKB specification; LEB128). Returns 0 if there are fewer than 64 bytes. Takes
+/// Sets a bit for each of the first 63 bytes that ends a varint, and stops before the first
+/// padded number (TWKB specification; LEB128). Returns 0 if there are fewer than 64 bytes. Takes
 /// no memory.
 #[inline(always)]
 pub fn varint_ends(bytes: &[u8]) -> u64
@@ -18,9 +18,9 @@ pub fn varint_ends(bytes: &[u8]) -> u64
     block_ends(bytes, VARINTS)
 }
 
-/// Sets a bit for each of the first 64 characters that ends a number of a polyline, and stops at
-/// the first character outside the alphabet and at the first number that is padded (Encoded
-/// Polyline Algorithm Format). Returns 0 if there are fewer than 64 characters. Takes no memory.
+/// Sets a bit for each of the first 63 characters that ends a number of a polyline, and stops
+/// before the first character outside the alphabet and the first padded number (Encoded Polyline
+/// Algorithm Format). Returns 0 if there are fewer than 64 characters. Takes no memory.
 #[inline(always)]
 pub fn character_ends(text: &[u8]) -> u64
     ensures { AreEnds 63 32 text.now result }
@@ -91,7 +91,7 @@ fn before_fault(marks: Marks) -> u64
     marks.ends % (1 << faults.trailing_zeros())
 }
 
-// The ends among the first 64 units, or 0 if there are fewer units.
+// The ends among the first 63 units, or 0 if there are fewer than 64.
 #[inline(always)]
 fn block_ends(bytes: &[u8], alphabet: Alphabet) -> u64
     requires bound { alphabet.most < 2 * alphabet.radix }

@@ -10,7 +10,7 @@ ghost use Rattle.twkb_num.specs.declared.partial.Step.TheVariants.{More, Done, T
 
 use crate::groups::Groups;
 
-/// No two numbers have one zigzag form.
+/// No two numbers have the same zigzag form.
 pub fn one_form()
     ensures { (m n : ℤ) → zigzag_of m ≡ zigzag_of n → m ≡ n }
 {}

@@ -41,7 +41,7 @@ points_of-differences ps = points_from-differences_from origin ps
 pub differences-points_of : (ds : List (ℤ × ℤ)) → differences (points_of ds) ≡ ds
 differences-points_of ds = differences_from-points_from origin ds
 
--- no two lists of points have one list of differences
+-- no two lists of points have the same differences
 pub differences_one : (ps qs : List Point) → differences ps ≡ differences qs → ps ≡ qs
 differences_one ps qs e = sym (points_of-differences ps) ∙ ap points_of e ∙ points_of-differences qs
 

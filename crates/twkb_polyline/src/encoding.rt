@@ -32,7 +32,8 @@ pub fn encode_into(points: &[Pt], text: &mut Vec<u8>) -> Result<(), AllocError>
     result
 }
 
-/// Appends the polyline of one point to a piece (Encoded Polyline Algorithm Format): at most 26 characters. Takes no memory.
+/// Appends the polyline of one point to a piece (Encoded Polyline Algorithm Format): at most 26
+/// characters. Takes no memory.
 #[inline(always)]
 pub fn encode_point(point: Pt, piece: &mut Piece<128>)
     requires room { length piece.old + 32 ≤ 128 }

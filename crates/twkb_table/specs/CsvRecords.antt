@@ -10,7 +10,8 @@ use Rattle.twkb_io.specs.declared.tap.Tap.{Tap}
 use Rattle.twkb_io.specs.Taps.{device_of}
 use Rattle.twkb_table.specs.Record.{Record}
 
--- these are all the records of a text: commas and quotes as in RFC 4180, no header row, any number of fields, no trimming (profile)
+-- these are all the records of a text: commas and quotes as in RFC 4180, no header row, any
+-- number of fields, no trimming (profile)
 abbrev pub AreRecordsOf : List ℕ → List Record → Type 0
 AreRecordsOf text records = AreRecords default_config st.StartRecord (strip_bom text) records
 

@@ -1,4 +1,4 @@
--- Whether a row may come after the rows so far, by all rules of the table but its limits (profile).
+-- When a row may come after the rows so far, by all rules of the table but its limits (profile).
 use Rattle.std.specs.Prelude.{◌≡◌, ℕ, zero, suc, ◌^◌, ℤ, pos, negsuc, List, [], ◌∷◌, Option, Some, None, Bool, true, false, not, ◌&&◌, ◌||◌, ◌==◌, nat_le, nat_lt, if◌then◌else◌, reverse, is_some, is_none, ⊤}
 use Rattle.twkb_points.specs.Point.{Point}
 use Rattle.twkb_tree.specs.declared.kind.Kind.{Kind}

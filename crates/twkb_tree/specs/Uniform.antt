@@ -1,4 +1,4 @@
--- Whether a collection's members have its precision.
+-- The test that a collection's members have its precision.
 use Rattle.std.specs.Prelude.{Bool, true, false, ◌&&◌, ℤ, pos, negsuc, nat_eq}
 use Rattle.twkb_tree.specs.Tree.{Tree, simple, collection, Trees, end, ◌▷◌, precision_of}
 

@@ -1,4 +1,4 @@
-//! Whether the members of a geometry have its precision.
+//! The test that a geometry's members have its precision.
 ghost use Rattle.std.specs.Prelude.{◌≡◌};
 ghost use Rattle.twkb_tree.specs.Tree.{trees};
 ghost use Rattle.twkb_tree.specs.Uniform.{has_precision, have_precision, uniform};

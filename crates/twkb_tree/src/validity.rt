@@ -1,4 +1,4 @@
-//! Whether a geometry is within limits.
+//! The test of a geometry against limits.
 ghost use Rattle.std.specs.Prelude.{◌≡◌, ◌↔◌, IsTrue};
 ghost use Rattle.twkb_tree.specs.Tree.{saturated, trees, nest, nest_all};
 ghost use Rattle.twkb_tree.specs.Limits.{IsValid};

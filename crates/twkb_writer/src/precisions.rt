@@ -1,4 +1,4 @@
-//! Whether several geometries have the same precision.
+//! The precisions of several geometries, and whether they are equal.
 ghost use Rattle.std.specs.Prelude.{◌≡◌};
 ghost use Rattle.twkb_writer.specs.Precisions.{agreed, all_are};
 

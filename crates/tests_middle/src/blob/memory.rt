@@ -112,8 +112,8 @@ fn each_growth_of_a_session_may_be_refused(rt: HostRuntime) {
     assert!(rt; trees & bytes & all_are_fed_or_lack(rt.alloc(), Way::Rows));
 }
 
-// A collection with ids, of a multipoint of two points with ids, and of a collection with an id of a multipoint of one with an id. Seven
-// rows.
+// A collection with ids, of a multipoint of two points with ids, and of a collection with an id
+// of a multipoint of one with an id. Seven rows.
 const ALL_NAMED: &[u8] =
     b"\x07\x04\x02\x02\x04\x04\x04\x02\x02\x04\x02\x02\x02\x02\x07\x04\x01\x06\x04\x04\x01\x08\x02\x02";
 
