@@ -1,5 +1,5 @@
 -- Where the numbers in front of units end.
-use Rattle.std.specs.Prelude.{◌≡◌, ℕ, suc, ◌+◌, ◌-◌, ◌*◌, ◌%◌, ◌<◌, ◌≤◌, ◌^◌, List, length, take, map, get_or, nat_lt, nat_eq}
+use Rattle.std.specs.Prelude.{◌≡◌, ℕ, suc, ◌+◌, ◌-◌, ◌*◌, ◌%◌, ◌<◌, ◌≤◌, ◌^◌, ◌⊎◌, List, length, take, map, get_or, nat_lt, nat_eq}
 use lib.Lanes.{mask_l}
 use Rattle.twkb_num.specs.declared.block.Marks.{Marks}
 
@@ -21,15 +21,25 @@ pub record AreEnds (base radix : ℕ) (bytes : List ℕ) (ends : ℕ) : Type 0 w
   pub units : List ℕ
   pub are : AreUnits base radix bytes units ends
 
+-- no end is left out: if the first units, `most` at most, are all of the alphabet and no last group of 0 is after others, a bit is
+-- set for each last one of these
+abbrev pub HasEndsOf : ℕ → ℕ → ℕ → List ℕ → ℕ → Type 0
+HasEndsOf most base radix bytes ends = (units : List ℕ) (marks : ℕ) → AreUnits base radix bytes units marks → length units ≤ most → ends % 2 ^ length units ≡ marks
+
 -- a bit is set for each unit that ends a number, for each that is 0, and for each above `most`
 pub record AreMarks (radix most : ℕ) (units : List ℕ) (m : Marks) : Type 0 where
   pub ends : m.ends ≡ mask_l (map (λ u. nat_lt u radix) units)
   pub zeros : m.zeros ≡ mask_l (map (λ u. nat_eq u 0) units)
   pub bad : m.bad ≡ mask_l (map (λ u. nat_lt most u) units)
 
--- the ends of the first so many units, where none is above `most` and no last group of 0 stands behind others
+-- the unit at a place is above `most`, or goes on to a last group of 0
+abbrev pub IsFault : ℕ → ℕ → List ℕ → ℕ → Type 0
+IsFault radix most units k = (most < get_or units k 0) ⊎ ((suc k < length units) × (get_or units (suc k) 0 ≡ 0) × (radix ≤ get_or units k 0))
+
+-- the ends of the first so many units, up to the first fault or 63, where none is above `most` and no last group of 0 stands behind others
 pub record AreEndsBefore (radix most : ℕ) (units : List ℕ) (ends : ℕ) : Type 0 where
   pub count : ℕ
   pub marks : ends ≡ mask_l (map (λ u. nat_lt u radix) (take count units))
   pub below : (k : ℕ) → k < count → k < length units → get_or units k 0 ≤ most
   pub shortest : (k : ℕ) → k < count → suc k < length units → get_or units (suc k) 0 ≡ 0 → get_or units k 0 < radix
+  pub far : count < 63 → IsFault radix most units count

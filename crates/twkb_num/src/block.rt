@@ -1,26 +1,28 @@
 //! Where the numbers in front of units end.
-ghost use Rattle.std.specs.Prelude.{◌+◌, ◌*◌, ◌<◌, ◌≤◌, ℕ, List, length, take, drop};
-ghost use Rattle.twkb_num.specs.Block.{AreEnds, AreMarks, AreEndsBefore, units_in};
+ghost use Rattle.std.specs.Prelude.{◌≡◌, ◌+◌, ◌*◌, ◌<◌, ◌≤◌, ℕ, List, length, take, drop};
+ghost use Rattle.twkb_num.specs.Block.{AreEnds, HasEndsOf, AreMarks, AreEndsBefore, units_in};
 
 use std::simd::u8x16;
 
 /// How many units a block has.
 pub const BLOCK: usize = 64;
 
-/// A bit for each of the first 64 bytes that ends a varint, up to the first that is a padded number's last (TWKB specification;
-/// LEB128); 0 where there are fewer bytes. Takes no memory.
+/// A bit for each of the first 63 bytes that ends a varint, up to the first padded number (TWKB specification; LEB128). Needs 64
+/// bytes: 0 if there are fewer. Takes no memory.
 #[inline(always)]
 pub fn varint_ends(bytes: &[u8]) -> u64
-    ensures { AreEnds 0 128 bytes.now result }
+    ensures ends { AreEnds 0 128 bytes.now result }
+    ensures all { 64 ≤ length bytes.now → HasEndsOf 63 0 128 bytes.now result }
 {
     block_ends(bytes, 0, 128, 255)
 }
 
-/// A bit for each of the first 64 characters that ends a number of a polyline, up to the first that is outside the alphabet or a
-/// padded number's last (Encoded Polyline Algorithm Format); 0 where there are fewer characters. Takes no memory.
+/// A bit for each of the first 63 characters that ends a number of a polyline, up to the first that is outside the alphabet or in a
+/// padded number (Encoded Polyline Algorithm Format). Needs 64 characters: 0 if there are fewer. Takes no memory.
 #[inline(always)]
 pub fn character_ends(text: &[u8]) -> u64
-    ensures { AreEnds 63 32 text.now result }
+    ensures ends { AreEnds 63 32 text.now result }
+    ensures all { 64 ≤ length text.now → HasEndsOf 63 63 32 text.now result }
 {
     block_ends(text, 63, 32, 63)
 }
@@ -82,7 +84,7 @@ fn sixty_four(bytes: &[u8], base: u8, radix: u8, most: u8) -> Marks
 fn before_fault(marks: Marks) -> u64
     ensures { (radix most : ℕ) (units : List ℕ) → AreMarks radix most units marks → AreEndsBefore radix most units result }
 {
-    // the last bit bounds the place, and costs the last unit of 64
+    // the last bit bounds the place, so the last unit of 64 is left out
     let faults = marks.bad | (marks.zeros / 2 & !marks.ends) | 1 << 63;
     marks.ends % (1 << faults.trailing_zeros())
 }
@@ -90,9 +92,10 @@ fn before_fault(marks: Marks) -> u64
 // The ends of 64 units, 0 where there are fewer.
 #[inline(always)]
 fn block_ends(bytes: &[u8], base: u8, radix: u8, most: u8) -> u64
-    requires bound { most < 2 * radix }
+    requires bound { most + 1 ≡ 2 * radix }
     requires in_bytes { most + base < 256 }
-    ensures { AreEnds base radix bytes.now result }
+    ensures ends { AreEnds base radix bytes.now result }
+    ensures all { 64 ≤ length bytes.now → HasEndsOf 63 base radix bytes.now result }
 {
     if bytes.len() < BLOCK {
         return 0;
