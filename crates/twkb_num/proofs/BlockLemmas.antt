@@ -1,5 +1,5 @@
 -- Units in front of bytes, and the bits of their ends.
-use Rattle.std.proofs.Common.{◌≡◌, ℕ, suc, ◌+◌, ◌-◌, ◌*◌, ◌/◌, ◌%◌, ◌<◌, ◌≤◌, ◌^◌, ◌⊎◌, Bool, true, false, inl, inr, List, [], ◌∷◌, length, take, drop, map, get_or, min, max, refl, sym, ◌∙◌, ap, subst, arith, bit_and, bit_or, Fits, w8, w64}
+use Rattle.std.proofs.Common.{◌≡◌, ℕ, suc, ◌+◌, ◌-◌, ◌*◌, ◌/◌, ◌%◌, ◌<◌, ◌≤◌, ◌^◌, Bool, true, false, inl, inr, List, [], ◌∷◌, length, take, drop, map, get_or, min, max, refl, sym, ◌∙◌, ap, subst, arith, bit_and, bit_or, Fits, w8, w64}
 use lib.Lanes.{mask_l, zip2, Each1}
 use lib.ListN.{replicate}
 use mathlib.Core.Bool.{cond}

@@ -1,7 +1,7 @@
 use Rattle.std.proofs.Common.{◌≡◌, ◌+◌, arith, rules, subst, sym, FitsSigned, w64}
 use Rattle.std.proofs.lemmas.Int.{to_z-of_z}
 use Rattle.twkb_num.proofs.ZigzagLemmas.{short_form}
-use Rattle.twkb_points.specs.Point.{IsInRange, moved_by}
+use Rattle.twkb_points.specs.Point.{moved_by}
 use Rattle.twkb_points.specs.Near.{IsNear}
 use Rattle.twkb_points.proofs.NearLemmas.{near_further, near_in_range, near_moved}
 use Rattle.twkb_polyline.specs.Reading.{IsPairAt}

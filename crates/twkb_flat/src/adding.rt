@@ -1,0 +1,143 @@
+//! Points and members that are appended to the last row of a flat form.
+ghost use Rattle.std.specs.Prelude.{◌≡◌, ◌↔◌, ◌+◌, ◌<◌, ◌≤◌, ◌^◌, ◌++◌, ◌∷◌, [], length, OnOk, OnErr, IsTrue, true, is_some};
+ghost use Rattle.twkb_tree.specs.Rows.{row_points, plain_row};
+ghost use Rattle.twkb_tree.specs.RowGrowth.{EndsInLine, point_added, points_added};
+ghost use Rattle.twkb_flat.specs.Members.{EndsInMember};
+
+use crate::admitting::{MOST_POINTS, leaves_room, look, look_at_id};
+use crate::entries::{
+    KeptNode, PlacedRow, count_point, count_points, ends_in_line, link, put_point,
+};
+use crate::flat::Flat;
+use crate::node::Row;
+use crate::room::{make_room, put_reserved};
+use std::alloc::AllocError;
+use twkb_points::Pt;
+use twkb_tree::Kind;
+
+impl Flat {
+    /// Whether a point more may be added: the last row is a linestring's or ring's, and there are fewer than 2^24 points. Takes no memory.
+    #[inline(always)]
+    pub fn takes_point(&self) -> bool
+        ensures { IsTrue result ↔ (EndsInLine self.now × (length (row_points self.now) < 2 ^ 24)) }
+    {
+        if !ends_in_line(&self.entries) {
+            return false;
+        }
+        self.points.len() < MOST_POINTS as usize
+    }
+
+    /// Whether so many points may be added to the last row, a linestring's or ring's; `false` says
+    /// nothing. Takes no memory.
+    pub fn takes_points(&self, count: u64) -> bool
+        ensures line { result ≡ true → EndsInLine self.now }
+        ensures room { result ≡ true → length (row_points self.now) + count ≤ 2 ^ 24 }
+    {
+        self.takes_point() && count <= MOST_POINTS - u64::from(self.point_count())
+    }
+
+    /// Appends a point to those of the last row, which is a linestring's or ring's, while there is room. Takes memory; an `Err`
+    /// changes nothing.
+    #[inline(always)]
+    pub fn add_point(&mut self, point: Pt) -> Result<(), AllocError>
+        requires line { EndsInLine self.old }
+        requires room { length (row_points self.old) < 2 ^ 24 }
+        ensures added { OnOk result (self.new ≡ point_added point self.old) }
+        ensures same { OnErr result (self.new ≡ self.old) }
+    {
+        // learnt: the point is in range
+        let _learnt = point.x();
+        if let Err(refused) = self.points.push(point) {
+            return Err(refused.into());
+        }
+        count_point(&mut self.entries);
+        Ok(())
+    }
+
+    /// Appends two points to those of the last row, which is a linestring's or ring's, while there is room, behind one test for
+    /// memory. Takes memory where there is no room for both; an `Err` changes nothing.
+    #[inline(always)]
+    pub fn add_two(&mut self, first: Pt, second: Pt) -> Result<(), AllocError>
+        requires line { EndsInLine self.old }
+        requires room { length (row_points self.old) + 2 ≤ 2 ^ 24 }
+        ensures added { OnOk result (self.new ≡ point_added second (point_added first self.old)) }
+        ensures same { OnErr result (self.new ≡ self.old) }
+    {
+        // learnt: the points are in range
+        let _learnt = first.x();
+        let _learnt = second.x();
+        make_room(&mut self.points, 2)?;
+        self.points.push_reserved(first);
+        self.points.push_reserved(second);
+        count_point(&mut self.entries);
+        count_point(&mut self.entries);
+        Ok(())
+    }
+
+    /// Appends points to those of the last row, which is a linestring's or ring's, while there is room, after one test for memory.
+    /// Takes memory where there is no room for all; an `Err` changes nothing.
+    #[inline(always)]
+    pub fn add_points(&mut self, points: &[Pt]) -> Result<(), AllocError>
+        requires line { EndsInLine self.old }
+        requires room { length (row_points self.old) + length points.now ≤ 2 ^ 24 }
+        ensures added { OnOk result (self.new ≡ points_added points.now self.old) }
+        ensures same { OnErr result (self.new ≡ self.old) }
+    {
+        look(points);
+        make_room(&mut self.points, points.len())?;
+        put_reserved(&mut self.points, points);
+        count_points(&mut self.entries, points.len() as u32);
+        Ok(())
+    }
+
+    /// Whether so many members may be added to the multipoint that the last row is a member of, at
+    /// this depth, each with an id or each without; `false` says nothing. Takes no memory.
+    pub fn takes_members(&self, depth: u32, named: bool, count: u64) -> bool
+        ensures ends { result ≡ true → EndsInMember depth named self.now }
+        ensures nodes { result ≡ true → length self.now + count ≤ 2 ^ 20 }
+        ensures points { result ≡ true → length (row_points self.now) + count ≤ 2 ^ 24 }
+    {
+        if !leaves_room(self.node_count(), self.point_count(), count) {
+            return false;
+        }
+        self.is_in_member(depth, named)
+    }
+
+    /// Appends a point as one more member of the multipoint that the last row is a member of, while
+    /// there is room. Takes memory; an `Err` changes nothing.
+    #[inline(always)]
+    pub fn add_member(&mut self, depth: u32, id: Option<i64>, point: Pt) -> Result<(), AllocError>
+        requires member { EndsInMember depth (is_some id) self.old }
+        requires nodes { length self.old < 2 ^ 20 }
+        requires points { length (row_points self.old) < 2 ^ 24 }
+        ensures added { OnOk result (self.new ≡ self.old ++ plain_row depth Kind.Point id (point ∷ []) ∷ []) }
+        ensures same { OnErr result (self.new ≡ self.old) }
+    {
+        look_at_id(id);
+        // learnt: the point is in range
+        let _learnt = point.x();
+        let next = self.entries.len() as u32;
+        let last = next - 1;
+        let row = Row {
+            depth,
+            kind: Kind::Point,
+            id,
+            precision: None,
+        };
+        let span = PlacedRow {
+            row,
+            first: self.points.len() as u32,
+            points: 1,
+        };
+        // the last node ends here, and the member stands under its parent
+        let node = KeptNode {
+            span,
+            next: self.entries[last as usize].next,
+        };
+        if let Err(refused) = put_point(&mut self.entries, &mut self.points, node, point) {
+            return Err(refused);
+        }
+        link(&mut self.entries, last, next);
+        Ok(())
+    }
+}
