@@ -1,7 +1,10 @@
 //! The units of both alphabets, and the laws. Vectors of numbers are those of the program `vectors`.
 ghost use Rattle.std.specs.Prelude.{◌<◌, ◌^◌};
 
-use twkb_num::{Five, Four, Groups, Leb128, Piece, four_characters, four_varints, laws, zigzag};
+use twkb_num::{
+    Five, Four, Groups, Leb128, Piece, character_ends, four_characters, four_varints, laws,
+    varint_ends, zigzag,
+};
 
 // Whether this is the unit of a group that says that more follow, both ways, and the alphabet has
 // groups of this many bits and spellings of at most this many units.
@@ -74,6 +77,37 @@ fn a_piece_gathers_bytes(rt: HostRuntime) {
 }
 
 // The laws do nothing when they run.
+// The ends of 63 numbers of a unit each.
+const ALL_ENDS: u64 = (1 << 63) - 1;
+
+// The ends of twenty.
+const TWENTY: u64 = (1 << 20) - 1;
+
+// Whether a block of ones has all ends, and one byte fewer none; and one with a padded number after twenty has those twenty.
+fn bytes_have_ends() -> bool {
+    let mut padded = [1; 64];
+    padded[20] = 0x81;
+    padded[21] = 0;
+    let are_all = (varint_ends(&[1; 64]) == ALL_ENDS) & (varint_ends(&[1; 63]) == 0);
+    are_all & (varint_ends(&padded) == TWENTY)
+}
+
+// The same of characters, and of one outside the alphabet.
+fn characters_have_ends() -> bool {
+    let mut padded = [b'A'; 64];
+    padded[20] = b'_';
+    padded[21] = b'?';
+    let mut outside = [b'A'; 64];
+    outside[20] = b' ';
+    let are_all = (character_ends(&[b'A'; 64]) == ALL_ENDS) & (character_ends(&[b'A'; 63]) == 0);
+    are_all & (character_ends(&padded) == TWENTY) & (character_ends(&outside) == TWENTY)
+}
+
+#[test]
+fn a_block_has_the_ends_of_its_numbers(rt: HostRuntime) {
+    assert!(rt; bytes_have_ends() & characters_have_ends());
+}
+
 #[test]
 fn laws_return(_rt: HostRuntime) {
     laws::one_form();

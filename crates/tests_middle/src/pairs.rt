@@ -1,10 +1,11 @@
-//! Two points at once: read at the start of bytes, and added to a flat form. Run with each allocation refused in turn
+//! Two points at once, and eight: read at the start of bytes; two added to a flat form. Run with each allocation refused in turn
 //! (`rt try --test --fail-alloc N`) too.
 use crate::fixtures::form;
 use crate::num::STEPS;
 use std::alloc::Global;
-use twkb_front::front_two;
+use twkb_front::{Eight, front_eight, front_two};
 use twkb_geom::{Flat, PointId, Work};
+use twkb_num::varint_ends;
 use twkb_points::Pt;
 
 // Whether a point is at this place.
@@ -39,6 +40,36 @@ fn are_two() -> bool {
 #[test]
 fn two_points_are_read_at_the_start_of_bytes(rt: HostRuntime) {
     assert!(rt; are_two());
+}
+
+// Steps of one along each axis.
+const ONES: [u8; 64] = [2; 64];
+
+// Whether eight such steps lead from (0, 0) to these points.
+fn are_ones(eight: Eight) -> bool {
+    let mut are_there = (eight.used == 16) & is_here(eight.last, (8, 8));
+    let mut place: i64 = 0;
+    for point in &eight.points {
+        place = place.wrapping_add(1);
+        are_there &= is_here(*point, (place, place));
+    }
+    are_there
+}
+
+// Whether they are found from (0, 0), by the ends of the bytes, and not from a point that is no inner one.
+fn are_eight() -> bool {
+    match (Pt::try_new(0, 0), Pt::try_new(0, 1 << 61)) {
+        (Some(origin), Some(outer)) => {
+            let found = front_eight(origin, &ONES, varint_ends(&ONES));
+            found.is_some_and(are_ones) & front_eight(outer, &ONES, varint_ends(&ONES)).is_none()
+        }
+        _ => false,
+    }
+}
+
+#[test]
+fn eight_points_are_read_at_the_start_of_bytes(rt: HostRuntime) {
+    assert!(rt; are_eight());
 }
 
 // A line of three points, as a blob.

@@ -5,11 +5,10 @@ use Rattle.std.proofs.lemmas.List.{with_items_is, length-append, length-map}
 use Rattle.twkb_points.specs.Point.{Point, AreInRange}
 use Rattle.twkb_tree.specs.Limits.{largest_limits}
 use Rattle.twkb_tree.specs.Rows.{Row as TableRow, row_points}
-use Rattle.twkb_tree.specs.RowGrowth.{point_added}
+use Rattle.twkb_tree.specs.RowGrowth.{point_added, points_added}
 use Rattle.twkb_tree.specs.RowLists.{AreValidRowsOfOne}
 use Rattle.twkb_flat.specs.declared.entries.PlacedRow.{PlacedRow}
 use Rattle.twkb_flat.specs.declared.entries.KeptNode.{KeptNode}
-use Rattle.twkb_flat.specs.Adding.{points_added}
 use Rattle.twkb_flat.specs.Links.{Linked}
 use Rattle.twkb_flat.specs.Entries.{Laid, LastHasRoomFor, last_longer, last_longer_by, links_in, listed, longer_by, next_of, span_depth, depths_in, span_of}
 use Rattle.twkb_flat.proofs.CountedPoints.{StandFor, HasCounted, one_more, rows_have}

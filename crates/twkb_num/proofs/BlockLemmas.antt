@@ -1,16 +1,16 @@
 -- Units at the start of some bytes, and the bits of their ends.
-use Rattle.std.proofs.Common.{◌≡◌, ℕ, suc, ◌+◌, ◌-◌, ◌*◌, ◌/◌, ◌%◌, ◌<◌, ◌≤◌, ◌^◌, Bool, false, inl, inr, List, [], ◌∷◌, length, take, drop, map, get_or, min, max, refl, sym, ◌∙◌, ap, subst, arith, bit_and, bit_or, Fits, w8, w64}
+use Rattle.std.proofs.Common.{◌≡◌, ℕ, suc, ◌+◌, ◌-◌, ◌*◌, ◌/◌, ◌%◌, ◌<◌, ◌≤◌, ◌^◌, Bool, true, false, inl, inr, List, [], ◌∷◌, length, take, drop, map, get_or, min, max, refl, sym, ◌∙◌, ap, subst, arith, bit_and, bit_or, Fits, w8, w64}
 use lib.Lanes.{mask_l, zip2, Each1}
 use lib.ListN.{replicate}
 use mathlib.Core.Bool.{cond}
 use Rattle.std.specs.Prelude.{nat_eq, nat_lt}
 use Rattle.std.specs.Int.{bit_at, bit_not, trailing_zeros}
-use Rattle.std.proofs.lemmas.Bool.{cases_lt, eq-eqb, lt-ltb, le-ltb}
+use Rattle.std.proofs.lemmas.Bool.{cases_lt, eq-eqb, lt-ltb, le-ltb, ltb-true, eqb-true}
 use Rattle.std.proofs.lemmas.List.{drop-drop, drop-map, get_or-drop, get_or-map, get_or-take, get_or_past, length-drop, length-map, length-take-le, map-append, length-take, take-map, take-take, take_all, take_rest, drop-take}
 use Rattle.std.proofs.lemmas.Nat.{and_le_l, le_or_r, or_lt, shr-shr}
-use Rattle.std.proofs.lemmas.Nat.Bits.{bit_at-suc, bit_at_and, bit_at_or, bit_at_not, bit_at-trailing_zeros}
+use Rattle.std.proofs.lemmas.Nat.Bits.{bit_at-suc, bit_at_and, bit_at_or, bit_at_not, bit_at-pow_other, bit_at-trailing_zeros}
 use Rattle.std.proofs.lemmas.Simd.{bit_mask_l, chunk-fits, mask_l-lt}
-use Rattle.twkb_num.specs.Block.{units_in, AreUnits, AreEnds, AreMarks, AreEndsBefore}
+use Rattle.twkb_num.specs.Block.{units_in, AreUnits, AreEnds, AreMarks, AreEndsBefore, IsFault}
 use Rattle.twkb_num.specs.declared.block.Marks.{Marks}
 use Rattle.twkb_num.proofs.FoundLemmas.{take_apart}
 use Rattle.twkb_num.proofs.LaneLemmas.{lanes_are, wrapped_sub}
@@ -62,6 +62,47 @@ faults_fit m bad zeros =
     let both = or_lt 64 m.bad behind bad_fits behind_fits in
     (or_lt 64 (bit_or m.bad behind) 9223372036854775808 both (omega arith), omega (arith, le_or_r (bit_or m.bad behind) 9223372036854775808))
 
+-- a unit that is marked is there, and is what it is marked as
+marked : (p : ℕ → Bool) (us : List ℕ) (n k : ℕ) → n ≡ mask_l (map p us) → 0 < bit_at n k → (k < length us) × (p (get_or us k 0) ≡ true)
+marked p us n k is some = elim (cases_lt k (length us)) [
+  | inl within ↦ (within, set (p (get_or us k 0)) (let bit = ap (λ m. bit_at m k) is ∙ bit_of p us k within in omega arith))
+  | inr beyond ↦
+      let past : get_or (map p us) k false ≡ false = get_or_past (map p us) k false (omega (arith, length-map us p)) in
+      let none : bit_at n k ≡ 0 = ap (λ m. bit_at m k) is ∙ bit_mask_l (map p us) k ∙ ap (λ b. cond b 1 0) past in
+      absurd (omega arith)
+]
+  where
+    set : (b : Bool) → 0 < cond b 1 0 → b ≡ true
+    set true h = refl
+    set false h = absurd (omega (arith, h))
+
+-- the first fault among the first 63 units is a unit at fault
+first_fault : (m : Marks) (t radix most : ℕ) (us : List ℕ) → Fits w64 m.ends → t < 63 → bit_at (faults_of m) t ≡ 1 → AreMarks radix most us m → IsFault radix most us t
+first_fault m t radix most us ends_fit few set are =
+    let behind = bit_and (m.zeros / 2) (bit_not w64 m.ends) in
+    let top : bit_at 9223372036854775808 t ≡ 0 = bit_at-pow_other 63 t (λ e. absurd (omega (arith, e))) in
+    let outer = bit_at_or (bit_or m.bad behind) 9223372036854775808 t in
+    let inner = bit_at_or m.bad behind t in
+    elim (cases_lt 0 (bit_at m.bad t)) [
+      | inl bad ↦ inl (let is = marked (λ u. nat_lt most u) us m.bad t are.bad bad in ltb-true most (get_or us t 0) is.1)
+      | inr good ↦
+          let split = bit_at_and (m.zeros / 2) (bit_not w64 m.ends) t in
+          let half = bit_at-suc m.zeros t in
+          let zero_set : 0 < bit_at m.zeros (suc t) = omega arith in
+          let is = marked (λ u. nat_eq u 0) us m.zeros (suc t) are.zeros zero_set in
+          let small : m.ends < 2 ^ 64 = omega arith in
+          let unset = bit_at_not w64 m.ends t small (omega (arith, few)) in
+          inr (is.0, eqb-true (get_or us (suc t) 0) 0 is.1, goes_on (omega (arith, is.0)) (omega arith))
+    ]
+  where
+    goes_on : t < length us → bit_at m.ends t ≡ 0 → radix ≤ get_or us t 0
+    goes_on within none =
+        let bit = ap (λ n. bit_at n t) are.ends ∙ bit_of (λ u. nat_lt u radix) us t within in
+        elim (cases_lt (get_or us t 0) radix) [
+          | inl less ↦ let set = rw (lt-ltb (get_or us t 0) radix less) at bit in absurd (omega arith)
+          | inr more ↦ more
+        ]
+
 -- no unit before the first fault is at fault
 pub ends_before : (m : Marks) (t radix most : ℕ) (us : List ℕ) → Fits w64 m.ends → Fits w64 m.bad → Fits w64 m.zeros
     → t ≡ trailing_zeros w64 (faults_of m) → AreMarks radix most us m → AreEndsBefore radix most us (m.ends % 2 ^ t)
@@ -78,6 +119,7 @@ ends_before m t radix most us ends_fit bad_fit zeros_fit is are =
       marks = ap (λ n. n % 2 ^ t) are.ends ∙ mask_l-take t (map (λ u. nat_lt u radix) us) ∙ ap mask_l (take-map (λ u. nat_lt u radix) t us);
       below = λ k low within. not_bad k within (let both = clear k low in omega arith);
       shortest = λ k low within is_zero. ends_there k within is_zero (omega (arith, lowest.0)) (let both = clear k low in omega arith);
+      far = λ few. first_fault m t radix most us ends_fit few (subst (λ k. bit_at (faults_of m) k ≡ 1) (sym is) lowest.1) are;
     }
   where
     not_bad : (k : ℕ) → k < length us → bit_at m.bad k ≡ 0 → get_or us k 0 ≤ most

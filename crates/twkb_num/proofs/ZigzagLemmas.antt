@@ -1,5 +1,7 @@
 -- The two zigzag functions undo each other, and no two numbers have the same form.
-use Rattle.std.proofs.Common.{◌≡◌, ℕ, ℤ, pos, negsuc, ◌+◌, ◌*◌, ◌/◌, ◌%◌, ◌<◌, zero, suc, refl, ap, arith}
+use Rattle.std.proofs.Common.{◌≡◌, ℕ, ℤ, pos, negsuc, ◌+◌, ◌*◌, ◌/◌, ◌%◌, ◌<◌, ◌^◌, ◌-◌, zero, suc, refl, ap, arith}
+use Rattle.std.specs.Prelude.{◌≤ℤ◌}
+use Rattle.std.proofs.lemmas.Int.{ints}
 use Rattle.twkb_num.specs.Zigzag.{zigzag_of, unzigzag_of}
 
 -- unzigzag undoes zigzag
@@ -22,3 +24,8 @@ zigzag_one (pos m) (pos n) e = let h : m ≡ n = omega arith in ap pos h
 zigzag_one (pos m) (negsuc n) e = absurd (omega arith)
 zigzag_one (negsuc m) (pos n) e = absurd (omega arith)
 zigzag_one (negsuc m) (negsuc n) e = let h : m ≡ n = omega arith in ap negsuc h
+
+-- a form below 2 ^ 28 is that of a number from -2 ^ 27 to 2 ^ 27 - 1
+pub short_form : (d : ℤ) → zigzag_of d < 2 ^ 28 → (negsuc (2 ^ 27 - 1) ≤ℤ d) × (d ≤ℤ pos (2 ^ 27 - 1))
+short_form (pos k) small = (omega (arith, ints, small), omega (arith, ints, small))
+short_form (negsuc k) small = (omega (arith, ints, small), omega (arith, ints, small))

@@ -1,6 +1,6 @@
 //! Where numbers end in a block of 64 units, as a word with a bit for each unit.
-ghost use Rattle.std.specs.Prelude.{◌+◌, ◌*◌, ◌<◌, ◌≤◌, ℕ, List, length, take, drop};
-ghost use Rattle.twkb_num.specs.Block.{AreEnds, AreMarks, AreEndsBefore, units_in};
+ghost use Rattle.std.specs.Prelude.{◌≡◌, ◌+◌, ◌*◌, ◌<◌, ◌≤◌, ℕ, List, length, take, drop};
+ghost use Rattle.twkb_num.specs.Block.{AreEnds, HasEndsOf, AreMarks, AreEndsBefore, units_in};
 
 use crate::alphabet::{Alphabet, POLYLINES, VARINTS};
 use std::simd::u8x16;
@@ -13,7 +13,8 @@ pub const BLOCK: usize = 64;
 /// no memory.
 #[inline(always)]
 pub fn varint_ends(bytes: &[u8]) -> u64
-    ensures { AreEnds 0 128 bytes.now result }
+    ensures ends { AreEnds 0 128 bytes.now result }
+    ensures all { 64 ≤ length bytes.now → HasEndsOf 63 0 128 bytes.now result }
 {
     block_ends(bytes, VARINTS)
 }
@@ -23,7 +24,8 @@ pub fn varint_ends(bytes: &[u8]) -> u64
 /// Algorithm Format). Returns 0 if there are fewer than 64 characters. Takes no memory.
 #[inline(always)]
 pub fn character_ends(text: &[u8]) -> u64
-    ensures { AreEnds 63 32 text.now result }
+    ensures ends { AreEnds 63 32 text.now result }
+    ensures all { 64 ≤ length text.now → HasEndsOf 63 63 32 text.now result }
 {
     block_ends(text, POLYLINES)
 }
@@ -94,9 +96,10 @@ fn before_fault(marks: Marks) -> u64
 // The ends among the first 63 units, or 0 if there are fewer than 64.
 #[inline(always)]
 fn block_ends(bytes: &[u8], alphabet: Alphabet) -> u64
-    requires bound { alphabet.most < 2 * alphabet.radix }
+    requires bound { alphabet.most + 1 ≡ 2 * alphabet.radix }
     requires in_bytes { alphabet.most + alphabet.base < 256 }
-    ensures { AreEnds alphabet.base alphabet.radix bytes.now result }
+    ensures ends { AreEnds alphabet.base alphabet.radix bytes.now result }
+    ensures all { 64 ≤ length bytes.now → HasEndsOf 63 alphabet.base alphabet.radix bytes.now result }
 {
     if bytes.len() < BLOCK {
         return 0;

@@ -1,29 +1,13 @@
 -- Points in a text, one after the other.
-use Rattle.std.proofs.Common.{◌≡◌, ℕ, ℤ, pos, negsuc, ◌+◌, ◌-◌, ◌<◌, ◌≤◌, ◌^◌, List, [], ◌∷◌, ◌++◌, length, take, drop, refl, sym, ap, ◌∙◌, subst, append_assoc, append-nil, length-append, length-drop, arith}
-use Rattle.std.specs.Prelude.{◌+ℤ◌, ◌-ℤ◌}
-use Rattle.std.proofs.lemmas.Int.{ints}
+use Rattle.std.proofs.Common.{◌≡◌, ℕ, ◌+◌, ◌-◌, ◌<◌, ◌≤◌, List, [], ◌∷◌, ◌++◌, length, take, drop, refl, sym, ap, ◌∙◌, subst, append_assoc, append-nil, length-append, length-drop, arith}
+use Rattle.std.specs.Prelude.{◌-ℤ◌}
 use Rattle.std.proofs.lemmas.List.{drop-drop, take_rest}
-use Rattle.twkb_num.specs.Zigzag.{zigzag_of}
-use Rattle.twkb_points.specs.Point.{Point, IsCoordinate, IsInnerCoordinate, IsInRange}
+use Rattle.twkb_points.specs.Point.{Point, IsInRange}
 use Rattle.twkb_polyline.specs.declared.fault.PolyFault.TheVariants.{Memory}
 use Rattle.twkb_polyline.specs.Polyline.{number_text}
 use Rattle.twkb_polyline.specs.Fault.{IsRefused}
 use Rattle.twkb_polyline.specs.Reading.{ArePointsAt, HasPutOn, IsPairAt, IsPointAt, IsShortOfMemory}
 use Rattle.twkb_polyline.proofs.DecodeLemmas.{HasRead, has_read_more, no_memory, read_count}
-
--- ---- steps from an inner point
-
--- one short step from an inner coordinate stays in range
-pub inner_once : (x d : ℤ) → IsInnerCoordinate x → zigzag_of d < 2 ^ 28 → IsCoordinate (x +ℤ d)
-inner_once x (pos k) (low, high) small = (omega (arith, ints, low, high, small), omega (arith, ints, low, high, small))
-inner_once x (negsuc k) (low, high) small = (omega (arith, ints, low, high, small), omega (arith, ints, low, high, small))
-
--- two short steps from an inner coordinate stay in range
-pub inner_twice : (x d e : ℤ) → IsInnerCoordinate x → zigzag_of d < 2 ^ 28 → zigzag_of e < 2 ^ 28 → IsCoordinate ((x +ℤ d) +ℤ e)
-inner_twice x (pos k) (pos l) (low, high) one two = (omega (arith, ints, low, high, one, two), omega (arith, ints, low, high, one, two))
-inner_twice x (pos k) (negsuc l) (low, high) one two = (omega (arith, ints, low, high, one, two), omega (arith, ints, low, high, one, two))
-inner_twice x (negsuc k) (pos l) (low, high) one two = (omega (arith, ints, low, high, one, two), omega (arith, ints, low, high, one, two))
-inner_twice x (negsuc k) (negsuc l) (low, high) one two = (omega (arith, ints, low, high, one, two), omega (arith, ints, low, high, one, two))
 
 -- ---- points in a text and in the rest of it
 

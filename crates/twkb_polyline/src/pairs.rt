@@ -1,7 +1,8 @@
 //! Several points whose numbers are complete in the text, read at once.
-ghost use Rattle.std.specs.Prelude.{◌≡◌, ◌≤◌, ◌/◌, ◌^◌, IfSome, IfNone, length, drop};
+ghost use Rattle.std.specs.Prelude.{◌≡◌, ℕ, ◌+◌, ◌≤◌, ◌/◌, ◌^◌, IfSome, IfNone, length, drop};
 ghost use Rattle.twkb_num.specs.Block.{AreEnds};
 ghost use Rattle.twkb_points.specs.Point.{IsInRange};
+ghost use Rattle.twkb_points.specs.Near.{IsNear};
 ghost use Rattle.twkb_polyline.specs.Reading.{ArePointsAt, IsPairAt};
 
 use twkb_num::{BLOCK, four_characters, four_characters_by};
@@ -46,22 +47,21 @@ pub(crate) fn two_points(
     })
 }
 
-// Fast path: reads the two points at the start of the text, and the number of their characters.
-// `ends` are the ends that `character_ends` found, shifted to where this text begins; shifted by
-// that number more, they are the ends after the two points. `None` if the point before them is
-// not an inner one, or if the four numbers are not found.
+// Fast path: reads the two points at the start of the text, and the number of their characters,
+// from a point so near the origin that the range needs no test. `ends` are the ends that
+// `character_ends` found, shifted to where this text begins; shifted by that number more, they are
+// the ends after the two points.
 #[inline(always)]
 fn two_by(from: Pt, text: &[u8], ends: u64) -> Option<(Pt, Pt, usize)>
+    requires near { IsNear 6 from }
     requires long { 16 ≤ length text.now }
     requires ends { AreEnds 63 32 text.now ends }
     ensures read { IfSome result (λ two. IsPairAt text.now 0 from two.0 two.1 two.2) }
     ensures in_range { IfSome result (λ two. IsInRange two.0 × IsInRange two.1) }
+    ensures onward { IfSome result (λ two. (n : ℕ) → IsNear n from → IsNear (n + 2) two.1) }
     ensures few { IfSome result (λ two. two.2 ≤ 16) }
     ensures rest { IfSome result (λ two. AreEnds 63 32 (drop two.2 text.now) (ends / 2 ^ two.2)) }
 {
-    if !from.is_inner() {
-        return None;
-    }
     let four = four_characters_by(text, ends)?;
     let one = from.step(four.second, four.first);
     let two = one.step(four.fourth, four.third);
@@ -80,7 +80,8 @@ pub(crate) struct Eight {
     pub(crate) ends: u64,
 }
 
-// Fast path: reads the eight points of the first sixteen numbers. `None` proves nothing about the text.
+// Fast path: reads the eight points of the first sixteen numbers; only from an inner point, so that
+// none of the eight can be out of range. `None` proves nothing about the text.
 #[inline(always)]
 pub(crate) fn eight_points(from: Pt, text: &[u8], ends: u64) -> Option<Eight>
     requires { AreEnds 63 32 text.now ends }
@@ -89,6 +90,9 @@ pub(crate) fn eight_points(from: Pt, text: &[u8], ends: u64) -> Option<Eight>
     ensures rest { IfSome result (λ eight. AreEnds 63 32 (drop eight.used text.now) eight.ends) }
 {
     if text.len() < BLOCK {
+        return None;
+    }
+    if !from.is_inner() {
         return None;
     }
     let (a, b, two) = two_by(from, text, ends)?;
