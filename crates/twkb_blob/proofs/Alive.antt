@@ -1,5 +1,5 @@
 -- Engines that some bytes lead to, after a geometry, after a piece, and before one.
-use Rattle.std.proofs.Common.{◌≡◌, ℕ, ◌+◌, ◌≤◌, ◌^◌, List, [], ◌++◌, length, take, length-append, sym, subst, Bool, true, false, Ok, arith}
+use Rattle.std.proofs.Common.{◌≡◌, ℕ, ◌+◌, ◌≤◌, ◌^◌, List, [], ◌++◌, take, length-append, sym, subst, Bool, true, false, Ok, arith}
 use Rattle.std.specs.Prelude.{if◌then◌else◌}
 use Rattle.std.proofs.lemmas.List.{length-take-le}
 use Rattle.std.proofs.Math.Logic.{∥∥₁_elim, ∥∥₁_map}
@@ -27,9 +27,6 @@ module _ {S : Type 0} (holds : S → Notes → Type 0) (rs more : List Row) (d e
 -- the rows in a form that was begun are those of the geometry that is read
 pub of_begun : (rs : List Row) (d : Engine) (whole : Bool) → whole ≡ false → IsAlive (if whole then [] else rs) d → IsAlive rs d
 of_begun rs d whole off a = subst (λ b. IsAlive (if b then [] else rs) d) off a
-
-pub begun_of : (rs : List Row) (d : Engine) (whole : Bool) → whole ≡ false → IsAlive rs d → IsAlive (if whole then [] else rs) d
-begun_of rs d whole off a = subst (λ b. IsAlive (if b then [] else rs) d) (sym off) a
 
 module _ {S : Type 0} (holds : S → Notes → Type 0) (rs more : List Row) (d e : Engine) (old new : S) where
   -- an engine after a piece, whose form has the rows of a geometry that ended, or of the one that is read

@@ -100,8 +100,7 @@ module _ {S : Type 0} (holds : S → Notes → Type 0) {R : Type 0} {read : Ghos
         let here : (y : Blob (allowance_of e) whole m.geometry) × (holds told (notes_at s) → HoldsSpans holds new d.start y) = (m.blob, λ known. subst (λ o. HoldsSpans holds new o m.blob) start (f.1 (t.1 known))) in
         let pair = subst (λ l. (y : Blob l whole m.geometry) × (holds told (notes_at s) → HoldsSpans holds new d.start y)) limits here in
         let both = subst (λ l. (y : Blob (allowance_of d) l m.geometry) × (holds told (notes_at s) → HoldsSpans holds new d.start y)) (append_assoc bs bytes (take used piece)) pair in
-        let many : length (bytes ++ take used piece) ≡ length bytes + used = length-append bytes (take used piece) ∙ ap (λ n. length bytes + n) (length-take-le used piece m.within) in
-        (
+        let many : length (bytes ++ take used piece) ≡ length bytes + used = length-append bytes (take used piece) ∙ ap (λ n. length bytes + n) (length-take-le used piece m.within) in (
           m.geometry,
           record { bytes = bytes ++ take used piece; left = left_join a b c bytes (take used piece) left last; blob = both.0; unspent = live },
           both.1,
@@ -133,8 +132,8 @@ module _ {S : Type 0} (holds : S → Notes → Type 0) {R : Type 0} {read : Ghos
   pub cut_short : (why : BlobFault) → ◌≡◌ {A = Result ⊤ BlobFault} (Err why) (ends_at e) → IsAtEnd (rest_of b) → ((bs : List ℕ) (l : List Row) → StandsAt bs l e → IsEnd (allowance_of e) bs (offset_in e) false) → ReadsBlob holds d rs told a b (Err why) e mid now
   cut_short why answer end is =
       subst (λ f. ReadsBlob holds d rs told a b (Err f) e mid now) (sym (end_refused (place_in e) (count_of e) why answer)) (λ bs s.
-          with_place (λ rest n. FirstFault (allowance_of d) (bs ++ rest) n Truncated) (rest_of a) (offset_in e) d.start (place_in e) (ap (λ n. n + offset_in e) start)
-          (cut_ahead (allowance_of d) (rest_of a) (rest_of b) bs bytes (offset_in e) Truncated left.consumed end (subst (λ l. FirstFault l (bs ++ bytes) (offset_in e) Truncated) limits (is (bs ++ bytes) mid (leads bs s).0))))
+      with_place (λ rest n. FirstFault (allowance_of d) (bs ++ rest) n Truncated) (rest_of a) (offset_in e) d.start (place_in e) (ap (λ n. n + offset_in e) start)
+      (cut_ahead (allowance_of d) (rest_of a) (rest_of b) bs bytes (offset_in e) Truncated left.consumed end (subst (λ l. FirstFault l (bs ++ bytes) (offset_in e) Truncated) limits (is (bs ++ bytes) mid (leads bs s).0))))
 
   -- it gave no byte
   pub none_given : (c : Input R read) (why : InFault) → Left b c [] → (is_spent b ≡ true → is_spent a ≡ true) → HasNone why b c → ReadsBlob holds d rs told a c (Err (fault.Device why)) e mid now

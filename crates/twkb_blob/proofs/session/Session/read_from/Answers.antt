@@ -1,4 +1,4 @@
-use Rattle.std.proofs.Common.{◌∙◌, Ok, Err, true, false, ap, refl, sym, subst}
+use Rattle.std.proofs.Common.{◌∙◌, Ok, Err, true, false, ap, refl, subst}
 use Rattle.twkb_engine.specs.State.{allowance_of}
 use Rattle.twkb_blob.specs.Sessions.{HasEnd}
 use Rattle.twkb_blob.proofs.Alive.{alive_read, of_begun, read_few}
