@@ -1,5 +1,5 @@
 -- Engines that some bytes lead to, after a geometry, after a piece, and before one.
-use Rattle.std.proofs.Common.{◌≡◌, ℕ, ◌+◌, ◌≤◌, List, [], ◌++◌, length, take, length-append, sym, subst, Bool, true, false, Ok, arith}
+use Rattle.std.proofs.Common.{◌≡◌, ℕ, ◌+◌, ◌≤◌, ◌^◌, List, [], ◌++◌, take, length-append, sym, subst, Bool, true, false, Ok, arith}
 use Rattle.std.specs.Prelude.{if◌then◌else◌}
 use Rattle.std.proofs.lemmas.List.{length-take-le}
 use Rattle.std.proofs.Math.Logic.{∥∥₁_elim, ∥∥₁_map}
@@ -8,7 +8,10 @@ use Rattle.twkb_tree.specs.Rows.{Row}
 use Rattle.twkb_grammar.specs.Noting.{Notes}
 use Rattle.twkb_engine.specs.Standing.{IsAlive, FedBy, count_of}
 use Rattle.twkb_engine.specs.declared.engine.Engine.{Engine}
-use Rattle.twkb_engine.proofs.Feeds.{count_is}
+use Rattle.twkb_engine.proofs.Feeds.{count_is, alive_left}
+use Rattle.twkb_blob.specs.Feeding.{ReadsBlob}
+use Rattle.twkb_io.specs.declared.input.Input.{Input}
+use Rattle.std.specs.declared.io.traits.Read.{Ghosts}
 
 module _ {S : Type 0} (holds : S → Notes → Type 0) (rs more : List Row) (d e : Engine) (old new : S) (piece : List ℕ) (used : ℕ) where
   -- a geometry ended in a piece
@@ -25,9 +28,20 @@ module _ {S : Type 0} (holds : S → Notes → Type 0) (rs more : List Row) (d e
 pub of_begun : (rs : List Row) (d : Engine) (whole : Bool) → whole ≡ false → IsAlive (if whole then [] else rs) d → IsAlive rs d
 of_begun rs d whole off a = subst (λ b. IsAlive (if b then [] else rs) d) off a
 
-pub begun_of : (rs : List Row) (d : Engine) (whole : Bool) → whole ≡ false → IsAlive rs d → IsAlive (if whole then [] else rs) d
-begun_of rs d whole off a = subst (λ b. IsAlive (if b then [] else rs) d) (sym off) a
+module _ {S : Type 0} (holds : S → Notes → Type 0) (rs more : List Row) (d e : Engine) (old new : S) where
+  -- an engine after a piece, whose form has the rows of a geometry that ended, or of the one that is read
+  pub alive_fed : (piece : List ℕ) (used : ℕ) (ends : Bool) → FedBy holds d rs old piece (Ok (used, ends)) e more new → IsAlive rs d → IsAlive (if ends then [] else more) e
+  alive_fed piece used false run alive = alive_left holds piece used rs more d e old new alive run
+  alive_fed piece used true run alive = fed_ended holds rs more d e old new piece used run alive
 
 -- a form that still has the rows of the last geometry is cleared
 pub cleared : (rs none : List Row) (d : Engine) (whole : Bool) → whole ≡ true → none ≡ [] → IsAlive (if whole then [] else rs) d → IsAlive none d
 cleared rs none d whole is gone a = subst (λ l. IsAlive l d) (sym gone) (subst (λ b. IsAlive (if b then [] else rs) d) is a)
+
+module _ {S : Type 0} (holds : S → Notes → Type 0) {R : Type 0} {read : Ghosts R} (rs more : List Row) (d e : Engine) (w v : S) (a c : Input R read) where
+  -- a blob was read
+  pub alive_read : ReadsBlob holds d rs w a c (Ok true) e more v → IsAlive rs d → IsAlive [] e
+  alive_read run alive = ∥∥₁_map alive (λ s. ([], (run s.0 s.1).4))
+
+  pub read_few : ReadsBlob holds d rs w a c (Ok true) e more v → IsAlive rs d → e.start + count_of e ≤ 2 ^ 62
+  read_few run alive = ∥∥₁_elim alive (Prim.hlevel props) (λ s. let f = run s.0 s.1 in omega (arith, f.6, count_is [] [] e f.4))

@@ -173,6 +173,7 @@ held_told bytes gs old s false first =
 -- the geometries that are begun
 pub frames_told : (bytes : List ℕ) (gs : List Tree) (old : Session) (s : Stands bytes gs old) → IsOpenVarint (held_in old.engine) → (between : Bool)
     → IsEnd (session_limits old) s.rest (offset_in old.engine) between → FramesOf (session_limits old) bytes gs (open_in old.engine)
+unfolding stands_of
 frames_told bytes gs old s o true none =
     let b = s.begun in
     let front : b.front ≡ [] = no_front b.front (held_in old.engine) (sym b.whole ∙ none) in
@@ -197,7 +198,7 @@ whole_or_cut limits bytes gs hs offset s f =
     no_stream limits f.front f.rest hs gs f.within Truncated f.blobs f.first.fault (subst (λ l. Stream limits l gs) f.whole s)
 
 -- the same blobs in front of the same bytes
-same_blobs : (limits : Allowance) (gs : List Tree) (a b x y : List ℕ) → Stream limits a gs → Stream limits b gs → a ++ x ≡ b ++ y → a ≡ b
+pub same_blobs : (limits : Allowance) (gs : List Tree) (a b x y : List ℕ) → Stream limits a gs → Stream limits b gs → a ++ x ≡ b ++ y → a ≡ b
 same_blobs limits [] a b x y s t e = s ∙ sym t
 same_blobs limits (g ∷ gs) a b x y s t e =
     let whole : s.0 ++ (s.1 ++ x) ≡ t.0 ++ (t.1 ++ y) = sym (append_assoc s.0 s.1 x) ∙ (ap (λ l. l ++ x) (sym s.2) ∙ (e ∙ (ap (λ l. l ++ y) t.2 ∙ append_assoc t.0 t.1 y))) in

@@ -29,7 +29,7 @@ taken_front (suc n) zero xs few = absurd (omega (arith, few))
 taken_front (suc n) (suc m) [] few = refl
 taken_front (suc n) (suc m) (x ∷ xs) few = ap (λ l. x ∷ l) (taken_front n m xs (omega (arith, few)))
 
-short_cut : (count : ℕ) (xs : List ℕ) → length (take count xs) ≤ length xs
+pub short_cut : (count : ℕ) (xs : List ℕ) → length (take count xs) ≤ length xs
 short_cut count xs = omega (arith, length-take count xs)
 
 module _ (limits : Allowance) (bs piece : List ℕ) (count : ℕ) where

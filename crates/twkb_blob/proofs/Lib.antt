@@ -4,3 +4,9 @@ pub mod Cuts
 pub mod Standing
 pub mod Alive
 pub mod Counts
+pub mod Answering
+pub mod Abreast
+pub mod Calls
+pub mod Onward
+pub mod Pieces
+pub mod Leading

@@ -1,5 +1,5 @@
 -- A session goes on, gives a geometry, refuses or ends.
-use Rattle.std.proofs.Common.{◌≡◌, ℕ, zero, suc, ◌+◌, ◌-◌, ◌<◌, ◌≤◌, ◌^◌, inl, inr, List, [], ◌∷◌, ◌++◌, length, take, refl, sym, ap, ◌∙◌, subst, append_assoc, length-append, Bool, true, false, Option, Some, None, IfSome, Ok, Err, arith}
+use Rattle.std.proofs.Common.{◌≡◌, ℕ, zero, suc, ◌+◌, ◌-◌, ◌≤◌, ◌^◌, inl, inr, List, [], ◌∷◌, ◌++◌, length, take, refl, sym, ap, ◌∙◌, subst, append_assoc, length-append, Bool, true, false, Option, Some, None, IfSome, Ok, Err, arith}
 use Rattle.std.proofs.Math.Seq.{take-length}
 use Rattle.std.proofs.lemmas.List.{append-nil, append_cancel_left, length-take-le}
 use Rattle.std.specs.Prelude.{if◌then◌else◌, is_ok}
@@ -15,15 +15,16 @@ use Rattle.twkb_engine.specs.declared.stop.Stop.{Stop}
 use Rattle.twkb_engine.specs.declared.stop.Stop.TheVariants.{Memory, Refused}
 use Rattle.twkb_grammar.specs.Noting.{Notes}
 use Rattle.twkb_outline.specs.Parts.{PartIn, IsJudged}
-use Rattle.twkb_engine.specs.Standing.{StandsAt, IsFed, IsEnd, MadeIn, RefusedIn, count_of, held_in, offset_in, place_in}
+use Rattle.twkb_engine.specs.Standing.{StandsAt, FedBy, IsFed, IsEnd, notes_at, MadeIn, RefusedIn, count_of, offset_in, place_in}
 use Rattle.twkb_engine.proofs.Feeds.{count_is}
 use Rattle.twkb_engine.proofs.RootPoints.{blob_judged}
 use Rattle.twkb_engine.specs.declared.engine.Engine.{Engine}
 use Rattle.twkb_engine.specs.declared.blob_reason.BlobReason.{BlobReason}
 use Rattle.twkb_blob.specs.Faults.{fault_of}
-use Rattle.twkb_blob.specs.Feeding.{end_at}
-use Rattle.twkb_blob.specs.Sessions.{Stands, PartAt, FedSession, FedFlat, AreBegun, IsTooLong, Finished, begun_rows, session_limits, session_rows}
+use Rattle.twkb_blob.specs.Feeding.{FedPiece, end_at}
+use Rattle.twkb_blob.specs.Sessions.{Stands, PartAt, FedSession, FedFlat, AreBegun, IsTooLong, HasEnd, Finished, begun_rows, session_limits, session_rows}
 use Rattle.twkb_blob.specs.declared.session.Session.{Session}
+use Rattle.twkb_blob.specs.declared.fault.BlobFault.{BlobFault}
 use Rattle.twkb_blob.specs.declared.fault.BlobFault.TheVariants as fault
 use Rattle.twkb_blob.proofs.Trees.{TreeLaw, last_tree, tree_made, not_none}
 
@@ -37,19 +38,6 @@ whole_rows s e = ap (λ (b : Bool). if b then [] else session_rows s) e
 -- where an engine stands whose form has the rows of no other geometry
 pub begun_at : (bytes : List ℕ) (gs : List Tree) (old : Session) (s : Stands bytes gs old) → old.is_whole ≡ false → StandsAt s.rest (session_rows old) old.engine
 begun_at bytes gs old s opened = subst (λ rs. StandsAt s.rest rs old.engine) (open_rows old opened) s.begun
-
--- the rows of the last geometry were cleared
-pub cleared : (bytes : List ℕ) (gs : List Tree) (old new : Session) → old.is_whole ≡ true → new.is_whole ≡ false → session_rows new ≡ [] → new.engine ≡ old.engine → new.spent ≡ old.spent → Stands bytes gs old → Stands bytes gs new
-cleared bytes gs old new was opened none same live s = record {
-  front = s.front;
-  rest = s.rest;
-  whole = s.whole;
-  few = s.few;
-  blobs = subst (λ d. Stream (allowance_of d) s.front gs) (sym same) s.blobs;
-  begun = subst (λ rs. StandsAt s.rest rs new.engine) (whole_rows old was ∙ sym (open_rows new opened ∙ none)) (subst (λ d. StandsAt s.rest (begun_rows old) d) (sym same) s.begun);
-  start = ap (λ (d : Engine). d.start) same ∙ s.start;
-  live = live ∙ s.live;
-}
 
 -- a stream and one blob more
 pub one_blob_more : (limits : Allowance) (front blob : List ℕ) (gs : List Tree) (g : Tree) → Stream limits front gs → Blob limits blob g → Stream limits (front ++ blob) (gs ++ g ∷ [])
@@ -77,6 +65,19 @@ went_on bytes gs piece old new used s few limits start live opened all h =
       },
     )
 
+-- a session between two blobs, which has the rows of the last one
+pub between : (bytes : List ℕ) (gs : List Tree) (new : Session) → Stream (session_limits new) bytes gs → new.engine.start ≡ length bytes → length bytes ≤ 2 ^ 62 → new.spent ≡ false → new.is_whole ≡ true → StandsAt [] [] new.engine → Stands bytes gs new
+between bytes gs new stream start few live closed begun = record {
+  front = bytes;
+  rest = [];
+  whole = sym (append-nil bytes);
+  few = few;
+  blobs = stream;
+  begun = subst (λ rs. StandsAt [] rs new.engine) (sym (whole_rows new closed)) begun;
+  start = start;
+  live = live;
+}
+
 -- a geometry ends in the piece
 pub gave : (bytes : List ℕ) (gs : List Tree) (piece : List ℕ) (old new : Session) (used : ℕ) (s : Stands bytes gs old) → length bytes + used ≤ 2 ^ 62 → session_limits new ≡ session_limits old → new.engine.start ≡ old.engine.start + (length s.rest + used)
     → new.spent ≡ false → new.is_whole ≡ true → MadeIn (session_limits old) s.rest piece used (session_rows new) → StandsAt [] [] new.engine → FedFlat bytes gs piece (Ok (used, true)) new
@@ -92,16 +93,7 @@ gave bytes gs piece old new used s few limits start live closed made begun =
         made.some,
         made.within,
         stream,
-        record {
-          front = bytes ++ take used piece;
-          rest = [];
-          whole = sym (append-nil (bytes ++ take used piece));
-          few = omega (arith, long, few);
-          blobs = stream;
-          begun = subst (λ rs. StandsAt [] rs new.engine) (sym (whole_rows new closed)) begun;
-          start = omega (arith, long, start, many, s.start);
-          live = live;
-        },
+        between (bytes ++ take used piece) (gs ++ g ∷ []) new stream (omega (arith, long, start, many, s.start)) (omega (arith, long, few)) live closed begun,
       ),
       made.made,
     )
@@ -111,14 +103,13 @@ begun_end : (limits : Allowance) (bytes : List ℕ) (gs : List Tree) (front rest
 begun_end limits bytes gs front rest offset true whole blobs none = inl (subst (λ l. Stream limits l gs) (sym (whole ∙ (ap (λ l. front ++ l) none ∙ append-nil front))) blobs)
 begun_end limits bytes gs front rest offset false whole blobs first = inr (length front + offset, record { front = front; rest = rest; within = offset; whole = whole; blobs = blobs; first = first; place = refl })
 
--- the bytes up to the most that a session takes are begun, and more follow
-pub too_long : (bytes : List ℕ) (gs : List Tree) (piece : List ℕ) (old : Session) (room offset : ℕ) (between : Bool) (s : Stands bytes gs old) → room ≡ 2 ^ 62 - length bytes → 2 ^ 62 < length bytes + length piece
-    → IsEnd (session_limits old) (s.rest ++ take room piece) offset between → IsTooLong (session_limits old) bytes gs piece
-too_long bytes gs piece old room offset between s is past end = record {
-  past = past;
-  begun = subst (λ n. AreBegun (session_limits old) (bytes ++ take n piece) gs) is
-      (begun_end (session_limits old) (bytes ++ take room piece) gs s.front (s.rest ++ take room piece) offset between (ap (λ l. l ++ take room piece) s.whole ∙ append_assoc s.front s.rest (take room piece)) s.blobs end);
-}
+-- bytes after which an engine stands are begun
+pub begun_after : (bytes more : List ℕ) (gs : List Tree) (kept : List Row) (old : Session) (e : Engine) (s : Stands bytes gs old) → allowance_of e ≡ session_limits old → HasEnd e → StandsAt (s.rest ++ more) kept e
+    → AreBegun (session_limits old) (bytes ++ more) gs
+begun_after bytes more gs kept old e s limits ends h =
+    let end = ends (s.rest ++ more) kept h in
+    begun_end (session_limits old) (bytes ++ more) gs s.front (s.rest ++ more) (offset_in e) end.0 (ap (λ l. l ++ more) s.whole ∙ append_assoc s.front s.rest more) s.blobs
+    (subst (λ l. IsEnd l (s.rest ++ more) (offset_in e) end.0) limits end.1)
 
 -- an item is refused in the piece
 pub refuses : (bytes : List ℕ) (gs : List Tree) (piece : List ℕ) (old new : Session) (within : ℕ) (r : BlobReason) (s : Stands bytes gs old) → session_limits new ≡ session_limits old → RefusedIn (session_limits old) s.rest piece within (reason_of r)
@@ -147,6 +138,27 @@ pub stops : {S : Type 0} (holds : S → Notes → Type 0) (known : Type 0) (star
     → IsFed holds known (session_limits old) start s.rest piece (Err stop) rs new.engine v → FedSession bytes gs piece (Err (fault_of (old.engine.start + offset_in new.engine) stop)) new
 stops holds known start bytes gs piece old new Memory rs v s limits h = lacks bytes gs piece old new s limits h
 stops holds known start bytes gs piece old new (Refused r) rs v s limits h = refuses bytes gs piece old new (offset_in new.engine) r s limits h
+
+-- a piece that was not cut
+pub stopped_at : {S : Type 0} (holds : S → Notes → Type 0) (offset : ℕ) (bytes : List ℕ) (gs : List Tree) (piece : List ℕ) (old new : Session) (stop : Stop) (more : List Row) (w v : S) (s : Stands bytes gs old) → old.is_whole ≡ false
+    → offset ≡ old.engine.start + offset_in new.engine → session_limits new ≡ session_limits old → FedBy holds old.engine (session_rows old) w piece (Err stop) new.engine more v → FedSession bytes gs piece (Err (fault_of offset stop)) new
+stopped_at holds offset bytes gs piece old new stop more w v s opened at limits run =
+    let k = begun_at bytes gs old s opened in
+    subst (λ n. FedSession bytes gs piece (Err (fault_of n stop)) new) (sym at) (stops holds (holds w (notes_at k)) old.engine.start bytes gs piece old new stop more v s limits (run s.rest k))
+
+-- a piece was refused
+pub piece_stopped : {S : Type 0} (holds : S → Notes → Type 0) (bytes : List ℕ) (gs : List Tree) (piece : List ℕ) (old new : Session) (why : BlobFault) (more : List Row) (w v : S) (s : Stands bytes gs old) → old.is_whole ≡ false → session_limits new ≡ session_limits old
+    → HasEnd new.engine → FedPiece holds old.engine (session_rows old) w piece (Err why) new.engine more v → FedSession bytes gs piece (Err why) new
+piece_stopped holds bytes gs piece old new fault.Memory more w v s opened limits ends h = lacks bytes gs piece old new s limits (h s.rest (begun_at bytes gs old s opened))
+piece_stopped holds bytes gs piece old new (fault.At offset reason) more w v s opened limits ends h =
+    let r = h s.rest (begun_at bytes gs old s opened) in
+    subst (λ n. FedSession bytes gs piece (Err (fault.At n reason)) new) (sym r.2) (refuses bytes gs piece old new r.0 reason s limits r.1)
+piece_stopped holds bytes gs piece old new (fault.Device why) more w v s opened limits ends h =
+    let many = so_many bytes gs old s in
+    let taken : ℕ = old.engine.start + count_of old.engine in
+    let begun = begun_after bytes (take (2 ^ 62 - taken) piece) gs more old new.engine s limits ends (h.2 s.rest (begun_at bytes gs old s opened)) in
+    (h.0, subst (λ l. IsTooLong l bytes gs piece) (sym limits) (record { past = omega (arith, many, h.1); begun = subst (λ n. AreBegun (session_limits old) (bytes ++ take (2 ^ 62 - n) piece) gs) (sym many) begun }))
+piece_stopped holds bytes gs piece old new fault.Spent more w v s opened limits ends h = absurd h
 
 -- the tree that is made of the rows is the geometry
 pub gave_tree : TreeLaw → (bytes : List ℕ) (gs : List Tree) (piece : List ℕ) (new : Session) (used : ℕ) (h : Tree) → FedFlat bytes gs piece (Ok (used, true)) new → rows 0 h ≡ session_rows new → IsValid largest_limits h

@@ -1,12 +1,9 @@
 -- The rows of a geometry, and the tree that is made of them.
 use Rattle.std.proofs.Common.{◌≡◌, ℕ, ◌<◌, ◌++◌, List, [], ◌∷◌, length, sym, ◌∙◌, ap, subst, arith, Some, Ok, true}
-use Rattle.std.specs.declared.io.traits.Read.{Ghosts}
 use Rattle.twkb_tree.specs.Tree.{Tree, simple, collection, IsTree}
 use Rattle.twkb_tree.specs.Rows.{Row, rows}
 use Rattle.twkb_tree.specs.Limits.{Allowance, IsValid, largest_limits}
 use Rattle.twkb_grammar.specs.Blob.{Stream}
-use Rattle.twkb_io.specs.declared.input.Input.{Input}
-use Rattle.twkb_blob.specs.Readers.{Makes, IsNextFlat, IsNext}
 
 -- the law that rows tell one tree
 abbrev pub TreeLaw : Type 0
@@ -32,8 +29,3 @@ tree_made law rs g h tree is made valid = law g h tree valid.tree (sym (made ∙
 pub last_tree : (limits : Allowance) (bytes : List ℕ) (gs : List Tree) (g : Tree) → Stream limits bytes (gs ++ g ∷ []) → IsTree g
 last_tree limits bytes [] g (front, rest, whole, blob, more) = blob.valid.tree
 last_tree limits bytes (f ∷ fs) g (front, rest, whole, blob, more) = last_tree limits rest fs g more
-
-module _ {R : Type 0} {read : Ghosts R} where
-  -- a blob left the input, and the tree was made of the rows
-  pub made_tree : TreeLaw → (limits : Allowance) (a c : Input R read) (rs : List Row) (h : Tree) → IsNextFlat limits a c (Ok true) rs → rows 0 h ≡ rs → IsValid largest_limits h → IsNext limits a c (Ok (Some h))
-  made_tree law limits a c rs h (g, makes, is) made valid = subst (λ t. Makes limits [] a c t) (tree_made law rs g h makes.blob.valid.tree is made valid) makes

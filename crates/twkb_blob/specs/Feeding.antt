@@ -1,5 +1,5 @@
 -- What an engine answers that is fed a piece, or the held bytes of an input.
-use Rattle.std.specs.Prelude.{◌≡◌, ◌+◌, ◌-◌, ◌<◌, ◌^◌, ◌⊎◌, take, ℕ, zero, suc, List, [], ◌++◌, length, Bool, true, false, Result, Ok, Err, IfSome, ⊤}
+use Rattle.std.specs.Prelude.{◌≡◌, ◌+◌, ◌-◌, ◌<◌, ◌≤◌, ◌^◌, ◌⊎◌, take, ℕ, zero, suc, List, [], ◌++◌, length, Bool, true, false, Result, Ok, Err, IfSome, ⊤}
 use Rattle.std.specs.Io.KnownBytes.{IsAtEnd}
 use Rattle.std.specs.declared.io.traits.Read.{Ghosts}
 use Rattle.twkb_tree.specs.Tree.{Tree}
@@ -42,7 +42,7 @@ ends_at d = end_at (place_in d) (count_of d)
 -- input gave out.
 abbrev pub ReadsBlob : {S : Type 0} → (S → Notes → Type 0) → {R : Type 0} {read : Ghosts R} → Engine → List Row → S → Input R read → Input R read → Result Bool BlobFault → Engine → List Row → S → Type 0
 ReadsBlob holds d rs told old new (Ok true) e more spans =
-    (bs : List ℕ) (s : StandsAt bs rs d) → (g : Tree) × (made : Makes (allowance_of d) bs old new g) × (holds told (notes_at s) → HoldsSpans holds spans d.start made.blob) × (more ≡ rows 0 g) × StandsAt [] [] e
+    (bs : List ℕ) (s : StandsAt bs rs d) → (g : Tree) × (made : Makes (allowance_of d) bs old new g) × (holds told (notes_at s) → HoldsSpans holds spans d.start made.blob) × (more ≡ rows 0 g) × StandsAt [] [] e × (e.start ≡ d.start + length (bs ++ made.bytes)) × (e.start ≤ 2 ^ 62)
 ReadsBlob holds d rs told old new (Ok false) e more spans = (bs : List ℕ) → StandsAt bs rs d → IsAtEnd (rest_of old) × Left old new [] × (bs ≡ [])
 ReadsBlob holds d rs told old new (Err fault.Memory) e more spans = (bs : List ℕ) → StandsAt bs rs d → PartAhead (allowance_of d) bs old
 ReadsBlob holds d rs told old new (Err (fault.At offset reason)) e more spans =

@@ -11,9 +11,8 @@ use Rattle.twkb_grammar.specs.declared.span.Span.{Span}
 use Rattle.twkb_io.specs.declared.input.Input.{Input}
 use Rattle.twkb_io.specs.Inputs.{given}
 use Rattle.twkb_engine.specs.Standing.{HoldsSpans}
-use Rattle.twkb_blob.specs.Readers.{Makes, IsNext, reader_input, reader_limits, ready_at}
+use Rattle.twkb_blob.specs.Readers.{Makes, IsNext}
 use Rattle.twkb_blob.specs.declared.fault.BlobFault.{BlobFault}
-use Rattle.twkb_blob.specs.declared.reader.Reader.{Reader}
 use Rattle.twkb_blob.specs.declared.spans.Located.{Located}
 
 -- the blob of this geometry left the input, and these are its spans at the place where it stood
@@ -38,9 +37,9 @@ IsSpanned limits old new (Ok true) rs spans = (g : Tree) × HasSpans limits old 
 IsSpanned limits old new (Ok false) rs spans = IsNext limits old new (Ok None)
 IsSpanned limits old new (Err why) rs spans = IsNext limits old new (Err why)
 
--- What a reader of an input answers that reads a blob into a form, by what notes its spans: a geometry whose blob left the input, with its rows and its spans; or an
--- answer without a geometry, and then the form has no rows.
-abbrev pub ReadsInto : {S : Type 0} → (S → Notes → Type 0) → {R : Type 0} {read : Ghosts R} → Reader R read → Reader R read → Result Bool BlobFault → List Row → S → Type 0
-ReadsInto holds old new (Ok true) rs spans = (g : Tree) × (made : Makes (reader_limits old) [] (reader_input old) (reader_input new) g) × HoldsSpans holds spans (given (reader_input old)) made.blob × (rs ≡ rows 0 g)
-ReadsInto holds old new (Ok false) rs spans = (rs ≡ []) × (ready_at old.state ≡ Ok true → IsNext (reader_limits old) (reader_input old) (reader_input new) (Ok None))
-ReadsInto holds old new (Err why) rs spans = (rs ≡ []) × (ready_at old.state ≡ Ok true → IsNext (reader_limits old) (reader_input old) (reader_input new) (Err why))
+-- What is answered to who reads a blob of an input into a form, and its spans: a geometry whose blob left the input, with its rows and its spans; or there is none,
+-- and then the form has no rows.
+abbrev pub ReadsInto : {S : Type 0} → (S → Notes → Type 0) → {R : Type 0} {read : Ghosts R} → Allowance → Input R read → Input R read → Result Bool BlobFault → List Row → S → Type 0
+ReadsInto holds limits old new (Ok true) rs spans = (g : Tree) × (made : Makes limits [] old new g) × HoldsSpans holds spans (given old) made.blob × (rs ≡ rows 0 g)
+ReadsInto holds limits old new (Ok false) rs spans = IsNext limits old new (Ok None)
+ReadsInto holds limits old new (Err why) rs spans = IsNext limits old new (Err why)

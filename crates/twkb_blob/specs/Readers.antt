@@ -1,17 +1,17 @@
 -- What a reader of an input answers.
-use Rattle.std.specs.Prelude.{ℕ, ◌≡◌, ◌+◌, ◌<◌, ◌^◌, ◌⊎◌, List, [], ◌++◌, length, Bool, true, false, Option, Some, None, IfSome, Result, Ok, Err, ⊤}
+use Rattle.std.specs.Prelude.{ℕ, ◌≡◌, ◌+◌, ◌<◌, ◌^◌, ◌⊎◌, List, [], ◌++◌, length, Bool, true, false, Option, Some, None, IfSome, Result, Ok, Err, is_err, ⊤}
 use Rattle.std.specs.Io.KnownBytes.{Consumes, IsAtEnd}
 use Rattle.std.specs.declared.io.traits.Read.{Ghosts}
 use Rattle.twkb_tree.specs.Tree.{Tree}
 use Rattle.twkb_tree.specs.Rows.{Row, rows}
-use Rattle.twkb_tree.specs.Limits.{Allowance, IsValid, largest_limits}
+use Rattle.twkb_tree.specs.Limits.{Allowance}
 use Rattle.twkb_grammar.specs.Blob.{Blob}
 use Rattle.twkb_grammar.specs.Fault.{FirstFault, Reason, Truncated}
-use Rattle.twkb_io.specs.Taps.{device_of}
+use Rattle.twkb_io.specs.Taps.{count_failure, device_of}
 use Rattle.twkb_io.specs.declared.input.Input.{Input}
 use Rattle.twkb_io.specs.declared.input.InFault.TheVariants as stopped
 use Rattle.twkb_io.specs.declared.input.InFault.{InFault}
-use Rattle.twkb_io.specs.Inputs.{given, input_tap, rest_of, is_spent as input_spent}
+use Rattle.twkb_io.specs.Inputs.{given, input_failures, input_tap, rest_of, is_spent as input_spent}
 use Rattle.twkb_engine.specs.Stops.{reason_of}
 use Rattle.twkb_outline.specs.Parts.{PartIn}
 use Rattle.twkb_blob.specs.declared.fault.BlobFault.{BlobFault}
@@ -129,14 +129,6 @@ IsNextFlat limits old new (Ok true) rs = (g : Tree) × Makes limits [] old new g
 IsNextFlat limits old new (Ok false) rs = IsNext limits old new (Ok None)
 IsNextFlat limits old new (Err why) rs = IsNext limits old new (Err why)
 
--- The tree of these rows, where a geometry was read, or that there is no memory for it; else the same answer.
-abbrev pub IsTreeOf : Result Bool BlobFault → List Row → Result (Option Tree) BlobFault → Type 0
-IsTreeOf (Ok true) rs (Ok (Some g)) = (rows 0 g ≡ rs) × IsValid largest_limits g
-IsTreeOf (Ok true) rs (Ok None) = ⊥
-IsTreeOf (Ok true) rs (Err why) = why ≡ fault.Memory
-IsTreeOf (Ok false) rs answer = answer ≡ Ok None
-IsTreeOf (Err why) rs answer = answer ≡ Err why
-
 -- whether a call was answered by a failed read
 abbrev pub failed_by_read : {A : Type 0} → Result A BlobFault → Bool
 failed_by_read (Err (fault.Device stopped.Read)) = true
@@ -148,7 +140,14 @@ ready_at state.Ready = Ok true
 ready_at state.Ended = Ok false
 ready_at state.Spent = Err fault.Spent
 
--- an answer that gives a tree, as one that may give one
-abbrev pub some_tree : Result Tree BlobFault → Result (Option Tree) BlobFault
-some_tree (Ok g) = Ok (Some g)
-some_tree (Err why) = Err why
+-- What every call of a reader says: it keeps its limits and the name of its tap, counts a failed read, and after an error or the end stays as it is.
+pub record ReadsNext {A : Type 0} (none : A) {R : Type 0} {read : Ghosts R} (old new : Reader R read) (answer : Result A BlobFault) : Type 0 where
+  pub same_tap : (input_tap (reader_input new)).ghost_name ≡ (input_tap (reader_input old)).ghost_name
+  pub limits : reader_limits new ≡ reader_limits old
+  pub failures : input_failures (reader_input new) ≡ count_failure (failed_by_read answer) (input_failures (reader_input old))
+  pub spent : is_spent old ≡ true → answer ≡ Err fault.Spent
+  pub stays : is_spent new ≡ is_err answer
+  pub unchanged : is_spent old ≡ true → new ≡ old
+  pub end : answer ≡ Ok none → has_ended new ≡ true
+  pub going_on : ¬ (answer ≡ Ok none) → has_ended new ≡ false
+  pub for_good : has_ended old ≡ true → (answer ≡ Ok none) × (new ≡ old)

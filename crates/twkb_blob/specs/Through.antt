@@ -12,9 +12,9 @@ use Rattle.twkb_io.specs.declared.input.InFault.{InFault}
 use Rattle.twkb_io.specs.declared.input.InFault.TheVariants as stopped
 use Rattle.twkb_io.specs.Inputs.{given, rest_of, is_spent as input_spent}
 use Rattle.twkb_engine.specs.Stops.{reason_of}
-use Rattle.twkb_blob.specs.Readers.{Left, HasNone, is_spent, has_ended, reader_input, ready_at}
+use Rattle.twkb_blob.specs.Readers.{Left, HasNone, is_spent, has_ended, reader_input}
 use Rattle.twkb_blob.specs.Spanned.{NotesEnd}
-use Rattle.twkb_blob.specs.Sessions.{AreBegun, PartAt, Stands, session_limits, session_rows}
+use Rattle.twkb_blob.specs.Sessions.{AreBegun, PartAt, Stands, is_spent as is_finished, session_limits, session_rows}
 use Rattle.twkb_blob.specs.declared.fault.BlobFault.{BlobFault}
 use Rattle.twkb_blob.specs.declared.fault.BlobFault.TheVariants as fault
 use Rattle.twkb_blob.specs.declared.reader.Reader.{Reader}
@@ -72,10 +72,10 @@ IsThrough limits bytes gs old new (Err (fault.Device why)) s = Halts limits byte
 IsThrough limits bytes gs old new (Err fault.Spent) s = ⊥
 IsThrough limits bytes gs old new (Err (fault.At offset reason)) s = IfSome (rest_of old) (λ rest. StreamFault limits (bytes ++ rest) gs offset (reason_of reason))
 
--- What a reader answers that reads a blob through a session: it is finished, if there is none, and then the reader reads no more.
+-- What is answered to who reads a blob of an input through a session, and its spans: a geometry; or there is none, and then the session has no rows and is finished.
 pub record ReadsThrough {S : Type 0} (holds : S → Notes → Type 0) {R : Type 0} {read : Ghosts R} (old new : Reader R read) (s t : Session) (answer : Result Bool BlobFault) (w v : S) : Type 0 where
   pub through : (bytes : List ℕ) (gs : List Tree) → Stands bytes gs s → IfGoingOn old (IsThrough (session_limits s) bytes gs (reader_input old) (reader_input new) answer t)
   pub noted : answer ≡ Ok true → NotesEnd holds (reader_input old) (reader_input new) s t w v
   pub limits : session_limits t ≡ session_limits s
   pub cleared : (answer ≡ Ok true) ⊎ (session_rows t ≡ [])
-  pub state : (ready_at old.state ≡ Ok true) ⊎ (answer ≡ ready_at old.state)
+  pub finished : (answer ≡ Ok true) ⊎ (is_finished t ≡ true)

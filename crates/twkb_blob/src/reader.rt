@@ -1,6 +1,8 @@
 //! The blobs of an input, one after another.
-ghost use Rattle.std.specs.Prelude.{◌≡◌, ◌<◌, ◌↔◌, ◌⊎◌, ℕ, List, [], length, true, false, Ok, Err, None, IfOk, IfSome, is_err};
+ghost use Rattle.std.specs.Prelude.{◌≡◌, ◌<◌, ◌↔◌, ◌⊎◌, ℕ, List, [], length, true, false, Ok, Err, None, IfOk, IfErr, OnOk, OnErr, IfSome, is_err};
 ghost use Rattle.twkb_tree.specs.Tree.{Tree};
+ghost use Rattle.twkb_tree.specs.Rows.{rows};
+ghost use Rattle.twkb_tree.specs.Limits.{IsValid, largest_limits};
 ghost use Rattle.twkb_grammar.specs.Noting.{no_notes};
 ghost use Rattle.twkb_io.specs.Taps.{count_failure};
 ghost use Rattle.twkb_io.specs.Inputs.{input_failures, input_tap};
@@ -34,7 +36,7 @@ pub struct Reader<'a, R: Read> {
 }
 
 impl<'a, R: Read> Reader<'a, R> {
-    ghost use Rattle.twkb_blob.specs.Readers.{reader_input, reader_limits, is_spent, has_ended, ready_at, IsNext, IsNextFlat, IsTreeOf, some_tree, PartAhead, failed_by_read};
+    ghost use Rattle.twkb_blob.specs.Readers.{reader_input, reader_limits, is_spent, has_ended, ready_at, IsNext, IsNextFlat, PartAhead, ReadsNext, failed_by_read};
     ghost use Rattle.twkb_blob.specs.Located.{IsLocated, IsSpanned, ReadsInto};
     ghost use Rattle.twkb_blob.specs.Sessions.{Stands, is_spent as is_finished, session_limits, session_rows};
     ghost use Rattle.twkb_blob.specs.Through.{IfGoingOn, IsAbreast, IsThrough, ReadsThrough};
@@ -154,7 +156,7 @@ impl<'a, R: Read> Reader<'a, R> {
         ensures for_good { has_ended self.old ≡ true → (result ≡ Ok false) × (self.new ≡ self.old) }
     {
         flat.clear();
-        spans.clear();
+        spans.notes.restart();
         let found = self.read_into(alloc, flat, &mut spans.notes);
         keep_spans(found, spans)
     }
@@ -236,7 +238,7 @@ impl<'a, R: Read> Reader<'a, R> {
         ensures same { result ≡ found }
         ensures spent { is_spent self.new ≡ is_err found }
         ensures ended { found ≡ Ok false → has_ended self.new ≡ true }
-        ensures going_on { found ≡ Ok true → has_ended self.new ≡ false }
+        ensures going_on { ¬ (found ≡ Ok false) → has_ended self.new ≡ false }
         ensures kept { (self.new.input ≡ self.old.input) × (self.new.limits ≡ self.old.limits) }
     {
         self.state = match found {
@@ -257,18 +259,20 @@ impl<'a, R: Read> Reader<'a, R> {
     ) -> Result<bool, BlobFault>
         requires empty { flat.old ≡ [] }
         requires no_notes { S.holds spans.old no_notes }
-        ensures read { ReadsInto S.holds self.old self.new result flat.new spans.new }
+        ensures shared { ReadsNext false self.old self.new result }
+        ensures read { IfGoingOn self.old (ReadsInto S.holds (reader_limits self.old) (reader_input self.old) (reader_input self.new) result flat.new spans.new) }
+        ensures memory { result ≡ Err BlobFault.Memory → PartAhead (reader_limits self.old) [] (reader_input self.old) }
+        ensures cleared { (result ≡ Ok true) ⊎ (flat.new ≡ []) }
+        ensures spent { result ≡ Err BlobFault.Spent → is_spent self.old ≡ true }
     {
         if !self.is_ready()? {
             return Ok(false);
         }
         let mut engine = Engine::new(alloc, self.limits, self.input.offset());
         let found = read_blob(&mut self.input, &mut engine, flat, spans);
-        if let Ok(true) = found {
-            return self.answered(found);
-        }
-        flat.clear();
-        self.answered(found)
+        // learnt: where the engine stands, the bytes end inside a blob, or there are none
+        let _learnt = engine.is_between();
+        self.answered(keep_rows(found, flat))
     }
 
     // Reads the next blob through a session, and its spans.
@@ -278,6 +282,7 @@ impl<'a, R: Read> Reader<'a, R> {
         session: &mut Session,
         spans: &mut S,
     ) -> Result<bool, BlobFault>
+        ensures shared { ReadsNext false self.old self.new result }
         ensures read { ReadsThrough S.holds self.old self.new session.old session.new result spans.old spans.new }
     {
         match self.is_ready() {
@@ -291,11 +296,15 @@ impl<'a, R: Read> Reader<'a, R> {
         self.answered(found)
     }
 
-    // The tree of the rows of a blob that was read.
+    // The tree of the rows of a blob that was read. Without memory for it the reader is spent.
     fn tree_of(&mut self, alloc: Global, flat: &Flat) -> Result<Geometry, BlobFault>
         requires { 0 < length flat.now }
-        ensures tree { IsTreeOf (Ok true) flat.now (some_tree result) }
-        ensures spent { is_err result ≡ true → is_spent self.new ≡ true }
+        ensures rows { IfOk result (λ g. rows 0 g ≡ flat.now) }
+        ensures valid { IfOk result (λ g. IsValid largest_limits g) }
+        ensures memory { IfErr result (λ why. why ≡ BlobFault.Memory) }
+        ensures stays { OnOk result (self.new ≡ self.old) }
+        ensures spent { OnErr result (is_spent self.new ≡ true) }
+        ensures kept { (self.new.input ≡ self.old.input) × (self.new.limits ≡ self.old.limits) }
     {
         match flat.to_geometry(alloc) {
             Ok(geometry) => Ok(geometry),
@@ -305,6 +314,20 @@ impl<'a, R: Read> Reader<'a, R> {
             }
         }
     }
+}
+
+// Leaves rows in a form only if a geometry was read; returns the same.
+#[inline(always)]
+fn keep_rows(found: Result<bool, BlobFault>, flat: &mut Flat) -> Result<bool, BlobFault>
+    ensures same { result ≡ found }
+    ensures made { found ≡ Ok true → flat.new ≡ flat.old }
+    ensures cleared { (found ≡ Ok true) ⊎ (flat.new ≡ []) }
+{
+    if let Ok(true) = found {
+        return found;
+    }
+    flat.clear();
+    found
 }
 
 // Leaves spans in a list only if a geometry was read; returns the same.

@@ -1,4 +1,4 @@
-use Rattle.std.proofs.Common.{rules, ◌≡◌, ◌+◌, ◌≤◌, length, take, ℕ, sym, subst, arith, Err, false}
+use Rattle.std.proofs.Common.{rules, ◌≡◌, ◌+◌, take, subst, arith, Err, false}
 use Rattle.std.proofs.lemmas.List.{length-take}
 use Rattle.twkb_engine.specs.State.{allowance_of}
 use Rattle.twkb_engine.specs.Standing.{notes_at, offset_in, count_of}

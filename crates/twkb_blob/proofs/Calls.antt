@@ -1,0 +1,107 @@
+-- What every call of a reader says, by whether the reader is ready.
+use Rattle.std.proofs.Common.{◌≡◌, refl, sym, ap, ◌∙◌, subst, Bool, Option, Some, None, Result, Ok, Err, true, false}
+use Rattle.std.specs.Prelude.{◌↔◌, is_err}
+use Rattle.std.specs.declared.io.traits.Read.{Ghosts}
+use Rattle.twkb_io.specs.Taps.{count_failure}
+use Rattle.twkb_io.specs.Inputs.{input_failures, input_tap}
+use Rattle.twkb_io.specs.declared.input.Input.{Input}
+use Rattle.twkb_io.specs.declared.input.InFault.TheVariants as stopped
+use Rattle.twkb_blob.specs.Readers.{ReadsNext, ended_at, failed_by_read, has_ended, is_spent, ready_at, reader_input, reader_limits, spent_at}
+use Rattle.twkb_blob.specs.Through.{IfGoingOn}
+use Rattle.twkb_blob.specs.declared.fault.BlobFault.{BlobFault}
+use Rattle.twkb_blob.specs.declared.fault.BlobFault.TheVariants as fault
+use Rattle.twkb_blob.specs.declared.reader.Reader.{Reader}
+use Rattle.twkb_blob.specs.declared.reader.State.{State}
+use Rattle.twkb_blob.specs.declared.reader.State.TheVariants as state
+
+-- a failed read is one whatever was to be read
+pub same_failure : (A B : Type 0) (why : BlobFault) → failed_by_read {A = A} (Err why) ≡ failed_by_read {A = B} (Err why)
+same_failure A B fault.Memory = refl
+same_failure A B (fault.Device stopped.Read) = refl
+same_failure A B (fault.Device stopped.TooLong) = refl
+same_failure A B (fault.Device stopped.Spent) = refl
+same_failure A B fault.Spent = refl
+same_failure A B (fault.At offset reason) = refl
+
+-- a reader is ready that answered neither an error nor the end
+pub is_ready : (s : State) → spent_at s ≡ false → ended_at s ≡ false → ready_at s ≡ Ok true
+is_ready state.Ready live going = refl
+is_ready state.Ended live going = absurd cc
+is_ready state.Spent live going = absurd cc
+
+-- and only such a reader
+pub not_spent : (s : State) → ready_at s ≡ Ok true → spent_at s ≡ false
+not_spent state.Ready is = refl
+not_spent state.Ended is = absurd cc
+not_spent state.Spent is = absurd cc
+
+pub not_ended : (s : State) → ready_at s ≡ Ok true → ended_at s ≡ false
+not_ended state.Ready is = refl
+not_ended state.Ended is = absurd cc
+not_ended state.Spent is = absurd cc
+
+is_false : (b : Bool) → ¬ (b ≡ true) → b ≡ false
+is_false true not = absurd (not refl)
+is_false false not = refl
+
+module _ {R : Type 0} {read : Ghosts R} where
+  -- one that is not ready stays as it is
+  at_rest : (r : Reader R read) (s : State) → r.state ≡ s → ¬ (ready_at s ≡ Ok true) → ReadsNext false r r (ready_at s)
+  at_rest r state.Ready at other = absurd (other refl)
+  at_rest r state.Ended at other = record {
+    same_tap = refl;
+    limits = refl;
+    failures = refl;
+    spent = λ is. absurd (let live = ap spent_at at in cc (is, live));
+    stays = ap spent_at at;
+    unchanged = λ is. refl;
+    end = λ is. ap ended_at at;
+    going_on = λ not. absurd (not refl);
+    for_good = λ is. (refl, refl);
+  }
+  at_rest r state.Spent at other = record {
+    same_tap = refl;
+    limits = refl;
+    failures = refl;
+    spent = λ is. refl;
+    stays = ap spent_at at;
+    unchanged = λ is. refl;
+    end = λ is. absurd cc;
+    going_on = λ not. ap ended_at at;
+    for_good = λ is. absurd (let going = ap ended_at at in cc (is, going));
+  }
+
+  pub rests : (r : Reader R read) (answer : Result Bool BlobFault) → ready_at r.state ≡ answer → ¬ (answer ≡ Ok true) → ReadsNext false r r answer
+  rests r answer is other = subst (ReadsNext false r r) is (at_rest r r.state refl (λ e. other (sym is ∙ e)))
+
+  -- one that is ready reads
+  pub reads : (old new : Reader R read) (c : Input R read) (answer : Result Bool BlobFault) → ready_at old.state ≡ Ok true → new.input ≡ c → (input_tap c).ghost_name ≡ (input_tap old.input).ghost_name
+      → input_failures c ≡ count_failure (failed_by_read answer) (input_failures old.input) → new.limits ≡ old.limits → is_spent new ≡ is_err answer → (answer ≡ Ok false → has_ended new ≡ true) → (¬ (answer ≡ Ok false) → has_ended new ≡ false)
+      → ReadsNext false old new answer
+  reads old new c answer ready there tap counted limits spent ended going = record {
+    same_tap = ap (λ i. (input_tap i).ghost_name) there ∙ tap;
+    limits = limits;
+    failures = ap input_failures there ∙ counted;
+    spent = λ is. absurd (let live = not_spent old.state ready in cc (is, live));
+    stays = spent;
+    unchanged = λ is. absurd (let live = not_spent old.state ready in cc (is, live));
+    end = ended;
+    going_on = going;
+    for_good = λ is. absurd (let live = not_ended old.state ready in cc (is, live));
+  }
+
+  module _ (old new : Reader R read) (answer : Result Bool BlobFault) (h : ReadsNext false old new answer) {A : Type 0} (fact : IfGoingOn old A) where
+    going_on : ¬ (answer ≡ Err fault.Spent) → ¬ (answer ≡ Ok false) → A
+    going_on live going = fact (is_false (is_spent old) (λ e. live (h.spent e))) (is_false (has_ended old) (λ e. going (h.for_good e).0))
+
+    -- a geometry comes from a reader that answered neither an error nor the end
+    pub came : answer ≡ Ok true → A
+    came is = going_on (λ e. absurd (cc (e, is))) (λ e. absurd (cc (e, is)))
+
+    -- and so does a want of memory
+    pub lacked : answer ≡ Err fault.Memory → A
+    lacked is = going_on (λ e. absurd (cc (e, is))) (λ e. absurd (cc (e, is)))
+
+  -- the same, told by its public clauses
+  pub came_by : {A : Type 0} (old new : Reader R read) (answer : Result Bool BlobFault) → (answer ≡ Err fault.Spent) ↔ (is_spent old ≡ true) → (has_ended old ≡ true → (answer ≡ Ok false) × (new ≡ old)) → IfGoingOn old A → answer ≡ Ok true → A
+  came_by old new answer spent ended fact is = fact (is_false (is_spent old) (λ e. let other = spent.1 e in absurd (cc (other, is)))) (is_false (has_ended old) (λ e. let other = (ended e).0 in absurd (cc (other, is))))
