@@ -1,24 +1,24 @@
-# make test              all tests: the gate, and on what it built the parts that are named below
+# make test              all tests: the gate, and then the parts named below on what it built
 # make check             the short round
 # make build             the command into bin/
 # make dist              archive, Debian package and wheel of the built program and libraries into dist/
-# make dist-test         each of these installed into an empty root and used there; as root by apt-get too
+# make dist-test         each of these, installed into an empty root and used there; as root also by apt-get
 # make demo              the main job on an example
 # make smoke             the built program with real files and pipes
-# make completions-test  the words of the completions and of the manual page against help
+# make completions-test  the words of the completions and of the manual page, compared with help
 # make docs-test         the commands that documents show, run and compared; the words, links and promises of the pages
-# make recipes           each recipe and the checks of parts, on many machines too, where its tools are installed
+# make recipes           each recipe and the checks of parts, on many machines too, if the tools are installed
 # make lib               the library for C into out/, static and shared
-# make lib-test          the examples in C, in Python and in Go over it, where Go is installed; in C under valgrind where that is
-# make lib-bench         times of calls of the library, and of the package for Python beside it
+# make lib-test          the examples in C, Python and Go (if installed) over it; in C under valgrind, if installed
+# make lib-bench         times of calls of the library and of the package for Python
 # make wheel             the package for Python with the shared library, into dist/
 # make python-test       the package for Python over the shared library
 # make install           program, page, completions, libraries and licence below PREFIX, in the folder DESTDIR
-# make uninstall         takes these files away
-# make hostile           the built program while memory, devices and inputs are against it
-# make fuzz              the built program beside a second implementation, over random inputs (CASES, SEED, PROCESSES)
-# make bench             times and memory beside a plain program; BENCH has words for bench/run.sh
-# make clean             takes away what was built
+# make uninstall         removes these files
+# make hostile           the built program with little memory, failing devices and hostile inputs
+# make fuzz              the program compared with a second implementation, on random inputs (CASES, SEED, PROCESSES)
+# make bench             times and memory, compared with a plain program; BENCH has words for bench/run.sh
+# make clean             removes what was built
 .PHONY: test check build lib lib-test lib-bench wheel python-test demo bench smoke completions-test docs-test recipes hostile fuzz dist dist-test install uninstall clean
 
 PREFIX ?= /usr/local
@@ -30,7 +30,8 @@ INCLUDEDIR ?= $(PREFIX)/include
 ZSHDIR ?= $(DATADIR)/zsh/site-functions
 INSTALL ?= install
 
-# The version of the command and of the library, as it stands in the code. The major number is in the name by which programs find the library.
+# The version of the command and of the library, read from the code. Programs find the library by a name with the
+# major number.
 VERSION := $(shell sed -n 's/^pub const VERSION: &str = "\(.*\)";/\1/p' crates/twkb_convert/src/version.rt)
 SONAME := libpolytwkb.so.$(firstword $(subst ., ,$(VERSION)))
 REAL_NAME := libpolytwkb.so.$(VERSION)
@@ -50,7 +51,7 @@ bin/polytwkb: $(SOURCES)
 
 lib: out/libpolytwkb.a out/libpolytwkb.so
 
-# The crate's archive, and the object of the kit by which it reaches malloc, realloc and free.
+# The crate's archive, and the kit's object through which it calls malloc, realloc and free.
 out/libpolytwkb.a: $(SOURCES)
 	@scripts/build.sh twkb_c crates/twkb_c/out/libtwkb_c.a
 	rm -rf out/objects $@
@@ -58,7 +59,7 @@ out/libpolytwkb.a: $(SOURCES)
 	cd out/objects && $(AR) x ../../crates/twkb_c/out/libtwkb_c.a && $(AR) x "$$(dirname "$$(rt doc)")/c/liblibc_c.a" heap.pic.o
 	$(AR) rcs $@ out/objects/*.o
 
-# Its file has the whole version in its name, and two links lead to it: one by which programs find it, one by which they are linked.
+# Its file name has the full version, and two links point to it: programs find it by one and are linked by the other.
 out/libpolytwkb.so: out/libpolytwkb.a include/polytwkb.map
 	rm -f out/libpolytwkb.so*
 	$(CC) -shared -o out/$(REAL_NAME) -Wl,-soname,$(SONAME) -Wl,--version-script=include/polytwkb.map -Wl,--whole-archive $< -Wl,--no-whole-archive
@@ -68,11 +69,11 @@ out/libpolytwkb.so: out/libpolytwkb.a include/polytwkb.map
 out/convert: examples/c/convert.c include/polytwkb.h out/libpolytwkb.a
 	$(CC) -std=c11 -O1 -g -Wall -Wextra -Werror -Iinclude -o $@ $< out/libpolytwkb.a
 
-# The same, linked to the shared library.
+# The example in C, linked to the shared library.
 out/convert_shared: examples/c/convert.c include/polytwkb.h out/libpolytwkb.so
 	$(CC) -std=c11 -O1 -g -Wall -Wextra -Werror -Iinclude -o $@ $< -Lout -lpolytwkb -Wl,-rpath,'$$ORIGIN'
 
-# That in Go, over the shared library. The cache of Go does not see a new header, so nothing is kept in one.
+# The example in Go, over the shared library. Go's cache does not notice a new header, so no cache is kept.
 out/convert_go: examples/go/convert.go include/polytwkb.h out/libpolytwkb.so
 	rm -rf out/go
 	GO111MODULE=off GOCACHE='$(CURDIR)/out/go' C_INCLUDE_PATH='$(CURDIR)/include' LIBRARY_PATH='$(CURDIR)/out' go build -o $@ $<
@@ -129,16 +130,16 @@ PROCESSES ?= 2
 fuzz: build bin/refuse.so
 	nice -n 10 tests/fuzz/fuzz.py --cases $(CASES) --processes $(PROCESSES) $(if $(SEED),--seed $(SEED)) --library bin/refuse.so
 
-# What lets a call of the program fail.
+# The library that makes a call of the program fail.
 bin/refuse.so: tests/hostile/refuse.c
 	mkdir -p bin
 	$(CC) -O1 -shared -fPIC -o $@ $<
 
-# Counts growths; no crate of the repository, so it is proved in a copy.
+# Counts growths. It is not a crate of the repository, so it is proved in a copy.
 bin/growths: tests/hostile/growths/main.rt.in tests/hostile/growths/build.sh $(SOURCES)
 	tests/hostile/growths/build.sh $@
 
-# What is installed, and where; `uninstall` takes these files away and leaves their folders.
+# The files that are installed, and their places; `uninstall` removes these files and leaves their folders.
 PROGRAM_FILE := $(BINDIR)/polytwkb
 PAGE_FILE := $(DATADIR)/man/man1/polytwkb.1
 BASH_FILE := $(DATADIR)/bash-completion/completions/polytwkb
@@ -173,7 +174,7 @@ uninstall:
 	rm -f '$(DESTDIR)$(STATIC_FILE)' '$(DESTDIR)$(SHARED_FILE)' '$(DESTDIR)$(SHARED_LINK)' '$(DESTDIR)$(SONAME_LINK)'
 	rm -f '$(DESTDIR)$(PACKAGE_FILE)' '$(DESTDIR)$(HEADER_FILE)'
 
-# For those who have no kit.
+# Built files for users without the kit.
 dist: build lib
 	scripts/dist.sh dist
 
@@ -184,7 +185,8 @@ dist-test: dist
 docs-test: build lib
 	scripts/docs_test.py
 
-# The recipes, the check of parts, and both with an installed program; one whose tools are missing says so and is skipped.
+# The recipes, the check of parts, and both with an installed program. A recipe whose tools are missing says so
+# and is skipped.
 recipes: build lib
 	@for recipe in examples/recipes/*.sh examples/scale/check*.sh tests/recipes/installed.sh; do echo "$$recipe"; $$recipe || exit 1; done
 

@@ -9,11 +9,11 @@ complete -c polytwkb -n __fish_use_subcommand -s h -l help -d 'Print help'
 complete -c polytwkb -n __fish_use_subcommand -s V -l version -d 'Print the version'
 
 complete -c polytwkb -n '__fish_seen_subcommand_from pack' -s h -l help -d 'Print help'
-complete -c polytwkb -n '__fish_seen_subcommand_from pack' -l max-nest -x -a '(seq 0 32)' -d 'How many collections a geometry may stand in'
+complete -c polytwkb -n '__fish_seen_subcommand_from pack' -l max-nest -x -a '(seq 0 32)' -d 'How many collections a geometry may be in'
 complete -c polytwkb -n '__fish_seen_subcommand_from pack' -l style -x -a 'full plain' -d 'Blobs with sizes and boxes, or without'
 
 complete -c polytwkb -n '__fish_seen_subcommand_from unpack' -s h -l help -d 'Print help'
-complete -c polytwkb -n '__fish_seen_subcommand_from unpack' -l max-nest -x -a '(seq 0 32)' -d 'How many collections a geometry may stand in'
+complete -c polytwkb -n '__fish_seen_subcommand_from unpack' -l max-nest -x -a '(seq 0 32)' -d 'How many collections a geometry may be in'
 
 complete -c polytwkb -n '__fish_seen_subcommand_from show' -s h -l help -d 'Print help'
-complete -c polytwkb -n '__fish_seen_subcommand_from show' -l max-nest -x -a '(seq 0 32)' -d 'How many collections a geometry may stand in'
+complete -c polytwkb -n '__fish_seen_subcommand_from show' -l max-nest -x -a '(seq 0 32)' -d 'How many collections a geometry may be in'

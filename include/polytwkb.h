@@ -39,8 +39,8 @@ extern "C" {
 #define POLYTWKB_REFUSED 1u   /* the input is refused: reason and place say why and where */
 #define POLYTWKB_ARGUMENTS 2u /* a limit, the style or the conversion is out of range; nothing was done */
 #define POLYTWKB_DEVICE 3u    /* the input could not be read; no buffer gives that */
-#define POLYTWKB_MEMORY 4u    /* no memory was found */
-#define POLYTWKB_TOO_SMALL 5u /* the output is too small: needed says how much would do */
+#define POLYTWKB_MEMORY 4u    /* memory was refused */
+#define POLYTWKB_TOO_SMALL 5u /* the output is too small: needed is the size needed */
 
 /* Why a record of a table is refused: place is the record, counted from 1, which is the header. */
 #define POLYTWKB_BAD_HEADER 1u
@@ -87,7 +87,7 @@ extern "C" {
 #define POLYTWKB_TEXT_ROOM 32
 
 /* Styles of packed blobs. */
-#define POLYTWKB_FULL 0u  /* with sizes, and with boxes where they may be */
+#define POLYTWKB_FULL 0u  /* with sizes, and with boxes if allowed */
 #define POLYTWKB_PLAIN 1u /* without either */
 
 /* Conversions, for polytwkb_measure. */
@@ -105,7 +105,7 @@ typedef struct polytwkb_limits {
 /* What a call did. */
 typedef struct polytwkb_report {
     uint32_t status;      /* POLYTWKB_DONE to POLYTWKB_TOO_SMALL */
-    uint32_t reason;      /* why the input is refused, 1 to 62; 0 where it is not */
+    uint32_t reason;      /* why the input is refused, 1 to 62; 0 if it is not */
     uint64_t place;       /* the refused record, from 1, or the offset of the refused item or the refused point of
                              polytwkb_encode, from 0; else 0 */
     uint64_t text_offset; /* where the polyline of the refused record or of polytwkb_decode is refused, in bytes; else 0 */
@@ -139,16 +139,16 @@ polytwkb_report polytwkb_show(const uint8_t *input, size_t input_length, uint8_t
 polytwkb_report polytwkb_measure(uint32_t conversion, const uint8_t *input, size_t input_length,
                                  polytwkb_limits limits, uint32_t style);
 
-/* A point of whole numbers: x is the longitude and y the latitude, where the points are on a globe. */
+/* A point of whole numbers: x is the longitude and y the latitude, if the points are on a globe. */
 typedef struct polytwkb_point {
     int64_t x; /* -2^62 to 2^62 - 1 */
-    int64_t y; /* likewise */
+    int64_t y; /* -2^62 to 2^62 - 1 */
 } polytwkb_point;
 
 /*
  * Writes the encoded polyline of points, which has y before x of each, into the room of a text. Status 0:
  * sent is the length of the text, and done is 1. 1: a point is out of range; reason is
- * POLYTWKB_POLYLINE_RANGE, and place the first such point, counted from 0. 4: no memory was found. 5: the
+ * POLYTWKB_POLYLINE_RANGE, and place the first such point, counted from 0. 4: memory was refused. 5: the
  * room is too small, and needed is the length of the text. But for 0 the room is as it was: no part of
  * the text is written. Takes memory for the points and the text.
  */

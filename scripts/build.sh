@@ -1,5 +1,5 @@
 #!/usr/bin/env bash
-# Proves a crate and those below it, saying how far it is, and puts the program or the static library that it is into a file:
+# Proves a crate and those below it, reporting progress, and writes its program or static library to a file:
 #
 #   scripts/build.sh CRATE FILE
 set -euo pipefail

@@ -1,7 +1,8 @@
 #!/usr/bin/env bash
-# The short round: one proof of each crate, the stored run of the command, the tests and `vectors` run without a proof, and the smoke of
-# the program. Wrong bodies and the proofs of what tests are left to `make test`. The proofs are those of `rt ci`, over a copy without
-# these: what one of the two rounds has proved on this machine the other does not prove again, with a kit that keeps what has passed.
+# The short round: one proof of each crate, the stored run of the command, the tests and `vectors` run without a
+# proof, and the smoke test of the program. Wrong bodies and the proofs of test crates are left to `make test`.
+# The proofs are those of `rt ci`, over a copy without wrong bodies. If the kit keeps what has passed, neither
+# round proves again what the other has proved on this machine.
 set -euo pipefail
 cd "$(dirname "$0")/.."
 # shellcheck source=scripts/proofs.bash
@@ -16,7 +17,7 @@ run_vectors() {
   (cd crates/vectors && rt try < stdin > "$work/vectors.out") && diff -u crates/vectors/stdout "$work/vectors.out" && echo "tests: vectors as stored"
 }
 
-# run_tests: on processors that the proofs leave free.
+# run_tests: runs the tests on processors that the proofs leave free.
 run_tests() {
   local name
   renice -n 19 "$BASHPID" > /dev/null

@@ -1,6 +1,6 @@
 #!/usr/bin/env bash
 # Compares the words of each completion file, and of the manual page, with those that the built program's help names.
-# Status 1 where they differ. The syntax of the files for zsh and fish is checked where these shells are there.
+# Status 1 if they differ. The syntax of the files for zsh and fish is checked if these shells are installed.
 set -uo pipefail
 cd "$(dirname "$0")/.." || exit 1
 
@@ -8,7 +8,7 @@ program=bin/polytwkb
 failed=0
 [ -x "$program" ] || { echo "completions: $program is not there" >&2; exit 1; }
 
-# compare NAME WANTED FOUND: two lists of words, in any order.
+# compare NAME EXPECTED FOUND: compares two lists of words, in any order.
 compare() {
   local difference
   if difference=$(diff <(tr -s ' ' '\n' <<< "$2" | sort) <(tr -s ' ' '\n' <<< "$3" | sort)); then
@@ -19,7 +19,7 @@ compare() {
   fi
 }
 
-# ---- what help names; WORD.. is the command, or nothing
+# ---- the words that help names; WORD.. is the command, or nothing
 
 commands_of_help() { "$program" --help | sed -n '/^Commands:/,/^$/s/^  \([a-z]*\) .*/\1/p'; }
 options_of_help() { "$program" "$@" --help | sed -n 's/^ \{2,6\}\(-.*\)/\1/p' | sed 's/  .*//' | tr -s ', ' '\n' | grep '^-'; }
@@ -33,10 +33,10 @@ values_of_help() { # COMMAND OPTION
   esac
 }
 
-# ---- what bash is offered, by its completion itself
+# ---- the words that bash offers, by its completion
 
 source completions/polytwkb.bash
-offered_by_bash() { # WORD..: what may follow these words
+offered_by_bash() { # WORD..: the words that may follow these
   COMP_WORDS=(polytwkb "$@" "")
   COMP_CWORD=$((${#COMP_WORDS[@]} - 1))
   _polytwkb polytwkb "" "${COMP_WORDS[COMP_CWORD - 1]}"
@@ -46,7 +46,7 @@ commands_of_bash() { offered_by_bash | grep -v '^-'; }
 options_of_bash() { offered_by_bash "$@" | grep '^-'; }
 values_of_bash() { offered_by_bash "$@"; }
 
-# ---- what the file for zsh names
+# ---- the words that the file for zsh names
 
 zsh_part() { # [COMMAND]: the arguments of the command, or of the program
   if [ $# -eq 0 ]; then
@@ -67,7 +67,7 @@ values_of_zsh() { # COMMAND OPTION
   fi
 }
 
-# ---- what the file for fish names
+# ---- the words that the file for fish names
 
 fish_part() { # [COMMAND]
   if [ $# -eq 0 ]; then

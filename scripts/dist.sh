@@ -1,10 +1,11 @@
 #!/usr/bin/env bash
-# Puts what `make install` installs into an archive and a package for Debian, and the package for Python into a wheel, with their sums, for
-# those who have no kit:
+# Packs the files of `make install` into an archive and a package for Debian, and the package for Python into a
+# wheel, with their sums, for users without the kit:
 #
 #   scripts/dist.sh FOLDER
 #
-# The same build gives the same bytes: names are sorted, and each time is noon of the day of the version in CHANGELOG.md.
+# The same build gives the same bytes: names are sorted, and each time is noon of the day of the version in
+# CHANGELOG.md.
 set -euo pipefail
 folder=$(realpath -m "$1")
 cd "$(dirname "$0")/.."
@@ -16,7 +17,7 @@ day=$(sed -n "s/^## .*$version (\(.*\))$/\1/p" CHANGELOG.md | head -n 1)
 [ -n "$day" ] || { echo "CHANGELOG.md has no version $version" >&2; exit 1; }
 SOURCE_DATE_EPOCH=${SOURCE_DATE_EPOCH:-$(date -u -d "$day 12:00" +%s)}
 export SOURCE_DATE_EPOCH
-# the newest version of the C library of which the program or the shared library names a symbol
+# the newest version of the C library whose symbols the program or the shared library uses
 libc=$(grep -aoh 'GLIBC_[0-9.]*' bin/polytwkb out/libpolytwkb.so | sort -Vu | tail -n 1 | cut -d _ -f 2)
 name=polytwkb-$version-x86_64-linux
 work=$(mktemp -d)
@@ -40,7 +41,7 @@ changelog() {
   printf ' -- %s  %s\n' "$(sed -n 's/^Maintainer: //p' packaging/control.in)" "$(date -u -R -d "@$SOURCE_DATE_EPOCH")"
 }
 
-# what the linker needs to know of the shared library, if its name has a version
+# the line that the linker needs for the shared library, if its name has a version
 shlibs() {
   local soname
   soname=$(objdump -p out/libpolytwkb.so | sed -n 's/^ *SONAME *//p')

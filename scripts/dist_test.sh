@@ -1,9 +1,10 @@
 #!/usr/bin/env bash
-# Installs what is in dist/ into empty roots, and packs, shows and unpacks there by program and by library; one line for each check, status 1
-# if one failed. As root it also has apt-get install the package on this machine and remove it, if no polytwkb is there; not so with SYSTEM=no.
+# Installs the files of dist/ into empty roots, and packs, shows and unpacks there by program and by library: one
+# line for each check, status 1 if one failed. As root it also has apt-get install and remove the package on this
+# machine, unless a polytwkb is installed or SYSTEM=no.
 set -uo pipefail
 cd "$(dirname "$0")/.." || exit 1
-# dpkg and chroot need programs that Debian keeps off the path of other users
+# dpkg and chroot need programs that are not on the path of other users in Debian
 PATH=$PATH:/usr/local/sbin:/usr/sbin:/sbin
 umask 022
 export LC_ALL=C DEBIAN_FRONTEND=noninteractive
@@ -14,7 +15,7 @@ installed=
 trap '[ -z "$installed" ] || dpkg --purge polytwkb > /dev/null 2>&1; rm -rf "$work"' EXIT
 failed=0
 
-# report NAME COMMAND..: the line of a check, with what the command said if it fails.
+# report NAME COMMAND..: prints the line of a check, with the command's output if it fails.
 report() {
   local name=$1
   shift
@@ -47,7 +48,7 @@ empty_root() {
   libraries_of bin/polytwkb | while read -r file; do install -D "$(realpath "$file")" "$1$file"; done
 }
 
-# ---- what is done with what is installed
+# ---- uses of the installed files
 
 cat > "$work/stops.csv" << 'END'
 depth,kind,id,precision,polyline
@@ -59,7 +60,7 @@ END
 printf '\004\007\013\004\002\002\006\002\016\020\004\002\002\006' > "$work/stops.twkb"
 echo "0 0 multipoint 0 07 14 2" > "$work/stops.txt"
 
-# converts COMMAND..: the three commands on the example, and a larger one there and back.
+# converts COMMAND..: runs the three commands on the example, and a round trip on a larger one.
 converts() {
   # shellcheck disable=SC2094 # read twice
   "$@" pack < "$work/stops.csv" | cmp - "$work/stops.twkb" &&
@@ -69,7 +70,7 @@ converts() {
     [[ $("$@" --version) == polytwkb\ * ]]
 }
 
-# flags ROOT PREFIX LIBDIR: what the compiler is told, by pkg-config if it is there.
+# flags ROOT PREFIX LIBDIR: the flags for the compiler, from pkg-config if it is installed.
 flags() {
   local of_root=()
   if is_there pkg-config; then
@@ -82,7 +83,8 @@ flags() {
   fi
 }
 
-# calls ROOT PREFIX LIBDIR: the example in C over the shared library and the static one, in the root; that in Python over the shared one.
+# calls ROOT PREFIX LIBDIR: runs the example in C over the shared and the static library, in the root, and that in
+# Python over the shared one.
 calls() {
   local words
   read -ra words <<< "$(flags "$@")"
@@ -110,7 +112,7 @@ report "made again, the same bytes" made_again
 is_there pkg-config || skip "pkg-config is not there"
 
 unpacked() { empty_root "$1" && mkdir -p "$1/usr/local" && tar -xzf "$archive" -C "$1/usr/local" --strip-components=1; }
-# what its README shows
+# the commands that its README shows
 as_shown() {
   local folder command
   mkdir "$work/shown" && tar -xzf "$archive" -C "$work/shown" && folder=$(echo "$work"/shown/*) && command=$(grep '^  printf' "$folder/README") &&
@@ -137,7 +139,7 @@ else
   skip "lintian is not there"
 fi
 
-# A fresh environment, and the package used there outside the repository.
+# Installs the package into a fresh environment, and uses it there outside the repository.
 by_pip() { python3 -m venv "$1" && "$1/bin/pip" install -q --disable-pip-version-check --no-index dist/polytwkb-*.whl; }
 in_python() {
   (cd "$1" && env -u PYTHONPATH -u POLYTWKB_LIBRARY bin/python - "$work/stops.csv" "$work/stops.twkb") << 'END'

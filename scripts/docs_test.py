@@ -1,23 +1,25 @@
 #!/usr/bin/env python3
-"""Runs the commands that documents show, and compares what they print with what the documents say; and compares the callers that the
-READMEs of crates show with the files of the crate `examples`, which the gate proves. Then come the words, links and marks of pages
-(scripts/pages.py) and the tables of promises (scripts/promises.py).
+"""Runs the commands that documents show, and compares their output with the output shown. Compares the callers
+in the READMEs of crates with the files of the crate `examples`, which the gate proves. Then checks the words,
+links and marks of pages (scripts/pages.py) and the tables of promises (scripts/promises.py).
 
     scripts/docs_test.py [FILE ..]
     scripts/docs_test.py --pages      all but the commands, for which a program is needed
 
-A block fenced with ```sh is one command, and the block fenced with ```text after it is all that it prints, to standard output and
-standard error; if the next block is another one, it prints nothing. In a block fenced with ```console a line that begins with '$ '
-is a command, and lines after it that begin with '> ' go on with it. What follows, up to the next command or the end of the block,
-is all that it prints. Blank lines at its end do not count. A command whose first line is '# needs TOOL' is skipped if that is missing.
+A block fenced with ```sh is one command, and the block fenced with ```text after it is its complete output, to
+standard output and standard error; if another kind of block comes next, the command prints nothing. In a block
+fenced with ```console a line that begins with '$ ' is a command, and lines after it that begin with '> '
+continue it. The lines up to the next command or the end of the block are its complete output. Blank lines at
+the end do not count. A command whose first line is '# needs TOOL' is skipped if the tool is missing.
 
 The commands of a file run in order in one session of bash, in a fresh folder, with bin/ of this repository
-on the path, $REPO the repository, and no input. A command that the program refuses ends nothing. One that
-prints a line 'skipped: needs X' and nothing else is not compared: recipes say so where a tool is missing.
+on the path, $REPO set to the repository, and no input. A command that fails does not end the session. One that
+prints only a line 'skipped: needs X' is not compared: recipes print that if a tool is missing.
 
-A line of a crate's README that ends with a link to a file of crates/examples/src, and a colon, stands above a block fenced with ```rust,
-which has to be that file, word for word. Each file there, but for lib.rt and tests.rt, is to be shown by a README.
-Exit status: 0 where all is as the documents say, 1 where something is not, 2 where there is no program.
+If a line of a crate's README ends with a link to a file of crates/examples/src and a colon, a block fenced with
+```rust follows, which must be that file, word for word. Each file there, except lib.rt and tests.rt, must be
+shown by a README.
+Exit status: 0 if everything is as the documents say, 1 if not, 2 if there is no program.
 """
 import difflib
 import glob
@@ -40,14 +42,14 @@ SECONDS = 300
 
 
 class Command:
-    """A command, where it stands, and what it is said to print."""
+    """A command, its place, and the output that the document shows."""
 
     def __init__(self, block, line, text):
         self.block, self.line, self.text, self.output = block, line, text, []
 
 
 def blocks_of(path):
-    """The fenced blocks of a document: what stands beside the fence, the number of the first line, and the lines."""
+    """The fenced blocks of a document: the word after the fence, the number of the first line, and the lines."""
     blocks, inside = [], False
     with open(path, encoding="utf-8") as file:
         for number, line in enumerate(file, 1):
@@ -92,13 +94,13 @@ def commands_of(path):
 
 
 def runnable(text):
-    """The text of a command; if its first line names a tool that is missing, a command that says so."""
+    """The text of a command, or of a command that reports a missing tool, if the first line names one."""
     needed = re.match(r"# needs (\S+)\n", text)
     return text if not needed or shutil.which(needed.group(1)) else f"echo skipped: needs {needed.group(1)}"
 
 
 def script_of(commands):
-    """All commands for bash, a mark after each. The status of a command stays for the next one to see."""
+    """All commands for bash, with a mark after each. The next command can see the status of the one before."""
     lines = ["exec 2>&1"]
     for command in commands:
         lines += [runnable(command.text), "__status=$?", f"printf '\\n%s\\n' '{MARK}'", "(exit $__status)"]
@@ -106,7 +108,7 @@ def script_of(commands):
 
 
 def printed_by(commands):
-    """What each command printed, as lines; fewer lists where the session ended early."""
+    """The output of each command, as lines; there are fewer lists if the session ended early."""
     with tempfile.TemporaryDirectory(prefix="docs_test.") as folder:
         script = os.path.join(folder, "session.sh")
         work = os.path.join(folder, "work")
@@ -122,14 +124,14 @@ def printed_by(commands):
 
 
 def trimmed(lines):
-    """The lines without blank ones at the end."""
+    """The lines without trailing blank ones."""
     while lines and not lines[-1].strip():
         lines = lines[:-1]
     return lines
 
 
 def differences(path, commands):
-    """How many commands of a document print something else, each told on standard output, and how many were skipped."""
+    """How many commands of a document print something else, each reported, and how many were skipped."""
     outputs, rest = printed_by(commands)
     wrong, skipped = 0, 0
     for command, output in zip(commands, outputs):
@@ -164,7 +166,7 @@ def callers_of(path):
 
 
 def caller_differences():
-    """How many callers differ from their files or are shown nowhere, each told on standard output."""
+    """How many callers differ from their files or are not shown, each reported on standard output."""
     wrong, shown = 0, set()
     for path in sorted(glob.glob(os.path.join(REPO, "crates", "*", "README.md"))):
         for number, name, block in callers_of(path):
@@ -184,7 +186,7 @@ def caller_differences():
 
 
 def page_faults():
-    """How much is wrong with pages that shows without a program, each told on standard output."""
+    """How many faults pages have that can be found without a program, each reported on standard output."""
     return caller_differences() + pages.main([]) + promises.main([])
 
 

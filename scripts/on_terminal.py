@@ -1,9 +1,9 @@
 #!/usr/bin/env python3
-"""Runs a program with a terminal as its input, sends it the text of a file, one end of input and a word behind it.
+"""Runs a program with a terminal as its input, sends it the text of a file, one end of input and a word after that.
 
     scripts/on_terminal.py TEXT PROGRAM WORD...
 
-Passes the program's output on. Fails where the program does not end, ends with another status than 0, or takes the word.
+Passes the program's output on. Fails if the program does not end, ends with a status other than 0, or takes the word.
 """
 import os
 import select
@@ -25,7 +25,7 @@ def silent_terminal():
 
 
 def what_is_left(terminal):
-    """What the next reader of the terminal would be given."""
+    """The bytes that the next reader of the terminal would get."""
     ready, _, _ = select.select([terminal], [], [], 10)
     return os.read(terminal, 100) if ready else b""
 

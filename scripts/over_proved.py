@@ -1,10 +1,12 @@
 #!/usr/bin/env python3
-"""`rt lib` or `rt run` of the crate in this folder, over the libraries that `rt ci` left in the folders of the crates below.
+"""Runs `rt lib` or `rt run` of the crate in this folder, over the libraries that `rt ci` left in the folders of
+the crates below.
 
     scripts/over_proved.py lib|run
 
-`rt ci` leaves no stamp with its libraries, so `rt` would prove each of them again. Here they are taken as built, which is right in a copy over
-which `rt ci` has just passed and nowhere else. The crate itself is proved. A kit with other scripts proves all, as `rt` does.
+`rt ci` leaves no stamps with its libraries, so `rt` would prove each of them again. Here they are taken as
+built, which is right only in a copy over which `rt ci` has just passed. The crate itself is proved. A kit with
+other scripts proves everything, as `rt` does.
 """
 import importlib.util
 import os

@@ -1,15 +1,16 @@
 #!/usr/bin/env python3
-"""Checks of the pages that need no program: their words, where their links lead, and marks that a merge left.
+"""Checks of pages that need no program: their numbers of words, the targets of their links, and marks that a
+merge left.
 
-    scripts/pages.py            says what is wrong; status 1 if anything is
-    scripts/pages.py --counts   the words of each page beside its limit
+    scripts/pages.py            reports faults; status 1 if there are any
+    scripts/pages.py --counts   the number of words of each page, and its limit
 
-A word is what is between blanks and has a letter or a digit in it, in text, tables, code and pictures alike.
-Not counted are what a script puts between marks (`<!-- NAME: begin -->` and `<!-- NAME: end -->`), other comments,
-and a proved caller in a crate's README, which is a file of crates/examples word for word. A page without a limit
-is not counted.
+A word is anything between blanks with a letter or a digit in it, in text, tables, code and pictures alike. Not
+counted are texts that a script puts between marks (`<!-- NAME: begin -->` and `<!-- NAME: end -->`), other
+comments, and a proved caller in a crate's README, which is a file of crates/examples word for word. A page
+without a limit is not counted.
 
-A link is looked at if it leads to a file of this repository: the file is there, and so is the heading after '#'.
+A link to a file of this repository is checked: the file must exist, and so must the heading after '#'.
 """
 import glob
 import os
@@ -29,7 +30,7 @@ LIMITS = {
     "CHANGELOG.md": 300,
     "CONTRIBUTING.md": 1500,
 }
-# What programs and people outside call; the READMEs of all other crates are those of inner rooms.
+# The crates that programs and people outside call; all other crates are internal.
 DOORS = [
     "polytwkb", "twkb_blob", "twkb_buffer", "twkb_c", "twkb_convert", "twkb_geom", "twkb_io", "twkb_num",
     "twkb_points", "twkb_polyline", "twkb_table",
@@ -58,14 +59,14 @@ def pages():
 
 
 def limit_of(page):
-    """How many words a page may have, and None where that is not said."""
+    """How many words a page may have; None if it has no limit."""
     if page.startswith("crates/"):
         return DOOR if page.split("/")[1] in DOORS else ROOM
     return 0 if page.startswith("docs/") and page not in LIMITS else LIMITS.get(page)
 
 
 def words_of(page):
-    """How many words a page has."""
+    """The number of words of a page."""
     text = COMMENT.sub(" ", GENERATED.sub(" ", CALLER.sub(r"\1", text_of(page))))
     return sum(1 for word in text.split() if re.search(r"\w", word))
 
@@ -79,14 +80,14 @@ def long_pages():
 
 
 def anchors_of(page):
-    """What may come after '#' in a link to a page."""
+    """The words that may come after '#' in a link to a page."""
     lines = HEADING.findall(FENCED.sub("", text_of(page)))
     headings = [re.sub(r"\[([^\]]*)\]\([^)]*\)", r"\1", line) for line in lines]
     return {re.sub(r"[^\w\- ]", "", heading).strip().lower().replace(" ", "-") for heading in headings}
 
 
 def lost_links():
-    """The links of pages that lead nowhere."""
+    """The links of pages whose targets do not exist."""
     for page in pages():
         for target in LINK.findall(re.sub(r"`[^`\n]*`", "", FENCED.sub("", text_of(page)))):
             path, _, anchor = target.partition("#")

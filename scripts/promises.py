@@ -1,8 +1,8 @@
 #!/usr/bin/env python3
 """Makes the tables of promises in docs/PROOFS.md from the READMEs of the crates and their folders must-fail/.
 
-    scripts/promises.py            says what is wrong or stale; status 1 if anything is
-    scripts/promises.py --docs     puts the tables into docs/PROOFS.md, between their marks
+    scripts/promises.py            reports what is wrong or stale; status 1 if anything is
+    scripts/promises.py --docs     writes the tables into docs/PROOFS.md, between their marks
 
 A table of promises in a README has the heads Promise, Clause and Edits; a crate without edits has no third column.
 
@@ -33,7 +33,7 @@ def crates():
 
 
 def names_in(crate, folder, ending, pattern):
-    """What a pattern finds in the files of a folder of a crate."""
+    """The names that a pattern finds in the files of a folder of a crate."""
     found = set()
     for path in glob.glob(os.path.join(REPO, "crates", crate, folder, "**", "*" + ending), recursive=True):
         with open(path, encoding="utf-8") as file:
@@ -68,12 +68,12 @@ def rows_of(crate):
 
 
 def backticked(cell):
-    """The names in backticks in a cell, each without what comes before its last `::`."""
+    """The names in backticks in a cell, each without its path up to the last `::`."""
     return [name.split("::")[-1] for name in re.findall(r"`([^`]+)`", cell)]
 
 
 def faults_of(crate, rows, defined):
-    """What is wrong with the rows of a crate, a line each."""
+    """The faults in the rows of a crate, one a line."""
     here = f"crates/{crate}/README.md"
     written = names_in(crate, "src", ".rt", IN_SOURCES)
     shown, edits = set(), edits_of(crate)

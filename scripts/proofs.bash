@@ -1,9 +1,10 @@
-# Proofs by `rt ci` over a copy of the crates without wrong bodies: side by side, and what one round or the gate has proved on this machine
-# the other takes, with a kit that keeps it. Sourced by scripts that stand in a folder of their own, which `cleared` removes at their end.
+# Proofs by `rt ci` over a copy of the crates without wrong bodies, side by side. With a kit that keeps proofs, a
+# round takes what another round or the gate has proved on this machine. Sourced by scripts that work in their own
+# folder, which `cleared` removes at their end.
 
 repository=$(cd "$(dirname "${BASH_SOURCE[0]}")/.." && pwd)
 
-# with_below CRATE..: the lines of crates.txt of these crates and of all that they use.
+# with_below CRATE..: prints the lines of crates.txt of these crates and of all crates that they use.
 with_below() {
   awk -v wanted="$*" '
     BEGIN { count = split(wanted, names, " "); for (place = 1; place <= count; place++) needed[names[place]] = 1 }
@@ -19,10 +20,10 @@ with_below() {
     }' "$repository/crates.txt"
 }
 
-# names_of FILE: the names of such lines.
+# names_of FILE: prints the names of crates in such lines.
 names_of() { sed 's/[ :].*//' "$@"; }
 
-# copy_crates COPY CRATE..: these crates and those below them, as the top of a repository.
+# copy_crates COPY CRATE..: copies these crates and those below them, as the top of a repository.
 copy_crates() {
   local copy=$1 names
   shift
@@ -32,15 +33,16 @@ copy_crates() {
   tar -c -C "$repository" --exclude=out --exclude=must-fail HANDLES "${names[@]}" | tar -x -C "$copy"
 }
 
-# keeps_proofs: whether the kit keeps what a run of `rt ci` has passed, for runs over other copies too: beside itself, in a folder of this user's.
-# One that does can be given names.
+# keeps_proofs: whether the kit keeps what a run of `rt ci` has passed, for runs over other copies too, in a
+# folder of this user next to the kit. Such a kit accepts names of crates.
 keeps_proofs() {
   local beside
   beside=$(dirname "$(dirname "$(rt doc)")")
   [[ $(rt help 2>&1) == *"rt ci NAME"* ]] && { [ -O "$beside/rattle-kept" ] || [ -w "$beside" ]; }
 }
 
-# shown COUNT: passes the lines of `rt ci` on to a log, and says after which time how many of so many crates are proved.
+# shown COUNT: passes the lines of `rt ci` on to a log, and reports how many of COUNT crates are proved after
+# which time.
 shown() {
   local line proved=0
   while IFS= read -r line; do
@@ -52,12 +54,14 @@ shown() {
   done
 }
 
-# prove COPY: `rt ci` over the copy, which leaves the libraries and programs in its crates/*/out. If it fails, all that it said is shown.
+# prove COPY: runs `rt ci` over the copy, which leaves the libraries and programs in its crates/*/out. If it
+# fails, all its output is shown.
 prove() {
   local copy=$1 engine=
   if [ -d "$copy/crates/twkb_engine" ] && keeps_proofs; then
-    # Nearly all crates wait for the engine, and it for a chain of others. A run of its own, which comes first, gives each of these more
-    # processors than they have beside all crates; what it has proved the other run takes.
+    # Nearly all crates wait for the engine, and it waits for a chain of others. A separate run comes first and
+    # gives each of these more processors than they would have among all crates; the other run takes what it has
+    # proved.
     copy_crates "$copy-engine" twkb_engine
     (cd "$copy-engine" && exec rt ci) > "$copy-engine.log" 2>&1 &
     engine=$!
@@ -70,8 +74,9 @@ prove() {
   [ -z "$engine" ] || wait "$engine" || { cat "$copy-engine.log"; return 1; }
 }
 
-# libraries COPY CRATE..: copies these crates and those below them, proved. In PROVED a caller names a checkout in which `rt ci` has just passed
-# over these sources, and which held no work of another run before: what it left there is taken, and nothing is proved again.
+# libraries COPY CRATE..: copies these crates and those below them, proved. PROVED names a checkout in which `rt
+# ci` has just passed over these sources, and which held no work of another run before: the libraries there are
+# taken, and nothing is proved again.
 libraries() {
   copy_crates "$@"
   { [ -n "${PROVED:-}" ] && take "$1"; } || prove "$1"
@@ -88,12 +93,13 @@ take() {
   done
 }
 
-# over COPY CRATE VERB: `rt lib` or `rt run` of one crate more over these libraries. If it fails, all that it said is shown.
+# over COPY CRATE VERB: runs `rt lib` or `rt run` of one more crate over these libraries. If it fails, all its
+# output is shown.
 over() {
   (cd "$1/crates/$2" && "$repository/scripts/over_proved.py" "$3") > "$1.log" 2>&1 || { local status=$?; [ "$3" = run ] || cat "$1.log"; return $status; }
 }
 
-# cleared FOLDER: ends what the script still runs, and removes its folder.
+# cleared FOLDER: ends the processes that the script still runs, and removes its folder.
 cleared() {
   mapfile -t running < <(jobs -pr)
   [ ${#running[@]} -eq 0 ] || kill "${running[@]}" 2> /dev/null || true

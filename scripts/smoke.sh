@@ -1,6 +1,6 @@
 #!/usr/bin/env bash
-# The built program with real files and pipes: one line for each check; status 1 where one failed.
-# MEGABYTES is the size of the large table, 200 if it is not set. The checks on a terminal need python3, and are left out without it.
+# The built program with real files and pipes: one line for each check; status 1 where one failed. MEGABYTES is
+# the size of the large table, 200 by default. The checks on a terminal need python3, and are skipped without it.
 set -uo pipefail
 cd "$(dirname "$0")/.." || exit 1
 
@@ -17,7 +17,7 @@ passed=0
 failed=0
 skipped=0
 
-# report NAME [FAULT]: the line of a check, which passed where no fault is told.
+# report NAME [FAULT]: prints the line of a check, which passed if no fault is given.
 report() {
   if [ -z "${2:-}" ]; then
     passed=$((passed + 1))
@@ -28,7 +28,7 @@ report() {
   fi
 }
 
-# ends STATUS LINE NAME COMMAND..: the command's status, and that standard error is this line and nothing else.
+# ends STATUS LINE NAME COMMAND..: checks the command's status, and that standard error is this line and nothing else.
 ends() {
   local status=$1 line=$2 name=$3 answer
   shift 3
@@ -43,7 +43,7 @@ ends() {
   fi
 }
 
-# same FILE NAME COMMAND..: the command succeeds and writes these bytes.
+# same FILE NAME COMMAND..: checks that the command succeeds and writes these bytes.
 same() {
   local file=$1 name=$2
   shift 2
@@ -56,7 +56,7 @@ same() {
   fi
 }
 
-# refuses_words NAME WORD..: status 2, a text on standard error, and nothing on standard output.
+# refuses_words NAME WORD..: checks for status 2, a text on standard error, and nothing on standard output.
 refuses_words() {
   local name=$1 answer
   shift
@@ -73,7 +73,7 @@ refuses_words() {
   fi
 }
 
-# prints NAME WORD..: status 0, a text on standard output, and nothing on standard error.
+# prints NAME WORD..: checks for status 0, a text on standard output, and nothing on standard error.
 prints() {
   local name=$1 answer
   shift
@@ -86,13 +86,13 @@ prints() {
   fi
 }
 
-# repeated COUNT FILE: the file so many times.
+# repeated COUNT FILE: prints the file COUNT times.
 repeated() {
   local turn
   for ((turn = 0; turn < $1; turn++)); do cat "$2"; done
 }
 
-# ---- what the checks read
+# ---- inputs of the checks
 
 printf '%s\n0,point,,0,AC\n' "$header" > "$work/point.csv"
 printf '\001\002\002\004\002' > "$work/point.twkb"
@@ -128,11 +128,12 @@ same examples/collection.csv "so it is with --style plain" through examples/coll
 same "$work/point.twkb" "a blob is unpacked and packed" back "$work/point.twkb"
 same "$work/rows.csv" "1 MB of points is packed and unpacked" through "$work/rows.csv"
 
-# Every blob of other tools: what show, pack and unpack make of it is what was worked out without our code.
+# Checks for every blob of other tools that show, pack and unpack give the results that were worked out without
+# our code.
 slashed() { tr '\n' '/'; }
 hex() { od -An -v -tx1 | tr -d ' \n'; }
 from_hex() { perl -ne 'chomp; print pack "H*", $_'; }
-expect() { # LABEL BLOB: behind this label and two counts, the next line of what was worked out is standard input
+expect() { # LABEL BLOB: the next line worked out is this label, two counts and standard input
   local line got
   IFS= read -r line <&3
   got="$(cat)"
@@ -235,7 +236,7 @@ for command in pack unpack show; do prints "$command --help" "$command" --help; 
 version_line() { [ "$("$program" --version)" = "polytwkb $(sed -n 's/^pub const VERSION: &str = "\(.*\)";$/\1/p' crates/twkb_convert/src/version.rt)" ]; }
 ends 0 "" "--version is the version of the source" version_line
 
-# ---- a large table: the output is the parts' outputs, joined, and memory stays flat
+# ---- a large table: the output is that of its parts, joined, and memory stays flat
 
 turns=$(((megabytes * 1000000 + $(wc -c < "$work/rows") - 1) / $(wc -c < "$work/rows")))
 large_table() { echo "$header"; repeated "$turns" "$work/rows"; }
@@ -259,7 +260,7 @@ measured() {
   return $status
 }
 
-flat() { # NAME: the peak that was measured is small enough
+flat() { # NAME: checks that the measured peak is small enough
   local peak
   peak=$(cat "$work/peak")
   if [ "$peak" -gt 0 ] && [ "$peak" -lt "$peak_allowed" ]; then

@@ -1,19 +1,22 @@
 #!/usr/bin/env python3
-"""Counts what is to stay small in the sources of crates/.
+"""Counts what must stay small in the sources of crates/.
 
     scripts/statistics.py            the table of docs/DECISIONS.md, and public items and `use` lines
-    scripts/statistics.py --docs     puts it there, between its marks
+    scripts/statistics.py --docs     writes it there, between its marks
     scripts/statistics.py --list     each clause, definition, function, test and file that is too long, with its place
 
-- A clause is what stands behind `requires` or `ensures` in a source file, with that word, its label and its braces; where it has several
-  lines, these are joined by one space.
-- A definition is an item of specs/ with its parts, without the comment above it. In a `mutual` block each item counts for itself.
-- A public item is a function, method, type, trait or constant that is written `pub` in a source file, and not `pub(crate)`.
-- `use` lines are those of one file, `use`, `ghost use` and `pub use`; one that is broken over several lines is one.
-- A function is counted from its `fn` line to its closing brace, its clauses too. Its arguments are all in its parentheses, `self` too.
-- The body of a test is what stands between the braces of a function below `#[test]`.
+- A clause is the text after `requires` or `ensures` in a source file, with that word, its label and its braces;
+  several lines are joined by one space.
+- A definition is an item of specs/ with its parts, without the comment above it. In a `mutual` block each item
+  is counted separately.
+- A public item is a function, method, type, trait or constant that is written `pub` in a source file, and not
+  `pub(crate)`.
+- `use` lines are the `use`, `ghost use` and `pub use` of one file; one that is broken over several lines counts once.
+- A function is counted from its `fn` line to its closing brace, clauses included. Its arguments are all those
+  in its parentheses, `self` included.
+- The body of a test is the text between the braces of a function below `#[test]`.
 
-What a check leaves in out/ is not looked at.
+Files that a check leaves in out/ are ignored.
 """
 import os
 import re
@@ -34,7 +37,7 @@ NO_ITEM = ("use ", "pub mod", "open ", "infix", "mutual", "abbrev mutual", "modu
 
 
 class Found:
-    """Something counted: where it stands, what it is, and how long it is."""
+    """Something counted: its place, its name, and its length."""
 
     def __init__(self, path, line, name, length):
         self.path, self.line, self.name, self.length = path, line, name, length
@@ -47,7 +50,7 @@ def crates():
 
 
 def files_of(folder, ending):
-    """The paths of crates/*/FOLDER with an ending, as from the repository's root."""
+    """The paths of files in crates/*/FOLDER with an ending, from the repository's root."""
     found = []
     for crate in crates():
         for here, _, names in os.walk(os.path.join(REPO, "crates", crate, folder)):
@@ -65,7 +68,7 @@ def indent_of(line):
 
 
 def closing(lines, start):
-    """The place of the line on which the braces that open from this one on are closed."""
+    """The place of the line that closes the braces opened from this line on."""
     depth, opened = 0, False
     for place in range(start, len(lines)):
         text = re.sub(r'"(\\.|[^"\\])*"|\'(\\.|[^\'\\])\'|//.*', "", lines[place])
@@ -86,7 +89,7 @@ def clauses_of(path):
 
 
 def body_of(lines, start):
-    """The place of the line that opens a function's body, and None where it has no body."""
+    """The place of the line that opens a function's body; None if it has no body."""
     for place in range(start, len(lines)):
         line = lines[place].rstrip()
         if line == " " * indent_of(lines[start]) + "{" or (line.endswith(("{", "{}")) and not CLAUSE.match(line)):
@@ -111,7 +114,7 @@ def called(line):
 
 
 def arguments_of(path):
-    """The functions of a source file, also those without bodies, each with its number of arguments."""
+    """The functions of a source file, with and without bodies, each with its number of arguments."""
     lines = lines_of(path)
     for place, line in enumerate(lines):
         if FUNCTION.match(line):
@@ -120,7 +123,7 @@ def arguments_of(path):
 
 
 def in_parentheses(text):
-    """What stands between the commas of the first parentheses that are in no other brackets."""
+    """The parts between the commas of the first parentheses that are in no other brackets."""
     parts, depth, inside = [""], 0, False
     for sign in text:
         depth -= sign in ")>]}"
@@ -164,7 +167,7 @@ def definitions_of(path):
 
 
 def begins(lines, place):
-    """Whether a definition begins on a line: behind an empty line, a comment or the head of a block, and not as a part of a type."""
+    """Whether a definition begins on a line: after an empty line, a comment or a block head, and not inside a type."""
     before = lines[place - 1].strip() if place else ""
     if before and not before.startswith(("--", "module ")) and not before.endswith("mutual"):
         return False
@@ -181,7 +184,7 @@ def too_long(found, most):
 
 
 class Counts:
-    """What the sources have."""
+    """The numbers found in the sources."""
 
     def __init__(self):
         sources, specs, proofs = files_of("src", ".rt"), files_of("specs", ".antt"), files_of("proofs", ".antt")
@@ -197,7 +200,7 @@ class Counts:
 
 
     def limited(self):
-        """What may not be too long: its name in the table, what was found, how much is allowed, and of what."""
+        """The things with a limit: the name in the table, the things found, the limit, and its unit."""
         return [
             ("Clauses", self.clauses, CLAUSE_MOST, "characters"),
             ("Definitions of `specs/`", self.definitions, DEFINITION_MOST, "lines"),
@@ -209,7 +212,7 @@ class Counts:
 
 
 def row(what, found, most, unit):
-    """A row of the table: how many are too long, of how many, and the longest."""
+    """A row of the table: how many are too long, out of how many, and the longest."""
     longest = max(found, key=lambda one: one.length)
     name = f"`{longest.name}`, " if longest.name else ""
     return f"| {what} over {most} {unit} | {len(too_long(found, most))} of {len(found)} | {longest.length} ({name}{longest.path}:{longest.line}) |"
@@ -220,7 +223,7 @@ def table(counts):
 
 
 def others(counts):
-    """What is counted beside the table, for who looks."""
+    """The numbers that are not in the table."""
     uses = sorted(counts.uses, key=lambda one: (-one.length, one.path))[:WORST]
     return "\n".join([
         "Public items: " + ", ".join(f"`{crate}` {number}" for crate, number in counts.public.items() if number) + ".",

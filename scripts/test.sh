@@ -1,8 +1,10 @@
 #!/usr/bin/env bash
-# All tests: the gate (`rt ci`), and then on what it built the parts below, side by side. A line says what each part came to, and what of
-# it this machine lacks; if one failed, all that it said is shown. The last line counts all.
+# All tests: the gate (`rt ci`), and then the parts below on what it built, side by side. One line reports the
+# result of each part, and what it needs that this machine lacks; if a part failed, all its output is shown. The
+# last line has the counts of all.
 #
-# As root it installs the Debian packages that it lacks, meanwhile, and tries the package that `make dist` makes; not so with SYSTEM=no.
+# As root, and unless SYSTEM=no, it meanwhile installs the Debian packages that it lacks, and tests the package
+# that `make dist` makes.
 set -uo pipefail
 cd "$(dirname "$0")/.." || exit 1
 exec < /dev/null
@@ -11,7 +13,8 @@ parts="smoke completions fuzz library machines documents dist hostile"
 work=$(mktemp -d)
 trap 'rm -rf "$work"' EXIT
 
-# What the parts take, and the package that brings each; but no sshd, which would let others in.
+# The tools that the parts need, and the package that brings each. There is no sshd among them, which would let
+# others in.
 lacking() {
   local tool package
   while read -r tool package; do
@@ -38,7 +41,7 @@ go golang-go
 END
 }
 
-# Each alone, so that one which a mirror lacks keeps out no other.
+# Each package by itself, so that one that a mirror lacks does not stop the others.
 install_lacking() {
   local package packages apt=(apt-get -y -q -o DPkg::Lock::Timeout=300 -o Acquire::http::Timeout=20)
   packages=$(lacking)
@@ -48,7 +51,7 @@ install_lacking() {
   for package in $packages; do timeout 120 "${apt[@]}" install --no-install-recommends "$package"; done
 }
 
-# gate: `rt ci`, whose counts it leaves; what it built goes where `make` looks for it.
+# gate: runs `rt ci`, and leaves its counts; what it built goes where `make` looks for it.
 gate() {
   local status own counts
   own=$(compgen -G 'crates/*/out/rlib')
@@ -60,11 +63,11 @@ gate() {
   echo "$counts" > "$work/gate.counts"
   [[ $counts == *" 0 failed" ]] || return 1
   install -D crates/polytwkb/out/polytwkb bin/polytwkb || { echo "${counts% 0 failed} 1 failed" > "$work/gate.counts"; return 1; }
-  # Libraries of other runs were there, and are there again: those of the gate are gone.
+  # Libraries of other runs were there, and are back: those of the gate are gone.
   [ -n "$own" ] || export PROVED=$PWD
 }
 
-# lacks WHAT TOOL..: says that this is skipped, if one of the tools is not there.
+# lacks WHAT TOOL..: reports that this is skipped, if one of the tools is missing.
 lacks() {
   local what=$1 tool
   shift
@@ -105,7 +108,8 @@ library() {
   lacks "memory of the library" valgrind || return 0
 }
 
-# part NAME: runs it, counts the checks that it names by a line each, or it as one, and tells what it came to.
+# part NAME: runs a part, counts the checks that it reports, one a line, or the part as one check, and reports the
+# result.
 part() {
   local name=$1 log=$work/$1.log status passed failed skipped began=$SECONDS
   "$name" > "$log" 2>&1
@@ -124,7 +128,7 @@ part() {
   echo "$passed passed, $failed failed" > "$work/$name.counts"
 }
 
-# lane NAME..: parts that run one after the other.
+# lane NAME..: runs parts one after the other.
 lane() {
   local name
   for name in "$@"; do part "$name"; done

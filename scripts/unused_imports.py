@@ -1,14 +1,15 @@
 #!/usr/bin/env python3
-"""Lists each name that a file of crates/ imports and does not name.
+"""Lists each name that a file of crates/ imports and does not use.
 
     scripts/unused_imports.py
 
-A `ghost use` serves clauses alone, so its names are looked for in what stands in braces behind `requires`, `ensures`, `ghost` and `by`: in
-the file, or in the block that the line stands in. The names of other lines are looked for in all of the file. An operator is named where
-each of its words is. In clauses, specs/ and proofs/ what stands behind a dot is a part of something, and names nothing of the file's; what
-is named only as a parameter or another binder counts as named. A trait of a `use` is let pass, as its methods may be called; `pub use`
-passes names on, and is not looked at. What a check leaves in out/ is not looked at either.
-Exit status: 0 where nothing is found, else 1.
+A `ghost use` serves only clauses, so its names are searched in the braces after `requires`, `ensures`, `ghost`
+and `by`: in the file, or in the block that has the line. The names of other lines are searched in the whole
+file. An operator is used if each of its words is. In clauses, specs/ and proofs/ a word after a dot is a part
+of something, and is no use of a name; a name that is only a parameter or another binder counts as used. A trait
+in a `use` is accepted, as its methods may be called; `pub use` passes names on, and is ignored, as are files
+that a check leaves in out/.
+Exit status: 0 if nothing is found, else 1.
 """
 import glob
 import os
@@ -26,7 +27,7 @@ WORD = re.compile(r"(?<![^\s(){}\[\],;])[^\s(){}\[\],;.]+")
 
 
 def clauses(code):
-    """What stands in the braces of clauses and ghost items."""
+    """The texts in the braces of clauses and ghost items."""
     code = STRING.sub("", code)
     for found in CLAUSE.finditer(code):
         end, depth = found.end(), 1
@@ -37,7 +38,7 @@ def clauses(code):
 
 
 def words(code, kind):
-    """What could name a name of a line of this kind: a `use` of Rust, a `ghost use`, or a `use` of antt."""
+    """The words that could use a name of a line of this kind: a `use` of Rust, a `ghost use`, or a `use` of antt."""
     if kind == "use":
         return set(re.findall(r"\w+", code))
     text = code if kind == "antt" else " ".join(clauses(code))
@@ -45,14 +46,14 @@ def words(code, kind):
 
 
 def imported(path, names):
-    """The names that a line brings in, each as the file has it."""
+    """The names that a line imports, each as the file spells it."""
     for name in [path] if names is None else filter(None, map(str.strip, names.split(","))):
         name = path.rstrip(":") if name == "self" else name.split(" as ")[-1]
         yield name if "◌" in name else re.split(r"::|\.", name)[-1]
 
 
 def unused(text, ending, traits):
-    """The names that a file imports and does not name."""
+    """The names that a file imports and does not use."""
     code = COMMENT[ending].sub(lambda found: found.group(1) or " ", text)
     known = {}
     for line in USE.finditer(code):

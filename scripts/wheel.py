@@ -1,9 +1,10 @@
 #!/usr/bin/env python3
-"""Puts the package python/polytwkb and the shared library into a wheel, without any tool but this Python:
+"""Packs the package python/polytwkb and the shared library into a wheel, with no tool but this Python:
 
     scripts/wheel.py FOLDER
 
-The same build gives the same bytes: names are sorted, and each time is noon of the day of the version in CHANGELOG.md.
+The same build gives the same bytes: names are sorted, and each time is noon of the day of the version in
+CHANGELOG.md.
 """
 import base64
 import hashlib
@@ -28,7 +29,7 @@ def bytes_of(path):
 
 
 def version():
-    """The version of the library, which has to be that of the package."""
+    """The version of the library, which must be that of the package."""
     found = re.search(r'^pub const VERSION: &str = "(.*)";', text_of("crates", "twkb_convert", "src", "version.rt"), re.M).group(1)
     named = re.search(r'^VERSION = "(.*)"', text_of("python", "polytwkb", "_library.py"), re.M).group(1)
     if named != found:
@@ -43,7 +44,7 @@ def day_of(number):
 
 
 def tag_of(library):
-    """What the wheel runs on: the C library of 2.17, which every pip knows, or the newest of which the shared library names a symbol."""
+    """The platform of the wheel: the C library of 2.17, which every pip knows, or the newest that the library needs."""
     versions = [tuple(map(int, found.split(b"."))) for found in re.findall(rb"GLIBC_(\d+\.\d+)", library)]
     major, minor = max(versions + [(2, 17)])
     older = ".manylinux2014_x86_64" if (major, minor) == (2, 17) else ""
@@ -51,7 +52,7 @@ def tag_of(library):
 
 
 def tags_of(tag):
-    """A line for each platform of a tag."""
+    """One line for each platform of a tag."""
     language, interface, platforms = tag.split("-")
     return "".join(f"Tag: {language}-{interface}-{platform}\n" for platform in platforms.split("."))
 

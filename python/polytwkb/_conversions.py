@@ -12,7 +12,7 @@ class Limits(NamedTuple):
     """The most that one geometry may have, its members included."""
 
     nest: int = 16
-    """Collections that a geometry may stand in, 0 to 32."""
+    """Collections that a geometry may be in, 0 to 32."""
     nodes: int = 1 << 20
     """Rows, 1 to 2^20."""
     points: int = 1 << 24
@@ -23,7 +23,7 @@ class Header(NamedTuple):
     """A TWKB header in a stream, as `polytwkb show` lists it."""
 
     level: int
-    """How many geometries it stands in: 0 for a blob."""
+    """How many collections it is in: 0 for a blob."""
     offset: int
     """Where it begins, in bytes from the start of the stream."""
     kind: str

@@ -14,15 +14,15 @@ use Rattle.examples.specs.Counting.{HasGeometries, TookPiece}
 
 -- ---- one piece
 
--- a session stands behind some bytes
+-- a session is in a state after some bytes
 abbrev pub Stood : Session → Type 0
 Stood session = (bytes : List ℕ) × (gs : List Tree) × Stands bytes gs session
 
--- what a session that stood somewhere took of a piece
+-- the effect of taking a piece on a session in some state
 abbrev pub Takes : Session → List ℕ → ℕ → Session → Type 0
 Takes start piece count session = (bytes : List ℕ) (gs : List Tree) → Stands bytes gs start → TookPiece bytes gs piece count session
 
--- what one feed answers
+-- the effect of one feed
 abbrev pub Feeds : Session → List ℕ → ℕ → Bool → Session → Type 0
 Feeds old rest used whole new = (bytes : List ℕ) (gs : List Tree) → Stands bytes gs old → FedFlat bytes gs rest (Ok (used, whole)) new
 
@@ -33,7 +33,7 @@ took_none session bytes gs stands = record {
   counted = refl;
 }
 
--- a geometry ends behind some bytes of the rest
+-- a geometry ends after some bytes of the rest
 pub fed_some : (start old new : Session) (piece rest : List ℕ) (at count used : ℕ) (whole : Bool) → Stood start → Takes start (take at piece) count old → Feeds old rest used whole new
     → rest ≡ drop at piece → whole ≡ true → at ≤ length piece → (0 < used) × (at + used ≤ length piece)
 fed_some start old new piece rest at count used whole stood takes feeds cut is within =
@@ -74,7 +74,8 @@ took_all start old new piece rest at count used whole takes feeds cut is bytes g
 
 -- ---- all pieces
 
--- Of what a device told a session took so many bytes, and gave so many geometries; the rest is left.
+-- Of the bytes that a device gave, a session took this many, and gave this many geometries; the
+-- rest is left.
 pub record TookBytes (told rest : Option (List ℕ)) (taken count : ℕ) (session : Session) : Type 0 where
   pub bytes : List ℕ
   pub geometries : List Tree
@@ -86,7 +87,7 @@ pub record TookBytes (told rest : Option (List ℕ)) (taken count : ℕ) (sessio
 pub bytes_none : (told : Option (List ℕ)) (session : Session) → Stands [] [] session → TookBytes told told 0 0 session
 bytes_none told session stands = record { bytes = []; geometries = []; stands = stands; used = Consumes-nil told; size = refl; counted = refl }
 
--- one piece more: the front of a buffer
+-- one more piece: the start of a buffer
 pub bytes_more : (told rest left : Option (List ℕ)) (taken count n more : ℕ) (buffer piece : List ℕ) (old new : Session) (took : TookBytes told rest taken count old)
     → n ≤ length buffer → piece ≡ take n buffer → TookPiece took.bytes took.geometries piece more new → Consumes rest left (take n buffer) → TookBytes told left (taken + n) (count + more) new
 bytes_more told rest left taken count n more buffer piece old new took fits cut one used = record {
@@ -98,15 +99,15 @@ bytes_more told rest left taken count n more buffer piece old new took fits cut 
   counted = omega (arith, took.counted, one.counted, length-append took.geometries one.more);
 }
 
--- so fewer bytes may still be taken
+-- after a piece, fewer bytes may still be taken
 pub bytes_fewer : (told rest : Option (List ℕ)) (taken count n : ℕ) (session : Session) → TookBytes told rest (taken + n) count session → 0 < n → 2 ^ 62 - (taken + n) < 2 ^ 62 - taken
 bytes_fewer told rest taken count n session took some = omega (arith, took.size, took.stands.few, some)
 
--- and the geometries are still no more than the bytes
+-- there are still at most as many geometries as bytes
 pub few_more : (geometries bytes n more : ℕ) (buffer piece : List ℕ) → geometries ≤ bytes → more ≤ length piece → piece ≡ take n buffer → n ≤ length buffer → geometries + more ≤ bytes + n
 few_more geometries bytes n more buffer piece few fewer cut fits = omega (arith, few, fewer, ap length cut, length-take-le n buffer fits)
 
--- at the end of the device
+-- at the end of the device all bytes were taken
 pub bytes_all : (limits : Allowance) (told rest left : Option (List ℕ)) (taken count : ℕ) (session : Session) (took : TookBytes told rest taken count session)
     → Consumes rest left [] → IsAtEnd left → Stream limits took.bytes took.geometries → HasGeometries limits told count taken
 bytes_all limits told rest left taken count session took none ended stream =

@@ -14,7 +14,7 @@ use Rattle.twkb_blob.specs.Readers.{IsNext, Makes, has_ended, is_spent, reader_i
 use Rattle.twkb_blob.specs.declared.reader.Reader.{Reader}
 use Rattle.examples.specs.Counting.{HasPoints, all_points}
 
--- A reader of all that a device told gave geometries, which have so many points.
+-- A reader of all that a device gave has given geometries, which have this many points.
 pub record GavePoints {R : Type 0} {read : Ghosts R} (limits : Allowance) (told : Option (List ℕ)) (reader : Reader R read) (count : ℕ) : Type 0 where
   pub geometries : List Tree
   pub bytes : List ℕ
@@ -25,14 +25,14 @@ pub record GavePoints {R : Type 0} {read : Ghosts R} (limits : Allowance) (told 
   pub live : is_spent reader ≡ false
   pub going_on : has_ended reader ≡ false
 
--- the points of one geometry more
+-- the points of one more geometry
 points_more : (gs : List Tree) (g : Tree) → length (all_points (gs ++ g ∷ [])) ≡ length (all_points gs) + length (flat g)
 points_more [] g = omega (arith, length-append (flat g) [])
 points_more (h ∷ gs) g =
     omega (arith, length-append (flat h) (all_points (gs ++ g ∷ [])), length-append (flat h) (all_points gs), points_more gs g)
 
 module _ {R : Type 0} {read : Ghosts R} (limits : Allowance) (told : Option (List ℕ)) where
-  -- before the first blob
+  -- before the first blob nothing was counted
   pub gave_none : (reader : Reader R read) → rest_of (reader_input reader) ≡ told → reader_limits reader ≡ limits → is_spent reader ≡ false → has_ended reader ≡ false → GavePoints limits told reader 0
   gave_none reader same limited live going_on = record {
     geometries = [];
@@ -45,7 +45,7 @@ module _ {R : Type 0} {read : Ghosts R} (limits : Allowance) (told : Option (Lis
     going_on = going_on;
   }
 
-  -- behind one blob more
+  -- one more blob was counted
   pub gave_more : (old new : Reader R read) (count points total : ℕ) (found : Option Tree) (g : Tree) → GavePoints limits told old count
       → IsNext (reader_limits old) (reader_input old) (reader_input new) (Ok found) → found ≡ Some g → points ≡ saturated (length (flat g)) → total ≡ saturated (count + points)
       → reader_limits new ≡ reader_limits old → is_spent new ≡ false → IfSome found (λ _. has_ended new ≡ false) → GavePoints limits told new total
@@ -63,7 +63,7 @@ module _ {R : Type 0} {read : Ghosts R} (limits : Allowance) (told : Option (Lis
         going_on = subst (λ f. IfSome f (λ _. has_ended new ≡ false)) is going_on;
       }
 
-  -- at the end
+  -- at the end all blobs were counted
   pub gave_all : (old new : Reader R read) (count : ℕ) → GavePoints limits told old count → IsNext (reader_limits old) (reader_input old) (reader_input new) (Ok None) → HasPoints limits told count
   gave_all old new count gave next = record {
     geometries = gave.geometries;

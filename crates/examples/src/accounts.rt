@@ -1,4 +1,4 @@
-//! A table packed, with an account of what was done.
+//! Packing a table, with an account of what was done.
 ghost use Rattle.twkb_tree.specs.Limits.{standard_limits};
 ghost use Rattle.examples.specs.Accounts.{IsAccount};
 
@@ -6,19 +6,19 @@ use std::alloc::Global;
 use std::io::{Read, Write};
 use twkb_convert::{Cause, Limits, Tap, pack};
 
-/// What came of a table.
+/// The account of a packed table.
 #[derive(Clone, Copy, Debug, PartialEq, Eq)]
 pub struct Account {
-    /// The geometries whose blobs were sent whole.
+    /// The number of geometries whose blobs were sent whole.
     pub done: u64,
-    /// The bytes that were sent.
+    /// The number of bytes sent.
     pub sent: u64,
-    /// Why the table was not packed to its end, where it was not.
+    /// Why packing stopped before the table's end, if it did.
     pub stopped: Option<Cause>,
 }
 
-/// Packs a table, and answers what was done and sent and why no more, in place of a report or a fault. Takes memory for one
-/// record and one geometry.
+/// Packs a table, and returns an account of what was done and sent, and of why it stopped, in
+/// place of a report or a fault. Takes memory for one record and one geometry.
 pub fn pack_table<R: Read, W: Write>(
     alloc: Global,
     table: &mut Tap<R>,

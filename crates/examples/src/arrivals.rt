@@ -1,4 +1,4 @@
-//! Blobs that arrive in pieces, counted.
+//! Counting blobs that arrive in pieces.
 ghost use Rattle.std.specs.Prelude.{◌≡◌, ◌≤◌, List, [], ℕ, length, IfOk};
 ghost use Rattle.twkb_tree.specs.Tree.{Tree};
 ghost use Rattle.twkb_tree.specs.Limits.{standard_limits};
@@ -11,15 +11,16 @@ use twkb_blob::{BlobFault, Session};
 use twkb_geom::Limits;
 use twkb_io::InFault;
 
-/// What arrived.
+/// The numbers of what arrived.
 #[derive(Clone, Copy, Debug, PartialEq, Eq)]
 pub struct Arrived {
     pub geometries: u64,
     pub bytes: u64,
 }
 
-/// Reads a socket to its end, and counts the geometries of its stream as they become whole. Between two reads it keeps the
-/// rows of the geometry that is begun, and no byte but those of a number. Takes memory for these rows.
+/// Reads a socket to its end, and counts the geometries of its stream as they become complete.
+/// Between two reads it keeps the rows of the open geometry, and no bytes but those of an open
+/// number. Takes memory for these rows.
 pub fn count_arrivals<R: Read>(alloc: Global, socket: &mut R) -> Result<Arrived, BlobFault>
     ensures { IfOk result (λ arrived. HasGeometries standard_limits (R.remaining socket.old) arrived.geometries arrived.bytes) }
 {
@@ -27,7 +28,7 @@ pub fn count_arrivals<R: Read>(alloc: Global, socket: &mut R) -> Result<Arrived,
     count_by(&mut session, socket)
 }
 
-// Reads a socket to its end by a session that stands at the front of a stream.
+// Reads a socket to its end through a session at the start of a stream.
 fn count_by<R: Read>(session: &mut Session, socket: &mut R) -> Result<Arrived, BlobFault>
     requires stands { Stands [] [] session.old }
     requires limits { session_limits session.old ≡ standard_limits }
@@ -51,7 +52,8 @@ fn count_by<R: Read>(session: &mut Session, socket: &mut R) -> Result<Arrived, B
     }
 }
 
-// Feeds a piece to its end, and counts the geometries that end in it: while one does, the rest is fed again.
+// Feeds a piece to its end, and counts the geometries that end in it. After each geometry the
+// rest of the piece is fed again.
 fn take_piece(session: &mut Session, piece: &[u8]) -> Result<u64, BlobFault>
     requires stands { (bytes : List ℕ) × (gs : List Tree) × Stands bytes gs session.old }
     ensures took { (bytes : List ℕ) (gs : List Tree) → Stands bytes gs session.old → IfOk result (λ count. TookPiece bytes gs piece.now count session.new) }

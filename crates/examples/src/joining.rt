@@ -1,15 +1,16 @@
-//! Two routes as one, each a polyline.
+//! Two routes joined to one, each a polyline.
 ghost use Rattle.std.specs.Prelude.{IfOk};
 ghost use Rattle.examples.specs.Routes.{IsJoined};
 
 use std::alloc::Global;
 use twkb_polyline::{PolyFault, decode, decode_into, encode};
 
-// The most points that each route may have.
+// The most points of each route.
 const MOST: u32 = 10_000;
 
-/// The polyline of the points of both routes, one behind the other. A text that is no polyline, or has too many points,
-/// is refused with its place and reason. Takes memory for the points and the new text.
+/// Joins two routes: the polyline of the points of both, one after the other. A text that is no
+/// polyline, or has too many points, is refused with its place and reason. Takes memory for the
+/// points and the new text.
 pub fn joined(alloc: Global, first: &[u8], second: &[u8]) -> Result<Vec<u8>, PolyFault>
     ensures { IfOk result (λ text. IsJoined first.now second.now text.items) }
 {

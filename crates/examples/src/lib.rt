@@ -1,4 +1,5 @@
-//! Callers of the crates for geometries, polylines, tables, blobs and conversions, as the READMEs of these crates show them.
+//! Callers of the crates for geometries, polylines, tables, blobs and conversions, as the READMEs
+//! of these crates show them.
 #![tactic(auto)]
 
 mod accounts;

@@ -1,4 +1,4 @@
-//! The points of a stream of blobs, counted.
+//! Counting the points of a stream of blobs.
 ghost use Rattle.std.specs.Prelude.{◌≡◌, length, IfOk};
 ghost use Rattle.twkb_io.specs.Taps.{device_of};
 ghost use Rattle.twkb_tree.specs.Limits.{standard_limits};
@@ -11,8 +11,8 @@ use twkb_blob::{BlobFault, Reader};
 use twkb_geom::{Geometry, Limits};
 use twkb_io::{Input, Tap};
 
-/// How many points there are in the blobs of a device, read to its end; at most `u64::MAX`. A device that fails, and bytes
-/// that are no stream of blobs, are answered with the fault. Takes memory for one geometry.
+/// Counts the points of all blobs of a device, read to its end; at most `u64::MAX`. If the device
+/// fails, or its bytes are no stream of blobs, returns the fault. Takes memory for one geometry.
 pub fn count_points<R: Read>(alloc: Global, device: &mut Tap<R>) -> Result<u64, BlobFault>
     ensures { IfOk result (λ count. HasPoints standard_limits (R.remaining (device_of device.old)) count) }
 {
@@ -24,7 +24,7 @@ pub fn count_points<R: Read>(alloc: Global, device: &mut Tap<R>) -> Result<u64, 
     Ok(count)
 }
 
-// The points of a geometry, which is then let go.
+// The number of points of a geometry, which is dropped.
 fn points_of(geometry: Geometry) -> u64
     ensures { result ≡ saturated (length (flat geometry)) }
 {

@@ -7,10 +7,10 @@ use thiserror::Error;
 use twkb_geom::{GeomFault, Geometry, IdList, Limits, Pts, Shape};
 use twkb_points::Pt;
 
-// Decimals of the coordinates of stops.
+// The number of decimals of the coordinates of stops.
 const PRECISION: i8 = 5;
 
-/// Why stops are not made, or not printed.
+/// Why stops can't be made or printed.
 #[derive(Clone, Copy, Debug, PartialEq, Eq, Error)]
 pub enum StopsFault {
     /// There is not one number for each point, or there is no point.
@@ -19,12 +19,12 @@ pub enum StopsFault {
     /// There are more points than a geometry may have.
     #[error("too many stops")]
     TooMany,
-    /// No memory was found for the text.
+    /// No memory for the text.
     #[error("out of memory")]
     Memory,
 }
 
-/// The points with a number each, as a multipoint of five decimals. Takes no memory.
+/// Makes a multipoint of five decimals from points with a number each. Takes no memory.
 pub fn make_stops(points: Vec<Pt>, numbers: Vec<i64>) -> Result<Geometry, StopsFault>
     ensures made { IfOk result (λ g. g ≡ simple (pos 5) (multi_point (Some numbers.items) points.items)) }
     ensures valid { IfOk result (λ g. IsValid standard_limits g) }

@@ -1,4 +1,4 @@
-//! A table that code writes.
+//! A table written by code.
 ghost use Rattle.std.specs.Prelude.{◌≡◌, ◌∷◌, [], pos, Some, IfOk};
 ghost use Rattle.twkb_tree.specs.Tree.{simple, multi_point};
 ghost use Rattle.twkb_tree.specs.Limits.{IsValid, standard_limits};
@@ -11,7 +11,8 @@ use twkb_geom::Geometry;
 use twkb_points::Pt;
 use twkb_table::{header_text, put_rows};
 
-/// The table of one geometry, that of the stops. Takes memory for its text, for that of its rows and for the longest polyline.
+/// Writes the table of one geometry, the stops. Takes memory for its text, for that of its rows
+/// and for the longest polyline.
 pub fn stops_table(alloc: Global, points: Vec<Pt>, numbers: Vec<i64>) -> Result<Vec<u8>, StopsFault>
     ensures { IfOk result (λ text. text.items ≡ csvtext (table (simple (pos 5) (multi_point (Some numbers.items) points.items) ∷ []))) }
 {

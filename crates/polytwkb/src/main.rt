@@ -1,4 +1,4 @@
-//! The command `polytwkb`: tables of encoded polylines to streams of TWKB blobs, and back.
+//! The command `polytwkb`: from tables of encoded polylines to streams of TWKB blobs, and back.
 #![tactic(auto)]
 
 use std::env;
@@ -8,7 +8,7 @@ use twkb_command::{lack_memory, lack_words, run};
 use twkb_io::{Ending, Tap};
 
 fn main(rt: HostRuntime) -> ExitCode {
-    // a terminal would go on behind the end that was told
+    // a terminal would go on after the end that it reported
     let mut reader = Tap::new(Ending::new(rt.stdin()));
     let mut errors = Tap::new(rt.stderr());
     let Ok(buffered) = BufWriter::new(rt.alloc(), rt.stdout()) else {

@@ -1,5 +1,6 @@
-//! Readers and sessions of blobs: devices that fail, what a session holds, and want of memory. Their vectors are those of the
-//! program `vectors`.
+//! Readers and sessions of blobs: devices that fail, the bytes that a session holds, and want of
+//! memory. Their vectors are those of the program `vectors`.
+mod blocks;
 mod failing;
 mod memory;
 mod mixed;

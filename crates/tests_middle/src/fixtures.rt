@@ -1,4 +1,4 @@
-//! Blobs of worked tables, and the geometries and forms that are read of them.
+//! Blobs of worked tables, and the geometries and forms read from them.
 use std::alloc::Global;
 use std::io::Read;
 use twkb_blob::{Reader, Session};
@@ -15,11 +15,11 @@ pub const POINT_AND_LINE: &[u8] =
 /// `0,collection,,0,` / `1,collection,,0,` / `2,point,,5,AA` / `1,point,,-8,AC`
 pub const THREE_PRECISIONS: &[u8] = b"\x07\x00\x02\x07\x00\x01\xA1\x00\x02\x02\xF1\x00\x04\x02";
 
-/// Eight collections in one another, and an empty one in them.
+/// Eight nested collections, and an empty one in the innermost.
 pub const NINE_COLLECTIONS: &[u8] =
     b"\x07\x00\x01\x07\x00\x01\x07\x00\x01\x07\x00\x01\x07\x00\x01\x07\x00\x01\x07\x00\x01\x07\x00\x01\x07\x10";
 
-/// The geometry of a blob; `None` where there is none, and without memory.
+/// The geometry of a blob; `None` if there is none, or if memory is refused.
 pub fn geometry(alloc: Global, blob: &[u8]) -> Option<Geometry> {
     let mut session = Session::new(alloc, Limits::largest());
     match session.feed(blob) {
@@ -34,7 +34,7 @@ fn read_form<R: Read>(alloc: Global, tap: &mut Tap<R>, flat: &mut Flat) {
     let _is_read = reader.next_flat(alloc, flat).is_ok();
 }
 
-/// The flat form of a blob; without rows where there is none, and without memory.
+/// The flat form of a blob; without rows if there is none, or if memory is refused.
 pub fn form(alloc: Global, blob: &[u8]) -> Flat {
     let mut flat = Flat::new(alloc);
     read_form(alloc, &mut Tap::new(blob), &mut flat);

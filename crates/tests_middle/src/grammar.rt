@@ -1,4 +1,4 @@
-//! The grammar: each public call once. What the laws and samples say is in their contracts.
+//! The grammar: each public call once. The laws and samples are stated in their contracts.
 use twkb_grammar::{Style, laws, samples};
 
 #[test]

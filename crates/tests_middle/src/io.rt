@@ -1,16 +1,16 @@
-//! What no clause says of taps, endings and sinks: that calls succeed, and how often a device is asked. Inputs and outputs are tried by
-//! the program `vectors`.
+//! What no clause says about taps, endings and sinks: that calls succeed, and how often a device
+//! is called. Inputs and outputs are tested by the program `vectors`.
 use std::alloc::Global;
 use std::io::{Read, Write};
 use twkb_io::{Bytes, Count, Ending, Fuse, FuseEnd, Input, Sink, Tap, copy};
 
-// Whether a read answers so many bytes.
+// Whether a read gives `count` bytes.
 fn reads<R: Read>(reader: &mut R, count: usize) -> bool {
     let mut room = [0; 4];
     reader.read(&mut room).ok() == Some(count)
 }
 
-// Whether a reader of two bytes gives them, and then its end, also where it is asked again.
+// Whether a reader of two bytes gives them, and then its end, even if it is read again.
 fn ends_for_good<R: Read>(ending: &mut Ending<R>) -> bool {
     let is_given = reads(ending, 2) & !ending.has_ended();
     is_given & reads(ending, 0) & ending.has_ended() & reads(ending, 0)
@@ -32,7 +32,7 @@ fn each_read_of_a_tap_reaches_its_device_once(rt: HostRuntime) {
     assert!(rt; are_read & (reader.calls() == 2) & (reader.into_inner().calls() == 2));
 }
 
-// Whether bytes are unflushed behind a write, until a flush.
+// Whether bytes are unflushed after a write, until a flush.
 fn writes_and_flushes<W: Write>(tap: &mut Tap<W>) -> bool {
     let is_written = tap.write(&[1, 2]).ok() == Some(2);
     is_written & tap.has_unflushed() & tap.flush().is_ok() & !tap.has_unflushed()
@@ -45,7 +45,7 @@ fn each_write_and_flush_of_a_tap_reaches_its_device_once(rt: HostRuntime) {
     assert!(rt; are_written & (writer.calls() == 2) & (writer.into_inner().calls() == 2));
 }
 
-// Whether the bytes are taken, at the second put where the first is refused, and then counted.
+// Whether the bytes are taken, at the second put if the first is refused, and then counted.
 fn takes(bytes: &mut Bytes, count: &mut Count, part: &[u8]) -> bool {
     if bytes.put(part).is_err() && bytes.put(part).is_err() {
         return false;
@@ -53,7 +53,7 @@ fn takes(bytes: &mut Bytes, count: &mut Count, part: &[u8]) -> bool {
     count.put(part).is_ok()
 }
 
-// With memory refused at any growth, what was taken is kept, and a later put goes on from there.
+// If memory is refused at any growth, the bytes taken are kept, and a later put goes on from there.
 #[test]
 fn a_refused_put_keeps_what_was_taken(rt: HostRuntime) {
     let mut bytes = Bytes::new(rt.alloc());
@@ -65,12 +65,13 @@ fn a_refused_put_keeps_what_was_taken(rt: HostRuntime) {
     assert!(rt; is_taken & is_kept & kept.starts_with(&[1; 40]) & kept.ends_with(&[2; 4000]));
 }
 
-// Whether what a device gives is copied to its end.
+// Whether all bytes of a device are copied.
 fn is_copied<R: Read>(tap: &mut Tap<R>, bytes: &mut Bytes) -> bool {
     copy(&mut Input::new(tap), bytes).is_ok()
 }
 
-// Whether a device of a thousand bytes a call that is cut behind so many is copied so far, and to its end where it does not fail there.
+// Whether a device that gives a thousand bytes a call, and is cut after `left` bytes, is copied
+// up to there, and to its end if it does not fail there.
 fn copies(alloc: Global, left: u64, end: FuseEnd) -> bool {
     let given = [7; 10000];
     let mut tap = Tap::new(Fuse::new(given.as_slice(), left, 1000, end, false));

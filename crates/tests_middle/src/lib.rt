@@ -1,5 +1,5 @@
-//! Tests of numbers, points, polylines, devices, geometries, the flat form, the grammar, the writer and the reader of blobs,
-//! through what these crates make public.
+//! Tests of numbers, points, polylines, devices, geometries, the flat form, the grammar, the
+//! writer and the reader of blobs, through what these crates make public.
 #![tactic(auto)]
 
 #[cfg(test)]

@@ -1,5 +1,6 @@
-//! Copies, flat forms and blobs of geometries, with memory and where it is refused. Run with each allocation refused in turn
-//! (`rt try --test --fail-alloc N`) too: an answer is then the right one or want of memory.
+//! Copies, flat forms and blobs of geometries, with memory and with memory refused. Run with each
+//! allocation refused in turn (`rt try --test --fail-alloc N`) too: an answer is then the right
+//! one or want of memory.
 use crate::fixtures::{
     NINE_COLLECTIONS, POINT_AND_LINE, THREE_PRECISIONS, TWO_POLYGONS, form, geometry,
 };
@@ -13,7 +14,7 @@ use twkb_writer::{
     write_flat, write_through,
 };
 
-// Whether a copy equals the geometry; and what is answered where memory is refused.
+// Whether a copy equals the geometry; `if_refused` is the answer if memory is refused.
 fn is_copied(alloc: Global, geometry: &Geometry, if_refused: bool) -> bool {
     match geometry.copy(alloc) {
         Ok(copy) => {
@@ -25,7 +26,8 @@ fn is_copied(alloc: Global, geometry: &Geometry, if_refused: bool) -> bool {
     }
 }
 
-// The same of the geometry of a form, which has rows.
+// Whether a form has rows, and they give this geometry; `if_refused` is the answer if memory is
+// refused.
 fn is_built(alloc: Global, flat: &Flat, geometry: &Geometry, if_refused: bool) -> bool {
     if flat.is_empty() {
         return false;
@@ -40,7 +42,7 @@ fn is_built(alloc: Global, flat: &Flat, geometry: &Geometry, if_refused: bool) -
     }
 }
 
-// The same of its own form.
+// Whether the geometry's own form gives it back; `if_refused` is the answer if memory is refused.
 fn has_form(alloc: Global, geometry: &Geometry, if_refused: bool) -> bool {
     if !geometry.within(&Limits::largest()) {
         return false;
@@ -55,8 +57,8 @@ fn has_form(alloc: Global, geometry: &Geometry, if_refused: bool) -> bool {
     }
 }
 
-// Whether the plain blob has the first of these lengths, and the full one is measured as the second; where memory is refused, nothing
-// is put.
+// Whether the plain blob has the first of these lengths, and the full one is measured as the
+// second; if memory is refused, nothing is put.
 fn is_encoded(alloc: Global, geometry: &Geometry, lengths: (u64, u64), if_refused: bool) -> bool {
     if !geometry.within(&Limits::largest()) {
         return false;
@@ -68,13 +70,13 @@ fn is_encoded(alloc: Global, geometry: &Geometry, lengths: (u64, u64), if_refuse
     }
 }
 
-// Whether all of this is so.
+// Whether the geometry passes all these tests.
 fn all_are(alloc: Global, geometry: &Geometry, lengths: (u64, u64), if_refused: bool) -> bool {
     let is_kept = is_copied(alloc, geometry, if_refused) & has_form(alloc, geometry, if_refused);
     is_kept & is_encoded(alloc, geometry, lengths, if_refused)
 }
 
-// The same of the geometry of a blob, whose plain and full blobs have these lengths.
+// Whether the geometry of a blob passes all these tests; its plain and full blobs have these lengths.
 fn holds(alloc: Global, blob: &[u8], lengths: (u64, u64), if_refused: bool) -> bool {
     match geometry(alloc, blob) {
         Some(geometry) => {
@@ -86,7 +88,8 @@ fn holds(alloc: Global, blob: &[u8], lengths: (u64, u64), if_refused: bool) -> b
     }
 }
 
-// Whether the form of a point and a line is measured and written as three entries and 18 bytes; and what is answered where memory is refused.
+// Whether the form of a point and a line is measured and written as three entries and 18 bytes;
+// `if_refused` is the answer if memory is refused.
 fn is_written(alloc: Global, flat: &Flat, if_refused: bool) -> bool {
     let mut work = Work::new();
     let mut sink = Count::new();
@@ -100,13 +103,13 @@ fn is_written(alloc: Global, flat: &Flat, if_refused: bool) -> bool {
     }
 }
 
-// Whether that is so of the form of the blob, if it is read.
+// Whether the form of the blob is written so, if it is read.
 fn form_is_written(alloc: Global, if_refused: bool) -> bool {
     let flat = form(alloc, POINT_AND_LINE);
     (flat.is_empty() & if_refused) || is_written(alloc, &flat, if_refused)
 }
 
-// Whether all of this is so of three geometries.
+// Whether three geometries pass all these tests.
 fn all_hold(alloc: Global, if_refused: bool) -> bool {
     let are_polygons = holds(alloc, TWO_POLYGONS, (11, 16), if_refused);
     let are_members = holds(alloc, POINT_AND_LINE, (11, 18), if_refused);
@@ -124,7 +127,8 @@ fn each_growth_may_be_refused(rt: HostRuntime) {
     assert!(rt; all_hold(rt.alloc(), true));
 }
 
-// Whether a form that held more takes a point's row, and that row in place of it, without a growth.
+// Whether a form that held more rows takes a point's row, and then that row in its place, without
+// asking for memory.
 fn takes_rows_again(flat: &mut Flat, own: &mut Vec<Pt>) -> bool {
     flat.clear();
     let row = Row {
@@ -150,7 +154,7 @@ fn rows_in_place_of_others_ask_for_no_growth(rt: HostRuntime) {
     }
 }
 
-// What is lent from one geometry to the next.
+// Memory reused from one geometry to the next.
 #[derive(Drop)]
 struct Room {
     depths: Depths,
@@ -176,7 +180,8 @@ fn is_done(flat: &Flat, style: Style, room: &mut Room) -> bool {
     .is_ok()
 }
 
-// Whether the other form is measured and written without a growth, once the largest was, and then that in another style.
+// Whether the other form is measured and written without asking for memory after the largest one
+// was, and then in another style.
 fn asks_for_no_growth(alloc: Global, largest: &Flat, other: &Flat) -> bool {
     let mut room = Room {
         depths: Depths::new(),

@@ -1,10 +1,13 @@
 //! The units of both alphabets, and the laws. Vectors of numbers are those of the program `vectors`.
 ghost use Rattle.std.specs.Prelude.{◌<◌, ◌^◌};
 
-use twkb_num::{Five, Four, Groups, Leb128, Piece, four_characters, four_varints, laws, zigzag};
+use twkb_num::{
+    Five, Four, Groups, Leb128, Piece, character_ends, four_characters, four_varints, laws,
+    varint_ends, zigzag,
+};
 
-// Whether this is the unit of a group behind which more follow, both ways, and the alphabet has groups of so many bits and
-// spellings of so many units at most.
+// Whether this is the unit of a group that says that more follow, both ways, and the alphabet has
+// groups of this many bits and spellings of at most this many units.
 fn is_unit<G: Groups>(group: u8, unit: u8, bits: u32, units: usize) -> bool
     requires { group < 2 ^ G.BITS }
 {
@@ -18,14 +21,15 @@ fn units_and_sizes_of_both_alphabets(rt: HostRuntime) {
     assert!(rt; is_unit::<Leb128>(44, 0xac, 7, 10) & is_unit::<Five>(31, b'~', 5, 13));
 }
 
-/// The way from point to point of Google's worked example, longitude before latitude, as varints of zigzag forms.
+/// The differences from point to point of Google's worked example, longitude before latitude, as
+/// varints of zigzag forms.
 pub const STEPS: &[u8] =
     b"\xBF\xA4\xBB\x0B\xA0\xFC\xD5\x03\xEF\x93\x09\xC0\xED\x1A\xB7\x96\x43\xC0\x93\x1F";
 
 // The numbers 1, 1, 4 and 4 as characters, four times.
 const TEXT: &[u8] = b"AAGGAAGGAAGGAAGG";
 
-// Whether these numbers stand in front, in so many bytes.
+// Whether these numbers were found, in `used` bytes.
 fn are_in_front(found: Option<Four>, numbers: [i64; 4], used: usize) -> bool {
     let [first, second, third, fourth] = numbers;
     let four = Four {
@@ -57,7 +61,7 @@ fn numbers_have_their_zigzag_forms(rt: HostRuntime) {
     assert!(rt; are_near & are_far);
 }
 
-// A word of two bytes, two bytes of three, and others behind a first one.
+// A word of two bytes, two bytes of three, and other bytes after a first one.
 #[test]
 fn a_piece_gathers_bytes(rt: HostRuntime) {
     let mut piece = Piece::<128>::new();
@@ -73,6 +77,37 @@ fn a_piece_gathers_bytes(rt: HostRuntime) {
 }
 
 // The laws do nothing when they run.
+// The ends of 63 numbers of a unit each.
+const ALL_ENDS: u64 = (1 << 63) - 1;
+
+// The ends of twenty.
+const TWENTY: u64 = (1 << 20) - 1;
+
+// Whether a block of ones has all ends, and one byte fewer none; and one with a padded number after twenty has those twenty.
+fn bytes_have_ends() -> bool {
+    let mut padded = [1; 64];
+    padded[20] = 0x81;
+    padded[21] = 0;
+    let are_all = (varint_ends(&[1; 64]) == ALL_ENDS) & (varint_ends(&[1; 63]) == 0);
+    are_all & (varint_ends(&padded) == TWENTY)
+}
+
+// The same of characters, and of one outside the alphabet.
+fn characters_have_ends() -> bool {
+    let mut padded = [b'A'; 64];
+    padded[20] = b'_';
+    padded[21] = b'?';
+    let mut outside = [b'A'; 64];
+    outside[20] = b' ';
+    let are_all = (character_ends(&[b'A'; 64]) == ALL_ENDS) & (character_ends(&[b'A'; 63]) == 0);
+    are_all & (character_ends(&padded) == TWENTY) & (character_ends(&outside) == TWENTY)
+}
+
+#[test]
+fn a_block_has_the_ends_of_its_numbers(rt: HostRuntime) {
+    assert!(rt; bytes_have_ends() & characters_have_ends());
+}
+
 #[test]
 fn laws_return(_rt: HostRuntime) {
     laws::one_form();

@@ -1,10 +1,10 @@
-//! Numbers on both sides of each length's threshold, written four at a time. The bytes and characters are by hand, after the
-//! LEB128 and the Encoded Polyline Algorithm Format.
+//! Numbers on both sides of each length's threshold, written four at a time. The bytes and
+//! characters were worked out by hand, from LEB128 and the Encoded Polyline Algorithm Format.
 ghost use Rattle.std.specs.Prelude.{◌<◌, ◌^◌};
 
 use twkb_num::{Piece, VarintLens};
 
-// Whether four numbers are these varints, together so long.
+// Whether four numbers are these varints, and have this total length.
 fn are_varints(numbers: [u64; 4], bytes: &[u8]) -> bool {
     let [first, second, third, fourth] = numbers;
     let mut piece = Piece::<64>::new();
@@ -40,7 +40,7 @@ fn longer_varints_are_written_one_by_one(rt: HostRuntime) {
     assert!(rt; five & ten);
 }
 
-// Whether four numbers, of four characters at most each, are these characters.
+// Whether four numbers, of at most four characters each, are these characters.
 fn are_characters(first: u32, second: u32, third: u32, fourth: u32, text: &[u8]) -> bool
     requires first_small { first < 2 ^ 20 }
     requires second_small { second < 2 ^ 20 }

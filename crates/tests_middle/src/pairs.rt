@@ -1,18 +1,20 @@
-//! Two points at once: read at the start of bytes, and added to a flat form. Run with each allocation refused in turn
+//! Two points at once, and eight: read at the start of bytes; two added to a flat form. Run with each allocation refused in turn
 //! (`rt try --test --fail-alloc N`) too.
 use crate::fixtures::form;
 use crate::num::STEPS;
 use std::alloc::Global;
-use twkb_front::front_two;
+use twkb_front::{Eight, front_eight, front_two};
 use twkb_geom::{Flat, PointId, Work};
+use twkb_num::varint_ends;
 use twkb_points::Pt;
 
-// Whether a point is here.
+// Whether a point is at this place.
 fn is_here(point: Pt, place: (i64, i64)) -> bool {
     (point.x(), point.y()) == place
 }
 
-// Whether the first two steps of Google's worked example lead from here to these places, in the 14 bytes that they have.
+// Whether the first two differences of Google's worked example lead from here to these places, in
+// their 14 bytes.
 fn leads(from: Pt, first: (i64, i64), second: (i64, i64)) -> bool {
     match front_two(from, STEPS) {
         Some((there, next, used)) => {
@@ -22,7 +24,8 @@ fn leads(from: Pt, first: (i64, i64), second: (i64, i64)) -> bool {
     }
 }
 
-// Whether they lead to the page's points from (0, 0), and as far from elsewhere; two numbers are not four.
+// Whether they lead to the page's points from (0, 0), and as far from elsewhere; two numbers are
+// not four.
 fn are_two() -> bool {
     match (Pt::try_new(0, 0), Pt::try_new(-5, 8)) {
         (Some(origin), Some(aside)) => {
@@ -39,10 +42,41 @@ fn two_points_are_read_at_the_start_of_bytes(rt: HostRuntime) {
     assert!(rt; are_two());
 }
 
+// Steps of one along each axis.
+const ONES: [u8; 64] = [2; 64];
+
+// Whether eight such steps lead from (0, 0) to these points.
+fn are_ones(eight: Eight) -> bool {
+    let mut are_there = (eight.used == 16) & is_here(eight.last, (8, 8));
+    let mut place: i64 = 0;
+    for point in &eight.points {
+        place = place.wrapping_add(1);
+        are_there &= is_here(*point, (place, place));
+    }
+    are_there
+}
+
+// Whether they are found from (0, 0), by the ends of the bytes, and not from a point that is no inner one.
+fn are_eight() -> bool {
+    match (Pt::try_new(0, 0), Pt::try_new(0, 1 << 61)) {
+        (Some(origin), Some(outer)) => {
+            let found = front_eight(origin, &ONES, varint_ends(&ONES));
+            found.is_some_and(are_ones) & front_eight(outer, &ONES, varint_ends(&ONES)).is_none()
+        }
+        _ => false,
+    }
+}
+
+#[test]
+fn eight_points_are_read_at_the_start_of_bytes(rt: HostRuntime) {
+    assert!(rt; are_eight());
+}
+
 // A line of three points, as a blob.
 const LINE: &[u8] = b"\x02\x00\x03\x02\x04\x06\x08\x0A\x0C";
 
-// Its points, and after them the same two, eight times: room for sixteen is asked for first, and then for more.
+// The points of the line, and after them the same two points eight times: room for sixteen is
+// asked for first, and then for more.
 const PLACES: [(i64, i64); 19] = [
     (1, 2),
     (4, 6),
@@ -65,7 +99,7 @@ const PLACES: [(i64, i64); 19] = [
     (7, 50),
 ];
 
-// Whether the points of a form are the first so many of these.
+// Whether the points of a form are the first `count` of these places.
 fn has_first(flat: &Flat, count: u32) -> bool {
     let mut work = Work::new();
     let mut are_first = flat.point_count() == count;
@@ -76,7 +110,7 @@ fn has_first(flat: &Flat, count: u32) -> bool {
     are_first
 }
 
-// Whether two points come after those of a form; or memory is refused, and it is as it was.
+// Whether two points are added after those of a form; or memory is refused, and the form is unchanged.
 fn adds_two(flat: &mut Flat, first: Pt, second: Pt, if_refused: bool) -> bool {
     if !flat.takes_points(2) {
         return false;
@@ -88,7 +122,7 @@ fn adds_two(flat: &mut Flat, first: Pt, second: Pt, if_refused: bool) -> bool {
     }
 }
 
-// Whether that is so of each of eight pairs, after the line's points.
+// Whether each of eight pairs is added after the line's points, or memory is refused.
 fn adds_pairs(flat: &mut Flat, first: Pt, second: Pt, if_refused: bool) -> bool {
     let mut are_added = has_first(flat, 3);
     for _ in 0..8 {

@@ -6,7 +6,7 @@ use twkb_polyline::decode;
 // 2^62, the first number above the range of a coordinate.
 const ABOVE: i64 = 1 << 62;
 
-// Whether a new cursor tells which coordinate would leave the range, stays there, and then moves.
+// Whether a new cursor reports which coordinate would leave the range, stays in place, and then moves.
 fn stays_and_moves() -> bool {
     let mut cursor = Cursor::origin();
     let is_told = cursor.x_in_range(-ABOVE) & !cursor.x_in_range(ABOVE);
@@ -28,7 +28,7 @@ fn points_are_in_range_and_a_cursor_stays_there(rt: HostRuntime) {
     assert!(rt; are_in_range() & stays_and_moves());
 }
 
-// Whether a cursor moves by steps that a coordinate could be, and stays where it would leave the range.
+// Whether a cursor moves by steps that could be coordinates, and stays if it would leave the range.
 fn moves_near() -> bool {
     let mut cursor = Cursor::origin();
     let moves = cursor.add_near(ABOVE - 1, -1) == Pt::try_new(ABOVE - 1, -1);
@@ -40,8 +40,8 @@ fn a_cursor_moves_by_near_steps(rt: HostRuntime) {
     assert!(rt; moves_near());
 }
 
-// The text of Google's worked example, the differences of its points, as the page lists them, longitude before latitude, and
-// their box.
+// The text of Google's worked example, the differences of its points as the page lists them,
+// longitude before latitude, and their box.
 const EXAMPLE: &[u8] = b"_p~iF~ps|U_ulLnnqC_mqNvxq`@";
 
 const DELTAS: [(i64, i64); 3] = [(-12020000, 3850000), (-75000, 220000), (-550300, 255200)];
@@ -59,7 +59,7 @@ fn is_joined(points: &[Pt]) -> bool {
     (bounds.items() == BOX) & (merged(Some(bounds), None) == Bounds::around(points))
 }
 
-// Whether three points have these differences, and from others come back in their place.
+// Whether three points have these differences, and other differences lead to the right points.
 fn are_differences(points: &mut [Pt]) -> bool {
     if points.len() != 3 {
         return false;

@@ -13,7 +13,8 @@ const NEAR: &[u8] = b"AAAAAAAAAAAAAAAAAA";
 const MIXED: &[u8] =
     b"A_C__C___CA_C__C___CA_C__C___CA_C__C___CA_C__C___CA_C__C___CA_C__C___CA_C__C___CA_C__C___CA_C__C___CA_C__C___CA_C__C___CA_C__C___CA_C__C___C";
 
-// Whether the text is written of these points, or memory is refused; and by a lent vector that is then empty.
+// Whether the text is that of these points, or memory is refused; also if it is appended to a
+// borrowed vector, which stays empty after a refusal.
 fn is_written(alloc: Global, points: &[Pt], text: &[u8]) -> bool {
     let mut lent = Vec::new(alloc);
     let is_lent = match encode_into(points, &mut lent) {
@@ -26,8 +27,8 @@ fn is_written(alloc: Global, points: &[Pt], text: &[u8]) -> bool {
     }
 }
 
-// Whether the points of the text, of which there are so many at most, are read and give it again, or memory is refused; and by a
-// lent vector that is then empty.
+// Whether the points of the text, at most `most`, are read and give it again, or memory is
+// refused; also if they are appended to a borrowed vector, which stays empty after a refusal.
 fn is_read(alloc: Global, text: &[u8], most: u32) -> bool {
     let mut lent = Vec::new(alloc);
     let is_lent = match decode_into(text, most, &mut lent) {
@@ -46,12 +47,12 @@ fn each_growth_may_be_refused(rt: HostRuntime) {
     assert!(rt; is_read(alloc, NEAR, 9) & is_read(alloc, FAR, 9) & is_read(alloc, MIXED, 28));
 }
 
-// So many points, each as far from the one before it.
-fn made_points(alloc: Global, count: u32, step: i64) -> Option<Vec<Pt>> {
+// Makes `count` points, the first at this x, each as far from the one before it.
+fn made_points(alloc: Global, count: u32, start: i64, step: i64) -> Option<Vec<Pt>> {
     let mut points = Vec::new(alloc);
     for place in 0..count {
-        let x = i64::from(place).wrapping_mul(step);
-        let point = Pt::try_new(x, x.wrapping_mul(-3))?;
+        let way = i64::from(place).wrapping_mul(step);
+        let point = Pt::try_new(start.wrapping_add(way), way.wrapping_mul(-3))?;
         if points.push(point).is_err() {
             return None;
         }
@@ -60,8 +61,8 @@ fn made_points(alloc: Global, count: u32, step: i64) -> Option<Vec<Pt>> {
 }
 
 // Whether such points are read from their text, or memory is refused.
-fn are_read_back(alloc: Global, count: u32, step: i64) -> bool {
-    let Some(points) = made_points(alloc, count, step) else {
+fn are_read_back(alloc: Global, count: u32, start: i64, step: i64) -> bool {
+    let Some(points) = made_points(alloc, count, start, step) else {
         return true;
     };
     let Ok(text) = encode(alloc, &points) else {
@@ -73,11 +74,12 @@ fn are_read_back(alloc: Global, count: u32, step: i64) -> bool {
     }
 }
 
-// The same for each count on both sides of what a block holds, eight points and their multiples.
-fn counts_are_read_back(alloc: Global, step: i64) -> bool {
+// Whether points are read back for each count on both sides of what a block holds: eight points
+// and multiples of eight.
+fn counts_are_read_back(alloc: Global, start: i64, step: i64) -> bool {
     let mut all = true;
     for count in 0..40 {
-        all &= are_read_back(alloc, count, step);
+        all &= are_read_back(alloc, count, start, step);
     }
     all
 }
@@ -86,12 +88,20 @@ fn counts_are_read_back(alloc: Global, step: i64) -> bool {
 #[test]
 fn points_are_read_in_blocks_as_one_by_one(rt: HostRuntime) {
     let alloc = rt.alloc();
-    let short = counts_are_read_back(alloc, 3) & counts_are_read_back(alloc, 300);
-    let long = counts_are_read_back(alloc, 20_000) & counts_are_read_back(alloc, 500_000);
-    assert!(rt; short & long & counts_are_read_back(alloc, 40_000_000));
+    let short = counts_are_read_back(alloc, 0, 3) & counts_are_read_back(alloc, 0, 300);
+    let long = counts_are_read_back(alloc, 0, 20_000) & counts_are_read_back(alloc, 0, 500_000);
+    assert!(rt; short & long & counts_are_read_back(alloc, 0, 40_000_000));
 }
 
-// The first point of Google's worked example, behind a byte.
+// Blocks are read from points up to 2^61 away, and eight steps further.
+#[test]
+fn points_are_read_in_blocks_up_to_the_inner_points_border(rt: HostRuntime) {
+    let alloc = rt.alloc();
+    let up = counts_are_read_back(alloc, (1 << 61) - 1_000_000, 100_000);
+    assert!(rt; up & counts_are_read_back(alloc, 1_000_000 - (1 << 61), -100_000));
+}
+
+// The first point of Google's worked example, after a byte.
 #[test]
 fn one_point_is_encoded_behind_a_byte(rt: HostRuntime) {
     let mut piece = Piece::<128>::new();

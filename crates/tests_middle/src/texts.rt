@@ -1,4 +1,4 @@
-//! The texts of faults that no row of the program `vectors` tells, or none alone.
+//! The texts of faults that no row of the program `vectors` has, or none alone.
 use std::alloc::Global;
 use twkb_blob::{BlobFault, EncodeFault};
 use twkb_io::{CountFull, InFault, OutFault};
@@ -21,7 +21,7 @@ fn are_told(alloc: Global) -> bool {
     }
 }
 
-// Whether faults of polylines, geometries and encoding have theirs.
+// Whether faults of polylines, geometries and encoding have their texts.
 fn are_told_too(alloc: Global) -> bool {
     let poly = PolyFault::Memory;
     let (precision, ids) = (GeomFault::BadPrecision, GeomFault::BadIds);

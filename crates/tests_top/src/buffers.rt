@@ -1,5 +1,5 @@
-//! Conversions from a buffer to a buffer. The blob is the one that PostGIS writes of the line from (1, 1) to (5, 5); the
-//! places of faults are those of docs/FORMATS.md.
+//! Conversions from a buffer to a buffer. The blob is the one that PostGIS writes of the line
+//! from (1, 1) to (5, 5); the places of faults are those of docs/FORMATS.md.
 use crate::convert::worked::{WORKED, Worked};
 use std::alloc::Global;
 use twkb_buffer::{
@@ -13,7 +13,7 @@ const TABLE: &[u8] = b"depth,kind,id,precision,polyline\n0,linestring,,0,AAGG\n"
 
 const BLOB: &[u8] = b"\x02\x00\x02\x02\x02\x08\x08";
 
-// A conversion, its input, and the whole of its output.
+// A conversion, its input, and its whole output.
 #[derive(Clone, Copy)]
 struct Converted {
     what: Conversion,
@@ -39,7 +39,7 @@ const CONVERTED: [Converted; 3] = [
     },
 ];
 
-// A report of one geometry that was converted, of so many bytes.
+// The report for one geometry converted to `sent` bytes.
 fn report_of(sent: u64, needed: u64) -> BufferReport {
     BufferReport {
         status: 0,
@@ -52,7 +52,8 @@ fn report_of(sent: u64, needed: u64) -> BufferReport {
     }
 }
 
-// Whether the output stands in front of a larger room, whose last two bytes are as they were, and is measured.
+// Whether the output is at the start of a larger room, whose last two bytes are unchanged, and is
+// measured.
 fn is_converted(alloc: Global, row: &Converted) -> bool {
     let limits = Limits::standard();
     let due = row.output.len() as u64;
@@ -72,7 +73,7 @@ fn an_input_is_converted_and_measured(rt: HostRuntime) {
     }
 }
 
-// Whether a table of 54 bytes does not fit a room of 40, which is filled with a front of it.
+// Whether a table of 54 bytes does not fit a room of 40, which is filled with a prefix of it.
 fn has_a_front(alloc: Global) -> bool {
     let mut room = [0u8; 40];
     let limits = Limits::standard();
@@ -89,10 +90,10 @@ fn a_small_room_has_a_front(rt: HostRuntime) {
     assert!(rt; has_a_front(rt.alloc()));
 }
 
-// A table whose point is cut, which has a latitude alone.
+// A table whose point is cut: it has only a latitude.
 const HALF_POINT: &[u8] = b"depth,kind,id,precision,polyline\n0,point,,0,A\n";
 
-// Whether an input is refused behind no output, for this reason at this place.
+// Whether an input is refused after no output, for this reason at this place.
 fn is_refused(
     alloc: Global,
     what: Conversion,
@@ -122,7 +123,7 @@ fn a_refusal_tells_its_place(rt: HostRuntime) {
 // The points of the line.
 const POINTS: [BufferPoint; 2] = [BufferPoint { x: 1, y: 1 }, BufferPoint { x: 5, y: 5 }];
 
-// Whether the polyline of the line stands in front of a room, and its points in front of another.
+// Whether the polyline of the line is at the start of a room, and its points at the start of another.
 fn is_polyline(alloc: Global) -> bool {
     let mut text = [0u8; 5];
     let mut points = [BufferPoint { x: 0, y: 0 }; 3];
@@ -136,8 +137,8 @@ fn points_become_a_polyline_and_it_the_points(rt: HostRuntime) {
     assert!(rt; is_polyline(rt.alloc()));
 }
 
-// Whether a worked conversion writes its output and reports whether the input is refused later, or runs out of memory after a prefix of the output.
-// The input is there in one piece.
+// Whether a worked conversion writes its output and reports whether the input is refused later,
+// or runs out of memory after a prefix of the output. The input comes in one piece.
 fn fills_or_lacks(alloc: Global, worked: &Worked) -> bool {
     let mut room = [0u8; 190];
     let limits = Limits::standard();
@@ -164,7 +165,8 @@ fn a_refused_growth_is_want_of_memory_after_the_first_bytes_of_the_output(rt: Ho
     }
 }
 
-// Whether a reason and the version are told, each in front of a zero byte: the reason as docs/FORMATS.md has it.
+// Whether a reason and the version are returned, each followed by a zero byte: the reason as
+// docs/FORMATS.md has it.
 fn has_texts() -> bool {
     let mut reason = [9u8; 10];
     let mut version = [9u8; 32];

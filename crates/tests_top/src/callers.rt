@@ -1,4 +1,5 @@
-//! Each caller of `examples` once, on bytes worked by hand from the formats; `stops_table` calls `make_stops`.
+//! Each caller of `examples` once, on bytes worked out by hand from the formats; `stops_table`
+//! calls `make_stops`.
 use examples::{Account, Arrived, count_arrivals, count_points, joined, pack_table, stops_table};
 use std::alloc::Global;
 use twkb_convert::{Cause, RowReason};
@@ -51,13 +52,13 @@ fn places(alloc: Global) -> Option<Vec<Pt>> {
     Vec::from_slice(alloc, &places).ok()
 }
 
-// The same table, as the caller makes it of its stops.
+// The table as the caller makes it from its stops.
 fn stops_text(alloc: Global) -> Option<Vec<u8>> {
     let numbers = Vec::from_slice(alloc, &[1, 2]).ok()?;
     stops_table(alloc, places(alloc)?, numbers).ok()
 }
 
-// Whether that is the table.
+// Whether the caller's table is the expected one.
 fn is_printed(alloc: Global) -> bool {
     match stops_text(alloc) {
         Some(text) => text.as_slice() == STOPS,
@@ -70,7 +71,7 @@ fn stops_are_made_and_printed(rt: HostRuntime) {
     assert!(rt; is_printed(rt.alloc()));
 }
 
-// Whether a table is packed to the blob of the point (2, 1), and stops so behind it.
+// Whether a table is packed to the blob of the point (2, 1), and packing then stops for this cause.
 fn packs_a_point(alloc: Global, table: &[u8], stopped: Option<Cause>) -> bool {
     let mut writer = Tap::new(Vec::new(alloc));
     let account = pack_table(alloc, &mut Tap::new(table), &mut writer);
@@ -85,7 +86,7 @@ fn packs_a_point(alloc: Global, table: &[u8], stopped: Option<Cause>) -> bool {
 
 const POINT: &[u8] = b"depth,kind,id,precision,polyline\n0,point,,0,AC\n";
 
-// The point, another, and a kind that there is not.
+// The point, another point, and a row with an unknown kind.
 const THREE_ROWS: &[u8] =
     b"depth,kind,id,precision,polyline\n0,point,,0,AC\n0,point,,0,AA\n0,pont,,0,\n";
 

@@ -1,4 +1,4 @@
-//! Runs of the command, and its texts. A run is given a line of words, an input and its devices.
+//! Runs of the command, and its texts. A run gets a line of words, an input and its devices.
 mod causes;
 mod devices;
 mod memory;
@@ -13,8 +13,8 @@ const POINT_TABLE: &[u8] = b"depth,kind,id,precision,polyline\n0,point,,0,AC\n0,
 
 const POINT_BLOBS: &[u8] = b"\x01\x02\x02\x04\x02\x01\x02\x02\x02\x02";
 
-// A collection of a point with id 7 and an empty linestring with id -1, as a table, as a blob and
-// as what is shown of it.
+// A collection of a point with id 7 and an empty linestring with id -1, as a table, as a blob,
+// and as shown.
 const COLLECTION_TABLE: &[u8] =
     b"depth,kind,id,precision,polyline\n0,collection,,0,\n1,point,7,0,AA\n1,linestring,-1,0,\n";
 
@@ -24,7 +24,7 @@ const COLLECTION_BLOB: &[u8] =
 const COLLECTION_LINES: &[u8] =
     b"0 0 collection 0 07 18 1\n1 10 point 0 02 5 1\n1 15 linestring 0 12 3 0\n";
 
-// Appends a word, where memory is found.
+// Appends a word, unless memory is refused.
 fn put_word(alloc: Global, name: &str, words: &mut Vec<String>) -> bool {
     match name.to_string(alloc) {
         Ok(word) => words.push(word).is_ok(),
@@ -32,7 +32,8 @@ fn put_word(alloc: Global, name: &str, words: &mut Vec<String>) -> bool {
     }
 }
 
-// Appends the words of a line, which names the program first, where memory is found; none of an empty one.
+// Appends the words of a line after the program's name, unless memory is refused; an empty line
+// has no words.
 fn put_words(alloc: Global, line: &str, words: &mut Vec<String>) -> bool {
     let mut are_put = true;
     if !line.is_empty() {
@@ -43,7 +44,7 @@ fn put_words(alloc: Global, line: &str, words: &mut Vec<String>) -> bool {
     are_put
 }
 
-// What came of a run: its status, where memory was found for its words, and what both writers took.
+// The result of a run: its status if there was memory for its words, and what both writers took.
 #[derive(Drop)]
 struct Ended {
     status: Option<u8>,
@@ -51,7 +52,7 @@ struct Ended {
     errors: Vec<u8>,
 }
 
-// Runs the words of a line over devices that pass a byte a call.
+// Runs the words of a line over devices that pass one byte a call.
 fn run_over(alloc: Global, line: &str, input: &[u8], failing: Failing, told: u64) -> Ended {
     let mut reader = cut_reader(input, failing.given);
     let mut writer = cut_writer(Vec::new(alloc), failing);

@@ -1,4 +1,4 @@
-//! What no clause says: that calls succeed, how devices are asked, and what is answered where one fails.
+//! What no clause says: that calls succeed, how devices are called, and what is returned if one fails.
 mod endings;
 mod failing_in_turn;
 mod order;

@@ -1,4 +1,5 @@
-//! Tests of tables, of whole conversions, of the command and of the callers in `examples`, through what their crates make public.
+//! Tests of tables, of whole conversions, of the command and of the callers in `examples`,
+//! through what their crates make public.
 #![tactic(auto)]
 
 #[cfg(test)]

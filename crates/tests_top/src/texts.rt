@@ -5,7 +5,7 @@ use twkb_convert::{BlobReason, Cause, ConvertFault};
 use twkb_polyline::PolyReason;
 use twkb_table::{JudgeFault, RowReason, SourceFault, TableFault};
 
-// Whether a fault is told so.
+// Whether a fault has this text.
 fn tells<D: Display>(alloc: Global, fault: &D, text: &str) -> bool {
     match fault.to_string(alloc) {
         Ok(told) => told.as_str() == text,
@@ -13,7 +13,7 @@ fn tells<D: Display>(alloc: Global, fault: &D, text: &str) -> bool {
     }
 }
 
-// Whether each is told so.
+// Whether each fault has its text.
 fn all_tell<D: Display>(alloc: Global, rows: &[(D, &str)]) -> bool {
     let mut are_told = true;
     for (fault, text) in rows {
@@ -80,12 +80,12 @@ const JUDGE_FAULTS: [(JudgeFault, &str); 2] = [
     (JudgeFault::Refused(RowReason::BadId), "bad id"),
 ];
 
-// Whether causes are told so, and a fault by its cause.
+// Whether causes have their texts, and a fault has that of its cause.
 fn conversions_tell(alloc: Global) -> bool {
     all_tell(alloc, &CAUSES) && tells(alloc, &STOP, "byte 12: size mismatch")
 }
 
-// Whether faults of tables are told so.
+// Whether faults of tables have their texts.
 fn tables_tell(alloc: Global) -> bool {
     all_tell(alloc, &FAULTS) && all_tell(alloc, &SOURCE_FAULTS) && all_tell(alloc, &JUDGE_FAULTS)
 }

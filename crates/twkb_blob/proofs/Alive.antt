@@ -28,9 +28,6 @@ module _ {S : Type 0} (holds : S → Notes → Type 0) (rs more : List Row) (d e
 pub of_begun : (rs : List Row) (d : Engine) (whole : Bool) → whole ≡ false → IsAlive (if whole then [] else rs) d → IsAlive rs d
 of_begun rs d whole off a = subst (λ b. IsAlive (if b then [] else rs) d) off a
 
-pub begun_of : (rs : List Row) (d : Engine) (whole : Bool) → whole ≡ false → IsAlive rs d → IsAlive (if whole then [] else rs) d
-begun_of rs d whole off a = subst (λ b. IsAlive (if b then [] else rs) d) (sym off) a
-
 module _ {S : Type 0} (holds : S → Notes → Type 0) (rs more : List Row) (d e : Engine) (old new : S) where
   -- an engine after a piece, whose form has the rows of a geometry that ended, or of the one that is read
   pub alive_fed : (piece : List ℕ) (used : ℕ) (ends : Bool) → FedBy holds d rs old piece (Ok (used, ends)) e more new → IsAlive rs d → IsAlive (if ends then [] else more) e

@@ -1,6 +1,5 @@
 -- A list that is changed at a place.
-use Rattle.std.proofs.Common.{◌≡◌, ℕ, zero, suc, ◌-◌, ◌<◌, ◌≤◌, List, [], ◌∷◌, ◌++◌, length, set, get_or, reverse, refl, ap, ◌∙◌, arith}
-use Rattle.std.proofs.lemmas.List.{reverse-append}
+use Rattle.std.proofs.Common.{◌≡◌, ℕ, zero, suc, ◌-◌, ◌<◌, ◌≤◌, List, [], ◌∷◌, length, set, get_or, refl, ap, ◌∙◌, arith}
 use Rattle.twkb_grammar.specs.Noting.{changed_at}
 use Rattle.twkb_grammar.specs.declared.span.Span.{Span}
 use Rattle.twkb_blob.specs.Places.{measured}
@@ -16,10 +15,6 @@ pub changed_past : {A : Type 0} (xs : List A) (i : ℕ) (f : A → A) → length
 changed_past [] i f past = refl
 changed_past (x ∷ xs) zero f past = absurd (omega (arith, past))
 changed_past (x ∷ xs) (suc i) f past = ap (λ l. x ∷ l) (changed_past xs i f (omega (arith, past)))
-
--- the last item comes first once a list is turned round
-pub reverse-last : {A : Type 0} (xs : List A) (x : A) → reverse (xs ++ x ∷ []) ≡ x ∷ reverse xs
-reverse-last xs x = reverse-append xs (x ∷ [])
 
 -- a span that is ended at its place
 pub end_set : (xs : List Span) (i offset points size many : ℕ) (x : Span) → x ≡ get_or xs i x → size ≡ offset - x.offset → many ≡ points - x.points → i < length xs

@@ -1,6 +1,7 @@
 -- Pieces of an input that lead an engine on, as the answer of one that reads a blob.
 use Rattle.std.proofs.Common.{◌≡◌, ℕ, zero, suc, ◌+◌, ◌-◌, ◌<◌, ◌≤◌, ◌^◌, List, [], ◌∷◌, ◌++◌, length, take, refl, sym, ap, ◌∙◌, subst, append_assoc, append-nil, length-append, Bool, nat_eq, Result, Ok, Err, true, false, arith, inl, inr}
-use Rattle.std.proofs.lemmas.List.{length-take-le}
+use Rattle.std.proofs.lemmas.Grind.{common_steps}
+use Rattle.std.proofs.lemmas.List.{length-take-le, nil_from_length}
 use Rattle.std.proofs.Math.Logic.{∥∥₁_elim, ∥∥₁_map}
 use Rattle.std.proofs.Props.{props}
 use Rattle.std.specs.Prelude.{IfSome, ⊤}
@@ -22,7 +23,7 @@ use Rattle.twkb_engine.specs.Standing.{StandsAt, IsAlive, IsEnd, LeadsOn, FedBy,
 use Rattle.twkb_engine.specs.Stops.{reason_of}
 use Rattle.twkb_engine.specs.declared.blob_reason.BlobReason.TheVariants as reason
 use Rattle.twkb_engine.specs.declared.engine.Engine.{Engine}
-use Rattle.twkb_engine.proofs.Feeds.{count_is, is_some}
+use Rattle.twkb_engine.proofs.Feeds.{count_is}
 use Rattle.twkb_blob.specs.Feeding.{FedPiece, ReadsBlob, end_at, ends_at}
 use Rattle.twkb_blob.specs.Readers.{HasNone, Left, failed_by_read}
 use Rattle.twkb_blob.specs.declared.fault.BlobFault.{BlobFault}
@@ -59,12 +60,16 @@ end_unread B offset count why e = ap (λ f. failed_by_read {A = B} (Err f)) (end
 
 -- a piece without bytes, and one with some
 pub none_in : (piece : List ℕ) (empty : Bool) → empty ≡ nat_eq (length piece) 0 → empty ≡ true → piece ≡ []
-none_in [] empty is on = refl
-none_in (x ∷ piece) empty is on = absurd (let off = is ∙ is_some (length (x ∷ piece)) (omega arith) in cc (on, off))
+none_in piece empty is on = nil_from_length piece (is_zero (length piece) (sym is ∙ on))
+  where
+    is_zero : (n : ℕ) → nat_eq n 0 ≡ true → n ≡ 0
+    is_zero n same = grind (arith, common_steps)
 
 pub some_in : (piece : List ℕ) (empty : Bool) → empty ≡ nat_eq (length piece) 0 → empty ≡ false → 0 < length piece
-some_in [] empty is off = absurd (cc (is, off))
-some_in (x ∷ piece) empty is off = omega arith
+some_in piece empty is off = is_some (length piece) (sym is ∙ off)
+  where
+    is_some : (n : ℕ) → nat_eq n 0 ≡ false → 0 < n
+    is_some n differs = grind (arith, common_steps)
 
 -- no bytes lead on
 pub leads_none : {S : Type 0} (holds : S → Notes → Type 0) (rs : List Row) (d : Engine) (told : S) → LeadsOn holds rs d told [] rs d told

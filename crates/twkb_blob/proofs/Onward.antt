@@ -1,6 +1,5 @@
 -- A blob of an input that a session reads, after the bytes that it has.
 use Rattle.std.proofs.Common.{◌≡◌, ℕ, ◌+◌, inl, inr, List, [], ◌∷◌, ◌++◌, length, refl, sym, ap, ◌∙◌, subst, append_assoc, append-nil, length-append, Bool, true, false, Option, Some, None, IfSome, Result, Ok, Err, arith}
-use Rattle.std.specs.Io.KnownBytes.{IsAtEnd}
 use Rattle.std.specs.declared.io.traits.Read.{Ghosts}
 use Rattle.twkb_tree.specs.Tree.{Tree}
 use Rattle.twkb_tree.specs.Rows.{Row, rows}
@@ -22,12 +21,8 @@ use Rattle.twkb_blob.specs.Through.{IsThrough}
 use Rattle.twkb_blob.specs.declared.fault.BlobFault.{BlobFault}
 use Rattle.twkb_blob.specs.declared.fault.BlobFault.TheVariants as fault
 use Rattle.twkb_blob.specs.declared.session.Session.{Session}
+use Rattle.twkb_blob.proofs.Pieces.{all_left, own_rest}
 use Rattle.twkb_blob.proofs.Standing.{begun_at, begun_after, between, ended, one_blob_more, so_many}
-
--- no byte is left
-all_gone : (known : Option (List ℕ)) → IsAtEnd known → IfSome known (λ rest. rest ≡ [])
-all_gone None end = tt
-all_gone (Some xs) end = end
 
 module _ (bytes : List ℕ) (gs : List Tree) (old : Session) (s : Stands bytes gs old) where
   -- a part that ends in what is known
@@ -81,7 +76,7 @@ module _ {S : Type 0} (holds : S → Notes → Type 0) {R : Type 0} {read : Ghos
   none_read bytes gs old new (Ok true) e more s opened none limits ends run = absurd (none refl)
   none_read bytes gs old new (Ok false) e more s opened none limits ends run =
       let f = run s.rest (begun_at bytes gs old s opened) in
-      record { more = []; left = f.1; all = all_gone (rest_of a) f.0; blobs = subst (λ l. Stream (session_limits old) l gs) (sym (append-nil bytes)) (ended bytes gs old s f.2) }
+      record { more = []; left = f.1; all = all_left (rest_of a) (rest_of a) [] (own_rest (rest_of a)) f.0; blobs = subst (λ l. Stream (session_limits old) l gs) (sym (append-nil bytes)) (ended bytes gs old s f.2) }
   none_read bytes gs old new (Err fault.Memory) e more s opened none limits ends run = part_known bytes gs old s (rest_of a) (run s.rest (begun_at bytes gs old s opened))
   none_read bytes gs old new (Err (fault.At offset reason)) e more s opened none limits ends run =
       fault_known bytes gs old s offset (reason_of reason) (rest_of a) (run s.rest (begun_at bytes gs old s opened))

@@ -1,5 +1,5 @@
 -- A session goes on, gives a geometry, refuses or ends.
-use Rattle.std.proofs.Common.{◌≡◌, ℕ, zero, suc, ◌+◌, ◌-◌, ◌≤◌, ◌^◌, inl, inr, List, [], ◌∷◌, ◌++◌, length, take, get_or, refl, sym, ap, ◌∙◌, subst, append_assoc, length-append, Bool, true, false, Option, Some, None, IfSome, Ok, Err, arith}
+use Rattle.std.proofs.Common.{◌≡◌, ℕ, zero, suc, ◌+◌, ◌-◌, ◌≤◌, ◌^◌, inl, inr, List, [], ◌∷◌, ◌++◌, length, take, refl, sym, ap, ◌∙◌, subst, append_assoc, length-append, Bool, true, false, Option, Some, None, IfSome, Ok, Err, arith}
 use Rattle.std.proofs.Math.Seq.{take-length}
 use Rattle.std.proofs.lemmas.List.{append-nil, append_cancel_left, length-take-le}
 use Rattle.std.specs.Prelude.{if◌then◌else◌, is_ok}
@@ -22,7 +22,6 @@ use Rattle.twkb_engine.specs.declared.engine.Engine.{Engine}
 use Rattle.twkb_engine.specs.declared.blob_reason.BlobReason.{BlobReason}
 use Rattle.twkb_blob.specs.Faults.{fault_of}
 use Rattle.twkb_blob.specs.Feeding.{FedPiece, end_at}
-use Rattle.twkb_blob.specs.Readers.{failed_by_read}
 use Rattle.twkb_blob.specs.Sessions.{Stands, PartAt, FedSession, FedFlat, AreBegun, IsTooLong, HasEnd, Finished, begun_rows, session_limits, session_rows}
 use Rattle.twkb_blob.specs.declared.session.Session.{Session}
 use Rattle.twkb_blob.specs.declared.fault.BlobFault.{BlobFault}
@@ -39,19 +38,6 @@ whole_rows s e = ap (λ (b : Bool). if b then [] else session_rows s) e
 -- where an engine stands whose form has the rows of no other geometry
 pub begun_at : (bytes : List ℕ) (gs : List Tree) (old : Session) (s : Stands bytes gs old) → old.is_whole ≡ false → StandsAt s.rest (session_rows old) old.engine
 begun_at bytes gs old s opened = subst (λ rs. StandsAt s.rest rs old.engine) (open_rows old opened) s.begun
-
--- the rows of the last geometry were cleared
-pub cleared : (bytes : List ℕ) (gs : List Tree) (old new : Session) → old.is_whole ≡ true → new.is_whole ≡ false → session_rows new ≡ [] → new.engine ≡ old.engine → new.spent ≡ old.spent → Stands bytes gs old → Stands bytes gs new
-cleared bytes gs old new was opened none same live s = record {
-  front = s.front;
-  rest = s.rest;
-  whole = s.whole;
-  few = s.few;
-  blobs = subst (λ d. Stream (allowance_of d) s.front gs) (sym same) s.blobs;
-  begun = subst (λ rs. StandsAt s.rest rs new.engine) (whole_rows old was ∙ sym (open_rows new opened ∙ none)) (subst (λ d. StandsAt s.rest (begun_rows old) d) (sym same) s.begun);
-  start = ap (λ (d : Engine). d.start) same ∙ s.start;
-  live = live ∙ s.live;
-}
 
 -- a stream and one blob more
 pub one_blob_more : (limits : Allowance) (front blob : List ℕ) (gs : List Tree) (g : Tree) → Stream limits front gs → Blob limits blob g → Stream limits (front ++ blob) (gs ++ g ∷ [])
@@ -214,21 +200,6 @@ cut_short bytes gs old within s first = record { front = s.front; rest = s.rest;
 pub finished_with : (bytes : List ℕ) (gs : List Tree) (old : Session) (s : Stands bytes gs old) (count : ℕ) → IsEnd (session_limits old) s.rest (offset_in old.engine) (is_ok (end_at (place_in old.engine) count)) → Finished (session_limits old) bytes gs (end_at (place_in old.engine) count)
 finished_with bytes gs old s zero none = ended bytes gs old s none
 finished_with bytes gs old s (suc n) first = cut_short bytes gs old (offset_in old.engine) s first
-
--- that is no failed read, and not the answer of a session that is spent
-pub end_unread : (offset count : ℕ) → failed_by_read (end_at offset count) ≡ false
-end_unread offset zero = refl
-end_unread offset (suc n) = refl
-
-pub end_unspent : (offset count : ℕ) → end_at offset count ≡ Err fault.Spent → ⊥
-end_unspent offset zero e = absurd cc
-end_unspent offset (suc n) e = absurd cc
-
--- one byte is a piece
-pub one_byte : (xs : List ℕ) (x : ℕ) → length xs ≡ 1 → x ≡ get_or xs 0 0 → x ∷ [] ≡ xs
-one_byte [] x one at = absurd (omega (arith, one))
-one_byte (y ∷ []) x one at = ap (λ n. n ∷ []) at
-one_byte (y ∷ (z ∷ ys)) x one at = absurd (omega (arith, one))
 
 -- bytes of the piece were used, or those up to the end of a geometry
 pub fed_session : {S : Type 0} (holds : S → Notes → Type 0) (known : Type 0) (bytes : List ℕ) (gs : List Tree) (piece : List ℕ) (old new : Session) (used : ℕ) (ends : Bool) (v : S) (s : Stands bytes gs old) → (old.engine.start + count_of old.engine) + used ≤ 2 ^ 62

@@ -22,11 +22,11 @@ use Rattle.twkb_blob.specs.declared.fault.BlobFault.TheVariants as fault
 abbrev pub session_limits : Session → Allowance
 session_limits s = allowance_of s.engine
 
--- whether a call answered an error, or the stream was finished
+-- whether a call returned an error, or the stream was finished
 abbrev pub is_spent : Session → Bool
 is_spent s = s.spent
 
--- how many bytes it holds of a number that is not whole
+-- how many bytes it holds of a number that is not complete
 abbrev pub session_held : Session → ℕ
 session_held s = length (held_in s.engine)
 
@@ -38,7 +38,7 @@ session_open s = open_in s.engine
 abbrev pub session_rows : Session → List Row
 session_rows s = s.rows.flat
 
--- the rows of the geometry that is read: none where the form still has those of the last one
+-- the rows of the geometry that is read: none if the form still has those of the last one
 abbrev pub begun_rows : Session → List Row
 begun_rows s = if s.is_whole then [] else s.rows.flat
 
@@ -57,7 +57,7 @@ pub record Stands (bytes : List ℕ) (gs : List Tree) (s : Session) : Type 0 whe
 abbrev pub AreBegun : Allowance → List ℕ → List Tree → Type 0
 AreBegun limits bytes gs = Stream limits bytes gs ⊎ ((offset : ℕ) × StreamFault limits bytes gs offset Truncated)
 
--- So many bytes stand behind the last whole item: none behind whole blobs, and inside a blob those from the place on where the next item is missing.
+-- So many bytes are after the last complete item: none after complete blobs, and inside a blob those from the place on where the next item is missing.
 abbrev pub HeldOf : Allowance → List ℕ → List Tree → ℕ → Type 0
 HeldOf limits bytes gs n = (Stream limits bytes gs × (n ≡ 0)) ⊎ ((offset : ℕ) × StreamFault limits bytes gs offset Truncated × (offset + n ≡ length bytes))
 
@@ -75,11 +75,11 @@ ended_by _ = 0
 abbrev pub AreOpen : List Item → ℕ → Type 0
 AreOpen is n = n + sum_by (λ i. ended_by i.role) is ≡ sum_by (λ i. begun_by i.role) is
 
--- So many geometries are begun and not finished: none behind whole blobs, and inside a blob those of its items before the place where the next is missing.
+-- So many geometries are begun and not finished: none after complete blobs, and inside a blob those of its items before the place where the next is missing.
 abbrev pub FramesOf : Allowance → List ℕ → List Tree → ℕ → Type 0
 FramesOf limits bytes gs n = (Stream limits bytes gs × (n ≡ 0)) ⊎ ((offset : ℕ) × (cut : StreamFault limits bytes gs offset Truncated) × AreOpen cut.first.fault.before n)
 
--- wherever the engine stands, it stands at an end of bytes: between two blobs, or in one that is cut
+-- wherever the engine stands, the bytes so far end between two blobs, or inside one
 abbrev pub HasEnd : Engine → Type 0
 HasEnd e = (bs : List ℕ) (rs : List Row) → StandsAt bs rs e → (between : Bool) × IsEnd (allowance_of e) bs (offset_in e) between
 
@@ -88,7 +88,7 @@ pub record IsTooLong (limits : Allowance) (bytes : List ℕ) (gs : List Tree) (p
   pub past : 2 ^ 62 < length bytes + length piece
   pub begun : AreBegun limits (bytes ++ take (2 ^ 62 - length bytes) piece) gs
 
--- The bytes are blobs of these geometries, and then some behind which a front of the piece, one byte at least, ends a part.
+-- The bytes are blobs of these geometries, and then some after which a prefix of the piece, one byte at least, ends a part.
 pub record PartAt (limits : Allowance) (bytes : List ℕ) (gs : List Tree) (piece : List ℕ) : Type 0 where
   pub front : List ℕ
   pub rest : List ℕ
@@ -113,7 +113,7 @@ FedFlat bytes gs piece (Ok (used, false)) s = FedSession bytes gs piece (Ok (use
 FedFlat bytes gs piece (Ok (used, true)) s = (g : Tree) × FedSession bytes gs piece (Ok (used, Some g)) s × (session_rows s ≡ rows 0 g)
 FedFlat bytes gs piece (Err why) s = FedSession bytes gs piece (Err why) s
 
--- what a call answers that tells how many bytes it took, where it is told beside whether a geometry ended
+-- how many bytes a call took, with whether a geometry ended
 abbrev pub with_end : Bool → Result ℕ BlobFault → Result (ℕ × Bool) BlobFault
 with_end ended (Ok used) = Ok (used, ended)
 with_end ended (Err why) = Err why

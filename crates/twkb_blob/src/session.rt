@@ -17,8 +17,8 @@ use twkb_flat::{Flat, Rows};
 use twkb_io::{Input, MAX_BYTES};
 use twkb_tree::{Geometry, Limits};
 
-/// A stream of blobs that comes in pieces. It keeps its limits, the rows of the geometry that is read, as far as they came, and at most
-/// nine bytes of a number, and no other byte of the stream.
+/// A stream of blobs that comes in pieces. It keeps its limits, the rows of the geometry that is read, as far as they
+/// came, and at most nine bytes of a number, and no other byte of the stream.
 #[derive(Drop)]
 pub struct Session {
     alloc: Global,
@@ -31,9 +31,10 @@ pub struct Session {
     ghost alive: { spent ≡ false → IsAlive (if is_whole then [] else rows.flat) engine },
 }
 
-// What a feed answers where no geometry ends behind so many bytes. Made in a call of its own, it is written where it is wanted, with no copy.
+// What a feed returns if no geometry ends with so many bytes. Made in a call of its own, it is written into its place
+// with no copy.
 #[inline(always)]
-fn none_behind(used: usize) -> Result<(usize, Option<Geometry>), BlobFault>
+fn none_after(used: usize) -> Result<(usize, Option<Geometry>), BlobFault>
     ensures { result ≡ Ok (used, None) }
 {
     Ok((used, None))
@@ -70,9 +71,9 @@ impl Session {
         }
     }
 
-    /// Takes bytes of the piece up to the end of a geometry, else all of them, and answers how many. A stream has at most 2^62 bytes: what ends
-    /// or is refused before comes first, and only then `TooLong`. After an `Err` each call answers `Spent`. It takes memory for what it keeps
-    /// and for the geometry, and none for a count that it reads.
+    /// Takes bytes of the piece up to the end of a geometry, else all of them, and returns how many. A stream has at most
+    /// 2^62 bytes: what ends or is refused before comes first, and only then `TooLong`. After an `Err` each call returns
+    /// `Spent`. It takes memory for what it keeps and for the geometry, and none for a count that it reads.
     pub fn feed(&mut self, piece: &[u8]) -> Result<(usize, Option<Geometry>), BlobFault>
         ensures fed { (bytes : List ℕ) (gs : List Tree) → Stands bytes gs self.old → FedSession bytes gs piece.now result self.new }
         ensures spent { (result ≡ Err BlobFault.Spent) ↔ (is_spent self.old ≡ true) }
@@ -81,14 +82,14 @@ impl Session {
     {
         let used = match self.feed_flat(piece) {
             Ok((used, true)) => used,
-            Ok((used, false)) => return none_behind(used),
+            Ok((used, false)) => return none_after(used),
             Err(fault) => return refused(fault),
         };
         self.give_tree(used)
     }
 
-    // What a feed answers behind so many bytes with which a geometry ended. In the frame of `feed`, but with places of its own for what it
-    // moves: those of `feed` would be cleared for each byte.
+    // What a feed returns after so many bytes with which a geometry ended. In the frame of `feed`, but with places of
+    // its own for what it moves: those of `feed` would be cleared for each byte.
     #[inline(always)]
     fn give_tree(&mut self, used: usize) -> Result<(usize, Option<Geometry>), BlobFault>
         requires live { self.old.spent ≡ false }
@@ -101,7 +102,7 @@ impl Session {
             self.give_up();
             return refused(BlobFault::Memory);
         };
-        // a geometry has rows: where a session stands for a stream there is a tree
+        // a geometry has rows: if a session stands for a stream there is a tree
         Ok((used, found))
     }
 
@@ -120,7 +121,7 @@ impl Session {
         }
     }
 
-    // Has each further call answer `Spent`, and clears the form.
+    // Has each further call return `Spent`, and clears the form.
     pub(crate) fn give_up(&mut self)
         ensures spent { self.new.spent ≡ true }
         ensures engine { self.new.engine ≡ self.old.engine }
@@ -133,8 +134,9 @@ impl Session {
         self.spent = true;
     }
 
-    /// Takes bytes as `feed` does, and answers how many, and whether a geometry ends behind them, whose rows `flat` then lends until the next
-    /// call. Calls of it and of `feed` may be mixed. It takes memory for what it keeps, and none once that has room.
+    /// Takes bytes as `feed` does, and returns how many, and whether a geometry ends with them, whose rows `flat` then
+    /// gives until the next call. Calls of it and of `feed` may be mixed. It takes memory for what it keeps, and none once
+    /// that has room.
     #[inline(always)]
     pub fn feed_flat(&mut self, piece: &[u8]) -> Result<(usize, bool), BlobFault>
         ensures fed { (bytes : List ℕ) (gs : List Tree) → Stands bytes gs self.old → FedFlat bytes gs piece.now result self.new }
@@ -150,8 +152,8 @@ impl Session {
         }
     }
 
-    // Takes bytes as `feed_flat` does, and returns how many. A frame of its own, whose answer is one number: whether a geometry ended is read
-    // off the session.
+    // Takes bytes as `feed_flat` does, and returns how many. A frame of its own, which returns one number: whether a
+    // geometry ended is read off the session.
     #[inline(never)]
     fn feed_apart(&mut self, piece: &[u8]) -> Result<usize, BlobFault>
         ensures fed { (bytes : List ℕ) (gs : List Tree) → Stands bytes gs self.old → FedFlat bytes gs piece.now (with_end self.new.is_whole result) self.new }
@@ -173,7 +175,7 @@ impl Session {
         self.feed_many(piece)
     }
 
-    // Takes a piece of any length, and returns how many bytes of it.
+    // Takes bytes of a piece of any length, and returns how many.
     #[inline(always)]
     fn feed_many(&mut self, piece: &[u8]) -> Result<usize, BlobFault>
         requires live { self.old.spent ≡ false }
@@ -185,7 +187,7 @@ impl Session {
         ensures stays { is_spent self.new ≡ is_err result }
         ensures limits { session_limits self.new ≡ session_limits self.old }
     {
-        // while it is fed nothing is known of the engine
+        // nothing is known of an engine that refused
         self.spent = true;
         match feed_piece(&mut self.engine, &mut self.rows.flat, &mut NoSpans, piece) {
             Ok((used, ends)) => {
@@ -230,8 +232,8 @@ impl Session {
         }
     }
 
-    // Reads a blob from an input, and its spans; returns whether there was one. If there was none, the session has no rows, and takes no
-    // further byte.
+    // Reads a blob from an input, and its spans; returns whether there was one. If there was none, the session has no
+    // rows, and takes no further byte.
     #[inline(always)]
     pub(crate) fn read_from<R: Read, S: SpanNotes>(
         &mut self,
@@ -251,6 +253,7 @@ impl Session {
             return Err(BlobFault::Spent);
         }
         self.begin();
+        // nothing is known of an engine that refused
         self.spent = true;
         match read_blob(input, &mut self.engine, &mut self.rows.flat, spans) {
             Ok(true) => {
@@ -284,8 +287,8 @@ impl Session {
         }
     }
 
-    /// The rows of the geometry that the last call gave; behind any other call, those of the geometry that is read, as far as they came. Takes
-    /// no memory.
+    /// The rows of the geometry that the last call gave; after any other call, those of the geometry that is read, as far
+    /// as they came. Takes no memory.
     pub fn flat(&self) -> &Flat
         ensures { result.now ≡ session_rows self.now }
     {
@@ -299,7 +302,8 @@ impl Session {
         &self.rows
     }
 
-    /// The stream ends here: `Ok` between two blobs, else `Truncated`. Afterwards each call answers `Spent`. Takes no memory.
+    /// The stream ends here: `Ok` between two blobs, else `Truncated`. Afterwards each call returns `Spent`. Takes no
+    /// memory.
     pub fn finish(&mut self) -> Result<(), BlobFault>
         ensures unread { failed_by_read result ≡ false }
         ensures limits { session_limits self.new ≡ session_limits self.old }
@@ -314,7 +318,8 @@ impl Session {
         at_end(&self.engine)
     }
 
-    /// Bytes that it holds of a number that is not whole, 0 to 9: those behind the last whole item of the bytes so far. Takes no memory.
+    /// Bytes that it holds of a number that is not complete, 0 to 9: those after the last complete item of the bytes so
+    /// far. Takes no memory.
     pub fn held(&self) -> usize
         ensures held { (bytes : List ℕ) (gs : List Tree) → Stands bytes gs self.now → HeldOf (session_limits self.now) bytes gs result }
         ensures state { result ≡ session_held self.now }

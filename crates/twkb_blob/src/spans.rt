@@ -7,7 +7,8 @@ use std::marker::Model;
 use twkb_grammar::Span;
 use twkb_tree::Geometry;
 
-/// The spans of a blob, in the order of its headers, and room for those of a further one. A contract sees the list of them.
+/// The spans of a blob, in the order of its headers, and room for those of a further one. A contract sees the list of
+/// them.
 #[derive(Debug, Drop)]
 pub struct Spans {
     pub(crate) notes: OpenSpans,
@@ -68,7 +69,6 @@ impl Spans {
 pub struct Located {
     /// The geometry.
     pub geometry: Geometry,
-    /// Where it and its members stand, and what their headers say.
+    /// Where it and its members are, and what their headers say.
     pub spans: Spans,
 }
-

@@ -1,5 +1,5 @@
 -- Points that are complete at the start of bytes lead a body on; and the bytes up to one for which there is no memory are a part.
-use Rattle.std.proofs.Common.{Result, Ok, Err, ◌≡◌, ℕ, zero, suc, ◌+◌, ◌-◌, ◌<◌, ◌≤◌, List, [], ◌∷◌, ◌++◌, length, take, drop, refl, sym, ap, ◌∙◌, subst, arith}
+use Rattle.std.proofs.Common.{Result, Ok, Err, ◌≡◌, ℕ, suc, ◌+◌, ◌-◌, ◌<◌, ◌≤◌, List, [], ◌∷◌, ◌++◌, length, take, drop, refl, sym, ap, ◌∙◌, subst, arith}
 use Rattle.std.specs.Prelude.{Option, ℤ, IsErrAnd}
 use Rattle.std.proofs.lemmas.List.{drop-drop, take_rest}
 use Rattle.twkb_points.specs.Point.{Point}
@@ -24,7 +24,7 @@ use Rattle.twkb_body.specs.Running.{HasLists, StepRuns, StepStops, ListLeads, Li
 use Rattle.twkb_body.specs.declared.head.Head.{Head}
 use Rattle.twkb_body.specs.declared.list_points.Taken.{Taken}
 
--- ---- what is wanted, in a geometry of one header
+-- ---- the next step, in a geometry of one header
 
 module _ (h : Head) where
   -- no bytes lead nowhere
@@ -52,7 +52,7 @@ module _ (h : Head) where
 
 -- ---- a point
 
--- what a point changes, by where its header stands
+-- what a point changes, by the place of its header
 pub same_change : (to : Point) (gs : List Group) (h : Head) (f : Form) (member : Option ℤ) → IsHeadAt (length gs) (id_in gs) h → point_change to (length gs) (id_in gs) h.precision f member ≡ point_change to h.depth h.id h.precision f member
 same_change to gs h f member at = ap (λ d. point_change to d (id_in gs) h.precision f member) (sym at.depth_is) ∙ ap (λ i. point_change to h.depth i h.precision f member) (sym at.id_is)
 
@@ -75,7 +75,7 @@ comes MultiPointForm to d id precision member h = absurd h
 comes MultiLineForm to d id precision member h = refl
 comes MultiPolygonForm to d id precision member h = refl
 
--- one leads to where the others of its list are to come
+-- one point leads on to the next of its list
 list_runs : (h : Head) (f : Form) (ids : Ids) (lefts : List ℕ) (rs more : List Row) (left used : ℕ) (from to : Point) (bytes : List ℕ) → HasLists f → next_ids lefts ids ≡ ids → PointInFront from bytes to used → more ≡ point_added to rs
     → StepRuns h (in_list h f ids (suc left) lefts) rs from (take used bytes) (in_list h f ids left lefts) more to
 list_runs h f ids lefts rs more left used from to bytes listed same cut added =
@@ -133,14 +133,14 @@ list_stops rs mid most left count from to bytes t l some cut = λ h f ids outer 
     (subst (λ k. StepRuns h (in_list h f ids most outer) rs from (take t.used bytes) (in_list h f ids k outer) mid t.position) one (l.run h f ids outer listed same))
     (step_judged h (in_list h f ids (suc n) outer) (in_list h f ids n outer) mid (point_added to mid) t.position to _ count cut.some cut.within tt (list_runs h f ids outer mid (point_added to mid) n count t.position to _ listed same cut refl))
 
--- the same of a call
+-- what a call answers, after points that were taken before
 pub row_err : {E : Type 0} (Q : E → Type 0) (rs more : List Row) (from : Point) (bytes : List ℕ) (most : ℕ) (r : Result (Taken × ℕ) E) → IsErrAnd r Q → ListStops rs from most bytes → TakesRow rs from bytes most r more
 row_err Q rs more from bytes most (Ok t) is stops = absurd is
 row_err Q rs more from bytes most (Err e) is stops = stops
 
 -- ---- a member of a multipoint
 
--- where a member is wanted, with so many after it
+-- a member comes next, with so many after it
 abbrev in_members : Head → Ids → (left : ℕ) → Step
 in_members h ids left = in_list h MultiPointForm ids left []
 

@@ -21,30 +21,30 @@ HasLists PointForm = ⊥
 HasLists MultiPointForm = ⊥
 HasLists f = ⊤
 
--- after these bytes and inside these collections this is wanted, in a geometry of this header, and this is noted of spans
+-- after these bytes and inside these collections this step comes next, in a geometry of this header, and these are the notes of spans
 pub record WantedIn (limits : Allowance) (front : List ℕ) (e : Sums) (gs : List Group) (told : ℕ → Notes) (h : Head) (s : Step) (rs : List Row) : Type 0 where
   pub outlined : NotedOutline limits front e (gs, s) rs told
   pub placed : IsHeadAt (length gs) (id_in gs) h
 
--- wherever the first step is wanted, the bytes lead on to the other, from one position to another; they announce and note nothing
+-- wherever the first step comes next, the bytes lead on to the other, from one position to another; they announce and note nothing
 abbrev pub StepRuns : Head → Step → List Row → Point → List ℕ → Step → List Row → Point → Type 0
 StepRuns h s rs from bytes next more to =
     (limits : Allowance) (e : Sums) (front : List ℕ) (gs : List Group) (told : ℕ → Notes) → e.position ≡ from → WantedIn limits front e gs told h s rs → NotedOutline limits (front ++ bytes) (sums_past e bytes to) (gs, next) more told
 
--- wherever the step is wanted, a front of the bytes ends a part that was judged
+-- wherever the step comes next, a prefix of the bytes ends a part that was judged
 abbrev pub StepStops : Head → Step → List Row → Point → List ℕ → Type 0
 StepStops h s rs from bytes = (limits : Allowance) (e : Sums) (front : List ℕ) (gs : List Group) (told : ℕ → Notes) → e.position ≡ from → WantedIn limits front e gs told h s rs → PartIn limits front bytes
 
--- a point is wanted in a list of this form and with these ids, with so many after it, inside other lists
+-- a point comes next in a list of this form and with these ids, with so many after it, inside other lists
 abbrev pub in_list : Head → Form → Ids → (left : ℕ) → (outer : List ℕ) → Step
 in_list h f ids left outer = OnBody (head_of h) f ids (Wanted 0 (left ∷ outer))
 
--- wherever a point of a list comes to the last row, with so many after it, the bytes lead on to where so many are left
+-- wherever a point of a list comes to the last row, with so many after it, the bytes lead on to a point with so many left after it
 abbrev pub ListRuns : List Row → Point → ℕ → List ℕ → ℕ → List Row → Point → Type 0
 ListRuns rs from most bytes left more to = (h : Head) (f : Form) (ids : Ids) (outer : List ℕ) → HasLists f → next_ids outer ids ≡ ids
     → StepRuns h (in_list h f ids most outer) rs from bytes (in_list h f ids left outer) more to
 
--- wherever one does, a front of the bytes ends a part that was judged
+-- wherever a point of a list comes to the last row, a prefix of the bytes ends a part that was judged
 abbrev pub ListStops : List Row → Point → ℕ → List ℕ → Type 0
 ListStops rs from most bytes = (h : Head) (f : Form) (ids : Ids) (outer : List ℕ) → HasLists f → next_ids outer ids ≡ ids → StepStops h (in_list h f ids most outer) rs from bytes
 
@@ -78,6 +78,6 @@ IdsRun ids left bytes more further = (h : Head) (m : Many) (members : ℕ) (rs :
 abbrev pub IdsTaken : List ℤ → (most : ℕ) → List ℕ → (used : ℕ) → List ℤ → Type 0
 IdsTaken ids most bytes used more = (left : ℕ) × (length more + left ≡ length ids + most) × IdsRun ids most (take used bytes) more left
 
--- wherever these are read, a front of the bytes ends a part that was judged
+-- wherever ids are read, a prefix of the bytes ends a part that was judged
 abbrev pub IdsStop : List ℤ → ℕ → List ℕ → Type 0
 IdsStop ids left bytes = (h : Head) (m : Many) (members : ℕ) (rs : List Row) (at : Point) → StepStops h (OnId m (head_of h) members ids left) rs at bytes

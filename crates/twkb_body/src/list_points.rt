@@ -137,15 +137,11 @@ pub fn take_members(
     let mut used = 0;
     let mut position = from;
     let mut left = most;
-    while left > 0 {
+    while left > 0 && ids.has_first() {
         let Some((to, count)) = front_point(position, &bytes[used..]) else {
             break;
         };
-        let member = ids.first();
-        if member.is_some() != ids.has_ids() {
-            break;
-        }
-        flat.add_member(depth, member, to)?;
+        flat.add_member(depth, ids.first(), to)?;
         ids.advance();
         left -= 1;
         position = to;

@@ -1,5 +1,5 @@
 //! The ids of the members of a geometry.
-ghost use Rattle.std.specs.Prelude.{◌≡◌, ◌≤◌, ◌++◌, ◌∷◌, [], if◌then◌else◌, true, Some, None, IfOk, OnOk, OnErr, length};
+ghost use Rattle.std.specs.Prelude.{◌≡◌, ◌≤◌, ◌++◌, ◌∷◌, [], if◌then◌else◌, is_some, true, Some, None, IfOk, OnOk, OnErr, length};
 ghost use Rattle.twkb_tree.specs.Rows.{first_id, other_ids};
 ghost use Rattle.twkb_body.specs.Running.{IdsTaken, IdsStop};
 
@@ -91,6 +91,14 @@ impl MemberIds {
     {
         self.has_ids = true;
         self.ids.reverse();
+    }
+
+    // Whether the open member has an id, if members have ids.
+    #[inline(always)]
+    pub(crate) fn has_first(&self) -> bool
+        ensures { result ≡ true → is_some (first_id (ids_of self.now)) ≡ self.now.has_ids }
+    {
+        !self.has_ids || !self.ids.is_empty()
     }
 
     /// The id of the open member. Takes no memory.

@@ -1,4 +1,4 @@
--- What a writer into a slice leaves there.
+-- The bytes that a writer into a slice leaves there.
 use Rattle.std.specs.Io.KnownBytes.{Appends}
 use Rattle.std.proofs.Common.{◌≡◌, ◌∙◌, ℕ, ◌≤◌, List, ◌∷◌, ◌++◌, length, take, Result, Ok, Err, ap, sym, subst, length-take-le}
 use Rattle.twkb_convert.specs.declared.report.ConvertFault.{ConvertFault}
@@ -8,17 +8,17 @@ use Rattle.twkb_buffer.specs.Calls.{Answers, Ends, Fills, Stops}
 use Rattle.twkb_buffer.specs.Fillers.{buffer_of, filled_of, held}
 use Rattle.twkb_buffer.specs.declared.filler.Filler.{Filler}
 
--- The loan is the one that was lent, and these bytes are the front of its slice.
+-- The borrow is the same one, and these bytes are the start of its slice.
 pub record Filled (old new : Filler) (bytes : List ℕ) : Type 0 where
   pub same_loan : (buffer_of new).ghost_name ≡ (buffer_of old).ghost_name
   pub within : length bytes ≤ length (buffer_of new).now
   pub front : take (length bytes) (buffer_of new).now ≡ bytes
 
--- the name of the loan, and the bytes behind it
+-- the name of the borrow, followed by the bytes
 abbrev held_list : Filler → List ℕ
 held_list f = (buffer_of f).ghost_name ∷ take (filled_of f) (buffer_of f).now
 
--- what was written behind nothing
+-- the bytes written to a fresh writer
 filled : (old new : Filler) (bytes : List ℕ) → filled_of old ≡ 0 → Appends (held old) (held new) bytes → Filled old new bytes
 filled old new bytes none appends =
     let name : ℕ = (buffer_of old).ghost_name in
@@ -31,13 +31,13 @@ filled old new bytes none appends =
       front = ap (λ n. take n (buffer_of new).now) (sym count) ∙ front;
     }
 
--- the same of a writer that was moved under a tap, and back
+-- the bytes written by a writer that was moved under a tap and back
 pub moved_back : (lent started ended given : Filler) (bytes : List ℕ) → started ≡ lent → given ≡ ended → filled_of lent ≡ 0 → Appends (held started) (held ended) bytes → Filled lent given bytes
 moved_back lent started ended given bytes first last none appends =
     let behind : Appends (held lent) (held ended) bytes = subst (λ (f : Filler). Appends (held f) (held ended) bytes) first appends in
     filled lent given bytes none (subst (λ (f : Filler). Appends (held lent) (held f) bytes) (sym last) behind)
 
--- the front of a slice is what was written
+-- the start of a slice is the bytes written
 pub fills : (Ended : Ends) (Halted : Stops) (answer : Result Report ConvertFault) (bytes slice : List ℕ) → Answers Ended Halted bytes answer
     → length bytes ≤ length slice → take (length bytes) slice ≡ bytes → Fills Ended Halted slice answer
 fills Ended Halted (Ok report) bytes slice agrees within front =

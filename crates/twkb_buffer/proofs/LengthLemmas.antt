@@ -1,4 +1,4 @@
--- How long the whole output is, as an answer counts it.
+-- The length of the whole output, as an answer counts it.
 use Rattle.std.specs.Prelude.{IfSome}
 use Rattle.std.proofs.Common.{◌≡◌, ◌∙◌, ℕ, List, [], ◌++◌, length, Option, Some, None, Result, Ok, Err, ap, sym, subst, inl, inr}
 use Rattle.std.proofs.lemmas.List.{append-nil}
@@ -39,7 +39,7 @@ refused_table_length style l table written done n cause.Memory f refused e = abs
 refused_table_length style l table written done n cause.TooLong f refused e = absurd refused
 refused_table_length style l table written done n cause.TooManyRecords f refused e = absurd refused
 
--- what is left is nothing: all was written of the whole ones
+-- nothing is left, so everything was written for the complete ones
 all_written : {A : Type 0} (text_of : List A → List ℕ) (whole later : List A) (written left : List ℕ) → text_of (whole ++ later) ≡ written ++ left → later ≡ [] → left ≡ []
     → written ≡ text_of whole
 all_written text_of whole later written left cut no_later none =
@@ -77,7 +77,7 @@ refused_lines_length l stream written done n cause.Memory f refused e = absurd r
 refused_lines_length l stream written done n cause.TooLong f refused e = absurd refused
 refused_lines_length l stream written done n cause.TooManyRecords f refused e = absurd refused
 
--- where a length is told, the input is refused
+-- if a length is reported, the input is refused
 is_refused : (why : Cause) (sent n : ℕ) → refused_length why sent ≡ Some n → IsRefusal why × (n ≡ sent)
 is_refused (cause.Row number reason) sent n e = (tt, cc)
 is_refused (cause.Blob offset reason) sent n e = (tt, cc)
@@ -98,7 +98,7 @@ finished_length_is (conversion.Pack style) l input written done n p e = packed_l
 finished_length_is conversion.Unpack l input written done n p e = unpacked_length l input written done n p e
 finished_length_is conversion.Show l input written done n p e = shown_length l input written done n p e
 
--- what an answer counts as the whole output is that
+-- the length that an answer counts as the whole output is that length
 pub whole_length : (what : Conversion) (l : Allowance) (input written : List ℕ) (answer : Result Report ConvertFault) (n : ℕ)
     → Answers (Finished what l input) (Stopped what l input) written answer → whole_length_of answer ≡ Some n → HasLength what l input n
 whole_length what l input written (Ok report) n agrees told =

@@ -9,7 +9,7 @@ use Rattle.twkb_buffer.specs.Calls.{Counts, Ends, IsRefusal, Measures, MeasuresB
 use Rattle.twkb_buffer.specs.Numbers.{status_of}
 use Rattle.twkb_buffer.specs.declared.report.BufferReport.{BufferReport}
 
--- a stop has not the status of an end
+-- a stop does not have the status of an end
 never_done : (why : Cause) → status_of why ≡ 0 → ⊥
 never_done (cause.Row number reason) e = omega (arith, e)
 never_done (cause.Blob offset reason) e = omega (arith, e)
@@ -19,12 +19,12 @@ never_done cause.Memory e = omega (arith, e)
 never_done cause.TooLong e = omega (arith, e)
 never_done cause.TooManyRecords e = omega (arith, e)
 
--- a count that is not 0 was told
+-- a count that is not 0 was reported
 told_count : (found : Option ℕ) (n : ℕ) → n ≡ count_of found → n ≢ 0 → found ≡ Some n
 told_count None n e some = absurd (some e)
 told_count (Some m) n e some = ap (λ k. Some k) (sym e)
 
--- where the input is refused the count is of what was sent
+-- if the input is refused, the count is the number of bytes sent
 refused_count : (why : Cause) (sent : ℕ) → IsRefusal why → count_of (refused_length why sent) ≡ sent
 refused_count (cause.Row number reason) sent refused = refl
 refused_count (cause.Blob offset reason) sent refused = refl
@@ -34,7 +34,7 @@ refused_count cause.Memory sent refused = absurd refused
 refused_count cause.TooLong sent refused = absurd refused
 refused_count cause.TooManyRecords sent refused = absurd refused
 
--- what was counted is measured
+-- the length that was counted is measured
 pub measured : (Ended : Ends) (Halted : Stops) (HasLength : ℕ → Type 0) (answer : Result Report ConvertFault) (report : BufferReport) → Counts Ended Halted answer → MeasuresBy answer report
     → ((n : ℕ) → whole_length_of answer ≡ Some n → HasLength n) → Measures Ended Halted HasLength report
 measured Ended Halted HasLength (Ok answer) report counts by known = record {

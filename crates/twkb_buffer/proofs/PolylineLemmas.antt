@@ -4,27 +4,27 @@ use Rattle.twkb_points.specs.Point.{Point, AreInRange, IsInRange, point_at}
 use Rattle.twkb_buffer.specs.Polylines.{FirstOutside, coordinates_at, coordinates_of}
 use Rattle.twkb_buffer.specs.declared.point.BufferPoint.{BufferPoint}
 
--- The coordinates are those of these points, all in range, and others that are left.
+-- The coordinates are those of these points, all in range, followed by others.
 pub record HasTaken (given left : List BufferPoint) (ps : List Point) : Type 0 where
   pub split : given ≡ coordinates_of ps ++ left
   pub in_range : AreInRange ps
 
--- the coordinates of some points, and of those after them
+-- the coordinates of two lists of points, one after the other
 coordinates_of-append : (ps qs : List Point) → coordinates_of (ps ++ qs) ≡ coordinates_of ps ++ coordinates_of qs
 coordinates_of-append [] qs = refl
 coordinates_of-append (p ∷ ps) qs = ap (λ r. coordinates_at p ∷ r) (coordinates_of-append ps qs)
 
--- points in range, and others after them
+-- points in range followed by points in range are in range
 AreInRange-append : (ps qs : List Point) → AreInRange ps → AreInRange qs → AreInRange (ps ++ qs)
 AreInRange-append [] qs a b = b
 AreInRange-append (p ∷ ps) qs a b = (a.0, AreInRange-append ps qs a.1 b)
 
--- the coordinates of one point more
+-- the coordinates of one more point
 coordinates_more : (ps : List Point) (p : Point) (after : List BufferPoint) → coordinates_of ps ++ coordinates_at p ∷ after ≡ coordinates_of (ps ++ p ∷ []) ++ after
 coordinates_more ps p after =
     sym (append_assoc (coordinates_of ps) (coordinates_at p ∷ []) after) ∙ ap (λ (r : List BufferPoint). r ++ after) (sym (coordinates_of-append ps (p ∷ [])))
 
--- one point more was taken
+-- one more point was read
 pub taken_more : (given left after : List BufferPoint) (ps qs : List Point) (p : Point) (c : BufferPoint) → HasTaken given left ps → left ≡ c ∷ after
     → coordinates_at p ≡ c → IsInRange p → qs ≡ ps ++ p ∷ [] → HasTaken given after qs
 taken_more given left after ps qs p c taken next value fits more = record {
@@ -49,7 +49,7 @@ taken_outside given left after ps c place taken next outside count = record {
   outside = outside;
 }
 
--- the coordinates of one point more were put behind those before it
+-- the coordinates of one more point were written after those before it
 pub coordinates_put : (whole put after : List BufferPoint) (left rest : List Point) (p : Point) → put ++ coordinates_of left ≡ whole → left ≡ p ∷ rest
     → after ≡ put ++ coordinates_at p ∷ [] → after ++ coordinates_of rest ≡ whole
 coordinates_put whole put after left rest p held next more =

@@ -1,4 +1,4 @@
--- What a run between a reader and a writer says of the bytes that were read and written.
+-- What a run between a reader and a writer says about the bytes read and written.
 use Rattle.std.specs.Prelude.{IfSome}
 use Rattle.std.specs.Io.KnownBytes.{Appends}
 use Rattle.std.proofs.Common.{◌≡◌, ℕ, List, ◌++◌, Option, Some, Result, Ok, Err, refl, subst}
@@ -22,7 +22,7 @@ use Rattle.twkb_buffer.specs.Slices.{ListedFront, ListedSlice, PackedFront, Pack
 use Rattle.twkb_convert.specs.declared.conversion.Conversion.{Conversion}
 use Rattle.twkb_convert.specs.declared.conversion.Conversion.TheVariants as conversion
 
--- These bytes were written behind what the writer held, and agree with the answer.
+-- These bytes were written after those that the writer held, and agree with the answer.
 pub record Wrote {W : Type 0} (Ended : Ends) (Halted : Stops) (contents : W → Option (List ℕ)) (writer written : Tap W) (answer : Result Report ConvertFault) : Type 0 where
   pub bytes : List ℕ
   pub appends : Appends (contents (device_of writer)) (contents (device_of written)) bytes

@@ -1,4 +1,4 @@
--- A number is that of one text at most; how a text comes into a buffer.
+-- A number is that of at most one text; how a text is copied into a buffer.
 use Rattle.std.specs.Prelude.{◌≢◌}
 use Rattle.std.proofs.Common.{◌≡◌, ◌∙◌, ℕ, ◌+◌, ◌-◌, ◌<◌, ◌≤◌, List, [], ◌∷◌, ◌++◌, length, take, drop, set, min, arith, refl, sym, subst, ap, eqb, if◌then◌else◌}
 use Rattle.std.proofs.Math.Nat.{min_comm, min-le_right}
@@ -105,11 +105,11 @@ found_at n why has = ap (λ (k : ℕ). words_at all_causes k) (sym has.0) ∙ fo
 pub named : (n : ℕ) (why : Cause) (words : List ℕ) → HasReason n why → words ≡ cause_words why → AreWordsOf n words
 named n why words has e = record { told = λ other same. e ∙ (sym (found_at n why has) ∙ found_at n other same); none = λ lacks. absurd (lacks why has) }
 
--- a number that no cause has is that of no words
+-- a number that no cause has has no words
 pub unnamed : (n : ℕ) → ((why : Cause) → HasReason n why → ⊥) → AreWordsOf n []
 unnamed n lacks = record { told = λ why has. absurd (lacks why has); none = λ _. refl }
 
--- a number that is none of these is that of no text of points
+-- a number that is none of these is not that of a text of points
 no_point_text : (n : ℕ) → NamesNoPointText n → (reason : PolyReason) → point_text_number_of reason ≢ n
 no_point_text n lacks text.BadChar = λ e. lacks.0 (sym e)
 no_point_text n lacks text.Cut = λ e. lacks.1 (sym e)
@@ -119,7 +119,7 @@ no_point_text n lacks text.Half = λ e. lacks.4 (sym e)
 no_point_text n lacks text.Range = λ e. lacks.5 (sym e)
 no_point_text n lacks text.TooMany = λ e. lacks.6 (sym e)
 
--- the same of a record
+-- a number that is none of these is not that of a record
 no_row : (n : ℕ) → NamesNoRow n → NamesNoPointText n → (reason : RowReason) → row_number_of reason ≢ n
 no_row n lacks points row.BadHeader = λ e. lacks.0 (sym e)
 no_row n lacks points row.FieldCount = λ e. lacks.1 (sym e)
@@ -138,7 +138,7 @@ no_row n lacks points row.PolylineNotAllowed = λ e. lacks.13 (sym e)
 no_row n lacks points row.PointCount = λ e. lacks.14 (sym e)
 no_row n lacks points (row.Polyline offset why) = no_point_text n points why
 
--- the same of an item of a blob
+-- a number that is none of these is not that of an item of a blob
 no_blob : (n : ℕ) → NamesNoBlob n → (reason : BlobReason) → blob_number_of reason ≢ n
 no_blob n lacks blob.Truncated = λ e. lacks.0 (sym e)
 no_blob n lacks blob.BadType = λ e. lacks.1 (sym e)
@@ -150,7 +150,7 @@ no_blob n lacks blob.TooManyPoints = λ e. lacks.6 (sym e)
 no_blob n lacks blob.CoordinateRange = λ e. lacks.7 (sym e)
 no_blob n lacks blob.SizeMismatch = λ e. lacks.8 (sym e)
 
--- a number that is none of all these is that of no cause
+-- a number that is none of all these is not that of a cause
 pub no_cause : (n : ℕ) → NamesNoRow n → NamesNoPointText n → NamesNoBlob n → n ≢ 61 → n ≢ 62 → (why : Cause) → HasReason n why → ⊥
 no_cause n rows points items long many (cause.Row number reason) has = no_row n rows points reason has.0
 no_cause n rows points items long many (cause.Blob offset reason) has = no_blob n items reason has.0
@@ -160,7 +160,7 @@ no_cause n rows points items long many cause.Memory has = has.1 (sym has.0)
 no_cause n rows points items long many cause.TooLong has = long (sym has.0)
 no_cause n rows points items long many cause.TooManyRecords has = many (sym has.0)
 
--- a zero byte at the end of the words, or of the room, and the words in front of it, in a buffer of one byte and more
+-- in a buffer of at least one byte: the words as far as there is room, then a zero byte
 over : (words bs : List ℕ) (b m : ℕ) → m ≡ min (length words) (length bs) → take m words ++ drop m (set (b ∷ bs) m 0) ≡ take (length bs) words ++ (0 ∷ drop (length words) bs)
 over words bs b m e =
     let low : m ≤ length bs = subst (λ (n : ℕ). n ≤ length bs) (sym e) (min-le_right (length words) (length bs)) in
@@ -170,7 +170,7 @@ over words bs b m e =
     let last : drop m (set (b ∷ bs) m 0) ≡ 0 ∷ drop (length words) bs = drop-set (b ∷ bs) m 0 within ∙ ap (λ (xs : List ℕ). 0 ∷ xs) left in
     ap (λ (xs : List ℕ). xs ++ drop m (set (b ∷ bs) m 0)) first ∙ ap (λ (xs : List ℕ). take (length bs) words ++ xs) last
 
--- the same in any buffer that is not empty
+-- in any buffer that is not empty: the words as far as there is room, then a zero byte
 pub put_text : (words old : List ℕ) (m : ℕ) → length old ≢ 0 → m ≡ min (length words) (length old - 1) → take m words ++ drop m (set old m 0) ≡ with_text words old
 put_text words [] m some e = absurd (some refl)
 put_text words (b ∷ bs) m some e =

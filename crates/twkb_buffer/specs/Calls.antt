@@ -1,4 +1,4 @@
--- What a call does, of any conversion.
+-- The effect of a call, for any conversion.
 use Rattle.std.specs.Prelude.{◌≡◌, ◌≢◌, ℕ, ◌<◌, ◌≤◌, List, take, length, Option, Some, None, Result, Ok, Err, ⊤}
 use Rattle.twkb_convert.specs.declared.report.Cause.{Cause}
 use Rattle.twkb_convert.specs.declared.report.Cause.TheVariants as cause
@@ -7,34 +7,35 @@ use Rattle.twkb_convert.specs.declared.report.Report.{Report}
 use Rattle.twkb_buffer.specs.declared.report.BufferReport.{BufferReport}
 use Rattle.twkb_buffer.specs.Reports.{Tells}
 
--- what was written, and how many geometries, where a conversion is finished
+-- what a finished conversion wrote, and for how many geometries
 abbrev pub Ends : Type 1
 Ends = List ℕ → ℕ → Type 0
 
--- the same where it stopped, with the cause
+-- what a conversion wrote until it stopped, for how many geometries, and the cause
 abbrev pub Stops : Type 1
 Stops = List ℕ → ℕ → Cause → Type 0
 
--- what was written and counted agrees with the answer
+-- the bytes written and the numbers counted agree with the answer
 abbrev pub Answers : Ends → Stops → List ℕ → Result Report ConvertFault → Type 0
 Answers Ended Halted written (Ok report) = Ended written report.geometries × (report.bytes ≡ length written)
 Answers Ended Halted written (Err fault) = Halted written fault.done fault.cause × (fault.sent ≡ length written)
 
--- something was written that agrees with the answer
+-- some bytes written agree with the answer
 abbrev pub Counts : Ends → Stops → Result Report ConvertFault → Type 0
 Counts Ended Halted answer = (written : List ℕ) × Answers Ended Halted written answer
 
--- how many bytes an answer counts
+-- the number of bytes that an answer counts
 abbrev pub sent_of : Result Report ConvertFault → ℕ
 sent_of (Ok report) = report.bytes
 sent_of (Err fault) = fault.sent
 
--- The front of a slice is what was written, as the answer counts it.
+-- The start of a slice is the bytes written, as the answer counts them.
 pub record Fills (Ended : Ends) (Halted : Stops) (slice : List ℕ) (answer : Result Report ConvertFault) : Type 0 where
   pub fits : sent_of answer ≤ length slice
   pub agrees : Answers Ended Halted (take (sent_of answer) slice) answer
 
--- a cause by which the input is refused: then all was written that the whole input is converted to
+-- a cause for which the input is refused; then everything was written to which the whole input is
+-- converted
 abbrev pub IsRefusal : Cause → Type 0
 IsRefusal (cause.Row number reason) = ⊤
 IsRefusal (cause.Blob offset reason) = ⊤
@@ -44,7 +45,7 @@ IsRefusal cause.Memory = ⊥
 IsRefusal cause.TooLong = ⊥
 IsRefusal cause.TooManyRecords = ⊥
 
--- how many bytes were sent, where the input is refused
+-- the number of bytes sent, if the input is refused
 abbrev pub refused_length : Cause → ℕ → Option ℕ
 refused_length (cause.Row number reason) sent = Some sent
 refused_length (cause.Blob offset reason) sent = Some sent
@@ -54,7 +55,7 @@ refused_length cause.Memory sent = None
 refused_length cause.TooLong sent = None
 refused_length cause.TooManyRecords sent = None
 
--- how many bytes an answer counts, where they are the whole output
+-- the number of bytes that an answer counts, if they are the whole output
 abbrev pub whole_length_of : Result Report ConvertFault → Option ℕ
 whole_length_of (Ok report) = Some report.bytes
 whole_length_of (Err fault) = refused_length fault.cause fault.sent
@@ -64,7 +65,8 @@ abbrev pub count_of : Option ℕ → ℕ
 count_of None = 0
 count_of (Some n) = n
 
--- A call filled the front of a slice as its report tells. Where the slice is too small, the report tells the length of the whole output, or 0.
+-- A call filled the start of a slice as its report states. If the slice is too small, the report
+-- gives the length of the whole output, or 0.
 pub record FillsSlice (Ended : Ends) (Halted : Stops) (HasLength : ℕ → Type 0) (slice : List ℕ) (report : BufferReport) : Type 0 where
   pub fits : report.sent ≤ length slice
   pub finished : report.status ≡ 0 → Ended (take report.sent slice) report.done
@@ -72,12 +74,14 @@ pub record FillsSlice (Ended : Ends) (Halted : Stops) (HasLength : ℕ → Type 
   pub needed : report.status ≡ 5 → report.needed ≢ 0 → (length slice < report.needed) × HasLength report.needed
   pub no_more : report.status ≢ 5 → report.needed ≡ report.sent
 
--- the report tells what the answer does, but that nothing was sent, and it needs the whole length
+-- the report states what the answer does, except that nothing was sent, and that the whole length
+-- is needed
 abbrev pub MeasuresBy : Result Report ConvertFault → BufferReport → Type 0
 MeasuresBy (Ok answer) report = (report.sent ≡ 0) × (report.status ≡ 0) × (report.done ≡ answer.geometries) × (report.needed ≡ answer.bytes)
 MeasuresBy (Err fault) report = (report.sent ≡ 0) × Tells report fault.cause × (report.done ≡ fault.done) × (report.needed ≡ count_of (refused_length fault.cause fault.sent))
 
--- A call wrote nothing, and its report tells what would be written, and how long the whole output is; 0 where that is not known.
+-- A call wrote nothing. Its report states what would be written, and the length of the whole
+-- output, or 0 if that is not known.
 pub record Measures (Ended : Ends) (Halted : Stops) (HasLength : ℕ → Type 0) (report : BufferReport) : Type 0 where
   pub none : report.sent ≡ 0
   pub finished : report.status ≡ 0 → (written : List ℕ) × Ended written report.done × (report.needed ≡ length written)

@@ -1,4 +1,4 @@
--- What each of the conversions does between two slices.
+-- The effect of each conversion between two slices.
 use Rattle.std.specs.Prelude.{ℕ, List}
 use Rattle.twkb_tree.specs.Limits.{Allowance}
 use Rattle.twkb_grammar.specs.declared.style.Style.{Style}
@@ -15,23 +15,23 @@ Finished (conversion.Pack style) l input = PackedSlice style l input
 Finished conversion.Unpack l input = UnpackedSlice l input
 Finished conversion.Show l input = ShownSlice l input
 
--- a front of it
+-- a prefix of the whole output of this input
 abbrev pub Stopped : Conversion → Allowance → List ℕ → Stops
 Stopped (conversion.Pack style) l input = PackedFront style l input
 Stopped conversion.Unpack l input = UnpackedFront l input
 Stopped conversion.Show l input = ShownFront l input
 
--- the length of what the input is converted to, where it is refused too
+-- the length of the whole output of this input, even if it is refused
 abbrev pub HasLength : Conversion → Allowance → List ℕ → ℕ → Type 0
 HasLength (conversion.Pack style) l input = PacksTo style l input
 HasLength conversion.Unpack l input = UnpacksTo l input
 HasLength conversion.Show l input = ShowsTo l input
 
--- the front of a slice was filled with the output of this input, as a report tells
+-- the start of a slice was filled with the output of this input, as a report states
 abbrev pub FillsOutput : Conversion → Allowance → List ℕ → List ℕ → BufferReport → Type 0
 FillsOutput what l input slice report = FillsSlice (Finished what l input) (Stopped what l input) (HasLength what l input) slice report
 
--- the output of this input was measured, as a report tells
+-- the output of this input was measured, as a report states
 abbrev pub MeasuresOutput : Conversion → Allowance → List ℕ → BufferReport → Type 0
 MeasuresOutput what l input report = Measures (Finished what l input) (Stopped what l input) (HasLength what l input) report
 

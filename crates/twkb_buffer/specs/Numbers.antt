@@ -1,4 +1,4 @@
--- The numbers by which a report tells statuses, reasons and places (profile).
+-- The numbers by which a report states statuses, reasons and places (profile).
 use Rattle.std.specs.Prelude.{ℕ}
 use Rattle.twkb_polyline.specs.declared.fault.PolyReason.{PolyReason}
 use Rattle.twkb_polyline.specs.declared.fault.PolyReason.TheVariants as text
@@ -9,7 +9,7 @@ use Rattle.twkb_engine.specs.declared.blob_reason.BlobReason.TheVariants as blob
 use Rattle.twkb_convert.specs.declared.report.Cause.{Cause}
 use Rattle.twkb_convert.specs.declared.report.Cause.TheVariants as cause
 
--- 1 for input that is refused, 3 for a reader that failed, 4 for want of memory, 5 for output that took no more
+-- 1 if the input is refused, 3 if the reader failed, 4 for want of memory, 5 if the output took no more
 abbrev pub status_of : Cause → ℕ
 status_of (cause.Row number reason) = 1
 status_of (cause.Blob offset reason) = 1
@@ -19,7 +19,7 @@ status_of cause.Memory = 4
 status_of cause.TooLong = 1
 status_of cause.TooManyRecords = 1
 
--- what is wrong with a text of points: 21 to 27
+-- the number of a fault in a text of points: 21 to 27
 abbrev pub point_text_number_of : PolyReason → ℕ
 point_text_number_of text.BadChar = 21
 point_text_number_of text.Cut = 22
@@ -29,7 +29,8 @@ point_text_number_of text.Half = 25
 point_text_number_of text.Range = 26
 point_text_number_of text.TooMany = 27
 
--- what is wrong with the id, the precision or the points of a record: 8 to 16, and that of its text of points
+-- the number of a fault in the id, the precision or the points of a record: 8 to 16, or that of
+-- its text of points
 abbrev pub value_number_of : RowReason → ℕ
 value_number_of row.BadId = 8
 value_number_of row.IdNotAllowed = 9
@@ -42,7 +43,7 @@ value_number_of (row.Polyline offset why) = point_text_number_of why
 value_number_of row.PointCount = 16
 value_number_of reason = 0
 
--- what is wrong with a record: 1 to 7 with its form or its place, and else with what it holds
+-- the number of a fault in a record: 1 to 7 for its form or its place, otherwise that of a value in it
 abbrev pub row_number_of : RowReason → ℕ
 row_number_of row.BadHeader = 1
 row_number_of row.FieldCount = 2
@@ -53,7 +54,7 @@ row_number_of row.TooDeep = 6
 row_number_of row.TooManyNodes = 7
 row_number_of reason = value_number_of reason
 
--- what is wrong with an item of a blob: 41 to 49
+-- the number of a fault in an item of a blob: 41 to 49
 abbrev pub blob_number_of : BlobReason → ℕ
 blob_number_of blob.Truncated = 41
 blob_number_of blob.BadType = 42
@@ -65,7 +66,7 @@ blob_number_of blob.TooManyPoints = 47
 blob_number_of blob.CoordinateRange = 48
 blob_number_of blob.SizeMismatch = 49
 
--- why the input is refused, and 0 where it is not
+-- the number of the reason for which the input is refused, and 0 if it is not
 abbrev pub reason_number_of : Cause → ℕ
 reason_number_of (cause.Row number reason) = row_number_of reason
 reason_number_of (cause.Blob offset reason) = blob_number_of reason
@@ -75,7 +76,7 @@ reason_number_of cause.Memory = 0
 reason_number_of cause.TooLong = 61
 reason_number_of cause.TooManyRecords = 62
 
--- the refused record, counted from 1, or the offset of the refused item, and 0 where nothing is refused
+-- the number of the refused record, from 1, or the offset of the refused item; 0 if nothing is refused
 abbrev pub place_of : Cause → ℕ
 place_of (cause.Row number reason) = number
 place_of (cause.Blob offset reason) = offset
@@ -85,12 +86,12 @@ place_of cause.Memory = 0
 place_of cause.TooLong = 0
 place_of cause.TooManyRecords = 0
 
--- where the text of points of a record is refused
+-- the offset at which the text of points of a record is refused
 abbrev pub row_text_offset_of : RowReason → ℕ
 row_text_offset_of (row.Polyline offset why) = offset
 row_text_offset_of reason = 0
 
--- where a text of points is refused, and 0 where none is
+-- the offset at which a text of points is refused, and 0 if none is
 abbrev pub text_offset_of : Cause → ℕ
 text_offset_of (cause.Row number reason) = row_text_offset_of reason
 text_offset_of (cause.Blob offset reason) = 0

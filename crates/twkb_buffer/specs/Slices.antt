@@ -1,4 +1,4 @@
--- What the conversions do between two slices: the bytes that were read, and those that were written.
+-- The conversions between two slices: the bytes read, and the bytes written.
 use Rattle.std.specs.Prelude.{◌≡◌, ℕ, List, length, Option, Some}
 use Rattle.twkb_tree.specs.Tree.{Tree}
 use Rattle.twkb_tree.specs.Limits.{Allowance}
@@ -19,7 +19,8 @@ pub record PackedSlice (style : Style) (l : Allowance) (table written : List ℕ
   pub written_is : written ≡ canonical_stream style whole.geometries
   pub done_is : done ≡ length whole.geometries
 
--- Geometries of the table may be written: the canonical blobs of this many were, and a front of the next one's. The cause explains that.
+-- Geometries of the table may be written: the canonical blobs of this many were, and a prefix of
+-- the next one's. The cause explains that.
 pub record PackedFront (style : Style) (l : Allowance) (table written : List ℕ) (done : ℕ) (why : Cause) : Type 0 where
   pub part : FrontOfBlobs style l (Some table) written
   pub one : AtMostOneCut part.later part.rest
@@ -34,7 +35,8 @@ pub record ListedSlice {A : Type 0} (AreBlobs : List ℕ → List A → Type 0) 
   pub written_is : written ≡ text_of found
   pub done_is : done ≡ length found
 
--- The bytes begin with blobs, and a front of their text was written, with that of this many of them. The cause explains that.
+-- The bytes begin with blobs, and a prefix of their text was written, with all text of this many
+-- of them. The cause explains that.
 pub record ListedFront {A : Type 0} (AreBlobs : List ℕ → List A → Type 0) (trees_of : List A → List Tree) (text_of : List A → List ℕ) (l : Allowance)
     (stream written : List ℕ) (done : ℕ) (why : Cause) : Type 0 where
   pub part : FrontOfText AreBlobs text_of (Some stream) written
@@ -42,18 +44,18 @@ pub record ListedFront {A : Type 0} (AreBlobs : List ℕ → List A → Type 0) 
   pub told : Option (List ℕ)
   pub explains : ExplainsListingCause trees_of text_of l (Some stream) told part.bytes why part.whole part.later part.left
 
--- the same of the table of a stream
+-- the bytes are this many blobs, and the text of their table was written
 abbrev pub UnpackedSlice : Allowance → List ℕ → List ℕ → ℕ → Type 0
 UnpackedSlice l = ListedSlice (Stream l) table_text
 
--- a front of the table of the blobs that the bytes begin with
+-- a prefix of the table of the blobs with which the bytes begin was written
 abbrev pub UnpackedFront : Allowance → List ℕ → List ℕ → ℕ → Cause → Type 0
 UnpackedFront l = ListedFront (Stream l) (λ trees. trees) table_text l
 
--- the same of the lines of a stream
+-- the bytes are this many blobs, and their lines were written
 abbrev pub ShownSlice : Allowance → List ℕ → List ℕ → ℕ → Type 0
 ShownSlice l = ListedSlice (LocatedStream l 0) lines_text
 
--- a front of the lines of the blobs that the bytes begin with
+-- a prefix of the lines of the blobs with which the bytes begin was written
 abbrev pub ShownFront : Allowance → List ℕ → List ℕ → ℕ → Cause → Type 0
 ShownFront l = ListedFront (LocatedStream l 0) geometries_of lines_text l

@@ -1,4 +1,4 @@
--- The text of a reason by its number, and how a text is put into a buffer (profile).
+-- The text of a reason, by its number, and how a text is copied into a buffer (profile).
 use Rattle.std.specs.Prelude.{◌≡◌, ◌≢◌, ◌≤◌, ℕ, List, [], ◌∷◌, ◌++◌, length, take, drop}
 use Rattle.twkb_convert.specs.declared.report.Cause.{Cause}
 use Rattle.twkb_convert.specs.Texts.{cause_words}
@@ -8,17 +8,18 @@ use Rattle.twkb_buffer.specs.Numbers.{reason_number_of}
 abbrev pub HasReason : ℕ → Cause → Type 0
 HasReason number why = (reason_number_of why ≡ number) × (number ≢ 0)
 
--- The words are those that the command has for the reason with this number, and none where no reason has it.
+-- The words are those of the command for the reason with this number; there are none if no reason
+-- has it.
 pub record AreWordsOf (number : ℕ) (words : List ℕ) : Type 0 where
   pub told : (why : Cause) → HasReason number why → words ≡ cause_words why
   pub none : ((why : Cause) → HasReason number why → ⊥) → words ≡ []
 
--- a text with a zero byte after it, over the bytes that a buffer had; a text that is too long is cut
+-- a text with a zero byte after it, written over the bytes of a buffer; a text that is too long is cut
 abbrev pub with_text : List ℕ → List ℕ → List ℕ
 with_text words [] = []
 with_text words (b ∷ bs) = take (length bs) words ++ (0 ∷ drop (length words) bs)
 
--- A text of at most 31 bytes was put into a buffer, and its length was told.
+-- A text of at most 31 bytes was copied into a buffer, and its length was returned.
 pub record PutsText (AreWords : List ℕ → Type 0) (old new : List ℕ) (count : ℕ) : Type 0 where
   pub words : List ℕ
   pub are : AreWords words

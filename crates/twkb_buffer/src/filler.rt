@@ -6,7 +6,7 @@ ghost use Rattle.std.specs.Io.KnownBytes.{Keeps, WriteAppends};
 use std::io;
 use std::io::Write;
 
-// A writer that fills a slice from its front, and takes no more than fits.
+// Fills a slice from its start, and takes no more bytes than fit.
 #[derive(Drop)]
 pub(crate) struct Filler<'a> {
     buffer: &'a mut [u8],
@@ -17,7 +17,7 @@ pub(crate) struct Filler<'a> {
 impl<'a> Filler<'a> {
     ghost use Rattle.twkb_buffer.specs.Fillers.{buffer_of, filled_of};
 
-    // A writer that has filled nothing.
+    // Makes a writer that has filled nothing.
     pub(crate) fn new(buffer: &'a mut [u8]) -> Filler<'a>
         ensures same_buffer { (buffer_of result).ghost_name ≡ buffer.entry.ghost_name }
         ensures untouched { (buffer_of result).now ≡ buffer.old }
@@ -27,7 +27,7 @@ impl<'a> Filler<'a> {
     }
 }
 
-// Copies into a slice, from a place on, as many bytes as there are and as fit.
+// Copies bytes into a slice from a place on, as many as fit, and returns their number.
 fn copy_at(start: usize, from: &[u8], to: &mut [u8]) -> usize
     requires { start ≤ length to.old }
     ensures given { result ≤ length from.now }

@@ -1,4 +1,4 @@
-//! The conversions from a slice into a slice.
+//! Conversions from a slice into a slice.
 ghost use Rattle.std.specs.Prelude.{◌≡◌, ◌≢◌, ◌<◌, Some};
 ghost use Rattle.twkb_buffer.specs.Calls.{Fills};
 ghost use Rattle.twkb_buffer.specs.Conversions.{FillsOutput, Finished, Stopped};
@@ -12,8 +12,8 @@ use std::alloc::Global;
 use std::mem;
 use twkb_convert::{Conversion, ConvertFault, Limits, Report, Tap, convert};
 
-// Converts a slice into that of a filler which has filled nothing. Meanwhile the filler is that of
-// the tap; it is moved back, so that who made it sees that the loan is still in it.
+// Converts a slice into the slice of a fresh filler. During the call the filler belongs to the
+// tap; then it is moved back, so that the caller can prove that it still holds the same borrow.
 fn run_into(
     alloc: Global,
     what: Conversion,
@@ -46,7 +46,7 @@ fn fill_front(
     run_into(alloc, what, input, &mut filler, limits)
 }
 
-// The report of a slice that was too small, with the length of the whole output, where it is known.
+// The report for a slice that was too small, with the length of the whole output if it is known.
 fn with_needed(report: BufferReport, whole: Option<u64>, room: usize) -> BufferReport
     ensures same { result ≡ record report { needed = result.needed } }
     ensures needed { result.needed ≢ 0 → (room < result.needed) × (whole ≡ Some result.needed) }
@@ -58,8 +58,8 @@ fn with_needed(report: BufferReport, whole: Option<u64>, room: usize) -> BufferR
     BufferReport { needed, ..report }
 }
 
-/// Converts a slice into another, as far as there is room. Where there is too little, it converts
-/// once more to tell how much the whole output needs. Takes memory for one geometry.
+/// Converts a slice into another, as far as there is room. If there is too little, it converts
+/// once more to report the size needed. Takes memory for one geometry.
 pub fn fill(
     alloc: Global,
     what: Conversion,

@@ -1,4 +1,4 @@
-//! The conversions from a buffer to a buffer.
+//! Conversions from a buffer to a buffer.
 #![tactic(auto)]
 
 mod filler;

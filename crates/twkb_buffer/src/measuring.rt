@@ -1,4 +1,4 @@
-//! How long the output of a conversion is.
+//! The length of a conversion's output.
 ghost use Rattle.std.specs.Prelude.{◌≡◌, IfSome};
 ghost use Rattle.twkb_buffer.specs.Calls.{Counts, MeasuresBy, whole_length_of};
 ghost use Rattle.twkb_buffer.specs.Conversions.{Finished, HasLength, MeasuresOutput, Stopped};
@@ -8,7 +8,7 @@ use std::alloc::Global;
 use std::io;
 use twkb_convert::{Cause, Conversion, ConvertFault, Limits, Report, Tap, convert};
 
-// Converts a slice, and keeps nothing of the output.
+// Converts a slice and counts the output without keeping it.
 fn count_output(
     alloc: Global,
     what: Conversion,
@@ -22,7 +22,7 @@ fn count_output(
     convert(alloc, what, &mut reader, &mut writer, limits)
 }
 
-// How many bytes an answer counts, where they are the whole output: also of a refused input.
+// The length of the whole output, if the answer counted it; a refused input has one too.
 fn whole_length(answer: Result<Report, ConvertFault>) -> Option<u64>
     ensures { result ≡ whole_length_of answer }
 {
@@ -35,7 +35,7 @@ fn whole_length(answer: Result<Report, ConvertFault>) -> Option<u64>
     }
 }
 
-// What an answer is to a caller who asked for the length.
+// The report for a caller who asked for the length.
 fn measured(answer: Result<Report, ConvertFault>) -> BufferReport
     ensures { MeasuresBy answer result }
 {
@@ -51,7 +51,7 @@ fn measured(answer: Result<Report, ConvertFault>) -> BufferReport
     }
 }
 
-// How many bytes the whole output of a conversion has, where it is known. Writes nothing.
+// The length of a conversion's whole output, if it is known. Writes nothing.
 pub(crate) fn output_length(
     alloc: Global,
     what: Conversion,
@@ -63,8 +63,8 @@ pub(crate) fn output_length(
     whole_length(count_output(alloc, what, input, limits))
 }
 
-/// What a conversion would write, without writing it: `needed` is the length of its whole output. Takes memory for one
-/// geometry.
+/// Reports what a conversion would write, without writing it: `needed` is the length of its whole
+/// output. Takes memory for one geometry.
 pub fn measure(alloc: Global, what: Conversion, input: &[u8], limits: Limits) -> BufferReport
     ensures { MeasuresOutput what limits input.now result }
 {

@@ -10,7 +10,7 @@ use std::alloc::{AllocError, Global};
 use twkb_points::{PointTail, Pt};
 use twkb_polyline::{PolyFault, PolyReason, decode, encode};
 
-// The point with these coordinates, if they are in range.
+// The point with these coordinates; `None` if they are out of range.
 fn as_point(coordinates: &BufferPoint) -> Option<Pt>
     ensures range { IsSome result ↔ IsInRange (point_at coordinates.now.x coordinates.now.y) }
     ensures in_range { IfSome result IsInRange }
@@ -19,7 +19,7 @@ fn as_point(coordinates: &BufferPoint) -> Option<Pt>
     Pt::try_new(coordinates.x, coordinates.y)
 }
 
-// The points with these coordinates, or the place of the first that are out of range.
+// The points with these coordinates, or the place of the first that is out of range.
 fn points_at(alloc: Global, given: &[BufferPoint]) -> Result<Vec<Pt>, PolyFault>
     ensures points { IfOk result (λ points. ArePoints given.now points.items) }
     ensures refused { IfErr result (IsRefusedPoint given.now) }
@@ -73,7 +73,7 @@ fn nothing_put(status: u32, needed: u64) -> BufferReport
     }
 }
 
-// Puts a list at the front of a slice, if there is room for all of it.
+// Copies a list to the start of a slice, if there is room for all of it.
 fn put_whole<T: Copy>(whole: &[T], output: &mut [T]) -> BufferReport
     ensures { Puts whole.now output.old output.new result }
 {
@@ -89,8 +89,9 @@ fn put_whole<T: Copy>(whole: &[T], output: &mut [T]) -> BufferReport
     }
 }
 
-/// Writes the encoded polyline of points into a slice, if there is room for all of it. The place of a
-/// refusal is that of the first point that is out of range, from 0. Takes memory for the points and the text.
+/// Writes the encoded polyline of points into a slice, if there is room for all of it. A
+/// refusal's place is that of the first point out of range, counted from 0. Takes memory for the
+/// points and the text.
 pub fn fill_polyline(alloc: Global, given: &[BufferPoint], output: &mut [u8]) -> BufferReport
     ensures { EncodesSlice given.now output.old output.new result }
 {
@@ -111,8 +112,8 @@ pub fn fill_polyline(alloc: Global, given: &[BufferPoint], output: &mut [u8]) ->
     }
 }
 
-/// Writes the points whose encoded polyline a text is into a slice, if there is room for all of them.
-/// Takes memory for the points, twice.
+/// Writes the points of an encoded polyline into a slice, if there is room for all of them. Takes
+/// memory for the points, twice.
 pub fn fill_points(alloc: Global, text: &[u8], output: &mut [BufferPoint]) -> BufferReport
     ensures { DecodesSlice text.now output.old output.new result }
 {

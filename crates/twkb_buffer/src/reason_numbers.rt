@@ -1,10 +1,10 @@
-//! The numbers by which C knows statuses and reasons.
+//! The numbers of statuses and reasons for C.
 ghost use Rattle.std.specs.Prelude.{◌≡◌};
 ghost use Rattle.twkb_buffer.specs.Numbers.{blob_number_of, place_of, point_text_number_of, reason_number_of, row_number_of, row_text_offset_of, status_of, text_offset_of};
 
 use twkb_convert::{BlobReason, Cause, PolyReason, RowReason};
 
-// All was converted.
+// Everything was converted.
 pub(crate) const DONE: u32 = 0;
 
 // The input is refused, or too long.
@@ -13,13 +13,13 @@ pub(crate) const REFUSED: u32 = 1;
 // The input could not be read.
 const DEVICE: u32 = 3;
 
-// No memory was found.
+// Memory was refused.
 pub(crate) const MEMORY: u32 = 4;
 
 // The output is too small.
 pub(crate) const TOO_SMALL: u32 = 5;
 
-// What is wrong with a text of points.
+// The number of a fault in a text of points.
 pub(crate) fn point_text_number(reason: PolyReason) -> u32
     ensures { result ≡ point_text_number_of reason }
 {
@@ -34,7 +34,7 @@ pub(crate) fn point_text_number(reason: PolyReason) -> u32
     }
 }
 
-// What is wrong with a record.
+// The number of a fault in a record.
 fn row_number(reason: RowReason) -> u32
     ensures { result ≡ row_number_of reason }
 {
@@ -58,7 +58,7 @@ fn row_number(reason: RowReason) -> u32
     }
 }
 
-// What is wrong with an item of a blob.
+// The number of a fault in an item of a blob.
 fn blob_number(reason: BlobReason) -> u32
     ensures { result ≡ blob_number_of reason }
 {
@@ -75,7 +75,7 @@ fn blob_number(reason: BlobReason) -> u32
     }
 }
 
-// Why the input is refused: 0 where it is not.
+// The number of the reason for which the input is refused; 0 if it is not refused.
 pub(crate) fn reason_number(cause: Cause) -> u32
     ensures { result ≡ reason_number_of cause }
 {
@@ -100,7 +100,7 @@ pub(crate) fn status(cause: Cause) -> u32
     }
 }
 
-// The refused record, or where the refused item begins; 0 where nothing is refused.
+// The number of the refused record, or the offset of the refused item; 0 if nothing is refused.
 pub(crate) fn place(cause: Cause) -> u64
     ensures { result ≡ place_of cause }
 {
@@ -111,7 +111,7 @@ pub(crate) fn place(cause: Cause) -> u64
     }
 }
 
-// Where a text of points is refused.
+// The offset at which a record's text of points is refused; 0 if it is not.
 fn row_text_offset(reason: RowReason) -> u64
     ensures { result ≡ row_text_offset_of reason }
 {
@@ -121,7 +121,7 @@ fn row_text_offset(reason: RowReason) -> u64
     }
 }
 
-// Where a text of points is refused, in bytes from its front; 0 where none is.
+// The offset at which a text of points is refused, in bytes from its start; 0 if it is not.
 pub(crate) fn text_offset(cause: Cause) -> u64
     ensures { result ≡ text_offset_of cause }
 {

@@ -1,4 +1,4 @@
-//! The text of a reason by its number, and the text of the version, for a caller's buffer.
+//! The text of a reason, by its number, and the text of the version, for a caller's buffer.
 ghost use Rattle.std.specs.Prelude.{◌≡◌, ◌≢◌, ◌≤◌, IfSome, IsNone, length};
 ghost use Rattle.twkb_convert.specs.declared.report.Cause.{Cause};
 ghost use Rattle.twkb_convert.specs.Version.{version_text};
@@ -7,7 +7,7 @@ ghost use Rattle.twkb_buffer.specs.Texts.{AreWordsOf, HasReason, NamesNoBlob, Na
 
 use twkb_convert::{BlobReason, Cause, PolyReason, RowReason, VERSION};
 
-// What is wrong with a text of points, by its number.
+// The fault of a text of points with this number.
 fn point_text_reason(number: u32) -> Option<PolyReason>
     ensures some { IfSome result (λ reason. (point_text_number_of reason ≡ number) × (number ≢ 0)) }
     ensures none { IsNone result → NamesNoPointText number }
@@ -24,7 +24,7 @@ fn point_text_reason(number: u32) -> Option<PolyReason>
     }
 }
 
-// What is wrong with a record itself, by its number.
+// The fault of a record itself with this number.
 fn row_reason(number: u32) -> Option<RowReason>
     ensures some { IfSome result (λ reason. (row_number_of reason ≡ number) × (number ≢ 0)) }
     ensures none { IsNone result → NamesNoRow number }
@@ -49,7 +49,7 @@ fn row_reason(number: u32) -> Option<RowReason>
     }
 }
 
-// What is wrong with an item of a blob, by its number.
+// The fault of an item of a blob with this number.
 fn blob_reason(number: u32) -> Option<BlobReason>
     ensures some { IfSome result (λ reason. (blob_number_of reason ≡ number) × (number ≢ 0)) }
     ensures none { IsNone result → NamesNoBlob number }
@@ -91,7 +91,7 @@ fn cause_of(number: u32) -> Option<Cause>
     }
 }
 
-// The words of the reason with this number.
+// The words of the reason with this number; none if there is no such reason.
 #[tactic(auto, using(crate::proofs::TextLemmas::named, crate::proofs::TextLemmas::unnamed))]
 fn words_of(number: u32) -> &'static str
     ensures words { AreWordsOf number result.now }
@@ -103,7 +103,7 @@ fn words_of(number: u32) -> &'static str
     }
 }
 
-// Puts a text into a buffer, and a zero byte after it, as far as there is room for both.
+// Copies a text and a zero byte after it into a buffer, as far as there is room for both.
 fn put(words: &[u8], text: &mut [u8])
     ensures { text.new ≡ with_text words.now text.old }
 {
@@ -115,8 +115,9 @@ fn put(words: &[u8], text: &mut [u8])
     text[..count].copy_from_slice(&words[..count]);
 }
 
-/// Puts the text of a reason, with a zero byte after it, into a buffer, cut where there is too little
-/// room, and tells how long it is without that byte. A number that is no reason has the empty text.
+/// Copies the text of a reason and a zero byte into a buffer, cut if there is too little room,
+/// and returns its full length without that byte. A number that is no reason's has the empty
+/// text.
 pub fn put_reason(reason: u32, text: &mut [u8]) -> usize
     ensures { PutsText (AreWordsOf reason) text.old text.new result }
 {
@@ -125,7 +126,8 @@ pub fn put_reason(reason: u32, text: &mut [u8]) -> usize
     words.len()
 }
 
-/// Puts the version of the command and of the library into a buffer in the same way.
+/// Copies the version of the command and of the library, and a zero byte, into a buffer, cut if
+/// there is too little room, and returns its full length without that byte.
 pub fn put_version(text: &mut [u8]) -> usize
     ensures { PutsText (λ words. words ≡ version_text) text.old text.new result }
 {

@@ -1,33 +1,34 @@
-//! What a call answers.
+//! The report of a call.
 ghost use Rattle.std.specs.Prelude.{◌≡◌};
 ghost use Rattle.twkb_buffer.specs.Reports.{Tells};
 
 use crate::reason_numbers::{DONE, place, reason_number, status, text_offset};
 use twkb_convert::{ConvertFault, Report};
 
-/// What a call did.
+/// The result of a call.
 #[repr(C)]
 #[derive(Clone, Copy, Debug, PartialEq, Eq)]
 pub struct BufferReport {
-    /// 0: all was converted. 1: the input is refused. 2: the limits or the style are. 3: the input
-    /// could not be read. 4: no memory. 5: the output is too small.
+    /// 0: everything was converted. 1: the input is refused. 2: the limits or the style are
+    /// refused. 3: the input could not be read. 4: no memory. 5: the output is too small.
     pub status: u32,
-    /// Why the input is refused; 0 where it is not.
+    /// The number of the reason for which the input is refused; 0 if it is not.
     pub reason: u32,
-    /// The refused record, from 1, or the offset of the refused item, from 0; else 0.
+    /// The number of the refused record, from 1, or the offset of the refused item, from 0;
+    /// otherwise 0.
     pub place: u64,
-    /// Where a text of points is refused, in bytes from its front; else 0.
+    /// The offset at which a text of points is refused, in bytes from its start; otherwise 0.
     pub text_offset: u64,
-    /// The geometries whose output was written whole.
+    /// The number of geometries whose output was written whole.
     pub done: u64,
-    /// The bytes that were written.
+    /// The number of bytes written.
     pub sent: u64,
-    /// Where the output is too small, the bytes of the whole output, or 0 where they are not known;
-    /// else as many as were written.
+    /// If the output is too small, the size needed for the whole output in bytes, or 0 if it is
+    /// not known; otherwise the number of bytes written.
     pub needed: u64,
 }
 
-// The report of a conversion that was carried through.
+// Makes the report of a conversion that reached its end.
 pub(crate) fn finished(report: Report) -> BufferReport
     ensures { result ≡ record { status = 0; reason = 0; place = 0; text_offset = 0; done = report.geometries; sent = report.bytes; needed = report.bytes } }
 {
@@ -42,7 +43,7 @@ pub(crate) fn finished(report: Report) -> BufferReport
     }
 }
 
-// The report of a conversion that stopped.
+// Makes the report of a conversion that stopped.
 pub(crate) fn stopped(fault: ConvertFault) -> BufferReport
     ensures told { Tells result fault.cause }
     ensures done { result.done ≡ fault.done }

@@ -10,7 +10,7 @@ use Rattle.twkb_buffer.specs.declared.report.BufferReport.{BufferReport}
 apart : (n : ℕ) → n ≡ 0 → n ≡ 1 → ⊥
 apart n a b = omega (arith, a, b)
 
--- a number is that of one style
+-- a number is that of only one style
 one_style : (s t : Style) (n : ℕ) → IsStyleNumber s n → IsStyleNumber t n → s ≡ t
 one_style Full Full n a b = refl
 one_style Full Plain n a b = absurd (apart n a b)

@@ -1,4 +1,4 @@
--- The limits, the styles and the conversions as C names them (profile).
+-- The limits, the styles and the conversions under C's names (profile).
 use Rattle.std.specs.Prelude.{◌≡◌, ℕ}
 use Rattle.twkb_tree.specs.Limits.{Allowance}
 use Rattle.twkb_grammar.specs.declared.style.Style.{Style}
@@ -13,13 +13,13 @@ abbrev pub IsStyleNumber : Style → ℕ → Type 0
 IsStyleNumber Full number = number ≡ 0
 IsStyleNumber Plain number = number ≡ 1
 
--- the number of a conversion, where packing has this style
+-- the number of a conversion; packing has this style
 abbrev pub IsConversionNumber : Style → Conversion → ℕ → Type 0
 IsConversionNumber style (conversion.Pack s) number = (s ≡ style) × (number ≡ 0)
 IsConversionNumber style conversion.Unpack number = number ≡ 1
 IsConversionNumber style conversion.Show number = number ≡ 2
 
--- the limits as the conversions see them
+-- the limits as the conversions use them
 abbrev pub allowance_of : BufferLimits → Allowance
 allowance_of limits = record { nest = limits.nest; nodes = limits.nodes; points = limits.points }
 

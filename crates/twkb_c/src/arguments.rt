@@ -1,4 +1,4 @@
-//! The limits, the styles and the conversions as C names them.
+//! The limits, the styles and the conversions under C's names.
 ghost use Rattle.std.specs.Prelude.{◌≡◌, ◌≢◌, ◌↔◌, IsSome, IfSome, IsNone};
 ghost use Rattle.twkb_tree.specs.Limits.{IsAllowance};
 ghost use Rattle.twkb_c.specs.Arguments.{IsConversionNumber, IsStyleNumber, allowance_of, arguments_report};
@@ -6,20 +6,20 @@ ghost use Rattle.twkb_c.specs.Arguments.{IsConversionNumber, IsStyleNumber, allo
 use twkb_buffer::{BufferReport, Conversion};
 use twkb_convert::{Limits, Style};
 
-/// The most that one geometry may have.
+/// Limits on one geometry.
 #[repr(C)]
 #[derive(Clone, Copy, Debug, PartialEq, Eq)]
 pub struct BufferLimits {
-    /// Collections that a geometry may stand in, 0 to 32.
+    /// The most collections that a geometry may be in, 0 to 32.
     pub nest: u32,
-    /// Rows, 1 to 2^20.
+    /// The most rows, 1 to 2^20.
     pub nodes: u32,
-    /// Points, 0 to 2^24.
+    /// The most points, 0 to 2^24.
     pub points: u32,
 }
 
 impl BufferLimits {
-    // The limits, where each is in its range.
+    // The limits; `None` if one is out of its range.
     pub(crate) fn limits(self) -> Option<Limits>
         ensures accepted { IsSome result ↔ IsAllowance (allowance_of self) }
         ensures value { IfSome result (λ limits. limits ≡ allowance_of self) }
@@ -28,7 +28,7 @@ impl BufferLimits {
     }
 }
 
-// The style of a number: 0 is full, 1 is plain.
+// The style with a number: 0 is full, 1 is plain.
 pub(crate) fn style_of(number: u32) -> Option<Style>
     ensures style { IfSome result (λ style. IsStyleNumber style number) }
     ensures other { IsNone result → (number ≢ 0) × (number ≢ 1) }
@@ -40,7 +40,7 @@ pub(crate) fn style_of(number: u32) -> Option<Style>
     }
 }
 
-// The conversion of a number: 0 packs in this style, 1 unpacks, 2 shows.
+// The conversion with a number: 0 packs in this style, 1 unpacks, 2 shows.
 pub(crate) fn conversion_of(number: u32, style: Style) -> Option<Conversion>
     ensures some { IfSome result (λ what. IsConversionNumber style what number) }
     ensures other { IsNone result → (number ≢ 0) × (number ≢ 1) × (number ≢ 2) }
@@ -53,10 +53,10 @@ pub(crate) fn conversion_of(number: u32, style: Style) -> Option<Conversion>
     }
 }
 
-// The limits, the style or the conversion is none.
+// The status for limits, a style or a conversion that does not exist.
 const ARGUMENTS: u32 = 2;
 
-// The report of arguments that are refused.
+// The report of refused arguments.
 pub(crate) fn refused_arguments() -> BufferReport
     ensures { result ≡ arguments_report }
 {

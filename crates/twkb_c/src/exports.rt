@@ -1,4 +1,4 @@
-//! What C calls. `include/polytwkb.h` declares these.
+//! The functions for C, as declared in `include/polytwkb.h`.
 ghost use Rattle.std.specs.Prelude.{◌≡◌, ◌<◌};
 ghost use Rattle.twkb_tree.specs.Limits.{IsAllowance, standard_limits};
 ghost use Rattle.twkb_grammar.specs.declared.style.Style.{Style};
@@ -17,7 +17,7 @@ use twkb_buffer::{
 };
 use twkb_tree::{NEST_STANDARD, NODES_CAP, POINTS_CAP};
 
-/// Sixteen levels, 2^20 rows and 2^24 points. Takes no memory.
+/// The standard limits: sixteen levels, 2^20 rows and 2^24 points. Takes no memory.
 #[unsafe(no_mangle)]
 pub extern "C" fn polytwkb_standard_limits() -> BufferLimits
     ensures { allowance_of result ≡ standard_limits }
@@ -88,8 +88,8 @@ pub extern "C" fn polytwkb_show(
     fill(alloc, Conversion::Show, input, output, limits)
 }
 
-/// How many bytes the output of a conversion has: of packing (0) in a style, of unpacking (1) or of
-/// showing (2). Writes nothing.
+/// Measures the output of a conversion in bytes: of packing (0) in a style, of unpacking (1) or
+/// of showing (2). Writes nothing.
 #[unsafe(no_mangle)]
 pub extern "C" fn polytwkb_measure(
     alloc: Global,
@@ -128,7 +128,7 @@ pub extern "C" fn polytwkb_encode(
     fill_polyline(alloc, points, text)
 }
 
-/// Writes the points whose encoded polyline a text is into a buffer.
+/// Writes the points of an encoded polyline into a buffer.
 #[unsafe(no_mangle)]
 pub extern "C" fn polytwkb_decode(
     alloc: Global,

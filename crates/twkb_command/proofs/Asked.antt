@@ -1,4 +1,4 @@
--- The subcommand that the getters of `clap` answer.
+-- The subcommand that the getters of `clap` return.
 use Rattle.std.proofs.Common.{◌≡◌, List, Option, Some, None}
 use Rattle.std.specs.Prelude.{option_map}
 use Rattle.std.specs.Box.{box_value}

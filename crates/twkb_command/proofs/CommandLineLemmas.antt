@@ -1,4 +1,4 @@
--- The command line is one of which `clap` says the matches.
+-- The command line is one whose matches `clap` specifies.
 use Rattle.std.proofs.Common.{◌≡◌, true, refl, subst, map, codes, [], ◌∷◌}
 use Rattle.std.specs.Borrow.{Bor}
 use Rattle.clap.specs.Words.{App, FailsBy, HasMatchesOf, Text, fault_of, is_simple, is_simple_and_free, subcommand_of, subcommand_rows_of}
@@ -29,7 +29,7 @@ matches_line styles result app words line matches =
     let P : App → Type 0 = λ a. IfOk result (HasMatchesOf a words) in
     IfOk-weaker result _ _ (λ m h. (h (simple_line styles)).1) (subst P line matches)
 
--- what holds of the line where the styles have these names holds of a command line
+-- what is true of the line for any styles with these names is true of a command line
 pub line_of_styles : {P : App → Type 0} (styles : Bor (List (Bor Text))) → map (λ name. name.now) styles.now ≡ codes "full" ∷ codes "plain" ∷ []
     → P (command_line styles) → (line : App) × IsCommandLine line × P line
 line_of_styles styles names holds = (command_line styles, record { styles = styles; names = names; is = refl }, holds)

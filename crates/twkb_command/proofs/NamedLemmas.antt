@@ -1,4 +1,4 @@
--- Words that the command line takes name a conversion.
+-- Words that the command line accepts name a conversion.
 use Rattle.std.proofs.Common.{◌≡◌, ◌⊎◌, inl, inr, List, [], ◌∷◌, Option, Some, None, Bool, true, false, not, ◌&&◌, refl, sym, subst, map, codes}
 use Rattle.std.specs.Borrow.{Bor}
 use Rattle.std.specs.Prelude.{is_some, option_map, find, cond, Result, Ok, Err, IfOk}
@@ -97,7 +97,7 @@ name_of_conversion (Some p) (inr (inl is)) = (conversion.Unpack, sym is)
 name_of_conversion (Some p) (inr (inr (inl is))) = (conversion.Show, sym is)
 name_of_conversion (Some p) (inr (inr (inr none))) = absurd none
 
--- words that the command line takes name a conversion
+-- words that the command line accepts name a conversion
 pub names_conversion : (styles : Bor (List (Bor Text))) (words : List Text) → fault_of (command_line styles) words ≡ [] → NamesConversion (subcommand_of (command_line styles) words)
 names_conversion styles words none =
     name_of_conversion _ (subst (λ names. NamesOneOf names (subcommand_of (command_line styles) words)) (names_line styles)

@@ -1,4 +1,4 @@
--- Words without a fault give `--max-nest` no number but one from 0 to 32.
+-- Words without a fault give `--max-nest` only numbers from 0 to 32.
 use Rattle.std.proofs.Common.{◌≡◌, ◌==◌, ◌≤◌, Bool, true, false, true≢false, cond, refl, sym, subst, ap, arith, List, [], ◌∷◌, ◌++◌, drop, codes, Option, Some, None, find, bytes_eq}
 use Rattle.std.specs.Prelude.{⊤, IfOk, Ok, Err, Result, option_and_then, pos, unwrap_or}
 use Rattle.std.specs.Borrow.{Bor}
@@ -149,7 +149,7 @@ levels_nest styles = (
   ),
 )
 
--- ---- what the option gives
+-- ---- the value of the option
 
 head_nest : (r : Row) → IsNestRow r → bytes_eq r.id (codes "max-nest") ≡ true → GivesNest (row_text r)
 head_nest r is same = go r.reading r.values (is same).0 (is same).1
@@ -171,7 +171,7 @@ below_nest : (used : Option (Text × List Row)) → HoldsBelow NestRows used →
 below_nest None holds = tt
 below_nest (Some p) holds = one_nest p.1 holds
 
--- words that the command line takes give the option no other number
+-- words that the command line accepts give the option only numbers from 0 to 32
 pub has_nest : (styles : Bor (List (Bor Text))) (words : List Text) → fault_of (command_line styles) words ≡ [] → HasNest (subcommand_of (command_line styles) words)
 has_nest styles words none = below_nest _ (subcommand_holds NestRows (command_line styles) words (levels_nest styles) tt none)
 

@@ -1,4 +1,4 @@
--- What holds of the rows before each use of an argument and after it holds of the rows of a parse, where nothing has a fault.
+-- If words have no fault, a fact that each use of an argument keeps is true of the rows of the parse.
 use Rattle.std.proofs.Common.{◌≡◌, ℕ, ◌&&◌, zero, suc, Bool, true, false, cond, refl, List, [], ◌∷◌, length, drop, Option, Some, None, is_some, fold, find, option_map, chars, encode_utf8, bytes_eq, slice_get}
 use Rattle.std.specs.Prelude.{⊤}
 use Rattle.std.specs.Option.{option_map_or}
@@ -9,7 +9,7 @@ use Rattle.clap.specs.Lexer.{long_of, short_of}
 use Rattle.clap.specs.Simple.{App, Shape, built, entered, label_of, rows_at, subcommand_of}
 use Rattle.clap.specs.Faults.{bundle_fault, bundle_step_fault, entered_fault, fault_of, flag_word_fault, flags_fault, level_fault, long_fault, option_fault, other_fault, positional_fault, react_fault, settle_fault, short_fault, step_fault, use_fault, walk_fault, word_fault}
 
--- ---- kinds that are none
+-- ---- lists of kinds that are empty
 
 pub first_none : (a b : Kinds) → or_else a b ≡ [] → a ≡ []
 first_none [] b none = refl
@@ -22,7 +22,7 @@ last_none (k ∷ ks) b none = absurd (cc none)
 -- ---- one use of an argument
 
 module _ (Holds : List Row → Type 0) (again : Bool) where
-  -- a use of the argument without a fault keeps what holds
+  -- each use of the argument without a fault keeps the fact
   abbrev pub Keeps : Rule → Type 0
   Keeps a = (values : List Text) (rows : List Row) → Holds rows → use_fault again a values rows ≡ [] → Holds (used a values rows)
 
@@ -47,7 +47,7 @@ module _ (Holds : List Row → Type 0) (again : Bool) where
   by_id None values rows keeps holds none = holds
   by_id (Some a) values rows keeps holds none = keeps values rows holds none
 
--- no argument has a value where it is not used
+-- no argument has a value without being used
 abbrev pub HasNoDefaults : List Rule → Type 0
 HasNoDefaults [] = ⊤
 HasNoDefaults (a ∷ others) = (a.defaults ≡ []) × HasNoDefaults others
@@ -216,7 +216,7 @@ module _ (Holds : List Row → Type 0) (s : Shape) (each : EachKeeps Holds s.arg
 -- ---- a subcommand
 
 module _ (Holds : List Row → Type 0) where
-  -- the arguments of each subcommand keep what holds, and have no values where they are not used
+  -- the arguments of each subcommand keep the fact, and have no values without being used
   abbrev pub EachLevel : List Shape → Type 0
   EachLevel [] = ⊤
   EachLevel (s ∷ ss) = (EachKeeps Holds s.args_override_self s.rules × HasNoDefaults s.rules) × EachLevel ss
@@ -225,7 +225,7 @@ module _ (Holds : List Row → Type 0) where
   IfLevel None = ⊤
   IfLevel (Some s) = EachKeeps Holds s.args_override_self s.rules × HasNoDefaults s.rules
 
-  -- what holds of the rows of a subcommand, where one was entered
+  -- the fact is true of the rows of a subcommand, if one was entered
   abbrev pub HoldsBelow : Option (Text × List Row) → Type 0
   HoldsBelow None = ⊤
   HoldsBelow (Some (name, rows)) = Holds rows
@@ -248,7 +248,7 @@ module _ (Holds : List Row → Type 0) where
   entered_holds a (Some p) each empty none =
       level_below (find (λ s. answers_to p.0 (label_of s)) a.subs) p.1 (found_level (λ s. answers_to p.0 (label_of s)) a.subs each) empty none
 
-  -- what holds before and after each use holds of the rows of the subcommand that words without a fault enter
+  -- a fact that each use keeps is true of the rows of the subcommand that words without a fault enter
   pub subcommand_holds : (a : App) (words : List Text) → EachLevel (built a).subs → Holds [] → fault_of a words ≡ [] → HoldsBelow (subcommand_of a words)
   subcommand_holds a words each empty none =
       entered_holds (built a) _ each empty (first_none _ _ (last_none _ _ none))

@@ -11,7 +11,7 @@ use Rattle.twkb_io.specs.declared.output.OutFault.{OutFault}
 use Rattle.twkb_io.specs.declared.output.OutFault.TheVariants as fault
 use Rattle.twkb_command.specs.Printing.{Fails, Prints}
 
--- a fault of a put that was no device's
+-- a fault of a put that was not the device's
 device_fault : (e : OutFault) → (e ≡ fault.Spent → ⊥) → (e ≡ fault.TooLong → ⊥) → is_device e ≡ true
 device_fault fault.Write spent long = refl
 device_fault fault.Stuck spent long = refl
@@ -26,7 +26,7 @@ fails contents old new front e device refused = record {
   spent = refused.spent;
 }
 
--- what one put does
+-- the effect of one put
 pub put_prints : {W : Type 0} (contents : W → Option (List ℕ)) (old new : Output W) (bytes : List ℕ) (result : Result (Unit {0}) OutFault)
     → OnOk result (Took contents old bytes new)
     → IfErr result (λ e. Cut contents old bytes e new)
@@ -43,7 +43,7 @@ put_prints contents old new bytes (Err e) took cut spent long unchanged = record
   stays = unchanged;
 }
 
--- what a flush does
+-- the effect of a flush
 pub flush_prints : {W : Type 0} (contents : W → Option (List ℕ)) (old new : Output W) (result : Result (Unit {0}) OutFault)
     → OnOk result (Took contents old [] new)
     → IfErr result (λ e. Refused contents old [] e new)
@@ -82,7 +82,7 @@ then_puts contents a b c xs ys fresh room (inl took) second =
       | inr failed ↦ inr (second_fails contents a b c xs took failed)
     ]
 
--- two prints print the join
+-- two prints, one after the other, print the join
 pub prints_join : {W : Type 0} (contents : W → Option (List ℕ)) (a b c : Output W) (xs ys : List ℕ)
     → Prints contents a xs b → Prints contents b ys c → Prints contents a (xs ++ ys) c
 prints_join contents a b c xs ys first second = record {
@@ -94,12 +94,12 @@ prints_join contents a b c xs ys first second = record {
       second.stays (subst (λ x. is_spent x ≡ true) (sym same) spent) ∙ same;
 }
 
--- a text that is printed and flushed
+-- a text is printed and flushed
 pub then_flushed : {W : Type 0} (contents : W → Option (List ℕ)) (a b c : Output W) (xs : List ℕ)
     → Prints contents a xs b → Prints contents b [] c → Prints contents a xs c
 then_flushed contents a b c xs first second = subst (λ ys. Prints contents a ys c) (append-nil xs) (prints_join contents a b c xs [] first second)
 
--- what a print of at most 2^62 bytes by a fresh output adds where no failure was counted
+-- what a print of at most 2^62 bytes by a fresh output adds, if no failure was counted
 pub all_printed : {W : Type 0} (contents : W → Option (List ℕ)) (old new : Output W) (bytes : List ℕ) → is_spent old ≡ false → sent_of old ≡ 0 → length bytes ≤ 2 ^ 62
     → Prints contents old bytes new → output_failures old < 2 ^ 64 - 1 → output_failures new ≡ output_failures old
     → ((output_tap new).ghost_name ≡ (output_tap old).ghost_name) × Appends (contents (device_of (output_tap old).now)) (contents (device_of (output_tap new).now)) bytes
@@ -110,7 +110,7 @@ all_printed contents old new bytes fresh none short prints below same =
       | inr failed ↦ absurd (let more = failed.failures in omega (arith, more, same, below))
     ]
 
--- what a short print by a fresh output adds where no failure was counted
+-- what a short print by a fresh output adds, if no failure was counted
 pub printed : {W : Type 0} (contents : W → Option (List ℕ)) (old new : Output W) (bytes : List ℕ) → is_spent old ≡ false → sent_of old ≡ 0 → length bytes ≤ 200
     → Prints contents old bytes new → output_failures old < 2 ^ 64 - 1 → output_failures new ≡ output_failures old
     → ((output_tap new).ghost_name ≡ (output_tap old).ghost_name) × Appends (contents (device_of (output_tap old).now)) (contents (device_of (output_tap new).now)) bytes

@@ -1,4 +1,4 @@
--- The refusal that an error of `clap` is.
+-- The refusal for an error of `clap`.
 use Rattle.std.proofs.Common.{◌≡◌, ◌⊎◌, ℕ, List, [], Option, inl, inr, refl, sym, subst}
 use Rattle.clap.specs.Words.{IsAmong, Kinds, kind_of}
 use Rattle.clap.specs.Kinds.{HasKind}
@@ -23,13 +23,13 @@ pub refusal_among : (kinds : Kinds) (e : Error) (r : Refusal) → HasKind kinds 
 refusal_among kinds e r (inl memory) is_memory is = subst (IsRefusalAmong kinds) (sym (is_memory memory)) tt
 refusal_among kinds e r (inr listed) is_memory is = among kinds (kind_of e) r listed is
 
--- ---- what a run with refused words does
+-- ---- the effect of a run with refused words
 
 module _ {R W E : Type 0} (told : E → Option (List ℕ)) (kinds : Kinds) (reader : Tap R) (writer writer_after : Tap W) (errors errors_after : Tap E) (status : ℕ) where
   lacks_memory : TellsMemory told writer errors writer_after errors_after status → LacksMemory told reader writer errors reader writer_after errors_after status
   lacks_memory tells = record { unread = refl; unwritten = tells.unwritten; status_is = tells.status_is; line = tells.line }
 
-  -- words without a fault are refused for want of memory alone
+  -- words without a fault are only refused for want of memory
   pub fine_lacks : (r : Refusal) → IsRefusalAmong kinds r → Refuses told r writer errors writer_after errors_after status
       → kinds ≡ [] → LacksMemory told reader writer errors reader writer_after errors_after status
   fine_lacks refusal.Memory among refuses none = lacks_memory refuses
@@ -37,7 +37,7 @@ module _ {R W E : Type 0} (told : E → Option (List ℕ)) (kinds : Kinds) (read
   fine_lacks (refusal.Version text) among refuses none = absurd (subst (IsAmong DisplayVersion) none among)
   fine_lacks (refusal.Usage text) among refuses none = absurd (subst (IsAmong among.0) none among.1)
 
-  -- one of the kinds of their fault is answered, or no memory was found
+  -- one of the kinds of the words' fault is answered, or memory was refused
   pub refused_answers : (r : Refusal) → IsRefusalAmong kinds r → Refuses told r writer errors writer_after errors_after status
       → ((kind : ErrorKind) × IsAmong kind kinds × Answers kind reader writer errors reader writer_after errors_after status)
       ⊎ LacksMemory told reader writer errors reader writer_after errors_after status

@@ -1,4 +1,4 @@
--- The fault of words asks for help alone, for the version alone, or for neither.
+-- The fault of words asks only for help, only for the version, or for neither.
 use Rattle.std.proofs.Common.{◌≡◌, ◌∙◌, ◌&&◌, ◌||◌, ◌==◌, ℕ, zero, suc, Bool, true, false, true≢false, not, cond, inl, inr, refl, sym, codes, List, [], ◌∷◌, drop, length, Option, Some, None, is_some, find, bytes_eq, chars, encode_utf8, nat_lt, slice_get, subst}
 use Rattle.std.specs.Prelude.{⊤}
 use Rattle.std.specs.List.{list_any}
@@ -251,6 +251,6 @@ lacking_line : (styles : Bor (List (Bor Text))) → ((built (command_line styles
 unfolding clap_on_literals command_line
 lacking_line styles = (refl, (refl, (refl, (refl, tt))))
 
--- the fault of a command line asks for help alone, for the version alone, or for neither
+-- the fault of a command line asks only for help, only for the version, or for neither
 pub line_one : (styles : Bor (List (Bor Text))) (words : List Text) → IsOneRequest (fault_of (command_line styles) words)
 line_one styles words = words_one (command_line styles) words (lacking_line styles).0 (lacking_line styles).1

@@ -1,4 +1,4 @@
--- The line on standard error that tells why a conversion stopped, or why words were refused (profile).
+-- The line on standard error that says why a conversion stopped, or why words were refused (profile).
 use Rattle.std.specs.Prelude.{ℕ, List, ◌++◌, codes, decimal}
 use Rattle.twkb_polyline.specs.declared.fault.PolyReason.{PolyReason}
 use Rattle.twkb_polyline.specs.Texts.{point_text_words}
@@ -10,16 +10,16 @@ use Rattle.twkb_convert.specs.declared.report.Cause.{Cause}
 use Rattle.twkb_convert.specs.declared.report.Cause.TheVariants as cause
 use Rattle.twkb_convert.specs.Texts.{cause_words}
 
--- what is wrong with a text of points, and where
+-- the reason and the place of a fault in a text of points
 abbrev pub text_reason : ℕ → PolyReason → List ℕ
 text_reason offset reason = codes "polyline at " ++ (decimal offset ++ (codes ": " ++ point_text_words reason))
 
--- what is wrong with a record
+-- the reason for which a record is refused
 abbrev pub reason_text : RowReason → List ℕ
 reason_text (row.Polyline offset reason) = text_reason offset reason
 reason_text reason = row_words reason
 
--- where a conversion stopped, and why
+-- the place and the reason of a stop
 abbrev pub cause_text : Cause → List ℕ
 cause_text (cause.Row number reason) = codes "record " ++ (decimal number ++ (codes ": " ++ reason_text reason))
 cause_text (cause.Blob offset reason) = codes "byte " ++ (decimal offset ++ (codes ": " ++ blob_words reason))
@@ -29,6 +29,6 @@ cause_text c = cause_words c
 abbrev pub line_of : Cause → List ℕ
 line_of c = codes "polytwkb: " ++ (cause_text c ++ codes "\n")
 
--- the line of a word that is no UTF-8
+-- the line for a word that is not UTF-8
 abbrev pub no_text_line : List ℕ
 no_text_line = codes "polytwkb: a word is not UTF-8\n"

@@ -17,7 +17,7 @@ pub record Prints {W : Type 0} (contents : W → Option (List ℕ)) (old : Outpu
   pub puts : is_spent old ≡ false → sent_of old + length bytes ≤ 2 ^ 62 → Took contents old bytes new ⊎ Fails old new
   pub stays : is_spent old ≡ true → new ≡ old
 
--- these bytes were added to what the writer took, where no write failed
+-- these bytes were added to those that the writer took, unless a write failed
 abbrev pub IsPrinted : {W : Type 0} → (W → Option (List ℕ)) → Tap W → List ℕ → Tap W → Type 0
 IsPrinted contents old bytes new = failures_of old < 2 ^ 64 - 1 → failures_of new ≡ failures_of old
     → Appends (contents (device_of old)) (contents (device_of new)) bytes

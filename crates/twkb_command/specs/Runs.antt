@@ -1,4 +1,4 @@
--- What a run of the command does (profile).
+-- The effect of a run of the command (profile).
 use Rattle.std.specs.Prelude.{ℕ, ◌≡◌, ◌≢◌, ◌⊎◌, List, [], Option}
 use Rattle.clap.specs.Words.{App, IsAmong, Text, fault_of}
 use Rattle.clap.specs.declared.error.kind.ErrorKind.{ErrorKind}
@@ -11,30 +11,32 @@ use Rattle.twkb_command.specs.Lines.{line_of}
 use Rattle.twkb_command.specs.Printing.{IsPrinted}
 use Rattle.twkb_command.specs.Words.{AsksFor}
 
--- No memory was found to read the words: nothing is converted, and standard error gets the line that says so.
+-- Memory was refused while the words were read: nothing is converted, and standard error gets the
+-- line that says so.
 pub record LacksMemory {R W E : Type 0} (told : E → Option (List ℕ)) (reader : Tap R) (writer : Tap W) (errors : Tap E) (reader_after : Tap R) (writer_after : Tap W) (errors_after : Tap E) (status : ℕ) : Type 0 where
   pub unread : reader_after ≡ reader
   pub unwritten : writer_after ≡ writer
   pub status_is : status ≡ 4
   pub line : IsPrinted told errors (line_of cause.Memory) errors_after
 
--- Words that are refused with this kind are answered: help and the version with status 0 and nothing on standard error, all else with status 2 and nothing written. Nothing is read.
+-- Words refused with an error of this kind are answered: help and the version with status 0 and
+-- nothing on standard error, any other with status 2 and nothing written. Nothing is read.
 pub record Answers {R W E : Type 0} (kind : ErrorKind) (reader : Tap R) (writer : Tap W) (errors : Tap E) (reader_after : Tap R) (writer_after : Tap W) (errors_after : Tap E) (status : ℕ) : Type 0 where
   pub unread : reader_after ≡ reader
   pub told : (kind ≡ DisplayHelp) ⊎ (kind ≡ DisplayVersion) → (status ≡ 0) × (errors_after ≡ errors)
   pub refused : kind ≢ DisplayHelp → kind ≢ DisplayVersion → (status ≡ 2) × (writer_after ≡ writer)
 
--- ---- what a run with a command line's words does: they have no fault, or they have one
+-- ---- the effect of a command line's words, with a fault or without
 
 module _ {R W E : Type 0} (remaining : R → Option (List ℕ)) (contents : W → Option (List ℕ)) (told : E → Option (List ℕ)) (line : App) (words : List Text)
     (reader : Tap R) (writer : Tap W) (errors : Tap E) (reader_after : Tap R) (writer_after : Tap W) (errors_after : Tap E) (status : ℕ) where
-  -- words without a fault: what they ask for is carried out, or no memory was found
+  -- words without a fault: the request is carried out, or memory was refused
   abbrev pub RunsAccepted : Type 0
   RunsAccepted = fault_of line words ≡ []
       → ((request : Request) × AsksFor line words request × CarriesOut remaining contents told request reader writer errors reader_after writer_after errors_after status)
       ⊎ LacksMemory told reader writer errors reader_after writer_after errors_after status
 
-  -- words with a fault: one of its kinds is answered, or no memory was found
+  -- words with a fault: one of its kinds is answered, or memory was refused
   abbrev pub RunsRefused : Type 0
   RunsRefused = fault_of line words ≢ []
       → ((kind : ErrorKind) × IsAmong kind (fault_of line words) × Answers kind reader writer errors reader_after writer_after errors_after status)

@@ -1,4 +1,4 @@
--- What the words ask for.
+-- The request that the words make.
 use Rattle.std.specs.Prelude.{◌≡◌, ◌≢◌, ◌≤◌, ◌↔◌, ◌⊎◌, ⊤, List, [], ◌∷◌, Option, Some, None, Result, IfOk, IfErr, OnOk, codes}
 use Rattle.std.specs.Str.Parse.{IsNumeral, digits_value, without_leading_plus}
 use Rattle.clap.specs.Words.{App, IsAmong, Kinds, Row, Text, fault_of, first_of, one_of, subcommand_of}
@@ -13,7 +13,7 @@ use Rattle.twkb_command.specs.declared.refusal.Refusal.{Refusal}
 use Rattle.twkb_command.specs.declared.refusal.Refusal.TheVariants as refusal
 use Rattle.twkb_command.specs.declared.request.Request.{Request}
 
--- the word of a conversion
+-- the name of a conversion
 abbrev pub name_of : Conversion → Text
 name_of (conversion.Pack style) = codes "pack"
 name_of conversion.Unpack = codes "unpack"
@@ -23,7 +23,8 @@ name_of conversion.Show = codes "show"
 abbrev pub IsNest : Text → Type 0
 IsNest digits = IsNumeral 10 (without_leading_plus digits) × (digits_value 10 (without_leading_plus digits) ≤ 32)
 
--- the limits with the nesting that the option gives, a number from 0 to 32, the standard ones where it gives none
+-- the limits with the nesting that the option gives, a number from 0 to 32, or the standard ones
+-- if it gives none
 abbrev pub AreLimits : Option Text → Allowance → Type 0
 AreLimits None l = l ≡ standard_limits
 AreLimits (Some digits) l = IsNest digits × (l ≡ record standard_limits { nest = digits_value 10 (without_leading_plus digits) })
@@ -33,17 +34,17 @@ abbrev pub GivesNest : Option Text → Type 0
 GivesNest None = ⊤
 GivesNest (Some digits) = IsNest digits
 
--- the option gives a text that is no number from 0 to 32
+-- the option gives a text that is not a number from 0 to 32
 abbrev pub GivesNoNest : Option Text → Type 0
 GivesNoNest None = ⊥
 GivesNoNest (Some digits) = IsNest digits → ⊥
 
--- the style that the option gives: plain for `plain`, and full for `full` or where it gives none
+-- the style that the option gives: plain for `plain`, full for `full` or if it gives none
 abbrev pub IsStyle : Option Text → Style → Type 0
 IsStyle None style = style ≡ Full
 IsStyle (Some name) style = (style ≡ Plain) ↔ (name ≡ codes "plain")
 
--- the subcommand of this name is this conversion, with the style that its option gives
+-- the subcommand with this name is this conversion, with the style that its option gives
 abbrev pub Names : Text → Option Text → Conversion → Type 0
 Names name given (conversion.Pack style) = (name ≡ codes "pack") × IsStyle given style
 Names name given conversion.Unpack = name ≡ codes "unpack"
@@ -73,25 +74,27 @@ NamesConversion (Some (name, rows)) = IsConversionName name
 abbrev pub AsksFor : App → List Text → Request → Type 0
 AsksFor line words request = IsAskedBy (subcommand_of line words) request
 
--- the refusal that an error of this kind is, unless no memory was found
+-- the refusal for an error of this kind, unless memory was refused
 abbrev pub IsRefusal : ErrorKind → Refusal → Type 0
 IsRefusal kind refusal.Memory = ⊤
 IsRefusal kind (refusal.Help text) = kind ≡ DisplayHelp
 IsRefusal kind (refusal.Version text) = kind ≡ DisplayVersion
 IsRefusal kind (refusal.Usage text) = (kind ≢ DisplayHelp) × (kind ≢ DisplayVersion)
 
--- the refusal of words that may have these kinds of error: help or the version where it was asked for, unless no memory was found
+-- the refusal of words that may have errors of these kinds: help or the version if it was asked
+-- for, unless memory was refused
 abbrev pub IsRefusalAmong : Kinds → Refusal → Type 0
 IsRefusalAmong kinds refusal.Memory = ⊤
 IsRefusalAmong kinds (refusal.Help text) = IsAmong DisplayHelp kinds
 IsRefusalAmong kinds (refusal.Version text) = IsAmong DisplayVersion kinds
 IsRefusalAmong kinds (refusal.Usage text) = (kind : ErrorKind) × IsAmong kind kinds × (kind ≢ DisplayHelp) × (kind ≢ DisplayVersion)
 
--- the fault of words asks for help alone, for the version alone, or for neither
+-- the fault of words asks only for help, only for the version, or for neither
 abbrev pub IsOneRequest : Kinds → Type 0
 IsOneRequest kinds = (kinds ≡ DisplayHelp ∷ []) ⊎ (kinds ≡ DisplayVersion ∷ []) ⊎ ((IsAmong DisplayHelp kinds → ⊥) × (IsAmong DisplayVersion kinds → ⊥))
 
--- What reading words answers: what they ask for where they have no fault, else a refusal of one of its kinds, and their fault asks for help alone, for the version alone, or for neither.
+-- The result of reading words: their request if they have no fault, otherwise a refusal of one of
+-- its kinds. The fault asks only for help, only for the version, or for neither.
 pub record Reads (line : App) (words : List Text) (answer : Result Request Refusal) : Type 0 where
   pub asked : IfOk answer (AsksFor line words)
   pub fits : OnOk answer (fault_of line words ≡ [])

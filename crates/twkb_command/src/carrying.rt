@@ -1,4 +1,4 @@
-//! A request is carried out, and words without one are answered, over any devices.
+//! Carrying out a request, and answering words that make none, over any devices.
 ghost use Rattle.std.specs.Prelude.{◌≡◌, ◌≢◌};
 ghost use Rattle.twkb_command.specs.Carrying.{CarriesOut, Refuses};
 ghost use Rattle.twkb_command.specs.Lines.{line_of, no_text_line};
@@ -13,9 +13,9 @@ use std::io::{ErrorKind, Read, Write};
 use twkb_convert::{Cause, convert};
 use twkb_io::Tap;
 
-/// Carries out a request, and answers the status: 0 where all was converted, 1 where the input is
-/// refused or a length passes its bound, 3 where a device failed, 4 for want of memory. A fault is
-/// told to `errors`; a failure there changes nothing else.
+/// Carries out a request, and returns the status: 0 if all was converted, 1 if the input is
+/// refused or a length passes its bound, 3 if a device failed, 4 for want of memory. A fault is
+/// reported to `errors`; a failure there changes nothing else.
 pub fn carry_out<R: Read, W: Write, E: Write>(
     alloc: Global,
     request: Request,
@@ -34,7 +34,7 @@ pub fn carry_out<R: Read, W: Write, E: Write>(
     }
 }
 
-// Prints what was asked for, and answers the status.
+// Prints the text that was asked for, and returns the status.
 fn tell<W: Write>(writer: &mut Tap<W>, text: &str) -> u8
     ensures { result ≡ 0 }
 {
@@ -42,9 +42,9 @@ fn tell<W: Write>(writer: &mut Tap<W>, text: &str) -> u8
     DONE
 }
 
-/// Answers words that ask for no conversion: help and the version go to `writer`, all else to
-/// `errors`. Its status is 0 for these two, 2 where the words are refused, 4 for want of memory.
-/// Takes no memory.
+/// Answers words that ask for no conversion: help and the version go to `writer`, everything else
+/// to `errors`. The status is 0 for help and the version, 2 if the words are refused, 4 for want
+/// of memory. Takes no memory.
 pub fn refuse<W: Write, E: Write>(refusal: &Refusal, writer: &mut Tap<W>, errors: &mut Tap<E>) -> u8
     ensures { Refuses E.contents refusal.now writer.old errors.old writer.new errors.new result }
 {
@@ -59,7 +59,7 @@ pub fn refuse<W: Write, E: Write>(refusal: &Refusal, writer: &mut Tap<W>, errors
     }
 }
 
-/// Says that no memory was found, and answers the status. Takes no memory.
+/// Reports that memory was refused, and returns the status. Takes no memory.
 pub fn lack_memory<E: Write>(errors: &mut Tap<E>) -> u8
     ensures status { result ≡ 4 }
     ensures line { IsPrinted E.contents errors.old (line_of Cause.Memory) errors.new }
@@ -68,8 +68,8 @@ pub fn lack_memory<E: Write>(errors: &mut Tap<E>) -> u8
     MEMORY
 }
 
-/// Says why the words were not read, and answers the status: a word that is no UTF-8 is refused as
-/// other words are. Takes no memory.
+/// Reports why the words were not read, and returns the status. A word that is not UTF-8 is
+/// refused like any other bad word. Takes no memory.
 pub fn lack_words<E: Write>(errors: &mut Tap<E>, kind: ErrorKind) -> u8
     ensures memory { kind ≡ ErrorKind.OutOfMemory → (result ≡ 4) × IsPrinted E.contents errors.old (line_of Cause.Memory) errors.new }
     ensures other { kind ≢ ErrorKind.OutOfMemory → (result ≡ 2) × IsPrinted E.contents errors.old no_text_line errors.new }

@@ -1,4 +1,4 @@
-//! The command line, as `clap` is told of it.
+//! The command line, as it is described to `clap`.
 ghost use Rattle.std.specs.Prelude.{◌≡◌, false, codes, IfOk};
 ghost use Rattle.clap.specs.Words.{app_of, new_app, rule_of, shape_of, with_subcommand};
 ghost use Rattle.clap.specs.declared.builder.command.Command.TheViews.{out-Command};
@@ -22,7 +22,7 @@ fn max_nest_option<'a>(alloc: Global) -> Arg<'a>
     described(nest, help::MAX_NEST)
 }
 
-// The option `--style`, which takes one of these names.
+// The option `--style`, whose values are these names.
 fn style_choice<'a>(alloc: Global, styles: &'a [&'a str]) -> Arg<'a>
     ensures rule { rule_of result ≡ style_option styles.entry }
     ensures local { result.global ≡ false }
@@ -34,7 +34,7 @@ fn style_choice<'a>(alloc: Global, styles: &'a [&'a str]) -> Arg<'a>
     described(style, help::STYLE)
 }
 
-// The option with what help says of it.
+// The option with its help text.
 fn described<'a>(option: Arg<'a>, help: &'a str) -> Arg<'a>
     ensures rule { rule_of result ≡ rule_of option.entry }
     ensures local { result.global ≡ option.entry.global }
@@ -42,7 +42,7 @@ fn described<'a>(option: Arg<'a>, help: &'a str) -> Arg<'a>
     option.help(help)
 }
 
-// A subcommand without options, with what help says of it and how it is called.
+// A subcommand without options, with its help text and its usage.
 fn subcommand<'a>(alloc: Global, name: &'a str, about: &'a str, usage: &'a str) -> Command<'a>
     ensures app { app_of result ≡ new_app name.entry.now }
     ensures local { (out-Command result).has_globals ≡ false }
@@ -66,7 +66,7 @@ fn conversion_command<'a>(
     subcommand(alloc, name, about, usage).arg(max_nest_option(alloc))
 }
 
-// The subcommand `pack`, which has the option `--style` too.
+// The subcommand `pack`, which also has the option `--style`.
 fn pack_command<'a>(alloc: Global, styles: &'a [&'a str]) -> Result<Command<'a>, AllocError>
     ensures shape { IfOk result (λ command. shape_of command ≡ pack_shape styles.entry) }
     ensures local { IfOk result (λ command. (out-Command command).has_globals ≡ false) }
@@ -76,7 +76,7 @@ fn pack_command<'a>(alloc: Global, styles: &'a [&'a str]) -> Result<Command<'a>,
         .arg(style_choice(alloc, styles))
 }
 
-// The program's command, with what help says of it.
+// The program's command with its help text.
 fn described_command<'a>(alloc: Global) -> Command<'a>
     ensures app { app_of result ≡ new_app (codes "polytwkb") }
     ensures local { (out-Command result).has_globals ≡ false }
@@ -105,7 +105,7 @@ fn packing_command<'a>(alloc: Global, styles: &'a [&'a str]) -> Result<Command<'
     bare_command(alloc).subcommand(pack)
 }
 
-// A command with a subcommand more, which has the option `--max-nest`.
+// A command with one more subcommand, which has the option `--max-nest`.
 fn with_conversion<'a>(
     alloc: Global,
     program: Command<'a>,
@@ -119,7 +119,7 @@ fn with_conversion<'a>(
     program.subcommand(conversion)
 }
 
-// The command line: one of the subcommands.
+// The command line, which requires one of the subcommands.
 #[tactic(auto, unfolding(crate::specs::CommandLine::command_line))]
 pub(crate) fn command<'a>(alloc: Global, styles: &'a [&'a str]) -> Result<Command<'a>, AllocError>
     ensures { IfOk result (λ command. app_of command ≡ command_line styles.entry) }

@@ -1,10 +1,10 @@
-//! The status with which a run ends.
+//! The exit status of a run.
 ghost use Rattle.std.specs.Prelude.{◌≡◌};
 ghost use Rattle.twkb_command.specs.ExitCode.{status_of};
 
 use twkb_convert::Cause;
 
-// Everything was converted, or help was asked for and given.
+// Everything was converted, or help or the version was asked for and printed.
 pub(crate) const DONE: u8 = 0;
 
 // The input is refused, or too long.
@@ -16,11 +16,11 @@ pub(crate) const USAGE: u8 = 2;
 // A device failed.
 const DEVICE: u8 = 3;
 
-// No memory was found.
+// Memory was refused.
 pub(crate) const MEMORY: u8 = 4;
 
-/// The status of a conversion that stopped: 1 where the input is refused or a length passes its
-/// bound, 3 where a device failed, 4 for want of memory.
+/// The status of a conversion that stopped: 1 if the input is refused or a length passes its
+/// bound, 3 if a device failed, 4 for want of memory.
 pub fn status(cause: &Cause) -> u8
     ensures { result ≡ status_of cause.now }
 {

@@ -1,4 +1,4 @@
-//! What help says.
+//! The texts of help.
 
 // What the program does.
 pub(crate) const PROGRAM: &str =
@@ -7,34 +7,33 @@ pub(crate) const PROGRAM: &str =
 // What `pack` does.
 pub(crate) const PACK: &str = "Reads a table and writes a stream of blobs, one for each geometry";
 
-// How `pack` is called: it takes no file names.
+// The usage of `pack`, which takes no file names.
 pub(crate) const CALL_PACK: &str = "polytwkb pack [OPTIONS] < TABLE > STREAM";
 
 // What `unpack` does.
 pub(crate) const UNPACK: &str = "Reads a stream of blobs and writes a table, the header line first";
 
-// How `unpack` is called.
+// The usage of `unpack`.
 pub(crate) const CALL_UNPACK: &str = "polytwkb unpack [OPTIONS] < STREAM > TABLE";
 
 // What `show` does.
 pub(crate) const SHOW: &str =
     "Reads a stream of blobs and writes a line for each TWKB header in it";
 
-// How `show` is called.
+// The usage of `show`.
 pub(crate) const CALL_SHOW: &str = "polytwkb show [OPTIONS] < STREAM > LINES";
 
-// Where the help of a subcommand leads.
+// Where the help of a subcommand points to.
 pub(crate) const ELSEWHERE: &str = "'polytwkb --help' describes tables, streams and exit statuses.";
 
-// What `--max-nest` is.
+// The meaning of `--max-nest`.
 pub(crate) const MAX_NEST: &str =
-    "How many collections a geometry may stand in, 0 to 32 [default: 16]";
+    "How many collections a geometry may be in, 0 to 32 [default: 16]";
 
-// What `--style` is.
+// The meaning of `--style`.
 pub(crate) const STYLE: &str = "full: blobs with sizes and boxes; plain: without [default: full]";
 
-// What `--help` adds: how to call the program, the table, the stream, the lines of `show`, the
-// statuses.
+// What `--help` adds: the program's usage, the table, the stream, the lines of `show`, the statuses.
 pub(crate) const MORE: &str = "Each command reads standard input and writes standard output:
 
   polytwkb pack < places.csv > places.twkb
@@ -66,7 +65,7 @@ Stream: one TWKB blob for each geometry of depth 0, with nothing between them.
 
 Lines of show: level, offset, kind, precision, metadata byte, length, points.
 
-  level      how many collections the geometry stands in
+  level      how many collections the geometry is in
   offset     the byte at which it begins, from 0
   length     its bytes, header and parts included
   points     its points, those of its parts included

@@ -1,4 +1,5 @@
-//! The command over any reader and writers: `clap` reads its words, and the conversion that they ask for is carried out.
+//! The command over any reader and writers: `clap` reads its words, and the conversion that they
+//! ask for is carried out.
 #![tactic(auto)]
 
 mod carrying;

@@ -1,4 +1,4 @@
-//! The line on standard error that tells why a conversion stopped, and other texts.
+//! The line on standard error that says why a conversion stopped, and other texts.
 ghost use Rattle.std.specs.Prelude.{◌++◌, ◌≤◌, ◌^◌, codes, decimal, length};
 ghost use Rattle.twkb_engine.specs.Texts.{blob_words};
 ghost use Rattle.twkb_command.specs.Lines.{cause_text, line_of, reason_text, text_reason};
@@ -11,14 +11,14 @@ use twkb_io::{Output, Sink, Tap};
 use twkb_polyline::PolyReason;
 use twkb_table::RowReason;
 
-// Puts a text, unless a put before was refused.
+// Puts a text, unless an earlier put was refused.
 fn put_text<W: Write>(output: &mut Output<'_, W>, text: &str)
     ensures { Prints W.contents output.old text.now output.new }
 {
     let _ = output.put(text.as_bytes());
 }
 
-// Puts a number in decimals.
+// Puts a number as a decimal.
 fn put_decimal<W: Write>(output: &mut Output<'_, W>, number: u64)
     ensures prints { Prints W.contents output.old (decimal number) output.new }
     ensures short { length (decimal number) ≤ 40 }
@@ -27,7 +27,7 @@ fn put_decimal<W: Write>(output: &mut Output<'_, W>, number: u64)
     put_text(output, buffer.format(number));
 }
 
-// Puts what is wrong with a text of points, and where.
+// Puts the reason and the place of a fault in a text of points.
 fn put_text_reason<W: Write>(output: &mut Output<'_, W>, offset: usize, reason: PolyReason)
     ensures prints { Prints W.contents output.old (text_reason offset reason) output.new }
     ensures short { length (text_reason offset reason) ≤ 100 }
@@ -38,7 +38,7 @@ fn put_text_reason<W: Write>(output: &mut Output<'_, W>, offset: usize, reason: 
     put_text(output, reason.text());
 }
 
-// Puts what is wrong with a record.
+// Puts the reason for which a record is refused.
 fn put_row_reason<W: Write>(output: &mut Output<'_, W>, reason: RowReason)
     ensures prints { Prints W.contents output.old (reason_text reason) output.new }
     ensures short { length (reason_text reason) ≤ 100 }
@@ -49,7 +49,7 @@ fn put_row_reason<W: Write>(output: &mut Output<'_, W>, reason: RowReason)
     }
 }
 
-// Puts which record is refused, and why.
+// Puts the number and the reason of a refused record.
 fn put_row<W: Write>(output: &mut Output<'_, W>, number: u64, reason: RowReason)
     ensures prints { Prints W.contents output.old (codes "record " ++ (decimal number ++ (codes ": " ++ reason_text reason))) output.new }
     ensures short { length (codes "record " ++ (decimal number ++ (codes ": " ++ reason_text reason))) ≤ 160 }
@@ -60,7 +60,7 @@ fn put_row<W: Write>(output: &mut Output<'_, W>, number: u64, reason: RowReason)
     put_row_reason(output, reason);
 }
 
-// Puts which item is refused, and why.
+// Puts the offset and the reason of a refused item.
 fn put_blob<W: Write>(output: &mut Output<'_, W>, offset: u64, reason: BlobReason)
     ensures prints { Prints W.contents output.old (codes "byte " ++ (decimal offset ++ (codes ": " ++ blob_words reason))) output.new }
     ensures short { length (codes "byte " ++ (decimal offset ++ (codes ": " ++ blob_words reason))) ≤ 160 }
@@ -71,7 +71,7 @@ fn put_blob<W: Write>(output: &mut Output<'_, W>, offset: u64, reason: BlobReaso
     put_text(output, reason.text());
 }
 
-// Puts where a conversion stopped, and why.
+// Puts the place and the reason of a stop.
 fn put_cause<W: Write>(output: &mut Output<'_, W>, cause: Cause)
     ensures prints { Prints W.contents output.old (cause_text cause) output.new }
     ensures short { length (cause_text cause) ≤ 160 }
@@ -93,7 +93,7 @@ fn put_line<W: Write>(output: &mut Output<'_, W>, cause: Cause)
     put_text(output, "\n");
 }
 
-// Puts a text, and flushes.
+// Puts a text and flushes.
 fn put_flushed<W: Write>(output: &mut Output<'_, W>, text: &str)
     ensures { Prints W.contents output.old text.now output.new }
 {

@@ -1,14 +1,14 @@
-//! Why words ask for no conversion.
+//! Answers for words that ask for no conversion.
 
 /// Why words ask for no conversion.
 #[derive(PartialEq, Eq, Debug, Drop)]
 pub enum Refusal {
-    /// No memory to read the words, or for the text that would say what is wrong.
+    /// No memory to read the words, or for the text that says what is wrong with them.
     Memory,
-    /// Help was asked for: this is it.
+    /// Help was asked for, with this text.
     Help(String),
-    /// The version was asked for: this is it.
+    /// The version was asked for, with this text.
     Version(String),
-    /// The words are refused, with this text.
+    /// The words are refused, for the reason in this text.
     Usage(String),
 }

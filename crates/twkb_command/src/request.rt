@@ -1,18 +1,18 @@
-//! What is converted, and within which limits.
+//! The conversion that is asked for, and its limits.
 ghost use Rattle.std.specs.Prelude.{◌≡◌, ◌≤◌, ◌↔◌, IfSome, IsSome, codes};
 ghost use Rattle.twkb_tree.specs.Limits.{standard_limits};
 
 use twkb_convert::{Conversion, Style};
 use twkb_tree::Limits;
 
-/// What is asked for.
+/// The conversion that is asked for, and its limits.
 #[derive(Clone, Copy, PartialEq, Eq, Debug)]
 pub struct Request {
     pub conversion: Conversion,
     pub limits: Limits,
 }
 
-/// The standard limits, with a nesting of 0 to 32, and `None` where it is larger. Takes no memory.
+/// The standard limits with a nesting of 0 to 32; `None` if it is greater. Takes no memory.
 pub fn nested_limits(nest: u32) -> Option<Limits>
     ensures accepted { IsSome result ↔ (nest ≤ 32) }
     ensures value { IfSome result (λ l. l ≡ record standard_limits { nest = nest }) }
@@ -21,7 +21,7 @@ pub fn nested_limits(nest: u32) -> Option<Limits>
     Limits::try_new(nest, standard.nodes(), standard.points())
 }
 
-/// The style of a name: plain for `plain`, and full for any other.
+/// The style with a name: plain for `plain`, full for any other.
 pub fn style_named(name: &str) -> Style
     ensures { (result ≡ Style.Plain) ↔ (name.now ≡ codes "plain") }
 {

@@ -11,10 +11,10 @@ use std::alloc::Global;
 use std::io::{Read, Write};
 use twkb_io::Tap;
 
-/// Runs the command with its words, of which the first is the program's name, and answers its
-/// status: 0 where all was converted, or where help or the version was asked for, 1 where the input
-/// is refused or a length passes its bound, 2 where the words are refused, 3 where a device failed,
-/// 4 for want of memory. A fault is told to `errors`; a failure there changes nothing else.
+/// Runs the command with its words, the first of which is the program's name, and returns its
+/// status: 0 if all was converted, or if help or the version was asked for, 1 if the input is
+/// refused or a length passes its bound, 2 if the words are refused, 3 if a device failed, 4 for
+/// want of memory. A fault is reported to `errors`; a failure there changes nothing else.
 pub fn run<R: Read, W: Write, E: Write>(
     alloc: Global,
     words: &[String],

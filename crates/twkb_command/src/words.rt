@@ -1,4 +1,4 @@
-//! From the words of a command line to a request.
+//! Reading the words of a command line as a request.
 ghost use Rattle.std.specs.Prelude.{◌≡◌, [], map, string_bytes, codes, IfNone, IfOk, IfErr, IfSome, OnOk};
 ghost use Rattle.clap.specs.Words.{App, FailsBy, fault_of, first_value, found_of, kind_of, one_text, subcommand_of, subcommand_rows_of};
 ghost use Rattle.twkb_command.specs.CommandLine.{IsCommandLine, command_line};
@@ -13,7 +13,7 @@ use std::alloc::Global;
 use twkb_convert::{Conversion, Style};
 use twkb_tree::Limits;
 
-// The matches of the words.
+// What `clap` finds in the words.
 fn matches_of<'a>(
     alloc: Global,
     styles: &'a [&'a str],
@@ -27,7 +27,8 @@ fn matches_of<'a>(
     command(alloc, styles)?.try_get_matches_from(words)
 }
 
-// The standard limits, with the nesting that the matches of a subcommand give, if it is one.
+// The standard limits with the nesting that a subcommand's matches give, or `None` if that is out
+// of range.
 fn given_limits(matches: &ArgMatches<'_>) -> Option<Limits>
     ensures some { IfSome result (AreLimits (one_text (found_of matches.now) (codes "max-nest"))) }
     ensures none { IfNone result (GivesNoNest (one_text (found_of matches.now) (codes "max-nest"))) }
@@ -39,7 +40,7 @@ fn given_limits(matches: &ArgMatches<'_>) -> Option<Limits>
     }
 }
 
-// The standard limits, with the nesting that the matches of a subcommand give.
+// The standard limits with the nesting that a subcommand's matches give.
 fn limits_of(matches: &ArgMatches<'_>) -> Limits
     requires { GivesNest (one_text (found_of matches.now) (codes "max-nest")) }
     ensures { AreLimits (one_text (found_of matches.now) (codes "max-nest")) result }
@@ -50,7 +51,7 @@ fn limits_of(matches: &ArgMatches<'_>) -> Limits
     }
 }
 
-// The style that the matches of a subcommand give.
+// The style that a subcommand's matches give.
 fn style_of(matches: &ArgMatches<'_>) -> Style
     ensures { IsStyle (first_value (found_of matches.now) (codes "style")) result }
 {
@@ -60,7 +61,7 @@ fn style_of(matches: &ArgMatches<'_>) -> Style
     }
 }
 
-// The conversion that a subcommand of this name is, in the style that its matches give.
+// The conversion of the subcommand with this name, in the style that its matches give.
 fn conversion_of(name: &str, matches: &ArgMatches<'_>) -> Conversion
     requires { IsConversionName name.now }
     ensures { Names name.now (first_value (found_of matches.now) (codes "style")) result }
@@ -73,7 +74,7 @@ fn conversion_of(name: &str, matches: &ArgMatches<'_>) -> Conversion
     }
 }
 
-// What the matches of the words ask for.
+// The request that the matches make.
 fn request_of(matches: &ArgMatches<'_>) -> Request
     requires named { NamesConversion (subcommand_rows_of matches.now) }
     requires nest { HasNest (subcommand_rows_of matches.now) }
@@ -88,7 +89,7 @@ fn request_of(matches: &ArgMatches<'_>) -> Request
     }
 }
 
-// The refusal that an error of `clap` is, with its text.
+// The refusal for an error of `clap`, with its text.
 fn refusal_of(alloc: Global, error: &Error) -> Refusal
     ensures memory { kind_of error.now ≡ ErrorKind.OutOfMemory → result ≡ Refusal.Memory }
     ensures kind { IsRefusal (kind_of error.now) result }
@@ -107,7 +108,7 @@ fn refusal_of(alloc: Global, error: &Error) -> Refusal
     }
 }
 
-// What the words ask for, where the styles have these names.
+// Reads the request that the words make, if the styles have these names.
 fn read_styled_words(alloc: Global, styles: &[&str], words: &[String]) -> Result<Request, Refusal>
     ensures asked { IfOk result (AsksFor (command_line styles.entry) (map string_bytes words.now)) }
     ensures fits { OnOk result (fault_of (command_line styles.entry) (map string_bytes words.now) ≡ []) }
@@ -119,8 +120,8 @@ fn read_styled_words(alloc: Global, styles: &[&str], words: &[String]) -> Result
     }
 }
 
-/// What the words ask for, of which the first is the program's name, or why they ask for nothing.
-/// Takes memory to read them, and for the text of a refusal.
+/// Reads the request that the words make, or why they make none. The first word is the program's
+/// name. Takes memory to read them, and for the text of a refusal.
 pub fn read_words(alloc: Global, words: &[String]) -> Result<Request, Refusal>
     ensures { (line : App) × IsCommandLine line × Reads line (map string_bytes words.now) result }
 {

@@ -1,4 +1,4 @@
--- The text of one blob, from the parts that were put.
+-- The text of one blob, from the parts that were appended.
 use Rattle.std.specs.Prelude.{map}
 use Rattle.std.proofs.Common.{Bool, true, false, ◌≡◌, ◌∙◌, ◌≤◌, ◌^◌, ℕ, List, [], ◌∷◌, ◌++◌, Option, Some, None, Ok, Err, ap, refl, subst, append_assoc}
 use Rattle.std.specs.Prelude.{IfSome}
@@ -25,7 +25,8 @@ use Rattle.twkb_convert.specs.BlobSending.{Follows, GivesText, StopsText, is_rea
 use Rattle.twkb_convert.specs.SpanLines.{span_lines}
 use Rattle.twkb_convert.specs.declared.listing.Listing.TheVariants as listing
 
--- seven words, each put behind the other with the byte behind it, but the space behind the offset put with the kind
+-- the seven words of a line, each appended with the byte after it, except that the space after
+-- the offset is appended with the kind
 pub words_put : (old space level offset kind precision metadata length points a b c d e f : List ℕ)
     → a ≡ old ++ level → b ≡ a ++ offset → c ≡ b ++ (space ++ kind) → d ≡ c ++ precision → e ≡ d ++ metadata → f ≡ e ++ length
     → f ++ (points ++ 10 ∷ []) ≡ old ++ ((level ++ ((offset ++ space) ++ (kind ++ (precision ++ (metadata ++ (length ++ points)))))) ++ 10 ∷ [])
@@ -33,12 +34,12 @@ words_put old space level offset kind precision metadata length points a b c d e
     let whole : f ≡ (((((old ++ level) ++ offset) ++ (space ++ kind)) ++ precision) ++ metadata) ++ length = cc in
     ap (λ t. t ++ (points ++ 10 ∷ [])) whole ∙ simp (append_assoc)
 
--- a refusal of what is left
+-- the bytes left are refused
 refused_left : (limits : Allowance) (before : ℕ) (rest : Option (List ℕ)) (offset : ℕ) (why : BlobReason) → IfSome rest (λ bytes. RefusedKnown limits before bytes offset (reason_of why)) → IfSome rest (λ bytes. RefusesBlob limits bytes before offset why)
 refused_left limits before None offset why h = tt
 refused_left limits before (Some bytes) offset why h = record { within = h.within; place = h.place; first = h.first }
 
--- a failed read under a blob is one under its text
+-- a failed read of a blob is a failed read of its text
 read_stops : (A : Type 0) (why : BlobFault) → failed_by_read {A = A} (Err why) ≡ is_read_stop why
 read_stops A blob.Memory = refl
 read_stops A (blob.Device input.Read) = refl
@@ -48,7 +49,7 @@ read_stops A blob.Spent = refl
 read_stops A (blob.At offset reason) = refl
 
 module _ {R : Type 0} {read : Ghosts R} (from to : Reader R read) where
-  -- no blob came
+  -- no blob came, so no text came
   pub text_stopped : (why : BlobFault) → IsNext (limits_of from) (reader_input from) (reader_input to) (Err why) → is_input_spent from ≡ false → StopsText from why to
   text_stopped blob.Memory h live = tt
   text_stopped (blob.Device input.Read) h live = record { cut = h.bytes; consumed = subst (λ t. Consumes (rest_of from) t h.bytes) h.none_held h.left.consumed; cut_off = h.cut_off }
@@ -57,12 +58,12 @@ module _ {R : Type 0} {read : Ghosts R} (from to : Reader R read) where
   text_stopped blob.Spent h live = absurd h
   text_stopped (blob.At offset reason) h live = refused_left (limits_of from) (given from) (rest_of from) offset reason h
 
-  -- and the reader is that of the same tap
+  -- the reader still has the same tap
   pub follows_stop : (A : Type 0) (why : BlobFault) → (reader_tap to).ghost_name ≡ (reader_tap from).ghost_name → limits_of to ≡ limits_of from
       → reader_failures to ≡ count_failure (failed_by_read {A = A} (Err why)) (reader_failures from) → given to ≤ 2 ^ 62 → Follows from to (is_read_stop why)
   follows_stop A why same limits failures within = record { same_tap = same; limits = limits; failures = failures ∙ ap (λ is. count_failure is (reader_failures from)) (read_stops A why); within = within }
 
-  -- the rows of a geometry, as a form has them
+  -- the rows of a geometry, from its flat form
   made_rows : (rs : List Row) (text : List ℕ) → IsNextFlat (limits_of from) (reader_input from) (reader_input to) (Ok true) rs → text ≡ csvtext (map record_of rs) → GivesText listing.Table from to text
   made_rows rs text next own = record {
     found = record { geometry = next.0; spans = spans_of_blob (given from) next.1.blob };
@@ -77,7 +78,7 @@ module _ {R : Type 0} {read : Ghosts R} (from to : Reader R read) where
   pub rows_given : (found : Bool) (rs : List Row) (text : List ℕ) → IsNextFlat (limits_of from) (reader_input from) (reader_input to) (Ok found) rs → found ≡ true → text ≡ csvtext (map record_of rs) → GivesText listing.Table from to text
   rows_given found rs text next is own = made_rows rs text (subst (λ f. IsNextFlat (limits_of from) (reader_input from) (reader_input to) (Ok f) rs) is next) own
 
-  -- the lines of a blob's spans
+  -- the lines of a blob, from its spans
   told_lines : (g : Tree) (spans : List Span) (text : List ℕ) → HasSpans (limits_of from) (reader_input from) (reader_input to) g spans → text ≡ span_lines spans → GivesText listing.Headers from to text
   told_lines g spans text has own = record {
     found = record { geometry = g; spans = spans };

@@ -22,7 +22,7 @@ used_join a b c m n o xs ys first second = record {
   counted = omega (arith, first.counted, second.counted, length-append xs ys);
 }
 
--- the reader's answer where no blob came
+-- the reader's answer if no blob came
 explained : (l : Allowance) (old mid told : Option (List ℕ)) (before middle : ℕ) (bytes : List ℕ) (why : BlobFault) → Used old before bytes mid middle → Misses l mid middle told why
     → ExplainsStream l old told before bytes why
 explained l old mid told before middle bytes blob.Memory used misses = tt
@@ -39,7 +39,7 @@ explained l (Some all) None told before middle bytes (blob.At offset reason) use
 explained l (Some all) (Some left) told before middle bytes (blob.At offset reason) used misses =
     (left, used.consumed, subst (λ n. RefusesBlob l left n offset reason) used.counted misses)
 
--- the end of what was known
+-- the known bytes end here
 pub ended_later : (old mid : Option (List ℕ)) (bytes : List ℕ) (P : Type 0) → Consumes old mid bytes → IfSome mid (λ left. P) → IfSome old (λ all. P)
 ended_later None mid bytes P used ended = tt
 ended_later (Some all) None bytes P used ended = absurd used
@@ -65,14 +65,14 @@ module _ {R : Type 0} {read : Ghosts R} where
 
 -- ---- blobs
 
--- one blob more behind others
+-- one more blob after others
 one_more : (l m : Allowance) (before after : ℕ) (bytes front : List ℕ) (bs : List Located) (b : Located) → LocatedStream l before bytes bs → m ≡ l → after ≡ before + length bytes
     → TellsSpans m after front b → LocatedStream l before (bytes ++ front) (bs ++ b ∷ [])
 one_more l m before after bytes front bs b blobs same place tells =
     let here : TellsSpans l (before + length bytes) front b = subst (λ n. TellsSpans l n front b) place (subst (λ a. TellsSpans a after front b) same tells) in
     located-append l before bytes front bs (b ∷ []) blobs (located-one l (before + length bytes) front b here)
 
--- ---- texts sent
+-- ---- texts that were sent
 
 module _ {R W : Type 0} {read : Ghosts R} (what : Listing) (contents : W → Option (List ℕ)) where
   pub sent_none : (from : Reader R read) (old : Output W) → SentBlobs what contents from old from old 0
@@ -110,7 +110,7 @@ module _ {R W : Type 0} {read : Ghosts R} (what : Listing) (contents : W → Opt
     count = sent.count;
   }
 
-  -- no text was sent behind those of whole blobs
+  -- no text was sent after those of complete blobs
   cut_none : (from mid to : Reader R read) (old out new : Output W) (done : ℕ) (why : StreamObstacle) (sent : SentBlobs what contents from old mid out done) → new ≡ out → is_spent out ≡ false
       → is_write why ≡ false → ((fact : Type 0) → fact → UnlessOutput why fact)
       → ExplainsObstacle (limits_of from) (rest_of from) (told_of to) (given from) sent.bytes why (sent_of old) (blobs_text what (sent.found ++ [])) [] []
@@ -135,11 +135,11 @@ module _ {R W : Type 0} {read : Ghosts R} (what : Listing) (contents : W → Opt
     unspent = unless (is_spent new ≡ false) (ap is_spent same ∙ fresh);
   }
 
-  -- a text that was cut is that of the blob that was used
+  -- the text that was cut is that of the blob that was used
   pub cut_blob : (from to : Reader R read) (old new : Output W) (text : List ℕ) (why : OutFault) → GivesText what from to text → Cut contents old text why new → CutBlob what contents from old to why new
   cut_blob from to old new text why given cut = record { found = given.found; gives = given.gives; cut = subst (λ (t : List ℕ). Cut contents old t why new) given.own cut }
 
-  -- a front of the text of one more blob was sent
+  -- a prefix of the text of one more blob was sent
   cut_one : (from mid to : Reader R read) (old out new : Output W) (done : ℕ) (why : OutFault) (sent : SentBlobs what contents from old mid out done) → limits_of mid ≡ limits_of from
       → is_spent out ≡ false → CutBlob what contents mid out to why new → CutText (blobs_text what) contents from old to new (record { done = done; why = obstacle.Output why })
   cut_one from mid to old out new done why sent same fresh one =

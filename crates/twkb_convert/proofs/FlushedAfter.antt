@@ -1,4 +1,4 @@
--- A flush behind what was sent.
+-- A flush after the bytes that were sent.
 use Rattle.twkb_convert.proofs.Prelude.{◌≡◌, ◌∙◌, ℕ, List, [], Option, false, ap, refl, subst, append-nil, Ghosts, count_failure, Refused, Sent, Took, is_spent, output_failures, took_join, Output, OutFault, Allowance, canonical_stream, Style, Reader, Located, StreamObstacle, TableObstacle, Unfinished, sent_join, Tally}
 use Rattle.twkb_io.specs.declared.output.OutFault.TheVariants as out
 use Rattle.twkb_convert.specs.BlobSending.{CutText}
@@ -9,7 +9,7 @@ use Rattle.twkb_convert.specs.declared.obstacle.StreamObstacle.TheVariants as st
 use Rattle.twkb_convert.specs.declared.obstacle.TableObstacle.TheVariants as table
 
 module _ {W : Type 0} (contents : W → Option (List ℕ)) where
-  -- what was sent with nothing behind it
+  -- bytes that were sent with nothing after them
   sent_with : (old mid new : Output W) (bytes : List ℕ) → Sent contents old bytes mid → Sent contents mid [] new → Sent contents old bytes new
   sent_with old mid new bytes first second = subst (λ b. Sent contents old b new) (append-nil bytes) (sent_join contents old mid new bytes [] first second)
 
@@ -20,14 +20,14 @@ table_unless (table.Table f) P Q more p = more p
 table_unless table.Undrained P Q more p = more p
 table_unless (table.Output f) P Q more p = tt
 
--- where the output refused no call, no write failed
+-- if the output refused no call, no write failed
 table_wrote : (why : TableObstacle) → Tables.is_output why ≡ false → Tables.is_write why ≡ false
 table_wrote (table.Table f) none = refl
 table_wrote table.Undrained none = refl
 table_wrote (table.Output f) none = absurd (cc none)
 
 module _ {W : Type 0} (style : Style) (l : Allowance) (contents : W → Option (List ℕ)) (told : Option (List ℕ)) where
-  -- behind the whole table
+  -- a flush after the whole table
   pub table_flushed : (old mid new : Output W) (tally : Tally) → SentTable style l contents told old mid tally → Took contents mid [] new → SentTable style l contents told old new tally
   table_flushed old mid new tally all flushed = record {
     table = all.table;
@@ -36,7 +36,7 @@ module _ {W : Type 0} (style : Style) (l : Allowance) (contents : W → Option (
     work_of = all.work_of;
   }
 
-  -- behind a front of the output
+  -- a flush after a prefix of the output
   pub stopped_flushed : (passed : ℕ) (old mid new : Output W) (stop : Unfinished TableObstacle) → Stopped style l contents told passed old mid stop → Took contents mid [] new
       → Stopped style l contents told passed old new stop
   stopped_flushed passed old mid new stop s flushed = record {
@@ -50,7 +50,7 @@ module _ {W : Type 0} (style : Style) (l : Allowance) (contents : W → Option (
     unspent = table_unless stop.why (is_spent mid ≡ is_spent old) (is_spent new ≡ is_spent old) (λ e. flushed.spent ∙ e) s.unspent;
   }
 
-  -- the same, where it failed
+  -- a failed flush after a prefix of the output
   pub stopped_unflushed : (passed : ℕ) (old mid new : Output W) (stop : Unfinished TableObstacle) (f : OutFault) → Tables.is_output stop.why ≡ false → Stopped style l contents told passed old mid stop
       → Refused contents mid [] f new → (f ≡ out.TooLong → ⊥) → (f ≡ out.Spent → ⊥) → Stopped style l contents told passed old new (record { done = stop.done; why = table.Output f })
   stopped_unflushed passed old mid new stop f none s failed short unspent =
@@ -77,7 +77,7 @@ stream_wrote (stream.Stream f) none = refl
 stream_wrote (stream.Output f) none = absurd (none f refl)
 
 module _ {R W : Type 0} {read : Ghosts R} (text_of : List Located → List ℕ) (contents : W → Option (List ℕ)) where
-  -- behind a front of the text
+  -- a flush after a prefix of the text
   pub cut_flushed : (from to : Reader R read) (old mid new : Output W) (stop : Unfinished StreamObstacle) → CutText text_of contents from old to mid stop → Took contents mid [] new
       → CutText text_of contents from old to new stop
   cut_flushed from to old mid new stop s flushed = record {
@@ -90,7 +90,7 @@ module _ {R W : Type 0} {read : Ghosts R} (text_of : List Located → List ℕ) 
     unspent = stream_unless stop.why (is_spent mid ≡ false) (is_spent new ≡ false) (λ e. flushed.spent ∙ e) s.unspent;
   }
 
-  -- the same, where it failed
+  -- a failed flush after a prefix of the text
   pub cut_unflushed : (from to : Reader R read) (old mid new : Output W) (stop : Unfinished StreamObstacle) (f : OutFault) → ((e : OutFault) → stop.why ≡ stream.Output e → ⊥)
       → CutText text_of contents from old to mid stop → Refused contents mid [] f new → (f ≡ out.TooLong → ⊥) → (f ≡ out.Spent → ⊥)
       → CutText text_of contents from old to new (record { done = stop.done; why = stream.Output f })

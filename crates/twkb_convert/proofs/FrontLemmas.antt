@@ -1,4 +1,4 @@
--- What may be written is a front of the whole output.
+-- The bytes that may be written are a prefix of the whole output.
 use Rattle.twkb_convert.proofs.Prelude.{◌⊎◌, map, ◌≡◌, ◌∙◌, ℕ, List, [], ◌∷◌, ◌++◌, Some, None, ap, refl, sym, subst, inl, inr, append_assoc, append-nil, flat_map-append, BeginsWith, Tree, Allowance, IsAllowance, Row, rows, rows_of, Stream, FirstFault, Reason, canonical_blob, canonical_stream, Style, Record, header, record_of, Named, AreComplete, HasNoHeader, all_but_last, RowReason, AreRecordsOf, BeginWith, FrontOfBlobs, PackTextTo, PackTo, UnpackTo, rows_text, table_text, MayBeWritten}
 use Rattle.csv.specs.Reading.{AreRecords, Reached, default_config, strip_bom}
 use Rattle.csv.specs.Machine.{Read, next_record}
@@ -20,7 +20,7 @@ use Rattle.twkb_table.specs.TableReading.{NameSoFar}
 use Rattle.twkb_convert.proofs.RoundTrips.{one_records}
 use Rattle.twkb_convert.proofs.RowTexts.{table_text-append}
 
--- these geometries are followed by others in the list
+-- the list begins with these geometries
 abbrev BeginTrees : List Tree → List Tree → Type 0
 BeginTrees gs hs = (more : List Tree) × (hs ≡ gs ++ more)
 
@@ -41,11 +41,11 @@ reached_first cfg s xs (r ∷ rs) (q ∷ qs) a state left b =
     let tail = reached_first cfg b.0.1 b.0.2 rs qs later state left b.3 in
     (tail.0, ap (λ x. x ∷ rs) (a.2.2 ∙ ap (λ (p : Read). p.0) same ∙ sym b.2) ∙ ap (λ l. q ∷ l) tail.1)
 
--- the records that a text begins with come first among its records
+-- the records with which a text begins are the first of its records
 pub first_records : (text : List ℕ) (records seen : List Record) → AreRecordsOf text records → BeginWith text seen → (more : List Record) × (records ≡ seen ++ more)
 first_records text records seen all begins = reached_first default_config StartRecord (strip_bom text) records seen all begins.0 begins.1 begins.2
 
--- of two fronts of a list, one goes on from the other
+-- of two prefixes of a list, one continues the other
 abbrev OneGoesOn : List Record → List Record → Record → Type 0
 OneGoesOn xs ys x = ((more : List Record) × (ys ≡ xs ++ more)) ⊎ ((more : List Record) × (xs ≡ (ys ++ x ∷ []) ++ more))
 
@@ -63,11 +63,11 @@ one_goes_on (a ∷ xs) (b ∷ ys) x rest more e = go (one_goes_on xs ys x rest m
 
 -- ---- geometries
 
--- a geometry has a row
+-- a geometry has at least one row
 no_row : (g : Tree) (gs : List Tree) (more : List Row) → AreGeometries (g ∷ gs) → [] ≡ rows_of (g ∷ gs) ++ more → ⊥
 no_row g gs more are e = let (below, first, deep) = below_root g are.0 in cc (e ∙ ap (λ rs. (rs ++ rows_of gs) ++ more) first)
 
--- All but the last of the geometries come first among others, and among all but the last of these.
+-- All but the last of the geometries are the first of others, and of all but the last of those.
 record ComeFirst (gs hs : List Tree) : Type 0 where
   in_all : BeginTrees (all_but_last gs) hs
   in_complete : BeginTrees (all_but_last gs) (all_but_last hs)
@@ -79,7 +79,7 @@ first_and g k gs (r ∷ rest) hs whole some first = record {
   in_complete = (first.in_complete.0, ap all_but_last whole ∙ ap (λ l. g ∷ l) first.in_complete.1);
 }
 
--- where the rows of geometries begin those of others
+-- if rows of geometries begin with the rows of others
 come_first : (gs hs : List Tree) (more : List Row) → AreGeometries gs → AreGeometries hs → rows_of hs ≡ rows_of gs ++ more → ComeFirst gs hs
 come_first [] hs more a b e = record { in_all = (hs, refl); in_complete = (all_but_last hs, refl) }
 come_first (g ∷ []) hs more a b e = record { in_all = (hs, refl); in_complete = (all_but_last hs, refl) }
@@ -88,7 +88,7 @@ come_first (g ∷ k ∷ gs) hs more a b e =
     let are : AreGeometries (g ∷ rest) = subst AreGeometries whole b in
     first_and g k gs rest hs whole (λ none. no_row k gs more a.1 (ap rows_of (sym none) ∙ others)) (come_first (k ∷ gs) rest more a.1 are.1 others)
 
--- where the records of geometries begin those of others, so do the rows
+-- if records of geometries begin with the records of others, so do the rows
 named_first : (l : Allowance) (seen tail : List Record) (gs hs : List Tree) → IsAllowance l → Named l seen gs → Named l (seen ++ tail) hs → ComeFirst gs hs
 named_first l [] tail gs hs allowed a b = absurd (let e = a.table_of in cc)
 named_first l (h ∷ front) tail gs hs allowed a b =
@@ -99,9 +99,9 @@ named_first l (h ∷ front) tail gs hs allowed a b =
     let same : rows_of gs ≡ s.front = ap rows_of (one_table l (h ∷ front) gs v.0 allowed a named) ∙ v.2 in
     come_first gs hs s.more (geometries l gs a.valid) (geometries l hs b.valid) (s.whole ∙ ap (λ rs. rs ++ s.more) (sym same))
 
--- ---- what may be written
+-- ---- geometries that may be written
 
--- what is ready after some records of a text
+-- the geometries that are ready after some records of a text
 abbrev IsReady : List ℕ → List Record → List Tree → List Tree → Type 0
 IsReady text seen trees gs = (gs ≡ all_but_last trees) ⊎ (AreRecordsOf text seen × (gs ≡ trees))
 
@@ -167,7 +167,7 @@ pack_front style l text written bytes allowed f (records, all, packs) =
 
 -- ---- tables
 
--- blobs in front of bytes with a fault are first of those before it
+-- blobs before bytes with a fault are the first of those before the fault
 blobs_first : (l : Allowance) (a b x y : List ℕ) (gs hs : List Tree) (within : ℕ) (reason : Reason) → Stream l a gs → Stream l b hs → FirstFault l y within reason → a ++ x ≡ b ++ y → BeginTrees gs hs
 blobs_first l a b x y [] hs within reason s t f e = (hs, refl)
 blobs_first l a b x y (g ∷ gs) [] within reason s t f e =

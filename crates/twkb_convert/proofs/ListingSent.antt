@@ -1,4 +1,4 @@
--- The texts of a stream's blobs, sent behind what stands before the first.
+-- The texts of a stream's blobs, sent after the text before the first.
 use Rattle.twkb_convert.proofs.Prelude.{◌≡◌, ◌∙◌, ◌+◌, ℕ, List, [], ◌++◌, Option, Some, None, Result, Ok, Err, length, ap, arith, refl, sym, subst, inl, inr, length-append, append_assoc, false, IfOk, IfErr, IfSome, append-nil, Ghosts, BeginsWith, count_failure, Cut, Refused, Took, is_spent, sent_of, refused_join, sent_join, took_join, Output, OutFault, Allowance, Reader, Located, HoldsWhole, LocatedStream, blobs_text, first_line, listing_text, Listing, StreamObstacle, Unfinished}
 use Rattle.twkb_io.specs.declared.output.OutFault.TheVariants as out
 use Rattle.twkb_convert.specs.BlobReading.{given, limits_of, rest_of, told_of}
@@ -13,7 +13,7 @@ all_begins : (known : Option (List ℕ)) (bytes : List ℕ) → IfSome known (λ
 all_begins None bytes all = tt
 all_begins (Some whole) bytes all = ([], all ∙ sym (append-nil bytes))
 
--- what was to be sent in all grows by what stands before the first blob
+-- the bytes to be sent in all grow by the text before the first blob
 explains_more : (what : Listing) (l : Allowance) (known told : Option (List ℕ)) (before : ℕ) (bytes : List ℕ) (why : StreamObstacle) (old mid : ℕ) (whole later : List Located) (left : List ℕ)
     → mid ≡ old + length (first_line what) → ExplainsObstacle l known told before bytes why mid (blobs_text what whole) later left
     → ExplainsObstacle l known told before bytes why old (listing_text what whole) later left
@@ -23,13 +23,13 @@ explains_more what l known told before bytes (obstacle.Output why) old mid whole
   explains.1,
 )
 
--- what is in front of blobs' texts stays in front of them, behind the line
+-- a prefix of the blobs' texts is a prefix of them after the line
 holds_behind : (what : Listing) (text : List ℕ) (bs : List Located) → HoldsWhole (blobs_text what) text bs → HoldsWhole (listing_text what) (first_line what ++ text) bs
 holds_behind what text bs (inl none) = inl none
 holds_behind what text bs (inr (more, e)) = inr (more, ap (λ t. first_line what ++ t) e ∙ sym (append_assoc (first_line what) (blobs_text what bs) more))
 
 module _ {R W : Type 0} {read : Ghosts R} (what : Listing) (contents : W → Option (List ℕ)) where
-  -- not all of what stands before the first blob was sent
+  -- the text before the first blob was not sent whole
   pub cut_first : (from : Reader R read) (old new : Output W) (text : List ℕ) (why : OutFault) → text ≡ first_line what → is_spent old ≡ false → Cut contents old text why new
       → CutText (listing_text what) contents from old from new (record { done = 0; why = obstacle.Output why })
   cut_first from old new text why own fresh cut = record {
@@ -95,7 +95,7 @@ module _ {R W : Type 0} {read : Ghosts R} (what : Listing) (contents : W → Opt
   listing_cut from to old mid new (Ok done) took cut = tt
   listing_cut from to old mid new (Err stop) took cut = cut_listing from to old mid new stop took cut
 
-  -- the flush failed behind the whole text
+  -- the flush failed after the whole text was sent
   pub cut_by_flush : (from to : Reader R read) (old mid new : Output W) (done : ℕ) (why : OutFault) → SentText (listing_text what) contents from old mid done → Refused contents mid [] why new
       → (why ≡ out.TooLong → ⊥) → (why ≡ out.Spent → ⊥) → CutText (listing_text what) contents from old to new (record { done = done; why = obstacle.Output why })
   cut_by_flush from to old mid new done why sent refused short unspent =

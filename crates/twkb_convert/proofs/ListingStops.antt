@@ -1,4 +1,4 @@
--- What a caller of a conversion of a stream learns of a stop.
+-- What the caller of a stream's conversion learns from a stop.
 use Rattle.twkb_convert.proofs.Prelude.{◌≡◌, ◌∙◌, ◌+◌, ◌<◌, ◌^◌, ℕ, List, [], ◌++◌, Option, Some, None, Bool, true, false, length, ap, arith, refl, sym, subst, inl, inr, IfSome, ◌⊎◌, append-nil, Appends, IsAtEnd, Ghosts, BeginsWith, count_failure, device_of, failures_of, output_tap, sent_of, Tap, Output, Tree, Allowance, Stream, StreamFault, reason_of, BlobReason, Reader, Located, LocatedStream, geometries_of, listing_text, IsDeviceCause, Listing, StreamObstacle, Unfinished, Cause}
 use Rattle.twkb_io.specs.declared.input.InFault.TheVariants as input
 use Rattle.twkb_io.specs.declared.output.OutFault.TheVariants as out
@@ -44,7 +44,7 @@ long_input : (known : Option (List ℕ)) (before : ℕ) → before ≡ 0 → IfS
 long_input None before start long = tt
 long_input (Some all) before start long = omega (arith, start, long)
 
--- blobs, and a first fault behind them
+-- blobs, followed by a first fault
 stream_fault : (l : Allowance) (told : Option (List ℕ)) (before : ℕ) (bytes : List ℕ) (trees : List Tree) (offset : ℕ) (reason : BlobReason) → before ≡ 0 → Stream l bytes trees
     → IfSome told (λ all. (left : List ℕ) × (all ≡ bytes ++ left) × RefusesBlob l left (before + length bytes) offset reason) → IfSome told (λ all. StreamFault l all trees offset (reason_of reason))
 stream_fault l None before bytes trees offset reason start blobs refused = tt
@@ -78,7 +78,7 @@ caused what l old told before bytes (obstacle.Output out.Stuck) sent whole later
 caused what l old told before bytes (obstacle.Output out.TooLong) sent whole later left start none blobs e = inr (let far = e.0 refl in omega (arith, far, none))
 caused what l old told before bytes (obstacle.Output out.Spent) sent whole later left start none blobs e = absurd (e.1 refl)
 
--- ---- the end
+-- ---- the end of the stream
 
 -- the known bytes are those of the blobs
 known_stream : (l : Allowance) (known : Option (List ℕ)) (bytes : List ℕ) (found : List Located) → LocatedStream l 0 bytes found → IfSome known (λ whole. whole ≡ bytes) → IfSome known (λ whole. LocatedStream l 0 whole found)

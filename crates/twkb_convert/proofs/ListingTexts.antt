@@ -16,19 +16,19 @@ use Rattle.twkb_convert.specs.declared.listing.Listing.TheVariants as listing
 use Rattle.twkb_convert.proofs.LocatedLemmas.{spans_some}
 use Rattle.twkb_convert.proofs.RowTexts.{rows_text-append, rows_text-one, rows_text_some, table_text-rows}
 
--- the texts of blobs, and of others behind them
+-- the texts of two lists of blobs, one after the other
 pub blobs_text-append : (what : Listing) (bs cs : List Located) → blobs_text what (bs ++ cs) ≡ blobs_text what bs ++ blobs_text what cs
 blobs_text-append what bs cs = flat_map-append (blob_text what) bs cs
 
 pub blobs_text-one : (what : Listing) (b : Located) → blobs_text what (b ∷ []) ≡ blob_text what b
 blobs_text-one what b = append-nil (blob_text what b)
 
--- a line has its end
+-- a line has at least its end
 lines_some : (ss : List Span) → 0 < length ss → 0 < length (span_lines ss)
 lines_some [] some = omega (arith, some)
 lines_some (s ∷ ss) some = omega (arith, length-append (span_line s) (span_lines ss), length-append (spaced (span_words s)) (10 ∷ []))
 
--- the text of a blob has a byte
+-- the text of a blob has at least one byte
 pub blob_text_some : (what : Listing) (l : Allowance) (offset : ℕ) (bytes : List ℕ) (b : Located) → TellsSpans l offset bytes b → 0 < length (blob_text what b)
 blob_text_some listing.Table l offset bytes b tells = subst (λ (t : List ℕ). 0 < length t) (sym (rows_text-one b.geometry)) (rows_text_some b.geometry)
 blob_text_some listing.Headers l offset bytes b tells =

@@ -9,22 +9,22 @@ use Rattle.twkb_grammar.proofs.Streams.{blob_long}
 use Rattle.twkb_blob.specs.declared.spans.Located.{Located}
 use Rattle.twkb_convert.specs.LocatedBlobs.{LocatedStream, TellsSpans, geometries_of}
 
--- a stream has a byte at least for each blob
+-- a stream has at least one byte for each blob
 pub located_long : (l : Allowance) (offset : ℕ) (bytes : List ℕ) (bs : List Located) → LocatedStream l offset bytes bs → length bs ≤ length bytes
 located_long l offset bytes [] s = omega arith
 located_long l offset bytes (b ∷ bs) s =
     omega (arith, blob_long l s.0 b.geometry s.3.blob, located_long l (offset + length s.0) s.1 bs s.4, ap length s.2, length-append s.0 s.1)
 
--- without their spans they are a stream
+-- located blobs without their spans are a stream
 pub located-stream : (l : Allowance) (offset : ℕ) (bytes : List ℕ) (bs : List Located) → LocatedStream l offset bytes bs → Stream l bytes (geometries_of bs)
 located-stream l offset bytes [] s = s
 located-stream l offset bytes (b ∷ bs) s = (s.0, s.1, s.2, s.3.blob, located-stream l (offset + length s.0) s.1 bs s.4)
 
--- one blob alone
+-- one blob is a stream
 pub located-one : (l : Allowance) (offset : ℕ) (bytes : List ℕ) (b : Located) → TellsSpans l offset bytes b → LocatedStream l offset bytes (b ∷ [])
 located-one l offset bytes b tells = (bytes, [], sym (append-nil bytes), tells, refl)
 
--- blobs, and others behind them
+-- two streams, one after the other, are a stream
 pub located-append : (l : Allowance) (offset : ℕ) (xs ys : List ℕ) (bs cs : List Located) → LocatedStream l offset xs bs → LocatedStream l (offset + length xs) ys cs → LocatedStream l offset (xs ++ ys) (bs ++ cs)
 located-append l offset xs ys [] cs s t =
     subst (λ zs. LocatedStream l offset (zs ++ ys) cs) (sym s)
@@ -38,7 +38,7 @@ located-append l offset xs ys (b ∷ bs) cs s t =
       located-append l (offset + length s.0) s.1 ys bs cs s.4 (subst (λ n. LocatedStream l n ys cs) place t),
     )
 
--- a blob has a span
+-- a blob has at least one span
 pub spans_some : (l : Allowance) (offset : ℕ) (bytes : List ℕ) (g : Tree) (b : Blob l bytes g) → 0 < length (spans_of_blob offset b)
 spans_some l offset bytes (simple p s) b = omega arith
 spans_some l offset bytes (collection p ids gs) b = omega arith

@@ -6,7 +6,7 @@ use Rattle.twkb_table.proofs.Deciding.{named_or_fault}
 use Rattle.twkb_table.proofs.FaultLaws.{fault_none}
 use Rattle.twkb_convert.proofs.RoundTrips.{packed_records, unpacked_stream}
 
--- records with a fault name nothing
+-- records with a fault name no geometries
 pub complete_none : (l : Allowance) (records : List Record) (number : ℕ) (reason : RowReason) (gs : List Tree) → AreComplete l records number reason gs → NamesNone l records
 complete_none l records number reason gs (inl f) = fault_none l records number reason (inl (f.0, f.1, f.2))
 complete_none l records number reason gs (inr f) = fault_none l records number reason (inr f.0)

@@ -1,4 +1,4 @@
--- From an output to what a caller of a conversion sees.
+-- From an output to the result that a conversion's caller sees.
 use Rattle.twkb_convert.proofs.Prelude.{◌≡◌, ◌∙◌, ◌<◌, ◌^◌, ℕ, List, Bool, true, false, Option, ap, arith, refl, subst, sym, inl, inr, Appends, IsAtEnd, bytes_given, count_failure, device_of, failures_of, output_tap, sent_of, Tap, Output, Tree, Allowance, canonical_stream, Style, Changes, IsDeviceCause, TableObstacle, Unfinished, Tally, Cause}
 use Rattle.twkb_io.specs.declared.output.OutFault.TheVariants as out
 use Rattle.twkb_table.specs.declared.table_fault.TableFault.TheVariants as fault
@@ -9,7 +9,7 @@ use Rattle.twkb_convert.specs.declared.report.Cause.TheVariants as cause
 use Rattle.twkb_convert.proofs.SendingLemmas.{all_ready, whole_front}
 use Rattle.twkb_convert.proofs.WorkLemmas.{read_thrice, read_twice}
 
--- a stop that is no failed write, where a read failed
+-- a stop other than a failed write, if a read failed
 pub read_explained : (style : Style) (l : Allowance) (told : Option (List ℕ)) (passed : ℕ) (stop : TableObstacle) (sent : ℕ) (whole later : List Tree) (front : List ℕ) → is_write stop ≡ false → sent ≡ 0
     → ExplainsWhy style l told passed stop sent whole later front → ExplainsPackingCause style l told passed cause.ReadDevice whole later front
 read_explained style l told passed (obstacle.Table (fault.At number reason)) sent whole later front quiet none e = inl (e.0, e.1)
@@ -23,14 +23,14 @@ read_explained style l told passed (obstacle.Output out.Stuck) sent whole later 
 read_explained style l told passed (obstacle.Output out.TooLong) sent whole later front quiet none e = inr (let far = e.0 refl in omega (arith, far, none))
 read_explained style l told passed (obstacle.Output out.Spent) sent whole later front quiet none e = absurd (e.1 refl)
 
--- what an output appended, the writer that was lent to it did
+-- the writer appended the bytes that the output appended, since it is borrowed by it
 appends_lent : {W : Type 0} (contents : W → Option (List ℕ)) (writer written : Tap W) (old new : Output W) (bytes : List ℕ) → (output_tap old).now ≡ writer → (output_tap new).now ≡ written
     → Appends (contents (device_of (output_tap old).now)) (contents (device_of (output_tap new).now)) bytes → Appends (contents (device_of writer)) (contents (device_of written)) bytes
 appends_lent contents writer written old new bytes lent closes appends =
     subst (λ t. Appends (contents (device_of t)) (contents (device_of written)) bytes) lent
     (subst (λ t. Appends (contents (device_of (output_tap old).now)) (contents (device_of t)) bytes) closes appends)
 
--- what two counts say of the tap that they are of
+-- two counts say whether the tap's call failed
 changed : (failed : Bool) (before after old new : ℕ) → before ≡ old → after ≡ new → Changes failed before after → Changes failed old new
 changed failed before after old new first last changes = subst (λ n. Changes failed old n) last (subst (λ n. Changes failed n after) first changes)
 

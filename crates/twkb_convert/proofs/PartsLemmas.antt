@@ -24,7 +24,7 @@ packed_cut style l rows more cap root (ks, named) =
 
 -- ---- streams as tables
 
--- the rows behind the header's line
+-- the rows after the header's line
 rows_behind : (rows : List ℕ) (gs : List Tree) → csvtext (header ∷ []) ++ rows ≡ table_text gs → rows ≡ rows_text gs
 rows_behind rows gs e = append_cancel_left (csvtext (header ∷ [])) rows (rows_text gs) (e ∙ sym (table_text-rows gs))
 
@@ -57,7 +57,7 @@ located_joined l a b bs cs s t =
     let place : length a + 0 ≡ 0 + length a = omega arith in
     located-append l 0 a b bs (all_moved (length a) cs) s (subst (λ k. LocatedStream l k b (all_moved (length a) cs)) place (located_moved l (length a) 0 b cs t))
 
--- their geometries stay as they are
+-- moving spans does not change the geometries
 geometries_joined : (n : ℕ) (bs cs : List Located) → geometries_of bs ++ geometries_of cs ≡ geometries_of (bs ++ all_moved n cs)
 geometries_joined n [] [] = refl
 geometries_joined n [] (c ∷ cs) = ap (λ gs. c.geometry ∷ gs) (geometries_joined n [] cs)

@@ -1,4 +1,4 @@
--- Names that the lemmas of this crate have in common, from it and from the crates below.
+-- Names that the lemmas of this crate share, from it and from the crates below.
 pub use Rattle.std.proofs.Common.{◌≡◌, ◌∙◌, ℕ, List, [], ◌∷◌, ◌++◌, Some, None, ap, refl, sym, subst, inl, inr, append_assoc, ◌+◌, ◌<◌, ◌^◌, Option, Bool, true, false, length, arith, ◌≤◌, ◌-◌, Err, length-append, Result, Ok}
 pub use Rattle.std.specs.Prelude.{◌⊎◌, map, IfSome, IfOk, IfErr}
 pub use Rattle.std.proofs.lemmas.List.{append-nil, map-append, length-map, append_cancel_left}

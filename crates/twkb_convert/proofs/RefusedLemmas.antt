@@ -1,10 +1,11 @@
--- A record that is refused in a beginning of a text is refused in all of it, and what is complete before it is the output.
+-- A record refused at the beginning of a text is refused in the whole text, and the geometries
+-- complete before it are the output.
 use Rattle.twkb_convert.proofs.Prelude.{◌≡◌, ◌∙◌, ℕ, List, [], ◌∷◌, ◌++◌, refl, ap, sym, subst, inl, inr, append_assoc, Tree, Allowance, canonical_stream, Style, Record, NamesNone, AreComplete, RowReason, PackTo, IsRefusedText}
 use Rattle.twkb_convert.proofs.FrontLemmas.{first_records}
 use Rattle.twkb_convert.proofs.OutputLemmas.{complete_none}
 use Rattle.twkb_convert.proofs.RoundTrips.{one_records}
 
--- more records change no refusal, unless there were none
+-- more records change no refusal, unless there were no records
 complete_more : (l : Allowance) (seen more : List Record) (number : ℕ) (reason : RowReason) (gs : List Tree) → (seen ≡ [] → more ≡ []) → AreComplete l seen number reason gs → AreComplete l (seen ++ more) number reason gs
 complete_more l [] more number reason gs only (inl first) = subst (λ rs. AreComplete l rs number reason gs) (sym (only refl)) (inl first)
 complete_more l (s ∷ seen) more number reason gs only (inl first) = inl first

@@ -1,4 +1,4 @@
--- What is packed and unpacked comes back.
+-- Packing and unpacking give back what was put in.
 use Rattle.twkb_convert.proofs.Prelude.{◌≡◌, ◌∙◌, ℕ, List, [], ◌∷◌, None, ap, refl, sym, subst, inl, inr, Tree, Allowance, IsAllowance, Stream, canonical_stream, Style, Record, table, Named, AreComplete, RowReason, AreRecordsOf, IsTable, PackTextTo, PackTo, UnpackTo, table_text}
 use Rattle.csv.specs.Reading.{AreRecords, Reached, default_config, strip_bom}
 use Rattle.csv.specs.Machine.{Read, next_record}
@@ -35,7 +35,7 @@ one_records text rs qs a b = records_apart default_config StartRecord (strip_bom
 
 -- ---- one output
 
--- what a stream is unpacked to
+-- the table to which a stream is unpacked
 pub unpacked_stream : (l : Allowance) (bytes text : List ℕ) (gs : List Tree) → Stream l bytes gs → UnpackTo l bytes text → text ≡ table_text gs
 unpacked_stream l bytes text gs stream (inl (hs, other, e)) = e ∙ ap table_text (one_stream l bytes hs gs other stream)
 unpacked_stream l bytes text gs stream (inr (offset, reason, hs, fault, e)) =
@@ -45,12 +45,12 @@ is_named : (l : Allowance) (records : List Record) (number : ℕ) (reason : RowR
 is_named l records number reason gs hs named (inl (none, first, bad, e)) = fault_none l records number reason (inl (none, first, bad)) gs named
 is_named l records number reason gs hs named (inr (fault, e)) = fault_none l records number reason (inr fault) gs named
 
--- what records are packed to that name geometries
+-- the stream to which records that name geometries are packed
 pub packed_records : (style : Style) (l : Allowance) (records : List Record) (bytes : List ℕ) (gs : List Tree) → IsAllowance l → Named l records gs → PackTo style l records bytes → bytes ≡ canonical_stream style gs
 packed_records style l records bytes gs allowed named (inl (hs, other, e)) = e ∙ ap (canonical_stream style) (one_table l records hs gs allowed other named)
 packed_records style l records bytes gs allowed named (inr (number, reason, hs, complete, e)) = absurd (is_named l records number reason gs hs named complete)
 
--- ---- both ways
+-- ---- round trips both ways
 
 valid_stream : (l : Allowance) (bytes : List ℕ) (gs : List Tree) → Stream l bytes gs → AreValid l gs
 valid_stream l bytes [] s = tt

@@ -1,4 +1,4 @@
--- Where the sending of a table stops.
+-- The places where the sending of a table stops.
 use Rattle.twkb_convert.proofs.Prelude.{◌≡◌, ◌∙◌, ◌+◌, ◌<◌, ◌≤◌, ◌-◌, ◌^◌, ℕ, Bool, true, false, List, [], ◌∷◌, ◌++◌, Option, Some, None, Err, length, ap, arith, refl, sym, subst, inl, inr, length-append, IfSome, append-nil, flat_map-append, Refused, Took, is_spent, sent_of, refused_join, took_join, Output, OutFault, Tree, simple, collection, Row, Allowance, Work, canonical_blob, canonical_stream, Style, Record, AreRecordsOf, BeginWith, standing, all_but_last, FrontOfBlobs, MayBeWritten, TableObstacle}
 use Rattle.twkb_io.specs.declared.output.OutFault.TheVariants as out
 use Rattle.twkb_io.specs.OutputLaws.{took_nothing}
@@ -15,9 +15,9 @@ use Rattle.twkb_convert.specs.declared.obstacle.TableObstacle.TheVariants as obs
 use Rattle.twkb_convert.specs.declared.sending.Tally.{Tally}
 use Rattle.twkb_convert.proofs.WorkLemmas.{work_more}
 
--- ---- what may be written
+-- ---- geometries that may be written
 
--- all records of a text are a beginning of them
+-- all records of a text are a beginning of its records
 begins_all : (told : Option (List ℕ)) (records : List Record) → IfSome told (λ text. AreRecordsOf text records) → IfSome told (λ text. BeginWith text records)
 begins_all None records all = tt
 begins_all (Some text) records all = (all.0, all.1, all.2)
@@ -43,17 +43,17 @@ ready_after l remaining told records given table s =
     ready_gave l told records given (waiting table.rows) (is_ended table) (text_begins remaining told records table s.source)
     (λ over. subst (λ e. standing remaining told records e table.reader) over s.source) s.gave
 
--- ---- geometries sent
+-- ---- geometries that were sent
 
 stream_one : (style : Style) (gs : List Tree) (g : Tree) → canonical_stream style (gs ++ g ∷ []) ≡ canonical_stream style gs ++ canonical_blob style g
 stream_one style gs g = flat_map-append (canonical_blob style) gs (g ∷ []) ∙ ap (λ l. canonical_stream style gs ++ l) (append-nil (canonical_blob style g))
 
 module _ {R W : Type 0} (style : Style) (l : Allowance) (remaining : R → Option (List ℕ)) (contents : W → Option (List ℕ)) (told : Option (List ℕ)) where
-  -- none yet
+  -- no geometry was sent yet
   pub sent_none : (from : TableReader R) (old : Output W) (work : Work) → StandsAfter l remaining told [] [] from → IsWorkOf [] work → SentSoFar style l remaining contents told from old old 0 work
   sent_none from old work stands none = record { records = []; geometries = []; stands = stands; took = took_nothing contents old; count = refl; work_of = none }
 
-  -- one more
+  -- one more geometry was sent
   pub sent_more : (from to : TableReader R) (old mid new : Output W) (done : ℕ) (before after : Work) (s : SentSoFar style l remaining contents told from old mid done before)
       → SendsOne style l remaining contents told s.geometries to mid before new after → SentSoFar style l remaining contents told to old new (done + 1) after
   sent_more from to old mid new done before after s one = record {
@@ -65,7 +65,7 @@ module _ {R W : Type 0} (style : Style) (l : Allowance) (remaining : R → Optio
     work_of = work_more s.geometries one.geometry before after s.work_of one.writes.work;
   }
 
-  -- no more
+  -- no more geometry was sent
   pub sent_table : (from to : TableReader R) (old mid new : Output W) (done : ℕ) (before after : Work) (s : SentSoFar style l remaining contents told from old mid done before)
       → EndsTable l remaining told s.records s.geometries to mid before new after → SentTable style l contents told old new (record { geometries = done; work = after })
   sent_table from to old mid new done before after s ends = record {
@@ -75,7 +75,7 @@ module _ {R W : Type 0} (style : Style) (l : Allowance) (remaining : R → Optio
     work_of = subst (λ w. IsWorkOf s.geometries w) (sym ends.same_work) s.work_of;
   }
 
--- the blobs of geometries that may be written, and nothing behind them
+-- the blobs of geometries that may be written, with none cut after them
 abbrev pub front_with : (style : Style) (l : Allowance) (told : Option (List ℕ)) (gs : List Tree) (bytes : List ℕ) → MayBeWritten l told (gs ++ []) → bytes ≡ canonical_stream style gs ++ []
     → FrontOfBlobs style l told bytes
 front_with style l told gs bytes ready are = record { whole = gs; later = []; front = []; rest = []; ready = ready; cut = refl; bytes = are }
@@ -96,7 +96,7 @@ explains_fault style l told passed records given fault.Memory sent e = (refl, re
 explains_fault style l told passed records given fault.Spent sent e = e
 
 module _ {R W : Type 0} (style : Style) (l : Allowance) (remaining : R → Option (List ℕ)) (contents : W → Option (List ℕ)) (told : Option (List ℕ)) (passed : ℕ) where
-  -- where the output took all that it was handed
+  -- the output took all bytes handed over
   stopped_between : (from : TableReader R) (old mid new : Output W) (done : ℕ) (work : Work) (stop : TableObstacle) (s : SentSoFar style l remaining contents told from old mid done work)
       → new ≡ mid → is_write stop ≡ false → ((P : Type 0) → P → UnlessOutput stop P) → ExplainsWhy style l told passed stop (sent_of old) s.geometries [] []
       → Stopped style l contents told passed old new (record { done = done; why = stop })
@@ -114,7 +114,7 @@ module _ {R W : Type 0} (style : Style) (l : Allowance) (remaining : R → Optio
         unspent = kept _ took.spent;
       }
 
-  -- where it refused a front of a blob
+  -- the output refused a prefix of a blob
   stopped_inside : (from : TableReader R) (old mid new : Output W) (done : ℕ) (work : Work) (f : OutFault) (s : SentSoFar style l remaining contents told from old mid done work)
       → is_spent mid ≡ false → CutsOne style l contents told s.geometries mid f new → Stopped style l contents told passed old new (record { done = done; why = obstacle.Output f })
   stopped_inside from old mid new done work f s fresh one =
@@ -149,18 +149,18 @@ module _ {R W : Type 0} (style : Style) (l : Allowance) (remaining : R → Optio
   stopped_next from to old mid new done before after obstacle.Undrained s fresh sends = absurd sends
   stopped_next from to old mid new done before after (obstacle.Output f) s fresh one = stopped_inside from old mid new done before f s fresh one
 
--- ---- no end
+-- ---- tables without an end
 
 blob_long : (style : Style) (g : Tree) → 0 < length (canonical_blob style g)
 blob_long style (simple p s) = omega arith
 blob_long style (collection p ids gs) = omega arith
 
--- a blob has a byte
+-- a blob has at least one byte
 stream_long : (style : Style) (gs : List Tree) → length gs ≤ length (canonical_stream style gs)
 stream_long style [] = omega arith
 stream_long style (g ∷ gs) = omega (arith, length-append (canonical_blob style g) (canonical_stream style gs), blob_long style g, stream_long style gs)
 
--- as many geometries as can be counted are more bytes than can be sent
+-- more geometries than can be counted have more bytes than can be sent
 pub stopped_uncounted : {R W : Type 0} (style : Style) (l : Allowance) (remaining : R → Option (List ℕ)) (contents : W → Option (List ℕ)) (told : Option (List ℕ)) (passed : ℕ) (table : TableReader R) (old new : Output W)
     (done last : ℕ) (work : Work) → SentSoFar style l remaining contents told table old new done work → done ≡ last → 2 ^ 62 < last
     → Stopped style l contents told passed old new (record { done = last; why = obstacle.Output out.TooLong })
@@ -178,7 +178,7 @@ stopped_uncounted style l remaining contents told passed table old new done last
   unspent = tt;
 }
 
--- ---- the reader's end, and the flush
+-- ---- the reader's end and the flush
 
 module _ {W : Type 0} (style : Style) (l : Allowance) (contents : W → Option (List ℕ)) (told : Option (List ℕ)) where
   -- all geometries of a table may be written
@@ -191,7 +191,7 @@ module _ {W : Type 0} (style : Style) (l : Allowance) (contents : W → Option (
     ready = inr (all.table.all, append-nil all.table.geometries);
   }
 
-  -- the whole table was sent, and the reader gave bytes till their count was full
+  -- the whole table was sent, and the reader gave bytes until their count was full
   pub stopped_undrained : (passed : ℕ) (old new : Output W) (tally : Tally) → 2 ^ 64 - 1 ≤ passed → SentTable style l contents told old new tally
       → Stopped style l contents told passed old new (record { done = tally.geometries; why = obstacle.Undrained })
   stopped_undrained passed old new tally full all = record {
@@ -205,7 +205,7 @@ module _ {W : Type 0} (style : Style) (l : Allowance) (contents : W → Option (
     unspent = all.took.spent;
   }
 
-  -- the whole table was sent, and the read behind it failed
+  -- the whole table was sent, and the read after it failed
   pub stopped_unread : (passed : ℕ) (old new : Output W) (tally : Tally) → SentTable style l contents told old new tally
       → Stopped style l contents told passed old new (record { done = tally.geometries; why = obstacle.Table fault.Source })
   stopped_unread passed old new tally all = record {
@@ -219,7 +219,7 @@ module _ {W : Type 0} (style : Style) (l : Allowance) (contents : W → Option (
     unspent = all.took.spent;
   }
 
-  -- a flush that failed after the whole table
+  -- the flush failed after the whole table
   pub flush_failed : (passed : ℕ) (old mid new : Output W) (tally : Tally) (f : OutFault) → SentTable style l contents told old mid tally → Refused contents mid [] f new → (f ≡ out.TooLong → ⊥) → (f ≡ out.Spent → ⊥)
       → Stopped style l contents told passed old new (record { done = tally.geometries; why = obstacle.Output f })
   flush_failed passed old mid new tally f all failed short unspent =

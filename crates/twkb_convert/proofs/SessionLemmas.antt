@@ -15,7 +15,7 @@ use Rattle.twkb_tree.specs.Rows.{Row}
 use Rattle.twkb_convert.specs.BlobReading.{given, limits_of, reader_tap, rest_of}
 use Rattle.twkb_convert.specs.BlobSending.{EndsBlobs, IsReady}
 
--- where nothing was left and nothing was lost, a device tells nothing
+-- a device gives nothing if no byte was left and none was lost
 told_none : (known told : Option (List ℕ)) (held : List ℕ) → IsAtEnd known → Consumes known (prepend_known held told) [] → IfSome known (λ bytes. IsAtEnd told)
 told_none None told held end loses = tt
 told_none (Some xs) None held end loses = absurd loses
@@ -24,7 +24,7 @@ told_none (Some xs) (Some ys) held end loses =
     nil_from_length ys (omega (arith, ap length none, length-append held ys))
 
 module _ {R : Type 0} {read : Ghosts R} where
-  -- a new session, where the reader has read nothing
+  -- a new session for a reader that has read nothing
   pub ready_first : (reader : Reader R read) (s : Session) (limits : Allowance) → Stands [] [] s → session_limits s ≡ limits → limits_of reader ≡ limits → given reader ≡ 0 → IsReady reader s
   ready_first reader s limits stands own same none = record { bytes = []; gs = []; stands = stands; blobs = refl; same_limits = own ∙ sym same; as_many = none }
 

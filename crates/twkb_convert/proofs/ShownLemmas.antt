@@ -1,4 +1,4 @@
--- Bytes are shown by one text.
+-- Any bytes are shown by one text.
 use Rattle.twkb_convert.proofs.Prelude.{◌⊎◌, ◌≡◌, ◌∙◌, ◌+◌, ℕ, List, [], ◌∷◌, ◌++◌, length, Some, ap, arith, refl, sym, subst, inl, inr, length-append, append_assoc, append-nil, flat_map-append, BeginsWith, Tree, Allowance, IsAllowance, AreBytes, Blob, Stream, Reason, StreamFault, spans_of_blob, Span, Located, span_lines, LocatedStream, ShowTo, TellsSpans, geometries_of, lines_text}
 use Rattle.twkb_grammar.proofs.One.{one_blob_lem, peel}
 use Rattle.twkb_grammar.proofs.OneFault.{no_fault}
@@ -21,18 +21,18 @@ both b c geometry spans =
 one_located : (l : Allowance) (offset : ℕ) (xs ys : List ℕ) (b c : Located) → TellsSpans l offset xs b → TellsSpans l offset ys c → xs ≡ ys → b.geometry ≡ c.geometry → b ≡ c
 one_located l offset xs ys b c s t same is = both b c is (s.told ∙ one_spans l offset xs ys b.geometry c.geometry s.blob t.blob same is ∙ sym t.told)
 
--- these bytes have no blob in front
+-- these bytes begin with no blob
 abbrev NoBlob : Allowance → List ℕ → Type 0
 NoBlob l bytes = (g : Tree) (front rest : List ℕ) → bytes ≡ front ++ rest → Blob l front g → ⊥
 
 nothing_no_blob : (l : Allowance) → NoBlob l []
 nothing_no_blob l g front rest e b = omega (arith, blob_long l front g b, ap length e, length-append front rest)
 
--- these blobs are followed by others in the list
+-- the list begins with these blobs
 abbrev BeginBlobs : List Located → List Located → Type 0
 BeginBlobs bs cs = (more : List Located) × (cs ≡ bs ++ more)
 
--- blobs in front of bytes are first of all blobs in front of them
+-- the blobs with which some bytes begin are the first of all blobs with which they begin
 located_first : (l : Allowance) (offset : ℕ) (a b x y : List ℕ) (bs cs : List Located) → LocatedStream l offset a bs → LocatedStream l offset b cs → NoBlob l y → a ++ x ≡ b ++ y → BeginBlobs bs cs
 located_first l offset a b x y [] cs s t none e = (cs, refl)
 located_first l offset a b x y (p ∷ bs) [] s t none e =
@@ -63,7 +63,7 @@ some_located_stream l offset bytes (g ∷ gs) s =
 
 -- ---- one text
 
--- The text is that of all blobs in front of the bytes.
+-- The text is that of all blobs with which the bytes begin.
 record ShowsAll (l : Allowance) (bytes text : List ℕ) : Type 0 where
   front : List ℕ
   rest : List ℕ
@@ -94,7 +94,7 @@ shows_all l bytes text (inr (offset, reason, bs, f, (front, rest, whole, blobs),
   lines = e;
 }
 
--- blobs that the bytes begin with are first of those that are shown
+-- blobs with which the bytes begin are the first of those that are shown
 begins_all : (l : Allowance) (all bytes rest text : List ℕ) (bs : List Located) → all ≡ bytes ++ rest → LocatedStream l 0 bytes bs → (s : ShowsAll l all text) → BeginBlobs bs s.found
 begins_all l all bytes rest text bs whole blobs s = located_first l 0 bytes s.front rest s.rest bs s.found blobs s.blobs s.none (sym whole ∙ s.whole)
 

@@ -1,4 +1,4 @@
--- A stream that was written as a table, without the spans of its blobs.
+-- A stream that was written as a table, without its spans.
 use Rattle.twkb_convert.proofs.Prelude.{IfSome, IfOk, IfErr, Result, Ok, Err, ◌≡◌, ◌∙◌, ◌<◌, ◌^◌, ℕ, List, ◌++◌, Option, Some, None, length, ap, sym, subst, inl, inr, Appends, map-append, length-map, Tap, device_of, Tree, Allowance, Stream, Located, AtMostOneCut, table_text, LocatedStream, geometries_of, listing_text, HoldsWhole, Report, ConvertFault, Cause}
 use Rattle.twkb_convert.specs.Listed.{ExplainsListingCause, Listed, StoppedListing}
 use Rattle.twkb_convert.specs.Unpacked.{StoppedUnpacking, Unpacked}
@@ -22,7 +22,7 @@ holds_without : (text : List ℕ) (whole : List Located) → HoldsWhole (listing
 holds_without text whole (inl none) = inl (ap geometries_of none)
 holds_without text whole (inr more) = inr (more.0, more.1 ∙ ap (λ t. t ++ more.0) (table_of_blobs whole))
 
--- the text of the table of all these
+-- the text of the table of all these blobs
 all_text : (whole later : List Located) → listing_text listing.Table (whole ++ later) ≡ table_text (geometries_of whole ++ geometries_of later)
 all_text whole later = table_of_blobs (whole ++ later) ∙ ap table_text (joined whole later)
 

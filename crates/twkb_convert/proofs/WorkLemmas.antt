@@ -31,7 +31,7 @@ total-last : (count : Tree → ℕ) (gs : List Tree) (g : Tree) → total count 
 total-last count [] g = omega arith
 total-last count (h ∷ gs) g = omega (arith, total-last count gs g)
 
--- a sum that stops twice stops once
+-- a sum capped twice is capped once
 saturated-twice : (a b : ℕ) → saturated (saturated a + b) ≡ saturated (a + b)
 saturated-twice a b = omega arith
 
@@ -39,7 +39,7 @@ sum_more : (count : Tree → ℕ) (gs : List Tree) (g : Tree) (old new : ℕ) �
 sum_more count gs g old new before more =
     more ∙ ap (λ n. saturated (n + count g)) before ∙ saturated-twice (total count gs) (count g) ∙ ap saturated (sym (total-last count gs g))
 
--- one geometry more
+-- one more geometry
 pub work_more : (gs : List Tree) (g : Tree) (old new : Work) → IsWorkOf gs old → AddsWork g old new → IsWorkOf (gs ++ g ∷ []) new
 work_more gs g old new before adds = record {
   all_points = sum_more points gs g old.points new.points before.all_points adds.more_points;
@@ -49,7 +49,7 @@ work_more gs g old new before adds = record {
   node_reads = (let a = before.node_reads in let b = adds.node_reads in omega (arith, a, b, total-last nodes gs g));
 }
 
--- reads are at most so many times the sum, also where it stopped
+-- the reads are at most a multiple of the sum, even if it was capped
 pub read_twice : (reads sum all : ℕ) → reads < 2 ^ 64 → sum ≡ saturated all → reads ≤ 2 * all → reads ≤ 2 * sum
 read_twice reads sum all fits stopped within = omega arith
 

@@ -1,4 +1,4 @@
--- What one call of a reader of blobs does to the bytes that are left.
+-- The effect of one call of a reader of blobs on the bytes left.
 use Rattle.std.specs.Prelude.{ℕ, ◌≡◌, ◌+◌, ◌^◌, ◌<◌, List, [], ◌++◌, length, Bool, Option, IfSome, ⊤}
 use Rattle.std.specs.Io.KnownBytes.{Consumes}
 use Rattle.std.specs.Borrow.{MutBor}
@@ -17,15 +17,15 @@ use Rattle.twkb_blob.specs.declared.reader.Reader.{Reader}
 use Rattle.twkb_blob.specs.declared.spans.Located.{Located}
 use Rattle.twkb_convert.specs.LocatedBlobs.{TellsSpans}
 
--- the tap that was lent
+-- the borrowed tap
 abbrev pub reader_tap : {R : Type 0} {read : Ghosts R} → Reader R read → MutBor (Tap R)
 reader_tap reader = Inputs.input_tap (reader_input reader)
 
--- the failures of that tap
+-- the failures of the borrowed tap
 abbrev pub reader_failures : {R : Type 0} {read : Ghosts R} → Reader R read → ℕ
 reader_failures reader = Inputs.input_failures (reader_input reader)
 
--- the bytes that the input gave out
+-- the number of bytes that the input gave out
 abbrev pub given : {R : Type 0} {read : Ghosts R} → Reader R read → ℕ
 given reader = Inputs.given (reader_input reader)
 
@@ -33,11 +33,11 @@ given reader = Inputs.given (reader_input reader)
 abbrev pub rest_of : {R : Type 0} {read : Ghosts R} → Reader R read → Option (List ℕ)
 rest_of reader = Inputs.rest_of (reader_input reader)
 
--- what the device still tells
+-- the bytes that the device still gives
 abbrev pub told_of : {R : Type 0} {read : Ghosts R} → Reader R read → Option (List ℕ)
 told_of reader = told_by (reader_input reader)
 
--- whether a call of the input answered an error
+-- whether a call of the input returned an error
 abbrev pub is_input_spent : {R : Type 0} {read : Ghosts R} → Reader R read → Bool
 is_input_spent reader = Inputs.is_spent (reader_input reader)
 
@@ -50,25 +50,27 @@ pub record Used (old : Option (List ℕ)) (before : ℕ) (bytes : List ℕ) (new
   pub consumed : Consumes old new bytes
   pub counted : after ≡ before + length bytes
 
--- The bytes of one blob were used, and tell these spans at the place where it stood.
+-- The bytes of one blob were used, and they determine these spans at the place of the blob.
 pub record GivesBlob (limits : Allowance) (old : Option (List ℕ)) (before : ℕ) (b : Located) (new : Option (List ℕ)) (after : ℕ) : Type 0 where
   pub front : List ℕ
   pub tells : TellsSpans limits before front b
   pub used : Used old before front new after
 
--- What is left has a first fault; the offset counts the bytes given out before it.
+-- The bytes left have a first fault; the offset counts the bytes given out before it.
 pub record RefusesBlob (limits : Allowance) (bytes : List ℕ) (before : ℕ) (offset : ℕ) (why : BlobReason) : Type 0 where
   pub within : ℕ
   pub place : offset ≡ before + within
   pub first : FirstFault limits bytes within (reason_of why)
 
--- The device gave these bytes, then none or some that are cut inside a blob, and now it tells what follows them.
+-- The device gave these bytes, which end before a blob or inside one, and now it gives the bytes
+-- after them.
 pub record GaveOnly (limits : Allowance) (old : Option (List ℕ)) (bytes : List ℕ) (told : Option (List ℕ)) : Type 0 where
   pub cut : List ℕ
   pub consumed : Consumes old told (bytes ++ cut)
   pub cut_off : AreCutOff limits cut
 
--- why no blob came, of the bytes that were left, the count of those given out before, and what the device now tells
+-- why no blob came, given the bytes left, the number given out before, and the bytes that the
+-- device now gives
 abbrev pub Misses : Allowance → Option (List ℕ) → ℕ → Option (List ℕ) → BlobFault → Type 0
 Misses limits old before told stop.Memory = ⊤
 Misses limits old before told (stop.Device input.Read) = GaveOnly limits old [] told

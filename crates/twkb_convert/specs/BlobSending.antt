@@ -34,39 +34,40 @@ is_read_stop (blob.Device input.Spent) = false
 is_read_stop blob.Spent = false
 is_read_stop (blob.At offset reason) = false
 
--- whether it is a failed read
+-- whether the obstacle is a failed read
 abbrev pub is_read : StreamObstacle → Bool
 is_read (obstacle.Stream why) = is_read_stop why
 is_read (obstacle.Output why) = false
 
--- whether it is a failed write or flush
+-- whether the obstacle is a failed write or flush
 abbrev pub is_write : StreamObstacle → Bool
 is_write (obstacle.Stream why) = false
 is_write (obstacle.Output why) = is_device why
 
--- a fact, where no put was refused
+-- a fact that holds unless a put was refused
 abbrev pub UnlessOutput : StreamObstacle → Type 0 → Type 0
 UnlessOutput (obstacle.Stream why) fact = fact
 UnlessOutput (obstacle.Output why) fact = ⊤
 
--- The reader is that of the same tap and limits, which counted whether a read failed.
+-- The reader has the same tap and limits, and the tap counted whether a read failed.
 pub record Follows {R : Type 0} {read : Ghosts R} (old new : Reader R read) (has_failed : Bool) : Type 0 where
   pub same_tap : (reader_tap new).ghost_name ≡ (reader_tap old).ghost_name
   pub limits : limits_of new ≡ limits_of old
   pub failures : reader_failures new ≡ count_failure has_failed (reader_failures old)
   pub within : given new ≤ 2 ^ 62
 
--- where the bytes were known, the device has none left
+-- if the bytes were known, the device has none left
 abbrev pub IsEnded : {R : Type 0} {read : Ghosts R} → (R → Option (List ℕ)) → Reader R read → Reader R read → Type 0
 IsEnded remaining from to = IfSome (rest_of from) (λ bytes. IsAtEnd (remaining (device_of (reader_tap to).now)))
 
--- What a stop says of the reader: where a read failed, that is the obstacle, or a write or flush failed after it.
+-- What a stop says of the reader: if a read failed, that is the obstacle, or a write or flush
+-- failed after it.
 pub record StopsRead {R : Type 0} {read : Ghosts R} (from : Reader R read) (why : StreamObstacle) (to : Reader R read) : Type 0 where
   pub has_failed : Bool
   pub follows : Follows from to has_failed
   pub told : (has_failed ≡ is_read why) ⊎ (is_write why ≡ true)
 
--- The session reads what the reader reads: it stands between two blobs, behind as many bytes.
+-- The session reads what the reader reads: it is between two blobs, after as many bytes.
 abbrev pub IsReady : {R : Type 0} {read : Ghosts R} → Reader R read → Session → Type 0
 IsReady reader s = IsAbreast (limits_of reader) (reader_input reader) s
 
@@ -78,13 +79,13 @@ pub record EndsBlobs {R : Type 0} {read : Ghosts R} (remaining : R → Option (L
 
 -- ---- one blob
 
--- One blob was used, and this text is its own.
+-- One blob was used, and this is its text.
 pub record GivesText {R : Type 0} {read : Ghosts R} (what : Listing) (from to : Reader R read) (text : List ℕ) : Type 0 where
   pub found : Located
   pub gives : GivesBlob (limits_of from) (rest_of from) (given from) found (rest_of to) (given to)
   pub own : text ≡ blob_text what found
 
--- what a fault says of which no text came
+-- what the fault says if no text came
 abbrev pub StopsText : {R : Type 0} {read : Ghosts R} → Reader R read → BlobFault → Reader R read → Type 0
 StopsText from why to = Misses (limits_of from) (rest_of from) (given from) (told_of to) why
 
@@ -100,7 +101,7 @@ pub record CutBlob {R W : Type 0} {read : Ghosts R} (what : Listing) (contents :
   pub gives : GivesBlob (limits_of from) (rest_of from) (given from) found (rest_of to) (given to)
   pub cut : Cut contents old (blob_text what found) why new
 
--- what an obstacle to the sending of one blob's text says
+-- what the obstacle says if not all of one blob's text was sent
 abbrev pub StopsBlob : {R W : Type 0} {read : Ghosts R} → Listing → (W → Option (List ℕ)) → Reader R read → Output W → StreamObstacle → Reader R read → Output W → Type 0
 StopsBlob what contents from old (obstacle.Stream why) to new = (new ≡ old) × StopsText from why to
 StopsBlob what contents from old (obstacle.Output why) to new = CutBlob what contents from old to why new
@@ -116,7 +117,7 @@ pub record SentBlobs {R W : Type 0} {read : Ghosts R} (what : Listing) (contents
   pub took : Took contents old (blobs_text what found) new
   pub count : done ≡ length found
 
--- The whole text of a stream was sent, where this is the text of blobs.
+-- The whole text of a stream was sent, given the text of its blobs.
 pub record SentText {R W : Type 0} {read : Ghosts R} (text_of : List Located → List ℕ) (contents : W → Option (List ℕ)) (from : Reader R read) (old new : Output W) (done : ℕ) : Type 0 where
   pub found : List Located
   pub bytes : List ℕ
@@ -125,7 +126,7 @@ pub record SentText {R W : Type 0} {read : Ghosts R} (text_of : List Located →
   pub took : Took contents old (text_of found) new
   pub count : done ≡ length found
 
--- the reader's answer, after blobs of these bytes
+-- the reader's answer after blobs of these bytes
 abbrev pub ExplainsStream : Allowance → Option (List ℕ) → Option (List ℕ) → ℕ → List ℕ → BlobFault → Type 0
 ExplainsStream l old told before bytes blob.Memory = ⊤
 ExplainsStream l old told before bytes blob.Spent = ⊥
@@ -135,12 +136,14 @@ ExplainsStream l old told before bytes (blob.Device input.Spent) = ⊥
 ExplainsStream l old told before bytes (blob.At offset reason) =
     IfSome old (λ all. (left : List ℕ) × (all ≡ bytes ++ left) × RefusesBlob l left (before + length bytes) offset reason)
 
--- what an obstacle says, where these bytes were to be sent in all, from an output that had sent so many
+-- what the obstacle says, given the bytes to be sent in all and the number that the output had
+-- sent before
 abbrev pub ExplainsObstacle : Allowance → Option (List ℕ) → Option (List ℕ) → ℕ → List ℕ → StreamObstacle → ℕ → List ℕ → List Located → List ℕ → Type 0
 ExplainsObstacle l old told before bytes (obstacle.Stream why) sent text later left = (later ≡ []) × (left ≡ []) × ExplainsStream l old told before bytes why
 ExplainsObstacle l old told before bytes (obstacle.Output why) sent text later left = (why ≡ out.TooLong → 2 ^ 62 < sent + length text) × (why ≢ out.Spent)
 
--- A front of the text of a stream was sent, with that of the first blobs, where this is the text of blobs.
+-- A prefix of the text of a stream was sent, at least that of the first blobs, given the text of
+-- its blobs.
 pub record CutText {R W : Type 0} {read : Ghosts R} (text_of : List Located → List ℕ) (contents : W → Option (List ℕ)) (from : Reader R read) (old : Output W) (to : Reader R read) (new : Output W)
     (stop : Unfinished StreamObstacle) : Type 0 where
   pub text : List ℕ

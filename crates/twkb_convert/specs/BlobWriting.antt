@@ -16,7 +16,7 @@ pub record WritesBlob {W : Type 0} (style : Style) (contents : W → Option (Lis
   pub took : Took contents old (canonical_blob style g) new
   pub work : AddsWork g before after
 
--- nothing was sent where memory was refused, else a front of the blob
+-- nothing was sent if memory was refused, otherwise a prefix of the blob
 abbrev pub CutsBlob : {W : Type 0} → Style → (W → Option (List ℕ)) → Tree → Output W → EncodeFault OutFault → Output W → Type 0
 CutsBlob style contents g old Memory new = new ≡ old
 CutsBlob style contents g old (Sink fault) new = Cut contents old (canonical_blob style g) fault new

@@ -4,7 +4,7 @@ use Rattle.twkb_tree.specs.Tree.{Tree, flat, nodes, saturated}
 use Rattle.twkb_flat.specs.declared.work.Work.{Work}
 use Rattle.twkb_grammar.specs.Spans.{geometries}
 
--- how many points there are in one
+-- the number of points of a geometry
 abbrev pub points : Tree → ℕ
 points g = length (flat g)
 
@@ -13,7 +13,8 @@ abbrev pub total : (Tree → ℕ) → List Tree → ℕ
 total count [] = 0
 total count (g ∷ gs) = count g + total count gs
 
--- One geometry more was measured and written, with each point read twice at most and each node three times.
+-- One more geometry was measured and written, with each point read at most twice and each node at
+-- most three times.
 pub record AddsWork (g : Tree) (old new : Work) : Type 0 where
   pub more_points : new.points ≡ saturated (old.points + points g)
   pub more_nodes : new.nodes ≡ saturated (old.nodes + nodes g)
@@ -21,8 +22,8 @@ pub record AddsWork (g : Tree) (old new : Work) : Type 0 where
   pub point_reads : new.point_reads ≤ old.point_reads + 2 * points g
   pub node_reads : new.node_reads ≤ old.node_reads + 3 * nodes g
 
--- The work of packing these geometries: their points, nodes and TWKB geometries, each sum stopped at the greatest u64, and at most two reads
--- of each point and three of each node.
+-- The work of packing these geometries: their points, nodes and TWKB geometries, each sum capped
+-- at the greatest u64, and at most two reads of each point and three of each node.
 pub record IsWorkOf (gs : List Tree) (work : Work) : Type 0 where
   pub all_points : work.points ≡ saturated (total points gs)
   pub all_nodes : work.nodes ≡ saturated (total nodes gs)

@@ -1,26 +1,26 @@
--- Which devices failed in a run, as their taps count it, and what its cause says of that.
+-- Which devices failed in a run, as their taps count it, and what the cause says about that.
 use Rattle.std.specs.Prelude.{ℕ, ◌≡◌, ◌≢◌, Bool, true, false}
 use Rattle.twkb_io.specs.Taps.{count_failure, failures_of}
 use Rattle.twkb_io.specs.declared.tap.Tap.{Tap}
 use Rattle.twkb_convert.specs.declared.report.Cause.{Cause}
 use Rattle.twkb_convert.specs.declared.report.Cause.TheVariants as cause
 
--- whether a device failed tells whether the cause is one, and which: a failed write or flush comes before a failed read
+-- the cause is a device's exactly if one failed: a failed write or flush comes before a failed read
 abbrev pub IsDeviceCause : Bool → Bool → Cause → Type 0
 IsDeviceCause read true why = why ≡ cause.WriteDevice
 IsDeviceCause true false why = why ≡ cause.ReadDevice
 IsDeviceCause false false why = (why ≢ cause.ReadDevice) × (why ≢ cause.WriteDevice)
 
--- one failure more was counted, where there was one
+-- one more failure was counted, if there was one
 abbrev pub CountsOne : Bool → ℕ → ℕ → Type 0
 CountsOne failed before after = after ≡ count_failure failed before
 
--- the count changed, where there were failures
+-- the count changed exactly if there were failures
 abbrev pub Changes : Bool → ℕ → ℕ → Type 0
 Changes true before after = after ≢ before
 Changes false before after = after ≡ before
 
--- The taps counted whether reads failed, in this way, and whether a write or a flush did.
+-- The taps counted whether reads failed, in this way, and whether a write or a flush failed.
 pub record DevicesTell {R W : Type 0} (CountsReads : Bool → ℕ → ℕ → Type 0) (reader : Tap R) (writer : Tap W) (why : Cause) (read : Tap R) (written : Tap W) : Type 0 where
   pub read_failed : Bool
   pub write_failed : Bool

@@ -5,12 +5,13 @@ use Rattle.twkb_io.specs.Taps.{has_unflushed}
 use Rattle.twkb_convert.specs.declared.report.Cause.TheVariants as cause
 use Rattle.twkb_convert.specs.declared.report.ConvertFault.{ConvertFault}
 
--- nothing that the writer took is unflushed, but where the cause is that it failed or that too much would be written
+-- no byte that the writer took is unflushed, unless the cause is that it failed or that too much
+-- would be written
 abbrev pub IsFlushed : {T W : Type 0} → Result T ConvertFault → Tap W → Type 0
 IsFlushed (Ok report) writer = has_unflushed writer ≡ false
 IsFlushed (Err fault) writer = fault.cause ≢ cause.WriteDevice → fault.cause ≢ cause.TooLong → has_unflushed writer ≡ false
 
--- the same, but where a read failed too
+-- no byte that the writer took is unflushed, with a failed read as one more exception
 abbrev pub IsFlushedButForDevices : {T W : Type 0} → Result T ConvertFault → Tap W → Type 0
 IsFlushedButForDevices (Ok report) writer = has_unflushed writer ≡ false
 IsFlushedButForDevices (Err fault) writer = fault.cause ≢ cause.WriteDevice → fault.cause ≢ cause.ReadDevice → fault.cause ≢ cause.TooLong → has_unflushed writer ≡ false

@@ -1,4 +1,5 @@
--- What a stream was written as, and where that stopped: of any sort of item for a blob, with its text.
+-- The text of a stream that was written, and where it stopped, for any sort of item that a blob
+-- has with its text.
 use Rattle.std.specs.Prelude.{◌≡◌, ℕ, ◌^◌, ◌<◌, ◌⊎◌, List, [], ◌++◌, length, Option, IfSome, ⊤}
 use Rattle.std.specs.Io.KnownBytes.{Appends, IsAtEnd}
 use Rattle.twkb_io.specs.Taps.{device_of, failures_of}
@@ -20,7 +21,8 @@ use Rattle.twkb_convert.specs.declared.report.ConvertFault.{ConvertFault}
 use Rattle.twkb_convert.specs.declared.report.Cause.{Cause}
 use Rattle.twkb_convert.specs.declared.report.Cause.TheVariants as cause
 
--- All bytes of the reader are these blobs, and the writer took their text; no device failed, and the reader is at its end.
+-- All bytes of the reader are these blobs, and the writer took their text; no device failed, and
+-- the reader is at its end.
 pub record Listed {R W A : Type 0} (AreBlobs : List ℕ → List A → Type 0) (text_of : List A → List ℕ) (remaining : R → Option (List ℕ)) (contents : W → Option (List ℕ))
     (reader : Tap R) (writer : Tap W) (report : Report) (read : Tap R) (written : Tap W) : Type 0 where
   pub found : List A
@@ -32,9 +34,10 @@ pub record Listed {R W A : Type 0} (AreBlobs : List ℕ → List A → Type 0) (
   pub reads : failures_of read ≡ failures_of reader
   pub writes : failures_of written ≡ failures_of writer
 
--- What a cause says of the bytes that are told at the start and at the end, of those of the blobs that were read, of the blobs whose text
--- was written, of another whose text was not written whole, and of the text that is left to be written for all these. After a failed read
--- the text of every whole blob in the bytes that were read is written.
+-- What a cause says, given the bytes known at the start and at the end, the bytes of the blobs
+-- that were read, the blobs whose text was written, another blob whose text was not written
+-- whole, and the text that is left to be written for all these. After a failed read, the text of
+-- every complete blob in the bytes read was written.
 abbrev pub ExplainsListingCause : {A : Type 0} → (List A → List Tree) → (List A → List ℕ) → Allowance → Option (List ℕ) → Option (List ℕ) → List ℕ → Cause → List A → List A → List ℕ → Type 0
 ExplainsListingCause trees_of text_of l old told bytes (cause.Row number reason) whole later left = ⊥
 ExplainsListingCause trees_of text_of l old told bytes (cause.Blob offset reason) whole later left =
@@ -46,7 +49,8 @@ ExplainsListingCause trees_of text_of l old told bytes cause.TooLong whole later
     IfSome old (λ all. 2 ^ 62 < length all) ⊎ (2 ^ 62 < length (text_of (whole ++ later)))
 ExplainsListingCause trees_of text_of l old told bytes cause.TooManyRecords whole later left = ⊥
 
--- The bytes of the reader begin with blobs, and the writer took a front of their text, with that of the first of them.
+-- The bytes of the reader begin with blobs, and the writer took a prefix of their text, with that
+-- of the first of them.
 pub record StoppedListing {R W A : Type 0} (AreBlobs : List ℕ → List A → Type 0) (trees_of : List A → List Tree) (text_of : List A → List ℕ) (l : Allowance)
     (remaining : R → Option (List ℕ)) (contents : W → Option (List ℕ)) (reader : Tap R) (writer : Tap W) (fault : ConvertFault) (read : Tap R) (written : Tap W) : Type 0 where
   pub text : List ℕ
@@ -57,7 +61,7 @@ pub record StoppedListing {R W A : Type 0} (AreBlobs : List ℕ → List A → T
   pub explains : ExplainsListingCause trees_of text_of l (remaining (device_of reader)) (remaining (device_of read)) part.bytes fault.cause part.whole part.later part.left
   pub devices : DevicesTell CountsOne reader writer fault.cause read written
 
--- the cause that an obstacle is
+-- the cause that an obstacle is for a caller
 abbrev pub cause_of_obstacle : StreamObstacle → Cause
 cause_of_obstacle (obstacle.Stream blob.Memory) = cause.Memory
 cause_of_obstacle (obstacle.Stream (blob.Device input.Read)) = cause.ReadDevice

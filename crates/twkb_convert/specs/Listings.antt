@@ -1,4 +1,4 @@
--- What is written of the blobs of a stream.
+-- The text of the blobs of a stream.
 use Rattle.std.specs.Prelude.{ℕ, List, [], ◌∷◌, ◌++◌, map, flat_map}
 use Rattle.twkb_tree.specs.Rows.{rows}
 use Rattle.twkb_table.specs.Record.{header, record_of}
@@ -8,20 +8,20 @@ use Rattle.twkb_convert.specs.SpanLines.{span_lines}
 use Rattle.twkb_convert.specs.declared.listing.Listing.{Listing}
 use Rattle.twkb_convert.specs.declared.listing.Listing.TheVariants as listing
 
--- of one blob: the lines of its geometry's rows, or those of its spans
+-- the text of one blob: the lines of its geometry's rows, or those of its spans
 abbrev pub blob_text : Listing → Located → List ℕ
 blob_text listing.Table b = csvtext (map record_of (rows 0 b.geometry))
 blob_text listing.Headers b = span_lines b.spans
 
--- of blobs, one after another
+-- the text of blobs, one after another
 abbrev pub blobs_text : Listing → List Located → List ℕ
 blobs_text what bs = flat_map (blob_text what) bs
 
--- before the first blob: the header's line of a table
+-- the text before the first blob: the header's line of a table, or nothing
 abbrev pub first_line : Listing → List ℕ
 first_line listing.Table = csvtext (header ∷ [])
 first_line listing.Headers = []
 
--- of a stream
+-- the text of a stream
 abbrev pub listing_text : Listing → List Located → List ℕ
 listing_text what bs = first_line what ++ blobs_text what bs

@@ -1,4 +1,4 @@
--- Blobs of a stream, with the spans that their bytes tell.
+-- Blobs of a stream, with the spans that their bytes determine.
 use Rattle.std.specs.Prelude.{◌≡◌, ℕ, ◌+◌, ◌⊎◌, List, [], ◌∷◌, ◌++◌, length, map, flat_map}
 use Rattle.twkb_tree.specs.Tree.{Tree}
 use Rattle.twkb_tree.specs.Limits.{Allowance}
@@ -8,29 +8,30 @@ use Rattle.twkb_grammar.specs.Spans.{spans_of_blob}
 use Rattle.twkb_blob.specs.declared.spans.Located.{Located}
 use Rattle.twkb_convert.specs.SpanLines.{span_lines}
 
--- The bytes are a blob of this geometry, and at this offset of a stream their items tell these spans.
+-- The bytes are a blob of this geometry, and at this offset of a stream their items have these spans.
 pub record TellsSpans (l : Allowance) (offset : ℕ) (bytes : List ℕ) (b : Located) : Type 0 where
   pub blob : Blob l bytes b.geometry
   pub told : b.spans ≡ spans_of_blob offset blob
 
--- From this offset of a stream on the bytes are these blobs, one after another, and nothing more.
+-- From this offset of a stream on, the bytes are these blobs, one after another, and nothing else.
 abbrev pub LocatedStream : Allowance → (offset : ℕ) → List ℕ → List Located → Type 0
 LocatedStream l offset bytes [] = bytes ≡ []
 LocatedStream l offset bytes (b ∷ bs) = (front rest : List ℕ) × (bytes ≡ front ++ rest) × TellsSpans l offset front b × LocatedStream l (offset + length front) rest bs
 
--- their geometries
+-- the geometries of the blobs
 abbrev pub geometries_of : List Located → List Tree
 geometries_of bs = map (λ (b : Located). b.geometry) bs
 
--- for each blob, a line for each of its TWKB headers, in their order (profile)
+-- the lines of blobs: for each, one line for each of its TWKB headers, in order (profile)
 abbrev pub lines_text : List Located → List ℕ
 lines_text bs = flat_map (λ (b : Located). span_lines b.spans) bs
 
--- The bytes begin with these blobs, the first of which stands at a stream's start.
+-- The bytes begin with these blobs, the first of which is at a stream's start.
 abbrev pub BeginLocated : Allowance → List ℕ → List Located → Type 0
 BeginLocated l bytes bs = (front rest : List ℕ) × (bytes ≡ front ++ rest) × LocatedStream l 0 front bs
 
--- A stream is shown by this text: the lines of its blobs or, where an item is refused, of those before the refused one (profile).
+-- A stream is shown by this text: the lines of its blobs or, if an item is refused, of the blobs
+-- before the refused one (profile).
 abbrev pub ShowTo : Allowance → List ℕ → List ℕ → Type 0
 ShowTo l bytes text =
     ((bs : List Located) × LocatedStream l 0 bytes bs × (text ≡ lines_text bs))

@@ -1,4 +1,4 @@
--- What the conversions write.
+-- The outputs of the conversions.
 use Rattle.std.specs.Prelude.{◌≡◌, ◌≢◌, ℕ, ◌⊎◌, List, [], ◌∷◌, map}
 use Rattle.twkb_tree.specs.Tree.{Tree}
 use Rattle.twkb_tree.specs.Limits.{Allowance}
@@ -14,14 +14,15 @@ use Rattle.twkb_table.specs.Named.{Named}
 use Rattle.twkb_table.specs.RowFault.{AreComplete}
 use Rattle.twkb_table.specs.declared.reason.RowReason.{RowReason}
 
--- The records of a table are packed to these bytes in a style: the canonical stream of the geometries that they name or, where they are
--- refused at a record, of those that the refusal leaves complete (profile).
+-- The records of a table are packed to these bytes in a style: the canonical stream of the
+-- geometries that they name or, if a record is refused, of those that the refusal leaves complete
+-- (profile).
 abbrev pub PackTo : Style → Allowance → List Record → List ℕ → Type 0
 PackTo style l records bytes =
     ((gs : List Tree) × Named l records gs × (bytes ≡ canonical_stream style gs))
     ⊎ ((number : ℕ) × (reason : RowReason) × (gs : List Tree) × AreComplete l records number reason gs × (bytes ≡ canonical_stream style gs))
 
--- a text is packed to what its records are packed to
+-- a text is packed to these bytes if its records are
 abbrev pub PackTextTo : Style → Allowance → List ℕ → List ℕ → Type 0
 PackTextTo style l text bytes = (records : List Record) × AreRecordsOf text records × PackTo style l records bytes
 
@@ -41,13 +42,14 @@ rows_text gs = csvtext (map record_of (rows_of gs))
 abbrev pub table_text : List Tree → List ℕ
 table_text gs = csvtext (table gs)
 
--- A stream is unpacked to this text: that of the table of its geometries or, where an item is refused, of those of the blobs before the
--- refused one (profile).
+-- A stream is unpacked to this text: the table of its geometries or, if an item is refused, of
+-- those of the blobs before the refused one (profile).
 abbrev pub UnpackTo : Allowance → List ℕ → List ℕ → Type 0
 UnpackTo l bytes text =
     ((gs : List Tree) × Stream l bytes gs × (text ≡ table_text gs))
     ⊎ ((offset : ℕ) × (reason : Reason) × (gs : List Tree) × StreamFault l bytes gs offset reason × (text ≡ table_text gs))
 
--- At most one more geometry was begun, and bytes of its output are left to be written: so those before it are all whose output is whole.
+-- At most one more geometry was begun, and bytes of its output are left to be written, so the
+-- output of no other geometry is whole.
 abbrev pub AtMostOneCut : {A : Type 0} → List A → List ℕ → Type 0
 AtMostOneCut {A} later left = (later ≡ []) ⊎ ((one : A) × (later ≡ one ∷ []) × (left ≢ []))

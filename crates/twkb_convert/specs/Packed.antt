@@ -1,4 +1,4 @@
--- What a table is packed to.
+-- The result of packing a table.
 use Rattle.std.specs.Prelude.{◌≡◌, ℕ, ◌-◌, ◌^◌, ◌<◌, ◌≤◌, ◌*◌, ◌⊎◌, List, [], ◌++◌, length, Option, ⊤}
 use Rattle.std.specs.Io.KnownBytes.{Appends, IsAtEnd}
 use Rattle.twkb_io.specs.Taps.{bytes_given, device_of, failures_of}
@@ -20,8 +20,9 @@ use Rattle.twkb_convert.specs.declared.report.Cause.TheVariants as cause
 use Rattle.twkb_convert.specs.declared.report.ConvertFault.{ConvertFault}
 use Rattle.twkb_convert.specs.declared.report.Report.{Report}
 
--- The records of the reader's text, fewer than 2 ^ 32, name geometries, and their canonical stream in this style was written behind what the writer held; no
--- device failed, and the reader is at its end.
+-- The records of the reader's text, fewer than 2 ^ 32, name geometries, and their canonical
+-- stream in this style was written after the bytes that the writer held. No device failed, and
+-- the reader is at its end.
 pub record Packed {R W : Type 0} (style : Style) (l : Allowance) (remaining : R → Option (List ℕ)) (contents : W → Option (List ℕ)) (reader : Tap R) (writer : Tap W)
     (report : Report) (read : Tap R) (written : Tap W) : Type 0 where
   pub table : WholeTable l (remaining (device_of reader))
@@ -32,7 +33,7 @@ pub record Packed {R W : Type 0} (style : Style) (l : Allowance) (remaining : R 
   pub reads : failures_of read ≡ failures_of reader
   pub writes : failures_of written ≡ failures_of writer
 
--- The same, and this is the work of measuring and writing those geometries.
+-- The whole table was packed, and this is the work of measuring and writing its geometries.
 pub record PackedWith {R W : Type 0} (style : Style) (l : Allowance) (remaining : R → Option (List ℕ)) (contents : W → Option (List ℕ)) (reader : Tap R) (writer : Tap W)
     (report : Report) (work : Work) (read : Tap R) (written : Tap W) : Type 0 where
   pub packed : Packed style l remaining contents reader writer report read written
@@ -40,9 +41,11 @@ pub record PackedWith {R W : Type 0} (style : Style) (l : Allowance) (remaining 
   pub point_reads : work.point_reads ≤ 2 * work.points
   pub node_reads : work.node_reads ≤ 3 * work.nodes
 
--- What a cause says of the table and of what was written: a refused record comes after the whole output that it leaves complete; the
--- output would be too long, or behind the whole table the reader gave bytes till its tap's count of them was full; a failed read cuts a blob
--- only where the output would be too long; the other causes cut none, a failed write aside.
+-- What a cause says about the table and the bytes written. Row: all output of the geometries that
+-- the refusal leaves complete was written. TooLong: the output would be too long, or after the
+-- whole table the reader gave bytes until its tap's count of them was full. ReadDevice: a blob is
+-- cut only if the output would also be too long. WriteDevice: nothing. The other causes leave no
+-- blob cut.
 abbrev pub ExplainsPackingCause : Style → Allowance → Option (List ℕ) → ℕ → Cause → List Tree → List Tree → List ℕ → Type 0
 ExplainsPackingCause style l told given (cause.Row number reason) whole later front = (later ≡ []) × (front ≡ []) × IsRefusedAt l told number reason whole
 ExplainsPackingCause style l told given cause.TooManyRecords whole later front =
@@ -55,12 +58,14 @@ ExplainsPackingCause style l told given cause.Memory whole later front = (later 
 ExplainsPackingCause style l told given cause.TooLong whole later front =
     (2 ^ 62 < length (canonical_stream style (whole ++ later))) ⊎ ((later ≡ []) × (front ≡ []) × NamesAll l told whole × (2 ^ 64 - 1 ≤ given))
 
--- what the obstacle says, where nothing had been sent before, this cause says too, whatever was written
+-- this cause says what the obstacle says of an output that had sent nothing before, whatever was
+-- written
 abbrev pub ExplainsAs : TableObstacle → Cause → Type 0
 ExplainsAs why answer = (style : Style) (l : Allowance) (told : Option (List ℕ)) (given sent : ℕ) (whole later : List Tree) (front : List ℕ) → sent ≡ 0
     → ExplainsWhy style l told given why sent whole later front → ExplainsPackingCause style l told given answer whole later front
 
--- Geometries of the reader's text may be written: the canonical blobs of the first ones were, and a front of the next one's.
+-- Geometries of the reader's text may be written: the canonical blobs of the first ones were, and
+-- a prefix of the next one's.
 pub record StoppedPacking {R W : Type 0} (style : Style) (l : Allowance) (remaining : R → Option (List ℕ)) (contents : W → Option (List ℕ)) (reader : Tap R) (writer : Tap W)
     (fault : ConvertFault) (read : Tap R) (written : Tap W) : Type 0 where
   pub bytes : List ℕ

@@ -1,4 +1,4 @@
--- Parts of a table or of a stream, as they stand in the whole.
+-- Parts of a table or of a stream, as they are in the whole.
 use Rattle.std.specs.Prelude.{◌≡◌, ℕ, List, ◌∷◌, ◌++◌, map}
 use Rattle.twkb_tree.specs.Limits.{Allowance}
 use Rattle.twkb_grammar.specs.Spans.{moved_span}
@@ -12,18 +12,20 @@ use Rattle.twkb_convert.specs.Outputs.{NamesSome, PackTo}
 abbrev pub RowsName : Allowance → List Record → Type 0
 RowsName l rows = NamesSome l (header ∷ rows)
 
--- what these rows and those are packed to, each below a header, is in this order what both are packed to below one
+-- the outputs of two lists of rows, each below a header, are in order the output of both lists
+-- below one header
 abbrev pub PackApart : Style → Allowance → List Record → List Record → Type 0
 PackApart style l rows more = (a b : List ℕ) → PackTo style l (header ∷ rows) a → PackTo style l (header ∷ more) b → PackTo style l (header ∷ (rows ++ more)) (a ++ b)
 
--- a blob with its spans, where so many bytes more stand before it
+-- a blob with its spans, if this many more bytes come before it
 abbrev pub moved : ℕ → Located → Located
 moved n b = record { geometry = b.geometry; spans = map (moved_span n) b.spans }
 
--- each of some blobs
+-- each of some blobs, moved
 abbrev pub all_moved : ℕ → List Located → List Located
 all_moved n bs = map (moved n) bs
 
--- the first lines are those of blobs, and the others theirs where so many bytes more stand before them
+-- the first lines are those of blobs, and the others are theirs if this many more bytes come
+-- before them
 abbrev pub AreMovedLines : ℕ → List ℕ → List ℕ → Type 0
 AreMovedLines n lines others = (bs : List Located) × (lines ≡ lines_text bs) × (others ≡ lines_text (all_moved n bs))

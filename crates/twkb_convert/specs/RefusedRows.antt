@@ -1,4 +1,4 @@
--- Where and why a table is refused, and which geometries may be written before.
+-- Where and why a table is refused, and which geometries may be written before that place.
 use Rattle.std.specs.Prelude.{◌≡◌, ℕ, ◌+◌, ◌^◌, ◌<◌, ◌⊎◌, List, [], ◌∷◌, ◌++◌, length, Option, Some, IfSome}
 use Rattle.twkb_tree.specs.Tree.{Tree}
 use Rattle.twkb_tree.specs.Limits.{Allowance}
@@ -9,8 +9,8 @@ use Rattle.twkb_table.specs.declared.reason.RowReason.{RowReason}
 use Rattle.twkb_table.specs.CsvRecords.{AreRecordsOf, BeginWith}
 use Rattle.twkb_table.specs.TableReading.{NameSoFar}
 
--- The records of the text begin with some that are refused at the record of this number, for this reason, and these geometries are
--- complete. Where there is no record, the text has none.
+-- The records of the text begin with some that are refused at the record with this number, for
+-- this reason, and these geometries are complete. If there is no record, the text has none.
 pub record IsRefusedAt (l : Allowance) (told : Option (List ℕ)) (number : ℕ) (reason : RowReason) (gs : List Tree) : Type 0 where
   pub seen : List Record
   pub begins : IfSome told (λ text. BeginWith text seen)
@@ -21,7 +21,8 @@ pub record IsRefusedAt (l : Allowance) (told : Option (List ℕ)) (number : ℕ)
 abbrev pub IsRefusedText : Allowance → List ℕ → List Record → ℕ → RowReason → List Tree → Type 0
 IsRefusedText l text records number reason gs = AreRecordsOf text records × IsRefusedAt l (Some text) number reason gs
 
--- The text begins with 2 ^ 32 records. Those before the last name geometries, and these are all of them but the last.
+-- The text begins with 2 ^ 32 records. Those before the last name geometries, and these are all
+-- of them but the last.
 pub record HasTooMany (l : Allowance) (told : Option (List ℕ)) (gs : List Tree) : Type 0 where
   pub before : List Record
   pub here : Record
@@ -31,8 +32,8 @@ pub record HasTooMany (l : Allowance) (told : Option (List ℕ)) (gs : List Tree
   pub named : Named l before geometries
   pub complete : gs ≡ all_but_last geometries
 
--- After these records, the first of a text, these geometries may be written: all but the last of those that they name, and the last where
--- the text has no more records.
+-- After these records, the first of a text, these geometries may be written: all but the last of
+-- those that they name, and the last too if the text has no more records.
 pub record MayBeWritten (l : Allowance) (told : Option (List ℕ)) (gs : List Tree) : Type 0 where
   pub records : List Record
   pub geometries : List Tree
@@ -40,7 +41,7 @@ pub record MayBeWritten (l : Allowance) (told : Option (List ℕ)) (gs : List Tr
   pub named : NameSoFar l records geometries
   pub ready : (gs ≡ all_but_last geometries) ⊎ (IfSome told (λ text. AreRecordsOf text records) × (gs ≡ geometries))
 
--- The records of the text are all read, are fewer than 2 ^ 32, and name geometries.
+-- All records of the text were read, are fewer than 2 ^ 32, and name geometries.
 pub record WholeTable (l : Allowance) (told : Option (List ℕ)) : Type 0 where
   pub records : List Record
   pub geometries : List Tree
@@ -48,6 +49,6 @@ pub record WholeTable (l : Allowance) (told : Option (List ℕ)) : Type 0 where
   pub few : length records < 2 ^ 32
   pub named : Named l records geometries
 
--- the records of the text are all read, and name these geometries
+-- all records of the text were read, and name these geometries
 abbrev pub NamesAll : Allowance → Option (List ℕ) → List Tree → Type 0
 NamesAll l told gs = (records : List Record) × IfSome told (λ text. AreRecordsOf text records) × Named l records gs

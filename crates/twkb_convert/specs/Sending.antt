@@ -37,7 +37,7 @@ is_output (obstacle.Output f) = true
 is_output (obstacle.Table f) = false
 is_output obstacle.Undrained = false
 
--- a fact, where no put was refused
+-- a fact that holds unless a put was refused
 abbrev pub UnlessOutput : TableObstacle → Type 0 → Type 0
 UnlessOutput (obstacle.Output f) fact = ⊤
 UnlessOutput (obstacle.Table f) fact = fact
@@ -45,7 +45,7 @@ UnlessOutput obstacle.Undrained fact = fact
 
 -- ---- one geometry
 
--- The table gave one geometry more, and its blob was sent.
+-- The table gave one more geometry, and its blob was sent.
 pub record SendsOne {R W : Type 0} (style : Style) (l : Allowance) (remaining : R → Option (List ℕ)) (contents : W → Option (List ℕ)) (told : Option (List ℕ)) (given : List Tree)
     (table : TableReader R) (old : Output W) (before : Work) (new : Output W) (after : Work) : Type 0 where
   pub seen : List Record
@@ -53,20 +53,20 @@ pub record SendsOne {R W : Type 0} (style : Style) (l : Allowance) (remaining : 
   pub stands : StandsAfter l remaining told seen (given ++ geometry ∷ []) table
   pub writes : WritesBlob style contents geometry old before new after
 
--- The table gave no geometry more, and nothing was sent.
+-- The table gave no more geometry, and nothing was sent.
 pub record EndsTable {R W : Type 0} (l : Allowance) (remaining : R → Option (List ℕ)) (told : Option (List ℕ)) (records : List Record) (given : List Tree)
     (table : TableReader R) (old : Output W) (before : Work) (new : Output W) (after : Work) : Type 0 where
   pub meets : MeetsEnd l remaining told records given table
   pub same : new ≡ old
   pub same_work : after ≡ before
 
--- The table gave one geometry more, and not all of its blob was sent.
+-- The table gave one more geometry, and not all of its blob was sent.
 pub record CutsOne {W : Type 0} (style : Style) (l : Allowance) (contents : W → Option (List ℕ)) (told : Option (List ℕ)) (given : List Tree) (old : Output W) (f : OutFault) (new : Output W) : Type 0 where
   pub geometry : Tree
   pub ready : MayBeWritten l told (given ++ geometry ∷ [])
   pub cut : Cut contents old (canonical_blob style geometry) f new
 
--- what the sending of the next geometry shows, after these
+-- what sending the next geometry after these shows
 abbrev pub SendsNext : {R W : Type 0} → Style → Allowance → (R → Option (List ℕ)) → (W → Option (List ℕ)) → Option (List ℕ) → List Record → List Tree → TableReader R → Output W → Work → Output W → Work → Result Bool TableObstacle → Type 0
 SendsNext style l remaining contents told records given table old before new after (Ok true) = SendsOne style l remaining contents told given table old before new after
 SendsNext style l remaining contents told records given table old before new after (Ok false) = EndsTable l remaining told records given table old before new after
@@ -74,7 +74,7 @@ SendsNext style l remaining contents told records given table old before new aft
 SendsNext style l remaining contents told records given table old before new after (Err obstacle.Undrained) = ⊥
 SendsNext style l remaining contents told records given table old before new after (Err (obstacle.Output f)) = CutsOne style l contents told given old f new
 
--- wherever a table stood, its next geometry was sent
+-- from whatever state of the table, its next geometry was sent
 abbrev pub SendsFrom : {R W : Type 0} → Style → (R → Option (List ℕ)) → (W → Option (List ℕ)) → TableReader R → Output W → Work → TableReader R → Output W → Work → Result Bool TableObstacle → Type 0
 SendsFrom style remaining contents from old before to new after answer = (l : Allowance) (told : Option (List ℕ)) (records : List Record) (given : List Tree)
     → StandsAfter l remaining told records given from → SendsNext style l remaining contents told records given to old before new after answer
@@ -98,7 +98,8 @@ pub record SentTable {W : Type 0} (style : Style) (l : Allowance) (contents : W 
   pub count : tally.geometries ≡ length table.geometries
   pub work_of : IsWorkOf table.geometries tally.work
 
--- what a stop says of the table, of the count of the bytes that were given, and of what was written, by an output that had sent so many
+-- what a stop says about the table, the number of bytes given, and the bytes written, for an
+-- output that had sent this many before
 abbrev pub ExplainsWhy : Style → Allowance → Option (List ℕ) → ℕ → TableObstacle → ℕ → List Tree → List Tree → List ℕ → Type 0
 ExplainsWhy style l told given (obstacle.Table (fault.At number reason)) sent whole later front = (later ≡ []) × (front ≡ []) × IsRefusedAt l told number reason whole
 ExplainsWhy style l told given (obstacle.Table fault.TooManyRecords) sent whole later front = (later ≡ []) × (front ≡ []) × HasTooMany l told whole
@@ -109,7 +110,7 @@ ExplainsWhy style l told given obstacle.Undrained sent whole later front = (late
 ExplainsWhy style l told given (obstacle.Output f) sent whole later front =
     (f ≡ out.TooLong → 2 ^ 62 < sent + length (canonical_stream style (whole ++ later))) × (f ≢ out.Spent)
 
--- the blobs of some geometries were written, and a front of the next one's
+-- the blobs of some geometries were written, and a prefix of the next one's
 pub record Stopped {W : Type 0} (style : Style) (l : Allowance) (contents : W → Option (List ℕ)) (told : Option (List ℕ)) (given : ℕ) (old new : Output W) (stop : Unfinished TableObstacle) : Type 0 where
   pub bytes : List ℕ
   pub part : FrontOfBlobs style l told bytes
@@ -120,12 +121,12 @@ pub record Stopped {W : Type 0} (style : Style) (l : Allowance) (contents : W �
   pub failures : output_failures new ≡ count_failure (is_write stop.why) (output_failures old)
   pub unspent : UnlessOutput stop.why (is_spent new ≡ is_spent old)
 
--- the whole table was sent, or a front of its output
+-- the whole table was sent, or a prefix of its output
 abbrev pub SendsTable : {W : Type 0} → Style → Allowance → (W → Option (List ℕ)) → Option (List ℕ) → ℕ → Output W → Output W → Result Tally (Unfinished TableObstacle) → Type 0
 SendsTable style l contents told given old new (Ok tally) = SentTable style l contents told old new tally
 SendsTable style l contents told given old new (Err stop) = Stopped style l contents told given old new stop
 
--- the whole table was sent, or a front of its output, wherever a reader stood that had read nothing
+-- from a reader that had read nothing, the whole table was sent, or a prefix of its output
 abbrev pub SendsAll : {R W : Type 0} → Style → (R → Option (List ℕ)) → (W → Option (List ℕ)) → TableReader R → Output W → Output W → Result Tally (Unfinished TableObstacle) → Type 0
 SendsAll style remaining contents from old new answer =
     (l : Allowance) (told : Option (List ℕ)) (given : ℕ) → StandsAfter l remaining told [] [] from → SendsTable style l contents told given old new answer

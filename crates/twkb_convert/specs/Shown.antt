@@ -1,4 +1,4 @@
--- What a stream was shown as, and where it stopped.
+-- The result of showing a stream.
 use Rattle.std.specs.Prelude.{ℕ, List, Option}
 use Rattle.twkb_io.specs.declared.tap.Tap.{Tap}
 use Rattle.twkb_tree.specs.Limits.{Allowance}
@@ -11,6 +11,7 @@ use Rattle.twkb_convert.specs.declared.report.ConvertFault.{ConvertFault}
 abbrev pub Shown : {R W : Type 0} → Allowance → (R → Option (List ℕ)) → (W → Option (List ℕ)) → Tap R → Tap W → Report → Tap R → Tap W → Type 0
 Shown l = Listed (LocatedStream l 0) lines_text
 
--- The bytes of the reader begin with blobs, and the writer took a front of their lines, with those of the first of them.
+-- The bytes of the reader begin with blobs, and the writer took a prefix of their lines, with
+-- those of the first of them.
 abbrev pub StoppedShowing : {R W : Type 0} → Allowance → (R → Option (List ℕ)) → (W → Option (List ℕ)) → Tap R → Tap W → ConvertFault → Tap R → Tap W → Type 0
 StoppedShowing l = StoppedListing (LocatedStream l 0) geometries_of lines_text l

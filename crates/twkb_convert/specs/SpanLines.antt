@@ -8,7 +8,7 @@ use Rattle.twkb_grammar.specs.declared.span.Span.{Span}
 abbrev pub hex_of : ℕ → List ℕ
 hex_of byte = digit_glyph true (byte / 16) ∷ digit_glyph true (byte % 16) ∷ []
 
--- words, with one space between
+-- words with one space between them
 abbrev pub spaced : List (List ℕ) → List ℕ
 spaced [] = []
 spaced (word ∷ []) = word

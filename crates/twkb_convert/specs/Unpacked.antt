@@ -1,4 +1,4 @@
--- What a stream was unpacked to, and where it stopped.
+-- The result of unpacking a stream.
 use Rattle.std.specs.Prelude.{ℕ, List, Option}
 use Rattle.twkb_io.specs.declared.tap.Tap.{Tap}
 use Rattle.twkb_tree.specs.Limits.{Allowance}
@@ -12,6 +12,7 @@ use Rattle.twkb_convert.specs.declared.report.ConvertFault.{ConvertFault}
 abbrev pub Unpacked : {R W : Type 0} → Allowance → (R → Option (List ℕ)) → (W → Option (List ℕ)) → Tap R → Tap W → Report → Tap R → Tap W → Type 0
 Unpacked l = Listed (Stream l) table_text
 
--- The bytes of the reader begin with blobs, and the writer took a front of the text of their table, with the rows of the first of them.
+-- The bytes of the reader begin with blobs, and the writer took a prefix of the text of their
+-- table, with the rows of the first of them.
 abbrev pub StoppedUnpacking : {R W : Type 0} → Allowance → (R → Option (List ℕ)) → (W → Option (List ℕ)) → Tap R → Tap W → ConvertFault → Tap R → Tap W → Type 0
 StoppedUnpacking l = StoppedListing (Stream l) (λ trees. trees) table_text l

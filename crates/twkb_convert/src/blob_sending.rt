@@ -16,7 +16,7 @@ use twkb_blob::{Reader, Session};
 use twkb_io::{Output, Sink};
 use twkb_tree::Limits;
 
-// Sends what is written of a stream, and flushes the output where it refused no put.
+// Sends the text of a stream, and flushes the output unless it refused a put.
 pub(crate) fn send_listing_and_flush<R: Read, W: Write>(
     what: Listing,
     alloc: Global,
@@ -58,7 +58,7 @@ pub(crate) fn send_listing_and_flush<R: Read, W: Write>(
     Ok(done)
 }
 
-// Sends what stands before the first blob, and then the text of each blob.
+// Sends the text before the first blob, and then the text of each blob.
 fn send_listing<R: Read, W: Write>(
     what: Listing,
     alloc: Global,
@@ -86,7 +86,7 @@ fn send_listing<R: Read, W: Write>(
     }
 }
 
-// Sends the text of each blob before a byte of the next one is asked for.
+// Sends the text of each blob before a byte of the next one is read.
 fn send_blobs<R: Read, W: Write>(
     what: Listing,
     alloc: Global,
@@ -110,7 +110,8 @@ fn send_blobs<R: Read, W: Write>(
     send_each(what, reader, &mut session, &mut room, output)
 }
 
-// The same through a session that is ready. It and the room are kept from one blob to the next.
+// Sends the text of each blob through a session that is ready. The session and the room are
+// reused from one blob to the next.
 fn send_each<R: Read, W: Write>(
     what: Listing,
     reader: &mut Reader<'_, R>,
@@ -139,7 +140,7 @@ fn send_each<R: Read, W: Write>(
     }
 }
 
-// Sends the text of the next blob in one piece, and answers whether there was one.
+// Sends the text of the next blob in one put, and returns whether there was one.
 fn send_blob<R: Read, W: Write>(
     what: Listing,
     reader: &mut Reader<'_, R>,

@@ -12,11 +12,11 @@ use twkb_blob::{BlobFault, Reader, Session, Spans};
 use twkb_flat::Work;
 use twkb_table::put_flat_rows;
 
-// The bytes for which a text has room at first.
+// The bytes that a text has room for at first.
 const FIRST_ROOM: usize = 128;
 
-// What is kept from one blob to the next: room for the spans of which lines are made, and the text of
-// a blob.
+// Memory that is reused from one blob to the next: spans, from which lines are made, and the text
+// of a blob.
 #[derive(Drop)]
 pub(crate) struct TextRoom {
     spans: Spans,
@@ -24,7 +24,7 @@ pub(crate) struct TextRoom {
 }
 
 impl TextRoom {
-    // Takes no memory.
+    // Makes an empty room. Takes no memory.
     pub(crate) fn new(alloc: Global) -> TextRoom {
         TextRoom {
             spans: Spans::new(alloc),
@@ -33,7 +33,8 @@ impl TextRoom {
     }
 }
 
-// Makes room for the text of a small blob, where there is less: from nothing on a text would grow by steps, each a request for memory.
+// Makes room for the text of a small blob, if there is less. A text that grew from nothing would
+// ask for memory at each step.
 #[inline(always)]
 fn make_room(text: &mut Vec<u8>) -> Result<(), AllocError>
     ensures same { text.new.items ≡ text.old.items }
@@ -44,8 +45,7 @@ fn make_room(text: &mut Vec<u8>) -> Result<(), AllocError>
     Ok(())
 }
 
-// Reads the next blob through the session, if there is one, and makes the room's text what is written
-// of it.
+// Reads the next blob through the session, if there is one, and writes its text into the room.
 pub(crate) fn next_text<R: Read>(
     what: Listing,
     reader: &mut Reader<'_, R>,
@@ -72,7 +72,7 @@ pub(crate) fn next_text<R: Read>(
     }
 }
 
-// Makes the text that of the rows of the next blob's geometry, which the session lends.
+// Makes the text of the rows of the next blob's geometry, which is borrowed from the session.
 fn next_rows<R: Read>(
     reader: &mut Reader<'_, R>,
     session: &mut Session,
@@ -107,7 +107,7 @@ fn next_rows<R: Read>(
     Ok(true)
 }
 
-// Makes the room's text that of the headers of the next blob.
+// Makes the text of the headers of the next blob.
 fn next_lines<R: Read>(
     reader: &mut Reader<'_, R>,
     session: &mut Session,

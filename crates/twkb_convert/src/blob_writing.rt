@@ -10,7 +10,7 @@ use twkb_flat::{Flat, Work};
 use twkb_io::{OutFault, Output};
 use twkb_writer::{Depths, EncodeFault, Piece, Sizes, Style, measure_into, write_through};
 
-// What is kept from one geometry to the next.
+// Memory that is reused from one geometry to the next.
 #[derive(Drop)]
 pub(crate) struct Room {
     depths: Depths,
@@ -19,7 +19,7 @@ pub(crate) struct Room {
 }
 
 impl Room {
-    // Takes no memory.
+    // Makes an empty room. Takes no memory.
     pub(crate) fn new(alloc: Global) -> Room {
         Room {
             depths: Depths::new(),
@@ -30,7 +30,7 @@ impl Room {
 }
 
 // Writes the canonical blob of a flat form in a style, and adds up the work. Takes memory for the
-// sizes, where their room does not suffice; where it is refused, the output took nothing.
+// sizes if they have too little room; if it is refused, the output took nothing.
 pub(crate) fn write_blob<W: Write>(
     flat: &Flat,
     style: Style,

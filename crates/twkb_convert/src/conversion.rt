@@ -1,4 +1,4 @@
-//! The three conversions by one call, over any reader and writer.
+//! The three conversions in one call, over any reader and writer.
 ghost use Rattle.twkb_convert.specs.Conversions.{Converts};
 
 use crate::packing::pack_styled;
@@ -11,7 +11,7 @@ use twkb_io::Tap;
 use twkb_tree::Limits;
 use twkb_writer::Style;
 
-/// What is converted.
+/// The conversion to be carried out.
 #[derive(Clone, Copy, PartialEq, Eq, Debug)]
 pub enum Conversion {
     /// A table to a stream, in a style.
@@ -22,7 +22,7 @@ pub enum Conversion {
     Show,
 }
 
-/// Converts all that a reader gives: `pack_styled`, `unpack` or `show`.
+/// Converts all that a reader gives, by `pack_styled`, `unpack` or `show`.
 pub fn convert<R: Read, W: Write>(
     alloc: Global,
     what: Conversion,

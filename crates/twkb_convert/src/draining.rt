@@ -1,4 +1,4 @@
-//! The end of a reader.
+//! Reading a reader to its end.
 ghost use Rattle.std.specs.Prelude.{◌≡◌, ◌≤◌, ◌-◌, ◌^◌, Err, OnOk};
 ghost use Rattle.std.specs.Io.KnownBytes.{IsAtEnd};
 ghost use Rattle.twkb_io.specs.Taps.{bytes_given, device_of, failures_of};
@@ -7,7 +7,7 @@ ghost use Rattle.twkb_convert.specs.Draining.{Drains};
 use std::io::Read;
 use twkb_io::Tap;
 
-// How many bytes one read asks for.
+// The number of bytes that one read asks for.
 const PIECE: usize = 64;
 
 // Why a reader was not read to its end.
@@ -19,7 +19,7 @@ pub(crate) enum DrainFault {
     TooLong,
 }
 
-// Reads a reader to its end, and drops what it gives. Takes no memory.
+// Reads a reader to its end, and drops the bytes. Takes no memory.
 pub(crate) fn drain<R: Read>(tap: &mut Tap<R>) -> Result<(), DrainFault>
     ensures end { OnOk result (IsAtEnd (R.remaining (device_of tap.new))) }
     ensures too_long { result ≡ Err DrainFault.TooLong → 2 ^ 64 - 1 ≤ bytes_given tap.new }

@@ -1,16 +1,16 @@
-//! What keeps a conversion from its end.
+//! Obstacles, which stop a conversion before its end.
 ghost use Rattle.std.specs.Prelude.{◌≡◌};
 
 use twkb_blob::BlobFault;
 use twkb_io::OutFault;
 use twkb_table::TableFault;
 
-// Why not the whole table was sent.
+// Why not all of a table was sent.
 #[derive(Clone, Copy)]
 pub(crate) enum TableObstacle {
     // The table gave no geometry, or there was no memory for the sizes of one.
     Table(TableFault),
-    // Behind the last record as many reads as can be counted gave bytes.
+    // After the last record, as many reads as can be counted gave bytes.
     Undrained,
     // The output refused a put or a flush.
     Output(OutFault),
@@ -27,7 +27,7 @@ impl TableObstacle {
     }
 }
 
-// Why not the text of the whole stream was sent.
+// Why not all of a stream's text was sent.
 #[derive(Clone, Copy)]
 pub(crate) enum StreamObstacle {
     // The reader gave no blob, or there was no memory for the text of one.
@@ -36,7 +36,7 @@ pub(crate) enum StreamObstacle {
     Output(OutFault),
 }
 
-// How many geometries were sent whole, and why no more.
+// The number of geometries that were sent whole, and why no more were.
 #[derive(Clone, Copy)]
 pub(crate) struct Unfinished<F> {
     pub(crate) done: u64,

@@ -1,4 +1,4 @@
-//! From a table to a stream.
+//! Packing a table into a stream.
 ghost use Rattle.std.specs.Prelude.{◌≡◌, ◌<◌, ◌^◌, ◌⊎◌, IfOk, IfErr, true};
 ghost use Rattle.twkb_grammar.specs.declared.style.Style.TheVariants.{Full};
 ghost use Rattle.twkb_convert.specs.Devices.{Changes, IsDeviceCause};
@@ -18,8 +18,8 @@ use twkb_table::TableFault;
 use twkb_tree::Limits;
 use twkb_writer::Style;
 
-/// Packs a table into a stream of TWKB blobs, each geometry with its size, and with its bounding box
-/// where it may have one: `pack_styled` in the full style.
+/// Packs a table into a stream of TWKB blobs, each geometry with its size, and with its bounding
+/// box if it may have one. This is `pack_styled` in full style.
 pub fn pack<R: Read, W: Write>(
     alloc: Global,
     reader: &mut Tap<R>,
@@ -33,15 +33,15 @@ pub fn pack<R: Read, W: Write>(
     pack_styled(alloc, reader, writer, limits, Style::Full)
 }
 
-/// Packs a table into a stream in a style: reads its records to the reader's end, and writes the
-/// canonical blob of each geometry once the row behind it was accepted or the table's end was met
-/// (records: RFC 4180; their polylines: Encoded Polyline Algorithm Format; blobs: TWKB; the columns,
-/// and which blob is canonical: profile). Each geometry is to keep the limits. A refused record stops
-/// it; the geometry before that one is not written, since the record might have belonged to it. The
-/// writer is flushed as the last act, but where it failed or more than 2^62 bytes would be written.
-/// Takes memory for one record and one geometry with its sizes. Behind the end that `csv` met the
-/// reader is asked once more: lend one that may go on behind an end, as a terminal, under
-/// `twkb_io::Ending`.
+/// Packs a table into a stream in a style. Reads the records to the reader's end, and writes the
+/// canonical blob of each geometry once the row after it was accepted or the table's end was
+/// reached (records: RFC 4180; their polylines: Encoded Polyline Algorithm Format; blobs: TWKB;
+/// the columns, and which blob is canonical: profile). Each geometry must keep the limits. A
+/// refused record stops it; the geometry before that record is not written, since the record
+/// might have belonged to it. The writer is flushed last, unless it failed or more than 2^62
+/// bytes would be written. Takes memory for one record and one geometry with its sizes. After the
+/// end that `csv` saw, the reader is read once more: wrap a reader that may go on after an end,
+/// such as a terminal, in `twkb_io::Ending`.
 pub fn pack_styled<R: Read, W: Write>(
     alloc: Global,
     reader: &mut Tap<R>,
@@ -59,7 +59,8 @@ pub fn pack_styled<R: Read, W: Write>(
     }
 }
 
-/// `pack_styled`, with the work of measuring and writing the geometries that were written.
+/// Packs a table like `pack_styled`, and counts the work of measuring and writing the geometries
+/// that were written.
 pub fn pack_counted<R: Read, W: Write>(
     alloc: Global,
     reader: &mut Tap<R>,
@@ -94,7 +95,7 @@ pub fn pack_counted<R: Read, W: Write>(
     }
 }
 
-// Whether a count of failures is another one.
+// Whether a count of failures has changed.
 fn has_changed(before: u64, after: u64) -> bool
     ensures { Changes result before after }
 {
@@ -104,7 +105,7 @@ fn has_changed(before: u64, after: u64) -> bool
     true
 }
 
-// The answer where the whole table was sent.
+// The answer if the whole table was sent.
 fn packed(tally: Tally, sent: u64) -> (Report, Work)
     ensures report { result.0 ≡ record { geometries = tally.geometries; bytes = sent } }
     ensures work { result.1 ≡ tally.work }
@@ -117,7 +118,7 @@ fn packed(tally: Tally, sent: u64) -> (Report, Work)
     (report, tally.work)
 }
 
-// The cause of a stop: a failed write first, and then a failed read.
+// The cause of a stop: a failed write if there was one, then a failed read, then the obstacle's own.
 #[tactic(auto, using(crate::proofs::PackedLemmas::read_explained))]
 fn packing_cause(why: TableObstacle, has_read_failed: bool) -> Cause
     ensures devices { IsDeviceCause has_read_failed (is_write why) result }

@@ -1,4 +1,4 @@
-//! What a conversion answers.
+//! The answer of a conversion: a report, or a fault.
 ghost use Rattle.std.specs.Prelude.{◌≡◌, ◌≤◌, length};
 ghost use Rattle.twkb_convert.specs.Texts.{cause_words};
 
@@ -6,12 +6,12 @@ use thiserror::Error;
 use twkb_blob::BlobReason;
 use twkb_table::RowReason;
 
-/// What a conversion that was carried through did.
+/// The output of a conversion that reached its end.
 #[derive(Clone, Copy, Debug, PartialEq, Eq)]
 pub struct Report {
-    /// The geometries that were converted.
+    /// The number of geometries converted.
     pub geometries: u64,
-    /// The bytes that were written.
+    /// The number of bytes written.
     pub bytes: u64,
 }
 
@@ -19,11 +19,10 @@ pub struct Report {
 #[derive(Clone, Copy, Debug, PartialEq, Eq, Error)]
 #[error("{}", self.text())]
 pub enum Cause {
-    /// A record of the table that is packed is refused. Records are counted from 1, which is the
-    /// header.
+    /// A record of the packed table is refused. Records are counted from 1, which is the header.
     #[error("record {number}: {reason}")]
     Row { number: u64, reason: RowReason },
-    /// An item of the stream that is unpacked or shown is refused. Its offset is counted in bytes from
+    /// An item of the stream that is unpacked or shown is refused. Its offset is in bytes from
     /// the stream's start.
     #[error("byte {offset}: {reason}")]
     Blob { offset: u64, reason: BlobReason },
@@ -31,12 +30,12 @@ pub enum Cause {
     ReadDevice,
     /// A write or a flush failed, or a write took nothing.
     WriteDevice,
-    /// No memory was found.
+    /// Memory was refused.
     Memory,
-    /// More than 2^62 bytes would be written or, of a stream, read; or a table's reader gave 2^64 - 1
-    /// bytes and no end.
+    /// More than 2^62 bytes would be written or, for a stream, read; or a table's reader gave
+    /// 2^64 - 1 bytes and no end.
     TooLong,
-    /// The table that is packed has a record of number 2^32.
+    /// The packed table has a record with number 2^32.
     TooManyRecords,
 }
 
@@ -63,10 +62,10 @@ impl Cause {
 #[derive(Clone, Copy, Debug, PartialEq, Eq, Error)]
 #[error("{cause}")]
 pub struct ConvertFault {
-    /// The geometries whose output the writer took whole.
+    /// The number of geometries whose output the writer took whole.
     pub done: u64,
-    /// The bytes that the writer took.
+    /// The number of bytes that the writer took.
     pub sent: u64,
-    /// Why no more.
+    /// Why the conversion stopped.
     pub cause: Cause,
 }

@@ -14,15 +14,15 @@ use twkb_table::{TableFault, TableReader};
 use twkb_tree::Limits;
 use twkb_writer::{EncodeFault, Style};
 
-// How many geometries were sent, and the work of it.
+// The number of geometries sent, and the work of sending them.
 #[derive(Clone, Copy)]
 pub(crate) struct Tally {
     pub(crate) geometries: u64,
     pub(crate) work: Work,
 }
 
-// Sends the geometries of a table in a style, each once the row behind it was accepted or the
-// table's end was met.
+// Sends the geometries of a table in a style, each once the row after it was accepted or the
+// table's end was reached.
 pub(crate) fn send_table<R: Read, W: Write>(
     alloc: Global,
     tap: &mut Tap<R>,
@@ -39,7 +39,8 @@ pub(crate) fn send_table<R: Read, W: Write>(
     send_all(&mut table, &mut flat, style, &mut room, output)
 }
 
-// Sends the geometries of a table that was not read yet. Form and room are kept from one to the next.
+// Sends the geometries of a table that was not read yet. The flat form and the room are reused
+// from one geometry to the next.
 fn send_all<R: Read, W: Write>(
     table: &mut TableReader<'_, R>,
     flat: &mut Flat,
@@ -69,7 +70,7 @@ fn send_all<R: Read, W: Write>(
     })
 }
 
-// Sends the next geometry, and answers whether there was one.
+// Sends the next geometry, and returns whether there was one.
 fn send_next<R: Read, W: Write>(
     table: &mut TableReader<'_, R>,
     flat: &mut Flat,

@@ -11,15 +11,15 @@ use std::io::{Read, Write};
 use twkb_io::Tap;
 use twkb_tree::Limits;
 
-/// Writes a line for each TWKB header of a stream of blobs, in their order, with one space between its
-/// words and LF at its end: how many collections stand round the geometry, where its type byte stands,
-/// in bytes from the stream's start, its kind, its precision, its metadata byte as two upper-case
-/// hexadecimal digits, how many bytes it has, from the type byte to its end, and how many points, those
-/// of members included (headers: TWKB; the line: profile). The lines of a blob are written once it was
-/// read whole, before a byte of the next blob is asked for. Each geometry is to keep the limits. A
-/// refused blob stops it, behind the lines of those before. The writer is flushed as the last act, but
-/// where it failed or more than 2^62 bytes would be written. Takes memory for one geometry, its spans
-/// and their text.
+/// Writes a line for each TWKB header of a stream of blobs, in order, with one space between its
+/// words and LF at its end: the number of collections that the geometry is in, the offset of its
+/// type byte in bytes from the stream's start, its kind, its precision, its metadata byte as two
+/// upper-case hexadecimal digits, the number of its bytes from the type byte to its end, and the
+/// number of its points, those of members included (headers: TWKB; the line: profile). The lines
+/// of a blob are written once it was read whole, before a byte of the next blob is read. Each
+/// geometry must keep the limits. A refused blob stops it, after the lines of the blobs before.
+/// The writer is flushed last, unless it failed or more than 2^62 bytes would be written. Takes
+/// memory for one geometry, its spans and their text.
 pub fn show<R: Read, W: Write>(
     alloc: Global,
     reader: &mut Tap<R>,

@@ -9,10 +9,10 @@ use twkb_blob::Span;
 use twkb_num::Piece;
 use twkb_table::push_kind;
 
-// The greatest number of one digit.
+// The greatest number with one digit.
 const GREATEST_DIGIT: u64 = 9;
 
-// Appends a line for each span, or a front of them where memory is refused.
+// Appends a line for each span, or a prefix of them if memory is refused.
 pub(crate) fn put_lines(spans: &[Span], text: &mut Vec<u8>) -> Result<(), AllocError>
     ensures appended { OnOk result (text.new.items ≡ text.old.items ++ span_lines spans.now) }
 {
@@ -37,7 +37,7 @@ fn put_line(span: &Span, text: &mut Vec<u8>) -> Result<(), AllocError>
     text.extend_from_slice(line.as_slice())
 }
 
-// Appends a precision in decimals, and a space. Few are negative.
+// Appends a precision as a decimal, and a space. Few are negative.
 #[inline(always)]
 fn push_precision(precision: i8, line: &mut Piece<128>)
     requires room { length line.old + 21 ≤ 128 }
@@ -52,7 +52,7 @@ fn push_precision(precision: i8, line: &mut Piece<128>)
     }
 }
 
-// Appends a count in decimals, and a byte behind it. Most counts have a digit or two.
+// Appends a count as a decimal, and a byte after it. Most counts have one or two digits.
 #[inline(always)]
 fn push_count(count: u64, behind: u8, line: &mut Piece<128>)
     requires room { length line.old + 21 ≤ 128 }
@@ -66,7 +66,7 @@ fn push_count(count: u64, behind: u8, line: &mut Piece<128>)
     line.push(behind);
 }
 
-// Appends a count of two digits or more in decimals.
+// Appends a count of at least two digits as a decimal.
 #[inline(always)]
 fn push_digits(count: u64, line: &mut Piece<128>)
     requires some { 10 ≤ count }
@@ -83,7 +83,7 @@ fn push_digits(count: u64, line: &mut Piece<128>)
     }
 }
 
-// The digit of a number of one digit.
+// The digit of a number below 10; `None` for a greater one.
 #[inline(always)]
 fn one_digit(number: u64) -> Option<u8>
     ensures some { IfSome result (λ digit. decimal number ≡ digit ∷ []) }
@@ -96,7 +96,7 @@ fn one_digit(number: u64) -> Option<u8>
     }
 }
 
-// Appends a number in decimals. A caller's frame is spared the buffer.
+// Appends a number as a decimal. Out of line, so that callers have no buffer in their frames.
 #[inline(never)]
 fn push_number<I: Integer>(number: I, line: &mut Piece<128>)
     requires room { length line.old + I.MAX_STR_LEN ≤ 128 }

@@ -1,4 +1,4 @@
-//! A stream of blobs between a reader and a writer.
+//! A stream of blobs, read from a reader and listed to a writer.
 ghost use Rattle.std.specs.Prelude.{◌≡◌, IfOk, IfErr};
 ghost use Rattle.twkb_convert.specs.LocatedBlobs.{LocatedStream, geometries_of};
 ghost use Rattle.twkb_convert.specs.Listings.{listing_text};
@@ -15,8 +15,8 @@ use twkb_blob::{BlobFault, Reader};
 use twkb_io::{InFault, Input, OutFault, Output, Tap};
 use twkb_tree::Limits;
 
-// Writes what is to be written of a stream of blobs, each blob's text before a byte of the next one
-// is asked for. The writer is flushed last, where it refused no write.
+// Writes the text of a stream of blobs, each blob's text before a byte of the next one is read.
+// The writer is flushed last, unless it refused a write.
 pub(crate) fn list_stream<R: Read, W: Write>(
     what: Listing,
     alloc: Global,
@@ -45,7 +45,7 @@ pub(crate) fn list_stream<R: Read, W: Write>(
     }
 }
 
-// What an obstacle is to a caller. A call after a refused one is never made.
+// The cause that an obstacle is for a caller. No call is made after a refused one.
 fn listing_cause(obstacle: StreamObstacle) -> Cause
     ensures { result ≡ cause_of_obstacle obstacle }
 {

@@ -15,7 +15,7 @@ use twkb_table::TableFault;
 use twkb_tree::Limits;
 use twkb_writer::Style;
 
-// Sends a table, and flushes where no put was refused.
+// Sends a table, and flushes the output unless it refused a put.
 pub(crate) fn send_table_and_flush<R: Read, W: Write>(
     alloc: Global,
     tap: &mut Tap<R>,
@@ -54,7 +54,7 @@ pub(crate) fn send_table_and_flush<R: Read, W: Write>(
     Ok(tally)
 }
 
-// Sends a table, and sees that the reader is at its end.
+// Sends a table, and reads on to make sure that the reader is at its end.
 fn send_table_and_drain<R: Read, W: Write>(
     alloc: Global,
     tap: &mut Tap<R>,

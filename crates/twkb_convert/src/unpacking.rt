@@ -11,11 +11,11 @@ use std::io::{Read, Write};
 use twkb_io::Tap;
 use twkb_tree::Limits;
 
-/// Writes the table of a stream of blobs: the header's line, then for each blob its rows, before a
-/// byte of the next blob is asked for (blobs: TWKB; polylines: Encoded Polyline Algorithm Format;
-/// records: RFC 4180; the columns, and LF alone behind each record: profile). Each geometry is to keep
-/// the limits. A refused blob stops it, behind the rows of those before. The writer is flushed as the
-/// last act, but where it failed or more than 2^62 bytes would be written. Takes memory for one
+/// Writes the table of a stream of blobs: the header's line, then the rows of each blob before a
+/// byte of the next one is read (blobs: TWKB; polylines: Encoded Polyline Algorithm Format;
+/// records: RFC 4180; the columns, and LF alone after each record: profile). Each geometry must
+/// keep the limits. A refused blob stops it, after the rows of the blobs before. The writer is
+/// flushed last, unless it failed or more than 2^62 bytes would be written. Takes memory for one
 /// geometry and its text.
 pub fn unpack<R: Read, W: Write>(
     alloc: Global,

@@ -1,4 +1,4 @@
 //! The version of the command and of the library.
 
-/// The version, as `--version` tells it.
+/// The version, as `--version` prints it.
 pub const VERSION: &str = "0.1.0";

@@ -1,5 +1,5 @@
 -- The items of a body: what a number leads to, and what it brings.
-use Rattle.std.proofs.Common.{◌≡◌, ℕ, zero, suc, ◌+◌, ◌-◌, ◌<◌, ◌^◌, List, length, refl, sym, ap, ◌∙◌, subst, arith, Bool, true, false, if◌then◌else◌, Result, Ok, Err, None}
+use Rattle.std.proofs.Common.{◌≡◌, ℕ, zero, suc, ◌+◌, ◌-◌, ◌<◌, ◌^◌, List, length, refl, sym, ap, ◌∙◌, subst, arith, Bool, true, if◌then◌else◌, Result, Ok, Err, None}
 use Rattle.std.specs.Prelude.{ℤ, ◌+ℤ◌, Option, not}
 use Rattle.std.specs.Result.{IsErrAnd}
 use Rattle.std.proofs.lemmas.Result.{err_from_is_err_and}
@@ -38,7 +38,7 @@ use Rattle.twkb_engine.specs.declared.engine.Engine.{Engine}
 use Rattle.twkb_engine.proofs.Admitted.{admitted, alive_placed}
 use Rattle.twkb_engine.proofs.Parts.{add_zero}
 
--- ---- from where an item leads on
+-- ---- an item of a body, and the ends that follow it
 
 -- there is no memory for what an item brings
 pub item_unkept : (r : Role) (n width : ℕ) (d e : Engine) (rs more : List Row) (res : Result Bool Stop) {Q : Stop → Type 0} → IsErrAnd res Q → ((y : Stop) → Q y → y ≡ Memory) → IsFree r n d → Passes (way_of n width d) → Takes r n width d rs res e more
@@ -83,7 +83,7 @@ line_point kinds.Point p depth id precision member has = absurd cc
 line_point kinds.MultiPoint p depth id precision member has = absurd cc
 line_point k p depth id precision member has = refl
 
--- and the next one is wanted
+-- and the next one comes
 line_goes_on : (k : Kind) (h : machine.Head) (ids : Ids) (gs : List Group) (bytes p r m : ℕ) → has_lines k ≡ true
     → outline_ends bytes (gs, shut h (form_of k) (if has_members k then ids else None) 0 (lists_of k (suc p) r m)) ≡ Ok (gs, OnBody h (form_of k) (if has_members k then ids else None) (Wanted 0 (lists_of k p r m)))
 line_goes_on kinds.Linestring h ids gs bytes p r m has = refl

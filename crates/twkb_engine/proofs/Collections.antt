@@ -44,7 +44,7 @@ pub going_up : (bytes : ℕ) (old rest : List OpenCollection) (f : OpenCollectio
     → up ≡ head_of f.head → outline_past_end (exact up.size (bytes - up.from)) bytes (groups_of rest) ≡ outline_past_end true bytes (groups_of old)
 going_up bytes old rest f up o z u = rw (o, groups_pushed [] rest f, z, u) refl
 
--- ---- where the geometry stands that is read
+-- ---- the place of the geometry that is read
 
 -- the id that the last group gives
 pub last_id : (below : List outline.Group) (gs : List OpenCollection) (i : ℕ) (d : OpenCollection) → i + 1 ≡ length gs → id_in (groups_from below gs) ≡ first_id (ids_of (get_or gs i d).ids)

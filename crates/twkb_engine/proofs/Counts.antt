@@ -8,7 +8,6 @@ use Rattle.twkb_tree.specs.Rows.{Row, first_id}
 use Rattle.twkb_tree.specs.declared.kind.Kind.{Kind}
 use Rattle.twkb_tree.specs.declared.kind.Kind.TheVariants as kinds
 use Rattle.twkb_grammar.specs.Roles as role
-use Rattle.twkb_grammar.specs.Roles.{Role}
 use Rattle.twkb_grammar.specs.Fault.{Reason, moved}
 use Rattle.twkb_grammar.specs.Machine.{Sums, listed}
 use Rattle.twkb_grammar.proofs.RoleBytes.{number_gives}

@@ -48,7 +48,7 @@ pub some_ended : (d : Engine) (w : Notes) (gs left : List OpenCollection) → Is
     → length w.begun - length (groups_of left) ≡ suc (length d.collections - length gs)
 some_ended d w gs left inside are few same = omega (arith, are, many_open d inside, few, same, groups_length [] left)
 
--- one more end at the same place
+-- one more end after as many bytes
 pub end_noted : {S : Type 0} (holds : S → Notes → Type 0) (new : S) (w : Notes) (k many offset points o p : ℕ) → o ≡ offset → p ≡ points → many ≡ suc k → holds new (note_end o p (note_ends k offset points w))
     → holds new (note_ends many offset points w)
 end_noted holds new w k many offset points o p eo ep em held =

@@ -1,16 +1,14 @@
--- An engine takes the bytes of a piece, and comes to the end of the bytes.
-use Rattle.std.proofs.Common.{◌^◌, drop, get_or, append_assoc, length-append, take, Result, Option, Some, None, Ok, Err, OnOk, IfOk, ◌≡◌, ◌⊎◌, inl, inr, ℕ, zero, suc, ◌+◌, ◌-◌, ◌<◌, ◌≤◌, List, [], ◌∷◌, ◌++◌, length, refl, sym, ap, ◌∙◌, subst, append-nil, arith, true, false, Bool, nat_eq}
-use Rattle.std.proofs.lemmas.List.{nil_from_length, length-take-le, length-drop, take_rest}
+-- An engine takes the bytes of a piece.
+use Rattle.std.proofs.Common.{◌^◌, drop, get_or, append_assoc, length-append, take, Result, None, Ok, Err, OnOk, IfOk, ◌≡◌, inl, inr, ℕ, ◌+◌, ◌-◌, ◌<◌, ◌≤◌, List, [], ◌∷◌, ◌++◌, length, refl, sym, ap, ◌∙◌, subst, append-nil, arith, true, false, Bool}
+use Rattle.std.proofs.lemmas.List.{length-take-le, length-drop, take_rest}
 use Rattle.std.proofs.Math.Logic.{∥∥₁_elim, ∥∥₁_map}
 use Rattle.std.proofs.Props.{props}
 use Rattle.twkb_outline.proofs.Pieces.{one_front, one_within}
-use Rattle.twkb_tree.specs.Tree.{Tree}
-use Rattle.std.proofs.lemmas.Grind.{common_steps}
 use Rattle.std.proofs.Math.Seq.{take-suc}
 use Rattle.twkb_num.specs.Varint.{IsVarint, IsOpenVarint}
 use Rattle.twkb_tree.specs.Limits.{Allowance}
 use Rattle.twkb_tree.specs.Rows.{Row}
-use Rattle.twkb_grammar.specs.Fault.{FirstFault, Truncated, BadVarint}
+use Rattle.twkb_grammar.specs.Fault.{FirstFault, BadVarint}
 use Rattle.twkb_grammar.specs.Roles.{Role, Item}
 use Rattle.twkb_grammar.specs.Blob.{Blob}
 use Rattle.twkb_grammar.specs.PlainReader.{objection}
@@ -22,83 +20,21 @@ use Rattle.twkb_outline.specs.Outline.{Outline, OnFinished, outline_ends}
 use Rattle.twkb_outline.specs.Growing.{applied}
 use Rattle.twkb_outline.specs.Noting.{NotedOutline, notes_in}
 use Rattle.twkb_outline.specs.Parts.{IsJudged, PartIn}
-use Rattle.twkb_outline.proofs.Outlined.{outlined_bytes, outlined_cut, outlined_long, outlined_depth, outlined_missing, outlined_ends, outlined_refused, noted_item}
+use Rattle.twkb_outline.proofs.Outlined.{outlined_bytes, outlined_long, outlined_ends, outlined_refused, noted_item}
 use Rattle.twkb_outline.proofs.Judging.{landed_judged, part_further}
 use Rattle.twkb_outline.specs.Reading.{Outlined, OutlineLanded, open_count, outline_after, change_after}
 use Rattle.twkb_engine.specs.Fits.{IsByte}
-use Rattle.twkb_engine.specs.Collections.{groups_of}
 use Rattle.twkb_engine.specs.Notes.{NotesGo, notes_with, open_in}
-use Rattle.twkb_engine.specs.declared.next_item.NextItem.{NextItem}
 use Rattle.twkb_engine.specs.declared.next_item.NextItem.TheVariants as next
-use Rattle.twkb_engine.proofs.Collections.{groups_length}
-use Rattle.twkb_engine.specs.State.{IsNext, IsPlaced, sums_of, outline_in, step_at, allowance_of}
-use Rattle.twkb_engine.specs.Standing.{LeadsOn, LeadsQuietly, StandsAt, IsAlive, FedBy, IsFed, HoldsSpans, SaysNext, count_of, RefusedIn, with_used, notes_at, IsEnd, held_in, offset_in}
+use Rattle.twkb_engine.specs.State.{IsNext, IsPlaced, sums_of, outline_in, allowance_of}
+use Rattle.twkb_engine.specs.Standing.{LeadsOn, LeadsQuietly, StandsAt, IsAlive, FedBy, IsFed, HoldsSpans, SaysNext, count_of, RefusedIn, with_used, notes_at, held_in, offset_in}
 use Rattle.twkb_engine.specs.Taking.{Takes}
 use Rattle.twkb_engine.specs.Stops.{reason_of}
 use Rattle.twkb_engine.specs.declared.blob_reason.BlobReason.{BlobReason}
 use Rattle.twkb_engine.specs.declared.stop.Stop.{Stop}
 use Rattle.twkb_engine.specs.declared.stop.Stop.TheVariants.{Memory, Refused}
 use Rattle.twkb_engine.specs.declared.engine.Engine.{Engine}
-use Rattle.twkb_engine.proofs.Steps.{next_role, next_number, next_no_end, all_whole, open_noted, noted_ends, outlined_blob, stands_begun, number_written, SameItem, stands_else}
-
--- ---- the end of the bytes
-
--- what holds bytes waits for more of a number
-pub spelled_by : (d : Engine) → 0 < length (held_in d) → (IsByte d.next → ⊥) ⊎ (held_in d ≡ []) → IsByte d.next → ⊥
-spelled_by d some (inl s) = s
-spelled_by d some (inr e) = absurd (let none : length (held_in d) ≡ 0 = ap (λ (l : List ℕ). length l) e in omega (arith, some, none))
-
-not_none : (bs : List ℕ) → 0 < length bs → bs ≡ [] → ⊥
-not_none bs some e = let none : length bs ≡ 0 = ap (λ (l : List ℕ). length l) e in omega (arith, some, none)
-
-is_zero : (n : ℕ) → n ≡ 0 → nat_eq n 0 ≡ true
-is_zero n at = grind (arith, common_steps)
-
-pub is_some : (n : ℕ) → 0 < n → nat_eq n 0 ≡ false
-is_some n some = grind (arith, common_steps)
-
-pub no_zero : (n : ℕ) → nat_eq n 0 ≡ false → 0 < n
-no_zero zero off = absurd cc
-no_zero (suc n) off = omega arith
-
-no_items : (bs : List ℕ) (rs : List Row) (d : Engine) (s : StandsAt bs rs d) → held_in d ≡ [] → (n : ℕ) → d.bytes ≡ n → IsEnd (allowance_of d) bs (offset_in d) (nat_eq d.bytes 0)
-no_items bs rs d s none zero at =
-    let front : s.front ≡ [] = nil_from_length s.front (omega (arith, outlined_bytes d.limits s.front (sums_of d) (outline_in d) rs s.outlined, at)) in
-    subst (IsEnd (allowance_of d) bs (offset_in d)) (sym (is_zero d.bytes at)) (all_whole bs rs d none s ∙ front)
-no_items bs rs d s none (suc n) at =
-    let some : 0 < length s.front = omega (arith, outlined_bytes d.limits s.front (sums_of d) (outline_in d) rs s.outlined, at) in
-    let r = next_role d in
-    subst (IsEnd (allowance_of d) bs (offset_in d)) (sym (is_some d.bytes (omega (arith, at)))) (subst (λ l. FirstFault d.limits l d.bytes Truncated) (sym (all_whole bs rs d none s))
-    (outlined_missing d.limits s.front (sums_of d) (outline_in d) rs r.0 s.outlined r.1 (not_none s.front some) (next_no_end d)))
-
--- no byte is held
-pub at_end : (bs : List ℕ) (rs : List Row) (d : Engine) (s : StandsAt bs rs d) → length (held_in d) ≡ 0 → IsEnd (allowance_of d) bs (offset_in d) (nat_eq d.bytes 0)
-at_end bs rs d s none = no_items bs rs d s (nil_from_length (held_in d) none) d.bytes refl
-
--- the bytes end inside a number
-pub cut_end : (bs : List ℕ) (rs : List Row) (d : Engine) (s : StandsAt bs rs d) → IsOpenVarint (held_in d) → (n : ℕ) → n ≡ length (held_in d) → 0 < n → IsEnd (allowance_of d) bs (offset_in d) (nat_eq n 0)
-cut_end bs rs d s begun n many some =
-    let r = next_role d in
-    subst (IsEnd (allowance_of d) bs (offset_in d)) (sym (is_some n some)) (subst (λ l. FirstFault d.limits l d.bytes Truncated) (sym s.whole)
-    (outlined_cut d.limits s.front (sums_of d) (outline_in d) rs (held_in d) r.0 s.outlined r.1 (next_number d (spelled_by d (omega (arith, many, some)) s.spelled)) (omega (arith, begun.room), begun.high)))
-
--- ---- open geometries
-
-pub few_open : (bs : List ℕ) (rs : List Row) (d : Engine) (s : StandsAt bs rs d) → length d.collections ≤ d.limits.nest
-few_open bs rs d s = omega (arith, groups_length [] d.collections, outlined_depth d.limits s.front (sums_of d) (outline_in d) rs s.outlined)
-
-open_outside : (i : NextItem) (d : Engine) → i ≡ next.TypeByte → open_count (groups_of d.collections, step_at i d) ≡ length d.collections
-open_outside i d e = ap (λ j. open_count (groups_of d.collections, step_at j d)) e ∙ omega (arith, groups_length [] d.collections)
-
-open_inside : (i : NextItem) (d : Engine) → (i ≡ next.TypeByte → ⊥) → open_count (groups_of d.collections, step_at i d) ≡ suc (length (groups_of d.collections))
-open_inside next.TypeByte d n = absurd (n refl)
-open_inside _ d n = refl
-
-pub open_at_type : (d : Engine) → d.next ≡ next.TypeByte → length d.collections ≡ open_in d
-open_at_type d e = sym (open_outside d.next d e)
-
-pub open_past_type : (d : Engine) → (d.next ≡ next.TypeByte → ⊥) → length d.collections + 1 ≡ open_in d
-open_past_type d n = omega (arith, groups_length [] d.collections, open_inside d.next d n)
+use Rattle.twkb_engine.proofs.Steps.{next_role, next_number, all_whole, open_noted, noted_ends, outlined_blob, stands_begun, number_written, SameItem, stands_else}
 
 -- ---- an item is taken
 
@@ -139,7 +75,7 @@ module _ {S : Type 0} (holds : S → Notes → Type 0) (bs : List ℕ) (rs more 
       let f : NotedOutline e.limits (front ++ bytes) (sums_of e) (outline_in e) more all = subst (λ l. NotedOutline l (front ++ bytes) (sums_of e) (outline_in e) more all) (sym limits) c in
       let here : StandsAt (front ++ bytes) more e = record { front = front ++ bytes; whole = sym (ap (λ l. (front ++ bytes) ++ l) none ∙ append-nil (front ++ bytes)); outlined = f.outlined; placed = placed; spelled = inr none } in
       let noted : Known → holds new (notes_at here) = λ known.
-          subst (holds new) (sym (ap (λ start. notes_in start f.outlined) t.4.start ∙ f.notes d.start)) (go (notes_in d.start stood) (open_noted d.limits front (sums_of d) (outline_in d) rs stood d.start) known) in
+      subst (holds new) (sym (ap (λ start. notes_in start f.outlined) t.4.start ∙ f.notes d.start)) (go (notes_in d.start stood) (open_noted d.limits front (sums_of d) (outline_in d) rs stood d.start) known) in
       let both = subst (λ l. (s : StandsAt l more e) × (Known → holds new (notes_at s))) at (here, noted) in
       (within, t.4.start, both.0, both.1)
 
@@ -150,8 +86,7 @@ module _ {S : Type 0} (holds : S → Notes → Type 0) (bs : List ℕ) (rs more 
       let w = outlined_blob d.limits (front ++ bytes) sums grown a.outlined in
       let last : Notes = notes_with r n (length bytes) d e true (notes_in d.start stood) in
       let told_spans : last.spans ≡ spans_of_blob d.start w.2 = ap (λ (v : Notes). v.spans) (sym (a.notes d.start)) ∙ w.3 d.start in
-      let both = subst (λ l. (x : Blob d.limits l w.0) × (last.spans ≡ spans_of_blob d.start x)) at (w.2, told_spans) in
-      (
+      let both = subst (λ l. (x : Blob d.limits l w.0) × (last.spans ≡ spans_of_blob d.start x)) at (w.2, told_spans) in (
         record { some = some; within = within; geometry = w.0; blob = both.0; made = t.2 ∙ w.1 },
         λ known. (last, go (notes_in d.start stood) (open_noted d.limits front (sums_of d) (outline_in d) rs stood d.start) known, both.1),
         stands_begun (d.start + (d.bytes + length bytes)) e t.3 none,
@@ -220,7 +155,7 @@ number_fed holds bs rs more d b e old new u value width answer s q none spelled 
     let r = next_role b in
     let at : t.front ++ whole ≡ bs ++ take 1 (u ∷ []) = ap (λ l. l ++ whole) front ∙ (held_bytes bs s.front (held_in d) [] u s.whole ∙ append-nil (bs ++ u ∷ [])) in
     let fed = item_fed holds bs rs more b e old new t.front t.outlined r.0 value whole (u ∷ []) 1 r.1 (number_written b value whole v (λ byte. spelled (subst IsByte q.next byte))) (omega arith) (omega arith) at limits (held ∙ none)
-        width answer (omega (arith, length-append (held_in d) (u ∷ []), size)) (takes r.0 r.1) (noted r.0 r.1) (placed t.placed) in
+    width answer (omega (arith, length-append (held_in d) (u ∷ []), size)) (takes r.0 r.1) (noted r.0 r.1) (placed t.placed) in
     subst (λ l. IsFed holds (holds old (notes_at s)) l d.start bs (u ∷ []) (with_used 1 answer) more e new) q.limits
     (subst (λ o. IsFed holds (holds old (notes_at s)) (allowance_of b) o bs (u ∷ []) (with_used 1 answer) more e new) q.start
     (subst (λ w. IsFed holds (holds old w) (allowance_of b) b.start bs (u ∷ []) (with_used 1 answer) more e new) notes fed))
@@ -236,7 +171,7 @@ pub not_both : (b : Bool) → b ≡ false → b ≡ true → ⊥
 not_both true p q = absurd cc
 not_both false p q = absurd cc
 
--- ---- an item in front
+-- ---- an item that is complete at the start of the bytes
 
 -- the first byte alone
 pub first_fed : {S : Type 0} (holds : S → Notes → Type 0) (known : Type 0) (limits : Allowance) (start : ℕ) (bs rest : List ℕ) (rs : List Row) (e : Engine) (new : S) (answer : Result Bool Stop) → 0 < length rest
@@ -308,8 +243,7 @@ module _ {S : Type 0} (holds : S → Notes → Type 0) (known : Type 0) (limits 
       let m = f.0 in
       let here : (x : Blob (allowance_of d) (before ++ take count rest) m.geometry) × (known → HoldsSpans holds new start x) = (m.blob, λ k. subst (λ o. HoldsSpans holds new o m.blob) first.1 (f.1 (first.3 k))) in
       let pair = subst (λ l. (x : Blob l (before ++ take count rest) m.geometry) × (known → HoldsSpans holds new start x)) own here in
-      let both = subst (λ l. (x : Blob limits l m.geometry) × (known → HoldsSpans holds new start x)) (one_front bs piece used count) pair in
-      (
+      let both = subst (λ l. (x : Blob limits l m.geometry) × (known → HoldsSpans holds new start x)) (one_front bs piece used count) pair in (
         record { some = (let some = m.some in omega (arith, some)); within = one_within piece used count first.0 m.within; geometry = m.geometry; blob = both.0; made = m.made },
         both.1,
         f.2,
@@ -361,11 +295,10 @@ none_further holds rs mid more d e f old new last rest answer first own next = �
 
 pub moved_fed : {S : Type 0} (holds : S → Notes → Type 0) (rs : List Row) (d : Engine) (old : S) (rest : List ℕ) (taken there : ℕ × Bool) (m x : Engine) (more y : List Row) (new z : S) → m ≡ x → more ≡ y → new ≡ z → taken ≡ there
     → FedBy holds d rs old rest (Ok there) x y z → x.limits ≡ d.limits → FedBy holds d rs old rest (Ok taken) m more new × (m.limits ≡ d.limits)
-moved_fed holds rs d old rest taken there m x more y new z em er en et fed own =
-    (
-      subst (λ q. FedBy holds d rs old rest (Ok taken) q more new) (sym em) (subst (λ l. FedBy holds d rs old rest (Ok taken) x l new) (sym er) (subst (λ o. FedBy holds d rs old rest (Ok taken) x y o) (sym en) (subst (λ t. FedBy holds d rs old rest (Ok t) x y z) (sym et) fed))),
-      ap (λ (q : Engine). q.limits) em ∙ own,
-    )
+moved_fed holds rs d old rest taken there m x more y new z em er en et fed own = (
+  subst (λ q. FedBy holds d rs old rest (Ok taken) q more new) (sym em) (subst (λ l. FedBy holds d rs old rest (Ok taken) x l new) (sym er) (subst (λ o. FedBy holds d rs old rest (Ok taken) x y o) (sym en) (subst (λ t. FedBy holds d rs old rest (Ok t) x y z) (sym et) fed))),
+  ap (λ (q : Engine). q.limits) em ∙ own,
+)
 
 -- no blob ends with no bytes
 pub zero_fed : {S : Type 0} (holds : S → Notes → Type 0) (rs more : List Row) (d e : Engine) (old new : S) (rest : List ℕ) (taken : ℕ × Bool) → taken.0 ≡ 0 → FedBy holds d rs old rest (Ok taken) e more new → FedBy holds d rs old rest (Ok (0, false)) e more new

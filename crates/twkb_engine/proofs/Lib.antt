@@ -9,6 +9,7 @@ pub mod Members
 pub mod Ahead
 pub mod Steps
 pub mod Feeds
+pub mod Between
 pub mod Many
 pub mod RootPoints
 pub mod Points

@@ -66,7 +66,7 @@ next_inside kinds.Ring n en body = absurd cc
 next_inside kinds.Collection n en body = absurd cc
 next_inside k n en body = rw en tt
 
--- the header stands where it did
+-- the header keeps its place
 placed_by : (k : Kind) (n : NextItem) (e : Engine) → n ≡ first_item k → is_bodied k ≡ true → IsHeadAt (length (groups_of e.collections)) (id_in (groups_of e.collections)) e.head → IsPlaced n e
 placed_by kinds.Ring n e en body at = absurd cc
 placed_by kinds.Collection n e en body at = absurd cc

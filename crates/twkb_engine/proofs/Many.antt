@@ -1,7 +1,7 @@
 -- Points of a list that are taken many at once.
-use Rattle.std.proofs.Common.{◌≡◌, ℕ, suc, ◌-◌, ◌≤◌, ◌+◌, ◌<◌, List, [], ◌∷◌, ◌++◌, length, take, refl, sym, ap, ◌∙◌, subst, append-nil, append_assoc, arith, true, false, Bool, inr, None}
+use Rattle.std.proofs.Common.{◌≡◌, ℕ, suc, ◌-◌, ◌≤◌, ◌+◌, ◌<◌, List, [], ◌∷◌, ◌++◌, length, take, refl, sym, ap, ◌∙◌, subst, append-nil, arith, true, inr, None}
 use Rattle.std.proofs.lemmas.List.{length-take-le}
-use Rattle.std.specs.Prelude.{ℤ, if◌then◌else◌, nat_eq}
+use Rattle.std.specs.Prelude.{ℤ, if◌then◌else◌}
 use Rattle.twkb_points.specs.Point.{Point}
 use Rattle.twkb_tree.specs.declared.kind.Kind.{Kind}
 use Rattle.twkb_tree.specs.declared.kind.Kind.TheVariants as kinds
@@ -19,13 +19,12 @@ use Rattle.twkb_body.specs.Running.{HasLists, WantedIn, StepRuns, StepStops, Lis
 use Rattle.twkb_grammar.specs.Machine.{MultiPointForm}
 use Rattle.twkb_engine.specs.Collections.{groups_of}
 use Rattle.twkb_engine.specs.Fits.{lists_of, line_lists_of, has_lines, has_members, left_fit, lists_fit}
-use Rattle.twkb_engine.specs.State.{IsPlaced, sums_of, outline_in, step_at, ids_in, allowance_of}
+use Rattle.twkb_engine.specs.State.{IsPlaced, sums_of, outline_in, step_at, ids_in}
 use Rattle.twkb_engine.specs.Standing.{StandsAt, LeadsQuietly, StopsIn, notes_at, held_in}
-use Rattle.twkb_engine.specs.declared.next_item.NextItem.{NextItem}
 use Rattle.twkb_engine.specs.declared.next_item.NextItem.TheVariants as next
 use Rattle.twkb_engine.specs.declared.engine.Engine.{Engine}
 use Rattle.twkb_engine.proofs.Steps.{all_whole}
-use Rattle.twkb_engine.proofs.Feeds.{is_some}
+use Rattle.twkb_engine.proofs.Between.{is_some}
 
 -- no bytes lead an engine nowhere
 pub stays_put : (rs : List Row) (d : Engine) → LeadsQuietly rs d [] rs d
@@ -40,8 +39,7 @@ led_to rs more d e bytes to p none held limits begins sums is run placed = λ fr
     let b = subst (λ o. NotedOutline d.limits (s.front ++ bytes) (sums_past (sums_of d) bytes to) o more told) (sym is) (run front s) in
     let c = subst (λ x. NotedOutline d.limits (s.front ++ bytes) x (outline_in e) more told) (sym sums) b in
     let n = subst (λ x. NotedOutline x (s.front ++ bytes) (sums_of e) (outline_in e) more told) (sym limits) c in
-    let whole : front ++ bytes ≡ (s.front ++ bytes) ++ held_in e = ap (λ l. l ++ bytes) (all_whole front rs d none s) ∙ sym (ap (λ l. (s.front ++ bytes) ++ l) (held ∙ none) ∙ append-nil (s.front ++ bytes)) in
-    (
+    let whole : front ++ bytes ≡ (s.front ++ bytes) ++ held_in e = ap (λ l. l ++ bytes) (all_whole front rs d none s) ∙ sym (ap (λ l. (s.front ++ bytes) ++ l) (held ∙ none) ∙ append-nil (s.front ++ bytes)) in (
       record { front = s.front ++ bytes; whole = whole; outlined = n.outlined; placed = placed front s; spelled = inr (held ∙ none) },
       ap (λ start. notes_in start n.outlined) begins ∙ n.notes d.start,
     )

@@ -1,6 +1,6 @@
--- The members of a geometry: their count, their ids, and where the first begins.
+-- The members of a geometry: their count, their ids, and the step at which the first begins.
 use Rattle.std.proofs.Common.{◌≡◌, ℕ, zero, suc, ◌+◌, ◌-◌, ◌<◌, ◌≤◌, ◌⊎◌, List, [], ◌∷◌, ◌++◌, length, length-append, true, false, nat_lt, refl, sym, ap, subst, ◌∙◌, Ok, Some, None, arith}
-use Rattle.std.specs.Prelude.{ℤ, Option, if◌then◌else◌}
+use Rattle.std.specs.Prelude.{ℤ, Bool, Option, if◌then◌else◌}
 use Rattle.twkb_num.specs.Zigzag.{unzigzag_of}
 use Rattle.twkb_tree.specs.Tree.{Ids}
 use Rattle.twkb_tree.specs.Limits.{Allowance}
@@ -14,7 +14,7 @@ use Rattle.twkb_grammar.specs.PlainReader.{objection, unless}
 use Rattle.twkb_grammar.specs.Machine as machine
 use Rattle.twkb_grammar.specs.Machine.{Sums, Many, ManyPoints, ManyLines, ManyPolygons, ManyGeometries, first_count}
 use Rattle.twkb_grammar.proofs.Objections.{deep_allowed}
-use Rattle.twkb_outline.specs.Outline.{Group, OnId, OnEnd, members_open, many_counted, outline_ends, outline_advanced}
+use Rattle.twkb_outline.specs.Outline.{Group, Outline, OnId, OnEnd, members_open, many_counted, outline_ends, outline_advanced}
 use Rattle.twkb_outline.specs.Growing.{Nothing, NewRow, id_in, change_of, step_change, own_of, kind_with}
 use Rattle.twkb_outline.specs.Parts.{Passes}
 use Rattle.twkb_outline.specs.Reading.{open_count}
@@ -23,7 +23,7 @@ use Rattle.twkb_body.specs.Ids.{ids_read}
 use Rattle.twkb_engine.specs.State.{step_at, outline_in}
 use Rattle.twkb_engine.specs.Collections.{groups_of}
 use Rattle.twkb_engine.specs.Fits.{has_members}
-use Rattle.twkb_engine.specs.Taking.{way_of, brings, own_row}
+use Rattle.twkb_engine.specs.Taking.{way_of, brings, own_row, counted_row}
 use Rattle.twkb_engine.specs.Notes.{NotesGo, open_in}
 use Rattle.twkb_engine.specs.declared.next_item.NextItem.TheVariants as next
 use Rattle.twkb_engine.specs.declared.engine.Engine.{Engine}
@@ -31,7 +31,7 @@ use Rattle.twkb_engine.specs.declared.engine.Engine.{Engine}
 -- ---- the first member
 
 module _ (b : ℕ) (h : machine.Head) (gs : List Group) (ids : Ids) (n : ℕ) where
-  -- nothing ends where members begin
+  -- nothing ends when members begin
   members_past : (m : Many) → outline_ends b (members_open m h gs ids (suc n)) ≡ Ok (members_open m h gs ids (suc n))
   members_past ManyPoints = refl
   members_past ManyLines = refl
@@ -57,6 +57,26 @@ module _ (b : ℕ) (h : machine.Head) (gs : List Group) (ids : Ids) (n : ℕ) wh
   members_none ManyLines = refl
   members_none ManyPolygons = refl
   members_none ManyGeometries = refl
+
+-- members after their count, with ids or without
+abbrev pub counted_at : Bool → (h : machine.Head) (gs : List Group) (n : ℕ) → Many → Outline
+counted_at b h gs n m = if b then (gs, OnId m h (suc n) [] n) else members_open m h gs None (suc n)
+
+counted_past : (bytes : ℕ) (h : machine.Head) (gs : List Group) (n : ℕ) (m : Many) (b : Bool) → outline_ends bytes (counted_at b h gs n m) ≡ Ok (counted_at b h gs n m)
+counted_past bytes h gs n m true = refl
+counted_past bytes h gs n m false = members_past bytes h gs None n m
+
+counted_pass : (bytes : ℕ) (h : machine.Head) (gs : List Group) (n : ℕ) (m : Many) (b : Bool) → Passes (outline_ends bytes (counted_at b h gs n m))
+counted_pass bytes h gs n m true = tt
+counted_pass bytes h gs n m false = members_pass bytes h gs None n m
+
+counted_count : (h : machine.Head) (gs : List Group) (n : ℕ) (m : Many) (b : Bool) → open_count (counted_at b h gs n m) ≡ suc (length gs)
+counted_count h gs n m true = refl
+counted_count h gs n m false = members_count 0 h gs None n m
+
+-- without ids the first member begins
+pub counted_bare : (h : machine.Head) (gs : List Group) (m : Many) (n k : ℕ) → n ≡ suc k → bit h.meta 2 ≡ false → many_counted m h gs n ≡ members_open m h gs None (suc k)
+counted_bare h gs m n k some bare = ap (λ x. many_counted m h gs x) some ∙ ap (λ b. counted_at b h gs k m) bare
 
 -- the type of a geometry with members
 kind_with_many : (k : Kind) → has_members k ≡ true → kind_with (many_of k) ≡ kind_of k
@@ -184,27 +204,35 @@ module _ (d : Engine) (n width : ℕ) (is : d.next ≡ next.MemberCount) where
     count_brings_none none =
         ap (λ i. change_of d.position n (groups_of d.collections, step_at i d)) is ∙ (ap (λ x. change_of d.position x (groups_of d.collections, step_at next.MemberCount d)) none ∙ own_at d placed has)
 
-    -- some, without ids
-    pub count_brings : (k : ℕ) → n ≡ suc k → bit d.head.metadata 2 ≡ false → brings (role.Count c) n d ≡ own_row d
-    count_brings k some bare =
+    -- some
+    pub count_brings : (k : ℕ) → n ≡ suc k → brings (role.Count c) n d ≡ counted_row d
+    count_brings k some =
         ap (λ i. change_of d.position n (groups_of d.collections, step_at i d)) is
         ∙ (ap (λ x. change_of d.position x (groups_of d.collections, step_at next.MemberCount d)) some
-        ∙ (ap (λ b. if b then Nothing else NewRow (own_of (length (groups_of d.collections)) (id_in (groups_of d.collections)) (kind_with (many_of d.head.kind)) d.head.precision)) bare ∙ own_at d placed has))
+        ∙ ap (λ r. if bit d.head.metadata 2 then Nothing else r) (own_at d placed has))
 
-  module _ (k : ℕ) (some : n ≡ suc k) (bare : bit d.head.metadata 2 ≡ false) where
-    counted : way_of n width d ≡ outline_ends (d.bytes + width) (members_open (many_of d.head.kind) (head_of d.head) (groups_of d.collections) None (suc k))
-    counted =
-        at_count
-        ∙ (ap (λ x. outline_ends (d.bytes + width) (many_counted (many_of d.head.kind) (head_of d.head) (groups_of d.collections) x)) some
-        ∙ ap (λ b. outline_ends (d.bytes + width) (if b then (groups_of d.collections, OnId (many_of d.head.kind) (head_of d.head) (suc k) [] k) else members_open (many_of d.head.kind) (head_of d.head) (groups_of d.collections) None (suc k))) bare)
+  -- some: no geometry ends
+  module _ (k : ℕ) (some : n ≡ suc k) where
+    counted : way_of n width d ≡ outline_ends (d.bytes + width) (many_counted (many_of d.head.kind) (head_of d.head) (groups_of d.collections) (suc k))
+    counted = at_count ∙ ap (λ x. outline_ends (d.bytes + width) (many_counted (many_of d.head.kind) (head_of d.head) (groups_of d.collections) x)) some
+
+    pub count_done : way_of n width d ≡ Ok (many_counted (many_of d.head.kind) (head_of d.head) (groups_of d.collections) n)
+    count_done =
+        counted
+        ∙ (counted_past (d.bytes + width) (head_of d.head) (groups_of d.collections) k (many_of d.head.kind) (bit d.head.metadata 2)
+        ∙ ap (λ x. Ok (many_counted (many_of d.head.kind) (head_of d.head) (groups_of d.collections) x)) (sym some))
 
     pub count_passes : Passes (way_of n width d)
-    count_passes = subst Passes (sym counted) (members_pass (d.bytes + width) (head_of d.head) (groups_of d.collections) None k (many_of d.head.kind))
+    count_passes = subst Passes (sym counted) (counted_pass (d.bytes + width) (head_of d.head) (groups_of d.collections) k (many_of d.head.kind) (bit d.head.metadata 2))
 
-    pub count_done : way_of n width d ≡ Ok (members_open (many_of d.head.kind) (head_of d.head) (groups_of d.collections) None (suc k))
-    count_done = counted ∙ members_past (d.bytes + width) (head_of d.head) (groups_of d.collections) None k (many_of d.head.kind)
+    -- as many geometries are open
+    pub counted_open : (e : Engine) → outline_in e ≡ many_counted (many_of d.head.kind) (head_of d.head) (groups_of d.collections) n → open_in e ≡ open_in d
+    counted_open e step =
+        ap open_count step
+        ∙ (ap (λ x. open_count (many_counted (many_of d.head.kind) (head_of d.head) (groups_of d.collections) x)) some
+        ∙ (counted_count (head_of d.head) (groups_of d.collections) k (many_of d.head.kind) (bit d.head.metadata 2) ∙ sym count_open))
 
--- nothing is noted where as many geometries are open
+-- nothing is noted if as many geometries are open
 pub still_noted : {S : Type 0} (holds : S → Notes → Type 0) (s : S) (d : Engine) (left offset points : ℕ) → left ≡ open_in d → NotesGo holds (note_ends_to left offset points) d s s
 still_noted holds s d left offset points same = λ w many h.
     let count : length w.begun ≡ open_in d = many in

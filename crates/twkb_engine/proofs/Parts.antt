@@ -13,7 +13,7 @@ use Rattle.twkb_grammar.specs.Bits.{bit}
 use Rattle.twkb_grammar.specs.Noting.{Notes}
 use Rattle.twkb_grammar.specs.Machine as machine
 use Rattle.twkb_outline.specs.Outline as outline
-use Rattle.twkb_outline.specs.Outline.{Outline, Step, OnHeader, OnMetadata, OnOption, OnEnd, OnFinished, begins, options, outline_ends, outline_past_end, outline_advanced}
+use Rattle.twkb_outline.specs.Outline.{Outline, OnOption, begins, options, outline_ends, outline_advanced}
 use Rattle.twkb_outline.specs.Growing.{Change, id_in, applied, change_of, header_change}
 use Rattle.twkb_outline.specs.Parts.{Passes}
 use Rattle.twkb_outline.specs.Reading.{open_count}
@@ -95,7 +95,7 @@ pub begun_noted : {S A E : Type 0} (holds : S → Notes → Type 0) (old new : S
 begun_noted holds old new d told (Ok u) f few = λ w many h. let much : length w.begun ≡ open_in d = many in f w (omega (arith, much, few)) h
 begun_noted holds old new d told (Err e) f few = tt
 
--- ---- from where an item leads on
+-- ---- an item, and the ends that follow it
 
 pub add_zero : (a : ℕ) → a ≡ a + 0
 add_zero a = omega arith

@@ -1,20 +1,19 @@
 -- What a helper leads to that goes past a value, as the engine's answer to a piece.
-use Rattle.std.proofs.Common.{◌≡◌, inr, ℕ, ◌+◌, ◌<◌, ◌≤◌, List, [], ◌∷◌, ◌++◌, length, take, refl, sym, ap, ◌∙◌, subst, append-nil, length-append, arith, true, false, Bool, Option, Result, Ok, Err, OnOk, IfOk}
-use Rattle.std.specs.Prelude.{ℤ, if◌then◌else◌, None}
+use Rattle.std.proofs.Common.{◌≡◌, inr, ℕ, ◌+◌, ◌<◌, ◌≤◌, List, [], ◌++◌, length, take, refl, sym, ap, ◌∙◌, subst, append-nil, length-append, arith, true, false, Bool, Result, Ok, Err, OnOk, IfOk}
+use Rattle.std.specs.Prelude.{if◌then◌else◌, None}
 use Rattle.std.proofs.lemmas.List.{length-take-le}
 use Rattle.twkb_points.specs.Point.{Point}
 use Rattle.twkb_tree.specs.Rows.{Row, first_id}
 use Rattle.twkb_grammar.specs.Blob.{Blob}
 use Rattle.twkb_grammar.specs.Fault.{FirstFault}
-use Rattle.twkb_grammar.specs.Machine.{Form}
 use Rattle.twkb_grammar.specs.Noting.{Notes, note_ends_to}
 use Rattle.twkb_grammar.specs.Spans.{spans_of_blob}
-use Rattle.twkb_outline.specs.Outline.{Outline, Group, Step, OnBody, Wanted, OnFinished, outline_ends, shut}
+use Rattle.twkb_outline.specs.Outline.{Outline, Step, OnBody, Wanted, OnFinished, shut}
 use Rattle.twkb_outline.specs.Growing.{Change, applied, id_in, point_change}
 use Rattle.twkb_outline.specs.Admitting.{Admits}
 use Rattle.twkb_outline.specs.Reading.{Outlined, OutlineLanded, open_count, sums_past}
 use Rattle.twkb_outline.specs.Noting.{NotedOutline, notes_in}
-use Rattle.twkb_outline.specs.Parts.{PartIn, IsJudged}
+use Rattle.twkb_outline.specs.Parts.{IsJudged}
 use Rattle.twkb_outline.proofs.Admitting.{admitted_by, point_admitted}
 use Rattle.twkb_outline.proofs.NotedPairs.{noted_point}
 use Rattle.twkb_outline.proofs.Outlined.{outlined_bytes, outlined_ends}
@@ -58,8 +57,7 @@ module _ {S : Type 0} (holds : S → Notes → Type 0) (Known : Type 0) (bs piec
       let w = outlined_blob d.limits front (sums_of d) (applied change rs) a.outlined in
       let last : Notes = notes_past d e true (told d.start) in
       let told_spans : last.spans ≡ spans_of_blob d.start w.2 = ap (λ (v : Notes). v.spans) (sym (a.notes d.start)) ∙ w.3 d.start in
-      let both = subst (λ l. (x : Blob d.limits l w.0) × (last.spans ≡ spans_of_blob d.start x)) at (w.2, told_spans) in
-      (
+      let both = subst (λ l. (x : Blob d.limits l w.0) × (last.spans ≡ spans_of_blob d.start x)) at (w.2, told_spans) in (
         record { some = some; within = within; geometry = w.0; blob = both.0; made = t.1 ∙ w.1 },
         λ known. (last, go (told d.start) (noted known).0 (noted known).1, both.1),
         stands_begun (d.start + d.bytes) e t.2 none,
@@ -73,10 +71,15 @@ module _ {S : Type 0} (holds : S → Notes → Type 0) (Known : Type 0) (bs piec
   landed_fed (Ok false) t go placed = past_on t go placed
   landed_fed (Ok true) t go placed = past_blob t go
   landed_fed (Err Memory) t go placed = record { used = used; some = some; within = within; part = subst (IsJudged d.limits) at (landed_judged d.limits front (sums_of d) (applied change rs) (past d step) landed t) }
-  landed_fed (Err (Refused why)) t go placed = record { used = used; some = some; within = within; fault = λ rest. subst (λ l. FirstFault d.limits (l ++ rest) (offset_in e) (reason_of why)) at
-      (subst (λ k. FirstFault d.limits (front ++ rest) k (reason_of why)) (sym t.1) (subst (OutlineLanded d.limits front (sums_of d) (applied change rs)) t.0 landed rest)) }
+  landed_fed (Err (Refused why)) t go placed = record {
+    used = used;
+    some = some;
+    within = within;
+    fault = λ rest. subst (λ l. FirstFault d.limits (l ++ rest) (offset_in e) (reason_of why)) at
+        (subst (λ k. FirstFault d.limits (front ++ rest) k (reason_of why)) (sym t.1) (subst (OutlineLanded d.limits front (sums_of d) (applied change rs)) t.0 landed rest));
+  }
 
--- ---- a point in front
+-- ---- a point that is complete at the start of the bytes
 
 -- an answer that is another by an equation
 pub answered_as : {S : Type 0} (holds : S → Notes → Type 0) (rest : List ℕ) (rs more : List Row) (d e : Engine) (old new : S) (used : ℕ) (answer other : Result Bool Stop) → answer ≡ other
@@ -88,11 +91,11 @@ placed_at_x : (rs : List Row) (bs : List ℕ) (d : Engine) → d.next ≡ next.X
 placed_at_x rs bs d is s = subst (λ i. IsPlaced i d) is s.placed
 
 module _ (rs : List Row) (d : Engine) (is : d.next ≡ next.X) (last : d.points_left ≡ 0) where
-  -- where a point is wanted that is the last of its list, or in none
+  -- the step before a point that is the last of its list, or in none
   abbrev point_step : Step
   point_step = OnBody (head_of d.head) (form_of d.head.kind) (ids_in d) (Wanted 0 (lists_of d.head.kind 0 d.rings_left d.members_left))
 
-  -- and where it leads to
+  -- and the step after it
   abbrev point_past : Step
   point_past = shut (head_of d.head) (form_of d.head.kind) (ids_in d) 0 (lists_of d.head.kind 0 d.rings_left d.members_left)
 
@@ -161,6 +164,6 @@ module _ (rs : List Row) (d : Engine) (is : d.next ≡ next.X) (last : d.points_
           let stood = subst (λ l. NotedOutline l front (sums_of m) (groups_of m.collections, shut (head_of m.head) (form_of m.head.kind) (ids_in m) 0 (lists_of m.head.kind 0 m.rings_left m.members_left)) (applied (point_row to m) rs) told) (sym q.limits) c in
           let are_open : length (told m.start).begun ≡ open_in m = open_noted d.limits s.front (sums_of d) (outline_in d) rs s.outlined m.start ∙ open_there in
           let fed = landed_fed holds Known bs rest front rs more m e old new (shut (head_of m.head) (form_of m.head.kind) (ids_in m) 0 (lists_of m.head.kind 0 m.rings_left m.members_left)) (point_row to m) told used stood
-              (λ known. (are_open, subst (λ x. holds old (told x)) (sym q.start) known)) cut.some cut.within (ap (λ l. l ++ take used rest) (sym (all_whole bs rs d none s))) limits (held ∙ (q.held ∙ none)) answer lands go
-              (placed (place_at d m q.collections q.head (placed_at_x rs bs d is s))) in
+          (λ known. (are_open, subst (λ x. holds old (told x)) (sym q.start) known)) cut.some cut.within (ap (λ l. l ++ take used rest) (sym (all_whole bs rs d none s))) limits (held ∙ (q.held ∙ none)) answer lands go
+          (placed (place_at d m q.collections q.head (placed_at_x rs bs d is s))) in
           subst (λ l. IsFed holds Known l d.start bs rest (with_used used answer) more e new) q.limits (subst (λ x. IsFed holds Known (allowance_of m) x bs rest (with_used used answer) more e new) q.start fed)

@@ -1,5 +1,5 @@
 -- A blob that is a single point, complete at the start of the bytes.
-use Rattle.std.proofs.Common.{◌≡◌, ℕ, ℤ, ◌+◌, ◌-◌, ◌<◌, ◌≤◌, ◌/◌, ◌%◌, List, [], ◌∷◌, ◌++◌, length, take, get_or, refl, sym, ap, ◌∙◌, subst, append-nil, true, Option, None, Some, IfSome, Ok, arith}
+use Rattle.std.proofs.Common.{◌≡◌, ℕ, ℤ, ◌+◌, ◌-◌, ◌<◌, ◌≤◌, ◌/◌, ◌%◌, List, [], ◌∷◌, ◌++◌, length, take, get_or, refl, sym, ap, ◌∙◌, subst, true, Option, None, Some, IfSome, Ok, arith}
 use Rattle.std.proofs.lemmas.List.{get_or-take, length-take-le, nil_from_length}
 use Rattle.twkb_num.specs.Zigzag.{unzigzag_of}
 use Rattle.twkb_points.specs.Point.{Point}
@@ -18,7 +18,6 @@ use Rattle.twkb_grammar.proofs.Streams.{first_item}
 use Rattle.twkb_grammar.proofs.PartBytes.{blob_is_part}
 use Rattle.twkb_grammar.proofs.OneFault.{no_fault}
 use Rattle.twkb_outline.specs.Outline.{Outline, OnHeader, OnEnd, outline_of, outline_past_end}
-use Rattle.twkb_outline.specs.Growing.{rows_so_far}
 use Rattle.twkb_outline.specs.Reading.{Outlined, OutlineLanded}
 use Rattle.twkb_outline.specs.Parts.{PartIn, IsJudged}
 use Rattle.twkb_outline.proofs.Outlined.{outlined_start, outlined_ends, outlined_whole, outlined_bytes}
@@ -46,7 +45,7 @@ header_read : (limits : Allowance) (first : ℕ) → IsAllowance limits → firs
 header_read limits first allowed low kind room None short = bare_header_read limits [] nothing [] [] first (outlined_start limits allowed) low kind room
 header_read limits first allowed low kind room (Some n) short = sized_header_read limits [] nothing [] [] first (outlined_start limits allowed) low kind room n short
 
--- a size that is exact is so behind the header
+-- a size that is exact is so after the header
 exact_behind : (size : Option ℕ) (first used : ℕ) → is_exact size (used - 3) ≡ true → is_exact size ((0 + used) - (known_by first size).from) ≡ true
 exact_behind None first used exact = refl
 exact_behind (Some n) first used exact = let same : (0 + used) - 3 ≡ used - 3 = omega arith in ap (λ k. is_exact (Some n) k) same ∙ exact
@@ -169,8 +168,7 @@ root_fed holds bs piece rs more d e old new used to s bare none alone onward lon
     let none_read = no_bytes bs rs d s bare none in
     let b = onward (begins bs rs d s bare none) in
     let spans = root_spans d.limits d.start used piece m.geometry to m.blob long (sym row ∙ m.made) in
-    let both = subst (λ l. (x : Blob d.limits (l ++ take used piece) m.geometry) × (point_span d.start (take used piece) ∷ [] ≡ spans_of_blob d.start x)) (sym none_read) (m.blob, spans) in
-    (
+    let both = subst (λ l. (x : Blob d.limits (l ++ take used piece) m.geometry) × (point_span d.start (take used piece) ∷ [] ≡ spans_of_blob d.start x)) (sym none_read) (m.blob, spans) in (
       record { some = m.some; within = m.within; geometry = m.geometry; blob = both.0; made = m.made },
       λ known. (record { spans = point_span d.start (take used piece) ∷ []; begun = [] }, put (subst (holds old) (noted_none bs rs d s bare none) known), both.1),
       stands_begun (d.start + used) e b alone,

@@ -1,5 +1,5 @@
--- An item that comes next: its role, what it notes, and where it leads with the ends after it.
-use Rattle.std.proofs.Common.{◌≡◌, ◌⊎◌, inl, inr, ℕ, zero, suc, ◌+◌, ◌-◌, ◌<◌, ◌≤◌, List, [], ◌∷◌, ◌++◌, length, refl, sym, ap, ◌∙◌, subst, append_assoc, append-nil, length-append, take, arith, true, false, Bool, Result, Some, None, Ok, Err, OnOk, IfOk}
+-- An item that comes next: its role, what it notes, and the step after it and the ends that follow.
+use Rattle.std.proofs.Common.{◌≡◌, ◌⊎◌, inl, inr, ℕ, zero, suc, ◌+◌, ◌-◌, ◌<◌, List, [], ◌∷◌, ◌++◌, length, refl, sym, ap, ◌∙◌, subst, append-nil, arith, true, false, Bool, Result, Some, None, Ok, Err, OnOk, IfOk}
 use Rattle.std.specs.Prelude.{⊤, not, if◌then◌else◌}
 use Rattle.twkb_num.specs.Varint.{IsVarint}
 use Rattle.twkb_points.specs.Point.{Point, origin}
@@ -9,12 +9,11 @@ use Rattle.twkb_tree.specs.Rows.{Row, rows}
 use Rattle.twkb_grammar.specs.Roles.{Role, Item, IsNumber, join}
 use Rattle.twkb_grammar.specs.Roles as role
 use Rattle.twkb_grammar.specs.Blob.{Blob}
-use Rattle.twkb_grammar.specs.Fault.{FirstFault, Reason, SizeMismatch, points_by}
-use Rattle.twkb_grammar.specs.PlainReader.{is_exact, unless, objection}
-use Rattle.twkb_grammar.specs.Machine as machine
+use Rattle.twkb_grammar.specs.Fault.{Reason, SizeMismatch, points_by}
+use Rattle.twkb_grammar.specs.PlainReader.{is_exact, unless}
 use Rattle.twkb_grammar.specs.Machine.{Head, Frame, Phase, AtHeader, AtMetadata, AtOption, AtCount, AtId, AtBody, AtEnd, Finished, Want, WantY, Done, Sums, nothing, added, kind_number, first_count, listed}
 use Rattle.twkb_grammar.specs.Reading.{Ran, Reached, Gives}
-use Rattle.twkb_grammar.specs.Noting.{Notes, no_notes, noted, noted_by, note_end, note_ends, note_ends_to, IsQuiet}
+use Rattle.twkb_grammar.specs.Noting.{Notes, no_notes, noted, note_end, note_ends, note_ends_to, IsQuiet}
 use Rattle.twkb_grammar.specs.Spans.{spans_of_blob}
 use Rattle.twkb_grammar.proofs.BodiesBack.{some_role}
 use Rattle.twkb_grammar.proofs.ExactEnds.{NoEnd}
@@ -25,10 +24,10 @@ use Rattle.twkb_grammar.proofs.Frames.{reached_frames}
 use Rattle.twkb_grammar.proofs.Running.{ran_blob}
 use Rattle.twkb_grammar.proofs.TreesBack.{runs_are_items}
 use Rattle.twkb_outline.specs.Outline.{Outline, Group, group_of, Step, OnHeader, OnMetadata, OnOption, OnCount, OnId, OnBody, OnEnd, OnFinished, Wanted, WantedY, step_of, step_role, outline_ended, outline_past_end, outline_advanced, outline_ends}
-use Rattle.twkb_outline.specs.Reading.{Outlined, OutlineLanded, open_count, outline_after, change_after}
-use Rattle.twkb_outline.specs.Growing.{applied, rows_so_far}
+use Rattle.twkb_outline.specs.Reading.{Outlined, open_count}
+use Rattle.twkb_outline.specs.Growing.{rows_so_far}
 use Rattle.twkb_outline.specs.Noting.{NotedOutline, notes_in}
-use Rattle.twkb_outline.proofs.Outlined.{outlined_start, outlined_bytes, outlined_ends, outlined_refused, noted_item}
+use Rattle.twkb_outline.proofs.Outlined.{outlined_start, noted_item}
 use Rattle.twkb_outline.proofs.Notings.{same_count}
 use Rattle.twkb_body.specs.declared.head.Head as place
 use Rattle.twkb_body.specs.Head.{head_of, kind_of, form_of, many_of, IsHeadAt}
@@ -36,8 +35,8 @@ use Rattle.twkb_body.specs.Ids.{ids_of, ids_read}
 use Rattle.twkb_outline.specs.Growing.{id_in}
 use Rattle.twkb_engine.specs.Collections.{groups_of}
 use Rattle.twkb_engine.specs.Fits.{IsByte, lists_of, line_lists_of, area_lists_of, has_members}
-use Rattle.twkb_engine.specs.State.{IsNext, IsPlaced, sums_of, outline_in, step_at, size_roles, box_roles, boxes, allowance_of}
-use Rattle.twkb_engine.specs.Taking.{Takes, BeginsAt, way_of}
+use Rattle.twkb_engine.specs.State.{IsNext, IsPlaced, sums_of, outline_in, step_at, size_roles, box_roles, boxes}
+use Rattle.twkb_engine.specs.Taking.{Takes, BeginsAt}
 use Rattle.twkb_engine.specs.Notes.{NotesGo, notes_with, open_in}
 use Rattle.twkb_engine.specs.Standing.{StandsAt, notes_at, held_in}
 use Rattle.twkb_engine.specs.declared.next_item.NextItem.{NextItem}
@@ -149,9 +148,10 @@ module _ (limits : Allowance) (bytes : List ℕ) (e : Sums) (rs : List Row) wher
       (elim g.left as (λ m.
       NotedOutline limits bytes e (elim m [ zero ↦ (gs, OnEnd g.head) | suc k ↦ (record { head = g.head; ids = Rattle.twkb_tree.specs.Rows.other_ids g.ids; left = k } ∷ gs, OnHeader) ]) rs after
       → ◌≡◌ {A = Result Outline Reason} (elim m [ zero ↦ outline_past_end (is_exact g.head.size (e.bytes - g.head.from)) e.bytes gs | suc k ↦ Ok (record { head = g.head; ids = Rattle.twkb_tree.specs.Rows.other_ids g.ids; left = k } ∷ gs, OnHeader) ]) (Ok p)
-      → Past p after)
-      [ zero ↦ λ a there. noted_past gs g.head after p (is_exact g.head.size (e.bytes - g.head.from)) refl a there
-      | suc k ↦ λ a there. (0, subst (λ q. NotedOutline limits bytes e q rs after) (ok_same (record { head = g.head; ids = Rattle.twkb_tree.specs.Rows.other_ids g.ids; left = k } ∷ gs, OnHeader) p there) a) ]
+      → Past p after) [
+        | zero ↦ λ a there. noted_past gs g.head after p (is_exact g.head.size (e.bytes - g.head.from)) refl a there
+        | suc k ↦ λ a there. (0, subst (λ q. NotedOutline limits bytes e q rs after) (ok_same (record { head = g.head; ids = Rattle.twkb_tree.specs.Rows.other_ids g.ids; left = k } ∷ gs, OnHeader) p there) a)
+      ]
       (noted_end (g ∷ gs) h told x n) at)
 
   none_past : (o p : Outline) (told : ℕ → Notes) → way o ≡ way p → NotedOutline limits bytes e o rs told → Past p told
@@ -210,7 +210,7 @@ pub outlined_blob : (limits : Allowance) (bytes : List ℕ) (e : Sums) (rs : Lis
 outlined_blob limits bytes e rs r =
     subst (Whole limits bytes r.reached.items) r.rows (finished limits bytes e r.stack.0 r.stack.1 (ap (λ (o : Outline). o.0) r.outline) (ap (λ (o : Outline). o.1) r.outline) r.reached)
 
--- ---- where an engine stands
+-- ---- what an engine stands for
 
 -- a blob begins
 starts_here : (limits : Allowance) (b n q : ℕ) (p : Point) (gs : List Group) (i : NextItem) (d : Engine) → IsAllowance limits → i ≡ next.TypeByte → b ≡ 0 → n ≡ 1 → q ≡ 0 → p ≡ origin → gs ≡ []
@@ -229,7 +229,7 @@ stands_begun offset d b none = record {
   spelled = inr none;
 }
 
--- if no byte is held the bytes are whole items
+-- if no byte is held the bytes are complete items
 pub all_whole : (bytes : List ℕ) (rs : List Row) (d : Engine) → held_in d ≡ [] → (s : StandsAt bytes rs d) → bytes ≡ s.front
 all_whole bytes rs d none s = s.whole ∙ (ap (λ l. s.front ++ l) none ∙ append-nil s.front)
 
@@ -284,8 +284,7 @@ stands_else bs all rs d e q s whole spelled =
     let a : NotedOutline d.limits s.front (sums_of d) (outline_in d) rs told = record { outlined = s.outlined; notes = λ start. refl } in
     let b = subst (λ x. NotedOutline d.limits s.front (sums_of d) x rs told) (sym (outline_else d e q)) a in
     let c = subst (λ x. NotedOutline d.limits s.front x (outline_in e) rs told) (sym (sums_else d e q)) b in
-    let n = subst (λ x. NotedOutline x s.front (sums_of e) (outline_in e) rs told) (sym q.limits) c in
-    (
+    let n = subst (λ x. NotedOutline x s.front (sums_of e) (outline_in e) rs told) (sym q.limits) c in (
       record { front = s.front; whole = whole; outlined = n.outlined; placed = subst (λ i. IsPlaced i e) (sym q.next) (placed_else d.next d e q s.placed); spelled = subst (λ i. (IsByte i → ⊥) ⊎ (held_in e ≡ [])) (sym q.next) spelled },
       refl,
       ap (λ start. notes_in start n.outlined) q.start ∙ n.notes d.start,

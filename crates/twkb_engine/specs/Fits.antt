@@ -16,14 +16,14 @@ lists_of kinds.MultiLinestring p r m = p ∷ m ∷ []
 lists_of kinds.MultiPolygon p r m = p ∷ r ∷ m ∷ []
 lists_of _ p r m = []
 
--- the same round a list of points
+-- how many values are left after the open one in each list round a list of points
 abbrev pub line_lists_of : Kind → (rings members : ℕ) → List ℕ
 line_lists_of kinds.Polygon r m = r ∷ []
 line_lists_of kinds.MultiLinestring r m = m ∷ []
 line_lists_of kinds.MultiPolygon r m = r ∷ m ∷ []
 line_lists_of _ r m = []
 
--- the same round a list of rings
+-- how many values are left after the open one in each list round a list of rings
 abbrev pub area_lists_of : Kind → (members : ℕ) → List ℕ
 area_lists_of kinds.MultiPolygon m = m ∷ []
 area_lists_of _ m = []

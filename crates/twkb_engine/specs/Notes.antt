@@ -22,7 +22,7 @@ AreOpen d w = length w.begun ≡ open_in d
 abbrev pub notes_with : Role → (n width : ℕ) → (d e : Engine) → (ends : Bool) → Notes → Notes
 notes_with r n width d e ends w = note_ends_to (if ends then 0 else open_in e) (d.start + (d.bytes + width)) (d.points + points_by r n) (noted_by d.start (sums_of d) r n w)
 
--- what the ends note behind which an engine stands: all, if the blob ends, else those of the geometries that are open no more
+-- what the ends note that come after what an engine took: all, if the blob ends, else those of the geometries that are open no more
 abbrev pub notes_past : (d e : Engine) → (ends : Bool) → Notes → Notes
 notes_past d e ends = note_ends_to (if ends then 0 else open_in e) (d.start + d.bytes) d.points
 

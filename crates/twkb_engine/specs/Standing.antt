@@ -1,6 +1,5 @@
 -- What an engine stands for.
-use Rattle.std.specs.Prelude.{◌≡◌, ◌⊎◌, ℕ, ◌+◌, ◌-◌, ◌<◌, ◌≤◌, List, [], ◌++◌, length, take, Bool, true, false, Result, Ok, Err, ⊤}
-use Rattle.twkb_num.specs.Varint.{IsOpenVarint}
+use Rattle.std.specs.Prelude.{◌≡◌, ◌⊎◌, ℕ, ◌+◌, ◌<◌, ◌≤◌, List, [], ◌++◌, length, take, Bool, true, false, Result, Ok, Err, ⊤}
 use Rattle.twkb_tree.specs.Tree.{Tree}
 use Rattle.twkb_tree.specs.Limits.{Allowance}
 use Rattle.twkb_tree.specs.Rows.{Row, rows}
@@ -24,7 +23,7 @@ use Rattle.twkb_engine.specs.declared.stop.Stop.TheVariants.{Memory, Refused}
 abbrev pub offset_in : Engine → ℕ
 offset_in d = d.bytes
 
--- the bytes that it holds of a number that is not whole
+-- the bytes that it holds of a number that is not complete
 abbrev pub held_in : Engine → List ℕ
 held_in d = d.held
 
@@ -40,7 +39,7 @@ points_in d = d.points
 abbrev pub place_in : Engine → ℕ
 place_in d = d.start + d.bytes
 
--- the bytes are a blob so far: whole items, which are a part with these rows, and behind them the first bytes of a number
+-- the bytes are a blob so far: complete items, which are a part with these rows, and after them the first bytes of a number
 pub record StandsAt (bytes : List ℕ) (rs : List Row) (d : Engine) : Type 0 where
   pub front : List ℕ
   pub whole : bytes ≡ front ++ held_in d
@@ -60,7 +59,7 @@ notes_at {d = d} s = notes_in d.start s.outlined
 abbrev pub LeadsOn : {S : Type 0} → (S → Notes → Type 0) → List Row → Engine → S → List ℕ → List Row → Engine → S → Type 0
 LeadsOn holds rs d old bytes more e new = (front : List ℕ) (s : StandsAt front rs d) → (t : StandsAt (front ++ bytes) more e) × (holds old (notes_at s) → holds new (notes_at t))
 
--- the same of bytes that note nothing
+-- Wherever the engine stands, these bytes lead it on within its blob, and note nothing.
 abbrev pub LeadsQuietly : List Row → Engine → List ℕ → List Row → Engine → Type 0
 LeadsQuietly rs d bytes more e = (front : List ℕ) (s : StandsAt front rs d) → (t : StandsAt (front ++ bytes) more e) × (notes_at t ≡ notes_at s)
 
@@ -71,7 +70,7 @@ pub record SaysNext (d : Engine) (bytes : List ℕ) (n count : ℕ) : Type 0 whe
   pub fits : IsByte d.next → (n < 256) × (count ≡ 1)
   pub gives : (r : Role) → IsNext r d → Gives r n (take count bytes)
 
--- wherever the engine stands, a front of these bytes ends a part that was judged
+-- wherever the engine stands, a prefix of these bytes ends a part that was judged
 abbrev pub StopsIn : List Row → Engine → List ℕ → Type 0
 StopsIn rs d bytes = (front : List ℕ) → StandsAt front rs d → PartIn (allowance_of d) front bytes
 
@@ -90,7 +89,7 @@ pub record RefusedIn (limits : Allowance) (bs piece : List ℕ) (offset : ℕ) (
   pub within : used ≤ length piece
   pub fault : (more : List ℕ) → FirstFault limits ((bs ++ take used piece) ++ more) offset reason
 
--- a byte of the piece is the last of a blob, whose rows these are, and none behind it was used
+-- a byte of the piece is the last of a blob, whose rows these are, and none after it was used
 pub record MadeIn (limits : Allowance) (bs piece : List ℕ) (used : ℕ) (rs : List Row) : Type 0 where
   pub some : 0 < used
   pub within : used ≤ length piece
@@ -115,7 +114,7 @@ abbrev pub with_used : ℕ → Result Bool Stop → Result (ℕ × Bool) Stop
 with_used used (Ok ends) = Ok (used, ends)
 with_used used (Err stop) = Err stop
 
--- the same, where all bytes are used if no blob ends in them
+-- all bytes are used if no blob ends in them
 abbrev pub TakesAll : ℕ → Result (ℕ × Bool) Stop → Type 0
 TakesAll many (Ok (used, false)) = used ≡ many
 TakesAll many _ = ⊤
@@ -125,6 +124,6 @@ abbrev pub IsEnd : Allowance → List ℕ → ℕ → Bool → Type 0
 IsEnd limits bs offset true = bs ≡ []
 IsEnd limits bs offset false = FirstFault limits bs offset Truncated
 
--- wherever the engine stands, that is its answer to the bytes; the notes are told if they were those of its items
+-- wherever the engine stands, that is its answer to the bytes; of the notes it is said if they were those of its items before
 abbrev pub FedBy : {S : Type 0} → (S → Notes → Type 0) → Engine → List Row → S → List ℕ → Result (ℕ × Bool) Stop → Engine → List Row → S → Type 0
 FedBy holds d rs old bytes answer e more new = (bs : List ℕ) (s : StandsAt bs rs d) → IsFed holds (holds old (notes_at s)) (allowance_of d) d.start bs bytes answer more e new

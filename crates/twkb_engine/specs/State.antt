@@ -23,11 +23,11 @@ abbrev pub boxes : ℕ → List Role
 boxes zero = []
 boxes (suc n) = role.Box ∷ boxes n
 
--- what is still wanted after the size
+-- the parts that come after the size
 abbrev pub box_roles : ℕ → List Role
 box_roles meta = where_set (bit meta 0) (boxes 4)
 
--- what is still wanted after the extended byte
+-- the parts that come after the extended byte
 abbrev pub size_roles : ℕ → List Role
 size_roles meta = where_set (bit meta 1) (role.Size ∷ []) ++ box_roles meta
 
@@ -68,7 +68,7 @@ allowance_of d = d.limits
 
 -- ---- what holds of its fields
 
--- a header is behind it, and its geometry is in the open collections
+-- after a header: its geometry is in the open collections
 abbrev pub IsPlaced : NextItem → Engine → Type 0
 IsPlaced next.TypeByte d = ⊤
 IsPlaced next.MetadataByte d = ⊤

@@ -1,13 +1,14 @@
 -- What an engine makes of the next item.
-use Rattle.std.specs.Prelude.{◌≡◌, ◌+◌, ◌⊎◌, ℕ, List, [], ◌++◌, ◌∷◌, Bool, true, false, Some, None, Result, Ok, Err, ⊤}
+use Rattle.std.specs.Prelude.{◌≡◌, ◌+◌, ◌⊎◌, ℕ, List, [], Bool, true, false, Some, None, Result, Ok, Err, if◌then◌else◌, ⊤}
 use Rattle.twkb_points.specs.Point.{Point, origin}
 use Rattle.twkb_tree.specs.Rows.{Row, first_id}
+use Rattle.twkb_grammar.specs.Bits.{bit}
 use Rattle.twkb_grammar.specs.Roles.{Role}
 use Rattle.twkb_grammar.specs.Fault.{Reason, moved, nodes_by, points_by}
 use Rattle.twkb_grammar.specs.Machine.{Sums}
 use Rattle.twkb_grammar.specs.PlainReader.{objection}
 use Rattle.twkb_outline.specs.Outline.{Outline, OnFinished, Step, OnEnd, options, shut, outline_advanced, outline_ends}
-use Rattle.twkb_outline.specs.Growing.{Change, NewRow, change_of, applied, own_of, header_change, point_change}
+use Rattle.twkb_outline.specs.Growing.{Change, NewRow, Nothing, change_of, applied, own_of, header_change, point_change}
 use Rattle.twkb_outline.specs.Admitting.{Admits}
 use Rattle.twkb_outline.specs.Parts.{Passes}
 use Rattle.twkb_body.specs.Head.{head_of, kind_of, form_of}
@@ -54,12 +55,18 @@ pub record SameBlob (d e : Engine) : Type 0 where
   pub limits : e.limits ≡ d.limits
   pub start : e.start ≡ d.start
 
+-- it stays in its blob, with the limits that it had and the bytes that it holds of a number
+pub record Stays (d e : Engine) : Type 0 where
+  pub limits : e.limits ≡ d.limits
+  pub start : e.start ≡ d.start
+  pub held : e.held ≡ d.held
+
 -- it keeps its limits, and the bytes that it holds of a number
 pub record Keeps (d e : Engine) : Type 0 where
   pub limits : e.limits ≡ d.limits
   pub held : e.held ≡ d.held
 
--- all that it keeps besides its header, its position and its ids is the same
+-- nothing but its header, its position and its ids changes
 pub record SameBut (d e : Engine) : Type 0 where
   pub limits : e.limits ≡ d.limits
   pub start : e.start ≡ d.start
@@ -82,7 +89,7 @@ Takes r n width d rs (Err Memory) e more = IsFree r n d × Passes (way_of n widt
 Takes r n width d rs (Err (Refused why)) e more =
     ((objection d.limits (sums_of d) r n ≡ Some (reason_of why)) × (e.bytes ≡ d.bytes)) ⊎ (IsFree r n d × (way_of n width d ≡ Err (reason_of why)) × (e.bytes ≡ d.bytes + width))
 
--- the same of an item that is answered by no more than whether there is memory for it: no geometry ends with it
+-- what an engine answers to an item with which no geometry ends, and which is not refused: whether there is memory for it
 abbrev pub TakesOn : {E : Type 0} → Role → (n width : ℕ) → Engine → List Row → Result ⊤ E → Engine → List Row → Type 0
 TakesOn r n width d rs (Ok u) e more = Takes r n width d rs (Ok false) e more
 TakesOn r n width d rs (Err why) e more = Takes r n width d rs (Err Memory) e more
@@ -95,7 +102,7 @@ Lands way change d rs (Ok true) e more = (way ≡ Ok ([], OnFinished)) × (more 
 Lands way change d rs (Err Memory) e more = Passes way
 Lands way change d rs (Err (Refused why)) e more = (way ≡ Err (reason_of why)) × (e.bytes ≡ d.bytes)
 
--- An item of this role and number, of so many bytes, leads that way, with this change of the rows, to where this engine stands before the ends that follow it.
+-- An item of this role and number, of so many bytes, leads that way, with this change of the rows, and this engine is the one before the ends that follow the item.
 pub record LeadsTo (r : Role) (n width : ℕ) (d : Engine) (way : Result Outline Reason) (change : Change) (m : Engine) : Type 0 where
   pub free : IsFree r n d
   pub way_is : way_of n width d ≡ way
@@ -122,6 +129,10 @@ past_value d depth lists = past d (shut (head_of d.head) (form_of d.head.kind) (
 -- its own row
 abbrev pub own_row : Engine → Change
 own_row d = NewRow (own_of d.head.depth d.head.id (kind_of d.head.kind) d.head.precision)
+
+-- the row that a count of members brings, if there are any: its own, unless their ids come first
+abbrev pub counted_row : Engine → Change
+counted_row d = if bit d.head.metadata 2 then Nothing else own_row d
 
 -- the row that its header brings, if these parts are still to come
 abbrev pub header_row : Engine → List Role → Change

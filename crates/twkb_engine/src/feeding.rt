@@ -1,6 +1,6 @@
 //! The three ways in: a held number that further bytes complete, an item that is complete at the start of the bytes, and points of a list
 //! many at once.
-ghost use Rattle.std.specs.Prelude.{◌≡◌, ◌+◌, ◌<◌, ◌≤◌, ◌^◌, ◌++◌, ◌∷◌, [], ℕ, List, Ok, IfOk, IfSome, OnErr, take, length};
+ghost use Rattle.std.specs.Prelude.{◌≡◌, ◌+◌, ◌<◌, ◌≤◌, ◌^◌, ◌∷◌, [], List, IfOk, IfSome, OnErr, take, length};
 
 use crate::blob_reason::BlobReason;
 use crate::engine::Engine;
@@ -16,9 +16,8 @@ use twkb_tree::Kind;
 
 impl Engine {
     ghost use Rattle.twkb_tree.specs.Rows.{Row};
-    ghost use Rattle.twkb_engine.specs.State.{allowance_of};
-    ghost use Rattle.twkb_engine.specs.Taking.{Keeps};
-    ghost use Rattle.twkb_engine.specs.Standing.{StandsAt, IsAlive, FedBy, with_used, LeadsQuietly, SaysNext, StopsIn, TakesAll, held_in, count_of, place_in};
+    ghost use Rattle.twkb_engine.specs.Taking.{Stays};
+    ghost use Rattle.twkb_engine.specs.Standing.{IsAlive, FedBy, with_used, LeadsQuietly, SaysNext, StopsIn, TakesAll, held_in, count_of, place_in};
     ghost use Rattle.twkb_engine.specs.declared.next_item.NextItem.TheVariants.{X, Id};
 
     /// Takes a byte, and returns whether the blob ends with it. It takes memory as `feed` does.
@@ -149,8 +148,7 @@ impl Engine {
         ensures within { IfOk result (λ used. used ≤ length rest.now) }
         ensures led { IfOk result (λ used. LeadsQuietly flat.old self.old (take used rest.now) flat.new self.new) }
         ensures memory { OnErr result (StopsIn flat.old self.old rest.now) }
-        ensures kept { Keeps self.old self.new }
-        ensures start { self.new.start ≡ self.old.start }
+        ensures stays { Stays self.old self.new }
     {
         if !flat.takes_points(self.points_left) {
             return Ok(0);
@@ -172,8 +170,7 @@ impl Engine {
         ensures within { IfOk result (λ used. used ≤ length rest.now) }
         ensures led { IfOk result (λ used. LeadsQuietly flat.old self.old (take used rest.now) flat.new self.new) }
         ensures memory { OnErr result (StopsIn flat.old self.old rest.now) }
-        ensures kept { Keeps self.old self.new }
-        ensures start { self.new.start ≡ self.old.start }
+        ensures stays { Stays self.old self.new }
         ensures next { self.new.next ≡ self.old.next }
         ensures lists { self.new.points_left ≡ self.old.points_left }
     {
@@ -200,8 +197,7 @@ impl Engine {
         ensures within { IfOk result (λ used. used ≤ length rest.now) }
         ensures led { (rs : List Row) → IfOk result (λ used. LeadsQuietly rs self.old (take used rest.now) rs self.new) }
         ensures memory { (rs : List Row) → OnErr result (StopsIn rs self.old rest.now) }
-        ensures kept { Keeps self.old self.new }
-        ensures start { self.new.start ≡ self.old.start }
+        ensures stays { Stays self.old self.new }
     {
         let most = self.members_left.saturating_sub(self.ids.count());
         if most == 0 {

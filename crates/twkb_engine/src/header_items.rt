@@ -1,5 +1,5 @@
 //! The items of a header: type byte, metadata byte, extended byte, size and box.
-ghost use Rattle.std.specs.Prelude.{◌≡◌, ◌+◌, ◌≤◌, ◌<◌, ◌^◌, ◌/◌, ◌%◌, ℕ, List, [], None, true, false, IfOk, OnOk, OnErr, Ok, length, take};
+ghost use Rattle.std.specs.Prelude.{◌≡◌, ◌+◌, ◌≤◌, ◌<◌, ◌^◌, ◌/◌, ◌%◌, ℕ, List, [], None, true, IfOk, OnOk, OnErr, Ok, length, take};
 ghost use Rattle.twkb_tree.specs.Rows.{Row};
 ghost use Rattle.twkb_grammar.specs.Roles as role;
 ghost use Rattle.twkb_grammar.specs.Roles.{Role};
@@ -7,7 +7,6 @@ ghost use Rattle.twkb_grammar.specs.Fault.{announces_point as announces};
 ghost use Rattle.twkb_grammar.specs.Machine.{kind_number, kind_at};
 ghost use Rattle.twkb_num.specs.Zigzag.{unzigzag_of};
 ghost use Rattle.twkb_points.specs.Point.{origin as origin_of};
-ghost use Rattle.twkb_grammar.specs.Bits.{bit};
 ghost use Rattle.twkb_grammar.specs.Noting.{Notes, note_header, note_metadata};
 ghost use Rattle.twkb_outline.specs.Outline.{OnMetadata, begins};
 ghost use Rattle.twkb_outline.specs.Growing.{id_in};
@@ -33,7 +32,7 @@ impl Engine {
     ghost use Rattle.twkb_engine.specs.State.{IsPlaced, outline_in, sums_of, size_roles, box_roles};
     ghost use Rattle.twkb_engine.specs.Collections.{groups_of};
     ghost use Rattle.twkb_engine.specs.Fits.{IsInside, are_shut, is_typed};
-    ghost use Rattle.twkb_engine.specs.Taking.{Takes, Lands, LeadsTo, SameBlob, SameBut, Keeps, past_parts, header_row};
+    ghost use Rattle.twkb_engine.specs.Taking.{Takes, Lands, LeadsTo, SameBlob, SameBut, Keeps, Stays, past_parts, header_row};
     ghost use Rattle.twkb_engine.specs.Notes.{NotesGo, notes_with, notes_past};
     ghost use Rattle.twkb_engine.specs.Standing.{IsAlive, LeadsOn, StopsIn, held_in};
 
@@ -215,7 +214,7 @@ impl Engine {
         self.begin_body(flat, spans)
     }
 
-    // Goes past the extended dimensions byte, or past where it would stand: to the size, if there is one.
+    // Goes past the place of the extended dimensions byte: to the size, if there is one.
     #[inline(always)]
     fn after_extended<S: SpanNotes>(
         &mut self,
@@ -242,7 +241,7 @@ impl Engine {
         self.after_size(flat, spans, metadata)
     }
 
-    // Goes past the size, or past where it would stand: to the box, if there is one.
+    // Goes past the place of the size: to the box, if there is one.
     #[inline(always)]
     fn after_size<S: SpanNotes>(
         &mut self,
@@ -320,8 +319,7 @@ impl Engine {
         ensures led { (rs : List Row) → IfOk result (λ used. LeadsOn S.holds rs self.old spans.old (take used rest.now) rs self.new spans.new) }
         ensures memory { (rs : List Row) → OnErr result (StopsIn rs self.old rest.now) }
         ensures same { result ≡ Ok 0 → self.new ≡ self.old }
-        ensures start { self.new.start ≡ self.old.start }
-        ensures kept { Keeps self.old self.new }
+        ensures stays { Stays self.old self.new }
     {
         let Some(header) = front_header(rest) else {
             return Ok(0);

@@ -1,12 +1,13 @@
 //! The items before the members of a multi-geometry or a collection: their count and their ids.
-ghost use Rattle.std.specs.Prelude.{◌≡◌, ℕ, ◌+◌, ◌≤◌, ◌<◌, ◌^◌, nat_lt, suc, length, None, IfOk, OnOk};
+ghost use Rattle.std.specs.Prelude.{◌≡◌, ℕ, ◌+◌, ◌≤◌, ◌<◌, ◌^◌, nat_lt, suc, length, false, None, IfOk, OnOk};
+ghost use Rattle.twkb_grammar.specs.Bits.{bit};
 ghost use Rattle.twkb_grammar.specs.Roles as role;
 ghost use Rattle.twkb_grammar.specs.Roles.{Role};
 ghost use Rattle.twkb_grammar.specs.Fault as fault;
 ghost use Rattle.twkb_grammar.specs.Fault.{points_of};
 ghost use Rattle.twkb_grammar.specs.PlainReader.{unless, objection};
 ghost use Rattle.twkb_grammar.specs.Machine.{first_count};
-ghost use Rattle.twkb_outline.specs.Outline.{members_open};
+ghost use Rattle.twkb_outline.specs.Outline.{members_open, many_counted};
 ghost use Rattle.twkb_outline.specs.Growing.{applied};
 ghost use Rattle.twkb_outline.specs.Admitting.{Admits};
 ghost use Rattle.twkb_body.specs.Head.{head_of, many_of};
@@ -30,7 +31,7 @@ impl Engine {
     ghost use Rattle.twkb_engine.specs.State.{IsPlaced, outline_in, sums_of};
     ghost use Rattle.twkb_engine.specs.Collections.{groups_of};
     ghost use Rattle.twkb_engine.specs.Fits.{depth_cap};
-    ghost use Rattle.twkb_engine.specs.Taking.{Takes, LeadsTo, SameBlob, Keeps, own_row, past_end};
+    ghost use Rattle.twkb_engine.specs.Taking.{Takes, LeadsTo, SameBlob, Keeps, own_row, counted_row, past_end};
     ghost use Rattle.twkb_engine.specs.Notes.{NotesGo, notes_with, notes_past, open_in};
     ghost use Rattle.twkb_engine.specs.Standing.{IsAlive};
 
@@ -100,14 +101,7 @@ impl Engine {
         if count == 0 {
             return self.end_counted(flat, spans);
         }
-        let has_ids = Metadata::from_byte(self.head.metadata).has_ids();
-        self.ids.restart(has_ids);
-        self.members_left = count - 1;
-        self.next = NextItem::Id;
-        if has_ids {
-            return Ok(false);
-        }
-        self.begin_members(flat)?;
+        self.begin_counted(flat, count)?;
         Ok(false)
     }
 
@@ -122,6 +116,32 @@ impl Engine {
         ensures kept { Keeps self.old self.new }
     {
         self.end_empty(flat, spans)
+    }
+
+    // Goes to the members of a geometry that has so many: to the first id if they have ids, else to the first member. A row and an open
+    // collection take memory.
+    #[inline(always)]
+    fn begin_counted(&mut self, flat: &mut Flat, count: u64) -> Result<(), AllocError>
+        requires next { self.old.next ≡ next.MemberCount }
+        requires some { 0 < count }
+        requires row { bit self.old.head.metadata 2 ≡ false → Admits (own_row self.old) flat.old }
+        requires room { length self.old.collections < depth_cap }
+        ensures step { OnOk result (outline_in self.new ≡ many_counted (many_of self.old.head.kind) (head_of self.old.head) (groups_of self.old.collections) count) }
+        ensures rows { OnOk result (flat.new ≡ applied (counted_row self.old) flat.old) }
+        ensures sums { sums_of self.new ≡ sums_of self.old }
+        ensures same { SameBlob self.old self.new }
+        ensures placed { IsPlaced self.old.next self.old → OnOk result (IsPlaced self.new.next self.new) }
+        ensures kept { Keeps self.old self.new }
+    {
+        let has_ids = Metadata::from_byte(self.head.metadata).has_ids();
+        self.ids.restart(has_ids);
+        self.members_left = count - 1;
+        self.next = NextItem::Id;
+        if has_ids {
+            return Ok(());
+        }
+        self.begin_members(flat)?;
+        Ok(())
     }
 
     // Takes an id. It takes memory.

@@ -1,5 +1,5 @@
 //! The item that comes next.
-ghost use Rattle.std.specs.Prelude.{◌≡◌, ◌↔◌, true, IsTrue};
+ghost use Rattle.std.specs.Prelude.{◌≡◌, ◌↔◌, IsTrue};
 ghost use Rattle.twkb_engine.specs.Fits.{IsByte, first_item, header_item};
 
 use twkb_tree::Kind;

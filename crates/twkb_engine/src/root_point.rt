@@ -1,5 +1,5 @@
 //! A blob that is a single point, complete at the start of the bytes.
-ghost use Rattle.std.specs.Prelude.{◌≡◌, ◌+◌, ◌-◌, ◌≤◌, ◌^◌, List, [], ℕ, true, Ok, length, IfOk, IfSome, OnErr, ◌<◌};
+ghost use Rattle.std.specs.Prelude.{◌≡◌, ◌+◌, ◌-◌, ◌≤◌, ◌^◌, [], true, Ok, length, IfOk, IfSome, OnErr, ◌<◌};
 ghost use Rattle.twkb_grammar.specs.PlainReader.{is_exact};
 ghost use Rattle.twkb_front.specs.Whole.{WholePoint};
 ghost use Rattle.twkb_engine.specs.Notes.{point_span};

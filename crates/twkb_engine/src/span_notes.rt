@@ -1,5 +1,5 @@
 //! What a reader notes of spans.
-ghost use Rattle.std.specs.Prelude.{◌≡◌, ◌<◌, ◌^◌, ◌∷◌, [], OnOk, length, ⊤};
+ghost use Rattle.std.specs.Prelude.{◌<◌, ◌^◌, ◌∷◌, [], OnOk, length, ⊤};
 ghost use Rattle.twkb_grammar.specs.Noting.{Notes, no_notes, note_header, note_metadata, note_end};
 
 use std::alloc::AllocError;

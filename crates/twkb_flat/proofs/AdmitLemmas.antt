@@ -1,4 +1,4 @@
--- The test of a row by where it stands is the test by the open rows.
+-- The test of a row at its place is the test by the open rows.
 use Rattle.std.proofs.Common.{◌≡◌, ℕ, zero, suc, ◌+◌, ◌-◌, ◌<◌, ◌≤◌, ◌==◌, Bool, true, false, List, [], ◌∷◌, length, get_or, Option, Some, None, refl, sym, ap, ◌∙◌, subst, arith}
 use Rattle.std.specs.Prelude.{reverse, ◌&&◌, ◌↔◌, IsTrue, is_none, nat_lt, nat_le}
 use Rattle.std.proofs.lemmas.Bool.Decides.{nat_tests}
@@ -25,13 +25,13 @@ use Rattle.twkb_tree.proofs.OpenLaws.{open_none}
 use Rattle.twkb_tree.proofs.OpenDecides.{open_at}
 use Rattle.twkb_flat.specs.Admitting.{is_admitted_at}
 
--- two tests that hold together are one
+-- two tests that imply each other are equal
 alike : (a b : Bool) → (a ≡ true → b ≡ true) → (b ≡ true → a ≡ true) → a ≡ b
 alike true b to from = sym (to refl)
 alike false true to from = from refl
 alike false false to from = refl
 
--- where a row may stand, it is admitted there or refused
+-- at its place a row is admitted exactly if it is not refused
 admitted_there : (l : Allowance) (d : ℕ) (steps : Bool) (s : Standing) (r : Row) → AreInRange r.points → steps ≡ true → s.depth ≡ r.depth
     → is_admitted_at l s r ≡ is_none (first_failed (checks_under l steps (row_of s.parent) (child_of s.parent) s.nodes s.points r))
 admitted_there l d steps s r in_range on at =
@@ -53,25 +53,25 @@ admitted_there l d steps s r in_range on at =
     (both (nest_kept l p s.depth) (nat_lt s.nodes l.nodes && nat_le (s.points + length r.points) l.points) nest
     (both (nat_lt s.nodes l.nodes) (nat_le (s.points + length r.points) l.points) all.nodes_left all.points_left)) fit)
 
--- and nothing more is asked
+-- a conjunction with a true test is the other test
 and_true : (a b : Bool) → b ≡ true → (a && b) ≡ a
 and_true true b e = e
 and_true false b e = refl
 
--- nor is anything enough
+-- a conjunction with a false test is false
 and_false : (a b : Bool) → b ≡ false → (a && b) ≡ false
 and_false true b e = e
 and_false false b e = refl
 
--- a depth within
+-- a depth that is at most n passes
 near : (m n : ℕ) → m ≤ n → nat_le m n ≡ true
 near m n le = test_within m n le
 
--- a depth without
+-- a depth above n fails
 far : (m n : ℕ) → n < m → nat_le m n ≡ false
 far m n lt = grind (arith, nat_tests)
 
--- the test where the row stands
+-- the test at the row's place is the test by the open rows
 pub continues_there : (l : Allowance) (os : List OpenRow) (nodes points : ℕ) (s : Standing) (r : Row) → AreInRange r.points → is_next os r ≡ true
     → (r.depth ≤ length os) × (s ≡ standing_at r.depth os nodes points) → is_admitted_at l s r ≡ open_continues l os nodes points r
 continues_there l os nodes points s r in_range next stands =
@@ -80,31 +80,31 @@ continues_there l os nodes points s r in_range next stands =
     ∙ admitted_there l r.depth (nat_le r.depth (length os)) there r in_range (near r.depth (length os) stands.0) refl
     ∙ sym (and_true (is_none (open_refusal l os nodes points r)) (is_next os r) next)
 
--- a row too deep
+-- a row that is too deep does not continue the geometry
 pub too_deep : (l : Allowance) (os : List OpenRow) (nodes points : ℕ) (r : Row) → length os < r.depth → false ≡ open_continues l os nodes points r
 too_deep l os nodes points r lt =
     let deep = stepless l (nat_le r.depth (length os)) (row_of (open_parent r.depth os)) (child_of (open_parent r.depth os)) (count_at r.depth nodes) (count_at r.depth points) r (far r.depth (length os) lt) in
     sym (ap (λ o. is_none o && is_next os r) deep)
 
--- a root that is not the first row, or a first row that is no root
+-- a root that is not first does not continue it, nor does a first row that is not a root
 pub misplaced : (l : Allowance) (os : List OpenRow) (nodes points : ℕ) (r : Row) → is_next os r ≡ false → false ≡ open_continues l os nodes points r
 misplaced l os nodes points r out = sym (and_false (is_none (open_refusal l os nodes points r)) (is_next os r) out)
 
--- a root comes first
+-- if no row is open, the next row is at depth 0
 pub first_next : (d : ℕ) (os : List OpenRow) (r : Row) → r.depth ≡ d → length os ≡ 0 → (d == 0) ≡ is_next os r
 first_next d [] r e none = ap (λ n. n == 0) (sym e)
 first_next d (o ∷ os) r e none = absurd (omega arith)
 
--- and only there
+-- if a row is open, the next row is below depth 0
 pub later_next : (d : ℕ) (os : List OpenRow) (r : Row) → r.depth ≡ d → (length os ≡ 0 → ⊥) → nat_lt 0 d ≡ is_next os r
 later_next d [] r e some = absurd (some refl)
 later_next d (o ∷ os) r e some = ap (nat_lt 0) (sym e)
 
--- six tests that hold leave the seventh
+-- if six tests hold, the conjunction is the seventh
 seventh : (a b c d e f g : Bool) → a ≡ true → b ≡ true → c ≡ true → d ≡ true → e ≡ true → f ≡ true → (a && b && c && d && e && f && g) ≡ g
 seventh a b c d e f g pa pb pc pd pe pf = rw (pa, pb, pc, pd, pe, pf) refl
 
--- a row fits where the number of its points does
+-- a row fits exactly if the number of its points does
 pub fits_by_count : (p f : Option Row) (r : Row) → has_place p r.kind ≡ true → id_in_range r.id ≡ true → (id_allowed p r.kind r.id && has_same_ids f r.id) ≡ true → (precision_in_range r.precision && precision_fits p r.precision) ≡ true
     → points_fit r.kind (is_whole p) r.points ≡ fits p f r
 fits_by_count p f r place range id precision =
@@ -112,25 +112,25 @@ fits_by_count p f r place range id precision =
     let two = both_true (precision_in_range r.precision) (precision_fits p r.precision) precision in
     sym (seventh (has_place p r.kind) (id_in_range r.id) (id_allowed p r.kind r.id) (has_same_ids f r.id) (precision_in_range r.precision) (precision_fits p r.precision) (points_fit r.kind (is_whole p) r.points) place range ids.0 ids.1 two.0 two.1)
 
--- ---- where a row stands
+-- ---- the place of a row
 
--- an open row is what is kept of the last row at its depth
+-- two open rows of the last row at one depth are equal
 open_alike : (d : ℕ) (before : List Row) (o p : OpenRow) → IsOpenAt d before o → IsOpenAt d before p → o ≡ p
 open_alike d before o p h k =
     let kind : o.kind ≡ p.kind = cc (h.1, h.2, k.1, k.2) in
     let ids : o.child_ids ≡ p.child_ids = h.3 ∙ sym k.3 in
     ap (λ x. record { kind = x; child_ids = o.child_ids }) kind ∙ ap (λ x. record { kind = p.kind; child_ids = x }) ids
 
--- so it is the one at that depth among all
+-- the open row of the last row at a depth is the one at that depth in the list
 pub open_is : (d : ℕ) (before : List Row) (os : List OpenRow) (blank o : OpenRow) → AreOpen before os → d < length os → IsOpenAt d before o → get_or os d blank ≡ o
 open_is d before os blank o a lt h = open_alike d before (get_or os d blank) o (open_at d before os blank a lt) h
 
--- a root stands under none
+-- a root has no parent
 pub root_stands : (d nodes points : ℕ) (os : List OpenRow) → d ≡ 0 → record { depth = d; parent = None; nodes = 0; points = 0 } ≡ standing_at d os nodes points
 root_stands zero nodes points os e = ap (λ (o : Option OpenRow). record { depth = 0; parent = o; nodes = 0; points = 0 }) (sym (no_open_parent os))
 root_stands (suc d) nodes points os e = absurd (omega (arith, e))
 
--- another row under the open row above it
+-- any other row's parent is the open row above it
 child_stands : (d nodes points : ℕ) (before : List Row) (os : List OpenRow) (o : OpenRow) → 0 < d → AreOpen before os → d ≤ length os → IsOpenAt (d - 1) before o
     → record { depth = d; parent = Some o; nodes = nodes; points = points } ≡ standing_at d os nodes points
 child_stands zero nodes points before os o some a le h = absurd (omega arith)
@@ -139,7 +139,7 @@ child_stands (suc d) nodes points before os o some a le h =
     let is = open_is d before os o o a (omega arith) (subst (λ (k : ℕ). IsOpenAt k before o) above h) in
     ap (λ (p : Option OpenRow). record { depth = suc d; parent = p; nodes = nodes; points = points }) (ap (λ (p : OpenRow). Some p) (sym is) ∙ sym (open_parent_at d os o (omega arith)))
 
--- in a geometry of so many rows and points
+-- the place of a row that is not a root, with the counts of rows and points
 pub other_stands : (d n m nodes points : ℕ) (before : List Row) (os : List OpenRow) (o : OpenRow) → (d ≡ 0 → ⊥) → AreOpen before os → d ≤ open_count before → IsOpenAt (d - 1) before o → n ≡ nodes → m ≡ points
     → record { depth = d; parent = Some o; nodes = n; points = m } ≡ standing_at d os nodes points
 other_stands d n m nodes points before os o some a le h n_is m_is =
@@ -154,7 +154,7 @@ pub rows_open : (rows : List Row) → AreValidRowsOfOne largest_limits rows → 
 rows_open [] valid = ([], open_none)
 rows_open (r ∷ rest) valid = open_rows (reverse (r ∷ rest)) (admitted_rows (r ∷ rest) (as_list r rest (of_one largest_limits (r ∷ rest) valid)))
 
--- the test by open rows is the test by the rows
+-- the test by the open rows is the test by the rows
 pub kept_continues : (rows : List Row) (os : List OpenRow) (nodes points : ℕ) (r : Row) → AreValidRowsOfOne largest_limits rows → AreOpen (reverse rows) os → nodes ≡ length rows → points ≡ length (row_points rows)
     → open_continues largest_limits os nodes points r ≡ continues largest_limits rows r
 kept_continues rows os nodes points r valid now_open all own =
@@ -162,6 +162,6 @@ kept_continues rows os nodes points r valid now_open all own =
     ∙ ap (λ n. open_continues largest_limits os (length rows) n r) (own ∙ length-row_points rows)
     ∙ continues_open largest_limits rows os r (of_one largest_limits rows valid) now_open
 
--- a test that says what the test by the rows says
+-- a test that equals the test by the rows decides about the row
 pub decides : (rows : List Row) (r : Row) (b : Bool) → b ≡ continues largest_limits rows r → IsTrue b ↔ Continues largest_limits rows r
 decides rows r b same = (λ yes. continues_is largest_limits rows r (sym same ∙ yes), λ h. same ∙ continues_true largest_limits rows r h)

@@ -24,7 +24,7 @@ use Rattle.twkb_flat.proofs.TakeLemmas.{drop_more}
 
 -- ---- the parts of a geometry
 
--- the ids of its members
+-- the ids of a geometry's members
 abbrev pub ids_below : Tree → Ids
 ids_below (simple p (multi_point ids ps)) = ids
 ids_below (simple p (multi_line ids lines)) = ids
@@ -32,40 +32,40 @@ ids_below (simple p (multi_polygon ids areas)) = ids
 ids_below (collection p ids gs) = ids
 ids_below _ = None
 
--- its points, where they are members
+-- the points of a geometry, if they are members
 abbrev pub points_below : Tree → List Point
 points_below (simple p (multi_point ids ps)) = ps
 points_below _ = []
 
--- its lines or rings
+-- the lines or rings of a geometry
 abbrev pub lines_below : Tree → List (List Point)
 lines_below (simple p (polygon rings)) = rings
 lines_below (simple p (multi_line ids lines)) = lines
 lines_below _ = []
 
--- its polygons
+-- the polygons of a geometry
 abbrev pub areas_below : Tree → List (List (List Point))
 areas_below (simple p (multi_polygon ids areas)) = areas
 areas_below _ = []
 
--- its geometries
+-- the geometries of a collection
 abbrev pub members_below : Tree → List Tree
 members_below (collection p ids gs) = members gs
 members_below _ = []
 
--- members listed and joined again
+-- members turned into a list and back are the members
 trees-members : (gs : Trees) → trees (members gs) ≡ gs
 trees-members end = refl
 trees-members (g ▷ gs) = ap (λ hs. g ▷ hs) (trees-members gs)
 
--- as many
+-- there are as many in the list as members
 length-members : (gs : Trees) → length (members gs) ≡ count gs
 length-members end = refl
 length-members (g ▷ gs) = ap suc (length-members gs)
 
--- ---- what a geometry is by the kind of its row
+-- ---- the shape of a geometry by the kind of its row
 
--- a point
+-- a geometry whose row is a point's is a point
 pub is_point : (id : Option ℤ) (d : ℕ) (g : Tree) → (own_row id d g).kind ≡ kind.Point → simple (precision_of g) (point (point_in (own_row id d g).points)) ≡ g
 is_point id d (simple p (point None)) e = refl
 is_point id d (simple p (point (Some q))) e = refl
@@ -76,7 +76,7 @@ is_point id d (simple p (multi_line ids lines)) e = cc e
 is_point id d (simple p (multi_polygon ids areas)) e = cc e
 is_point id d (collection p ids gs) e = cc e
 
--- a linestring
+-- a geometry whose row is a linestring's is a linestring
 pub is_line : (id : Option ℤ) (d : ℕ) (g : Tree) → (own_row id d g).kind ≡ kind.Linestring → simple (precision_of g) (line (own_row id d g).points) ≡ g
 is_line id d (simple p (point o)) e = cc e
 is_line id d (simple p (line ps)) e = refl
@@ -86,7 +86,7 @@ is_line id d (simple p (multi_line ids lines)) e = cc e
 is_line id d (simple p (multi_polygon ids areas)) e = cc e
 is_line id d (collection p ids gs) e = cc e
 
--- a polygon
+-- a geometry whose row is a polygon's is a polygon
 pub is_polygon : (id : Option ℤ) (d : ℕ) (g : Tree) → (own_row id d g).kind ≡ kind.Polygon → simple (precision_of g) (polygon (lines_below g)) ≡ g
 is_polygon id d (simple p (point o)) e = cc e
 is_polygon id d (simple p (line ps)) e = cc e
@@ -96,7 +96,7 @@ is_polygon id d (simple p (multi_line ids lines)) e = cc e
 is_polygon id d (simple p (multi_polygon ids areas)) e = cc e
 is_polygon id d (collection p ids gs) e = cc e
 
--- points
+-- a geometry whose row is a multipoint's is a multipoint
 pub is_multi_point : (id : Option ℤ) (d : ℕ) (g : Tree) → (own_row id d g).kind ≡ kind.MultiPoint → simple (precision_of g) (multi_point (ids_below g) (points_below g)) ≡ g
 is_multi_point id d (simple p (point o)) e = cc e
 is_multi_point id d (simple p (line ps)) e = cc e
@@ -106,7 +106,7 @@ is_multi_point id d (simple p (multi_line ids lines)) e = cc e
 is_multi_point id d (simple p (multi_polygon ids areas)) e = cc e
 is_multi_point id d (collection p ids gs) e = cc e
 
--- linestrings
+-- a geometry whose row is a multilinestring's is a multilinestring
 pub is_multi_line : (id : Option ℤ) (d : ℕ) (g : Tree) → (own_row id d g).kind ≡ kind.MultiLinestring → simple (precision_of g) (multi_line (ids_below g) (lines_below g)) ≡ g
 is_multi_line id d (simple p (point o)) e = cc e
 is_multi_line id d (simple p (line ps)) e = cc e
@@ -116,7 +116,7 @@ is_multi_line id d (simple p (multi_line ids lines)) e = refl
 is_multi_line id d (simple p (multi_polygon ids areas)) e = cc e
 is_multi_line id d (collection p ids gs) e = cc e
 
--- polygons
+-- a geometry whose row is a multipolygon's is a multipolygon
 pub is_multi_polygon : (id : Option ℤ) (d : ℕ) (g : Tree) → (own_row id d g).kind ≡ kind.MultiPolygon → simple (precision_of g) (multi_polygon (ids_below g) (areas_below g)) ≡ g
 is_multi_polygon id d (simple p (point o)) e = cc e
 is_multi_polygon id d (simple p (line ps)) e = cc e
@@ -126,7 +126,7 @@ is_multi_polygon id d (simple p (multi_line ids lines)) e = cc e
 is_multi_polygon id d (simple p (multi_polygon ids areas)) e = refl
 is_multi_polygon id d (collection p ids gs) e = cc e
 
--- geometries
+-- a geometry whose row is a collection's is a collection
 pub is_members : (id : Option ℤ) (d : ℕ) (g : Tree) → (own_row id d g).kind ≡ kind.Collection → collection (precision_of g) (ids_below g) (trees (members_below g)) ≡ g
 is_members id d (simple p (point o)) e = cc e
 is_members id d (simple p (line ps)) e = cc e
@@ -136,7 +136,7 @@ is_members id d (simple p (multi_line ids lines)) e = cc e
 is_members id d (simple p (multi_polygon ids areas)) e = cc e
 is_members id d (collection p ids gs) e = ap (λ hs. collection p ids hs) (trees-members gs)
 
--- no ring
+-- no geometry's row is a ring's
 pub is_no_ring : (id : Option ℤ) (d : ℕ) (g : Tree) → (own_row id d g).kind ≡ kind.Ring → ⊥
 is_no_ring id d (simple p (point o)) e = cc e
 is_no_ring id d (simple p (line ps)) e = cc e
@@ -146,44 +146,44 @@ is_no_ring id d (simple p (multi_line ids lines)) e = cc e
 is_no_ring id d (simple p (multi_polygon ids areas)) e = cc e
 is_no_ring id d (collection p ids gs) e = cc e
 
--- its precision
+-- the precision of a geometry's own row is the geometry's
 own_row-precision : (id : Option ℤ) (d : ℕ) (g : Tree) → (own_row id d g).precision ≡ Some (precision_of g)
 own_row-precision id d (simple p s) = refl
 own_row-precision id d (collection p ids gs) = refl
 
 -- ---- the row that is read
 
--- it is told of each row that may stand there
+-- this row was read, at a place where there is a row
 abbrev pub Told : List Row → ℕ → FlatRow → Type 0
 Told rows at row = (r : Row) (more : List Row) → drop at rows ≡ r ∷ more → row_with row r.points ≡ r
 
--- the rows of a geometry, its own first
+-- at the place of a geometry, its own row comes first
 pub own_here : (rows : List Row) (at d : ℕ) (id : Option ℤ) (g : Tree) (rest : List Row) → TreeAt rows at d id g rest → drop at rows ≡ own_row id d g ∷ (rows_under (suc d) g ++ rest)
 own_here rows at d id g rest it = it.here ∙ ap (λ rs. rs ++ rest) (own_row_first id d g)
 
--- it is the geometry's own
+-- the row read is the geometry's own
 read_own : (rows : List Row) (at d : ℕ) (id : Option ℤ) (g : Tree) (rest : List Row) (row : FlatRow) → TreeAt rows at d id g rest → Told rows at row → row_with row (own_row id d g).points ≡ own_row id d g
 read_own rows at d id g rest row it told = told (own_row id d g) (rows_under (suc d) g ++ rest) (own_here rows at d id g rest it)
 
--- so its kind is the geometry's
+-- the kind read is the geometry's
 pub read_kind : (rows : List Row) (at d : ℕ) (id : Option ℤ) (g : Tree) (rest : List Row) (row : FlatRow) → TreeAt rows at d id g rest → Told rows at row → row.kind ≡ (own_row id d g).kind
 read_kind rows at d id g rest row it told = ap (λ (r : Row). r.kind) (read_own rows at d id g rest row it told)
 
--- and its depth
+-- the depth read is the geometry's
 read_depth : (rows : List Row) (at d : ℕ) (id : Option ℤ) (g : Tree) (rest : List Row) (row : FlatRow) → TreeAt rows at d id g rest → Told rows at row → row.depth ≡ d
 read_depth rows at d id g rest row it told = ap (λ (r : Row). r.depth) (read_own rows at d id g rest row it told) ∙ own_row-depth id d g
 
--- and its precision
+-- the precision read is the geometry's
 pub read_precision : (rows : List Row) (at d : ℕ) (id : Option ℤ) (g : Tree) (rest : List Row) (row : FlatRow) → TreeAt rows at d id g rest → Told rows at row → row.precision ≡ Some (precision_of g)
 read_precision rows at d id g rest row it told = ap (λ (r : Row). r.precision) (read_own rows at d id g rest row it told) ∙ own_row-precision id d g
 
 -- ---- the rows below a geometry's own
 
--- behind its own row
+-- the rows after the geometry's own are those below it
 pub under_at : (rows : List Row) (at d : ℕ) (id : Option ℤ) (g : Tree) (rest : List Row) → TreeAt rows at d id g rest → drop (at + 1) rows ≡ rows_under (suc d) g ++ rest
 under_at rows at d id g rest it = drop_more rows at (own_row id d g) (rows_under (suc d) g ++ rest) (own_here rows at d id g rest it)
 
--- items at the next depth
+-- the items of a geometry are at the next depth
 each_below : {A : Type 0} (sound : A → Type 0) (f : ℕ → Option ℤ → A → List Row) (rows : List Row) (at d : ℕ) (id : Option ℤ) (g : Tree) (rest : List Row) (depth : ℕ) (ids : Ids) (xs : List A) → TreeAt rows at d id g rest → depth ≡ d → AllByRecursion sound xs → HasIds ids (length xs) → rows_under (suc d) g ≡ rows_of_each (f (suc d)) ids xs
     → EachAt sound (f (depth + 1)) rows (at + 1) (depth + 1) ids xs rest
 each_below sound f rows at d id g rest depth ids xs it e are fit under =
@@ -194,39 +194,39 @@ each_below sound f rows at d id g rest depth ids xs it e are fit under =
       here = under_at rows at d id g rest it ∙ ap (λ rs. rs ++ rest) under;
     })
 
--- any items
+-- every list has sound items if any item is sound
 all_any : {A : Type 0} (xs : List A) → AllByRecursion IsAny xs
 all_any [] = tt
 all_any (x ∷ xs) = (tt, all_any xs)
 
--- rings
+-- the rings of a polygon come after its own row
 pub rings_at : (rows : List Row) (at d : ℕ) (id : Option ℤ) (g : Tree) (rest : List Row) (row : FlatRow) → TreeAt rows at d id g rest → Told rows at row → row.kind ≡ kind.Polygon → EachAt IsAny (part_rows (λ (ps : List Point). ps) (λ k ps. []) kind.Ring (row.depth + 1)) rows (at + 1) (row.depth + 1) None (lines_below g) rest
 rings_at rows at d id g rest row it told k =
     let whole = is_polygon id d g (sym (read_kind rows at d id g rest row it told) ∙ k) in
     each_below IsAny (part_rows (λ (ps : List Point). ps) (λ k ps. []) kind.Ring) rows at d id g rest row.depth None (lines_below g) it (read_depth rows at d id g rest row it told) (all_any (lines_below g)) tt (ap (rows_under (suc d)) (sym whole))
 
--- points
+-- the points of a multipoint come after its own row
 pub points_at : (rows : List Row) (at d : ℕ) (id : Option ℤ) (g : Tree) (rest : List Row) (row : FlatRow) → TreeAt rows at d id g rest → Told rows at row → row.kind ≡ kind.MultiPoint → EachAt IsAny (part_rows (λ (p : Point). p ∷ []) (λ k p. []) kind.Point (row.depth + 1)) rows (at + 1) (row.depth + 1) (ids_below g) (points_below g) rest
 points_at rows at d id g rest row it told k =
     let whole = is_multi_point id d g (sym (read_kind rows at d id g rest row it told) ∙ k) in
     let sound = subst IsTree (sym whole) it.is_sound in
     each_below IsAny (part_rows (λ (p : Point). p ∷ []) (λ k p. []) kind.Point) rows at d id g rest row.depth (ids_below g) (points_below g) it (read_depth rows at d id g rest row it told) (all_any (points_below g)) sound.1 (ap (rows_under (suc d)) (sym whole))
 
--- linestrings
+-- the linestrings of a multilinestring come after its own row
 pub lines_at : (rows : List Row) (at d : ℕ) (id : Option ℤ) (g : Tree) (rest : List Row) (row : FlatRow) → TreeAt rows at d id g rest → Told rows at row → row.kind ≡ kind.MultiLinestring → EachAt IsAny (part_rows (λ (ps : List Point). ps) (λ k ps. []) kind.Linestring (row.depth + 1)) rows (at + 1) (row.depth + 1) (ids_below g) (lines_below g) rest
 lines_at rows at d id g rest row it told k =
     let whole = is_multi_line id d g (sym (read_kind rows at d id g rest row it told) ∙ k) in
     let sound = subst IsTree (sym whole) it.is_sound in
     each_below IsAny (part_rows (λ (ps : List Point). ps) (λ k ps. []) kind.Linestring) rows at d id g rest row.depth (ids_below g) (lines_below g) it (read_depth rows at d id g rest row it told) (all_any (lines_below g)) sound.1 (ap (rows_under (suc d)) (sym whole))
 
--- polygons
+-- the polygons of a multipolygon come after its own row
 pub areas_at : (rows : List Row) (at d : ℕ) (id : Option ℤ) (g : Tree) (rest : List Row) (row : FlatRow) → TreeAt rows at d id g rest → Told rows at row → row.kind ≡ kind.MultiPolygon → EachAt IsAny (part_rows (λ (rings : List (List Point)). []) ring_rows kind.Polygon (row.depth + 1)) rows (at + 1) (row.depth + 1) (ids_below g) (areas_below g) rest
 areas_at rows at d id g rest row it told k =
     let whole = is_multi_polygon id d g (sym (read_kind rows at d id g rest row it told) ∙ k) in
     let sound = subst IsTree (sym whole) it.is_sound in
     each_below IsAny (part_rows (λ (rings : List (List Point)). []) ring_rows kind.Polygon) rows at d id g rest row.depth (ids_below g) (areas_below g) it (read_depth rows at d id g rest row it told) (all_any (areas_below g)) sound.1 (ap (rows_under (suc d)) (sym whole))
 
--- the members are sound, and their ids fit
+-- the members of a geometry are geometries, and their ids fit
 sound_members : (g : Tree) → IsTree g → AllByRecursion IsTree (members_below g)
 sound_members (simple p (point o)) t = tt
 sound_members (simple p (line ps)) t = tt
@@ -236,7 +236,7 @@ sound_members (simple p (multi_line ids lines)) t = tt
 sound_members (simple p (multi_polygon ids areas)) t = tt
 sound_members (collection p ids gs) t = geometries_are gs t.2
 
--- a collection's
+-- the ids of a collection fit its members
 fit_members : (id : Option ℤ) (d : ℕ) (g : Tree) → (own_row id d g).kind ≡ kind.Collection → IsTree g → HasIds (ids_below g) (length (members_below g))
 fit_members id d (simple p (point o)) e t = cc e
 fit_members id d (simple p (line ps)) e t = cc e
@@ -246,14 +246,14 @@ fit_members id d (simple p (multi_line ids lines)) e t = cc e
 fit_members id d (simple p (multi_polygon ids areas)) e t = cc e
 fit_members id d (collection p ids gs) e t = subst (HasIds ids) (sym (length-members gs)) t.1
 
--- geometries
+-- the geometries of a collection come after its own row
 pub members_at : (rows : List Row) (at d : ℕ) (id : Option ℤ) (g : Tree) (rest : List Row) (row : FlatRow) → TreeAt rows at d id g rest → Told rows at row → row.kind ≡ kind.Collection → EachAt IsTree (λ i h. rows_with i (row.depth + 1) h) rows (at + 1) (row.depth + 1) (ids_below g) (members_below g) rest
 members_at rows at d id g rest row it told k =
     let is = sym (read_kind rows at d id g rest row it told) ∙ k in
     each_below IsTree (λ depth i h. rows_with i depth h) rows at d id g rest row.depth (ids_below g) (members_below g) it (read_depth rows at d id g rest row it told) (sound_members g it.is_sound) (fit_members id d g is it.is_sound)
     (ap (rows_under (suc d)) (sym (is_members id d g is)) ∙ sym (member_rows_each (suc d) (ids_below g) (members_below g)))
 
--- the rings of a polygon that is a part
+-- the rings of a polygon that is a part come after its own row
 pub part_rings_at : (rows : List Row) (at : ℕ) (k : Kind) (d : ℕ) (id : Option ℤ) (rings : List (List Point)) (rest : List Row) (row : FlatRow) → ItemAt IsAny (part_rows (λ (r : List (List Point)). []) ring_rows k d) rows at d id rings rest → Told rows at row
     → EachAt IsAny (part_rows (λ (ps : List Point). ps) (λ j ps. []) kind.Ring (row.depth + 1)) rows (at + 1) (row.depth + 1) None rings rest
 part_rings_at rows at k d id rings rest row it told =
@@ -267,19 +267,19 @@ part_rings_at rows at k d id rings rest row it told =
 
 -- ---- geometries without rows below their own
 
--- the first point
+-- the first point of a list, if there is one
 first_point : (ps : List Point) → slice_get ps 0 ≡ point_in ps
 first_point [] = refl
 first_point (p ∷ ps) = refl
 
--- a point
+-- a point is built from its row alone
 pub point_taken : (rows : List Row) (at d : ℕ) (id : Option ℤ) (g : Tree) (rest : List Row) (row : FlatRow) → TreeAt rows at d id g rest → Told rows at row → row.kind ≡ kind.Point → (o : Option Point) → o ≡ slice_get (own_row id d g).points 0
     → (simple (precision_of g) (point o) ≡ g) × (drop (at + 1) rows ≡ rest)
 point_taken rows at d id g rest row it told k o e =
     let whole = is_point id d g (sym (read_kind rows at d id g rest row it told) ∙ k) in
     (ap (λ q. simple (precision_of g) (point q)) (e ∙ first_point (own_row id d g).points) ∙ whole, under_at rows at d id g rest it ∙ ap (λ h. rows_under (suc d) h ++ rest) (sym whole))
 
--- a linestring
+-- a linestring is built from its row alone
 pub line_taken : (rows : List Row) (at d : ℕ) (id : Option ℤ) (g : Tree) (rest : List Row) (row : FlatRow) → TreeAt rows at d id g rest → Told rows at row → row.kind ≡ kind.Linestring → (ps : List Point) → ps ≡ (own_row id d g).points
     → (simple (precision_of g) (line ps) ≡ g) × (drop (at + 1) rows ≡ rest)
 line_taken rows at d id g rest row it told k ps e =
@@ -288,7 +288,7 @@ line_taken rows at d id g rest row it told k ps e =
 
 -- ---- the geometry of a precision and a shape
 
--- it may be made
+-- the precision and shape make a geometry
 pub fit_of : (o : Option ℤ) (p : ℤ) (shape : Shape) (g : Tree) → o ≡ Some p → AreOf o shape g → IsPrecision p × HasFitIds shape
 fit_of o p shape g e are =
     let both : Some p ≡ Some (precision_of g) = sym e ∙ are.precision_is in
@@ -296,9 +296,9 @@ fit_of o p shape g e are =
     let fit = fit-tree_of (precision_of g) shape (subst IsTree (sym are.shape_is) are.sound) in
     (subst IsPrecision (sym same) fit.0, fit.1)
 
--- ---- all rows
+-- ---- all rows of a form
 
--- the rows of one geometry, from the first
+-- the rows of one geometry begin at place 0
 pub all_at : (l : Allowance) (rs : List Row) → (rs ≡ [] → ⊥) → AreValidRowsOfOne l rs → (g : Tree) × IsValid l g × (rows 0 g ≡ rs) × TreeAt rs 0 0 None g []
 all_at l [] some v = absurd (some refl)
 all_at l (r ∷ rs) some v = (v.0, v.1, v.2, record { is_sound = v.1.tree; behind = tt; here = sym v.2 ∙ sym (append-nil (rows 0 v.0)) })

@@ -1,4 +1,4 @@
--- The walk along the open nodes, from the last to their parents.
+-- The walk along the open nodes, from the last one up through its parents.
 use Rattle.std.proofs.Common.{◌≡◌, ℕ, ◌+◌, ◌-◌, ◌<◌, ◌≤◌, List, [], ◌∷◌, map, length, take, set, get_or, refl, sym, ap, ◌∙◌, subst, arith}
 use Rattle.std.proofs.lemmas.List.{length-map, length-take-le, get_or-map, get_or-take, get_or_default}
 use Rattle.twkb_flat.specs.declared.entries.KeptNode.{KeptNode}
@@ -6,7 +6,7 @@ use Rattle.twkb_flat.specs.Links.{levels, OpenPlace, Linked, AreClosed, MayFollo
 use Rattle.twkb_flat.specs.Entries.{span_of, next_of, span_depth, depths_in, links_in}
 use Rattle.twkb_flat.proofs.LinkLemmas.{last_open, last_depth, up_from, up_less, none_closed, one_closed, link_kept}
 
--- as many depths
+-- there are as many depths as entries
 pub length-depths_in : (es : List KeptNode) → length (depths_in es) ≡ length es
 length-depths_in es = length-map _ _ ∙ length-map _ _
 
@@ -14,11 +14,11 @@ length-depths_in es = length-map _ _ ∙ length-map _ _
 pub depth_in : (es : List KeptNode) (i : ℕ) (e : KeptNode) → i < length es → e ≡ get_or es i e → get_or (depths_in es) i 0 ≡ e.span.row.depth
 depth_in es i e h is = get_or-map span_depth (map span_of es) i e.span 0 (rw length-map h) ∙ ap span_depth (get_or-map span_of es i e e.span h ∙ sym (ap span_of is))
 
--- its link
+-- the link of one entry
 pub link_in : (es : List KeptNode) (i : ℕ) (e : KeptNode) → i < length es → e ≡ get_or es i e → get_or (links_in es) i 0 ≡ e.next.0
 link_in es i e h is = get_or-map next_of es i e 0 h ∙ sym (ap next_of is)
 
--- an open row stands at a place, at this depth or below it
+-- there is an open row at a place, at this depth or below it
 pub record Rising (es : List KeptNode) (depth at : ℕ) : Type 0 where
   pub stands : OpenPlace (depths_in es) (get_or (depths_in es) at 0) at
   pub below : depth ≤ get_or (depths_in es) at 0
@@ -27,18 +27,18 @@ pub record Rising (es : List KeptNode) (depth at : ℕ) : Type 0 where
 pub rising_within : (es : List KeptNode) (depth at : ℕ) → Rising es depth at → at < length es
 rising_within es depth at rising = omega (arith, rising.stands.within, length-depths_in es)
 
--- where rows are open there is an entry
+-- there is an entry if a row is open
 pub some_entry : (es : List KeptNode) (depth : ℕ) → depth < levels (depths_in es) → 0 < length es
 some_entry [] depth h = absurd (omega (arith, h))
 some_entry (e ∷ es) depth h = omega arith
 
--- the last
+-- the walk begins at the last row
 pub rising_last : (es : List KeptNode) (depth at : ℕ) → at + 1 ≡ length es → depth < levels (depths_in es) → Rising es depth at
 rising_last es depth at last within =
     let end : at + 1 ≡ length (depths_in es) = omega (arith, last, length-depths_in es) in
     record { stands = last_open (depths_in es) at end; below = omega (arith, within, last_depth (depths_in es) at end) }
 
--- its parent
+-- the walk goes on to the parent of an open row
 pub rising_up : (es : List KeptNode) (depth at : ℕ) (e : KeptNode) → Linked (depths_in es) (links_in es) → Rising es depth at → at < length es → e ≡ get_or es at e → depth < e.span.row.depth → Rising es depth e.next.0 × (e.next.0 < at)
 rising_up es depth at e linked rising h is deeper =
     let ds = depths_in es in
@@ -49,20 +49,20 @@ rising_up es depth at e linked rising h is deeper =
     let found = subst (λ (k : ℕ). Rising es depth k × (k < at)) (link_in es at e h is) in
     found (record { stands = subst (λ (d : ℕ). OpenPlace ds d (get_or (links_in es) at 0)) (sym up.depth) up; below = omega (arith, up.depth, here, deeper) }, less)
 
--- where it is no deeper
+-- the walk has reached the open row at this depth
 pub rising_there : (es : List KeptNode) (depth at : ℕ) (e : KeptNode) → Rising es depth at → at < length es → e ≡ get_or es at e → e.span.row.depth ≤ depth → OpenPlace (depths_in es) depth at
 rising_there es depth at e rising h is shallow =
     let here = depth_in es at e h is in
     subst (λ (d : ℕ). OpenPlace (depths_in es) d at) (omega (arith, here, shallow, rising.below)) rising.stands
 
--- the entries so far: of the first `next` the open ones below the one at a place are closed
+-- the entries so far: among the first `next`, the open ones below the one at the place are closed
 pub record Closing (before es : List KeptNode) (depth at next : ℕ) : Type 0 where
   pub spans : map span_of es ≡ map span_of before
   pub stands : OpenPlace (take next (depths_in before)) (get_or (take next (depths_in before)) at 0) at
   pub above : depth ≤ get_or (take next (depths_in before)) at 0 + 1
   pub closed : AreClosed (take next (depths_in before)) (take next (links_in before)) (links_in es) (get_or (take next (depths_in before)) at 0 + 1) next
 
--- from the last on
+-- at the last row nothing is closed yet
 pub closing_last : (es : List KeptNode) (depth at next : ℕ) → at + 1 ≡ next → next ≤ length es → MayFollow (take next (depths_in es)) depth → Closing es es depth at next
 closing_last es depth at next last within place =
     let ds = take next (depths_in es) in
@@ -83,15 +83,15 @@ pub closing_within : (before es : List KeptNode) (depth at next : ℕ) → Closi
 closing_within before es depth at next so_far within =
     omega (arith, within, so_far.stands.within, length-take-le next (depths_in before) (omega (arith, within, length-depths_in before)), length-map es span_of, length-map before span_of, ap length so_far.spans)
 
--- an entry that was read
+-- the entry read is the one at the place
 pub read_here : (es : List KeptNode) (at : ℕ) (blank : KeptNode) → at < length es → get_or es at blank ≡ get_or es at (get_or es at blank)
 read_here es at blank h = get_or_default es at blank (get_or es at blank) h
 
--- the depth of an entry of the first ones
+-- the depth of one of the first entries
 early_depth : (before es : List KeptNode) (at next : ℕ) (e : KeptNode) → map span_of es ≡ map span_of before → at < next → at < length es → e ≡ get_or es at e → get_or (take next (depths_in before)) at 0 ≡ e.span.row.depth
 early_depth before es at next e spans early h is = get_or-take next (depths_in before) at 0 early ∙ ap (λ ss. get_or (map span_depth ss) at 0) (sym spans) ∙ depth_in es at e h is
 
--- its parent comes next
+-- one more row is closed, and its parent comes next
 pub record Closed (before es : List KeptNode) (depth at next up : ℕ) : Type 0 where
   pub now : Closing before es depth up next
   pub less : up < at
@@ -120,7 +120,7 @@ closing_up before es after depth at next e linked place some within so_far h is 
     } in
     record { now = subst (λ (k : ℕ). Closing before after depth k next) (sym kept) now; less = omega (arith, kept, less) }
 
--- where the walk ends
+-- the walk ends at this row
 pub record Done (before es : List KeptNode) (depth at next : ℕ) : Type 0 where
   pub closed : AreClosed (take next (depths_in before)) (take next (links_in before)) (links_in es) depth next
   pub above : (e : ℕ) → depth ≡ e + 1 → OpenPlace (take next (depths_in before)) e at

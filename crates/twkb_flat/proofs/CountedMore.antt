@@ -5,11 +5,10 @@ use Rattle.std.proofs.lemmas.List.{with_items_is, length-append, length-map}
 use Rattle.twkb_points.specs.Point.{Point, AreInRange}
 use Rattle.twkb_tree.specs.Limits.{largest_limits}
 use Rattle.twkb_tree.specs.Rows.{Row as TableRow, row_points}
-use Rattle.twkb_tree.specs.RowGrowth.{point_added}
+use Rattle.twkb_tree.specs.RowGrowth.{point_added, points_added}
 use Rattle.twkb_tree.specs.RowLists.{AreValidRowsOfOne}
 use Rattle.twkb_flat.specs.declared.entries.PlacedRow.{PlacedRow}
 use Rattle.twkb_flat.specs.declared.entries.KeptNode.{KeptNode}
-use Rattle.twkb_flat.specs.Adding.{points_added}
 use Rattle.twkb_flat.specs.Links.{Linked}
 use Rattle.twkb_flat.specs.Entries.{Laid, LastHasRoomFor, last_longer, last_longer_by, links_in, listed, longer_by, next_of, span_depth, depths_in, span_of}
 use Rattle.twkb_flat.proofs.CountedPoints.{StandFor, HasCounted, one_more, rows_have}
@@ -27,7 +26,7 @@ last_room_for n (e ∷ f ∷ es) (suc i) d at h = last_room_for n (f ∷ es) i d
 pub last_fits_for : (n : ℕ) (es : List KeptNode) (i : ℕ) (d : KeptNode) → i + 1 ≡ length es → LastHasRoomFor n es → Fits w32 ((get_or es i d).span.points + n)
 last_fits_for n es i d at h = let few : (get_or es i d).span.points + n < 2 ^ 32 = last_room_for n es i d at h in search rules
 
--- the entry with so many points more
+-- the entry with this many more points
 abbrev pub entry_longer_by : ℕ → KeptNode → KeptNode
 entry_longer_by n e = record { span = longer_by n e.span; next = e.next }
 
@@ -43,22 +42,22 @@ same_links_by n [] i d = refl
 same_links_by n (e ∷ es) zero d = refl
 same_links_by n (e ∷ es) (suc i) d = ap (λ (ns : List ℕ). e.next.0 ∷ ns) (same_links_by n es i d)
 
--- where there are few points the last entry has few
+-- the last entry has few points if all entries together have few
 laid_room_for : (n at total : ℕ) (es : List KeptNode) → Laid at (map span_of es) total → total + n < 2 ^ 32 → LastHasRoomFor n es
 laid_room_for n at total [] laid few = tt
 laid_room_for n at total (e ∷ []) (first, last) few = omega (arith, last)
 laid_room_for n at total (e ∷ f ∷ es) (first, rest) few = laid_room_for n (at + e.span.points) total (f ∷ es) rest few
 
--- there is a last entry, and it can count so many more
+-- there is a last entry, and it can count this many more points
 pub can_count_more : (n : ℕ) (rows : List TableRow) (es was : List KeptNode) (ps : List Point) → StandFor rows es ps → length (row_points rows) + n ≤ 2 ^ 24 → was ≡ es → (0 < length was) × LastHasRoomFor n was
 can_count_more n rows es was ps s room is = (
   omega (arith, ap (λ (xs : List KeptNode). length xs) is, (point_fits es ps rows s.flat s.view s.line).0),
   subst (LastHasRoomFor n) (sym is) (laid_room_for n 0 (length ps) es s.flat.laid (omega (arith, room, rows_have rows es ps s))),
 )
 
--- ---- one by one
+-- ---- points counted one by one
 
--- the last entry counts one more
+-- the entries with one more point counted in the last one
 count_last : List KeptNode → List KeptNode
 count_last [] = []
 count_last (e ∷ []) = entry_longer e ∷ []
@@ -76,7 +75,7 @@ counted_links [] = refl
 counted_links (e ∷ []) = refl
 counted_links (e ∷ f ∷ es) = ap (λ (ns : List ℕ). e.next.0 ∷ ns) (counted_links (f ∷ es))
 
--- so many and one more
+-- counting n and then one is counting n + 1
 longer_more : (n : ℕ) (ss : List PlacedRow) → last_longer_by (suc n) ss ≡ last_longer_by n (last_longer ss)
 longer_more n [] = refl
 longer_more n (s ∷ []) = ap (λ (k : ℕ). record { row = s.row; first = s.first; points = k } ∷ []) (let e : s.points + suc n ≡ s.points + 1 + n = omega arith in e)
@@ -86,7 +85,7 @@ longer_more n (s ∷ t ∷ ss) = ap (λ (rs : List PlacedRow). s ∷ rs) (longer
     on_top n s t [] = refl
     on_top n s t (r ∷ ss) = refl
 
--- none more
+-- counting no more points changes nothing
 longer_none : (ss : List PlacedRow) → last_longer_by 0 ss ≡ ss
 longer_none [] = refl
 longer_none (s ∷ []) = ap (λ (k : ℕ). record { row = s.row; first = s.first; points = k } ∷ []) (let e : s.points + 0 ≡ s.points = omega arith in e)
@@ -109,7 +108,7 @@ same_stand rows es after ps s spans links =
       line = s.line;
     }
 
--- Points that are appended, and counted together.
+-- Points are appended, and counted together.
 pub points_more : (more : List Point) (rows : List TableRow) (es after : List KeptNode) (ps all : List Point)
     → StandFor rows es ps → length (row_points rows) + length more ≤ 2 ^ 24 → AreInRange more
     → map span_of after ≡ last_longer_by (length more) (map span_of es) → links_in after ≡ links_in es → all ≡ ps ++ more → StandFor (points_added more rows) after all
@@ -125,7 +124,7 @@ points_more (p ∷ more) rows es after ps all s room within spans links appended
     (spans ∙ longer_more (length more) (map span_of es) ∙ ap (last_longer_by (length more)) (sym (counted_spans es)))
     (links ∙ sym (counted_links es)) (appended ∙ sym (append_assoc ps (p ∷ []) more))
 
--- entries counted in the slice of a vector stand in the vector
+-- entries changed in a vector's slice are the entries of the vector
 pub vec_counted_by : {Z : Type 0} (n : ℕ) (v : Vec KeptNode Z) (was after : List KeptNode) → was ≡ v.items → map span_of after ≡ last_longer_by n (map span_of was) → links_in after ≡ links_in was
     → (map span_of (with_items v after).items ≡ last_longer_by n (map span_of v.items)) × (links_in (with_items v after).items ≡ links_in v.items)
 vec_counted_by n v was after is spans links =

@@ -11,13 +11,13 @@ use Rattle.twkb_flat.specs.Entries.{IsFlat, LastHasRoom, last_longer, links_in, 
 use Rattle.twkb_flat.proofs.RowLemmas.{flat_points}
 use Rattle.twkb_flat.proofs.LastPoint.{point_fits, point_flat, point_valid, point_view}
 
--- entries and points stand for these rows, the last of which is a linestring's or ring's
+-- entries and points stand for these rows, the last of which is that of a linestring or a ring
 pub record StandFor (rows : List TableRow) (es : List KeptNode) (ps : List Point) : Type 0 where
   pub flat : IsFlat es ps
   pub view : listed (map span_of es) ps ≡ rows
   pub line : EndsInLine rows
 
--- the last entry has a point more
+-- the last entry counts one more point
 pub record HasCounted (es after : List KeptNode) : Type 0 where
   pub spans : map span_of after ≡ last_longer (map span_of es)
   pub links : links_in after ≡ links_in es
@@ -26,18 +26,18 @@ pub record HasCounted (es after : List KeptNode) : Type 0 where
 pub rows_have : (rows : List TableRow) (es : List KeptNode) (ps : List Point) → StandFor rows es ps → length (row_points rows) ≡ length ps
 rows_have rows es ps s = ap (λ (rs : List TableRow). length (row_points rs)) (sym s.view) ∙ ap (λ (qs : List Point). length qs) (flat_points (map span_of es) ps s.flat.laid)
 
--- the rows end in a line as before
+-- the rows end in a line, as before
 still_line : (p : Point) (rows : List TableRow) → EndsInLine rows → EndsInLine (point_added p rows)
 still_line p rows e = record { front = e.front; last = with_point e.last p; line = e.line; whole = ap (point_added p) e.whole ∙ point_last p e.front e.last }
 
--- entries counted in the slice of a vector stand in the vector
+-- entries changed in a vector's slice are the entries of the vector
 pub vec_counted : {Z : Type 0} (v : Vec KeptNode Z) (was after : List KeptNode) → was ≡ v.items → map span_of after ≡ last_longer (map span_of was) → links_in after ≡ links_in was → HasCounted v.items (with_items v after).items
 vec_counted v was after is spans links =
     let same : length after ≡ v.len = sym (length-map after next_of) ∙ (ap (λ (ns : List ℕ). length ns) links ∙ (length-map was next_of ∙ (ap (λ (es : List KeptNode). length es) is ∙ sym v.ok.0))) in
     subst (HasCounted v.items) (sym (with_items_is v after same))
     (record { spans = spans ∙ ap (λ (es : List KeptNode). last_longer (map span_of es)) is; links = links ∙ ap links_in is })
 
--- one point more
+-- one more point is appended and counted
 pub one_more : (rows : List TableRow) (es after : List KeptNode) (ps more : List Point) (p : Point)
     → StandFor rows es ps → length (row_points rows) < 2 ^ 24 → IsInRange p → HasCounted es after → more ≡ ps ++ p ∷ [] → StandFor (point_added p rows) after more
 one_more rows es after ps more p s room within counted appended = subst (StandFor (point_added p rows) after) (sym appended) (record {
@@ -46,7 +46,7 @@ one_more rows es after ps more p s room within counted appended = subst (StandFo
   line = still_line p rows s.line;
 })
 
--- two points more
+-- two more points are appended and counted
 pub two_more : (rows : List TableRow) (es mid after : List KeptNode) (ps one both : List Point) (p q : Point)
     → StandFor rows es ps → length (row_points rows) + 2 ≤ 2 ^ 24 → IsInRange p → IsInRange q → HasCounted es mid → HasCounted mid after → one ≡ ps ++ p ∷ [] → both ≡ one ++ q ∷ []
     → StandFor (point_added q (point_added p rows)) after both
@@ -56,6 +56,6 @@ two_more rows es mid after ps one both p q s room p_within q_within first second
     let longer : length (row_points (point_added p rows)) < 2 ^ 24 = omega (arith, room, total, rows_have rows es ps s, rows_have (point_added p rows) mid one middle) in
     one_more (point_added p rows) mid after one both q middle longer q_within second appended_too
 
--- the last entry can count one more
+-- the last entry can count one more point
 pub can_count : (rows : List TableRow) (es was : List KeptNode) (ps : List Point) → StandFor rows es ps → was ≡ es → LastHasRoom was
 can_count rows es was ps s is = subst LastHasRoom (sym is) (point_fits es ps rows s.flat s.view s.line).1

@@ -23,15 +23,15 @@ AreFlatRows rs = AreValidRowsOfOne largest_limits rs
 
 -- ---- one row
 
--- a row that goes on may be pushed
+-- a row that comes next may be pushed
 pub may_push : (old : List Row) (r : Row) (more : List Row) → AreFlatRows (old ++ r ∷ more) → Continues largest_limits old r
 may_push old r more v = continues_row largest_limits old r (one_valid_front largest_limits (old ++ r ∷ []) more (subst AreFlatRows (sym (append_assoc old (r ∷ []) more)) v))
 
--- and then the others go on
+-- after it the other rows come next
 pub others_go_on : (old : List Row) (r : Row) (more now : List Row) → AreFlatRows (old ++ r ∷ more) → now ≡ old ++ r ∷ [] → AreFlatRows (now ++ more)
 others_go_on old r more now v e = subst AreFlatRows (sym (append_assoc old (r ∷ []) more) ∙ ap (λ rs. rs ++ more) (sym e)) v
 
--- a row in a list of shallow ones
+-- a row in a list of shallow rows is shallow
 shallow_at : (n : ℕ) (old : List Row) (r : Row) (more : List Row) → AreShallow n (old ++ r ∷ more) → r.depth ≤ n
 shallow_at n [] r more h = h.0
 shallow_at n (s ∷ old) r more h = shallow_at n old r more h.1
@@ -42,19 +42,19 @@ no_deeper old r more v = shallow_at 34 old r more (valid_depths largest_limits (
 
 -- ---- members, one after another
 
--- the rows of the members before the place i stand behind the old ones
+-- the rows of the members before place i come after the old rows
 pub record HasRows {A : Type 0} (f : Option ℤ → A → List Row) (ids : Ids) (xs : List A) (i index : ℕ) (old now : List Row) : Type 0 where
   pub place : index ≡ i
   pub rows : now ++ rows_of_each f (ids_from i ids) (drop i xs) ≡ old ++ rows_of_each f ids xs
 
--- at the first
+-- before the first member there are only the old rows
 pub has_rows_none : {A : Type 0} (f : Option ℤ → A → List Row) (ids : Ids) (xs : List A) (old : List Row) → HasRows f ids xs 0 0 old old
 has_rows_none f ids xs old = record {
   place = refl;
   rows = ap (λ (js : Ids). old ++ rows_of_each f js xs) (ids_from_start ids);
 }
 
--- the next member's rows, and the others
+-- the rows of the next member, and those of the members after it
 next_rows : {A : Type 0} (f : Option ℤ → A → List Row) (ids : Ids) (xs : List A) (i index : ℕ) (x : A) (id : Option ℤ) (old now : List Row) → HasRows f ids xs i index old now → i < length xs → x ≡ get_or xs i x → id ≡ first_id (ids_from index ids)
     → now ++ (f id x ++ rows_of_each f (ids_from (i + 1) ids) (drop (i + 1) xs)) ≡ old ++ rows_of_each f ids xs
 next_rows f ids xs i index x id old now has within read eid =
@@ -62,14 +62,14 @@ next_rows f ids xs i index x id old now has within read eid =
     ap (λ j. now ++ (f j x ++ rows_of_each f (ids_from (i + 1) ids) (drop (i + 1) xs))) first
     ∙ ap (λ rs. now ++ rs) (sym (each_next f ids xs i x within read)) ∙ has.rows
 
--- the next member goes on
+-- the rows of the next member come next
 pub next_goes_on : {A : Type 0} (f : Option ℤ → A → List Row) (ids : Ids) (xs : List A) (i index : ℕ) (x : A) (id : Option ℤ) (old now : List Row) → AreFlatRows (old ++ rows_of_each f ids xs) → HasRows f ids xs i index old now → i < length xs → x ≡ get_or xs i x → id ≡ first_id (ids_from index ids)
     → AreFlatRows (now ++ f id x)
 next_goes_on f ids xs i index x id old now v has within read eid =
     let rest : List Row = rows_of_each f (ids_from (i + 1) ids) (drop (i + 1) xs) in
     one_valid_front largest_limits (now ++ f id x) rest (subst AreFlatRows (sym (next_rows f ids xs i index x id old now has within read eid) ∙ sym (append_assoc now (f id x) rest)) v)
 
--- with the next member's rows
+-- the rows of the next member are appended
 pub has_rows_more : {A : Type 0} (f : Option ℤ → A → List Row) (ids : Ids) (xs : List A) (i index : ℕ) (x : A) (id : Option ℤ) (old now after : List Row) → HasRows f ids xs i index old now → i < length xs → x ≡ get_or xs i x → id ≡ first_id (ids_from index ids)
     → after ≡ now ++ f id x → HasRows f ids xs (i + 1) (index + 1) old after
 has_rows_more f ids xs i index x id old now after has within read eid put = record {
@@ -80,45 +80,45 @@ has_rows_more f ids xs i index x id old now after has within read eid put = reco
       ∙ next_rows f ids xs i index x id old now has within read eid;
 }
 
--- all members' rows
+-- the rows of all members are appended
 pub has_rows_all : {A : Type 0} (f : Option ℤ → A → List Row) (ids : Ids) (xs : List A) (i index : ℕ) (old now : List Row) → HasRows f ids xs i index old now → length xs ≤ i → now ≡ old ++ rows_of_each f ids xs
 has_rows_all f ids xs i index old now has done = sym (append-nil now) ∙ ap (λ ys. now ++ rows_of_each f (ids_from i ids) ys) (sym (drop_all i xs done)) ∙ has.rows
 
 -- ---- a part
 
--- its own row may be pushed
+-- the part's own row may be pushed
 pub part_may_push : {A : Type 0} (own : A → List Point) (below : ℕ → A → List Row) (k : Kind) (d : ℕ) (id : Option ℤ) (x : A) (ps : List Point) (now : List Row) → AreFlatRows (now ++ part_rows own below k d id x) → ps ≡ own x → Continues largest_limits now (plain_row d k id ps)
 part_may_push own below k d id x ps now v e = subst (λ (qs : List Point). Continues largest_limits now (plain_row d k id qs)) (sym e) (may_push now (plain_row d k id (own x)) (below (suc d) x) v)
 
--- then the rows below it go on
+-- after its own row the rows below it come next
 pub part_goes_on : {A : Type 0} (own : A → List Point) (below : ℕ → A → List Row) (k : Kind) (d : ℕ) (id : Option ℤ) (x : A) (ps : List Point) (now after : List Row) → AreFlatRows (now ++ part_rows own below k d id x) → ps ≡ own x → after ≡ now ++ plain_row d k id ps ∷ [] → AreFlatRows (after ++ below (d + 1) x)
 part_goes_on own below k d id x ps now after v e pushed =
     subst (λ j. AreFlatRows (after ++ below j x)) (sym (add-one d))
     (others_go_on now (plain_row d k id (own x)) (below (suc d) x) after v (pushed ∙ ap (λ (qs : List Point). now ++ plain_row d k id qs ∷ []) e))
 
--- and then all its rows were pushed
+-- with the rows below it, all rows of the part are pushed
 pub part_pushed : {A : Type 0} (own : A → List Point) (below : ℕ → A → List Row) (k : Kind) (d : ℕ) (id : Option ℤ) (x : A) (ps : List Point) (now after last : List Row) → ps ≡ own x → after ≡ now ++ plain_row d k id ps ∷ [] → last ≡ after ++ below (d + 1) x → last ≡ now ++ part_rows own below k d id x
 part_pushed own below k d id x ps now after last e pushed all =
     all ∙ ap (λ j. after ++ below j x) (add-one d) ∙ ap (λ rs. rs ++ below (suc d) x) (pushed ∙ ap (λ (qs : List Point). now ++ plain_row d k id qs ∷ []) e)
     ∙ append_assoc now (plain_row d k id (own x) ∷ []) (below (suc d) x)
 
--- a part stands no deeper than 34
+-- a part is no deeper than 34
 pub part_no_deeper : {A : Type 0} (own : A → List Point) (below : ℕ → A → List Row) (k : Kind) (d : ℕ) (id : Option ℤ) (x : A) (now : List Row) → AreFlatRows (now ++ part_rows own below k d id x) → d ≤ 34
 part_no_deeper own below k d id x now v = no_deeper now (plain_row d k id (own x)) (below (suc d) x) v
 
 -- ---- a geometry
 
--- its own row may be pushed
+-- the geometry's own row may be pushed
 pub own_may_push : (id : Option ℤ) (d : ℕ) (g : Tree) (r : Row) (old : List Row) → AreFlatRows (old ++ rows_with id d g) → r ≡ own_row id d g → Continues largest_limits old r
 own_may_push id d g r old v e = subst (Continues largest_limits old) (sym e) (may_push old (own_row id d g) (rows_under (suc d) g) (subst (λ rs. AreFlatRows (old ++ rs)) (own_row_first id d g) v))
 
--- then the rows under it go on
+-- after its own row the rows under it come next
 pub under_goes_on : (id : Option ℤ) (d : ℕ) (g : Tree) (r : Row) (old now : List Row) → AreFlatRows (old ++ rows_with id d g) → r ≡ own_row id d g → now ≡ old ++ r ∷ [] → AreFlatRows (now ++ rows_under (d + 1) g)
 under_goes_on id d g r old now v e pushed =
     subst (λ j. AreFlatRows (now ++ rows_under j g)) (sym (add-one d))
     (others_go_on old (own_row id d g) (rows_under (suc d) g) now (subst (λ rs. AreFlatRows (old ++ rs)) (own_row_first id d g) v) (pushed ∙ ap (λ q. old ++ q ∷ []) e))
 
--- and then all its rows were pushed, where the rows under it were
+-- with the rows under it, all rows of the geometry are pushed
 pub all_pushed : {T E : Type 0} (result : Result T E) (id : Option ℤ) (d : ℕ) (g : Tree) (r : Row) (old now last : List Row) → r ≡ own_row id d g → now ≡ old ++ r ∷ [] → OnOk result (last ≡ now ++ rows_under (d + 1) g) → OnOk result (last ≡ old ++ rows_with id d g)
 all_pushed result id d g r old now last e pushed told =
     subst (λ rs. OnOk result (last ≡ rs))
@@ -126,28 +126,28 @@ all_pushed result id d g r old now last e pushed told =
     ∙ ap (λ q. old ++ q ∷ rows_under (suc d) g) e ∙ ap (λ rs. old ++ rs) (sym (own_row_first id d g)))
     told
 
--- a geometry stands no deeper than 34
+-- a geometry is no deeper than 34
 pub own_no_deeper : (id : Option ℤ) (d : ℕ) (g : Tree) (old : List Row) → AreFlatRows (old ++ rows_with id d g) → d ≤ 34
 own_no_deeper id d g old v = subst (λ e. e ≤ 34) (own_row-depth id d g) (no_deeper old (own_row id d g) (rows_under (suc d) g) (subst (λ rs. AreFlatRows (old ++ rs)) (own_row_first id d g) v))
 
--- the rows under it, by what they are
+-- the rows under a geometry, by their definition
 pub under_valid : (d : ℕ) (g : Tree) (under old : List Row) → AreFlatRows (old ++ rows_under d g) → under ≡ rows_under d g → AreFlatRows (old ++ under)
 under_valid d g under old v e = subst (λ rs. AreFlatRows (old ++ rs)) (sym e) v
 
--- and pushed
+-- the rows under a geometry are pushed
 pub under_pushed : {T E : Type 0} (result : Result T E) (d : ℕ) (g : Tree) (under old last : List Row) → under ≡ rows_under d g → OnOk result (last ≡ old ++ under) → OnOk result (last ≡ old ++ rows_under d g)
 under_pushed result d g under old last e told = subst (λ rs. OnOk result (last ≡ old ++ rs)) e told
 
--- a point or a line has none
+-- a point or a linestring has no rows under it
 pub none_under : (d : ℕ) (p : ℤ) (shape : Shape) (g : Tree) (old : List Row) → tree_of p shape ≡ g → ((o : Option Point) × (shape ≡ Shape.Point o)) ⊎ ((ps : List Point) × (shape ≡ Shape.Line ps)) → old ≡ old ++ rows_under d g
 none_under d p shape g old whole (inl (o, e)) = sym (append-nil old) ∙ ap (λ rs. old ++ rs) (under_shape d p shape (Shape.Point o) g whole e)
 none_under d p shape g old whole (inr (ps, e)) = sym (append-nil old) ∙ ap (λ rs. old ++ rs) (under_shape d p shape (Shape.Line ps) g whole e)
 
--- members by their lists
+-- the rows of members, as lists
 pub members_valid : (d : ℕ) (ids : Ids) (gs hs : List Tree) (old : List Row) → hs ≡ gs → AreFlatRows (old ++ member_rows d ids (trees gs)) → AreFlatRows (old ++ rows_of_each (λ id g. rows_with id d g) ids hs)
 members_valid d ids gs hs old e v = subst (λ rs. AreFlatRows (old ++ rs)) (sym (member_rows_each d ids hs ∙ ap (λ ks. member_rows d ids (trees ks)) e)) v
 
--- a geometry that is no collection has no members
+-- a geometry that is not a collection has no members
 pub is_simple : (p : ℤ) (shape : Shape) (g : Tree) → tree_of p shape ≡ g → ((gs : List Tree) (ids : Ids) → shape ≡ Shape.Collection gs ids → ⊥) → IsSimple g
 is_simple p (Shape.Point o) g whole none = subst IsSimple whole tt
 is_simple p (Shape.Line ps) g whole none = subst IsSimple whole tt

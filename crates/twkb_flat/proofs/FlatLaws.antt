@@ -1,4 +1,4 @@
--- What rows of a flat form are, and what determines its nodes.
+-- What is true of the rows of a flat form, and what determines its nodes.
 use Rattle.std.proofs.Common.{◌≡◌, ℕ, ◌+◌, ◌≤◌, ◌^◌, List, [], ◌∷◌, ◌++◌, length, Option, None, sym, ap, ◌∙◌, arith, inl, inr}
 use Rattle.std.specs.Prelude.{ℤ}
 use Rattle.std.proofs.lemmas.Bool.{cases_lt}
@@ -20,7 +20,7 @@ use Rattle.twkb_flat.specs.Rows.{IsNode, row_with, depths}
 
 -- ---- caps
 
--- no more rows than are allowed
+-- there are at most as many rows as allowed
 pub few_nodes : (rs : List TableRow) → AreValidRowsOfOne largest_limits rs → length rs ≤ 2 ^ 20
 few_nodes [] v = omega arith
 few_nodes (r ∷ rs) v =
@@ -28,7 +28,7 @@ few_nodes (r ∷ rs) v =
     let kept = v.1.nodes_kept in
     omega (arith, same, kept, length-rows_with None 0 v.0)
 
--- no more points
+-- there are at most as many points as allowed
 pub few_points : (rs : List TableRow) → AreValidRowsOfOne largest_limits rs → length (row_points rs) ≤ 2 ^ 24
 few_points [] v = omega arith
 few_points (r ∷ rs) v =
@@ -38,12 +38,12 @@ few_points (r ∷ rs) v =
 
 -- ---- every geometry
 
--- its rows are the rows of one valid geometry
+-- the rows of a valid geometry are the rows of one valid geometry
 rows_of_valid : (g : Tree) (rs : List TableRow) → IsValid largest_limits g → rows 0 g ≡ rs → AreValidRowsOfOne largest_limits rs
 rows_of_valid g [] v e = tt
 rows_of_valid g (r ∷ rs) v e = (g, v, e)
 
--- each of its rows goes on with those before it
+-- each row of a geometry comes next after those before it
 pub each_goes_on : (g : Tree) (front : List TableRow) (r : TableRow) (more : List TableRow) → IsValid largest_limits g → rows 0 g ≡ front ++ r ∷ more → Continues largest_limits front r
 each_goes_on g front r more v e =
     let all = rows_of_valid g ((front ++ r ∷ []) ++ more) v (e ∙ sym (append_assoc front (r ∷ []) more)) in
@@ -51,7 +51,7 @@ each_goes_on g front r more v e =
 
 -- ---- one node
 
--- the place behind a subtree is one
+-- a subtree has one place after it
 one_next : (ds : List ℕ) (i m n : ℕ) → IsNext ds i m → IsNext ds i n → m ≡ n
 one_next ds i m n a b =
     elim (cases_lt m n) [
@@ -70,11 +70,11 @@ one_next ds i m n a b =
       ]
     ]
 
--- the first rows of two lists that are one
+-- equal lists have equal first rows and equal rests
 heads : (x y : TableRow) (xs ys : List TableRow) → x ∷ xs ≡ y ∷ ys → x ≡ y
 heads x y xs ys e = cc e
 
--- the row of a row with points
+-- rows with points are equal only if the rows and the points are
 row_is : (a b : Row) (ps qs : List Point) → row_with a ps ≡ row_with b qs → a ≡ b
 row_is a b ps qs e =
     let depth : a.depth ≡ b.depth = ap (λ (r : TableRow). r.depth) e in
@@ -86,11 +86,11 @@ row_is a b ps qs e =
     ∙ ap (λ (o : Option ℤ). record { depth = b.depth; kind = b.kind; id = o; precision = a.precision }) id
     ∙ ap (λ (o : Option ℤ). record { depth = b.depth; kind = b.kind; id = b.id; precision = o }) precision
 
--- a node of its parts
+-- a node made of its parts
 abbrev node_of : Row → ℕ → ℕ → ℕ → Node
 node_of row next first points = record { row = row; next = record { 0 = next }; first = record { 0 = first }; points = points }
 
--- the node at a place is one
+-- the node at a place is determined
 pub same_node : (rs : List TableRow) (i : ℕ) (m n : Node) → IsNode rs i m → IsNode rs i n → m ≡ n
 same_node rs i m n a b =
     let here = heads (row_with m.row a.own) (row_with n.row b.own) a.rest b.rest (sym a.here ∙ b.here) in
@@ -106,6 +106,6 @@ same_node rs i m n a b =
 
 -- ---- counters
 
--- a counter that has stopped stays
+-- a counter that has stopped stays where it is
 pub reads_join : (n more : ℕ) → saturated (saturated n + more) ≡ saturated (n + more)
 reads_join n more = omega arith

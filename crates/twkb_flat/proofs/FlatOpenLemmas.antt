@@ -18,23 +18,23 @@ use Rattle.twkb_flat.proofs.ReadLemmas.{some_at}
 use Rattle.twkb_flat.proofs.LinkLemmas.{last_depth}
 use Rattle.twkb_flat.proofs.OpenPlaceLemmas.{open_there}
 
--- ---- how many are open
+-- ---- the number of open rows
 
--- the last row tells it
+-- the last row gives the number of open rows
 count_onto : (r : TableRow) (rest before : List TableRow) → open_count (reverse_aux (r ∷ rest) before) ≡ levels (depths (r ∷ rest))
 count_onto r [] before = omega arith
 count_onto r (s ∷ rest) before = count_onto s rest (r ∷ before)
 
--- of all rows
+-- the number of open rows is the number of levels
 pub open_levels : (rows : List TableRow) → open_count (reverse rows) ≡ levels (depths rows)
 open_levels [] = refl
 open_levels (r ∷ rest) = count_onto r rest []
 
--- by the entries
+-- the entries give the number of open rows
 pub flat_levels : (es : List KeptNode) (ps : List Point) (rows : List TableRow) → listed (map span_of es) ps ≡ rows → open_count (reverse rows) ≡ levels (depths_in es)
 flat_levels es ps rows view = open_levels rows ∙ (ap (λ (rs : List TableRow). levels (depths rs)) (sym view) ∙ ap levels (depths-listed (map span_of es) ps))
 
--- ---- one of them
+-- ---- one open row
 
 -- whether the row of an entry has an id
 pub ids_there : (es : List KeptNode) (ps : List Point) (i : ℕ) (blank : KeptNode) → i < length es → Some (is_some (get_or es i blank).span.row.id) ≡ ids_by (slice_get (listed (map span_of es) ps) i)
@@ -42,7 +42,7 @@ ids_there [] ps i blank h = absurd (omega arith)
 ids_there (e ∷ es) ps zero blank h = refl
 ids_there (e ∷ es) ps (suc i) blank h = ids_there es (drop e.span.points ps) i blank (omega arith)
 
--- there is none behind the last
+-- there is no id after the last entry
 pub no_ids : (es : List KeptNode) (ps : List Point) (i : ℕ) → i ≡ length es → None ≡ ids_by (slice_get (listed (map span_of es) ps) i)
 no_ids es ps i end = sym (ap ids_by (slice_get_past (listed (map span_of es) ps) i (omega (arith, end, length-listed (map span_of es) ps, length-map es span_of))))
 
@@ -52,7 +52,7 @@ row_there [] ps i blank h = absurd (omega arith)
 row_there (e ∷ es) ps zero blank h = (_, refl)
 row_there (e ∷ es) ps (suc i) blank h = row_there es (drop e.span.points ps) i blank (omega arith)
 
--- what the test of a row asks of it
+-- the test of a row sees this of the open row
 pub row_open : (es : List KeptNode) (ps : List Point) (rows : List TableRow) (d at : ℕ) (e : KeptNode) (ids : Option Bool) → IsFlat es ps → listed (map span_of es) ps ≡ rows → OpenPlace (depths_in es) d at → e ≡ get_or es at e
     → ids ≡ ids_by (slice_get (listed (map span_of es) ps) (at + 1)) → IsOpenAt d (reverse rows) (record { kind = e.span.row.kind; child_ids = ids })
 row_open es ps rows d at e ids flat view place is ids_are =
@@ -64,9 +64,9 @@ row_open es ps rows d at e ids flat view place is ids_are =
     (open_there at d (listed (map span_of es) ps) (row_with (get_or es at e).span.row here.0) (record { kind = e.span.row.kind; child_ids = ids })
     (subst (λ (ds : List ℕ). OpenPlace ds d at) same place) (subst (λ (ds : List ℕ). (i : ℕ) → i + 1 < length ds → get_or ds (i + 1) 0 ≤ get_or ds i 0 + 1) same flat.linked.steps) here.1 kind ids_are)
 
--- ---- the last one
+-- ---- the last open row
 
--- the row at the last place tells how many are open
+-- the row at the last place gives the number of open rows
 pub last_level : (rows : List TableRow) (i : ℕ) (row : Row) → i + 1 ≡ length rows → ((r : TableRow) (rest : List TableRow) → drop i rows ≡ r ∷ rest → row_with row r.points ≡ r) → row.depth + 1 ≡ open_count (reverse rows)
 last_level rows i row last whole =
     let found = some_at rows i (omega (arith, last)) in

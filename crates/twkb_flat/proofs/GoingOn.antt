@@ -1,4 +1,4 @@
--- What a row is that goes on with the geometry of the rows so far.
+-- What is true of a row that continues the geometry of the rows so far.
 use Rattle.std.proofs.Common.{◌≡◌, ◌+◌, ◌<◌, ◌≤◌, ◌^◌, List, [], ◌∷◌, ◌++◌, length, sym, ap, ◌∙◌, arith}
 use Rattle.std.specs.Prelude.{reverse}
 use Rattle.std.proofs.lemmas.List.{length-reverse, length-map}
@@ -16,19 +16,19 @@ use Rattle.twkb_flat.specs.Links.{MayFollow}
 use Rattle.twkb_flat.specs.Rows.{depths, depth_of}
 use Rattle.twkb_flat.proofs.FlatOpenLemmas.{open_levels}
 
--- the row after these rows
+-- the row continues the geometry of these rows
 pub record GoesOn (rows : List Row) (r : Row) : Type 0 where
   pub valid : AreValidRowsOfOne largest_limits (rows ++ r ∷ [])
   pub place : MayFollow (depths rows) r.depth
   pub nodes : length rows < 2 ^ 20
   pub most : length (row_points rows) + length r.points ≤ 2 ^ 24
 
--- no root comes behind another row
+-- no root comes after another row
 no_root : (rows : List Row) (r : Row) → IsOneRoot rows r → 0 < length rows → 0 < r.depth
 no_root [] r h some = absurd (omega arith)
 no_root (s ∷ rows) r h some = h
 
--- a row that goes on
+-- what a row that continues the geometry is
 pub goes_on : (rows : List Row) (r : Row) → AreValidRowsOfOne largest_limits rows → Continues largest_limits rows r → GoesOn rows r
 goes_on rows r v h =
     let one = of_one largest_limits rows v in

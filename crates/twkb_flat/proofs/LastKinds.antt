@@ -1,4 +1,4 @@
--- What the last entry is for, and the last row.
+-- The kinds of the last entry and of the last row.
 use Rattle.std.proofs.Common.{◌≡◌, ℕ, zero, suc, ◌+◌, List, [], ◌∷◌, ◌++◌, map, length, take, drop, get_or, refl, sym, ap, ◌∙◌, subst, arith}
 use Rattle.std.specs.Prelude.{◌<◌, IsTrue, ◌↔◌, Bool, nat_lt, true, false}
 use Rattle.std.proofs.lemmas.Bool.Decides.{nat_tests}
@@ -25,7 +25,7 @@ last_is (e ∷ []) (suc i) d at h = absurd (omega arith)
 last_is (e ∷ f ∷ es) zero d at h = absurd (omega arith)
 last_is (e ∷ f ∷ es) (suc i) d at h = last_is (f ∷ es) i d (omega arith) h
 
--- the rows end in a line
+-- the rows end in a line if the last entry is a line's
 pub rows_end : (es : List KeptNode) (ps : List Point) → LastIsLine es → EndsInLine (listed (map span_of es) ps)
 rows_end [] ps h = absurd h
 rows_end (e ∷ []) ps h = record { front = []; last = row_with e.span.row (take e.span.points ps); line = h; whole = refl }
@@ -45,7 +45,7 @@ abbrev tail_of : List TableRow → List TableRow
 tail_of [] = []
 tail_of (s ∷ rs) = rs
 
--- and only then
+-- the last entry is a line's if the rows end in a line
 pub ends_rows : (es : List KeptNode) (ps : List Point) (front : List TableRow) (last : TableRow) → listed (map span_of es) ps ≡ front ++ last ∷ [] → IsLineKind last.kind → LastIsLine es
 ends_rows [] ps front last whole line = absurd (some_behind front last whole)
 ends_rows (e ∷ []) ps [] last whole line = subst (λ (r : TableRow). IsLineKind r.kind) (sym (ap (head_or last) whole)) line
@@ -56,7 +56,7 @@ ends_rows (e ∷ f ∷ es) ps (r ∷ front) last whole line = ends_rows (f ∷ e
 true_false : true ≡ false → ⊥
 true_false t = absurd (grind (arith, nat_tests))
 
--- the test of the last entry is one of the last row
+-- the test of the last entry is a test of the last row
 pub both : (b : Bool) (count most : ℕ) (es : List KeptNode) (ps : List Point) (rows : List TableRow) → listed (map span_of es) ps ≡ rows → count ≡ length (row_points rows) → (IsTrue b ↔ LastIsLine es) → b ≡ true
     → IsTrue (nat_lt count most) ↔ (EndsInLine rows × (length (row_points rows) < most))
 both b count most es ps rows view total (forth, back) t = (

@@ -1,4 +1,4 @@
--- The last entry gets its link, and the open ones that end before it get theirs.
+-- The last entry gets its link, and the open entries that end before it get theirs.
 use Rattle.std.proofs.Common.{◌≡◌, ℕ, ◌+◌, ◌-◌, ◌<◌, ◌≤◌, List, [], ◌∷◌, ◌++◌, map, length, take, set, get_or, refl, sym, ap, ◌∙◌, subst, arith}
 use Rattle.std.proofs.lemmas.List.{length-map, length-take-le, length-set, get_or-set_same, get_or-set_other, take_all, take_more}
 use Rattle.twkb_flat.specs.declared.entries.KeptNode.{KeptNode}
@@ -7,11 +7,11 @@ use Rattle.twkb_flat.specs.Entries.{IsUnlinked, span_of, next_of, depths_in, lin
 use Rattle.twkb_flat.proofs.LinkLemmas.{linked_push}
 use Rattle.twkb_flat.proofs.ClosingLemmas.{length-depths_in, depth_in, read_here}
 
--- the others and the last
+-- a list is its elements but the last, and the last
 last_apart : (ds : List ℕ) (n : ℕ) → length ds ≡ n + 1 → take n ds ++ get_or ds n 0 ∷ [] ≡ ds
 last_apart ds n size = sym (take_more ds n 0 (omega (arith, size))) ∙ take_all (n + 1) ds (omega (arith, size))
 
--- the last link is of none of the others
+-- setting a link past the end closes the same rows
 closed_set : (ds nexts after : List ℕ) (d next at up : ℕ) → length ds ≤ at → AreClosed ds nexts after d next → AreClosed ds nexts (set after at up) d next
 closed_set ds nexts after d next at up behind closed = record {
   shut = λ i within is le. get_or-set_other after at i up 0 (λ e. omega arith) ∙ closed.shut i within is le;
@@ -34,13 +34,13 @@ last_linked es mid at up unlinked spans closed before parent =
     (omega (arith, size, before)) parent in
     subst (λ (xs : List ℕ). Linked xs (set (links_in mid) at up)) (last_apart (depths_in es) at all) made
 
--- of a row that stands alone
+-- the link of a row that is alone
 pub root_linked : (es : List KeptNode) → IsUnlinked es 0 → Linked (depths_in es) (set (links_in es) 0 0)
 root_linked es unlinked =
     let step = unlinked.place.step in
     last_linked es es 0 0 unlinked refl (record { shut = λ i within is le. absurd (omega arith); kept = λ i within h. absurd (omega arith) }) (omega arith) (λ e is. absurd (omega (arith, is, step)))
 
--- of a row behind others
+-- the link of a row after others
 pub other_linked : (es mid : List KeptNode) (at up : ℕ) → IsUnlinked es at → (at ≡ 0 → ⊥) → map span_of mid ≡ map span_of es
     → AreClosed (take at (depths_in es)) (take at (links_in es)) (links_in mid) (get_or (depths_in es) at 0) at
     → ((e : ℕ) → get_or (depths_in es) at 0 ≡ e + 1 → OpenPlace (take at (depths_in es)) e up) → Linked (depths_in es) (set (links_in mid) at up)
@@ -50,7 +50,7 @@ other_linked es mid at up unlinked some spans closed parent =
     let above = parent (get_or (depths_in es) at 0 - 1) (omega (arith, deep)) in
     last_linked es mid at up unlinked spans closed (omega (arith, above.within, size)) parent
 
--- the same where the depth was read
+-- the link of a row after others, for a depth that was read
 pub read_linked : (es mid : List KeptNode) (at up : ℕ) (blank : KeptNode) → IsUnlinked es at → (at ≡ 0 → ⊥) → map span_of mid ≡ map span_of es
     → AreClosed (take at (depths_in es)) (take at (links_in es)) (links_in mid) (get_or es at blank).span.row.depth at
     → ((e : ℕ) → (get_or es at blank).span.row.depth ≡ e + 1 → OpenPlace (take at (depths_in es)) e up) → Linked (depths_in es) (set (links_in mid) at up)

@@ -1,4 +1,4 @@
--- A point more of the last row, in entries and points.
+-- One more point in the last row, in entries and points.
 use Rattle.std.proofs.Common.{◌≡◌, ℕ, zero, suc, ◌+◌, ◌<◌, ◌≤◌, ◌^◌, List, [], ◌∷◌, ◌++◌, map, length, take, drop, set, get_or, refl, sym, ap, ◌∙◌, subst, arith, rules, Fits, w32}
 use Rattle.std.proofs.lemmas.List.{length-append, length-drop, length-map, take_all, take-append-le, drop-append-le}
 use Rattle.twkb_points.specs.Point.{Point, IsInRange}
@@ -27,7 +27,7 @@ last_room (e ∷ f ∷ es) (suc i) d at h = last_room (f ∷ es) i d (omega arit
 pub last_fits : (es : List KeptNode) (i : ℕ) (d : KeptNode) → i + 1 ≡ length es → LastHasRoom es → Fits w32 ((get_or es i d).span.points + 1)
 last_fits es i d at h = let few : (get_or es i d).span.points + 1 < 2 ^ 32 = last_room es i d at h in search rules
 
--- the entry with a point more
+-- the entry with one more point
 abbrev pub entry_longer : KeptNode → KeptNode
 entry_longer e = record { span = longer e.span; next = e.next }
 
@@ -69,19 +69,19 @@ longer_listed at (s ∷ t ∷ ss) ps p (first, rest) =
     (ap (λ (rs : List TableRow). row_with s.row (take s.points ps) ∷ rs)
     (longer_listed (at + s.points) (t ∷ ss) (drop s.points ps) p (subst (λ (k : ℕ). Laid (at + s.points) (t ∷ ss) k) total rest)))
 
--- where there are few points the last entry has few
+-- the last entry has few points if all entries together have few
 laid_room : (at total : ℕ) (es : List KeptNode) → Laid at (map span_of es) total → total + 1 < 2 ^ 32 → LastHasRoom es
 laid_room at total [] laid few = tt
 laid_room at total (e ∷ []) (first, last) few = omega (arith, last)
 laid_room at total (e ∷ f ∷ es) (first, rest) few = laid_room (at + e.span.points) total (f ∷ es) rest few
 
--- ---- what is kept
+-- ---- the form
 
 pub some_spans : (ss : List PlacedRow) (ps : List Point) (rows : List TableRow) → listed ss ps ≡ rows → EndsInLine rows → 0 < length ss
 some_spans [] ps rows view e = let t : [] ≡ e.front ++ e.last ∷ [] = view ∙ e.whole in absurd (omega (arith, ap (λ (rs : List TableRow). length rs) t, length-append e.front (e.last ∷ [])))
 some_spans (s ∷ ss) ps rows view e = omega arith
 
--- there is an entry, and it has room
+-- there is a last entry, and it has room
 pub point_fits : (es : List KeptNode) (ps : List Point) (rows : List TableRow)
     → IsFlat es ps → listed (map span_of es) ps ≡ rows → EndsInLine rows → (0 < length es) × LastHasRoom es
 point_fits es ps rows flat view e = (
@@ -89,7 +89,7 @@ point_fits es ps rows flat view e = (
   laid_room 0 (length ps) es flat.laid (omega (arith, flat.most)),
 )
 
--- the rows with a point more
+-- the rows with one more point
 pub point_view : (es after : List KeptNode) (ps : List Point) (p : Point) (rows : List TableRow)
     → IsFlat es ps → listed (map span_of es) ps ≡ rows → map span_of after ≡ last_longer (map span_of es)
     → listed (map span_of after) (ps ++ p ∷ []) ≡ point_added p rows
@@ -98,7 +98,7 @@ point_view es after ps p rows flat view spans =
     ∙ (longer_listed 0 (map span_of es) ps p (subst (λ (n : ℕ). Laid 0 (map span_of es) n) (omega arith) flat.laid)
     ∙ ap (point_added p) view)
 
--- and what is kept of them
+-- the form with one more point is valid
 pub point_flat : (es after : List KeptNode) (ps : List Point) (p : Point) (rows : List TableRow)
     → IsFlat es ps → listed (map span_of es) ps ≡ rows → EndsInLine rows → AreValidRowsOfOne largest_limits (point_added p rows)
     → map span_of after ≡ last_longer (map span_of es) → links_in after ≡ links_in es → IsFlat after (ps ++ p ∷ [])
@@ -118,7 +118,7 @@ point_flat es after ps p rows flat view e valid spans links =
       most = omega (arith, points, few_points (point_added p rows) valid);
     }
 
--- the rows with a point more are valid where there is room
+-- the rows with one more point are valid if there is room
 pub point_valid : (es : List KeptNode) (ps : List Point) (p : Point) (rows : List TableRow)
     → IsFlat es ps → listed (map span_of es) ps ≡ rows → EndsInLine rows → length (row_points rows) < 2 ^ 24 → IsInRange p → AreValidRowsOfOne largest_limits (point_added p rows)
 point_valid es ps p rows flat view e room within = line_more largest_limits rows p e within room (subst (AreValidRowsOfOne largest_limits) view flat.valid)

@@ -1,10 +1,10 @@
--- The links stay right as a row is appended.
+-- The links stay right when a row is appended.
 use Rattle.std.proofs.Common.{◌≡◌, ℕ, suc, ◌+◌, ◌-◌, ◌<◌, ◌≤◌, ◌⊎◌, inl, inr, List, [], ◌∷◌, ◌++◌, length, set, get_or, refl, sym, ap, ◌∙◌, subst, arith}
 use Rattle.std.proofs.lemmas.List.{length-set, length_push, get_or_append_left, get_or_push, get_or-set_same, get_or-set_other}
 use Rattle.std.proofs.lemmas.Bool.{cases_lt, cases_eq}
 use Rattle.twkb_flat.specs.Links.{levels, IsNext, IsOpen, OpenPlace, IsUp, Linked, AreClosed, MayFollow}
 
--- the last row tells how many rows are open
+-- the last row gives the number of open rows
 levels_last : (ds : List ℕ) → 0 < length ds → levels ds ≡ get_or ds (length ds - 1) 0 + 1
 levels_last [] h = absurd (omega arith)
 levels_last (d ∷ []) h = refl
@@ -33,7 +33,7 @@ open_alike ds i j h k is js e =
       ]
     ]
 
--- an open row stays open where a deeper row comes
+-- an open row stays open when a deeper row comes
 open_more : (ds : List ℕ) (d i : ℕ) → i < length ds → get_or ds i 0 < d → IsOpen ds i → IsOpen (ds ++ d ∷ []) i
 open_more ds d i h deeper is j after within =
     let here = get_or_append_left ds (d ∷ []) 0 i h in
@@ -42,7 +42,7 @@ open_more ds d i h deeper is j after within =
       | inr new ↦ (let at : length ds ≡ j = omega (arith, length_push ds d) in rw (here, get_or_push ds d 0 j at) deeper)
     ]
 
--- a link stays right
+-- the link of a closed row stays right
 next_more : (ds : List ℕ) (d i m : ℕ) → m < length ds → IsNext ds i m → IsNext (ds ++ d ∷ []) i m
 next_more ds d i m within is =
     let here = get_or_append_left ds (d ∷ []) 0 i (omega arith) in
@@ -53,7 +53,7 @@ next_more ds d i m within is =
       ends = λ _. rw (here, get_or_append_left ds (d ∷ []) 0 m within) (is.ends within);
     }
 
--- an open row ends where a row comes that is no deeper
+-- an open row ends when a row comes that is no deeper
 next_closed : (ds : List ℕ) (d i : ℕ) → i < length ds → d ≤ get_or ds i 0 → IsOpen ds i → IsNext (ds ++ d ∷ []) i (length ds)
 next_closed ds d i h shallow is =
     let here = get_or_append_left ds (d ∷ []) 0 i h in
@@ -64,7 +64,7 @@ next_closed ds d i h shallow is =
       ends = λ _. rw (here, get_or_push ds d 0 (length ds) refl) shallow;
     }
 
--- the row after the subtree of an open row is the end
+-- the end is the row after the subtree of an open row
 pub open_next : (ds : List ℕ) (i : ℕ) → i < length ds → IsOpen ds i → IsNext ds i (length ds)
 open_next ds i h is = record { after = h; within = omega arith; deeper = λ j after before. is j after before; ends = λ e. absurd (omega arith) }
 
@@ -78,24 +78,24 @@ Link ds i m = (IsOpen ds i × IsUp ds i m) ⊎ (IsNext ds i m × (m < length ds)
 pub last_open : (ds : List ℕ) (i : ℕ) → i + 1 ≡ length ds → OpenPlace ds (get_or ds i 0) i
 last_open ds i at = record { within = omega arith; depth = refl; is_open = λ j after within. absurd (omega arith) }
 
--- its depth
+-- the depth of the last row is one below the number of levels
 pub last_depth : (ds : List ℕ) (i : ℕ) → i + 1 ≡ length ds → levels ds ≡ get_or ds i 0 + 1
 last_depth ds i at = let same : length ds - 1 ≡ i = omega arith in levels_last ds (omega arith) ∙ ap (λ (k : ℕ). get_or ds k 0 + 1) same
 
--- that of an open row leads up
+-- the link of an open row leads up
 open_up : (ds : List ℕ) (i m : ℕ) → IsOpen ds i → Link ds i m → IsUp ds i m
 open_up ds i m is (inl (open_i, up)) = up
 open_up ds i m is (inr (next, within)) = let deeper = is m next.after within in let shallow = next.ends within in absurd (omega arith)
 
--- to its parent
+-- the link of an open row leads to its parent
 pub up_from : (ds nexts : List ℕ) (d i : ℕ) → Linked ds nexts → OpenPlace ds (d + 1) i → OpenPlace ds d (get_or nexts i 0)
 up_from ds nexts d i linked at = (open_up ds i (get_or nexts i 0) at.is_open (linked.links i at.within)).parent d at.depth
 
--- and no further than its place
+-- the link of an open row leads no further than its own place
 pub up_before : (ds nexts : List ℕ) (d i : ℕ) → Linked ds nexts → OpenPlace ds d i → get_or nexts i 0 ≤ i
 up_before ds nexts d i linked at = (open_up ds i (get_or nexts i 0) at.is_open (linked.links i at.within)).before
 
--- which stands before it
+-- the link of an open row below the root leads before it
 pub up_less : (ds nexts : List ℕ) (d i : ℕ) → Linked ds nexts → OpenPlace ds (d + 1) i → get_or nexts i 0 < i
 up_less ds nexts d i linked at =
     let le = up_before ds nexts (d + 1) i linked at in
@@ -105,16 +105,16 @@ up_less ds nexts d i linked at =
       | inr not_less ↦ (let same : get_or nexts i 0 ≡ i = omega arith in let e = ap (λ (k : ℕ). get_or ds k 0) same in absurd (omega (arith, up.depth, at.depth)))
     ]
 
--- ---- closing
+-- ---- closing rows
 
--- none is closed
+-- no row is closed yet
 pub none_closed : (ds nexts : List ℕ) (d next : ℕ) → d ≡ levels ds → AreClosed ds nexts nexts d next
 none_closed ds nexts d next deep = record {
   shut = λ i within is le. let below = open_depth ds i within is in absurd (omega arith);
   kept = λ i within h. refl;
 }
 
--- one more is closed
+-- one more row is closed
 pub one_closed : (ds nexts after : List ℕ) (d at next : ℕ) → OpenPlace ds d at → length ds ≤ length after → AreClosed ds nexts after (d + 1) next → AreClosed ds nexts (set after at next) d next
 one_closed ds nexts after d at next is_at room so_far = record {
   shut = λ i within is le. elim (cases_eq i at) [
@@ -131,13 +131,13 @@ one_closed ds nexts after d at next is_at room so_far = record {
       get_or-set_other after at i next 0 other ∙ so_far.kept i within (λ is. let less = h is in omega arith));
 }
 
--- the link of an open row that is not yet closed
+-- an open row that is not closed yet keeps its link
 pub link_kept : (ds nexts after : List ℕ) (d at next : ℕ) → OpenPlace ds d at → AreClosed ds nexts after (d + 1) next → get_or after at 0 ≡ get_or nexts at 0
 link_kept ds nexts after d at next is_at so_far = so_far.kept at is_at.within (λ is. omega (arith, is_at.depth))
 
 -- ---- one more row
 
--- an open row stays where a deeper row comes
+-- an open place stays open when a deeper row comes
 place_more : (ds : List ℕ) (d e i : ℕ) → e < d → OpenPlace ds e i → OpenPlace (ds ++ d ∷ []) e i
 place_more ds d e i lt at = record {
   within = omega (arith, at.within, length_push ds d);
@@ -145,7 +145,7 @@ place_more ds d e i lt at = record {
   is_open = open_more ds d i at.within (omega (arith, at.depth)) at.is_open;
 }
 
--- and so does its parent
+-- the parent of an open row stays its parent
 up_more : (ds : List ℕ) (d i m : ℕ) → i < length ds → get_or ds i 0 < d → IsUp ds i m → IsUp (ds ++ d ∷ []) i m
 up_more ds d i m within shallow up =
     let here = get_or_append_left ds (d ∷ []) 0 i within in
@@ -166,7 +166,7 @@ old_link ds nexts after d i within closed (inl (is, up)) =
           subst (λ (m : ℕ). Link (ds ++ d ∷ []) i m) (sym same) (inr (next_closed ds d i within (omega arith) is, omega (arith, length_push ds d))))
     ]
 
--- the links with one row more
+-- the links with one more row are right
 pub linked_push : (ds nexts after : List ℕ) (d up : ℕ) → Linked ds nexts → MayFollow ds d → length after ≡ length ds + 1 → AreClosed ds nexts after d (length ds)
     → get_or after (length ds) 0 ≡ up → up ≤ length ds → ((e : ℕ) → d ≡ e + 1 → OpenPlace ds e up) → Linked (ds ++ d ∷ []) after
 linked_push ds nexts after d up linked place size closed is_up before parent = record {
@@ -194,7 +194,7 @@ linked_push ds nexts after d up linked place size closed is_up before parent = r
   ];
 }
 
--- the links with one row more that stands beside the last
+-- the links with one more row beside the last are right
 pub linked_beside : (ds nexts : List ℕ) (d last : ℕ) → Linked ds nexts → last + 1 ≡ length ds → get_or ds last 0 ≡ d → 0 < d → Linked (ds ++ d ∷ []) (set (nexts ++ get_or nexts last 0 ∷ []) last (length ds))
 linked_beside ds nexts d last linked end here deep =
     let up = get_or nexts last 0 in

@@ -1,4 +1,4 @@
--- A member of a multipoint that comes behind another.
+-- One more member of a multipoint, after another.
 use Rattle.std.proofs.Common.{◌≡◌, ℕ, zero, suc, ◌+◌, ◌-◌, ◌<◌, ◌≤◌, ◌^◌, ℤ, Bool, true, List, [], ◌∷◌, ◌++◌, map, length, set, get_or, Option, Some, None, refl, sym, ap, ◌∙◌, subst, arith}
 use Rattle.std.specs.Prelude.{reverse, is_some, is_none, nat_le}
 use Rattle.std.proofs.lemmas.List.{length-append, length_push, map_push, reverse-append}
@@ -32,7 +32,7 @@ use Rattle.twkb_flat.proofs.PushLemmas.{Pushed, depths_more, flat_after, view_af
 
 -- ---- the open rows
 
--- how many they are
+-- the number of open rows that end in a member
 length-with_member : (above : List OpenRow) (b : Bool) → length (with_member above b) ≡ suc (suc (length above))
 length-with_member [] b = refl
 length-with_member (o ∷ os) b = omega (arith, length-with_member os b)
@@ -42,12 +42,12 @@ member_parent : (above : List OpenRow) (b : Bool) → open_parent (suc (length a
 member_parent [] b = refl
 member_parent (o ∷ os) b = member_parent os b
 
--- they stay as they are behind one more
+-- the open rows stay as they are after one more member
 opened_member : (above : List OpenRow) (r : TableRow) → r.kind ≡ Kind.Point → opened (suc (length above)) (with_member above (is_some r.id)) r ≡ with_member above (is_some r.id)
 opened_member [] r kind = ap (λ k. record { kind = Kind.MultiPoint; child_ids = Some (is_some r.id) } ∷ record { kind = k; child_ids = None } ∷ []) kind
 opened_member (o ∷ os) r kind = ap (λ xs. o ∷ xs) (opened_member os r kind)
 
--- two that end a list
+-- the last two open rows of a list
 pub ends_in_two : (n : ℕ) (os : List OpenRow) (b : Bool) (blank : OpenRow) → length os ≡ suc (suc n) → get_or os n blank ≡ record { kind = Kind.MultiPoint; child_ids = Some b } → get_or os (suc n) blank ≡ record { kind = Kind.Point; child_ids = None }
     → OpenInMember (suc n) b os
 ends_in_two zero (o ∷ p ∷ []) b blank size parent member = record { above = []; depth = refl; whole = ap (λ x. x ∷ p ∷ []) parent ∙ ap (λ x. record { kind = Kind.MultiPoint; child_ids = Some b } ∷ x ∷ []) member }
@@ -58,14 +58,14 @@ ends_in_two (suc n) (o ∷ os) b blank size parent member =
     let rest = ends_in_two n os b blank (omega (arith, size)) parent member in
     record { above = o ∷ rest.above; depth = ap suc rest.depth; whole = ap (λ xs. o ∷ xs) rest.whole }
 
--- ---- the row
+-- ---- the row of the member
 
--- the ids agree
+-- an id agrees with itself as the first child's
 same_ids : (id : Option ℤ) → has_same_ids (child_by (Some (is_some id))) id ≡ true
 same_ids None = refl
 same_ids (Some n) = refl
 
--- one more member may come
+-- one more member may come, by the open rows
 open_admits : (above : List OpenRow) (id : Option ℤ) (p : Point) (nodes points : ℕ) → id_in_range id ≡ true → IsInRange p → nodes < 2 ^ 20 → points < 2 ^ 24
     → open_continues largest_limits (with_member above (is_some id)) nodes points (plain_row (suc (length above)) Kind.Point id (p ∷ [])) ≡ true
 open_admits above id p nodes points range in_range few room =
@@ -81,7 +81,7 @@ open_admits above id p nodes points range in_range few room =
     both (is_none (open_refusal largest_limits os nodes points r)) (is_next os r) (ap is_none none)
     (sym (later_next r.depth os r refl (λ e. absurd (omega (arith, e, length-with_member above (is_some id))))) ∙ test_below 0 r.depth (omega arith))
 
--- and goes on with the geometry
+-- one more member continues the geometry
 member_continues : (rows : List TableRow) (d : ℕ) (id : Option ℤ) (p : Point) → AreValidRowsOfOne largest_limits rows → EndsInMember d (is_some id) rows → id_in_range id ≡ true → IsInRange p → length rows < 2 ^ 20 → length (row_points rows) < 2 ^ 24
     → Continues largest_limits rows (plain_row d Kind.Point id (p ∷ []))
 member_continues rows d id p valid ends range in_range few room =
@@ -106,16 +106,16 @@ ends_again rows r kind ends =
       ends = record { above = e.above; depth = e.depth; whole = refl };
     }
 
--- ---- what is kept
+-- ---- the form
 
--- the last row stands at the member's depth, below another
+-- the last row is at the member's depth, below another
 pub member_last : (rows : List TableRow) (d : ℕ) (b : Bool) → EndsInMember d b rows → (0 < d) × (open_count (reverse rows) ≡ d + 1)
 member_last rows d b ends =
     let e = ends.ends in
     let size = length-with_member e.above b in
     (omega (arith, e.depth), omega (arith, ends.are_open.all, ap length e.whole, size, e.depth))
 
--- the open rows at the last two depths tell that the rows end in a member
+-- the open rows at the last two depths show that the rows end in a member
 pub in_member : (rows : List TableRow) (d count : ℕ) (b : Bool) (o p : OpenRow) → AreValidRowsOfOne largest_limits rows → count ≡ open_count (reverse rows) → 2 ≤ count → count - 1 ≡ d → IsOpenAt (d - 1) (reverse rows) o → IsOpenAt d (reverse rows) p
     → o ≡ record { kind = Kind.MultiPoint; child_ids = Some b } → p ≡ record { kind = Kind.Point; child_ids = None } → EndsInMember d b rows
 in_member rows d count b o p valid counted some last parent member parent_is member_is =
@@ -132,7 +132,7 @@ member_entry es ps rows d b view ends =
     let deepest : levels (depths_in es) ≡ d + 1 = sym (flat_levels es ps rows view) ∙ (member_last rows d b ends).1 in
     (some_entry es d (omega (arith, deepest)), deepest)
 
--- the entries with the new member, whose link was the last one's
+-- the entries with the new member, which gets the link of the last one
 pub member_pushed : (es mid after : List KeptNode) (ps now : List Point) (p : Point) (e : KeptNode) (last first total d : ℕ) (id : Option ℤ) (rows : List TableRow) → IsFlat es ps → listed (map span_of es) ps ≡ rows → EndsInMember d (is_some id) rows
     → last + 1 ≡ total → length es ≡ total → length ps ≡ first → e ≡ get_or es last e → mid ≡ es ++ record { span = record { row = record { depth = d; kind = Kind.Point; id = id; precision = None }; first = first; points = 1 }; next = e.next } ∷ [] → now ≡ ps ++ p ∷ []
     → map span_of after ≡ map span_of mid → links_in after ≡ set (links_in mid) last total → Pushed es after ps (p ∷ []) now (record { depth = d; kind = Kind.Point; id = id; precision = None })
@@ -155,7 +155,7 @@ member_pushed es mid after ps now p e last first total d id rows flat view ends 
       now_is = now_is;
     }
 
--- what is kept after the member, and which rows that are
+-- the form after the new member, and its rows
 pub member_kept : (es after : List KeptNode) (ps now : List Point) (p : Point) (d : ℕ) (id : Option ℤ) (rows : List TableRow) → IsFlat es ps → listed (map span_of es) ps ≡ rows
     → EndsInMember d (is_some id) rows → id_in_range id ≡ true → IsInRange p → length rows < 2 ^ 20 → length (row_points rows) < 2 ^ 24
     → Pushed es after ps (p ∷ []) now (record { depth = d; kind = Kind.Point; id = id; precision = None })
@@ -165,7 +165,7 @@ member_kept es after ps now p d id rows flat view ends range in_range few room p
     let continues = member_continues rows d id p (subst (AreValidRowsOfOne largest_limits) view flat.valid) ends range in_range few room in
     (flat_after es after ps (p ∷ []) now row rows flat view continues pushed, view_after es after ps (p ∷ []) now row rows flat view pushed)
 
--- a row and a point more, behind which others may come
+-- one more row and point, after which more members may come
 pub member_added : (rows more : List TableRow) (d : ℕ) (id : Option ℤ) (p : Point) → more ≡ rows ++ plain_row d Kind.Point id (p ∷ []) ∷ [] → EndsInMember d (is_some id) rows
     → EndsInMember d (is_some id) more × (length more ≡ length rows + 1) × (length (row_points more) ≡ length (row_points rows) + 1)
 member_added rows more d id p added ends =

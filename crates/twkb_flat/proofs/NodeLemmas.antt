@@ -1,4 +1,4 @@
--- What a node says of the rows.
+-- What a node says about the rows.
 use Rattle.std.proofs.Common.{◌≡◌, ℕ, ◌+◌, ◌<◌, ◌≤◌, ◌⊎◌, inl, inr, List, map, length, get_or, sym, ap, ◌∙◌, subst, arith}
 use Rattle.std.proofs.lemmas.List.{length-map, get_or-map}
 use Rattle.twkb_points.specs.Point.{Point}
@@ -12,11 +12,11 @@ use Rattle.twkb_flat.proofs.RowLemmas.{Here, row_at, depths-listed, length-liste
 use Rattle.twkb_flat.proofs.LinkLemmas.{Link, open_next}
 use Rattle.twkb_flat.proofs.ClosingLemmas.{length-depths_in, depth_in, link_in}
 
--- the link that is answered: that of a row whose subtree has ended leads behind its place
+-- the link returned: for a row whose subtree has ended, it leads after the row's place
 abbrev pub Answers : ℕ → ℕ → ℕ → ℕ → Type 0
 Answers i kept total next = ((kept ≤ i) × (next ≡ total)) ⊎ ((i < kept) × (next ≡ kept))
 
--- it leads behind the subtree
+-- the link returned leads after the subtree
 next_is : (ds : List ℕ) (i kept total next : ℕ) → i < length ds → total ≡ length ds → Link ds i kept → Answers i kept total next → IsNext ds i next
 next_is ds i kept total next h t (inl (is, up)) (inl (le, e)) = subst (λ (n : ℕ). IsNext ds i n) (sym (e ∙ t)) (open_next ds i h is)
 next_is ds i kept total next h t (inl (is, up)) (inr (lt, e)) = let before = up.before in absurd (omega arith)

@@ -1,4 +1,4 @@
--- An open place among the rows, and what the test of a row asks of the row that stands there.
+-- An open place among the rows, and what the test of a row sees of the row there.
 use Rattle.std.proofs.Common.{◌≡◌, ℕ, zero, suc, ◌+◌, ◌<◌, ◌≤◌, ◌==◌, true, false, List, [], ◌∷◌, length, get_or, Some, refl, sym, ap, ◌∙◌, subst, arith, eq-eqb}
 use Rattle.std.specs.Prelude.{reverse, slice_get}
 use mathlib.Core.List.{reverse_aux}
@@ -11,27 +11,27 @@ use Rattle.twkb_tree.proofs.RowSteps.{last_at-other, other_depth}
 use Rattle.twkb_flat.specs.Links.{OpenPlace}
 use Rattle.twkb_flat.specs.Rows.{depth_of, depths}
 
--- each row stands below this depth
+-- each row is below this depth
 abbrev AreBelow : ℕ → List Row → Type 0
 AreBelow d rs = (j : ℕ) → j < length rs → d < get_or (depths rs) j 0
 
--- but for the first
+-- the rows after the first are below the depth
 below_rest : (d : ℕ) (r : Row) (rest : List Row) → AreBelow d (r ∷ rest) → AreBelow d rest
 below_rest d r rest h = λ j lt. h (suc j) (omega arith)
 
--- rows below leave the last row at a depth
+-- rows below a depth leave the last row at that depth unchanged
 last_stays : (d : ℕ) (rest before : List Row) → AreBelow d rest → last_at d (reverse_aux rest before) ≡ last_at d before
 last_stays d [] before h = refl
 last_stays d (r ∷ rest) before h = last_stays d rest (r ∷ before) (below_rest d r rest h) ∙ last_at-other d r before (h 0 (omega arith))
 
--- and its first child
+-- rows below a depth leave its first child unchanged
 first_stays : (d : ℕ) (rest before : List Row) (f : Row) → AreBelow d rest → first_below d before ≡ Some f → first_below d (reverse_aux rest before) ≡ Some f
 first_stays d [] before f h is = is
 first_stays d (r ∷ rest) before f h is =
     let off : (r.depth == d) ≡ false = other_depth r.depth d (h 0 (omega arith)) in
     first_stays d rest (r ∷ before) f (below_rest d r rest h) (rw (off, is) refl)
 
--- the first child is the row behind
+-- the first child is the next row
 first_behind : (d : ℕ) (r : Row) (rest before : List Row) → r.depth ≡ d → AreBelow d rest → (0 < length rest → get_or (depths rest) 0 0 ≤ d + 1) → first_below d (reverse_aux rest (r ∷ before)) ≡ slice_get rest 0
 first_behind d r [] before e h step = let on : (r.depth == d) ≡ true = eq-eqb r.depth d e in rw on refl
 first_behind d r (f ∷ rest) before e h step =
@@ -42,7 +42,7 @@ first_behind d r (f ∷ rest) before e h step =
     let child : (f.depth == suc d) ≡ true = eq-eqb f.depth (suc d) (omega arith) in
     first_stays d rest (f ∷ r ∷ before) f (below_rest d f rest h) (rw (on, off, child) refl)
 
--- what is kept of the row at an open place
+-- the open row at an open place
 kept_there : (p d : ℕ) (rows before : List Row) (r : Row) (o : OpenRow) → OpenPlace (depths rows) d p → (suc p < length rows → get_or (depths rows) (suc p) 0 ≤ d + 1)
     → slice_get rows p ≡ Some r → o.kind ≡ r.kind → o.child_ids ≡ ids_by (slice_get rows (suc p)) → IsOpenAt d (reverse_aux rows before) o
 kept_there p d [] before r o at step here kind ids = absurd (omega (arith, at.within))
@@ -56,7 +56,7 @@ kept_there (suc p) d (s ∷ rest) before r o at step here kind ids =
     let below : OpenPlace (depths rest) d p = record { within = omega (arith, at.within); depth = at.depth; is_open = λ j after within. at.is_open (suc j) (omega arith) (omega arith) } in
     kept_there p d rest (s ∷ before) r o below (λ more. step (omega arith)) here kind ids
 
--- the same of all rows
+-- the open row at an open place, for all rows
 pub open_there : (p d : ℕ) (rows : List Row) (r : Row) (o : OpenRow) → OpenPlace (depths rows) d p → ((i : ℕ) → i + 1 < length (depths rows) → get_or (depths rows) (i + 1) 0 ≤ get_or (depths rows) i 0 + 1)
     → slice_get rows p ≡ Some r → o.kind ≡ r.kind → o.child_ids ≡ ids_by (slice_get rows (p + 1)) → IsOpenAt d (reverse rows) o
 open_there p d rows r o at steps here kind ids =

@@ -1,4 +1,4 @@
--- What a push leaves.
+-- The form after a push.
 use Rattle.std.proofs.Common.{◌≡◌, ℕ, ◌+◌, ◌-◌, ◌≤◌, ◌^◌, List, [], ◌∷◌, ◌++◌, map, length, take, get_or, refl, sym, ap, ◌∙◌, subst, arith}
 use Rattle.std.proofs.lemmas.List.{length-map, length-append, length_push, map_push, take_all, take_at, take-append-le, get_or_push}
 use Rattle.twkb_points.specs.Point.{Point}
@@ -16,22 +16,22 @@ use Rattle.twkb_flat.proofs.ClosingLemmas.{length-depths_in}
 use Rattle.twkb_flat.proofs.GoingOn.{GoesOn, goes_on}
 use Rattle.twkb_flat.proofs.RowLemmas.{length-listed, depths-listed, flat_points, laid-push, listed-push}
 
--- the row that is pushed goes on
+-- the pushed row continues the geometry
 pub admitted : (es : List KeptNode) (ps : List Point) (row : Row) (qs : List Point) (rows : List TableRow)
     → IsFlat es ps → listed (map span_of es) ps ≡ rows → Continues largest_limits rows (row_with row qs) → GoesOn rows (row_with row qs)
 admitted es ps row qs rows flat view continues = goes_on rows (row_with row qs) (subst (AreValidRowsOfOne largest_limits) view flat.valid) continues
 
--- its span
+-- the span of the pushed row
 abbrev pub new_span : Row → List Point → List Point → PlacedRow
 new_span row ps qs = record { row = row; first = length ps; points = length qs }
 
--- ---- the entries with one more
+-- ---- the entries with one more entry
 
--- their depths
+-- the depths with one more entry
 pub depths_more : (es : List KeptNode) (e : KeptNode) → depths_in (es ++ e ∷ []) ≡ depths_in es ++ e.span.row.depth ∷ []
 depths_more es e = ap (map span_depth) (map_push span_of es e) ∙ map_push span_depth (map span_of es) e.span
 
--- the last one is still to be linked
+-- the new entry is not linked yet
 unlinked_more : (es : List KeptNode) (e : KeptNode) (at : ℕ) → Linked (depths_in es) (links_in es) → MayFollow (depths_in es) e.span.row.depth → at ≡ length es → IsUnlinked (es ++ e ∷ []) at
 unlinked_more es e at linked place at_end =
     let end : length (depths_in es) ≡ at = omega (arith, length-depths_in es, at_end) in
@@ -44,7 +44,7 @@ unlinked_more es e at linked place at_end =
       place = subst (λ (ds : List ℕ). MayFollow ds (get_or (depths_in (es ++ e ∷ [])) at 0)) (sym before) (subst (λ (d : ℕ). MayFollow (depths_in es) d) (sym here) place);
     }
 
--- of a row that goes on
+-- the new entry of a row that continues the geometry is not linked yet
 pub unlinked : (es mid : List KeptNode) (ps qs now : List Point) (at : ℕ) (row : Row) (rows : List TableRow)
     → IsFlat es ps → listed (map span_of es) ps ≡ rows → Continues largest_limits rows (row_with row qs) → IsPut row qs es mid ps now → at ≡ length es → IsUnlinked mid at
 unlinked es mid ps qs now at row rows flat view continues put at_end =
@@ -59,7 +59,7 @@ pub record Pushed (es after : List KeptNode) (ps qs now : List Point) (row : Row
   pub linked : Linked (depths_in after) (links_in after)
   pub now_is : now ≡ ps ++ qs
 
--- of a node and points that were put
+-- a node and its points were put, and are linked
 pub pushed_by : (es mid after : List KeptNode) (ps qs now : List Point) (row : Row) → IsPut row qs es mid ps now → map span_of after ≡ map span_of mid → Linked (depths_in mid) (links_in after) → Pushed es after ps qs now row
 pushed_by es mid after ps qs now row put spans linked = record {
   spans = spans ∙ ap (map span_of) put.node ∙ map_push span_of es (new_node (new_span row ps qs));
@@ -77,7 +77,7 @@ view_after es after ps qs now row rows flat view p =
     ∙ listed-push 0 (map span_of es) ps qs (new_span row ps qs) laid refl
     ∙ ap (λ (rs : List TableRow). rs ++ row_with row qs ∷ []) view
 
--- what is kept after a push
+-- the form after a push is valid
 pub flat_after : (es after : List KeptNode) (ps qs now : List Point) (row : Row) (rows : List TableRow)
     → IsFlat es ps → listed (map span_of es) ps ≡ rows → Continues largest_limits rows (row_with row qs) → Pushed es after ps qs now row → IsFlat after now
 flat_after es after ps qs now row rows flat view continues p =
@@ -96,9 +96,9 @@ flat_after es after ps qs now row rows flat view continues p =
       most = omega (arith, goes.most, points_total, all);
     }
 
--- ---- a node that is put
+-- ---- a node that was put
 
--- its points are counted by what all points became
+-- its points are counted as the difference in all points
 pub put_as : (es put : List KeptNode) (ps qs now : List Point) (first size : ℕ) (row : Row) → first ≡ length ps → size ≡ length now → now ≡ ps ++ qs
     → put ≡ es ++ new_node (record { row = row; first = first; points = size - first }) ∷ [] → IsPut row qs es put ps now
 put_as es put ps qs now first size row first_is size_is now_is put_is =
@@ -111,7 +111,7 @@ put_as es put ps qs now first size row first_is size_is now_is put_is =
 pub cut_back : (ps qs now back : List Point) (n : ℕ) → n ≡ length ps → now ≡ ps ++ qs → back ≡ take n now → back ≡ ps
 cut_back ps qs now back n n_is now_is cut = cut ∙ ap (take n) now_is ∙ take-append-le n ps qs (omega (arith, n_is)) ∙ take_all n ps (omega (arith, n_is))
 
--- there is room for the points of a row that goes on
+-- there is room for the points of a row that continues the geometry
 pub points_left : (es : List KeptNode) (ps : List Point) (row : Row) (qs : List Point) (rows : List TableRow)
     → IsFlat es ps → listed (map span_of es) ps ≡ rows → Continues largest_limits rows (row_with row qs) → length ps + length qs ≤ 2 ^ 24
 points_left es ps row qs rows flat view continues =
@@ -119,15 +119,15 @@ points_left es ps row qs rows flat view continues =
     let points_total = ap (λ (rs : List TableRow). length (row_points rs)) (sym view) ∙ ap length (flat_points (map span_of es) ps flat.laid) in
     omega (arith, goes.most, points_total)
 
--- links change no number of entries
+-- setting links does not change the number of entries
 pub same_count : (mid after : List KeptNode) → map span_of after ≡ map span_of mid → length after ≡ length mid
 same_count mid after spans = sym (length-map after span_of) ∙ (ap length spans ∙ length-map mid span_of)
 
--- where nothing was put, all is kept
+-- if nothing was put, the form is unchanged
 pub kept_flat : (es more : List KeptNode) (ps all : List Point) → IsFlat es ps → more ≡ es → all ≡ ps → IsFlat more all
 kept_flat es more ps all flat no_node no_point =
     subst (λ (xs : List KeptNode). IsFlat xs all) (sym no_node) (subst (λ (xs : List Point). IsFlat es xs) (sym no_point) flat)
 
--- and the rows are the same
+-- if nothing was put, the rows are unchanged
 pub kept_view : (es more : List KeptNode) (ps all : List Point) (rows : List TableRow) → listed (map span_of es) ps ≡ rows → more ≡ es → all ≡ ps → listed (map span_of more) all ≡ rows
 kept_view es more ps all rows view no_node no_point = ap (λ (xs : List KeptNode). listed (map span_of xs) all) no_node ∙ (ap (λ (xs : List Point). listed (map span_of es) xs) no_point ∙ view)

@@ -26,11 +26,11 @@ entry_here es ps i e all_laid h is =
     let span : get_or (map span_of es) i e.span ≡ e.span = get_or-map span_of es i e e.span h ∙ sym (ap span_of is) in
     subst (λ (s : PlacedRow). Here 0 (map span_of es) ps i s) span (row_at 0 (map span_of es) ps i e.span laid inside)
 
--- one entry for each row
+-- there is one entry for each row
 pub length-rows : (es : List KeptNode) (ps : List Point) (rows : List TableRow) → listed (map span_of es) ps ≡ rows → length rows ≡ length es
 length-rows es ps rows view = ap length (sym view) ∙ length-listed (map span_of es) ps ∙ length-map es span_of
 
--- the row at a place, from the rows there
+-- the row at a place is the first of the rows from there on
 pub row_here : (es : List KeptNode) (ps : List Point) (i : ℕ) (e : KeptNode) (rows : List TableRow) (r : TableRow) (rest : List TableRow) → Laid 0 (map span_of es) (length ps) → listed (map span_of es) ps ≡ rows → i < length es → e ≡ get_or es i e → drop i rows ≡ r ∷ rest → row_with e.span.row r.points ≡ r
 row_here es ps i e rows r rest laid view h is at =
     let here = entry_here es ps i e laid h is in
@@ -51,7 +51,7 @@ points_own es ps i e laid h =
           ∙ flat_points (map span_of es) ps laid,
     )
 
--- they are within all points
+-- the points of the row at a place are within all points
 pub points_inside : (es : List KeptNode) (ps : List Point) (i : ℕ) (e : KeptNode) → Laid 0 (map span_of es) (length ps) → i < length es → e ≡ get_or es i e → e.span.first + e.span.points ≤ length ps
 points_inside es ps i e laid within is =
     let h = entry_here es ps i e laid within is in
@@ -59,12 +59,12 @@ points_inside es ps i e laid within is =
     let own_list = h.own in
     omega (arith, own.2, h.count, ap length own.3, length-append own.0 (h.own ++ own.1), length-append h.own own.1)
 
--- a part of a list, taken from where it begins
+-- a part of a list, cut out at its place
 cut_out : (before own after ps : List Point) (first count : ℕ) → length before ≡ first → length own ≡ count → before ++ (own ++ after) ≡ ps → take count (drop first ps) ≡ own
 cut_out before own after ps first count f n e =
     ap (λ (qs : List Point). take count (drop first qs)) (sym e) ∙ ap (take count) (drop_at before (own ++ after) first f) ∙ take_at own after count n
 
--- the points of the row at a place, from the rows there
+-- the points of the row at a place are those of the first row from there on
 pub points_here : (es : List KeptNode) (ps : List Point) (i : ℕ) (e : KeptNode) (rows : List TableRow) (r : TableRow) (rest : List TableRow) → Laid 0 (map span_of es) (length ps) → listed (map span_of es) ps ≡ rows → i < length es → e ≡ get_or es i e → drop i rows ≡ r ∷ rest
     → take (e.span.first + e.span.points - e.span.first) (drop e.span.first ps) ≡ r.points
 points_here es ps i e rows r rest laid view within is at =
@@ -86,14 +86,14 @@ shallow_here es ps i e rows v laid within is =
 
 -- ---- by the rows alone
 
--- a row that is there is at its depth
+-- the row there is at depth d exactly if the test of its depth passes
 pub by_test : (rows : List TableRow) (i d k : ℕ) (r : TableRow) (rest : List TableRow) → drop i rows ≡ r ∷ rest → k ≡ r.depth → IsTrue (k == d) ↔ IsAt d (drop i rows)
 by_test rows i d k r rest here e = (
   λ same. subst (IsAt d) (sym here) (sym e ∙ eqb-true k d same),
   λ at. eq-eqb k d (e ∙ subst (IsAt d) here at),
 )
 
--- the first of some rows, and the others
+-- some rows are a first row and the others
 first_of : (rows : List TableRow) → 0 < length rows → (r : TableRow) × (rest : List TableRow) × (rows ≡ r ∷ rest)
 first_of [] h = absurd (omega arith)
 first_of (r ∷ rest) h = (r, rest, refl)
@@ -102,7 +102,7 @@ first_of (r ∷ rest) h = (r, rest, refl)
 pub some_at : (rows : List TableRow) (i : ℕ) → i < length rows → (r : TableRow) × (rest : List TableRow) × (drop i rows ≡ r ∷ rest)
 some_at rows i h = first_of (drop i rows) (omega (arith, length-drop i rows))
 
--- the row at a place, by what is said of it and of its points
+-- the row at a place, from the facts about it and its points
 pub row_got : (rows : List TableRow) (i : ℕ) (row : Row) (own : List Point) → i < length rows
     → ((r : TableRow) (rest : List TableRow) → drop i rows ≡ r ∷ rest → row_with row r.points ≡ r)
     → ((r : TableRow) (rest : List TableRow) → drop i rows ≡ r ∷ rest → own ≡ r.points)

@@ -7,17 +7,17 @@ use Rattle.twkb_flat.specs.declared.entries.PlacedRow.{PlacedRow}
 use Rattle.twkb_flat.specs.Rows.{row_with, depths}
 use Rattle.twkb_flat.specs.Entries.{listed, Laid, span_depth}
 
--- one row for each
+-- there is one row for each span
 pub length-listed : (ss : List PlacedRow) (ps : List Point) → length (listed ss ps) ≡ length ss
 length-listed [] ps = refl
 length-listed (s ∷ ss) ps = ap suc (length-listed ss (drop s.points ps))
 
--- at its depth
+-- each row has the depth of its span
 pub depths-listed : (ss : List PlacedRow) (ps : List Point) → depths (listed ss ps) ≡ map span_depth ss
 depths-listed [] ps = refl
 depths-listed (s ∷ ss) ps = ap (λ (ds : List ℕ). span_depth s ∷ ds) (depths-listed ss (drop s.points ps))
 
--- the total is not below where the first begins
+-- the total is at least the place where the first span begins
 pub laid_within : (at total : ℕ) (ss : List PlacedRow) → Laid at ss total → at ≤ total
 laid_within at total [] e = omega arith
 laid_within at total (s ∷ ss) (first, rest) = let more = laid_within (at + s.points) total ss rest in omega arith
@@ -36,7 +36,7 @@ points-listed at (s ∷ ss) ps (first, rest) =
 pub flat_points : (ss : List PlacedRow) (ps : List Point) → Laid 0 ss (length ps) → row_points (listed ss ps) ≡ ps
 flat_points ss ps laid = points-listed 0 ss ps (subst (λ (n : ℕ). Laid 0 ss n) (omega arith) laid)
 
--- one row more
+-- the rows with one more span
 pub listed-push : (at : ℕ) (ss : List PlacedRow) (ps qs : List Point) (s : PlacedRow) → Laid at ss (at + length ps) → s.points ≡ length qs
     → listed (ss ++ s ∷ []) (ps ++ qs) ≡ listed ss ps ++ row_with s.row qs ∷ []
 listed-push at [] [] qs s laid count = ap (λ (own : List Point). row_with s.row own ∷ []) (take_all s.points qs (omega arith))
@@ -49,7 +49,7 @@ listed-push at (t ∷ ss) ps qs s (first, rest) count =
     (ap (λ (rs : List TableRow). row_with t.row (take t.points ps) ∷ rs)
     (listed-push (at + t.points) ss (drop t.points ps) qs s (subst (λ (k : ℕ). Laid (at + t.points) ss k) total rest) count))
 
--- and its span laid behind the others
+-- the spans with one more, which comes after the others
 pub laid-push : (at total : ℕ) (ss : List PlacedRow) (s : PlacedRow) → Laid at ss total → s.first ≡ total → Laid at (ss ++ s ∷ []) (total + s.points)
 laid-push at total [] s e first = (first ∙ sym e, ap (λ (k : ℕ). k + s.points) e)
 laid-push at total (t ∷ ss) s (here, rest) first = (here, laid-push (at + t.points) total ss s rest first)
@@ -62,7 +62,7 @@ pub record Here (at : ℕ) (ss : List PlacedRow) (ps : List Point) (i : ℕ) (s 
   pub count : length own ≡ s.points
   pub first : at + length (row_points (take i (listed ss ps))) ≡ s.first
 
--- of each place
+-- the rows from each place on
 pub row_at : (at : ℕ) (ss : List PlacedRow) (ps : List Point) (i : ℕ) (d : PlacedRow) → Laid at ss (at + length ps) → i < length ss → Here at ss ps i (get_or ss i d)
 row_at at [] ps i d laid h = absurd (omega arith)
 row_at at (s ∷ ss) ps zero d (first, rest) h =
@@ -80,12 +80,12 @@ row_at at (s ∷ ss) ps (suc i) d (first, rest) h =
       first = omega (arith, below.first, length-append (take s.points ps) (row_points (take i (listed ss (drop s.points ps)))), length-take s.points ps);
     }
 
--- no span, no row
+-- without spans there are no rows
 pub nil_rows : (ss : List PlacedRow) (ps : List Point) → length ss ≡ 0 → listed ss ps ≡ []
 nil_rows [] ps e = refl
 nil_rows (s ∷ ss) ps e = absurd (omega arith)
 
--- and back
+-- with a span there is a row
 pub some_rows : (ss : List PlacedRow) (ps : List Point) → listed ss ps ≡ [] → length ss ≡ 0
 some_rows [] ps e = refl
 some_rows (s ∷ ss) ps e = cc

@@ -1,4 +1,4 @@
--- The test of a row where it stands.
+-- The test of a row at its place.
 use Rattle.std.specs.Prelude.{Bool, ◌+◌, ◌&&◌, nat_lt, nat_le, length}
 use Rattle.twkb_tree.specs.Limits.{Allowance}
 use Rattle.twkb_tree.specs.Rows.{Row as TableRow}
@@ -7,7 +7,7 @@ use Rattle.twkb_tree.specs.Accepted.{nest_kept}
 use Rattle.twkb_tree.specs.Open.{row_of, child_of}
 use Rattle.twkb_tree.specs.declared.standing.Standing.{Standing}
 
--- the limits leave room for the row there, and it is what it is to be under its parent
+-- the limits leave room for the row at this place, and it fits under its parent
 abbrev pub is_admitted_at : Allowance → Standing → TableRow → Bool
 is_admitted_at l s r =
     nest_kept l (row_of s.parent) s.depth && (nat_lt s.nodes l.nodes && nat_le (s.points + length r.points) l.points) && fits (row_of s.parent) (child_of s.parent) r

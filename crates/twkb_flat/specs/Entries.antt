@@ -1,4 +1,4 @@
--- The nodes as they are kept, and the rows that they stand for.
+-- The stored nodes, and the rows that they stand for.
 use Rattle.std.specs.Prelude.{ℕ, ◌≡◌, ◌+◌, ◌<◌, ◌≤◌, ◌^◌, ⊤, List, [], ◌∷◌, ◌++◌, map, length, slice_index, take, drop}
 use Rattle.twkb_points.specs.Point.{Point}
 use Rattle.twkb_tree.specs.Limits.{largest_limits}
@@ -10,36 +10,37 @@ use Rattle.twkb_flat.specs.declared.node.Row.{Row}
 use Rattle.twkb_flat.specs.Rows.{row_with}
 use Rattle.twkb_flat.specs.Links.{Linked, MayFollow}
 
--- its span
+-- the span of a node
 abbrev pub span_of : KeptNode → PlacedRow
 span_of e = e.span
 
--- its link
+-- the link of a node
 abbrev pub next_of : KeptNode → ℕ
 next_of e = e.next.0
 
--- a node as it is put, with the link of a root
+-- a new node, with the link of a root
 abbrev pub new_node : PlacedRow → KeptNode
 new_node s = record { span = s; next = record { 0 = 0 } }
 
--- a node of a row is one more behind others, and its own points are behind those of the others
+-- one node of a row was appended, and its own points come after those of the others
 pub record IsPut (row : Row) (own : List Point) (es more : List KeptNode) (ps all : List Point) : Type 0 where
   pub node : more ≡ es ++ new_node (record { row = row; first = length ps; points = length own }) ∷ []
   pub points : all ≡ ps ++ own
 
--- how deep its row stands
+-- the depth of a span's row
 abbrev pub span_depth : PlacedRow → ℕ
 span_depth s = s.row.depth
 
--- how deep their rows stand
+-- the depths of the nodes' rows
 abbrev pub depths_in : List KeptNode → List ℕ
 depths_in es = map span_depth (map span_of es)
 
--- their links
+-- the links of the nodes
 abbrev pub links_in : List KeptNode → List ℕ
 links_in es = map next_of es
 
--- The entry at `at` is the last, of a row that may come behind the rows before it; of those the links are still as they were without it.
+-- The entry at `at` is the last, and its row may come after the rows before it; the links of
+-- those are still as they were without it.
 pub record IsUnlinked (es : List KeptNode) (at : ℕ) : Type 0 where
   pub last : length es ≡ at + 1
   pub linked : Linked (take at (depths_in es)) (take at (links_in es))
@@ -55,7 +56,7 @@ abbrev pub Laid : ℕ → List PlacedRow → ℕ → Type 0
 Laid at [] total = at ≡ total
 Laid at (s ∷ ss) total = (s.first ≡ at) × Laid (at + s.points) ss total
 
--- Entries and points are kept so that they stand for the rows of one valid geometry, or for none.
+-- The entries and points stand for the rows of one valid geometry, or for none.
 pub record IsFlat (entries : List KeptNode) (points : List Point) : Type 0 where
   pub laid : Laid 0 (map span_of entries) (length points)
   pub linked : Linked (depths_in entries) (links_in entries)
@@ -63,33 +64,33 @@ pub record IsFlat (entries : List KeptNode) (points : List Point) : Type 0 where
   pub nodes : length entries ≤ 2 ^ 20
   pub most : length points ≤ 2 ^ 24
 
--- a span of a point more
+-- a span with one more point
 abbrev pub longer : PlacedRow → PlacedRow
 longer s = record { row = s.row; first = s.first; points = s.points + 1 }
 
--- the spans, the last of which has a point more
+-- the spans, the last one with one more point
 abbrev pub last_longer : List PlacedRow → List PlacedRow
 last_longer [] = []
 last_longer (s ∷ []) = longer s ∷ []
 last_longer (s ∷ t ∷ ss) = s ∷ last_longer (t ∷ ss)
 
--- a span of so many points more
+-- a span with `more` more points
 abbrev pub longer_by : ℕ → PlacedRow → PlacedRow
 longer_by n s = record { row = s.row; first = s.first; points = s.points + n }
 
--- the spans, the last of which has so many more
+-- the spans, the last one with `more` more points
 abbrev pub last_longer_by : ℕ → List PlacedRow → List PlacedRow
 last_longer_by n [] = []
 last_longer_by n (s ∷ []) = longer_by n s ∷ []
 last_longer_by n (s ∷ t ∷ ss) = s ∷ last_longer_by n (t ∷ ss)
 
--- so many more can be counted of the last entry
+-- the last entry can count this many more points
 abbrev pub LastHasRoomFor : ℕ → List KeptNode → Type 0
 LastHasRoomFor n [] = ⊤
 LastHasRoomFor n (e ∷ []) = e.span.points + n < 2 ^ 32
 LastHasRoomFor n (e ∷ f ∷ es) = LastHasRoomFor n (f ∷ es)
 
--- the last entry has fewer points than can be counted
+-- the last entry can count one more point
 abbrev pub LastHasRoom : List KeptNode → Type 0
 LastHasRoom [] = ⊤
 LastHasRoom (e ∷ []) = e.span.points + 1 < 2 ^ 32

@@ -1,4 +1,3 @@
-pub mod Adding
 pub mod Admitting
 pub mod Entries
 pub mod Lasts

@@ -10,15 +10,16 @@ use Rattle.twkb_flat.specs.Links.{IsNext}
 abbrev pub row_with : Row → List Point → TableRow
 row_with r ps = record { depth = r.depth; kind = r.kind; id = r.id; precision = r.precision; points = ps }
 
--- how deep a row stands
+-- the depth of a row
 abbrev pub depth_of : TableRow → ℕ
 depth_of r = r.depth
 
--- how deep each row stands
+-- the depths of the rows
 abbrev pub depths : List TableRow → List ℕ
 depths rows = map depth_of rows
 
--- The node at a place of the rows: its row, its own points among all points, and the place after its subtree. The row after it is a child or no deeper.
+-- The node at a place of the rows: its row, its own points among all points, and the place after
+-- its subtree. The row after the node is its child, or is no deeper.
 pub record IsNode (rows : List TableRow) (i : ℕ) (node : Node) : Type 0 where
   pub own : List Point
   pub rest : List TableRow

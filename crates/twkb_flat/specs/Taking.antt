@@ -1,4 +1,4 @@
--- Where the rows of a part, of parts or of a geometry stand among the rows.
+-- The place of the rows of a part, of parts or of a geometry among the rows.
 use Rattle.std.specs.Prelude.{◌≡◌, ◌≢◌, ℕ, suc, ℤ, List, [], ◌∷◌, ◌++◌, length, drop, Option, None, Some, ⊤}
 use Rattle.std.specs.List.{AllByRecursion}
 use Rattle.twkb_points.specs.Point.{Point}
@@ -10,38 +10,40 @@ use Rattle.twkb_tree.specs.Rows.{Row, own_row, rows_with, rows_of_each}
 use Rattle.twkb_tree.specs.RowLists.{IsAbove}
 use Rattle.twkb_flat.specs.Parts.{part_rows}
 
--- there is a row, and the first stands at this depth
+-- there is a first row, and it is at this depth
 abbrev pub IsAt : ℕ → List Row → Type 0
 IsAt d [] = ⊥
 IsAt d (r ∷ rs) = r.depth ≡ d
 
--- the rows from a place on are those of one sound item at a depth with an id, and then others that are not below it
+-- the rows from a place on are those of one sound item at a depth with an id, and then others
+-- that are not below it
 pub record ItemAt {A : Type 0} (sound : A → Type 0) (f : Option ℤ → A → List Row) (rows : List Row) (at d : ℕ) (id : Option ℤ) (item : A) (rest : List Row) : Type 0 where
   pub is_sound : sound item
   pub behind : IsAbove (suc d) rest
   pub here : drop at rows ≡ f id item ++ rest
 
--- the rows from a place on are those of sound items at a depth with these ids, and then others that are above them
+-- the rows from a place on are those of sound items at a depth with these ids, and then others
+-- that are above them
 pub record EachAt {A : Type 0} (sound : A → Type 0) (f : Option ℤ → A → List Row) (rows : List Row) (at d : ℕ) (ids : Ids) (items : List A) (rest : List Row) : Type 0 where
   pub are_sound : AllByRecursion sound items
   pub ids_fit : HasIds ids (length items)
   pub behind : IsAbove d rest
   pub here : drop at rows ≡ rows_of_each f ids items ++ rest
 
--- any item
+-- any item is sound
 abbrev pub IsAny : {A : Type 0} → A → Type 0
 IsAny item = ⊤
 
--- the rows of a geometry at a depth stand at a place
+-- the rows of a geometry at a depth begin at a place
 abbrev pub TreeAt : List Row → ℕ → ℕ → Option ℤ → Tree → List Row → Type 0
 TreeAt rows at d id g rest = ItemAt IsTree (λ i h. rows_with i d h) rows at d id g rest
 
--- the same of a geometry that is no collection
+-- the rows of a geometry that is not a collection begin at a place
 pub record SimpleAt (rows : List Row) (at d : ℕ) (id : Option ℤ) (g : Tree) (rest : List Row) : Type 0 where
   pub stands : TreeAt rows at d id g rest
   pub no_collection : (own_row id d g).kind ≢ Kind.Collection
 
--- the rows of parts of this kind at a depth stand at a place
+-- the rows of parts of this kind at a depth begin at a place
 abbrev pub PartsAt : {A : Type 0} → (A → List Point) → (ℕ → A → List Row) → Kind → List Row → ℕ → ℕ → Ids → List A → List Row → Type 0
 PartsAt own below kind rows at d ids parts rest = EachAt IsAny (part_rows own below kind d) rows at d ids parts rest
 
@@ -51,12 +53,12 @@ pub record AreOf (precision : Option ℤ) (shape : Shape) (g : Tree) : Type 0 wh
   pub precision_is : precision ≡ Some (precision_of g)
   pub shape_is : tree_of (precision_of g) shape ≡ g
 
--- the ids in a list, where there are any
+-- the ids in a list; none if the list is empty
 abbrev pub ids_in : List ℤ → Ids
 ids_in [] = None
 ids_in (id ∷ ids) = Some (id ∷ ids)
 
--- the id, if there is one
+-- the id as a list, empty if there is none
 abbrev pub id_list : Option ℤ → List ℤ
 id_list None = []
 id_list (Some id) = id ∷ []

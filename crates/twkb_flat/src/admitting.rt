@@ -1,4 +1,4 @@
-//! The test of a row where it stands.
+//! The test of a row at its place.
 ghost use Rattle.std.specs.Prelude.{◌≡◌, ◌≤◌, ◌+◌, ◌^◌, ◌&&◌, true, List, length, nat_lt, nat_le};
 ghost use Rattle.twkb_points.specs.Point.{Point, AreInRange};
 ghost use Rattle.twkb_tree.specs.Admits.{id_in_range, id_allowed, has_same_ids, precision_in_range, precision_fits, fits};
@@ -15,23 +15,24 @@ use twkb_tree::{
     row_rules,
 };
 
-// The rows of the largest geometry.
+// The most rows of the largest geometry.
 const MOST_NODES: u64 = NODES_CAP as u64;
 
-// The points of the largest geometry.
+// The most points of the largest geometry.
 pub(crate) const MOST_POINTS: u64 = POINTS_CAP as u64;
 
-// Tells a proof that an id is in range. It changes nothing.
+// Gives a proof the fact that an id is in range. Changes nothing.
 pub(crate) fn look_at_id(id: Option<i64>)
     ensures { id_in_range id ≡ true }
 {
     if let Some(number) = id {
-        // learnt: the number fits 64 bits
+        // gives proofs the fact that the number fits 64 bits
         let _learnt = number;
     }
 }
 
-// Whether a row of this kind under this parent has an id where it is to have one, and none else.
+// Whether an id is allowed for a row of this kind under this parent, and is there exactly if the
+// first child has one.
 fn id_fits(parent: Option<OpenRow>, kind: Kind, id: Option<i64>) -> bool
     ensures { result ≡ (id_allowed (row_of parent) kind id && has_same_ids (child_of parent) id) }
 {
@@ -39,8 +40,7 @@ fn id_fits(parent: Option<OpenRow>, kind: Kind, id: Option<i64>) -> bool
     row_rules::id_allowed(parent, kind, has_id) && row_rules::has_same_ids(parent, has_id)
 }
 
-// Whether a row under this parent has a precision in range where it is a geometry of its own, and
-// none else.
+// Whether a row under this parent has a precision in range if it is a geometry itself, and none if not.
 fn precision_fits(parent: Option<OpenRow>, precision: Option<i8>) -> bool
     ensures { result ≡ (precision_in_range precision && precision_fits (row_of parent) precision) }
 {
@@ -51,7 +51,7 @@ fn precision_fits(parent: Option<OpenRow>, precision: Option<i8>) -> bool
     }
 }
 
-// Whether a row under this parent is what it is to be, with so many points of its own.
+// Whether a row with `count` points fits under this parent.
 fn fits(parent: Option<OpenRow>, row: &Row, count: usize) -> bool
     ensures { (own : List Point) → length own ≡ count → result ≡ fits (row_of parent) (child_of parent) (row_with row.now own) }
 {
@@ -68,7 +68,7 @@ fn fits(parent: Option<OpenRow>, row: &Row, count: usize) -> bool
     row_rules::count_fits(row.kind, row_rules::is_whole(parent), count)
 }
 
-// Whether the limits leave room for a row that stands there and has so many points of its own.
+// Whether the limits leave room for a row with `count` points at this place.
 fn has_room(limits: &Limits, standing: &Standing, count: usize) -> bool
     ensures { result ≡ (nat_lt standing.now.nodes limits.now.nodes && nat_le (standing.now.points + count) limits.now.points) }
 {
@@ -77,7 +77,7 @@ fn has_room(limits: &Limits, standing: &Standing, count: usize) -> bool
         && count <= (limits.points() - standing.points) as usize
 }
 
-// Whether the row with so many points of its own may stand there.
+// Whether the row with `count` points may come at this place.
 pub(crate) fn admits_at(limits: &Limits, standing: &Standing, row: &Row, count: usize) -> bool
     ensures { (own : List Point) → length own ≡ count → result ≡ is_admitted_at limits.now standing.now (row_with row.now own) }
 {
@@ -86,24 +86,24 @@ pub(crate) fn admits_at(limits: &Limits, standing: &Standing, row: &Row, count: 
         && fits(standing.parent, row, count)
 }
 
-// Whether a row at this depth is the root where no row is open, and no root elsewhere.
+// Whether a row at this depth is a root exactly if no row is open.
 pub(crate) fn is_next(levels: u32, depth: u32) -> bool
     ensures { (os : List OpenRow) (r : TableRow) → length os ≡ levels → r.depth ≡ depth → result ≡ is_next os r }
 {
     if levels == 0 { depth == 0 } else { depth > 0 }
 }
 
-// Tells a proof that the points are in range. It changes nothing.
+// Gives a proof the fact that the points are in range. Changes nothing.
 pub(crate) fn look(points: &[Pt])
     ensures { AreInRange points.now }
 {
     for point in points {
-        // learnt: the point is in range
+        // gives proofs the fact that the point is in range
         let _learnt = point.x();
     }
 }
 
-// Whether so many rows of a point each may come to so many rows and points.
+// Whether `count` rows of one point each fit beside this many rows and points.
 pub(crate) fn leaves_room(nodes: u32, points: u32, count: u64) -> bool
     ensures nodes { result ≡ true → nodes + count ≤ 2 ^ 20 }
     ensures points { result ≡ true → points + count ≤ 2 ^ 24 }

@@ -1,4 +1,4 @@
-//! The geometry of a flat form, built from its rows.
+//! Building a geometry from its flat form.
 ghost use Rattle.std.specs.Prelude.{◌≡◌, [], ℕ, ℤ, List, Option, drop, IfOk, OnOk, ◌++◌};
 ghost use Rattle.twkb_tree.specs.declared.kind.Kind.{Kind};
 ghost use Rattle.twkb_tree.specs.Limits.{largest_limits, IsValid};
@@ -13,21 +13,21 @@ use std::alloc::{AllocError, Global};
 use twkb_tree::{Geometry, IdList, Ids, Items, Kind, Members, Pts, Shape};
 
 impl Flat {
-    /// The geometry of these rows, of which there is at least one. Takes memory for each list in
-    /// it, and answers `AllocError` only where a growth was refused.
+    /// Builds the geometry of these rows, of which there is at least one. Takes memory for each
+    /// list in it, and returns `AllocError` only if memory is refused.
     pub fn to_geometry(&self, alloc: Global) -> Result<Geometry, AllocError>
         requires { ¬ (self.now ≡ []) }
         ensures rows { IfOk result (λ g. rows 0 g ≡ self.now) }
         ensures valid { IfOk result (λ g. IsValid largest_limits g) }
     {
-        // learnt: the rows are those of one geometry
+        // gives proofs the fact that the rows are those of one geometry
         let _learnt = self.is_empty();
         let (geometry, _next) = take_geometry(self, alloc, 0)?;
         Ok(geometry)
     }
 }
 
-// The geometry whose rows stand at a place, and the place after them.
+// Builds the geometry whose rows begin at a place, and returns the place after them.
 #[cycle(building)]
 fn take_geometry(flat: &Flat, alloc: Global, at: usize) -> Result<(Geometry, usize), AllocError>
     requires { (d : ℕ) × (id : Option ℤ) × (g : Tree) × (rest : List TableRow) × TreeAt flat.now at d id g rest }
@@ -38,7 +38,7 @@ fn take_geometry(flat: &Flat, alloc: Global, at: usize) -> Result<(Geometry, usi
     Ok((made_of(precision, shape), next))
 }
 
-// The geometry of a precision and a shape.
+// Makes the geometry of a precision and a shape.
 fn made_of(precision: Option<i8>, shape: Shape) -> Geometry
     requires { (g : Tree) × AreOf precision shape g }
     ensures { (g : Tree) → AreOf precision shape g → result ≡ g }
@@ -52,7 +52,7 @@ fn made_of(precision: Option<i8>, shape: Shape) -> Geometry
     }
 }
 
-// The shape of the geometry whose rows stand at a place, and the place after them.
+// Builds the shape of the geometry whose rows begin at a place, and returns the place after them.
 #[cycle(building)]
 fn take_shape(flat: &Flat, alloc: Global, at: usize) -> Result<(Shape, usize), AllocError>
     requires { (d : ℕ) × (id : Option ℤ) × (g : Tree) × (rest : List TableRow) × TreeAt flat.now at d id g rest }
@@ -68,7 +68,7 @@ fn take_shape(flat: &Flat, alloc: Global, at: usize) -> Result<(Shape, usize), A
     }
 }
 
-// The same of a geometry that is no collection.
+// Builds the shape of a geometry that is not a collection, and returns the place after its rows.
 fn take_simple(flat: &Flat, alloc: Global, at: usize) -> Result<(Shape, usize), AllocError>
     requires { (d : ℕ) × (id : Option ℤ) × (g : Tree) × (rest : List TableRow) × SimpleAt flat.now at d id g rest }
     ensures { (d : ℕ) (id : Option ℤ) (g : Tree) (rest : List TableRow) → TreeAt flat.now at d id g rest → IfOk result (λ taken. (tree_of (precision_of g) taken.0 ≡ g) × (drop taken.1 flat.now ≡ rest)) }
@@ -105,8 +105,8 @@ fn take_simple(flat: &Flat, alloc: Global, at: usize) -> Result<(Shape, usize), 
     }
 }
 
-// The geometries whose rows stand at a place, as many as follow at this depth; their ids, and the
-// place after them.
+// Builds the geometries whose rows begin at a place, as many as follow at this depth, and returns
+// their ids and the place after them.
 #[cycle(building)]
 fn take_members(
     flat: &Flat,
@@ -129,8 +129,8 @@ fn take_members(
     Ok((Members::from_vec(members), found_ids(ids), at))
 }
 
-// The parts whose rows stand at a place, as many as follow at this depth; their ids, and the place
-// after them.
+// Builds the parts whose rows begin at a place, as many as follow at this depth, and returns
+// their ids and the place after them.
 pub(crate) fn take_each<T: Part>(
     flat: &Flat,
     alloc: Global,
@@ -162,7 +162,7 @@ fn push_id(ids: &mut Vec<i64>, id: Option<i64>) -> Result<(), AllocError>
     Ok(())
 }
 
-// The ids, where there are any.
+// Turns the ids found into the ids of a shape: none if there are none.
 fn found_ids(ids: Vec<i64>) -> Ids
     ensures { result ≡ ids_in ids.items }
 {

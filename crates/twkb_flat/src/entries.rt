@@ -1,4 +1,4 @@
-//! Nodes as they are kept.
+//! The stored nodes of a flat form.
 ghost use Rattle.std.specs.Prelude.{◌≡◌, ◌<◌, ◌≤◌, ◌+◌, ◌^◌, ◌↔◌, ◌++◌, ◌∷◌, [], IsTrue, ℕ, List, length, map, take, slice_set, slice_get, OnOk, OnErr, IfErr};
 ghost use Rattle.twkb_points.specs.Point.{Point};
 ghost use Rattle.twkb_tree.specs.Open.{ids_by};
@@ -12,7 +12,7 @@ use std::alloc::AllocError;
 use twkb_points::{PointTail, Pt};
 use twkb_tree::Kind;
 
-// A row and where its own points are.
+// A row and the place of its own points.
 #[derive(Clone, Copy)]
 pub(crate) struct PlacedRow {
     pub(crate) row: Row,
@@ -20,15 +20,16 @@ pub(crate) struct PlacedRow {
     pub(crate) points: u32,
 }
 
-// A span, and the node after its subtree. While all rows after it are below it, it is open, and its
-// link is the place of its parent instead, or 0 for the root: so it is no greater than its own place.
+// A span and a link. The link is the node after the span's subtree; but as long as all rows after
+// it are below it, the node is open, and the link is the place of its parent, or 0 for the root.
+// So the link of an open node is at most its own place.
 #[derive(Clone, Copy)]
 pub(crate) struct KeptNode {
     pub(crate) span: PlacedRow,
     pub(crate) next: NodeId,
 }
 
-// Puts a node behind the others and its one point behind those of all rows, or neither where memory
+// Appends a node to the nodes and its one point to the points of all rows, or neither if memory
 // is refused.
 #[inline(always)]
 pub(crate) fn put_point(
@@ -53,8 +54,7 @@ pub(crate) fn put_point(
     Ok(())
 }
 
-// Puts a node of this row behind the others and the points that the source gives behind those of
-// all rows, or neither.
+// Appends a node of this row, and the points of the source to the points of all rows, or neither.
 #[inline(always)]
 pub(crate) fn put_row<S: PointSource>(
     entries: &mut Vec<KeptNode>,
@@ -99,8 +99,8 @@ pub(crate) fn link(entries: &mut [KeptNode], at: u32, to: u32)
     entry.next = NodeId(to);
 }
 
-// Says of the open ones of the nodes before `next`, at this depth and below it, that their subtrees
-// end at `next`; answers the open one above them.
+// Closes the open nodes at this depth and below it, whose subtrees end at `next`, and returns the
+// open node above them.
 #[inline(always)]
 fn close_from(entries: &mut [KeptNode], depth: u32, next: u32) -> u32
     requires some { 0 < next }
@@ -120,8 +120,7 @@ fn close_from(entries: &mut [KeptNode], depth: u32, next: u32) -> u32
     at
 }
 
-// Links the last node, which stands at this place, to its parent, and closes those whose subtrees
-// end there.
+// Links the last node, at this place, to its parent, and closes the nodes whose subtrees end there.
 #[inline(always)]
 pub(crate) fn link_last(entries: &mut [KeptNode], at: u32)
     requires { IsUnlinked entries.old at }
@@ -129,7 +128,7 @@ pub(crate) fn link_last(entries: &mut [KeptNode], at: u32)
     ensures links { Linked (depths_in entries.old) (links_in entries.new) }
 {
     if at == 0 {
-        // the root stands under none
+        // the root has no parent
         return link(entries, 0, 0);
     }
     let depth = entries[at as usize].span.row.depth;
@@ -150,7 +149,7 @@ pub(crate) fn open_at(entries: &[KeptNode], depth: u32) -> usize
     at
 }
 
-// Whether the first child of the node at this place has an id; none where the node is the last.
+// Whether the first child of the node at this place has an id; `None` if the node is the last.
 pub(crate) fn child_ids(entries: &[KeptNode], at: usize) -> Option<bool>
     requires { at < length entries.now }
     ensures { (points : List Point) → result ≡ ids_by (slice_get (listed (map span_of entries.now) points) (at + 1)) }
@@ -162,7 +161,7 @@ pub(crate) fn child_ids(entries: &[KeptNode], at: usize) -> Option<bool>
     Some(entries[behind].span.row.id.is_some())
 }
 
-// Counts a point more of the last node's.
+// Counts one more point of the last node.
 #[inline(always)]
 pub(crate) fn count_point(entries: &mut [KeptNode])
     requires some { 0 < length entries.old }
@@ -175,7 +174,7 @@ pub(crate) fn count_point(entries: &mut [KeptNode])
     entry.span.points += 1;
 }
 
-// Counts so many points more of the last node's.
+// Counts `more` more points of the last node.
 #[inline(always)]
 pub(crate) fn count_points(entries: &mut [KeptNode], more: u32)
     requires some { 0 < length entries.old }

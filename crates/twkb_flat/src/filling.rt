@@ -1,4 +1,4 @@
-//! A geometry's rows appended to the flat form.
+//! Filling a flat form with the rows of a geometry.
 ghost use Rattle.std.specs.Prelude.{◌≡◌, ◌++◌, OnOk, IfOk};
 ghost use Rattle.twkb_tree.specs.Limits.{largest_limits, IsValid};
 ghost use Rattle.twkb_tree.specs.Tree.{trees};
@@ -15,8 +15,8 @@ use twkb_points::Pt;
 use twkb_tree::{Geometry, Ids, Kind, Members, Shape, id_at, own_parts};
 
 impl Flat {
-    /// The rows of a geometry that is within `Limits::largest()`. Takes memory, and answers
-    /// `AllocError` only where a growth was refused.
+    /// Makes the flat form of a geometry within `Limits::largest()`. Takes memory, and returns
+    /// `AllocError` only if memory is refused.
     pub fn from_geometry(alloc: Global, geometry: &Geometry) -> Result<Flat, AllocError>
         requires { IsValid largest_limits geometry.now }
         ensures { IfOk result (λ flat. flat ≡ rows 0 geometry.now) }
@@ -27,7 +27,7 @@ impl Flat {
     }
 }
 
-// Appends the rows of a geometry, which has this id and stands at this depth.
+// Appends the rows of a geometry with this id at this depth.
 #[cycle(filling)]
 fn push_geometry(
     geometry: &Geometry,
@@ -59,7 +59,7 @@ pub fn own_row(geometry: &Geometry, depth: u32, id: Option<i64>) -> (Row, &[Pt])
     (row, points)
 }
 
-// Appends the rows of a geometry but for its own, the first of them at this depth.
+// Appends the rows of a geometry except its own, starting at this depth.
 #[cycle(filling)]
 fn push_under(geometry: &Geometry, depth: u32, flat: &mut Flat) -> Result<(), AllocError>
     requires { AreValidRowsOfOne largest_limits (flat.old ++ rows_under depth geometry.now) }
@@ -71,7 +71,7 @@ fn push_under(geometry: &Geometry, depth: u32, flat: &mut Flat) -> Result<(), Al
     }
 }
 
-// The same of a geometry that is no collection.
+// Appends the rows of a geometry that is not a collection except its own, starting at this depth.
 fn push_parts(geometry: &Geometry, depth: u32, flat: &mut Flat) -> Result<(), AllocError>
     requires valid { AreValidRowsOfOne largest_limits (flat.old ++ rows_under depth geometry.now) }
     requires no_collection { IsSimple geometry.now }

@@ -1,24 +1,17 @@
 //! The flat form of one geometry.
-ghost use Rattle.std.specs.Prelude.{◌≡◌, ◌↔◌, ◌+◌, ◌<◌, ◌≤◌, ◌^◌, ◌++◌, ◌∷◌, [], List, length, slice_get, Some, None, OnOk, OnErr, IfErr, IsTrue, true, is_some};
+ghost use Rattle.std.specs.Prelude.{◌≡◌, ◌↔◌, ◌+◌, ◌<◌, ◌≤◌, ◌++◌, ◌∷◌, [], List, length, slice_get, Some, None, OnOk, OnErr, IfErr, IsTrue};
 ghost use Rattle.twkb_points.specs.Point.{Point};
 ghost use Rattle.twkb_tree.specs.Tree.{saturated, IsPrecision};
 ghost use Rattle.twkb_tree.specs.Limits.{largest_limits};
-ghost use Rattle.twkb_tree.specs.Rows.{row_points, plain_row, whole_row};
-ghost use Rattle.twkb_tree.specs.RowGrowth.{EndsInLine, point_added};
+ghost use Rattle.twkb_tree.specs.Rows.{row_points, whole_row};
 ghost use Rattle.twkb_tree.specs.Accepted.{Continues};
 ghost use Rattle.twkb_tree.specs.RowLists.{AreValidRowsOfOne};
-ghost use Rattle.twkb_flat.specs.Members.{EndsInMember};
-ghost use Rattle.twkb_flat.specs.Adding.{points_added};
 ghost use Rattle.twkb_flat.specs.Rows.{IsNode, row_with};
 
-use crate::admitting::{MOST_POINTS, admits_at, is_next, leaves_room, look, look_at_id};
-use crate::entries::{
-    KeptNode, PlacedRow, count_point, count_points, ends_in_line, link, link_last, put_point,
-    put_row,
-};
+use crate::admitting::{admits_at, is_next, look};
+use crate::entries::{KeptNode, PlacedRow, link_last, put_point, put_row};
 use crate::node::{Node, NodeId, PointId, Row};
 use crate::point_source::{Copied, PointSource};
-use crate::room::{make_room, put_reserved};
 use crate::work::Work;
 use std::alloc::{AllocError, Global};
 use std::marker::Model;
@@ -27,7 +20,7 @@ use twkb_points::Pt;
 use twkb_tree::{Kind, Limits};
 
 /// One geometry within `Limits::largest()`, or none: its rows in preorder, and the points of all
-/// rows one after another. A contract sees the list of its rows, each with its own points.
+/// rows, one row after another. A contract sees the list of its rows, each with its own points.
 #[derive(Drop)]
 pub struct Flat {
     // The nodes in preorder.
@@ -50,7 +43,7 @@ impl Model for Flat {
 }
 
 impl Flat {
-    /// No rows. Takes no memory.
+    /// Makes a form without rows. Takes no memory.
     pub fn new(alloc: Global) -> Flat
         ensures { result ≡ [] }
     {
@@ -60,7 +53,7 @@ impl Flat {
         }
     }
 
-    /// Forgets all rows, and keeps their room for others. Takes no memory.
+    /// Drops all rows, and keeps their memory for others. Takes no memory.
     pub fn clear(&mut self)
         ensures { self.new ≡ [] }
     {
@@ -68,7 +61,7 @@ impl Flat {
         self.points.clear();
     }
 
-    /// How many nodes there are, 0 to 2^20. Takes no memory.
+    /// The number of nodes, 0 to 2^20. Takes no memory.
     pub fn node_count(&self) -> u32
         ensures value { result ≡ length self.now }
         ensures sound { AreValidRowsOfOne largest_limits self.now }
@@ -76,7 +69,7 @@ impl Flat {
         self.entries.len() as u32
     }
 
-    /// How many points there are, 0 to 2^24. Takes no memory.
+    /// The number of points, 0 to 2^24. Takes no memory.
     pub fn point_count(&self) -> u32
         ensures { result ≡ length (row_points self.now) }
     {
@@ -91,10 +84,10 @@ impl Flat {
         self.entries.is_empty()
     }
 
-    /// Whether the row with these points of its own may be pushed: it is a root where there is no
-    /// row yet, and else goes on with the geometry, by the rules of the table and within
-    /// `Limits::largest()` (profile). Takes no memory.
-    // In its callers' frames, which push what they ask about.
+    /// Whether the row with these points may be pushed: it is a root if there is no row yet, and
+    /// otherwise continues the geometry by the rules of the table and within `Limits::largest()`
+    /// (profile). Takes no memory.
+    // Inlined in its callers, which push the row that they ask about.
     #[inline(always)]
     pub fn admits(&self, row: &Row, points: &[Pt]) -> bool
         ensures { IsTrue result ↔ Continues largest_limits self.now (row_with row.now points.now) }
@@ -111,9 +104,9 @@ impl Flat {
         admits_at(&Limits::largest(), &standing, row, points.len())
     }
 
-    /// Makes a row that may begin a geometry the root, in place of all rows, with the points that
-    /// the vector holds; the vector takes the room of the form's points. Takes memory for the row
-    /// alone; after an `Err` there are no rows, and the vector is as it was.
+    /// Replaces all rows by one root, which must be able to begin a geometry, with the points of
+    /// the vector; the vector gets the memory of the form's points. Takes memory for the row
+    /// alone. After an `Err` there are no rows, and the vector is as it was.
     #[inline(always)]
     pub fn begin(&mut self, root: Row, points: &mut Vec<Pt>) -> Result<(), AllocError>
         requires { Continues largest_limits [] (row_with root points.old.items) }
@@ -138,15 +131,15 @@ impl Flat {
         Ok(())
     }
 
-    /// Makes the row of a point that stands alone, with no id, the root in place of all rows. Takes
-    /// memory; after an `Err` there are no rows.
+    /// Replaces all rows by the root row of one point without an id. Takes memory; after an `Err`
+    /// there are no rows.
     #[inline(always)]
     pub fn begin_point(&mut self, precision: i8, point: Pt) -> Result<(), AllocError>
         requires { IsPrecision precision }
         ensures begun { OnOk result (self.new ≡ whole_row 0 Kind.Point None precision (point ∷ []) ∷ []) }
         ensures none { OnErr result (self.new ≡ []) }
     {
-        // learnt: the point is in range
+        // gives proofs the fact that the point is in range
         let _learnt = point.x();
         self.clear();
         let root = Row {
@@ -170,8 +163,8 @@ impl Flat {
         Ok(())
     }
 
-    /// Appends a row with these points of its own, which `admits` admits. Takes memory; an `Err`
-    /// changes nothing.
+    /// Appends a row with these points, which `admits` must admit. Takes memory; an `Err` changes
+    /// nothing.
     #[inline(always)]
     pub fn push(&mut self, row: Row, points: &[Pt]) -> Result<(), AllocError>
         requires { Continues largest_limits self.old (row_with row points.now) }
@@ -181,134 +174,9 @@ impl Flat {
         self.push_from(row, &Copied { points })
     }
 
-    /// Whether a point more may be added: the last row is a linestring's or ring's, and there are fewer than 2^24 points. Takes no memory.
-    #[inline(always)]
-    pub fn takes_point(&self) -> bool
-        ensures { IsTrue result ↔ (EndsInLine self.now × (length (row_points self.now) < 2 ^ 24)) }
-    {
-        if !ends_in_line(&self.entries) {
-            return false;
-        }
-        self.points.len() < MOST_POINTS as usize
-    }
-
-    /// Whether so many points may be added to the last row, a linestring's or ring's; `false` says
-    /// nothing. Takes no memory.
-    pub fn takes_points(&self, count: u64) -> bool
-        ensures line { result ≡ true → EndsInLine self.now }
-        ensures room { result ≡ true → length (row_points self.now) + count ≤ 2 ^ 24 }
-    {
-        self.takes_point() && count <= MOST_POINTS - u64::from(self.point_count())
-    }
-
-    /// Appends a point to those of the last row, which is a linestring's or ring's, while there is room. Takes memory; an `Err`
-    /// changes nothing.
-    #[inline(always)]
-    pub fn add_point(&mut self, point: Pt) -> Result<(), AllocError>
-        requires line { EndsInLine self.old }
-        requires room { length (row_points self.old) < 2 ^ 24 }
-        ensures added { OnOk result (self.new ≡ point_added point self.old) }
-        ensures same { OnErr result (self.new ≡ self.old) }
-    {
-        // learnt: the point is in range
-        let _learnt = point.x();
-        if let Err(refused) = self.points.push(point) {
-            return Err(refused.into());
-        }
-        count_point(&mut self.entries);
-        Ok(())
-    }
-
-    /// Appends two points to those of the last row, which is a linestring's or ring's, while there is room, behind one test for
-    /// memory. Takes memory where there is no room for both; an `Err` changes nothing.
-    #[inline(always)]
-    pub fn add_two(&mut self, first: Pt, second: Pt) -> Result<(), AllocError>
-        requires line { EndsInLine self.old }
-        requires room { length (row_points self.old) + 2 ≤ 2 ^ 24 }
-        ensures added { OnOk result (self.new ≡ point_added second (point_added first self.old)) }
-        ensures same { OnErr result (self.new ≡ self.old) }
-    {
-        // learnt: the points are in range
-        let _learnt = first.x();
-        let _learnt = second.x();
-        make_room(&mut self.points, 2)?;
-        self.points.push_reserved(first);
-        self.points.push_reserved(second);
-        count_point(&mut self.entries);
-        count_point(&mut self.entries);
-        Ok(())
-    }
-
-    /// Appends points to those of the last row, which is a linestring's or ring's, while there is room, after one test for memory.
-    /// Takes memory where there is no room for all; an `Err` changes nothing.
-    #[inline(always)]
-    pub fn add_points(&mut self, points: &[Pt]) -> Result<(), AllocError>
-        requires line { EndsInLine self.old }
-        requires room { length (row_points self.old) + length points.now ≤ 2 ^ 24 }
-        ensures added { OnOk result (self.new ≡ points_added points.now self.old) }
-        ensures same { OnErr result (self.new ≡ self.old) }
-    {
-        look(points);
-        make_room(&mut self.points, points.len())?;
-        put_reserved(&mut self.points, points);
-        count_points(&mut self.entries, points.len() as u32);
-        Ok(())
-    }
-
-    /// Whether so many members may be added to the multipoint that the last row is a member of, at
-    /// this depth, each with an id or each without; `false` says nothing. Takes no memory.
-    pub fn takes_members(&self, depth: u32, named: bool, count: u64) -> bool
-        ensures ends { result ≡ true → EndsInMember depth named self.now }
-        ensures nodes { result ≡ true → length self.now + count ≤ 2 ^ 20 }
-        ensures points { result ≡ true → length (row_points self.now) + count ≤ 2 ^ 24 }
-    {
-        if !leaves_room(self.node_count(), self.point_count(), count) {
-            return false;
-        }
-        self.is_in_member(depth, named)
-    }
-
-    /// Appends a point as one more member of the multipoint that the last row is a member of, while
-    /// there is room. Takes memory; an `Err` changes nothing.
-    #[inline(always)]
-    pub fn add_member(&mut self, depth: u32, id: Option<i64>, point: Pt) -> Result<(), AllocError>
-        requires member { EndsInMember depth (is_some id) self.old }
-        requires nodes { length self.old < 2 ^ 20 }
-        requires points { length (row_points self.old) < 2 ^ 24 }
-        ensures added { OnOk result (self.new ≡ self.old ++ plain_row depth Kind.Point id (point ∷ []) ∷ []) }
-        ensures same { OnErr result (self.new ≡ self.old) }
-    {
-        look_at_id(id);
-        // learnt: the point is in range
-        let _learnt = point.x();
-        let next = self.entries.len() as u32;
-        let last = next - 1;
-        let row = Row {
-            depth,
-            kind: Kind::Point,
-            id,
-            precision: None,
-        };
-        let span = PlacedRow {
-            row,
-            first: self.points.len() as u32,
-            points: 1,
-        };
-        // the last node ends here, and the member stands under its parent
-        let node = KeptNode {
-            span,
-            next: self.entries[last as usize].next,
-        };
-        if let Err(refused) = put_point(&mut self.entries, &mut self.points, node, point) {
-            return Err(refused);
-        }
-        link(&mut self.entries, last, next);
-        Ok(())
-    }
-
-    /// Appends a row whose points the source appends to those of the form, with no list between;
-    /// `admits` admits it with whatever points the source may give. Takes memory; an `Err` changes
-    /// nothing.
+    /// Appends a row, and lets the source append its points directly to those of the form.
+    /// `admits` must admit the row with any points that the source may give. Takes memory; an
+    /// `Err` changes nothing.
     #[inline(always)]
     pub fn push_from<S: PointSource>(&mut self, row: Row, source: &S) -> Result<(), S::Fault>
         requires { (own : List Point) → S.gives source.now own → Continues largest_limits self.old (row_with row own) }

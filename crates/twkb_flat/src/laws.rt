@@ -1,4 +1,4 @@
-//! Laws of the flat form. Each function does nothing; its contract is the law.
+//! Laws of the flat form, each stated as the contract of an empty function.
 ghost use Rattle.std.specs.Prelude.{◌≡◌, ℕ, ◌+◌, ◌≤◌, ◌^◌, ◌++◌, ◌∷◌, List, length};
 ghost use Rattle.twkb_tree.specs.Limits.{largest_limits, IsValid};
 ghost use Rattle.twkb_tree.specs.Tree.{Tree, saturated};
@@ -8,7 +8,7 @@ ghost use Rattle.twkb_tree.specs.RowLists.{AreValidRowsOfOne};
 ghost use Rattle.twkb_flat.specs.declared.node.Node.{Node};
 ghost use Rattle.twkb_flat.specs.Rows.{IsNode};
 
-/// The rows of a flat form are within the caps, so that places of nodes and points fit `u32`.
+/// The rows of a flat form are within the caps, so places of nodes and points fit `u32`.
 pub fn caps()
     ensures nodes { (rs : List TableRow) → AreValidRowsOfOne largest_limits rs → length rs ≤ 2 ^ 20 }
     ensures points { (rs : List TableRow) → AreValidRowsOfOne largest_limits rs → length (row_points rs) ≤ 2 ^ 24 }
@@ -19,12 +19,12 @@ pub fn every_geometry()
     ensures { (g : Tree) (front : List TableRow) (r : TableRow) (more : List TableRow) → IsValid largest_limits g → rows 0 g ≡ front ++ r ∷ more → Continues largest_limits front r }
 {}
 
-/// The rows and a place determine the node there.
+/// The rows and a place determine the node at that place.
 pub fn one_node()
     ensures { (rs : List TableRow) (i : ℕ) (m n : Node) → IsNode rs i m → IsNode rs i n → m ≡ n }
 {}
 
-/// Reads one after another add up, also where the counter has stopped.
+/// Reads that follow each other add up, even if the counter has stopped.
 pub fn reads_add_up()
     ensures { (n more : ℕ) → saturated (saturated n + more) ≡ saturated (n + more) }
 {}

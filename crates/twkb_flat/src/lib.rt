@@ -1,6 +1,7 @@
-//! The flat form of a geometry: its rows in preorder, and their points in one list.
+//! The flat form of a geometry: its rows in preorder, and all their points in one list.
 #![tactic(auto)]
 
+mod adding;
 mod admitting;
 mod building;
 mod entries;

@@ -4,13 +4,13 @@ use twkb_tree::Kind;
 /// A row without its points (profile).
 #[derive(Clone, Copy, Debug, PartialEq, Eq)]
 pub struct Row {
-    /// How deep the row stands, 0 for the root.
+    /// The depth of the row, 0 for the root.
     pub depth: u32,
-    /// What it holds.
+    /// The kind of the row.
     pub kind: Kind,
     /// Its id, if it has one.
     pub id: Option<i64>,
-    /// The decimals of its coordinates, -8 to 7, where it is a geometry of its own.
+    /// The number of decimals of its coordinates, -8 to 7, if the row is a geometry itself.
     pub precision: Option<i8>,
 }
 
@@ -22,15 +22,15 @@ pub struct NodeId(pub u32);
 #[derive(Clone, Copy, Debug, PartialEq, Eq)]
 pub struct PointId(pub u32);
 
-/// A row where it stands.
+/// A row with its place.
 #[derive(Clone, Copy, Debug, PartialEq, Eq)]
 pub struct Node {
     /// The row.
     pub row: Row,
-    /// The node after its subtree; the number of nodes where there is none.
+    /// The node after its subtree; the number of nodes if there is none.
     pub next: NodeId,
-    /// The first of the row's own points; where it has none, the point that comes after it.
+    /// The first of the row's own points; if it has none, the point after its place.
     pub first: PointId,
-    /// How many points the row itself has.
+    /// The number of points of the row itself.
     pub points: u32,
 }

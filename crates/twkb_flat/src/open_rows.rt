@@ -13,7 +13,7 @@ use crate::flat::Flat;
 use twkb_tree::{Kind, OpenRow, Standing};
 
 impl Flat {
-    // How many rows are open: one at each depth, down to that of the last row.
+    // The number of open rows: one for each depth, down to that of the last row.
     pub(crate) fn levels(&self) -> u32
         ensures value { result ≡ open_count (reverse self.now) }
         ensures sound { AreValidRowsOfOne largest_limits self.now }
@@ -25,7 +25,7 @@ impl Flat {
         self.row(count - 1).depth + 1
     }
 
-    // What the test of a row asks of the open row at this depth.
+    // The open row at this depth, as far as the test of a row needs it.
     fn open_row(&self, depth: u32) -> OpenRow
         requires { depth < open_count (reverse self.now) }
         ensures { IsOpenAt depth (reverse self.now) result }
@@ -37,7 +37,7 @@ impl Flat {
         }
     }
 
-    // Where a row at this depth stands behind the rows.
+    // The place of a row at this depth after the rows.
     pub(crate) fn standing(&self, depth: u32) -> Standing
         requires { depth ≤ open_count (reverse self.now) }
         ensures { (os : List OpenRow) → AreOpen (reverse self.now) os → result ≡ standing_at depth os (length self.now) (length (row_points self.now)) }
@@ -58,8 +58,8 @@ impl Flat {
         }
     }
 
-    // Whether the last row stands at this depth and is a member of a multipoint, whose members have
-    // ids or have none.
+    // Whether the last row is at this depth and is a member of a multipoint, whose members all
+    // have ids or all have none.
     pub(crate) fn is_in_member(&self, depth: u32, named: bool) -> bool
         ensures { result ≡ true → EndsInMember depth named self.now }
     {

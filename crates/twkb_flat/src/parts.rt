@@ -1,4 +1,4 @@
-//! Parts of geometries that are no geometries of their own: points, lines, rings and polygons.
+//! Parts of geometries that are not geometries themselves: points, lines, rings and polygons.
 ghost use Rattle.std.specs.Prelude.{◌≡◌, ◌++◌, ◌∷◌, [], ℕ, ℤ, List, Option, drop, OnOk, IfOk};
 ghost use Rattle.twkb_points.specs.Point.{Point};
 ghost use Rattle.twkb_tree.specs.Limits.{largest_limits};
@@ -16,24 +16,24 @@ use std::slice::from_ref;
 use twkb_points::Pt;
 use twkb_tree::{Item, Kind, Lines, Pts};
 
-// What a multi or a polygon has as members or rings.
+// A member of a multi geometry, or a ring of a polygon.
 pub(crate) trait Part: Item {
-    // The points of its own row.
+    // The points of the part's own row.
     ghost own: { Self → List Point };
 
-    // The rows below its own, the first of them at a depth.
+    // The rows below the part's own, starting at a depth.
     ghost below: { ℕ → Self → List TableRow };
 
-    // The points of its own row. Takes no memory.
+    // The points of the part's own row. Takes no memory.
     fn own_points(&self) -> &[Pt]
         ensures { result.now ≡ own self.now };
 
-    // Appends the rows below its own, at this depth.
+    // Appends the rows below the part's own, at this depth.
     fn push_below(&self, depth: u32, flat: &mut Flat) -> Result<(), AllocError>
         requires valid { AreValidRowsOfOne largest_limits (flat.old ++ below depth self.now) }
         ensures { OnOk result (flat.new ≡ flat.old ++ below depth self.now) };
 
-    // The part whose rows stand at a place, and the place after them.
+    // Builds the part whose rows begin at a place, and returns the place after them.
     fn take(flat: &Flat, alloc: Global, at: usize) -> Result<(Self, usize), AllocError>
         requires stands { (kind : Kind) × (d : ℕ) × (id : Option ℤ) × (part : Self) × (rest : List TableRow) × ItemAt IsAny (part_rows own below kind d) flat.now at d id part rest }
         ensures { (kind : Kind) (d : ℕ) (id : Option ℤ) (part : Self) (rest : List TableRow) → ItemAt IsAny (part_rows own below kind d) flat.now at d id part rest → IfOk result (λ taken. (taken.0 ≡ part) × (drop taken.1 flat.now ≡ rest)) };

@@ -1,34 +1,34 @@
-//! Where the points of a row come from.
+//! Sources of the points of a row.
 ghost use Rattle.std.specs.Prelude.{◌≡◌, ◌++◌, List, OnOk, OnErr, IfErr};
 ghost use Rattle.twkb_points.specs.Point.{Point};
 
 use std::alloc::AllocError;
 use twkb_points::{PointTail, Pt};
 
-/// What appends the points of one row to those of a flat form.
+/// Appends the points of one row to those of a flat form.
 pub trait PointSource {
-    /// Why it appends none.
+    /// Why it appended no points.
     type Fault;
 
-    // These are points that it may append.
+    // It may append these points.
     ghost gives: { Self → List Point → Type 0 };
 
-    // This is a fault that it may answer.
+    // It may answer with this fault.
     ghost refuses: { Self → Self.Fault → Type 0 };
 
-    /// Appends the points of the row to a tail that is lent, whatever list it is the end of; an `Err`
-    /// changes nothing.
+    /// Appends the points of the row to a borrowed tail, whatever list that is the end of; an
+    /// `Err` changes nothing.
     fn append_to<L: PointTail>(&self, points: &mut L) -> Result<(), Self::Fault>
         ensures given { OnOk result ((own : List Point) × (L.held points.new ≡ L.held points.old ++ own) × gives self.now own) }
         ensures refused { IfErr result (refuses self.now) }
         ensures same { OnErr result (L.held points.new ≡ L.held points.old) };
 
-    /// What it answers where memory is refused.
+    /// The fault that it returns if memory is refused.
     fn want_of_memory(&self) -> Self::Fault
         ensures { refuses self.now result };
 }
 
-// Points that stand in a list, and are copied.
+// Points copied from a slice.
 #[derive(Clone, Copy)]
 pub(crate) struct Copied<'a> {
     pub(crate) points: &'a [Pt],

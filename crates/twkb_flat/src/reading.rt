@@ -1,4 +1,4 @@
-//! Rows of the flat form by their places, for calls of this crate that count no reads.
+//! Rows of the flat form by their places, for calls inside this crate, which count no reads.
 ghost use Rattle.std.specs.Prelude.{◌≡◌, ◌↔◌, ◌-◌, ◌<◌, ◌≤◌, ◌^◌, ◌∷◌, List, length, take, drop, IsTrue};
 ghost use Rattle.twkb_tree.specs.Rows.{Row as TableRow};
 ghost use Rattle.twkb_flat.specs.Rows.{row_with};
@@ -9,7 +9,7 @@ use crate::node::Row;
 use twkb_points::Pt;
 
 impl Flat {
-    // Whether there is a row at a place, and it stands at this depth.
+    // Whether there is a row at a place, and it has this depth.
     pub(crate) fn is_at(&self, at: usize, depth: u32) -> bool
         ensures { IsTrue result ↔ IsAt depth (drop at self.now) }
     {

@@ -1,13 +1,13 @@
-//! Room for points.
+//! Room for points in a vector.
 ghost use Rattle.std.specs.Prelude.{◌≡◌, ◌+◌, ◌≤◌, ◌++◌, OnOk, length, vec_len, vec_capacity};
 
 use std::alloc::AllocError;
 use twkb_points::Pt;
 
-// For how many points there is room at least, once two did not fit: a short list then asks for memory once.
+// The least room after two points did not fit, so that a short list asks for memory once.
 const ROOM: usize = 16;
 
-// Makes room for so many points more where there is less. Takes memory only where they do not fit.
+// Makes room for `count` more points if there is less. Takes memory only if they do not fit.
 #[inline(always)]
 pub(crate) fn make_room(points: &mut Vec<Pt>, count: usize) -> Result<(), AllocError>
     ensures same { points.new.items ≡ points.old.items }
@@ -19,7 +19,8 @@ pub(crate) fn make_room(points: &mut Vec<Pt>, count: usize) -> Result<(), AllocE
     grow(points, count)
 }
 
-// Makes room for so many points more: from few on for sixteen in all, and else for twice as many. Takes memory.
+// Makes room for `count` more points: up to sixteen in all if there are few, and otherwise for
+// twice as many. Takes memory.
 #[inline(never)]
 fn grow(points: &mut Vec<Pt>, count: usize) -> Result<(), AllocError>
     ensures same { points.new.items ≡ points.old.items }

@@ -1,4 +1,4 @@
-//! The rows of a form that is owned, each with its points as a slice.
+//! The rows of an owned form, each with its points as a slice.
 ghost use Rattle.std.specs.Prelude.{◌≡◌, ◌+◌, ◌<◌, Some, length, slice_get};
 ghost use Rattle.twkb_tree.specs.Tree.{saturated};
 ghost use Rattle.twkb_flat.specs.Rows.{row_with};
@@ -8,8 +8,8 @@ use crate::node::{NodeId, Row};
 use crate::work::Work;
 use twkb_points::Pt;
 
-/// A form whose rows give their points as slices, which are counted once however often they are
-/// read. It owns the form, so nobody makes one of a `&Flat`.
+/// A form whose rows give their points as slices, each counted once however often it is read. It
+/// owns the form, so it can't be made from a `&Flat`.
 #[derive(Drop)]
 pub struct Rows {
     /// The form.
@@ -17,8 +17,8 @@ pub struct Rows {
 }
 
 impl Rows {
-    /// The row at a place and its own points, counted as one read of the node and one of each of
-    /// the points. Takes no memory.
+    /// The row at a place and its own points, counted as one read of the node and one read of
+    /// each point. Takes no memory.
     pub fn row_at(&self, id: NodeId, work: &mut Work) -> (Row, &[Pt])
         requires { id.0 < length self.now.flat }
         ensures row { slice_get self.now.flat id.0 ≡ Some (row_with result.0 result.1.now) }

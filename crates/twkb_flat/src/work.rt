@@ -1,24 +1,24 @@
-//! Counted work.
+//! Counters of work.
 ghost use Rattle.std.specs.Prelude.{◌≡◌, ◌+◌, ◌≤◌};
 ghost use Rattle.twkb_tree.specs.Tree.{saturated};
 
-/// What was measured and read, each number at most `u64::MAX`.
+/// The amount measured and read, each number at most `u64::MAX`.
 #[derive(Clone, Copy, Debug, PartialEq, Eq)]
 pub struct Work {
-    /// Points of the flat forms that were measured.
+    /// The points of the flat forms that were measured.
     pub points: u64,
-    /// Their nodes.
+    /// The nodes of these forms.
     pub nodes: u64,
-    /// Their TWKB geometries: the rows that have a header of their own.
+    /// The TWKB geometries of these forms: the rows that have their own header.
     pub entries: u64,
-    /// How often a point was read.
+    /// The number of reads of points.
     pub point_reads: u64,
-    /// How often a node was read.
+    /// The number of reads of nodes.
     pub node_reads: u64,
 }
 
 impl Work {
-    /// No work. Takes no memory.
+    /// Makes counters at 0. Takes no memory.
     pub fn new() -> Work
         ensures { result ≡ record { points = 0; nodes = 0; entries = 0; point_reads = 0; node_reads = 0 } }
     {

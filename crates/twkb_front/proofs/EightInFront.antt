@@ -1,28 +1,15 @@
--- Points in front of bytes, two after two.
-use Rattle.std.proofs.Common.{◌≡◌, ℕ, ◌+◌, ◌-◌, ◌<◌, ◌^◌, List, [], ◌∷◌, length, take, drop, true, pos, negsuc, sym, ap, ◌∙◌, refl, subst, arith}
+-- Points at the start of bytes, two after two.
+use Rattle.std.proofs.Common.{◌≡◌, ℕ, ◌+◌, ◌-◌, List, [], ◌∷◌, length, take, drop, true, sym, ap, ◌∙◌, refl, subst, arith}
 use Rattle.std.specs.Prelude.{ℤ, ◌+ℤ◌}
-use Rattle.std.proofs.lemmas.Int.{ints}
 use Rattle.std.proofs.lemmas.List.{drop-drop, take_rest}
 use Rattle.twkb_num.specs.Zigzag.{zigzag_of}
 use Rattle.twkb_num.proofs.ZigzagLemmas.{unzigzag_of-zigzag_of}
-use Rattle.twkb_points.specs.Point.{Point, IsCoordinate, IsInnerCoordinate, moved_by, point_at}
+use Rattle.twkb_points.specs.Point.{Point, IsCoordinate, moved_by, point_at}
 use Rattle.twkb_grammar.specs.PlainReader.{in_range}
 use Rattle.twkb_front.specs.Front.{PointsInFront, StepsTo, TwoInFront}
 use Rattle.twkb_front.proofs.Ranges.{passes}
 
--- ---- steps from an inner point
-
--- a short step
-pub inner_once : (x d : ℤ) → IsInnerCoordinate x → zigzag_of d < 2 ^ 28 → IsCoordinate (x +ℤ d)
-inner_once x (pos k) (low, high) small = (omega (arith, ints, low, high, small), omega (arith, ints, low, high, small))
-inner_once x (negsuc k) (low, high) small = (omega (arith, ints, low, high, small), omega (arith, ints, low, high, small))
-
--- and another
-pub inner_twice : (x d e : ℤ) → IsInnerCoordinate x → zigzag_of d < 2 ^ 28 → zigzag_of e < 2 ^ 28 → IsCoordinate ((x +ℤ d) +ℤ e)
-inner_twice x (pos k) (pos l) (low, high) one two = (omega (arith, ints, low, high, one, two), omega (arith, ints, low, high, one, two))
-inner_twice x (pos k) (negsuc l) (low, high) one two = (omega (arith, ints, low, high, one, two), omega (arith, ints, low, high, one, two))
-inner_twice x (negsuc k) (pos l) (low, high) one two = (omega (arith, ints, low, high, one, two), omega (arith, ints, low, high, one, two))
-inner_twice x (negsuc k) (negsuc l) (low, high) one two = (omega (arith, ints, low, high, one, two), omega (arith, ints, low, high, one, two))
+-- ---- steps
 
 -- steps that stay in range, as zigzag forms
 pub step_to : (from to : Point) (dx dy : ℤ) → IsCoordinate (from.x +ℤ dx) → IsCoordinate (from.y +ℤ dy) → to ≡ moved_by from dx dy → StepsTo from (zigzag_of dx) (zigzag_of dy) to
@@ -35,13 +22,13 @@ step_to from to dx dy x_in y_in leads =
       leads = leads ∙ (λ i. point_at (from.x +ℤ x_is i) (from.y +ℤ y_is i));
     }
 
--- ---- what is behind some bytes
+-- ---- what is after some bytes
 
 -- two points in a slice
 pub two_in_slice : (from p q : Point) (bytes : List ℕ) (i n : ℕ) → TwoInFront from (take (length bytes - i) (drop i bytes)) p q n → TwoInFront from (drop i bytes) p q n
 two_in_slice from p q bytes i n two = subst (λ l. TwoInFront from l p q n) (take_rest bytes i) two
 
--- two points, and others behind them
+-- two points, and others after them
 pub two_then : (from p q : Point) (bytes : List ℕ) (n m : ℕ) (ps : List Point) → TwoInFront from bytes p q n → PointsInFront q (drop n bytes) ps m → PointsInFront from bytes (p ∷ q ∷ ps) (n + m)
 two_then from p q bytes n m ps two rest =
     let behind : drop n bytes ≡ drop two.second_count (drop two.first_count bytes) = ap (λ k. drop k bytes) two.all ∙ sym (drop-drop two.second_count two.first_count bytes) in (

@@ -1,4 +1,4 @@
--- Optional parts of a header stand in front of bytes.
+-- Optional parts of a header that are complete at the start of bytes.
 use Rattle.std.proofs.Common.{◌≡◌, ℕ, zero, suc, ◌+◌, ◌-◌, ◌<◌, ◌≤◌, List, [], ◌∷◌, ◌++◌, length, take, drop, true, false, ℤ, Option, Some, None, refl, sym, ◌∙◌, ap, subst, arith}
 use Rattle.std.proofs.Math.Seq.{take-suc}
 use Rattle.std.proofs.lemmas.List.{length-take-le, length-drop, take_rest}
@@ -22,7 +22,7 @@ use Rattle.twkb_front.specs.Parts.{sides, sized_head, SidesInFront, BoxInFront, 
 
 -- ---- the sides of a box
 
--- one more behind some
+-- one more after some
 sides_push : (count : ℕ) → sides count ++ Box ∷ [] ≡ sides (suc count)
 sides_push zero = refl
 sides_push (suc count) = ap (λ rs. Box ∷ rs) (sides_push count)
@@ -85,9 +85,9 @@ parts_whole meta bytes size from used none first next =
           (subst (λ b. AreNumberParts h at (where_set b (Extended ∷ []) ++ rest) (take from bytes ++ take used left) to) (sym none) both);
     }
 
--- ---- a reader behind a metadata byte
+-- ---- a reader after a metadata byte
 
--- a metadata byte in front, and all parts that it asks for
+-- a metadata byte at the start, and all parts that it asks for
 pub read_ahead : (limits : Allowance) (front : List ℕ) (e : Sums) (gs : List Group) (k : Kind) (precision : ℤ) (rows : List Row) (told : ℕ → Notes) (rest : List ℕ) (size : Option ℕ) (from used points : ℕ) → (let meta : ℕ = get_or rest 0 0 in 0 < length rest → meta < 256 → bit meta 4 ≡ false
     → objection limits e (Metadata (kind_number k)) meta ≡ None → points ≡ e.points + points_by (Metadata (kind_number k)) meta → PartsInFront meta (take (length rest - 1) (drop 1 rest)) size from used → NotedOutline limits front e (gs, OnMetadata k precision) rows told
     → NotedOutline limits (front ++ take (1 + used) rest) (record { bytes = e.bytes + (1 + used); position = e.position; nodes = e.nodes; points = points }) (gs, begins k (sized_head precision meta size ((e.bytes + 1) + from))) rows (λ start. note_metadata meta (told start)))
@@ -105,7 +105,7 @@ read_ahead limits front e gs k precision rows told rest size from used points so
     subst (λ l. NotedOutline limits (front ++ l) (record { bytes = e.bytes + (1 + used); position = e.position; nodes = e.nodes; points = points }) o rows noted) whole
     (subst (λ s. NotedOutline limits (front ++ meta ∷ parts) s o rows noted) sums read)
 
--- the same where the code keeps the byte and a header of its own
+-- a reader after a header, if the code keeps the byte and a header of its own
 pub header_ahead : (limits : Allowance) (front : List ℕ) (e : Sums) (gs : List Group) (k : Kind) (t : Step) (precision : ℤ) (rows : List Row) (told : ℕ → Notes) (rest : List ℕ) (meta : ℕ) (own : Head) (size : Option ℕ) (from used points : ℕ) → 0 < length rest → get_or rest 0 0 < 256 → meta ≡ get_or rest 0 0
     → bit meta 4 ≡ false → objection limits e (Metadata (kind_number k)) meta ≡ None → points ≡ e.points + points_by (Metadata (kind_number k)) meta → PartsInFront meta (take (length rest - 1) (drop 1 rest)) size from used
     → own ≡ bare_head precision meta (e.bytes + 1) → t ≡ OnMetadata k precision → NotedOutline limits front e (gs, t) rows told

@@ -1,4 +1,4 @@
--- Points that stand in front of bytes.
+-- Points that are complete at the start of bytes.
 use Rattle.std.proofs.Common.{◌≡◌, ℕ, ◌+◌, ◌-◌, List, length, take, drop, true, ℤ, sym, ap, ◌∙◌, subst, arith}
 use Rattle.std.specs.Prelude.{◌+ℤ◌}
 use Rattle.std.proofs.Math.Seq.{take-add}
@@ -9,7 +9,7 @@ use Rattle.twkb_grammar.specs.PlainReader.{in_range}
 use Rattle.twkb_front.specs.Front.{NumberInFront, PointInFront, StepsTo}
 use Rattle.twkb_front.proofs.Steps.{unzigzag_back}
 
--- two numbers, one behind the other, are the steps to a point
+-- two numbers, one after the other, are the steps to a point
 pub pair_in_front : (from to : Point) (bytes : List ℕ) (x y w h : ℕ) → NumberInFront bytes x w → NumberInFront (take (length bytes - w) (drop w bytes)) y h → StepsTo from x y to → PointInFront from bytes to (w + h)
 pair_in_front from to bytes x y w h a cut steps =
     let b : NumberInFront (drop w bytes) y h = subst (λ l. NumberInFront l y h) (take_rest bytes w) cut in
@@ -30,7 +30,7 @@ pair_in_front from to bytes x y w h a cut steps =
       };
     }
 
--- the same, a step at a time
+-- two numbers are the steps to a point, a step at a time
 pub two_numbers : (from beside to : Point) (bytes : List ℕ) (x y w h : ℕ) (dx dy : ℤ) → NumberInFront bytes x w → NumberInFront (take (length bytes - w) (drop w bytes)) y h → zigzag_of dx ≡ x → zigzag_of dy ≡ y
     → in_range (from.x +ℤ dx) ≡ true → beside ≡ point_at (from.x +ℤ dx) from.y → in_range (beside.y +ℤ dy) ≡ true → to ≡ point_at beside.x (beside.y +ℤ dy) → PointInFront from bytes to (w + h)
 two_numbers from beside to bytes x y w h dx dy a cut ex ey rx eb ry et =

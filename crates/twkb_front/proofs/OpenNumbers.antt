@@ -1,4 +1,4 @@
--- A number that stands whole in front is begun by its bytes but the last.
+-- A number that is complete is begun by its bytes but the last.
 use Rattle.std.proofs.Common.{◌≡◌, ℕ, zero, suc, ◌-◌, ◌<◌, ◌≤◌, List, [], ◌∷◌, length, take, subst, arith}
 use Rattle.std.proofs.lemmas.List.{length-take-le}
 use Rattle.std.specs.List.{AllByRecursion}

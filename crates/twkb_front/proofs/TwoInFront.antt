@@ -9,7 +9,7 @@ use Rattle.twkb_num.proofs.VarintLemmas.{IsVarint-varint_of, some_byte}
 use Rattle.twkb_points.specs.Point.{Point}
 use Rattle.twkb_front.specs.Front.{PointInFront, StepsTo, TwoInFront}
 
--- two shortest spellings in front are the steps to a point
+-- two shortest spellings at the start are the steps to a point
 shortest_pair : (from to : Point) (x y : ℕ) (rest : List ℕ) → x < 2 ^ 28 → y < 2 ^ 28 → StepsTo from x y to → PointInFront from ((varint_of x ++ varint_of y) ++ rest) to (length (varint_of x ++ varint_of y))
 shortest_pair from to x y rest x_small y_small steps =
     let both : List ℕ = varint_of x ++ varint_of y in

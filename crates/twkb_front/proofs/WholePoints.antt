@@ -1,4 +1,4 @@
--- A point stands behind a header.
+-- A point after a header.
 use Rattle.std.proofs.Common.{◌≡◌, ℕ, ◌+◌, ◌-◌, List, ◌++◌, length, take, drop, ap, ◌∙◌, subst, Option, arith}
 use Rattle.std.proofs.Math.Seq.{take-add}
 use Rattle.std.proofs.lemmas.List.{length-drop, take_rest}
@@ -6,7 +6,7 @@ use Rattle.twkb_points.specs.Point.{Point, origin}
 use Rattle.twkb_front.specs.Front.{PointInFront}
 use Rattle.twkb_front.specs.Whole.{HeaderInFront, WholePoint}
 
--- a point behind a header
+-- a point after a header
 pub behind_header : (bytes : List ℕ) (size : Option ℕ) (header steps : ℕ) (from to : Point) → from ≡ origin → HeaderInFront bytes size header → PointInFront from (take (length bytes - header) (drop header bytes)) to steps
     → WholePoint bytes to (header + steps) size
 behind_header bytes size header steps from to start h cut =

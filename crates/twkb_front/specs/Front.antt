@@ -1,4 +1,4 @@
--- What stands in front of bytes.
+-- What is complete at the start of bytes.
 use Rattle.std.specs.Prelude.{◌≡◌, true, ◌+ℤ◌, ℕ, ◌+◌, ◌<◌, ◌≤◌, List, [], ◌∷◌, length, take, drop}
 use Rattle.twkb_num.specs.Varint.{IsVarint}
 use Rattle.twkb_num.specs.Zigzag.{unzigzag_of}
@@ -31,7 +31,7 @@ abbrev pub PointsInFront : Point → List ℕ → List Point → ℕ → Type 0
 PointsInFront from bytes [] count = count ≡ 0
 PointsInFront from bytes (p ∷ ps) count = (first : ℕ) × (rest : ℕ) × (count ≡ first + rest) × PointInFront from bytes p first × PointsInFront p (drop first bytes) ps rest
 
--- the last of these points, or where there are none the point before them
+-- the last of these points, or if there are none the point before them
 abbrev pub last_of : Point → List Point → Point
 last_of from [] = from
 last_of from (p ∷ ps) = last_of p ps

@@ -1,5 +1,5 @@
 -- A header that is complete at the start of bytes.
-use Rattle.std.specs.Prelude.{◌≡◌, true, false, ℕ, ◌+◌, ◌≤◌, ◌<◌, ◌%◌, List, length, drop, get_or}
+use Rattle.std.specs.Prelude.{◌≡◌, false, ℕ, ◌+◌, ◌≤◌, ◌<◌, ◌%◌, List, length, drop, get_or}
 use Rattle.twkb_grammar.specs.Bits.{bit}
 use Rattle.twkb_front.specs.Parts.{PartsInFront}
 use Rattle.twkb_front.specs.declared.header.FrontHeader.{FrontHeader}

@@ -1,4 +1,4 @@
--- The optional parts of a header that stand in front of bytes.
+-- The optional parts of a header that are complete at the start of bytes.
 use Rattle.std.specs.Prelude.{ℕ, zero, suc, ◌+◌, ◌≤◌, ℤ, List, [], ◌∷◌, length, take, Option}
 use Rattle.twkb_grammar.specs.Bits.{bit}
 use Rattle.twkb_grammar.specs.Roles.{Role, Size, Box, where_set}
@@ -10,7 +10,7 @@ abbrev pub sides : ℕ → List Role
 sides zero = []
 sides (suc n) = Box ∷ sides n
 
--- a header with this size, which counts the bytes behind so many
+-- a header with this size, which counts the bytes after so many
 abbrev pub sized_head : (precision : ℤ) → (meta : ℕ) → (size : Option ℕ) → (from : ℕ) → Head
 sized_head precision meta size from = record { precision = precision; meta = meta; size = size; from = from }
 
@@ -29,7 +29,7 @@ pub record SizeInFront (meta : ℕ) (bytes : List ℕ) (size : Option ℕ) (from
   pub within : from ≤ length bytes
   pub parts : (precision : ℤ) (at : ℕ) → AreNumberParts (bare_head precision meta at) at (where_set (bit meta 1) (Size ∷ [])) (take from bytes) (sized_head precision meta size (at + from))
 
--- so many of the bytes are all optional parts that the metadata byte asks for, with this size, which counts the bytes behind so many
+-- so many of the bytes are all optional parts that the metadata byte asks for, with this size, which counts the bytes after so many
 pub record PartsInFront (meta : ℕ) (bytes : List ℕ) (size : Option ℕ) (from used : ℕ) : Type 0 where
   pub within : used ≤ length bytes
   pub ordered : from ≤ used

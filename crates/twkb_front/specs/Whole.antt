@@ -1,4 +1,4 @@
--- A point that stands in front of bytes with its header.
+-- A point that is complete at the start of bytes with its header.
 use Rattle.std.specs.Prelude.{◌≡◌, ℕ, ◌%◌, ◌<◌, ◌≤◌, List, [], ◌∷◌, ◌++◌, length, take, get_or, Option, Some, None, IfSome}
 use Rattle.twkb_points.specs.Point.{Point, origin}
 use Rattle.twkb_outline.specs.Reading.{Pair}
@@ -24,7 +24,7 @@ pub record HeaderInFront (bytes : List ℕ) (size : Option ℕ) (count : ℕ) : 
   pub short : IfSome size (λ n. n < 128)
   pub whole : take count bytes ≡ header_bytes (get_or bytes 0 0) size
 
--- so many of the bytes are a point behind such a header
+-- so many of the bytes are a point after such a header
 pub record WholePoint (bytes : List ℕ) (to : Point) (count : ℕ) (size : Option ℕ) : Type 0 where
   pub some : 0 < count
   pub within : count ≤ length bytes

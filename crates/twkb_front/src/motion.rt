@@ -5,7 +5,7 @@ ghost use Rattle.twkb_grammar.specs.PlainReader.{in_range};
 
 use twkb_points::Pt;
 
-/// The place after a step along x, or `None` where that is out of range.
+/// The place after a step along x, or `None` if that is out of range.
 #[tactic(auto, using(crate::proofs::Ranges::ranges))]
 pub fn moved_x(at: Pt, step: i64) -> Option<Pt>
     ensures range { IsSome result ↔ (in_range (at.x +ℤ step) ≡ true) }
@@ -15,7 +15,7 @@ pub fn moved_x(at: Pt, step: i64) -> Option<Pt>
     Pt::try_new(x, at.y())
 }
 
-/// The place after a step along y, or `None` where that is out of range.
+/// The place after a step along y, or `None` if that is out of range.
 #[tactic(auto, using(crate::proofs::Ranges::ranges))]
 pub fn moved_y(at: Pt, step: i64) -> Option<Pt>
     ensures range { IsSome result ↔ (in_range (at.y +ℤ step) ≡ true) }

@@ -1,4 +1,4 @@
-//! The optional parts of a header that stand whole in front of bytes.
+//! The optional parts of a header that are complete at the start of bytes.
 ghost use Rattle.std.specs.Prelude.{IfSome};
 ghost use Rattle.twkb_front.specs.Parts.{SizeInFront, BoxInFront, PartsInFront};
 
@@ -47,7 +47,7 @@ fn front_box(metadata: Metadata, bytes: &[u8]) -> Option<usize>
     Some(used)
 }
 
-/// The optional parts that this metadata byte asks for, all of them; `None` too where one is the extended dimensions byte.
+/// The optional parts that this metadata byte asks for, all of them; `None` too if one is the extended dimensions byte.
 #[inline(always)]
 pub fn front_parts(metadata: Metadata, bytes: &[u8]) -> Option<Parts>
     ensures { IfSome result (λ parts. PartsInFront metadata bytes.now parts.size parts.from parts.used) }

@@ -1,8 +1,9 @@
 //! Points that are complete at the start of bytes, each by its two steps from the one before it.
-ghost use Rattle.std.specs.Prelude.{◌≡◌, ◌<◌, ◌≤◌, ◌/◌, ◌^◌, IfSome, length, drop};
+ghost use Rattle.std.specs.Prelude.{◌≡◌, ℕ, ◌+◌, ◌<◌, ◌≤◌, ◌/◌, ◌^◌, IfSome, length, drop};
 ghost use Rattle.twkb_num.specs.Block.{AreEnds};
 ghost use Rattle.twkb_num.specs.Zigzag.{zigzag_of};
 ghost use Rattle.twkb_points.specs.Point.{IsCoordinate};
+ghost use Rattle.twkb_points.specs.Near.{IsNear};
 ghost use Rattle.twkb_front.specs.Front.{PointInFront, PointsInFront, StepsTo, TwoInFront, last_of};
 
 use crate::motion::{moved_x, moved_y};
@@ -82,26 +83,25 @@ pub fn front_two(from: Pt, bytes: &[u8]) -> Option<(Pt, Pt, usize)>
     Some((first, second, four.used))
 }
 
-/// The same by the ends of numbers that `varint_ends` found, moved to where these bytes begin; not found where the point before
-/// them is no inner one. After the two the ends moved by as many bits are those of the bytes after them.
+// Two points by the ends of numbers that `varint_ends` found, moved to the start of these bytes, from a point so near the origin that
+// the range needs no test. After the two the ends moved by as many bits are those of the bytes after them.
 #[inline(always)]
-pub fn front_two_by(from: Pt, bytes: &[u8], ends: u64) -> Option<(Pt, Pt, usize)>
+fn front_two_by(from: Pt, bytes: &[u8], ends: u64) -> Option<(Pt, Pt, usize)>
+    requires near { IsNear 6 from }
     requires long { 16 ≤ length bytes.now }
     requires ends { AreEnds 0 128 bytes.now ends }
     ensures two { IfSome result (λ front. TwoInFront from bytes.now front.0 front.1 front.2) }
+    ensures onward { IfSome result (λ front. (n : ℕ) → IsNear n from → IsNear (n + 2) front.1) }
     ensures few { IfSome result (λ front. front.2 ≤ 16) }
     ensures rest { IfSome result (λ front. AreEnds 0 128 (drop front.2 bytes.now) (ends / 2 ^ front.2)) }
 {
-    if !from.is_inner() {
-        return None;
-    }
     let four = four_varints_by(bytes, ends)?;
     let one = from.step(four.first, four.second);
     let two = one.step(four.third, four.fourth);
     Some((one, two, four.used))
 }
 
-/// Eight points that stand in front of bytes.
+/// Eight points that are complete at the start of bytes.
 #[derive(Clone, Copy, Debug, PartialEq, Eq)]
 pub struct Eight {
     pub points: [Pt; 8],
@@ -109,12 +109,12 @@ pub struct Eight {
     pub last: Pt,
     /// How many bytes they have.
     pub used: usize,
-    /// The ends of numbers behind these bytes.
+    /// The ends of the numbers after these bytes.
     pub ends: u64,
 }
 
-/// Eight points, each by its steps from the one before it, by the ends of numbers that `varint_ends` found, moved to where these
-/// bytes begin. `None` says nothing.
+/// Eight points, each by its steps from the one before it, by the ends of numbers that `varint_ends` found, moved to the start of
+/// these bytes; only from an inner point, so that none of the eight can be out of range. `None` says nothing.
 #[inline(always)]
 pub fn front_eight(from: Pt, bytes: &[u8], ends: u64) -> Option<Eight>
     requires { AreEnds 0 128 bytes.now ends }
@@ -124,6 +124,9 @@ pub fn front_eight(from: Pt, bytes: &[u8], ends: u64) -> Option<Eight>
     ensures rest { IfSome result (λ eight. AreEnds 0 128 (drop eight.used bytes.now) eight.ends) }
 {
     if bytes.len() < BLOCK {
+        return None;
+    }
+    if !from.is_inner() {
         return None;
     }
     let (a, b, two) = front_two_by(from, bytes, ends)?;

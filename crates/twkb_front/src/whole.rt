@@ -1,4 +1,4 @@
-//! A point that stands whole in front of bytes, with its header.
+//! A point that is complete at the start of bytes, with its header.
 ghost use Rattle.std.specs.Prelude.{◌≤◌, IfSome};
 ghost use Rattle.twkb_front.specs.Whole.{HeaderInFront, WholePoint};
 
@@ -14,7 +14,7 @@ const BARE: usize = 2;
 /// Bytes of a header with a size of one byte, and no other optional part.
 pub const SIZED: usize = 3;
 
-/// A point that stands whole in front with its header: where it leads, how many bytes both have, and the size that is declared.
+/// A point that is complete with its header: its position, how many bytes both have, and the size that is declared.
 #[derive(Clone, Copy, Debug)]
 pub struct Whole {
     pub to: Pt,
@@ -23,8 +23,8 @@ pub struct Whole {
     ghost long: { 3 ≤ used },
 }
 
-// The size that a point's own header in front declares, if any, and how many bytes the header has; `None` where it is no point's,
-// or asks for more.
+// The size that a point's own header declares, if any, and how many bytes the header has; `None` if it is no point's, or asks for
+// more.
 #[inline(always)]
 fn front_header(bytes: &[u8]) -> Option<(Option<u64>, usize)>
     ensures { IfSome result (λ front. HeaderInFront bytes.now front.0 front.1) }
@@ -47,7 +47,7 @@ fn front_header(bytes: &[u8]) -> Option<(Option<u64>, usize)>
     Some((Some(u64::from(size)), SIZED))
 }
 
-/// The point that stands whole in front behind a header that asks for nothing, or for a size of one byte.
+/// The point that is complete at the start of the bytes after a header that asks for nothing, or for a size of one byte.
 #[inline(always)]
 pub fn whole_point(bytes: &[u8]) -> Option<Whole>
     ensures { IfSome result (λ front. WholePoint bytes.now front.to front.used front.size) }

@@ -1,4 +1,5 @@
-//! Geometries, their limits, and their flat forms: what callers of the formats pass and are given.
+//! Geometries, their limits and their flat forms: the types that callers of the formats pass and
+//! receive.
 #![tactic(auto)]
 
 pub use twkb_flat::{Flat, Node, NodeId, PointId, PointSource, Row, Rows, Work};

@@ -1,4 +1,4 @@
--- What the machine ran through within the limits, with exact sizes, is a part.
+-- Items that the machine ran through within the limits, with exact sizes, are a part.
 use Rattle.std.proofs.Common.{Bool, true, false, ◌≡◌, ℕ, suc, ◌+◌, ◌≤◌, List, [], ◌∷◌, ◌++◌, map, length, refl, ap, sym, ◌∙◌, subst, Some, None, arith}
 use Rattle.std.proofs.lemmas.Int.{ints}
 use Rattle.std.proofs.lemmas.Bool.{cases_lt, false≢true}
@@ -26,12 +26,12 @@ use Rattle.twkb_grammar.proofs.Parts.{run_is_front}
 use Rattle.twkb_grammar.proofs.Ranges.{Kept-append}
 use Rattle.twkb_grammar.proofs.Totals.{total, total_is, total-append, tree_total}
 
--- what is kept is kept in the front and in the rest
+-- if joined items are kept, so are the prefix and the rest
 pub kept_split : (most : ℕ) (is js : List Item) (e : Sums) → Kept most e (is ++ js) → Kept most e is × Kept most (sums_after e is) js
 kept_split most [] js e k = (tt, k)
 kept_split most (i ∷ is) js e k = let t = kept_split most is js (added e i) k.1 in ((k.0, t.0), t.1)
 
--- counts and places of a body that was kept
+-- the counts and places of a body that was kept
 abbrev PlacesKept : ℕ → List Place → Type 0
 PlacesKept most [] = ⊤
 PlacesKept most (OfCount k n ∷ ps) = (IsDeep k most → n ≡ 0) × PlacesKept most ps
@@ -70,7 +70,7 @@ all_append : (xs ys : List Point) → AllByRecursion IsInRange xs → AllByRecur
 all_append [] ys a b = b
 all_append (x ∷ xs) ys a b = (a.0, all_append xs ys a.1 b)
 
--- the sums in front of the body of a frame
+-- the sums before the body of a frame
 before_body : (kind : ℕ) (p : ℤ) (own : Flags) (Body : List Item → Type 0) (is : List Item) (e : Sums) → Framed kind p own Body is → Sums
 before_body kind p own Body is e f = sums_after (sums_after (sums_after (added (added e (item Header (header_byte kind p))) (item (Metadata kind) f.meta)) f.extended) f.size) f.box
 
@@ -240,7 +240,7 @@ filler_nodes (r ∷ rs) = let t = filler_nodes rs in (omega (arith, t.0, (one r)
     one Y = (refl, refl)
     one (End d c) = (refl, refl)
 
--- what was run through within the limits, with exact sizes, goes on to a valid geometry
+-- items run through within the limits, with exact sizes, can go on to a valid geometry
 pub alive : (limits : Allowance) (before : List Item) (st : Stack) → Runs nothing started before st → Kept limits.nest nothing before → announced_nodes before ≤ limits.nodes → announced_points before ≤ limits.points → AreExact before → Part limits before
 alive limits before st r kept few_nodes few_points exact =
     record {

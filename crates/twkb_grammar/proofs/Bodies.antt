@@ -19,11 +19,11 @@ abbrev pub outline_of : (d : ℕ) → Nested d → List Place
 outline_of zero p = OfPoint p ∷ []
 outline_of (suc d) vs = OfCount (listed d) (length vs) ∷ flat_map (outline_of d) vs
 
--- from this stack on the machine runs through any items of these places, to the last stack
+-- from this stack the machine runs through any items of these places, to the last stack
 abbrev pub Reaches : Stack → List Place → Point → ℕ → Stack → Type 0
 Reaches st more p total last = (e : Sums) (js : List Item) → e.position ≡ p → e.bytes + length (join js) ≡ total → AreFields (steps p more) js → Runs e st js last
 
--- bytes are summed item by item
+-- the sums count the bytes item by item
 pub bytes_more : (e : Sums) (i : Item) (js : List Item) (total : ℕ) → e.bytes + length (join (i ∷ js)) ≡ total → (added e i).bytes + length (join js) ≡ total
 bytes_more e i js total h = omega (arith, h, length-append i.bytes (join js))
 
@@ -65,7 +65,7 @@ module _ (h : Head) (f : Form) (ids : Ids) (fs : List Frame) (total : ℕ) (last
         (k (added e i) js (rw are.0 here) (bytes_more e i js total bytes) are.3),
   )
 
-  -- the machine runs through any value of this nest
+  -- the machine runs through any value of this depth
   abbrev RunsThrough : ℕ → Type 0
   RunsThrough d = (v : Nested d) (a : Around (depth_of f) d) (more : List Place) (p : Point)
       → Reaches (at_body (closed a v)) more (reached p (outline_of d v)) total last → Reaches (at_body (Want d a)) (outline_of d v ++ more) p total last
@@ -93,7 +93,7 @@ module _ (h : Head) (f : Form) (ids : Ids) (fs : List Frame) (total : ℕ) (last
   value_runs zero q a more p k = point_runs a q more p k
   value_runs (suc d) vs a more p k = count_runs d (length vs) a (flat_map (outline_of d) vs ++ more) p (all_run d (value_runs d) vs a more p k)
 
--- a walk of no items ends where it began
+-- a run through no items ends where it began
 pub finish : (st : Stack) (p : Point) (total : ℕ) → Reaches st [] p total st
 finish st p total e [] here bytes are = refl
 finish st p total e (i ∷ js) here bytes are = absurd are
@@ -104,7 +104,7 @@ moved_id e r n h = rw h
 pub moved_count : (e : Point) (c : Counted) (r : Role) (n : ℕ) → r ≡ Count c → moved e r n ≡ e
 moved_count e c r n h = rw h
 
--- whether ids follow a count
+-- whether ids follow a count, by the metadata byte
 abbrev pub SaysIds : Head → Ids → ℕ → Type 0
 SaysIds h ids zero = ids ≡ None
 SaysIds h None (suc n) = bit h.meta 2 ≡ false
@@ -140,7 +140,7 @@ module _ (m : Many) (h : Head) (fs : List Frame) (total : ℕ) (last : Stack) wh
       let y : length xs ≡ n = omega (arith, z) in
       rw says.0 (subst (λ l. Reaches (fs, AtId m h (suc n) [] l) (map OfId (x ∷ xs) ++ more) p total last) y (ids_run (suc n) xs x [] more p k))
 
-  -- the machine runs through a count and ids
+  -- the machine runs through a count and its ids
   pub first_run : (n : ℕ) (ids : Ids) (more : List Place) (p : Point) → SaysIds h ids n
       → Reaches (members_begin m h fs ids n) more p total last → Reaches (fs, AtCount m h) (OfCount (first_count m (length fs)) n ∷ id_places ids ++ more) p total last
   first_run n ids more p says k e [] here bytes are = absurd are
@@ -151,9 +151,9 @@ module _ (m : Many) (h : Head) (fs : List Frame) (total : ℕ) (last : Stack) wh
         (counted_run n ids more p says k (added e i) js (moved_count e.position (first_count m (length fs)) i.role i.number are.0 ∙ here) (bytes_more e i js total bytes) are.3),
   )
 
--- spellings of the outlines
+-- ---- places of an outline
 
--- functions that agree give the same lists
+-- functions that agree give the same list of places
 pub flat_map-same : {A : Type 0} (f g : A → List Place) → ((a : A) → f a ≡ g a) → (xs : List A) → flat_map f xs ≡ flat_map g xs
 flat_map-same f g h [] = refl
 flat_map-same f g h (x ∷ xs) = ap (λ ys. ys ++ flat_map f xs) (h x) ∙ ap (λ ys. g x ++ ys) (flat_map-same f g h xs)
@@ -171,11 +171,11 @@ run_outline ps = ap (λ ys. OfCount Vertices (length ps) ∷ ys) (points_outline
 pub runs_outline : (ls : List (List Point)) → flat_map (outline_of 1) ls ≡ flat_map run_of ls
 runs_outline ls = flat_map-same (outline_of 1) run_of run_outline ls
 
--- the places of a list of such lists
+-- the places of a list of lists of points
 pub rings_outline : (ls : List (List Point)) → outline_of 2 ls ≡ rings_of ls
 rings_outline ls = ap (λ ys. OfCount Rings (length ls) ∷ ys) (runs_outline ls)
 
--- the places of lists of such lists
+-- the places of several such lists
 pub areas_outline : (ls : List (List (List Point))) → flat_map (outline_of 2) ls ≡ flat_map rings_of ls
 areas_outline ls = flat_map-same (outline_of 2) rings_of rings_outline ls
 
@@ -188,7 +188,7 @@ form_of (multi_point ids ps) = MultiPointForm
 form_of (multi_line ids lines) = MultiLineForm
 form_of (multi_polygon ids areas) = MultiPolygonForm
 
--- a value of depth d and nothing behind it
+-- the machine runs through a value of depth d with nothing after it
 whole_run : (h : Head) (f : Form) (ids : Ids) (fs : List Frame) (total : ℕ) (p : Point) (v : Nested (depth_of f)) (ps : List Place) → outline_of (depth_of f) v ≡ ps
     → Reaches (fs, AtBody h f ids (Want (depth_of f) top)) ps p total (fs, AtEnd h (simple h.precision (shape_of f ids v)))
 whole_run h f ids fs total p v ps same =

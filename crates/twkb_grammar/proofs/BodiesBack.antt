@@ -1,4 +1,4 @@
--- What the machine ran through was a body.
+-- The items that the machine ran through were a body.
 use Rattle.std.proofs.Common.{◌≡◌, ℕ, zero, suc, List, [], ◌∷◌, ◌++◌, length, refl, ap, sym, ◌∙◌, subst, append_assoc, Some, arith}
 use Rattle.std.proofs.lemmas.List.{append-nil}
 use Rattle.std.proofs.lemmas.Int.{ints}
@@ -15,7 +15,7 @@ use Rattle.twkb_grammar.proofs.Places.{steps, reached, reached-append}
 use Rattle.twkb_grammar.proofs.Bodies.{outline_of, moved_count}
 use Rattle.twkb_grammar.proofs.Headers.{sums_after}
 
--- fields and items join
+-- the items of joined fields are joined items
 pub AreFields-append : (fs : List Field) (is : List Item) (gs : List Field) (js : List Item) → AreFields fs is → AreFields gs js → AreFields (fs ++ gs) (is ++ js)
 AreFields-append [] [] gs js a b = b
 AreFields-append [] (i ∷ is) gs js a b = absurd a
@@ -40,7 +40,7 @@ forth_back p d = omega (arith, ints)
 difference : (n : ℕ) (p q : ℤ) → q ≡ p +ℤ unzigzag_of n → n ≡ zigzag_of (q -ℤ p)
 difference n p q e = sym (ap (λ z. zigzag_of (z -ℤ p)) e ∙ (ap zigzag_of (forth_back p (unzigzag_of n)) ∙ zigzag_of-unzigzag_of n))
 
--- one role is said
+-- two equal options name the same role
 pub some_role : (a b : Role) → Some a ≡ Some b → b ≡ a
 some_role a b e = cc
 
@@ -54,7 +54,7 @@ module _ (h : Head) (f : Form) (ids : Ids) (fs : List Frame) (tree : Tree) where
   abbrev finished : Stack
   finished = ([], Finished tree)
 
-  -- the items begin with a value of depth d, and the machine goes on behind it
+  -- the items begin with a value of depth d, and the machine goes on after it
   pub record Value (d : ℕ) (a : Around (depth_of f) d) (e : Sums) (is : List Item) : Type 0 where
     pub value : Nested d
     pub front : List Item
@@ -64,7 +64,7 @@ module _ (h : Head) (f : Form) (ids : Ids) (fs : List Frame) (tree : Tree) where
     pub here : (sums_after e front).position ≡ reached e.position (outline_of d value)
     pub runs : Runs (sums_after e front) (body_at (closed a value)) rest finished
 
-  -- the same of values one after another
+  -- the items begin with values one after another, and the machine goes on after them
   pub record Values (d n : ℕ) (a : Around (depth_of f) (suc d)) (done : List (Nested d)) (e : Sums) (is : List Item) : Type 0 where
     pub values : List (Nested d)
     pub many : length values ≡ n
@@ -93,7 +93,7 @@ module _ (h : Head) (f : Form) (ids : Ids) (fs : List Frame) (tree : Tree) where
         runs = r.2.2;
       }
 
-  -- whatever stands at such a body begins with a value
+  -- at such a place in a body, the items begin with a value
   abbrev BeginsWith : ℕ → Type 0
   BeginsWith d = (a : Around (depth_of f) d) (e : Sums) (is : List Item) → Runs e (body_at (Want d a)) is finished → Value d a e is
 
@@ -129,12 +129,12 @@ module _ (h : Head) (f : Form) (ids : Ids) (fs : List Frame) (tree : Tree) where
             (subst (λ vs. Runs (sums_after (sums_after e v.front) ws.front) (body_at (closed a vs)) ws.rest finished) (append_assoc done (v.value ∷ []) ws.values) ws.runs);
       }
 
-  -- items that begin with a list of n values
+  -- items at the beginning of a list of n values begin with these values
   pub opened_back : (d : ℕ) → BeginsWith d → (n : ℕ) (a : Around (depth_of f) (suc d)) (e : Sums) (is : List Item) → Runs e (body_at (opened d n a)) is finished → Values d n a [] e is
   opened_back d each zero a e is r = record { values = []; many = refl; front = []; rest = is; whole = refl; are = tt; here = refl; runs = r }
   opened_back d each (suc n) a e is r = within_back d each n [] a e is r
 
-  -- items that begin with a value
+  -- items at the beginning of a value begin with it
   pub value_back : (d : ℕ) → BeginsWith d
   value_back zero a e is r = point_back a e is r
   value_back (suc d) a e [] r = let c : Phase.AtBody h f ids (Want (suc d) a) ≡ Finished tree = ap (λ (t : Stack). t.1) r in absurd cc

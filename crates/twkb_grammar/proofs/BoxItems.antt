@@ -15,7 +15,7 @@ use Rattle.twkb_grammar.specs.Written.{box_of, boxed, has_any, is_point}
 use Rattle.twkb_grammar.proofs.Small.{difference_fits, coordinate_fits}
 use Rattle.twkb_grammar.proofs.NumberItems.{AllFit, number_items, exact-number_items, join-number_items, length-varints, spells}
 
--- an extent with its coordinates in range
+-- an extent whose coordinates are in range
 abbrev IsExtent : Extent → Type 0
 IsExtent e = IsInRange e.least × IsInRange e.greatest
 
@@ -52,7 +52,7 @@ has_extent p (q ∷ ps) h =
 abbrev box_fields : List ℤ → List Field
 box_fields ns = map (λ n. (Box, zigzag_of n)) ns
 
--- a box as items
+-- the bytes of a box as items, or no bytes
 pub record BoxItems (b : Bool) (bytes : List ℕ) : Type 0 where
   pub items : List Item
   pub roles : HaveRoles (where_set b (Box ∷ Box ∷ Box ∷ Box ∷ [])) items
@@ -60,7 +60,7 @@ pub record BoxItems (b : Bool) (bytes : List ℕ) : Type 0 where
   pub spelled : join items ≡ bytes
   pub short : length bytes ≤ 40
 
--- no box
+-- without a box there are no items
 pub no_box : BoxItems false []
 no_box = record { items = []; roles = tt; exact = tt; spelled = refl; short = omega arith }
 

@@ -1,4 +1,5 @@
--- Every state that the machine reaches has a completion: zeros, 0x10 for a metadata byte, 01 10 for a geometry.
+-- Every state that the machine reaches can be completed: with zeros, 0x10 for a metadata byte,
+-- and 01 10 for a geometry.
 use Rattle.std.proofs.Common.{Bool, true, false, ◌≡◌, ℕ, zero, suc, ◌+◌, ◌-◌, List, [], ◌∷◌, ◌++◌, length, refl, ap, sym, subst, Some, None, arith}
 use Rattle.std.specs.Prelude.{ℤ, ⊤}
 use Rattle.twkb_num.specs.Varint.{IsVarint}
@@ -8,27 +9,28 @@ use Rattle.twkb_grammar.specs.Roles.{Item, Role, Header, Metadata, Extended, Siz
 use Rattle.twkb_grammar.specs.Machine.{Nested, Around, top, within, Body, Want, WantY, Done, closed, opened, listed, Form, depth_of, shape_of, Kind, SimpleKind, CollectionKind, PointForm, LineForm, PolygonForm, MultiPointForm, MultiLineForm, MultiPolygonForm, kind_number, Head, Frame, Phase, AtHeader, AtMetadata, AtOption, AtCount, AtId, AtBody, AtEnd, Finished, Many, ManyPoints, ManyLines, ManyPolygons, ManyGeometries, first_count, settled, begun, wanting, with_option, empty_of, snoc, members_begin, counted, ended, asked, Sums, added, Stack, stack_after, role_at, Runs}
 use Rattle.twkb_grammar.proofs.Trees.{frame}
 
--- an item for any role: one that announces and moves nothing, and a point without coordinates
+-- the number of a filler: an item for any role that announces and moves nothing, or a point
+-- without coordinates
 abbrev pub filler_number : Role → ℕ
 filler_number Header = 1
 filler_number (Metadata kind) = 16
 filler_number _ = 0
 
--- the bytes of such an item
+-- the bytes of a filler
 abbrev pub filler_bytes : Role → List ℕ
 filler_bytes Header = 1 ∷ []
 filler_bytes (Metadata kind) = 16 ∷ []
 filler_bytes (End declared came) = []
 filler_bytes _ = 0 ∷ []
 
--- such an item
+-- the filler of a role
 abbrev pub filler : Role → Item
 filler r = record { role = r; number = filler_number r; bytes = filler_bytes r }
 
 zero_varint : IsVarint (0 ∷ []) 0
 zero_varint = record { marked = omega arith; within = omega arith; sum = refl; fits = omega arith }
 
--- it is an item
+-- a filler is an item
 pub filler_is : (r : Role) → IsItem (filler r)
 filler_is Header = (omega arith, omega arith, omega arith, refl)
 filler_is (Metadata k) = (omega arith, refl)
@@ -41,13 +43,13 @@ filler_is X = zero_varint
 filler_is Y = zero_varint
 filler_is (End d c) = (refl, refl)
 
--- fillers that lead to the end
+-- fillers that lead to the end of the geometry
 pub record Completion (e : Sums) (st : Stack) : Type 0 where
   pub roles : List Role
   pub tree : Tree
   pub runs : Runs e st (Rattle.std.specs.Prelude.map filler roles) ([], Finished tree)
 
--- there are fillers to the end, whatever the sums
+-- fillers lead to the end, whatever the sums
 abbrev pub Completes : Stack → Type 0
 Completes st = (e : Sums) → Completion e st
 
@@ -68,7 +70,7 @@ frame_done : (fs : List Frame) → ((g : Tree) → Completes (ended fs g)) → (
 frame_done fs k zero h ids done g = end_done h (collection h.precision ids (snoc done g)) fs (k (collection h.precision ids (snoc done g)))
 frame_done fs k (suc left) h ids done g = header_done (frame h ids (snoc done g) left ∷ fs) (λ t. frame_done fs k left h ids (snoc done g) t)
 
--- behind a geometry
+-- fillers lead to the end after a complete geometry
 pub ended_done : (fs : List Frame) (g : Tree) → Completes (ended fs g)
 ended_done [] g e = record { roles = []; tree = g; runs = refl }
 ended_done (f ∷ fs) g e = frame_done fs (ended_done fs) f.left f.head f.ids f.done g e
@@ -131,13 +133,13 @@ wanting_done k (r ∷ rs) h fs =
     λ e. fill e (fs, AtOption k h r rs) (fs, wanting k (with_option h r (filler_number r) (e.bytes + length (filler_bytes r))) rs) r refl refl
     (wanting_done k rs (with_option h r (filler_number r) (e.bytes + length (filler_bytes r))) fs (added e (filler r)))
 
--- a phase that waits for an item, or is finished
+-- a stack that waits for an item, or is finished
 abbrev pub IsProper : Stack → Type 0
 IsProper (fs, AtBody h f ids (Done v)) = ⊥
 IsProper (fs, Finished g) = fs ≡ []
 IsProper _ = ⊤
 
--- behind any state
+-- fillers lead to the end from any such stack
 pub completes : (st : Stack) → IsProper st → Completes st
 completes (fs, AtHeader) p = header_done fs (ended_done fs)
 completes (fs, AtMetadata k q) p =
@@ -211,7 +213,7 @@ proper_after fs (AtBody h f ids (Done v)) e i r = cc
 proper_after fs (AtEnd h g) e i r = ended_proper fs g
 proper_after fs (Finished g) e i r = cc
 
--- the machine runs from a state that waits or is finished to another such
+-- the machine runs from a stack that waits, or is finished, to another such stack
 pub proper_run : (is : List Item) (e : Sums) (st last : Stack) → IsProper st → Runs e st is last → IsProper last
 proper_run [] e st last p r = subst (λ s. IsProper s) r p
 proper_run (i ∷ is) e st last p r = proper_run is (added e i) (stack_after e i st) last (proper_after st.0 st.1 e i r.0) r.2

@@ -1,4 +1,5 @@
--- Blobs and first faults by computation: the plain reader computes, and its law says what its answer means.
+-- Blobs and first faults by computation: the plain reader computes, and its law states what its
+-- answer means.
 use Rattle.std.proofs.Common.{◌≡◌, ℕ, Bool, true, false, List, [], ◌∷◌, arith}
 use Rattle.std.specs.Prelude.{nat_lt, ◌&&◌, ◌≢◌}
 use Rattle.std.proofs.lemmas.Bool.{ltb-true}
@@ -36,7 +37,7 @@ abbrev small : List ℕ → Bool
 small [] = true
 small (b ∷ bytes) = nat_lt b 256 && small bytes
 
--- and there is one at least
+-- there is at least one byte
 abbrev pub some_bytes : List ℕ → Bool
 some_bytes [] = false
 some_bytes (b ∷ bytes) = small (b ∷ bytes)
@@ -49,13 +50,13 @@ some_are : (bytes : List ℕ) → some_bytes bytes ≡ true → AreBytes bytes �
 some_are [] e = absurd cc
 some_are (b ∷ bytes) e = (are_bytes (b ∷ bytes) e, (λ z. cc))
 
--- bytes of which the plain reader makes a geometry are a blob of it
+-- bytes from which the plain reader makes a geometry are a blob of it
 pub blob_by : (limits : Allowance) (bytes : List ℕ) (g : Tree) → IsAllowance limits → some_bytes bytes ≡ true → decode limits bytes ≡ Made g [] → Blob limits bytes g
 blob_by limits bytes g allowed are e =
     let h = some_are bytes are in
     let b : BlobInFront limits bytes g [] = (made_exactly limits bytes [] g allowed h.0 h.1).0 e in
     subst (λ l. Blob limits l g) (sym (append-nil b.front) ∙ sym b.whole) b.blob
 
--- what the plain reader refuses is the first fault
+-- the refusal of the plain reader is the first fault
 pub fault_by : (limits : Allowance) (bytes : List ℕ) (offset : ℕ) (reason : Reason) → IsAllowance limits → some_bytes bytes ≡ true → decode limits bytes ≡ RefusedAt offset reason → FirstFault limits bytes offset reason
 fault_by limits bytes offset reason allowed are e = let h = some_are bytes are in (refused_exactly limits bytes offset reason allowed h.0 h.1).0 e

@@ -1,4 +1,4 @@
--- What the plain reader cuts from bytes as one varint.
+-- The varint that the plain reader cuts from bytes.
 use Rattle.std.proofs.Common.{◌≡◌, ℕ, zero, suc, ◌-◌, ◌*◌, ◌%◌, ◌<◌, ◌≤◌, List, [], ◌∷◌, ◌++◌, length, refl, ap, arith}
 use Rattle.std.specs.Prelude.{nat_lt, Ok, Err}
 use Rattle.std.proofs.lemmas.Bool.{cond_both, ltb-true, ltb-false}
@@ -7,12 +7,12 @@ use Rattle.twkb_grammar.specs.Bits.{AreBytes}
 use Rattle.twkb_grammar.specs.Fault.{Truncated, BadType, ExtraDimensions, BadVarint, TooDeep, TooManyNodes, TooManyPoints, CoordinateRange, SizeMismatch, GoOn, IsTooLong}
 use Rattle.twkb_grammar.specs.PlainReader.{Cut, with_byte, varint_at}
 
--- one above the greatest number of k + 1 bytes that may be spelled
+-- one more than the greatest number that k + 1 bytes can spell
 abbrev pub top_number : ℕ → ℕ
 top_number zero = 2
 top_number (suc k) = 128 * top_number k
 
--- a varint of at most k + 1 bytes stands in front
+-- there is a varint of at most k + 1 bytes at the start
 pub record Whole (k : ℕ) (bytes : List ℕ) (number : ℕ) (front rest : List ℕ) : Type 0 where
   pub whole : bytes ≡ front ++ rest
   pub marked : HasMarks front
@@ -20,7 +20,7 @@ pub record Whole (k : ℕ) (bytes : List ℕ) (number : ℕ) (front rest : List 
   pub sum : seven_bit_sum front ≡ number
   pub fits : number < top_number k
 
--- k bytes go on, and the next is above 1
+-- k bytes say that more follow, and the next is above 1
 pub record Long (k : ℕ) (bytes : List ℕ) : Type 0 where
   pub nine : List ℕ
   pub tenth : ℕ
@@ -30,7 +30,7 @@ pub record Long (k : ℕ) (bytes : List ℕ) : Type 0 where
   pub go_on : GoOn nine
   pub above : 1 < tenth
 
--- what a cut says of the bytes
+-- what the result of a cut says about the bytes
 abbrev pub CutSays : ℕ → List ℕ → Cut → Type 0
 CutSays k bytes (Ok r) = Whole k bytes r.0 r.1 r.2
 CutSays k bytes (Err Truncated) = (length bytes < suc k) × GoOn bytes
@@ -70,7 +70,7 @@ with_byte_says k b bytes (Err TooManyPoints) h l s = absurd s
 with_byte_says k b bytes (Err CoordinateRange) h l s = absurd s
 with_byte_says k b bytes (Err SizeMismatch) h l s = absurd s
 
--- what is cut from bytes
+-- a cut says what is at the start of the bytes
 pub cut_says : (k : ℕ) (bytes : List ℕ) → AreBytes bytes → CutSays k bytes (varint_at (suc k) bytes)
 cut_says zero [] are = (omega arith, tt)
 cut_says zero (b ∷ bytes) are =
@@ -89,6 +89,6 @@ cut_says (suc k) (b ∷ bytes) are =
 pub whole_varint : (bytes : List ℕ) (n : ℕ) (front rest : List ℕ) → Whole 9 bytes n front rest → IsVarint front n
 whole_varint bytes n front rest w = record { marked = w.marked; within = w.within; sum = w.sum; fits = omega (arith, w.fits) }
 
--- nine bytes that go on and a tenth above 1
+-- nine bytes that say that more follow, and a tenth above 1
 pub long_bytes : (bytes : List ℕ) → Long 9 bytes → IsTooLong bytes
 long_bytes bytes l = record { nine = l.nine; tenth = l.tenth; more = l.more; whole = l.whole; length = l.length; go_on = l.go_on; above = l.above }

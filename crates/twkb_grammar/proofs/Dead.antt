@@ -1,4 +1,4 @@
--- Where the machine waits and a reason holds, no item goes on to a valid geometry.
+-- If the machine waits and a reason holds, no item can go on to a valid geometry.
 use Rattle.std.proofs.Common.{true, ◌≡◌, ℕ, zero, suc, ◌+◌, ◌*◌, ◌%◌, ◌<◌, ◌≤◌, List, [], ◌∷◌, ◌++◌, length, ap, sym, ◌∙◌, subst, arith, inl, inr}
 use Rattle.std.specs.Prelude.{⊤, ◌≢◌, ◌⊎◌, ◌+ℤ◌}
 use Rattle.twkb_num.specs.Zigzag.{unzigzag_of}
@@ -14,7 +14,7 @@ when_not : {P Others : Type 0} (r reason : Reason) → (P → ⊥) → (Others �
 when_not r reason isnt rest (inl h) = isnt h.0
 when_not r reason isnt rest (inr h) = rest h.1
 
--- what a limit lets stand behind these items
+-- what a limit allows after these items
 abbrev pub Allowed : Allowance → List Item → Role → ℕ → Type 0
 Allowed limits before (Metadata kind) n = announces_point kind n ≡ true → announced_points before < limits.points
 Allowed limits before (Count c) n = (IsDeep c limits.nest → n ≡ 0) × (announced_nodes before + nodes_of c n ≤ limits.nodes) × (announced_points before + points_of c n ≤ limits.points)
@@ -22,7 +22,7 @@ Allowed limits before X n = IsCoordinate ((position before).x +ℤ unzigzag_of n
 Allowed limits before Y n = IsCoordinate ((position before).y +ℤ unzigzag_of n)
 Allowed limits before _ n = ⊤
 
--- bytes that all go on don't begin with a varint
+-- bytes that all say that more follow do not begin with a varint
 pub run_ends : (bs more : List ℕ) → HasMarks bs → GoOn (bs ++ more) → ⊥
 run_ends [] more r g = r
 run_ends (b ∷ []) more r g = let f : 128 ≤ b = g.0 in omega (arith, r)
@@ -48,32 +48,32 @@ long_value (n ∷ nine) (suc k) t more (b ∷ c ∷ bs) other l g e r s =
     let f : nine ++ t ∷ more ≡ (c ∷ bs) ++ other = cc in
     omega (arith, long_value nine k t more (c ∷ bs) other (omega (arith, z)) g.1 f r.2 (omega (arith, y)))
 
--- a varint in front is not too long
+-- bytes that begin with a varint are not too long a varint
 pub not_long : (bs other : List ℕ) (n : ℕ) (rest : List ℕ) → IsVarint bs n → rest ≡ bs ++ other → IsTooLong rest → ⊥
 unfolding lifted
 not_long bs other n rest v e t =
     omega (arith, long_value t.nine 9 t.tenth t.more bs other t.length t.go_on (sym t.whole ∙ e) v.marked v.within, v.sum, v.fits, t.above)
 
--- a varint that stands in front is neither cut nor too long
+-- bytes that begin with a varint are neither cut nor too long
 varint_not : (bs other : List ℕ) (n : ℕ) (rest : List ℕ) {Others : Type 0} (r : Reason) → IsVarint bs n → rest ≡ bs ++ other → (Others → ⊥) → NumberFirst r rest Others → ⊥
 varint_not bs other n rest r v e isnt =
     when_not {P = IsCut rest} r Truncated (λ h. run_ends bs other v.marked (subst (λ l. GoOn l) e h.1))
     (when_not r BadVarint (not_long bs other n rest v e) isnt)
 
--- the number in front is the item's
+-- the number at the start is the item's
 pub number_not : (bs other : List ℕ) (n : ℕ) (rest : List ℕ) (P : ℕ → Type 0) → IsVarint bs n → rest ≡ bs ++ other → (P n → ⊥) → FirstNumber P rest → ⊥
 number_not bs other n rest P v e isnt f =
     isnt (subst (λ m. P m) (one_varint f.bytes bs f.more other f.number n f.spelled v (sym f.whole ∙ e)).0 f.holds)
 
--- what does not hold of the byte in front does not hold of the first byte
+-- a fact that is not true of the byte at the start is not true of the first byte
 pub byte_not : (n : ℕ) (bs other rest : List ℕ) (P : ℕ → Type 0) → bs ≡ n ∷ [] → rest ≡ bs ++ other → (P n → ⊥) → FirstByte P rest → ⊥
 byte_not n bs other rest P b e isnt f = isnt (subst (λ l. FirstByte P l) (e ∙ ap (λ l. l ++ other) b) f)
 
--- a byte in front is there
+-- bytes that begin with a byte have a first byte
 pub some_byte : (n : ℕ) (bs other rest : List ℕ) → bs ≡ n ∷ [] → rest ≡ bs ++ other → rest ≡ [] → ⊥
 some_byte n bs other rest b e z = let f : [] ≡ n ∷ other = sym z ∙ (e ∙ ap (λ l. l ++ other) b) in cc
 
--- an item that may stand there has no reason against it
+-- there is no reason against an item that is allowed there
 pub no_reason : (limits : Allowance) (before : List Item) (rest : List ℕ) (role : Role) (reason : Reason) (n : ℕ) (bs other : List ℕ)
     → Spells role n bs → rest ≡ bs ++ other → Allowed limits before role n → IsExact role → Refused limits before rest role reason → ⊥
 no_reason limits before rest Header reason n bs other s e a x =

@@ -1,4 +1,4 @@
--- What the plain reader does at one place: it takes the next item, or refuses it.
+-- The plain reader at one place: it takes the next item or refuses it.
 use Rattle.std.proofs.Common.{◌≡◌, ℕ, List, [], ◌∷◌, ◌++◌, refl, Option, Some, None, inl, inr}
 use Rattle.std.specs.Prelude.{◌⊎◌, ◌≢◌, Ok, Err}
 use Rattle.twkb_num.specs.Varint.{IsVarint}
@@ -31,7 +31,7 @@ module _ (limits : Allowance) (before : List Rattle.twkb_grammar.specs.Roles.Ite
     pub refused : Refused limits before rest r reason
     pub answer_is : answer ≡ RefusedAt s.bytes reason
 
-  -- one of both
+  -- the next item is taken or refused
   abbrev pub Steps : List ℕ → Role → Answer → Type 0
   Steps rest r answer = Took rest r answer ⊎ Refuses rest r answer
 
@@ -40,7 +40,7 @@ module _ (limits : Allowance) (before : List Rattle.twkb_grammar.specs.Roles.Ite
   objected rest r n bytes more None whole spell h = inl (record { number = n; bytes = bytes; more = more; whole = whole; spells = spell h.1; allowed = h.0; exact = h.2; answer_is = refl })
   objected rest r n bytes more (Some reason) whole spell h = inr (record { reason = reason; refused = h; answer_is = refl })
 
-  -- a number
+  -- the step of a number
   number_step : (rest : List ℕ) (r : Role) (c : Cut) → CutSays 9 rest c → ((n : ℕ) (bytes : List ℕ) → IsVarint bytes n → Spells r n bytes)
       → ((n : ℕ) → Front limits before rest n → Objects limits before rest r n (objection limits s r n))
       → (IsCut rest → Refused limits before rest r Truncated) → (IsTooLong rest → Refused limits before rest r BadVarint)
@@ -58,7 +58,7 @@ module _ (limits : Allowance) (before : List Rattle.twkb_grammar.specs.Roles.Ite
   number_step rest r (Err CoordinateRange) says spell objects cut long = absurd says
   number_step rest r (Err SizeMismatch) says spell objects cut long = absurd says
 
-  -- the next item of any role
+  -- the step of any role
   pub step : (rest : List ℕ) (r : Role) → Agree s before → AreBytes rest → (rest ≡ [] → before ≢ []) → Steps rest r (after_cut s.bytes (λ n spelling. objection limits s r n) go (cut r rest))
   step [] Header agree are some = inr (record { reason = Truncated; refused = inl ((some refl, refl), refl); answer_is = refl })
   step (b ∷ more) Header agree are some =

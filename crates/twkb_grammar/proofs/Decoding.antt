@@ -1,4 +1,4 @@
--- The plain reader makes exactly the blobs' geometries, and refuses at the first fault.
+-- The plain reader makes exactly the geometries of blobs, and refuses at the first fault.
 use Rattle.std.proofs.Common.{◌≡◌, ℕ, zero, suc, ◌+◌, ◌*◌, ◌<◌, List, [], ◌∷◌, ◌++◌, length, refl, sym, ap, ◌∙◌, subst, append_assoc, append-nil, length-append, arith, Option, Some, None, inl, inr}
 use Rattle.std.specs.Prelude.{◌≢◌}
 use Rattle.twkb_tree.specs.Tree.{Tree}
@@ -19,13 +19,13 @@ use Rattle.twkb_grammar.proofs.Running.{ran_nothing, agrees, ran_blob, ran_fault
 use Rattle.twkb_grammar.proofs.Deciding.{Took, Steps, step}
 use Rattle.twkb_grammar.proofs.Turns.{pending, lowers}
 
--- what an answer of the plain reader says
+-- what the answer of the plain reader says
 abbrev pub Outcome : Allowance → List ℕ → Answer → Type 0
 Outcome limits bytes (Made g rest) = BlobInFront limits bytes g rest
 Outcome limits bytes (RefusedAt offset reason) = FirstFault limits bytes offset reason
 Outcome limits bytes GoesOn = ⊥
 
--- where no item is wanted, the geometry is finished
+-- the geometry is complete if no item is expected
 record IsFinished (st : Stack) : Type 0 where
   pub tree : Tree
   pub is : st ≡ ([], Finished tree)
@@ -64,7 +64,7 @@ refuse limits bytes before st rest r reason s says refused =
     subst (λ l. FirstFault limits l (sums_after nothing before).bytes reason) (sym s.split)
     (subst (λ k. FirstFault limits (join before ++ rest) k reason) n (ran_fault limits before rest st r reason s.ran says refused))
 
--- what is left of bytes is bytes
+-- the rest of a list of bytes is a list of bytes
 pub bytes_left : (front more : List ℕ) → AreBytes (front ++ more) → AreBytes more
 bytes_left [] more h = h
 bytes_left (b ∷ front) more h = bytes_left front more h.1
@@ -89,7 +89,7 @@ not_empty (j ∷ before) i = λ e. cc
 
 module _ (turns : ℕ) (limits : Allowance) (bytes : List ℕ) (again : After turns limits bytes) (before : List Item) (st : Stack) (rest : List ℕ) (s : State limits bytes before st rest)
     (some : rest ≡ [] → before ≢ []) (few : 8 * length rest + pending st < suc turns) where
-  -- the program after an item of this role
+  -- the program that goes on after an item of this role
   abbrev goes : Role → ℕ → List ℕ → List ℕ → Answer
   goes r n spelling more =
       let i : Item = record { role = r; number = n; bytes = spelling } in decode_from turns limits (added (sums_after nothing before) i) (stack_after (sums_after nothing before) i st) more
@@ -123,7 +123,7 @@ decode_says : (turns : ℕ) (limits : Allowance) (bytes : List ℕ) → After tu
 decode_says zero limits bytes before st rest s some few = absurd (omega (arith, few))
 decode_says (suc turns) limits bytes before st rest s some few = one_turn turns limits bytes (decode_says turns limits bytes) before st rest s some few
 
--- the answer on bytes of which there is one at least
+-- the answer for a list of at least one byte
 pub decoded : (limits : Allowance) (bytes : List ℕ) → IsAllowance limits → AreBytes bytes → bytes ≢ [] → Outcome limits bytes (decode limits bytes)
 decoded limits bytes allowed are some =
     decode_says (8 * length bytes + 1) limits bytes [] started bytes

@@ -1,4 +1,4 @@
--- No more collections stand open than may be round a member.
+-- At most as many collections are open as may be around a member.
 use Rattle.std.proofs.Common.{Bool, true, false, ◌≡◌, ℕ, zero, suc, ◌+◌, ◌<◌, ◌≤◌, List, [], ◌∷◌, ◌++◌, length, refl, subst, Some, None, arith, inl, inr}
 use Rattle.std.proofs.lemmas.Bool.{cases_lt}
 use Rattle.twkb_tree.specs.Tree.{Tree, Ids}
@@ -14,7 +14,8 @@ use Rattle.twkb_grammar.proofs.Trees.{frame}
 use Rattle.twkb_grammar.proofs.Headers.{head}
 use Rattle.twkb_num.specs.Zigzag.{unzigzag_of}
 
--- at most so many collections stand open, and one fewer where the ids of a collection's members are read
+-- at most this many collections are open, and one fewer while the ids of a collection's members
+-- are read
 abbrev Shallow : ℕ → Stack → Type 0
 Shallow nest (fs, AtId ManyGeometries h members ids left) = (0 < members → length fs < nest) × (length fs ≤ nest)
 Shallow nest (fs, ph) = length fs ≤ nest
@@ -48,14 +49,14 @@ shallow_members nest fs ManyPolygons h ids n few = shallow_settled nest fs h Mul
 shallow_members nest fs ManyGeometries h ids zero few = few.1
 shallow_members nest fs ManyGeometries h ids (suc n) few = let z : length fs < nest = few.0 (omega arith) in omega (arith, z)
 
--- what is read of ids changes nothing
+-- reading ids does not change the depth
 shallow_ids : (nest : ℕ) (fs : List Frame) (m : Many) (h : Head) (n a b : ℕ) (ids more : List Rattle.std.specs.Prelude.ℤ) → Shallow nest (fs, AtId m h n ids a) → Shallow nest (fs, AtId m h n more b)
 shallow_ids nest fs ManyPoints h n a b ids more few = few
 shallow_ids nest fs ManyLines h n a b ids more few = few
 shallow_ids nest fs ManyPolygons h n a b ids more few = few
 shallow_ids nest fs ManyGeometries h n a b ids more few = few
 
--- a count of members that keeps the depth
+-- a count of members keeps the limit on depth
 shallow_count : (nest : ℕ) (fs : List Frame) (m : Many) (h : Head) (n : ℕ) → length fs ≤ nest → ((level : ℕ) → m ≡ ManyGeometries → level ≡ length fs → nest ≤ level → n ≡ 0) → Shallow nest (fs, AtId m h n [] 0)
 shallow_count nest fs ManyPoints h n few kept = few
 shallow_count nest fs ManyLines h n few kept = few
@@ -79,7 +80,7 @@ shallow_ended nest (f ∷ fs) g few = go f.left
     go zero = omega (arith, few)
     go (suc n) = few
 
--- one item more
+-- the depth after one more item
 shallow_after : (nest : ℕ) (e : Sums) (i : Item) (fs : List Frame) (ph : Phase) → role_at e (fs, ph) ≡ Some i.role → Here nest e.position i.role i.number → Shallow nest (fs, ph) → Shallow nest (stack_after e i (fs, ph))
 shallow_after nest e i fs AtHeader r k few = few
 shallow_after nest e i fs (AtMetadata kind p) r k few = shallow_wanting nest fs kind (head p i.number None (e.bytes + length i.bytes)) (asked i.number) few
@@ -113,6 +114,6 @@ shallow_stack nest fs (AtBody h f ids b) few = few
 shallow_stack nest fs (AtEnd h g) few = few
 shallow_stack nest fs (Finished g) few = few
 
--- no more collections are open than may be
+-- at most as many collections are open as allowed
 pub reached_depth : (limits : Allowance) (bytes : List ℕ) (e : Sums) (st : Stack) → Reached limits bytes e st → length st.0 ≤ limits.nest
 reached_depth limits bytes e st r = shallow_stack limits.nest st.0 st.1 (shallow_run limits.nest r.items nothing started st (omega arith) r.ran.runs r.ran.kept)

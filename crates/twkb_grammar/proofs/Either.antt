@@ -1,4 +1,5 @@
--- The plain reader makes the geometry whose blob stands in front, and else refuses the first fault.
+-- The plain reader makes the geometry whose blob is at the start of the bytes, or refuses the
+-- first fault.
 use Rattle.std.proofs.Common.{◌≡◌, ◌↔◌, ℕ, List, [], sym, ◌∙◌, subst}
 use Rattle.std.specs.Prelude.{◌≢◌}
 use Rattle.twkb_tree.specs.Tree.{Tree}
@@ -28,7 +29,7 @@ made_exactly limits bytes rest g allowed are some = (
     answered (RefusedAt offset reason) o b = absurd (no_fault limits bytes rest g offset reason b o.fault)
     answered GoesOn o b = absurd o
 
--- it refuses the first fault, and nothing else
+-- the plain reader refuses exactly the first fault
 pub refused_exactly : (limits : Allowance) (bytes : List ℕ) (offset : ℕ) (reason : Reason) → IsAllowance limits → AreBytes bytes → bytes ≢ [] → decode limits bytes ≡ RefusedAt offset reason ↔ FirstFault limits bytes offset reason
 refused_exactly limits bytes offset reason allowed are some = (
   (λ (e : decode limits bytes ≡ RefusedAt offset reason). subst (λ a. Outcome limits bytes a) e (decoded limits bytes allowed are some)),
@@ -40,6 +41,6 @@ refused_exactly limits bytes offset reason allowed are some = (
     answered (RefusedAt p s) o f = let one = one_first_fault limits bytes p offset s reason o f in let place : p ≡ offset = one.0 in let why : s ≡ reason = one.1 in cc
     answered GoesOn o f = absurd o
 
--- it answers
+-- the plain reader always answers
 pub answered : (limits : Allowance) (bytes : List ℕ) → IsAllowance limits → AreBytes bytes → bytes ≢ [] → decode limits bytes ≢ GoesOn
 answered limits bytes allowed are some = λ e. subst (λ a. Outcome limits bytes a) e (decoded limits bytes allowed are some)

@@ -1,4 +1,4 @@
--- Where no end comes next, no size is found wrong behind the bytes.
+-- If no end comes next, no size is found to be wrong after the bytes.
 use Rattle.std.proofs.Common.{◌≡◌, ℕ, ◌<◌, List, [], ◌∷◌, ◌++◌, length, length-append, refl, sym, ap, ◌∙◌, subst, inl, inr, arith}
 use Rattle.std.specs.Prelude.{Option, Some}
 use Rattle.twkb_num.specs.Varint.{HasMarks}
@@ -14,11 +14,11 @@ use Rattle.twkb_grammar.proofs.Running.{ran_part}
 use Rattle.twkb_grammar.proofs.TwoFronts.{Compared, longer, shorter, same, two_fronts, join-beyond, none_beyond_fault}
 use Rattle.twkb_grammar.proofs.OneFault.{fault_runs}
 
--- the role is none of a geometry's end
+-- the role is not that of a geometry's end
 abbrev pub NoEnd : Role → Type 0
 NoEnd role = (declared : Option ℕ) (came : ℕ) → role ≡ End declared came → ⊥
 
--- another reason, or the others
+-- a wrong size is not the first reason if the reason tested is another and the others exclude it
 not_this : {P Others : Type 0} (reason : Reason) → (SizeMismatch ≡ reason → ⊥) → (Others → ⊥) → When SizeMismatch P reason Others → ⊥
 not_this reason other none (inl a) = other a.1
 not_this reason other none (inr b) = none b.1
@@ -29,7 +29,7 @@ no_number {Others = Others} rest none h = not_this {P = IsCut rest} {Others = Wh
 never : ⊥ → ⊥
 never x = x
 
--- a size is found wrong at an end alone
+-- a size is found to be wrong only at an end
 size_at_end : (limits : Allowance) (before : List Item) (rest : List ℕ) (role : Role) → NoEnd role → Refused limits before rest role SizeMismatch → ⊥
 size_at_end limits before rest Header n h = not_this _ (λ e. cc) (not_this _ (λ e. cc) never) h
 size_at_end limits before rest (Metadata k) n h = not_this _ (λ e. cc) (not_this _ (λ e. cc) never) h
@@ -42,7 +42,7 @@ size_at_end limits before rest X n h = no_number rest (not_this _ (λ e. cc) nev
 size_at_end limits before rest Y n h = no_number rest (not_this _ (λ e. cc) never) h
 size_at_end limits before rest (End d c) n h = n d c refl
 
--- any other item has bytes
+-- an item that is not an end has bytes
 marked_some : (bytes : List ℕ) → HasMarks bytes → 0 < length bytes
 marked_some [] h = absurd h
 marked_some (b ∷ bs) h = omega arith
@@ -62,7 +62,7 @@ item_some X n bytes apart s = marked_some bytes s.marked
 item_some Y n bytes apart s = marked_some bytes s.marked
 item_some (End d c) n bytes apart s = absurd (apart d c refl)
 
--- where no end comes next, no size is found wrong behind the bytes, whatever follows
+-- if no end comes next, no size is found to be wrong after the bytes, whatever follows
 pub no_size_wrong : (limits : Allowance) (bytes more : List ℕ) (e : Sums) (st : Stack) → Reached limits bytes e st → ((role : Role) → role_at e st ≡ Some role → NoEnd role)
     → FirstFault limits (bytes ++ more) (length bytes) SizeMismatch → ⊥
 no_size_wrong limits bytes more e st r no_end f = go (two_fronts r.items f.fault.before nothing started st behind.0 more f.fault.rest r.ran.runs behind.1 (at ∙ f.fault.split))
@@ -73,7 +73,7 @@ no_size_wrong limits bytes more e st r no_end f = go (two_fronts r.items f.fault
     at : join r.items ++ more ≡ bytes ++ more
     at = ap (λ l. l ++ more) r.spelled
 
-    -- what comes next in items that go on is no end
+    -- the next of the items that go on is not an end
     next_open : (i : Item) (is : List Item) (last : Stack) → Runs nothing started (r.items ++ i ∷ is) last → NoEnd i.role × Spells i.role i.number i.bytes
     next_open i is last run =
         let t = runs_split r.items (i ∷ is) nothing started last run in

@@ -1,4 +1,4 @@
--- What one byte more adds to the notes of a reader.
+-- What one more byte adds to the notes of a reader.
 use Rattle.std.proofs.Common.{◌≡◌, ℕ, zero, suc, ◌+◌, ◌-◌, List, [], ◌∷◌, ◌++◌, length, refl, sym, ap, ◌∙◌, subst, append_assoc, append-nil, length-append, arith, Option, Some, None, inl, inr}
 use Rattle.std.specs.Prelude.{◌⊎◌}
 use Rattle.twkb_tree.specs.Tree.{Tree, flat}
@@ -36,7 +36,7 @@ no_held held r n (inr h) = absurd (n h)
 head_is : (n b : ℕ) (held : List ℕ) (bytes : List ℕ) → bytes ≡ n ∷ [] → bytes ≡ held ++ b ∷ [] → held ≡ [] → n ≡ b
 head_is n b held bytes e f none = let z : n ∷ [] ≡ b ∷ [] = sym e ∙ (f ∙ ap (λ l. l ++ b ∷ []) none) in cc
 
--- what an item notes, a header's byte notes by itself
+-- the note of an item is added by a header's byte at once
 item_noted : (start : ℕ) (e : Sums) (fs : List Frame) (p : Phase) (i : Item) (byte : ℕ) (held : List ℕ) (w : Notes) → IsCalm p → role_at e (fs, p) ≡ Some i.role → IsItem i → i.bytes ≡ held ++ byte ∷ []
     → (held ≡ []) ⊎ IsNumber i.role → ((d : Option ℕ) (came : ℕ) → i.role ≡ End d came → ⊥) → noted_by start e i.role i.number w ≡ note_byte p (start + e.bytes) e.points byte w
 item_noted start e fs AtHeader i byte held w calm r item says number some =
@@ -70,7 +70,7 @@ module _ (limits : Allowance) (bytes : List ℕ) (e : Sums) (st : Stack) (held :
   at_middle : s.middle ++ held ≡ bytes
   at_middle = sym (s.whole ∙ ap (λ l. l ++ (s.middle ++ held)) s.blobs)
 
-  -- what is noted of an item and the ends behind it
+  -- the notes after an item and the ends after it
   after_byte : (start : ℕ) (js : List Item) (su : Stack) (byte : ℕ) → Runs nothing started js su → (t : Taken s.reached.items js held byte) → IsCalm st.1
       → noted start nothing no_notes js ≡ note_ends (length t.ends) (start + (sums_after nothing js).bytes) (sums_after nothing js).points (note_byte st.1 (start + e.bytes) e.points byte (notes_of start s))
   after_byte start js su byte r t calm =
@@ -98,7 +98,7 @@ module _ (limits : Allowance) (bytes : List ℕ) (e : Sums) (st : Stack) (held :
       behind : Same (sums_after nothing js) (added e t.next)
       behind = let b = ends_add t.ends (added e t.next) t.are_ends in (ap (λ x. x.bytes) sums ∙ b.0, ap (λ x. x.points) sums ∙ b.1)
 
-  -- one byte more of a blob
+  -- one more byte with which the blob goes on
   pub goes_on : (start byte : ℕ) (f : Sums) (su : Stack) (kept : List ℕ) (t : Stands limits (bytes ++ byte ∷ []) [] f su kept) → IsCalm st.1
       → notes_of start t ≡ note_ends_to (frame_count su) (start + f.bytes) f.points (note_byte st.1 (start + e.bytes) e.points byte (notes_of start s))
   goes_on start byte f su kept t calm = go (two_fronts s.reached.items t.reached.items nothing started st su (held ++ byte ∷ []) kept s.reached.ran.runs t.reached.ran.runs (left ∙ (at ∙ sym right)))
@@ -124,7 +124,7 @@ module _ (limits : Allowance) (bytes : List ℕ) (e : Sums) (st : Stack) (held :
           let b : notes_of start t ≡ note_ends (length x.ends) (start + f.bytes) f.points V = subst (λ z. notes_of start t ≡ note_ends (length x.ends) (start + z.bytes) z.points V) t.reached.sums a in
           b ∙ (ends_to (length x.ends) (start + f.bytes) f.points V ∙ ap (λ n. note_ends_to n (start + f.bytes) f.points V) (ap (λ w. length w.begun) (sym b) ∙ counts))
 
-      -- a number that goes on notes nothing
+      -- a byte of a number that is not its last adds no note
       stayed : s.reached.items ≡ t.reached.items → notes_of start t ≡ note_ends_to (frame_count su) (start + f.bytes) f.points V
       stayed alike = sym (ap (λ v. note_ends_to (frame_count su) (start + f.bytes) f.points v) (quiet_one ∙ notes) ∙ ap (λ n. note_ends n (start + f.bytes) f.points (notes_of start t)) (let z : length (notes_of start t).begun - frame_count su ≡ 0 = omega (arith, counts) in z))
         where

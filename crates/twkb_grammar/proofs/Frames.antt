@@ -1,4 +1,4 @@
--- The frames of a stack are the geometries that are begun and not ended.
+-- The frames of a stack are its open geometries.
 use Rattle.std.proofs.Common.{Bool, true, false, ◌≡◌, ℕ, zero, suc, ◌+◌, ◌-◌, ◌≤◌, List, [], ◌∷◌, ◌++◌, length, refl, ap, sym, ◌∙◌, subst, Some, None, arith}
 use Rattle.std.specs.Prelude.{⊤}
 use Rattle.twkb_num.specs.Zigzag.{unzigzag_of}
@@ -14,7 +14,7 @@ use Rattle.twkb_grammar.proofs.Headers.{head}
 use Rattle.twkb_grammar.proofs.Trees.{frame}
 use Rattle.twkb_grammar.proofs.Depths.{reached_depth}
 
--- roles that begin and end nothing
+-- roles that neither begin nor end a geometry
 abbrev Leaves : List Role → Type 0
 Leaves [] = ⊤
 Leaves (r ∷ rs) = ((n : ℕ) → open_by n r ≡ n) × Leaves rs
@@ -47,7 +47,7 @@ leaves_asked meta =
     (leaves_where (bit meta 1) (Size ∷ []) (leaves_size, tt))
     (leaves_where (bit meta 0) (Box ∷ Box ∷ Box ∷ Box ∷ []) (leaves_box, (leaves_box, (leaves_box, (leaves_box, tt))))))
 
--- the stack has n frames, and what is optional begins and ends nothing
+-- the stack has n frames, and the optional parts begin and end nothing
 abbrev Has : ℕ → Stack → Type 0
 Has n (fs, AtHeader) = length fs ≡ n
 Has n (fs, Finished g) = length fs ≡ n
@@ -99,7 +99,7 @@ has_ended (f ∷ fs) g = go f.left
     go zero = refl
     go (suc n) = refl
 
--- a role that leaves the number of frames, where it is the next one
+-- the next role leaves the number of frames unchanged
 same_frames : (n m : ℕ) (r s : Role) (st : Stack) → Some s ≡ Some r → suc m ≡ n → open_by (suc m) s ≡ suc m → Has (suc m) st → Has (open_by n r) st
 same_frames n m r s st says e leaves h =
     subst (λ k. Has k st) (sym leaves ∙ (ap (open_by (suc m)) (sym (some_role s r says)) ∙ ap (λ k. open_by k r) e)) h
@@ -144,7 +144,7 @@ has_frames n fs (AtBody o f ids b) h = h
 has_frames n fs (AtEnd o g) h = h
 has_frames n fs (Finished g) h = h
 
--- the frames are what is begun and not ended
+-- the number of frames is the number of open geometries
 pub reached_frames : (limits : Allowance) (bytes : List ℕ) (e : Sums) (st : Stack) (r : Reached limits bytes e st) → frame_count st ≡ open_after 0 r.items
 reached_frames limits bytes e st r = has_frames (open_after 0 r.items) st.0 st.1 (has_run 0 r.items nothing started st refl r.ran.runs)
 
@@ -158,6 +158,6 @@ most_frames nest fs (AtBody o f ids b) few = omega (arith, few)
 most_frames nest fs (AtEnd o g) few = omega (arith, few)
 most_frames nest fs (Finished g) few = omega (arith, few)
 
--- and they are at most one more than the collections that may be round a member
+-- there is at most one frame more than the collections allowed around a member
 pub reached_few : (limits : Allowance) (bytes : List ℕ) (e : Sums) (st : Stack) → Reached limits bytes e st → frame_count st ≤ limits.nest + 1
 reached_few limits bytes e st r = most_frames limits.nest st.0 st.1 (reached_depth limits bytes e st r)

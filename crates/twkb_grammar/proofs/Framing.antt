@@ -1,4 +1,4 @@
--- A written blob as items, round the items of its body.
+-- A written blob as items, around the items of its body.
 use Rattle.std.proofs.Common.{◌≡◌, ℕ, ◌+◌, ◌<◌, ◌≤◌, ◌^◌, Bool, true, false, List, [], ◌∷◌, ◌++◌, length, refl, sym, ap, ◌∙◌, subst, append-nil, length-append, Some, None, arith}
 use Rattle.std.specs.Prelude.{if◌then◌else◌}
 use Rattle.twkb_num.specs.Varint.{varint_of}
@@ -50,7 +50,7 @@ pub record Spelling (Are : List Item → Type 0) (bytes : List ℕ) : Type 0 whe
   pub exact : AreExact items
   pub spelled : join items ≡ bytes
 
--- a body that is left out where the geometry is empty
+-- a body, which is left out if the geometry is empty
 pub body_or_none : (b : Bool) {Body : List Item → Type 0} {bytes : List ℕ} → Spelling Body bytes → Spelling (BodyAt b Body) (if b then [] else bytes)
 body_or_none true s = record { items = []; are = refl; exact = tt; spelled = refl }
 body_or_none false s = record { items = s.items; are = s.are; exact = s.exact; spelled = s.spelled }
@@ -128,7 +128,7 @@ frame Full g bytes in_range few s =
     short false = omega (arith, length-append (box_of g) bytes, (box_items g in_range).short, few)
 frame Plain g bytes in_range few s = plain_frame g (if is_empty (flags_of_tree g) then [] else bytes) (body_or_none (is_empty (flags_of_tree g)) s)
 
--- a written blob is so much longer than its body at most
+-- a written blob is longer than its body by a bounded number of bytes
 pub length-written : (style : Style) (g : Tree) (bytes : List ℕ) → AreInRange (flat g) → length bytes < 2 ^ 63 → length (written style g bytes) ≤ 52 + length bytes
 length-written Full g bytes in_range few = go (is_empty (flags_of_tree g))
   where

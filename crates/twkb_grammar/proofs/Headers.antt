@@ -1,4 +1,4 @@
--- The machine runs through a geometry's frame: header, options, body, end.
+-- The machine runs through a geometry's frame: header, optional parts, body and end.
 use Rattle.std.proofs.Common.{Bool, true, false, ◌≡◌, ℕ, ◌+◌, ◌-◌, ◌/◌, ◌%◌, ◌<◌, List, [], ◌∷◌, ◌++◌, length, refl, ap, sym, ◌∙◌, subst, length-append, Option, Some, None, arith}
 use Rattle.std.specs.Prelude.{ℤ, ⊤}
 use Rattle.twkb_num.specs.Zigzag.{zigzag_of, unzigzag_of}
@@ -14,7 +14,7 @@ use Rattle.twkb_grammar.specs.Machine.{Kind, SimpleKind, CollectionKind, kind_nu
 use Rattle.twkb_num.proofs.ZigzagLemmas.{unzigzag_of-zigzag_of}
 use Rattle.twkb_points.specs.Point.{origin}
 
--- two runs, one behind the other, are one
+-- two runs, one after the other, are one
 pub Runs-append : (is : List Item) (e : Sums) (st mid : Stack) (js : List Item) (last : Stack) → Runs e st is mid → Runs (sums_after e is) mid js last → Runs e st (is ++ js) last
 Runs-append [] e st mid js last r s = subst (λ x. Runs e x js last) (sym r) s
 Runs-append (i ∷ is) e st mid js last r s = (r.0, r.1, Runs-append is (added e i) (stack_after e i st) mid js last r.2 s)
@@ -24,12 +24,12 @@ pub bytes_after : (is : List Item) (e : Sums) → (sums_after e is).bytes ≡ e.
 bytes_after [] e = omega arith
 bytes_after (i ∷ is) e = omega (arith, bytes_after is (added e i), length-append i.bytes (join is))
 
--- roles that leave the position
+-- roles that leave the position unchanged
 abbrev pub Still : List Role → Type 0
 Still [] = ⊤
 Still (r ∷ rs) = ((p : Point) (n : ℕ) → moved p r n ≡ p) × Still rs
 
--- roles that leave the position
+-- items with such roles leave the position unchanged
 pub still_after : (rs : List Role) (is : List Item) (e : Sums) → HaveRoles rs is → Still rs → (sums_after e is).position ≡ e.position
 still_after [] [] e have still = refl
 still_after [] (i ∷ is) e have still = absurd have
@@ -37,12 +37,12 @@ still_after (r ∷ rs) [] e have still = absurd have
 still_after (r ∷ rs) (i ∷ is) e have still =
     still_after rs is (added e i) have.2 still.1 ∙ (ap (λ s. moved e.position s i.number) have.0 ∙ still.0 e.position i.number)
 
--- also where they are asked for
+-- optional roles of this sort leave the position unchanged, asked for or not
 pub still_where : (b : Bool) (rs : List Role) → Still rs → Still (where_set b rs)
 still_where true rs still = still
 still_where false rs still = tt
 
--- a header
+-- the header with these fields
 abbrev pub head : ℤ → ℕ → Option ℕ → ℕ → Head
 head p meta size from = record { precision = p; meta = meta; size = size; from = from }
 
@@ -74,7 +74,7 @@ module _ (k : Kind) (p : ℤ) (meta : ℕ) (fs : List Frame) where
   box_run false [] h e have = refl
   box_run false (i ∷ is) h e have = absurd have
 
--- the number of a kind is a type
+-- the number of a kind is a type's number
 pub kind_small : (k : Kind) → (0 < kind_number k) × (kind_number k < 8)
 kind_small (SimpleKind PointForm) = (omega arith, omega arith)
 kind_small (SimpleKind LineForm) = (omega arith, omega arith)
@@ -94,11 +94,11 @@ kind_again (SimpleKind MultiLineForm) = refl
 kind_again (SimpleKind MultiPolygonForm) = refl
 kind_again CollectionKind = refl
 
--- the body, which a frame leaves to its geometry
+-- a run through the body, for which the geometry is responsible
 abbrev pub RunsBody : Kind → ℤ → List Frame → ℕ → List Item → Tree → Type 0
 RunsBody k p fs meta body g = (e : Sums) (size : Option ℕ) (from : ℕ) → e.position ≡ origin → let h = head p meta size from in Runs e (fs, wanting k h []) body (fs, AtEnd h g)
 
--- what was added is taken away
+-- subtracting what was added gives the number back
 pub sub_add : (a n : ℕ) → (a + n) - a ≡ n
 sub_add a n = omega arith
 

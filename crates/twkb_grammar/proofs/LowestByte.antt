@@ -3,7 +3,7 @@ use Rattle.std.proofs.Common.{◌≡◌, ℕ, zero, suc, ◌<◌, ◌/◌, ◌%�
 use Rattle.std.specs.Prelude.{nat_eq}
 use Rattle.twkb_grammar.specs.Bits.{bit}
 
--- what the lower bits of a number are, its lowest byte tells
+-- the lower bits of a number are the bits of its lowest byte
 pub bit-lowest_byte : (n k : ℕ) → k < 8 → bit (n % 256) k ≡ bit n k
 bit-lowest_byte n zero h = ap (λ m. nat_eq m 1) (let e : n % 256 / 1 % 2 ≡ n / 1 % 2 = omega arith in e)
 bit-lowest_byte n (suc zero) h = ap (λ m. nat_eq m 1) (let e : n % 256 / 2 % 2 ≡ n / 2 % 2 = omega arith in e)

@@ -10,7 +10,7 @@ use Rattle.twkb_grammar.specs.Reading.{open_by, open_after}
 use Rattle.twkb_grammar.specs.Noting.{Notes, behind_first, note_end, noted_by, noted, note_ends, note_ends_to}
 use Rattle.twkb_grammar.specs.declared.span.Span.{Span}
 
--- ends alone
+-- all items are ends
 abbrev pub AreEnds : List Item → Type 0
 AreEnds [] = ⊤
 AreEnds (i ∷ is) = (d : Option ℕ) × (came : ℕ) × (i.role ≡ End d came) × IsItem i × AreEnds is
@@ -40,14 +40,14 @@ none_back : (a b : List ℕ) → a ++ b ≡ [] → b ≡ []
 none_back [] b e = e
 none_back (x ∷ a) b e = absurd cc
 
--- items without bytes are ends
+-- items without bytes are only ends
 pub ends_only : (is : List Item) (e : Sums) (st last : Stack) → Runs e st is last → join is ≡ [] → AreEnds is
 ends_only [] e st last r none = tt
 ends_only (i ∷ is) e st last r none =
     let h = end_role i.role i.number i.bytes r.1 (none_front i.bytes (join is) none) in
     (h.0, h.1, h.2, r.1, ends_only is (added e i) (stack_after e i st) last r.2 (none_back i.bytes (join is) none))
 
--- the sums without the position
+-- two sums are equal except for the position
 abbrev pub Same : Sums → Sums → Type 0
 Same a b = (a.bytes ≡ b.bytes) × (a.points ≡ b.points)
 
@@ -56,7 +56,7 @@ end_adds e i d came is item =
     let sp : Spells (End d came) i.number i.bytes = subst (λ x. Spells x i.number i.bytes) is item in
     (let z : length i.bytes ≡ 0 = ap length sp.1 in omega (arith, z), let z : points_by i.role i.number ≡ 0 = ap (λ x. points_by x i.number) is in omega (arith, z))
 
--- an end before others is an end behind them
+-- an end before other ends gives the same as an end after them
 ends_swap : (n offset points : ℕ) (w : Notes) → note_ends n offset points (note_end offset points w) ≡ note_end offset points (note_ends n offset points w)
 ends_swap zero offset points w = refl
 ends_swap (suc n) offset points w = ap (λ v. note_end offset points v) (ends_swap n offset points w)
@@ -75,7 +75,7 @@ ends_add (i ∷ is) e (d, came, role, item, are) =
     let b = ends_add is (added e i) are in
     (b.0 ∙ a.0, b.1 ∙ a.1)
 
--- as many geometries are begun as the items begin and do not end
+-- the notes have as many open geometries as the items leave open
 one_open : (start : ℕ) (e : Sums) (r : Role) (n : ℕ) (ss : List Span) (b : List ℕ) → length (noted_by start e r n (record { spans = ss; begun = b })).begun ≡ open_by (length b) r
 one_open start e Header n ss b = refl
 one_open start e (Metadata k) n ss [] = refl
@@ -101,7 +101,7 @@ pub all_open : (start : ℕ) (is : List Item) (e : Sums) (w : Notes) → length 
 all_open start [] e w = refl
 all_open start (i ∷ is) e w = all_open start is (added e i) (noted_by start e i.role i.number w) ∙ ap (λ n. open_after n is) (one_open start e i.role i.number w.spans w.begun)
 
--- so many ends leave so many open
+-- n ends close n geometries
 ends_left : (n offset points : ℕ) (w : Notes) → length (note_ends n offset points w).begun ≡ length w.begun - n
 ends_left zero offset points w = omega arith
 ends_left (suc n) offset points w = one (note_ends n offset points w).begun (ends_left n offset points w)
@@ -110,7 +110,7 @@ ends_left (suc n) offset points w = one (note_ends n offset points w).begun (end
     one [] e = omega (arith, e)
     one (x ∷ b) e = omega (arith, e)
 
--- where none is begun nothing ends
+-- without an open geometry an end changes nothing
 none_ends : (n offset points : ℕ) (w : Notes) → length w.begun ≡ 0 → note_ends n offset points w ≡ w
 none_ends zero offset points w e = refl
 none_ends (suc n) offset points w e = ap (λ v. note_end offset points v) (none_ends n offset points w e) ∙ one w.spans w.begun e
@@ -123,7 +123,7 @@ ends_join : (m n offset points : ℕ) (w : Notes) → note_ends (m + n) offset p
 ends_join zero n offset points w = ap (λ k. note_ends k offset points w) (let z : 0 + n ≡ n = omega arith in z)
 ends_join (suc m) n offset points w = ap (λ k. note_ends k offset points w) (let z : suc m + n ≡ suc (m + n) = omega arith in z) ∙ ap (λ v. note_end offset points v) (ends_join m n offset points w)
 
--- ends are told by what they leave
+-- a number of ends is given by the number of geometries they leave open
 pub ends_to : (n offset points : ℕ) (w : Notes) → note_ends n offset points w ≡ note_ends_to (length (note_ends n offset points w).begun) offset points w
 ends_to n offset points w =
     ap (λ k. note_ends k offset points w) parts ∙ (ends_join (n - k) k offset points w ∙ (go ∙ ap (λ q. note_ends q offset points w) is))

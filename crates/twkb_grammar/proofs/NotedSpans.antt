@@ -1,4 +1,4 @@
--- What a reader notes of the items of a geometry are its spans.
+-- The notes of a geometry's items are its spans.
 use Rattle.std.proofs.Common.{Bool, true, false, ◌≡◌, ℕ, suc, ◌+◌, ◌-◌, ◌/◌, ◌%◌, ◌<◌, List, [], ◌∷◌, ◌++◌, length, refl, ap, sym, ◌∙◌, subst, append_assoc, append-nil, arith}
 use Rattle.std.specs.Prelude.{ℤ, ⊤}
 use Rattle.twkb_num.specs.Zigzag.{zigzag_of, unzigzag_of}
@@ -22,7 +22,7 @@ use Rattle.twkb_grammar.proofs.BodiesBack.{sums_after-append}
 use Rattle.twkb_grammar.proofs.Totals.{total, total_is, total-append, tree_total}
 use Rattle.twkb_grammar.proofs.Running.{points_after}
 
--- the item behind some is changed
+-- changing the item after some others
 changed-behind : {A : Type 0} (xs : List A) (f : A → A) (x : A) (ys : List A) → changed_at (length xs) f (xs ++ x ∷ ys) ≡ xs ++ f x ∷ ys
 changed-behind [] f x ys = refl
 changed-behind (z ∷ xs) f x ys = ap (λ l. z ∷ l) (changed-behind xs f x ys)
@@ -32,11 +32,11 @@ pub noted-append : (start : ℕ) (is js : List Item) (e : Sums) (w : Notes) → 
 noted-append start [] js e w = refl
 noted-append start (i ∷ is) js e w = noted-append start is js (added e i) (noted_by start e i.role i.number w)
 
--- the sums have the points that were announced
+-- the sums have the number of points announced
 pub points_total : (is : List Item) (e : Sums) → (sums_after e is).points ≡ e.points + total points_by is
 points_total is e = points_after is e ∙ ap (λ n. e.points + n) (total_is points_by is)
 
--- nothing is noted of them
+-- items of quiet roles leave no note
 pub quiet : (start : ℕ) (e : Sums) (r : Role) (n : ℕ) (w : Notes) → IsQuiet r → noted_by start e r n w ≡ w
 quiet start e Header n w q = absurd q
 quiet start e (Metadata k) n w q = absurd q
@@ -86,11 +86,11 @@ quiet_fields start (f ∷ fs) (i ∷ is) e w h q =
 abbrev notes : List Span → List ℕ → Notes
 notes ss is = record { spans = ss; begun = is }
 
--- a span that is begun, and one that is ended
+-- the span of an open geometry, and that of one that has ended
 abbrev told : (level offset : ℕ) → Kind → ℤ → (meta length points : ℕ) → Span
 told level offset k p meta size points = record { level = level; offset = offset; kind = k; precision = p; metadata = meta; length = size; points = points }
 
--- what a type byte and a metadata byte note
+-- the notes of a type byte and a metadata byte
 head_noted : (offset points kind : ℕ) (p : ℤ) (k : Kind) (meta : ℕ) (w : Notes) → IsPrecision p → kind < 8 → shown (kind_at kind) ≡ k
     → note_metadata meta (note_header offset points (header_byte kind p) w)
     ≡ notes (w.spans ++ told (length w.begun) offset k p meta 0 points ∷ []) (length w.spans ∷ w.begun)
@@ -123,7 +123,7 @@ head_noted offset points kind p k meta w fits low same =
         ∙ (ap (λ q. told (length w.begun) offset q (unzigzag_of (n / 16)) meta 0 points) same
         ∙ ap (λ q. told (length w.begun) offset k q meta 0 points) (ap unzigzag_of halves ∙ unzigzag_of-zigzag_of p))
 
--- a list regrouped
+-- five lists joined in another grouping
 regroup : {A : Type 0} (x s o b : List A) (l : List A) → x ++ (s ++ ((o ++ b) ++ l)) ≡ (x ++ (s ++ o)) ++ (b ++ l)
 regroup x s o b l =
     ap (λ t. x ++ (s ++ t)) (append_assoc o b l) ∙ (ap (λ t. x ++ t) (sym (append_assoc s o (b ++ l))) ∙ sym (append_assoc x (s ++ o) (b ++ l)))
@@ -139,7 +139,7 @@ module _ (start kind : ℕ) (p : ℤ) (own : Flags) (Body : List Item → Type 0
   parted : is ≡ before_body f ++ (f.body ++ last ∷ [])
   parted = f.whole ∙ ap (λ l. item Header (header_byte kind p) ∷ item (Metadata kind) f.meta ∷ l) (regroup f.extended f.size f.box f.body (last ∷ []))
 
-  -- the bytes of the items are those before the end
+  -- the bytes of the items are those before the body and those in it; the end has none
   own_bytes : length (join is) ≡ length (join (before_body f)) + length (join f.body)
   own_bytes = omega (
     arith,
@@ -152,7 +152,7 @@ module _ (start kind : ℕ) (p : ℤ) (own : Flags) (Body : List Item → Type 0
   )
 
   module _ (k : Kind) (fits : IsPrecision p) (low : kind < 8) (same : shown (kind_at kind) ≡ k) where
-    -- what is noted before the body
+    -- the notes before the body
     abbrev pub w1 : Notes
     w1 = notes (w.spans ++ told (length w.begun) (start + e.bytes) k p f.meta 0 e.points ∷ []) (length w.spans ∷ w.begun)
 
@@ -174,7 +174,7 @@ module _ (start kind : ℕ) (p : ℤ) (own : Flags) (Body : List Item → Type 0
         w0 : Notes
         w0 = note_metadata f.meta (note_header (start + e.bytes) e.points (header_byte kind p) w)
 
-    -- a geometry is noted by its span, and then the spans of its members
+    -- a geometry is noted by its own span and then the spans of its members
     pub framed_noted : (inner : List Span) (points : ℕ) → noted start e1 w1 f.body ≡ notes (w1.spans ++ inner) w1.begun → total points_by is ≡ points
         → noted start e w is ≡ notes (w.spans ++ told (length w.begun) (start + e.bytes) k p f.meta (length (join is)) points ∷ inner) w.begun
     framed_noted inner points body_is points_are =
@@ -213,7 +213,7 @@ module _ (start kind : ℕ) (p : ℤ) (own : Flags) (Body : List Item → Type 0
         closed : told (length w.begun) (start + e.bytes) k p f.meta ((start + e3.bytes) - (start + e.bytes)) (e3.points - e.points) ≡ told (length w.begun) (start + e.bytes) k p f.meta (length (join is)) points
         closed = ap (λ n. told (length w.begun) (start + e.bytes) k p f.meta n (e3.points - e.points)) size_is ∙ ap (λ n. told (length w.begun) (start + e.bytes) k p f.meta (length (join is)) n) counted
 
--- nothing more
+-- without members nothing more is noted
 none_more : (w : Notes) → w ≡ notes (w.spans ++ []) w.begun
 none_more w = ap (λ l. notes l w.begun) (sym (append-nil w.spans))
 
@@ -237,7 +237,7 @@ simple_body : (start : ℕ) (s : Simple) (b : Bool) (body : List Item) (e : Sums
 simple_body start s true body e w h = ap (λ l. noted start e w l) h
 simple_body start s false body e w h = quiet_fields start (fields s) body e w h (quiet_filled (outline s) (Rattle.twkb_points.specs.Differences.differences (Rattle.twkb_tree.specs.Tree.points_in s)))
 
--- what it takes to note the members
+-- the notes of the members are their spans
 abbrev NotesMembers : Trees → Type 0
 NotesMembers gs = (start : ℕ) (e : Sums) (w : Notes) (is : List Item) → (h : ItemsOfAll (length w.begun) gs is) → noted start e w is ≡ notes (w.spans ++ spans_of_all (length w.begun) (start + e.bytes) gs is h) w.begun
 
@@ -253,7 +253,7 @@ below_noted gs each c n ids start false body e w h =
     ∙ ap (λ o. notes (w.spans ++ spans_of_all (length w.begun) o gs h.rest h.second) w.begun) (let b : (sums_after e h.front).bytes ≡ e.bytes + length (join h.front) = bytes_after h.front e in omega (arith, b)))))
 
 mutual
-  -- the spans of a geometry are noted
+  -- the notes of a geometry are its spans
   pub tree_noted : (g : Tree) (start : ℕ) (e : Sums) (w : Notes) (is : List Item) → IsTree g → (f : Items (length w.begun) g is) → noted start e w is ≡ notes (w.spans ++ spans (length w.begun) (start + e.bytes) g is f) w.begun
   tree_noted (simple p s) start e w is fits f =
       framed_noted start (kind_of s) p (flags s) (AreFields (fields s)) is e w f (kind_of_shape s) fits.0 (shape_low s) (shape_kind s) [] (length (flat (simple p s)))
@@ -293,6 +293,6 @@ mutual
       (let b : (sums_after e h.front).bytes ≡ e.bytes + length (join h.front) = bytes_after h.front e in omega (arith, b))
       ∙ ap (λ l. notes l w.begun) (append_assoc w.spans (spans (length w.begun) (start + e.bytes) g h.front h.first) (spans_of_all (length w.begun) ((start + e.bytes) + length (join h.front)) gs h.rest h.second))))))
 
--- what was noted of the items of a blob are its spans
+-- the notes of a blob's items are its spans
 pub blob_noted : (limits : Allowance) (bytes : List ℕ) (g : Tree) (start : ℕ) (b : Blob limits bytes g) → noted start nothing no_notes b.items ≡ notes (spans_of_blob start b) []
 blob_noted limits bytes g start b = tree_noted g start nothing no_notes b.items b.valid.tree b.are_items ∙ ap (λ o. notes (spans 0 o g b.items b.are_items) []) (let z : start + 0 ≡ start = omega arith in z)

@@ -7,7 +7,7 @@ use Rattle.twkb_grammar.specs.Roles.{IsNumber, Role, Header, Metadata, Extended,
 use Rattle.twkb_grammar.specs.Blob.{IsExact, AreExact}
 use Rattle.twkb_grammar.specs.Written.{varints}
 
--- a field that a varint can spell
+-- a field whose number a varint can spell
 abbrev pub Fits : Field → Type 0
 Fits f = IsNumber f.0 × (f.1 < 2 ^ 64)
 
@@ -24,7 +24,7 @@ abbrev pub number_items : List Field → List Item
 number_items [] = []
 number_items (f ∷ fs) = number_item f.0 f.1 ∷ number_items fs
 
--- the shortest varint is a spelling
+-- the shortest varint is a spelling of its number
 pub spells : (r : Role) (n : ℕ) → IsNumber r → n < 2 ^ 64 → Spells r n (varint_of n)
 spells Header n is h = absurd is
 spells (Metadata kind) n is h = absurd is
@@ -49,27 +49,27 @@ exact X is = tt
 exact Y is = tt
 exact (End declared came) is = absurd is
 
--- the items of fields are theirs
+-- the items of fields have these fields
 pub fields-number_items : (fs : List Field) → AllFit fs → AreFields fs (number_items fs)
 fields-number_items [] fit = tt
 fields-number_items (f ∷ fs) fit = (refl, refl, spells f.0 f.1 fit.0.0 fit.0.1, fields-number_items fs fit.1)
 
--- they have no size
+-- the items of fields are exact, since none has a size
 pub exact-number_items : (fs : List Field) → AllFit fs → AreExact (number_items fs)
 exact-number_items [] fit = tt
 exact-number_items (f ∷ fs) fit = (exact f.0 fit.0.0, exact-number_items fs fit.1)
 
--- their bytes are the varints of the fields
+-- the bytes of the items are the varints of the fields
 pub join-number_items : (fs : List Field) → join (number_items fs) ≡ varints fs
 join-number_items [] = refl
 join-number_items (f ∷ fs) = ap (λ bs. varint_of f.1 ++ bs) (join-number_items fs)
 
--- each varint has ten bytes at most
+-- each varint has at most ten bytes
 pub length-varints : (fs : List Field) → AllFit fs → length (varints fs) ≤ 10 * length fs
 length-varints [] fit = omega arith
 length-varints (f ∷ fs) fit = omega (arith, length-append (varint_of f.1) (varints fs), length-varint_of f.1 fit.0.1, length-varints fs fit.1)
 
--- joined fields fit
+-- joined fields fit if both lists do
 pub AllFit-append : (fs gs : List Field) → AllFit fs → AllFit gs → AllFit (fs ++ gs)
 AllFit-append [] gs h k = k
 AllFit-append (f ∷ fs) gs h k = (h.0, AllFit-append fs gs h.1 k)
@@ -79,7 +79,7 @@ pub varints-append : (fs gs : List Field) → varints (fs ++ gs) ≡ varints fs 
 varints-append [] gs = refl
 varints-append (f ∷ fs) gs = ap (λ bs. varint_of f.1 ++ bs) (varints-append fs gs) ∙ sym (append_assoc (varint_of f.1) (varints fs) (varints gs))
 
--- joined items are exact
+-- joined items are exact if both lists are
 pub AreExact-append : (is js : List Item) → AreExact is → AreExact js → AreExact (is ++ js)
 AreExact-append [] js h k = k
 AreExact-append (i ∷ is) js h k = (h.0, AreExact-append is js h.1 k)

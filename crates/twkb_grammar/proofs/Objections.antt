@@ -1,4 +1,4 @@
--- Items to which there is an objection, and what those keep to which there is none.
+-- Items with an objection, and what items without one keep.
 use Rattle.std.proofs.Common.{◌≡◌, ℕ, ◌+◌, ◌<◌, ◌≤◌, ◌⊎◌, inl, inr, Bool, true, false, nat_le, nat_lt, ◌&&◌, refl, arith, Some, None}
 use Rattle.std.specs.Prelude.{Option, if◌then◌else◌}
 use Rattle.std.proofs.lemmas.Bool.Decides.{nat_tests}
@@ -8,14 +8,14 @@ use Rattle.twkb_grammar.specs.Fault.{Reason, TooDeep, TooManyNodes, TooManyPoint
 use Rattle.twkb_grammar.specs.PlainReader.{objection, unless, too_deep}
 use Rattle.twkb_grammar.specs.Machine.{Sums}
 
--- too many collections stand round members
+-- a collection with members inside too many collections is refused
 pub deep_refused : (nest level n : ℕ) (others : Option Reason) → nest ≤ level → 0 < n → Some TooDeep ≡ unless (nat_le nest level && nat_lt 0 n) TooDeep others
 deep_refused nest level n others h k =
     let a : nat_le nest level ≡ true = grind (arith, nat_tests) in
     let b : nat_lt 0 n ≡ true = grind (arith, nat_tests) in
     rw (a, b) refl
 
--- few enough do, or there are no members
+-- a collection inside few enough, or without members, is allowed
 pub deep_allowed : (nest level n : ℕ) (others : Option Reason) → (level < nest) ⊎ (n ≤ 0) → others ≡ unless (nat_le nest level && nat_lt 0 n) TooDeep others
 deep_allowed nest level n others (inl h) =
     let a : nat_le nest level ≡ false = grind (arith, nat_tests) in rw a refl
@@ -29,7 +29,7 @@ unless_none false r o h = (refl, h)
 sum_fits : (limit a b : ℕ) → nat_lt limit (a + b) ≡ false → a + b ≤ limit
 sum_fits limit a b h = grind (arith, nat_tests)
 
--- a count to which there is no objection passes each of its tests
+-- a count without an objection passes each of its tests
 count_passes : (deep nodes points : Bool) → unless deep TooDeep (unless nodes TooManyNodes (unless points TooManyPoints None)) ≡ None → (nodes ≡ false) × (points ≡ false)
 count_passes true nodes points h = cc
 count_passes false true points h = cc
@@ -40,7 +40,7 @@ one_fits : (b : Bool) (limit p : ℕ) → p ≤ limit → (b && nat_le limit p) 
 one_fits true limit p low h = grind (arith, nat_tests)
 one_fits false limit p low h = omega arith
 
--- the limits are kept by an item to which there is no objection
+-- an item without an objection keeps the limits
 pub kept : (limits : Allowance) (e : Sums) (r : Role) (n : ℕ) → e.nodes ≤ limits.nodes → e.points ≤ limits.points → objection limits e r n ≡ None → (e.nodes + nodes_by r n ≤ limits.nodes) × (e.points + points_by r n ≤ limits.points)
 kept limits e (Count c) n a b h =
     let t = count_passes (too_deep limits c n) (nat_lt limits.nodes (e.nodes + nodes_of c n)) (nat_lt limits.points (e.points + points_of c n)) h in

@@ -11,7 +11,7 @@ use Rattle.twkb_grammar.proofs.Trees.{tree_runs}
 use Rattle.twkb_grammar.proofs.Parts.{front_runs}
 use Rattle.twkb_grammar.proofs.TwoFronts.{Compared, longer, shorter, same, two_fronts, none_beyond, blob_part, left_cancel, none_beyond_fault}
 
--- the first reason that holds is one
+-- the first reason that holds is unique
 when_same : {P A B : Type 0} (r s reason : Reason) → (A → B → r ≡ s) → When r P reason A → When s P reason B → r ≡ s
 when_same r s reason others (inl a) (inl b) = a.1 ∙ sym b.1
 when_same r s reason others (inl a) (inr b) = absurd (b.0 a.0)
@@ -25,7 +25,7 @@ number_same {A = A} {B = B} r s rest others a b =
 neither : (r s : Reason) → ⊥ → ⊥ → r ≡ s
 neither r s a b = absurd a
 
--- the first reason at a place is one
+-- the first reason at a place is unique
 pub one_reason : (limits : Allowance) (before : List Item) (rest : List ℕ) (role : Role) (r s : Reason) → Refused limits before rest role r → Refused limits before rest role s → r ≡ s
 one_reason limits before rest Header r s a b = when_same r s _ (when_same r s _ (neither r s)) a b
 one_reason limits before rest (Metadata k) r s a b = when_same r s _ (when_same r s _ (neither r s)) a b
@@ -38,11 +38,11 @@ one_reason limits before rest X r s a b = number_same r s rest (when_same r s _ 
 one_reason limits before rest Y r s a b = number_same r s rest (when_same r s _ (neither r s)) a b
 one_reason limits before rest (End d c) r s a b = when_same r s _ (neither r s) a b
 
--- the items before a fault are run through
+-- the machine runs through the items before a fault
 pub fault_runs : (limits : Allowance) (bytes : List ℕ) (offset : ℕ) (reason : Reason) (f : Fault limits bytes offset reason) → (st : Stack) × Runs nothing started f.before st
 fault_runs limits bytes offset reason f = front_runs f.before f.begins.1 f.begins.0 f.begins.2 f.begins.3
 
--- a fault behind the same items has the same role
+-- a fault after the same items has the same role
 one_role : (limits : Allowance) (bytes : List ℕ) (o p : ℕ) (r s : Reason) (a : Fault limits bytes o r) (b : Fault limits bytes p s) → a.before ≡ b.before → a.role ≡ b.role
 one_role limits bytes o p r s a b e =
     let g = a.begins.0 in
@@ -52,7 +52,7 @@ one_role limits bytes o p r s a b e =
     let one : i.0 ≡ j.0 = let f : i.0 ∷ i.1 ≡ j.0 ∷ j.1 = sym i.2 ∙ j.2 in cc in
     sym i.3 ∙ (ap (λ (k : Item). k.role) one ∙ j.3)
 
--- two first faults of the same bytes are one
+-- two first faults of the same bytes are equal
 pub one_first_fault : (limits : Allowance) (bytes : List ℕ) (o p : ℕ) (r s : Reason) → FirstFault limits bytes o r → FirstFault limits bytes p s → (o ≡ p) × (r ≡ s)
 one_first_fault limits bytes o p r s a b =
     go (two_fronts a.fault.before b.fault.before nothing started (fault_runs limits bytes o r a.fault).0 (fault_runs limits bytes p s b.fault).0 a.fault.rest b.fault.rest
@@ -69,7 +69,7 @@ one_first_fault limits bytes o p r s a b =
         let z : Refused limits b.fault.before b.fault.rest b.fault.role r = subst (λ l. Refused limits b.fault.before b.fault.rest l r) role y in
         (a.fault.place ∙ (ap (λ l. length (join l)) e ∙ sym b.fault.place), one_reason limits b.fault.before b.fault.rest b.fault.role r s z b.fault.refused)
 
--- bytes with a blob in front have no fault
+-- bytes that begin with a blob have no fault
 pub no_fault : (limits : Allowance) (bytes rest : List ℕ) (g : Tree) (offset : ℕ) (reason : Reason) → BlobInFront limits bytes g rest → Fault limits bytes offset reason → ⊥
 no_fault limits bytes rest g offset reason b f = go (two_fronts b.blob.items f.before nothing started ([], Finished g) st.0 rest f.rest whole st.1 (at ∙ f.split))
   where

@@ -1,4 +1,4 @@
--- The numbers of a body can be spelled, and how many there are.
+-- The numbers of a body can be spelled, and how many of them there are.
 use Rattle.std.proofs.Common.{◌≡◌, ℕ, ◌+◌, ◌*◌, ◌<◌, ◌≤◌, ◌^◌, List, [], ◌∷◌, ◌++◌, map, length, refl, sym, subst, Some, None, length-append, arith}
 use Rattle.std.specs.Prelude.{ℤ, flat_map}
 use Rattle.std.specs.List.{AllByRecursion}
@@ -12,7 +12,7 @@ use Rattle.twkb_grammar.proofs.Ranges.{all_front}
 use Rattle.twkb_grammar.proofs.Small.{id_fits, difference_fits}
 use Rattle.twkb_grammar.proofs.NumberItems.{AllFit}
 
--- what stands at a place can be spelled
+-- the numbers at a place can be spelled
 abbrev PlaceFits : Place → Type 0
 PlaceFits (OfCount c n) = n < 2 ^ 64
 PlaceFits (OfId id) = zigzag_of id < 2 ^ 64
@@ -33,7 +33,7 @@ fit-ids : (ids : List ℤ) → AreIds ids → PlacesFit (map OfId ids)
 fit-ids [] h = tt
 fit-ids (id ∷ ids) h = (id_fits id h.0, fit-ids ids h.1)
 
--- ids fit
+-- the numbers of ids can be spelled
 pub fit-id_places : (ids : Ids) (n : ℕ) → HasIds ids n → PlacesFit (id_places ids)
 fit-id_places None n h = tt
 fit-id_places (Some ids) n h = fit-ids ids h.2
@@ -66,7 +66,7 @@ fit-outline (multi_line ids ls) fit h nodes few = (omega (arith, nodes), PlacesF
 fit-outline (multi_polygon ids areas) fit h nodes few =
     (omega (arith, nodes, length-area_nodes areas), PlacesFit-append (id_places ids) (flat_map rings_of areas) (fit-id_places ids (length areas) fit) (fit-areas areas h few (omega (arith, nodes))))
 
--- fields of places in range fit
+-- the numbers of fields at places in range can be spelled
 pub fit-steps : (ps : List Place) (p : Point) → IsInRange p → PlacesFit ps → AllFit (steps p ps)
 fit-steps [] p h fit = tt
 fit-steps (OfCount c n ∷ ps) p h fit = ((tt, fit.0), fit-steps ps p h fit.1)
@@ -81,7 +81,7 @@ origin_in_range = ((omega (arith, ints), omega (arith, ints)), (omega (arith, in
 pub fit-fields : (s : Simple) → IdsFit s → AreInRange (points_in s) → nodes_in s < 2 ^ 64 → length (points_in s) < 2 ^ 64 → AllFit (fields s)
 fit-fields s fit h nodes few = subst AllFit (sym (fields_are s)) (fit-steps (outline s) origin origin_in_range (fit-outline s fit h nodes few))
 
--- how many numbers stand at places
+-- how many numbers are at these places
 abbrev weight : List Place → ℕ
 weight [] = 0
 weight (OfCount c n ∷ ps) = 1 + weight ps
@@ -108,7 +108,7 @@ weight-ids : (ids : List ℤ) → weight (map OfId ids) ≡ length ids
 weight-ids [] = omega arith
 weight-ids (id ∷ ids) = omega (arith, weight-ids ids)
 
--- ids weigh as much as members
+-- ids have as many numbers as there are members
 pub weight-id_places : (ids : Ids) (n : ℕ) → HasIds ids n → weight (id_places ids) ≤ n
 weight-id_places None n h = omega arith
 weight-id_places (Some ids) n h = omega (arith, weight-ids ids, h.1)
@@ -132,11 +132,11 @@ weight-outline (multi_line ids ls) fit = omega (arith, weight-append (id_places 
 weight-outline (multi_polygon ids areas) fit =
     omega (arith, weight-append (id_places ids) (flat_map rings_of areas), weight-id_places ids (length areas) fit, length-area_nodes areas, weight-areas areas)
 
--- a body has so many numbers at most
+-- a body has at most this many numbers
 pub length-fields : (s : Simple) → IdsFit s → length (fields s) ≤ 2 * nodes_in s + 2 * length (points_in s)
 length-fields s fit =
     subst (λ fs. length fs ≤ 2 * nodes_in s + 2 * length (points_in s)) (sym (fields_are s)) (omega (arith, length-steps (outline s) origin, weight-outline s fit))
 
--- there are no more ids than members
+-- there are at most as many ids as members
 pub length-id_places : (ids : Ids) (n : ℕ) → HasIds ids n → length (steps origin (id_places ids)) ≤ n
 length-id_places ids n h = omega (arith, length-steps (id_places ids) origin, weight-id_places ids n h)

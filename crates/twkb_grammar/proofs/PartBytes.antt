@@ -1,4 +1,4 @@
--- Bytes of parts, and the faults behind them.
+-- Bytes of parts, and the faults after them.
 use Rattle.std.proofs.Common.{◌≡◌, ℕ, ◌≤◌, List, ◌++◌, length, length-append, ap, ◌∙◌, arith}
 use Rattle.twkb_tree.specs.Tree.{Tree}
 use Rattle.twkb_tree.specs.Limits.{Allowance}
@@ -11,15 +11,15 @@ use Rattle.twkb_grammar.proofs.Running.{ran_part, part_ran}
 use Rattle.twkb_grammar.proofs.TwoFronts.{Compared, longer, shorter, same, two_fronts, blob_part, join-beyond, none_beyond_fault}
 use Rattle.twkb_grammar.proofs.OneFault.{fault_runs}
 
--- what a reader of items has read is a part
+-- the items that a reader has read are a part
 pub reached_part : (limits : Allowance) (bytes : List ℕ) (e : Sums) (st : Stack) → Reached limits bytes e st → IsPart limits bytes
 reached_part limits bytes e st r = record { items = r.items; part = ran_part limits r.items st r.ran; spelled = r.spelled }
 
--- and so is a blob
+-- the items of a blob are a part
 pub blob_is_part : (limits : Allowance) (bytes : List ℕ) (g : Tree) → Blob limits bytes g → IsPart limits bytes
 blob_is_part limits bytes g b = record { items = b.items; part = blob_part limits bytes g b; spelled = b.spelled }
 
--- a fault lies at the end of a part or behind it
+-- a fault is at the end of a part or after it
 pub fault_behind : (limits : Allowance) (bytes more : List ℕ) (offset : ℕ) (reason : Reason) → IsPart limits bytes → Fault limits (bytes ++ more) offset reason → length bytes ≤ offset
 fault_behind limits bytes more offset reason p f =
     let ran = part_ran limits p.items p.part in

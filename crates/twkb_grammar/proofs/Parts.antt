@@ -1,4 +1,4 @@
--- Fronts of items, and what the machine says of them.
+-- Prefixes of items, and what the machine says about them.
 use Rattle.std.proofs.Common.{◌≡◌, List, [], ◌∷◌, ◌++◌, refl, ap, sym, ◌∙◌, Some, None}
 use Rattle.twkb_tree.specs.Tree.{Tree, IsTree}
 use Rattle.twkb_grammar.specs.Roles.{Item, Role}
@@ -10,7 +10,7 @@ use Rattle.twkb_grammar.proofs.BodiesBack.{some_role}
 use Rattle.twkb_grammar.proofs.TreesBack.{runs_are_items}
 use Rattle.twkb_grammar.proofs.Completing.{filler, completes, proper_run}
 
--- a run through a front, and one through the rest
+-- a run through a prefix, and one through the rest
 pub record Split (e : Sums) (st : Stack) (xs ys : List Item) (last : Stack) : Type 0 where
   pub mid : Stack
   pub front : Runs e st xs mid
@@ -28,7 +28,7 @@ pub runs_same : (xs : List Item) (e : Sums) (st a b : Stack) → Runs e st xs a 
 runs_same [] e st a b r s = sym r ∙ s
 runs_same (i ∷ xs) e st a b r s = runs_same xs (added e i) (stack_after e i st) a b r.2 s.2
 
--- what follows the same items in any geometry has the role that the machine says
+-- the next item of any geometry that begins with these items has the role that the machine says
 pub next_role : (before : List Item) (st : Stack) (role : Role) → Runs nothing started before st → role_at (sums_after nothing before) st ≡ Some role
     → (g : Tree) (more : List Item) → IsTree g → Items 0 g (before ++ more)
     → (i : Item) × (after : List Item) × (more ≡ i ∷ after) × (i.role ≡ role)
@@ -46,25 +46,26 @@ next_role before st role r says g more fits items = go more s.rest
         absurd cc
     go (i ∷ after) t = (i, after, refl, some_role role i.role (sym says ∙ (ap (λ x. role_at (sums_after nothing before) x) (sym same) ∙ t.0)))
 
--- a front of the items of a geometry is run through
+-- the machine runs through a prefix of the items of a geometry
 pub front_runs : (before more : List Item) (g : Tree) → IsTree g → Items 0 g (before ++ more) → (st : Stack) × Runs nothing started before st
 front_runs before more g fits items =
     let s = runs_split before more nothing started ([], Finished g) (tree_runs g [] nothing (before ++ more) fits items) in (s.mid, s.front)
 
--- what is run through is a front of the items of a geometry, whatever the limits and the open sizes
+-- items that the machine runs through are a prefix of the items of a geometry, whatever the
+-- limits and the open sizes
 pub record Front (is : List Item) : Type 0 where
   pub tree : Tree
   pub roles : List Role
   pub fits : IsTree tree
   pub items : Items 0 tree (is ++ Rattle.std.specs.Prelude.map filler roles)
 
--- what the machine runs through is a front
+-- items that the machine runs through are a prefix
 pub run_is_front : (is : List Item) (st : Stack) → Runs nothing started is st → Front is
 run_is_front is st r =
     let c = completes st (proper_run is nothing started st tt r) (sums_after nothing is) in
     let whole = runs_are_items c.tree (is ++ Rattle.std.specs.Prelude.map filler c.roles) (Runs-append is nothing started st (Rattle.std.specs.Prelude.map filler c.roles) ([], Finished c.tree) r c.runs) in
     record { tree = c.tree; roles = c.roles; fits = whole.1; items = whole.0 }
 
--- and so each state that is reached has a completion
+-- each state that the machine reaches can be completed
 pub run_completes : (before : List Item) (st : Stack) → Runs nothing started before st → (more : List Item) × (g : Tree) × Runs (sums_after nothing before) st more ([], Finished g)
 run_completes before st r = let c = completes st (proper_run before nothing started st tt r) (sums_after nothing before) in (Rattle.std.specs.Prelude.map filler c.roles, c.tree, c.runs)

@@ -11,7 +11,7 @@ use Rattle.twkb_tree.specs.Tree.{Simple, point, line, polygon, multi_point, mult
 use Rattle.twkb_grammar.specs.Roles.{Field, Count, Id, X, Y}
 use Rattle.twkb_grammar.specs.Items.{Place, OfCount, OfId, OfPoint, filled, fields, outline, run_of, rings_of, id_places}
 
--- the fields of these places behind position p
+-- the fields of these places after position p
 abbrev pub steps : Point → List Place → List Field
 steps p [] = []
 steps p (OfCount c n ∷ ps) = (Count c, n) ∷ steps p ps
@@ -44,17 +44,17 @@ pub places-map : (ps : List Point) → places (map OfPoint ps) ≡ ps
 places-map [] = refl
 places-map (p ∷ ps) = ap (λ xs. p ∷ xs) (places-map ps)
 
--- the points of lists
+-- the points of joined lists of places
 pub places-flat : {A : Type 0} (f : A → List Place) (g : A → List Point) → ((a : A) → places (f a) ≡ g a) → (xs : List A) → places (flat_map f xs) ≡ flat_map g xs
 places-flat f g h [] = refl
 places-flat f g h (x ∷ xs) = places-append (f x) (flat_map f xs) ∙ (ap (λ ys. ys ++ places (flat_map f xs)) (h x) ∙ ap (λ ys. g x ++ ys) (places-flat f g h xs))
 
--- ids have no points
+-- the places of ids have no points
 pub places-ids : (ids : List ℤ) (ps : List Place) → places (map OfId ids ++ ps) ≡ places ps
 places-ids [] ps = refl
 places-ids (id ∷ ids) ps = places-ids ids ps
 
--- nor have ids that may be missing
+-- the places of optional ids have no points
 pub places-id_places : (ids : Option (List ℤ)) (ps : List Place) → places (id_places ids ++ ps) ≡ places ps
 places-id_places None ps = refl
 places-id_places (Some ids) ps = places-ids ids ps
@@ -77,22 +77,22 @@ points_are (multi_polygon ids areas) = places-id_places ids (flat_map rings_of a
 pub fields_are : (s : Simple) → fields s ≡ steps origin (outline s)
 fields_are s = ap (λ ps. filled (outline s) (differences_from origin ps)) (sym (points_are s)) ∙ filled_is (outline s) origin
 
--- a difference, added
+-- a difference added to its start gives its end
 pub back : (p q : ℤ) → p +ℤ (q -ℤ p) ≡ q
 back p q = omega (arith, ints)
 
--- a difference as a zigzag number, added
+-- a difference, in zigzag form and back, added to its start gives its end
 pub forth : (p q : ℤ) → p +ℤ unzigzag_of (zigzag_of (q -ℤ p)) ≡ q
 forth p q = rw (unzigzag_of-zigzag_of (q -ℤ p)) (back p q)
 
--- the position behind these places
+-- the position after these places
 abbrev pub reached : Point → List Place → Point
 reached p [] = p
 reached p (OfCount c n ∷ ps) = reached p ps
 reached p (OfId id ∷ ps) = reached p ps
 reached p (OfPoint q ∷ ps) = reached q ps
 
--- the position behind joined places
+-- the position after joined places
 pub reached-append : (p : Point) (xs ys : List Place) → reached p (xs ++ ys) ≡ reached (reached p xs) ys
 reached-append p [] ys = refl
 reached-append p (OfCount c n ∷ xs) ys = reached-append p xs ys

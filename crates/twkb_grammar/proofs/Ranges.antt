@@ -20,7 +20,7 @@ use Rattle.twkb_grammar.proofs.Headers.{sums_after, still_after, still_where}
 use Rattle.twkb_grammar.proofs.Trees.{names_steps}
 use Rattle.twkb_grammar.proofs.Refusing.{AllowedElse}
 
--- joined items that keep depth and range
+-- joined items keep depth and range if both lists do
 pub Kept-append : (most : ℕ) (is js : List Item) (e : Sums) → Kept most e is → Kept most (sums_after e is) js → Kept most e (is ++ js)
 Kept-append most [] js e a b = b
 Kept-append most (i ∷ is) js e a b = (a.0, Kept-append most is js (added e i) a.1 b)
@@ -29,7 +29,7 @@ kept_at : (most : ℕ) (before : List Item) (i : Item) (more : List Item) (e : S
 kept_at most [] i more e k = k.0
 kept_at most (j ∷ before) i more e k = kept_at most before i more (added e j) k.1
 
--- the sums have the position
+-- the position in the sums is the position of the items
 pub position_is : (is : List Item) (e : Sums) → (sums_after e is).position ≡ position_from e.position is
 position_is [] e = refl
 position_is (i ∷ is) e = position_is is (added e i)
@@ -49,7 +49,7 @@ roles_kept most (r ∷ rs) [] e have easy = absurd have
 roles_kept most (r ∷ rs) (i ∷ is) e have easy =
     (subst (λ s. Here most e.position s i.number) (sym have.0) (easy.0 e.position i.number), roles_kept most rs is (added e i) have.2 easy.1)
 
--- places of a body whose counts and points may stand there
+-- the counts and points of a body's places are allowed there
 abbrev PlacesFit : ℕ → List Place → Type 0
 PlacesFit most [] = ⊤
 PlacesFit most (OfCount k n ∷ ps) = (IsDeep k most → n ≡ 0) × PlacesFit most ps
@@ -77,7 +77,7 @@ body_kept most p (OfPoint q ∷ ps) (i ∷ j ∷ is) e are here fit =
       ),
     )
 
--- no count of geometries
+-- none of the places is a count of geometries
 abbrev Plain : List Place → Type 0
 Plain [] = ⊤
 Plain (OfCount Vertices n ∷ ps) = Plain ps
@@ -114,12 +114,12 @@ plain_ids : (ids : List ℤ) (qs : List Place) → Plain qs → Plain (map OfId 
 plain_ids [] qs h = h
 plain_ids (id ∷ ids) qs h = plain_ids ids qs h
 
--- ids count no collections
+-- the places of ids have no count of geometries
 pub plain_names : (ids : Ids) (qs : List Place) → Plain qs → Plain (id_places ids ++ qs)
 plain_names None qs h = h
 plain_names (Some ids) qs h = plain_ids ids qs h
 
--- nor does a simple shape
+-- the places of a simple shape have no count of geometries
 pub plain_shape : (s : Simple) → Plain (outline s)
 plain_shape (point None) = tt
 plain_shape (point (Some q)) = tt
@@ -171,7 +171,7 @@ simple_kept most s body all true is e here = subst (λ l. Kept most e l) (sym is
 simple_kept most s body all false is e here =
     body_kept most origin (outline s) body e (subst (λ fs. AreFields fs body) (fields_are s) is) here (plain_fit most (outline s) (plain_shape s) (subst (λ l. AllByRecursion IsInRange l) (sym (points_are s)) all))
 
--- the points in front are in range
+-- the points of the first list are in range if all are
 pub all_front : (xs ys : List Point) → AllByRecursion IsInRange (xs ++ ys) → AllByRecursion IsInRange xs × AllByRecursion IsInRange ys
 all_front [] ys h = (tt, h)
 all_front (x ∷ xs) ys h = let t = all_front xs ys h.1 in ((h.0, t.0), t.1)

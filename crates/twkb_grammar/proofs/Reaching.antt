@@ -1,4 +1,5 @@
--- Where a reader stands: what an item leads to, when there is a blob, and which refusals are first faults.
+-- The state of a reader: the effect of an item, when there is a blob, and which refusals are
+-- first faults.
 use Rattle.std.proofs.Common.{◌≡◌, ℕ, zero, suc, ◌+◌, ◌-◌, Bool, true, false, List, [], ◌∷◌, ◌++◌, length, refl, sym, ap, ◌∙◌, subst, append-nil, arith, Option, Some, None, inl, inr}
 use Rattle.std.specs.Prelude.{◌≢◌, Ok}
 use Rattle.std.proofs.lemmas.Grind.{common_steps}
@@ -28,11 +29,11 @@ reached_bytes limits bytes e st r =
     let b : length (join r.items) ≡ length bytes = ap length r.spelled in
     omega (arith, a, b, bytes_after r.items nothing)
 
--- the machine says the same of the items
+-- the role that comes next in the state is the one that comes next after its items
 pub role_behind : (limits : Allowance) (bytes : List ℕ) (e : Sums) (st : Stack) (role : Role) (r : Reached limits bytes e st) → role_at e st ≡ Some role → role_at (sums_after nothing r.items) st ≡ Some role
 role_behind limits bytes e st role r says = ap (λ s. role_at s st) r.sums ∙ says
 
--- one item more
+-- the state after one more item
 pub reached_item : (limits : Allowance) (bytes : List ℕ) (e : Sums) (st : Stack) (i : Item) (r : Reached limits bytes e st) → role_at e st ≡ Some i.role → IsItem i
     → Allowed limits r.items i.role i.number → IsExact i.role → Reached limits (bytes ++ i.bytes) (added e i) (stack_after e i st)
 reached_item limits bytes e st i r says is allowed exact = record {
@@ -42,11 +43,11 @@ reached_item limits bytes e st i r says is allowed exact = record {
   spelled = join-append r.items (i ∷ []) ∙ (ap (λ l. l ++ join (i ∷ [])) r.spelled ∙ ap (λ l. bytes ++ l) (append-nil i.bytes));
 }
 
--- a geometry that is finished
+-- a geometry that is complete is that of a blob
 pub reached_blob : (limits : Allowance) (bytes : List ℕ) (e : Sums) (g : Tree) → Reached limits bytes e ([], Finished g) → Blob limits bytes g
 reached_blob limits bytes e g r = subst (λ l. Blob limits l g) r.spelled (ran_blob limits r.items g r.ran)
 
--- a reason that holds behind it
+-- a reason that holds after the items is the first fault
 pub reached_fault : (limits : Allowance) (bytes : List ℕ) (e : Sums) (st : Stack) (rest : List ℕ) (role : Role) (reason : Reason) (r : Reached limits bytes e st) → role_at e st ≡ Some role
     → Refused limits r.items rest role reason → FirstFault limits (bytes ++ rest) e.bytes reason
 reached_fault limits bytes e st rest role reason r says refused =
@@ -66,7 +67,7 @@ cut_refused limits before rest X n c = inl (c, refl)
 cut_refused limits before rest Y n c = inl (c, refl)
 cut_refused limits before rest (End d came) n c = absurd n
 
--- so that is the first fault
+-- bytes that end inside a number are truncated there, as the first fault
 pub reached_cut : (limits : Allowance) (bytes : List ℕ) (e : Sums) (st : Stack) (rest : List ℕ) (role : Role) → Reached limits bytes e st → role_at e st ≡ Some role
     → IsNumber role → IsCut rest → FirstFault limits (bytes ++ rest) e.bytes Truncated
 reached_cut limits bytes e st rest role r says n c = reached_fault limits bytes e st rest role Truncated r says (cut_refused limits r.items rest role n c)
@@ -84,12 +85,12 @@ long_refused limits before rest X n h = inr (long_not_cut rest h, inl (h, refl))
 long_refused limits before rest Y n h = inr (long_not_cut rest h, inl (h, refl))
 long_refused limits before rest (End d came) n h = absurd n
 
--- so that is the first fault
+-- a number that is too long is the first fault
 pub reached_long : (limits : Allowance) (bytes : List ℕ) (e : Sums) (st : Stack) (rest : List ℕ) (role : Role) → Reached limits bytes e st → role_at e st ≡ Some role
     → IsNumber role → IsTooLong rest → FirstFault limits (bytes ++ rest) e.bytes BadVarint
 reached_long limits bytes e st rest role r says n h = reached_fault limits bytes e st rest role BadVarint r says (long_refused limits r.items rest role n h)
 
--- the bytes end where an item that has bytes is wanted, and not at a blob's start
+-- bytes that end where an item with bytes is expected, and not at a blob's end
 end_refused : (limits : Allowance) (before : List Item) (r : Role) → before ≢ [] → ((d : Option ℕ) (came : ℕ) → r ≡ End d came → ⊥) → Refused limits before [] r Truncated
 end_refused limits before Header some n = inl ((some, refl), refl)
 end_refused limits before (Metadata k) some n = inl (refl, refl)
@@ -102,14 +103,14 @@ end_refused limits before X some n = inl ((omega arith, tt), refl)
 end_refused limits before Y some n = inl ((omega arith, tt), refl)
 end_refused limits before (End d came) some n = absurd (n d came refl)
 
--- so that is the first fault
+-- bytes that end there are truncated, as the first fault
 pub reached_end : (limits : Allowance) (bytes : List ℕ) (e : Sums) (st : Stack) (role : Role) → Reached limits bytes e st → role_at e st ≡ Some role
     → bytes ≢ [] → ((d : Option ℕ) (came : ℕ) → role ≡ End d came → ⊥) → FirstFault limits bytes e.bytes Truncated
 reached_end limits bytes e st role r says some n =
     subst (λ l. FirstFault limits l e.bytes Truncated) (append-nil bytes)
     (reached_fault limits bytes e st [] role Truncated r says (end_refused limits r.items role (λ none. some (sym r.spelled ∙ ap join none)) n))
 
--- an objection to a number is the first reason that holds, and where there is none the number may stand there
+-- an objection to a number is the first reason that holds; without one the number is allowed
 objects : (limits : Allowance) (before : List Item) (e : Sums) (r : Role) (n : ℕ) (bytes more : List ℕ) → Agree e before → Gives r n bytes → Objects limits before (bytes ++ more) r n (objection limits e r n)
 objects limits before e Header n bytes more agree g = header_says limits before (bytes ++ more) e agree n more (ap (λ l. l ++ more) g.1)
 objects limits before e (Metadata k) n bytes more agree g = metadata_says limits before (bytes ++ more) e agree k n more (ap (λ l. l ++ more) g.1)
@@ -135,7 +136,7 @@ is_item X n bytes g s = g
 is_item Y n bytes g s = g
 is_item (End d came) n bytes g s = g
 
--- the ends behind an item are items like others
+-- the end after an item is an item like others
 abbrev end_of : Sums → Head → Item
 end_of e h = record { role = End h.size (e.bytes - h.from); number = 0; bytes = [] }
 
@@ -181,7 +182,7 @@ landed limits bytes e fs (AtId m h n ids left) r = r
 landed limits bytes e fs (AtBody h f ids b) r = r
 landed limits bytes e fs (Finished g) r = r
 
--- a number at a place leads to a further place, or is refused first
+-- a number at a place leads to the next state, or is the first fault
 pub leads : (limits : Allowance) (bytes : List ℕ) (e : Sums) (st : Stack) (i : Item) → Reached limits bytes e st → role_at e st ≡ Some i.role → Gives i.role i.number i.bytes
     → Leads limits bytes e st i (objection limits e i.role i.number)
 leads limits bytes e st i r says gives = go (objection limits e i.role i.number) (λ more. objects limits r.items e i.role i.number i.bytes more agree gives)
@@ -196,7 +197,8 @@ leads limits bytes e st i r says gives = go (objection limits e i.role i.number)
         (reached_item limits bytes e st i r says (is_item i.role i.number i.bytes gives may.1) may.0 may.2)
     go (Some reason) h = λ more. reached_fault limits bytes e st (i.bytes ++ more) i.role reason r says (h more)
 
--- a number against which there is no objection leads to a further place, behind one item more, whether or not the sizes behind it are right
+-- a number without an objection leads to the state after one more item, whether or not the sizes
+-- after it are right
 pub reached_on : (limits : Allowance) (bytes : List ℕ) (e : Sums) (st : Stack) (i : Item) (r : Reached limits bytes e st) → role_at e st ≡ Some i.role → Gives i.role i.number i.bytes
     → objection limits e i.role i.number ≡ None → (t : Reached limits (bytes ++ i.bytes) (added e i) (stack_after e i st)) × (t.items ≡ r.items ++ i ∷ [])
 unfolding reached_item

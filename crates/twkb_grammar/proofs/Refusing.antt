@@ -1,4 +1,4 @@
--- A refusal of the machine is a fault, and a first one where what stands before is a part.
+-- A refusal of the machine is a fault, and a first fault if the items before it are a part.
 use Rattle.std.proofs.Common.{true, ◌≡◌, ℕ, ◌+◌, ◌≤◌, List, [], ◌∷◌, ◌++◌, length, refl, ap, sym, ◌∙◌, subst, append_assoc, Some, arith}
 use Rattle.std.specs.Prelude.{⊤, sum_by, ◌+ℤ◌}
 use Rattle.twkb_num.specs.Zigzag.{unzigzag_of}
@@ -17,7 +17,7 @@ use Rattle.twkb_grammar.proofs.Parts.{runs_split, runs_same, next_role, run_is_f
 use Rattle.twkb_grammar.proofs.Dead.{Allowed, no_reason}
 use Rattle.twkb_grammar.proofs.Totals.{total, total_is, total-append, tree_total}
 
--- what an item of a valid geometry may be, as for depth and range (nodes and points are below)
+-- what is allowed for an item of a valid geometry, as to depth and range (nodes and points are below)
 abbrev pub AllowedElse : Allowance → List Item → Role → ℕ → Type 0
 AllowedElse limits before (Count c) n = IsDeep c limits.nest → n ≡ 0
 AllowedElse limits before X n = IsCoordinate ((position before).x +ℤ unzigzag_of n)
@@ -61,7 +61,7 @@ exact_last [] i h = h.0
 exact_last (j ∷ before) i h = exact_last before i h.1
 
 module _ (else : (limits : Allowance) (before : List Item) (i : Item) (more : List Item) (g : Tree) → IsValid limits g → Items 0 g (before ++ i ∷ more) → AllowedElse limits before i.role i.number) where
-  -- no item that stands there goes on to a valid geometry
+  -- no item at this place can go on to a valid geometry
   pub dead : (limits : Allowance) (before : List Item) (rest : List ℕ) (st : Stack) (role : Role) (reason : Reason) → Runs nothing started before st → role_at (sums_after nothing before) st ≡ Some role → Refused limits before rest role reason
       → (i : Item) (more : List ℕ) → rest ≡ i.bytes ++ more → Part limits (before ++ i ∷ []) → ⊥
   dead limits before rest st role reason r says refused i more e part =
@@ -72,7 +72,7 @@ module _ (else : (limits : Allowance) (before : List Item) (i : Item) (more : Li
       let may = allowed limits before i part.more part.tree part.valid items (else limits before i part.more part.tree part.valid items) in
       no_reason limits before rest i.role reason i.number i.bytes more s.rest.1 e may (exact_last before i part.exact) (subst (λ x. Refused limits before rest x reason) (sym is_role) refused)
 
-  -- the theorem that a reader's Err rests on
+  -- a refusal is a fault; a reader's `Err` rests on this theorem
   pub refusal_is_fault : (limits : Allowance) (before : List Item) (rest : List ℕ) (st : Stack) (role : Role) (reason : Reason) → Runs nothing started before st → role_at (sums_after nothing before) st ≡ Some role
       → Refused limits before rest role reason → Fault limits (join before ++ rest) (length (join before)) reason
   refusal_is_fault limits before rest st role reason r says refused =
@@ -89,7 +89,7 @@ module _ (else : (limits : Allowance) (before : List Item) (i : Item) (more : Li
         next = λ g more fits items. next_role before st role r says g more fits items;
       }
 
-  -- behind a part it is the first
+  -- a refusal after a part is the first fault
   pub refusal_is_first : (limits : Allowance) (before : List Item) (rest : List ℕ) (st : Stack) (role : Role) (reason : Reason) → Runs nothing started before st → role_at (sums_after nothing before) st ≡ Some role
       → Refused limits before rest role reason → Part limits before → FirstFault limits (join before ++ rest) (length (join before)) reason
   unfolding refusal_is_fault

@@ -5,7 +5,7 @@ use Rattle.twkb_grammar.specs.Roles.{Role, Header, Metadata, Extended, Size, Box
 use Rattle.twkb_grammar.specs.Reading.{Gives}
 use Rattle.twkb_grammar.proofs.ExactEnds.{NoEnd}
 
--- a single byte stands in this role
+-- the item with this role is a single byte
 abbrev pub IsByteRole : Role → Type 0
 IsByteRole Header = Rattle.std.specs.Prelude.⊤
 IsByteRole (Metadata kind) = Rattle.std.specs.Prelude.⊤

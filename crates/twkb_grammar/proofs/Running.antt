@@ -1,4 +1,5 @@
--- What the machine ran through within the limits: a part, a blob once it is finished, and a first fault where it refuses.
+-- Items that the machine ran through within the limits: a part, a blob once the geometry is
+-- complete, and a first fault if it refuses.
 use Rattle.std.proofs.Common.{◌≡◌, ℕ, ◌+◌, ◌≤◌, Bool, true, false, List, [], ◌∷◌, ◌++◌, length, refl, sym, ap, ◌∙◌, subst, arith, Some, None}
 use Rattle.std.specs.Prelude.{sum_by, if◌then◌else◌}
 use Rattle.std.proofs.lemmas.List.Sums.{sum_by-append, sum_by-cons}
@@ -23,12 +24,12 @@ use Rattle.twkb_grammar.proofs.Alive.{alive, kept_split}
 use Rattle.twkb_grammar.proofs.NumberItems.{AreExact-append}
 use Rattle.twkb_grammar.proofs.Stepping.{Agree}
 
--- the sums of what was announced agree
+-- the number of nodes in the sums is the number announced
 pub nodes_after : (is : List Item) (e : Sums) → (sums_after e is).nodes ≡ e.nodes + sum_by (λ i. nodes_by i.role i.number) is
 nodes_after [] e = omega arith
 nodes_after (i ∷ is) e = omega (arith, nodes_after is (added e i), sum_by-cons (λ i. nodes_by i.role i.number) i is)
 
--- the sums have the points
+-- the number of points in the sums is the number announced
 pub points_after : (is : List Item) (e : Sums) → (sums_after e is).points ≡ e.points + sum_by (λ i. points_by i.role i.number) is
 points_after [] e = omega arith
 points_after (i ∷ is) e = omega (arith, points_after is (added e i), sum_by-cons (λ i. points_by i.role i.number) i is)
@@ -41,11 +42,11 @@ agrees before = record { position_is = position_is before nothing; nodes_are = n
 pub ran_nothing : (limits : Allowance) → IsAllowance limits → Ran limits [] started
 ran_nothing limits allowed = record { runs = refl; kept = tt; nodes_kept = omega (arith, allowed.one_node); points_kept = omega arith; exact = tt }
 
--- what was run through within the limits is a part
+-- items run through within the limits are a part
 pub ran_part : (limits : Allowance) (before : List Item) (st : Stack) → Ran limits before st → Part limits before
 ran_part limits before st r = alive limits before st r.runs r.kept r.nodes_kept r.points_kept r.exact
 
--- a part that is finished is its geometry
+-- a part that is complete is its geometry
 valid_tree : (limits : Allowance) (before : List Item) (g : Tree) → Runs nothing started before ([], Finished g) → Part limits before → IsValid limits g
 valid_tree limits before g runs part = subst (λ t. IsValid limits t) (sym (go part.more s.rest)) part.valid
   where
@@ -59,7 +60,7 @@ valid_tree limits before g runs part = subst (λ t. IsValid limits t) (sym (go p
     go [] t = let z : Finished g ≡ Finished part.tree = ap (λ (x : Stack). x.1) (sym same ∙ t) in cc
     go (i ∷ more) t = let z : None ≡ Some i.role = ap (λ x. role_at (sums_after nothing before) x) (sym same) ∙ t.0 in absurd cc
 
--- what was run through to the end within the limits is a blob
+-- items run through to the end within the limits are a blob
 pub ran_blob : (limits : Allowance) (before : List Item) (g : Tree) → Ran limits before ([], Finished g) → Blob limits (join before) g
 ran_blob limits before g r = record {
   valid = valid_tree limits before g r.runs (ran_part limits before ([], Finished g) r);
@@ -69,13 +70,13 @@ ran_blob limits before g r = record {
   spelled = refl;
 }
 
--- where a reason holds behind it, that is the first fault
+-- a reason that holds after the items is the first fault
 pub ran_fault : (limits : Allowance) (before : List Item) (rest : List ℕ) (st : Stack) (role : Role) (reason : Reason) → Ran limits before st → role_at (sums_after nothing before) st ≡ Some role
     → Refused limits before rest role reason → FirstFault limits (join before ++ rest) (length (join before)) reason
 ran_fault limits before rest st role reason r says refused =
     refusal_is_first allowed_else limits before rest st role reason r.runs says refused (ran_part limits before st r)
 
--- one item more
+-- ---- one more item
 
 here_of : (limits : Allowance) (before : List Item) (p : Point) (r : Role) (n : ℕ) → p ≡ position before → Allowed limits before r n → Here limits.nest p r n
 here_of limits before p Header n e a = tt
@@ -117,7 +118,7 @@ more_points limits before X n a h = omega (arith, h)
 more_points limits before Y n a h = omega (arith, h)
 more_points limits before (End d came) n a h = omega (arith, h)
 
--- the items and one more, which may stand there
+-- the items and one more that is allowed there
 pub ran_item : (limits : Allowance) (before : List Item) (st : Stack) (i : Item) → Ran limits before st → role_at (sums_after nothing before) st ≡ Some i.role → IsItem i
     → Allowed limits before i.role i.number → IsExact i.role → Ran limits (before ++ i ∷ []) (stack_after (sums_after nothing before) i st)
 ran_item limits before st i r says is allowed exact = record {
@@ -128,7 +129,7 @@ ran_item limits before st i r says is allowed exact = record {
   exact = AreExact-append before (i ∷ []) r.exact (exact, tt);
 }
 
--- a part is run through within the limits
+-- the machine runs through a part within the limits
 pub part_ran : (limits : Allowance) (before : List Item) → Part limits before → (st : Stack) × Ran limits before st
 part_ran limits before p = (
   s.mid,

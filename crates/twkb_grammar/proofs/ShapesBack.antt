@@ -1,4 +1,4 @@
--- What the machine ran through was the body of a shape.
+-- The items that the machine ran through were the body of a shape.
 use Rattle.std.proofs.Common.{Bool, true, false, ◌≡◌, ℕ, zero, suc, ◌<◌, ◌^◌, List, [], ◌∷◌, ◌++◌, map, length, refl, ap, sym, ◌∙◌, subst, append_assoc, Some, None, arith}
 use Rattle.std.specs.Prelude.{ℤ, flat_map}
 use Rattle.std.specs.List.{AllByRecursion}
@@ -18,7 +18,7 @@ use Rattle.twkb_grammar.proofs.BodiesBack.{AreFields-append, steps-append, sums_
 use Rattle.twkb_num.proofs.ZigzagLemmas.{zigzag_of-unzigzag_of}
 
 module _ (m : Many) (h : Head) (fs : List Frame) (tree : Tree) where
-  -- ids, and the machine behind them
+  -- the items begin with ids, and the machine goes on after them
   record Idents (n left : ℕ) (done : List ℤ) (e : Sums) (is : List Item) : Type 0 where
     ids : List ℤ
     many : length ids ≡ suc left
@@ -66,7 +66,7 @@ module _ (m : Many) (h : Head) (fs : List Frame) (tree : Tree) where
         runs = subst (λ xs. Runs (sums_after (added e i) more.front) (members_begin m h fs (Some xs) n) more.rest ([], Finished tree)) (append_assoc done (x ∷ []) more.ids) more.runs;
       }
 
-  -- the first count with its ids
+  -- the items begin with the first count and its ids
   pub record First (e : Sums) (is : List Item) : Type 0 where
     pub count : ℕ
     pub ids : Ids
@@ -130,7 +130,7 @@ pub record Shaped (h : Head) (f : Form) (fs : List Frame) (tree : Tree) (e : Sum
   pub are : AreFields (steps e.position (outline shape)) front
   pub runs : Runs (sums_after e front) (fs, AtEnd h (simple h.precision shape)) rest ([], Finished tree)
 
--- the members of a multi kind
+-- the items begin with the members of a multi type
 record Parted (m : Many) (h : Head) (f : Form) (d : ℕ) (a : Around (depth_of f) (suc d)) (fs : List Frame) (tree : Tree) (e : Sums) (is : List Item) : Type 0 where
   ids : Ids
   values : List (Nested d)

@@ -1,4 +1,5 @@
--- A blob has a span for each geometry, the first covers it, its bytes have one list of spans, and in another place the spans are moved.
+-- A blob has one span for each geometry, the first covers the blob, its bytes have one list of
+-- spans, and at another offset the spans are moved.
 use Rattle.std.specs.Prelude.{map}
 use Rattle.std.proofs.Common.{Bool, true, false, ◌≡◌, ℕ, suc, ◌+◌, List, [], ◌∷◌, ◌++◌, length, refl, sym, ap, ◌∙◌, subst, length-append, Some, None, arith}
 use Rattle.std.proofs.lemmas.List.{map-append}
@@ -39,7 +40,7 @@ mutual
       ∙ (ap (λ n. n + length (spans_of_all level (offset + length (join h.front)) gs h.rest h.second)) (spans_many g level offset h.front h.first)
       ∙ ap (λ n. geometries g + n) (all_many gs level (offset + length (join h.front)) h.rest h.second))
 
--- also of a blob
+-- a blob has one span for each geometry
 pub blob_many : (limits : Allowance) (bytes : List ℕ) (g : Tree) (start : ℕ) (b : Blob limits bytes g) → length (spans_of_blob start b) ≡ geometries g
 blob_many limits bytes g start b = spans_many g 0 start b.items b.are_items
 
@@ -51,7 +52,7 @@ whole_first (collection p ids gs) start is f = record { meta = f.meta; more = _;
 pub blob_first : (limits : Allowance) (bytes : List ℕ) (g : Tree) (start : ℕ) (b : Blob limits bytes g) → CoversBlob start bytes g (spans_of_blob start b)
 blob_first limits bytes g start b = subst (λ l. CoversBlob start l g (spans_of_blob start b)) b.spelled (whole_first g start b.items b.are_items)
 
--- the bytes tell the spans
+-- the bytes determine the spans
 pub one_list : (limits : Allowance) (bytes : List ℕ) (g : Tree) (start : ℕ) (a b : Blob limits bytes g) → spans_of_blob start a ≡ spans_of_blob start b
 one_list limits bytes g start a b = ap (λ w. w.spans) (sym (blob_noted limits bytes g start a) ∙ (ap (λ l. noted start nothing no_notes l) (go (two_fronts a.items b.items nothing started ([], Finished g) ([], Finished g) [] [] first second at))
     ∙ blob_noted limits bytes g start b))
@@ -70,7 +71,7 @@ one_list limits bytes g start a b = ap (λ w. w.spans) (sym (blob_noted limits b
     go (shorter n) = absurd (none_beyond a.items b.items g ([], Finished g) first second n)
     go (same e) = e
 
--- ---- the same bytes in another place
+-- ---- the same bytes at another offset
 
 below_moved : (First : List Item → Type 0) (n level offset there : ℕ) (gs : Trees) → there ≡ n + offset
     → ((o : ℕ) (js : List Item) (h : ItemsOfAll level gs js) → spans_of_all level (n + o) gs js h ≡ map (moved_span n) (spans_of_all level o gs js h))
@@ -98,6 +99,6 @@ mutual
       ∙ ap (λ ss. map (moved_span n) (spans level offset g h.front h.first) ++ ss) (ap (λ o. spans_of_all level o gs h.rest h.second) later ∙ all_moved gs n level (offset + k) h.rest h.second)
       ∙ sym (map-append (moved_span n) (spans level offset g h.front h.first) (spans_of_all level (offset + k) gs h.rest h.second))
 
--- behind so many bytes more, the spans of a blob are moved
+-- after n more bytes, the spans of a blob are moved by n
 pub blob_moved : (limits : Allowance) (bytes : List ℕ) (g : Tree) (n start : ℕ) (b : Blob limits bytes g) → spans_of_blob (n + start) b ≡ map (moved_span n) (spans_of_blob start b)
 blob_moved limits bytes g n start b = spans_moved g n 0 start b.items b.are_items

@@ -1,4 +1,5 @@
--- Where a reader of a stream stands is told by the bytes alone, and so is what it says at their end.
+-- The state of a reader of a stream is determined by the bytes alone, and so is its answer at
+-- their end.
 use Rattle.std.proofs.Common.{◌≡◌, ℕ, ◌+◌, ◌<◌, List, [], ◌∷◌, ◌++◌, length, refl, sym, ap, ◌∙◌, subst, append_assoc, append-nil, arith, Option, Some, None, inl, inr}
 use Rattle.std.specs.Prelude.{◌≢◌, ◌⊎◌}
 use Rattle.twkb_num.specs.Varint.{IsVarint}
@@ -17,7 +18,7 @@ use Rattle.twkb_grammar.proofs.One.{peel, one_blob_lem}
 use Rattle.twkb_grammar.proofs.TwoFronts.{Beyond, Compared, longer, shorter, same, two_fronts, none_beyond, left_cancel, join-beyond}
 use Rattle.twkb_grammar.proofs.Reaching.{reached_nothing, role_behind, reached_bytes, reached_cut, reached_end}
 
--- no whole item stands in bytes that are held
+-- no complete number is in bytes that all say that more follow
 no_number : (n : ℕ) (bytes more : List ℕ) → IsVarint bytes n → GoOn (bytes ++ more) → ⊥
 no_number n bytes more v go_on = run_ends bytes more v.marked go_on
 
@@ -38,7 +39,7 @@ no_item Y n bytes more s some go_on h = no_number n bytes more s go_on
 no_item (End d came) n bytes more s some go_on h = some d came refl
 
 module _ (limits : Allowance) (bytes : List ℕ) (gs : List Tree) (e : Sums) (st : Stack) (held : List ℕ) (s : Stands limits bytes gs e st held) where
-  -- so no items that are run through go on beyond those of a reader, over the same bytes
+  -- no items continue beyond those of a reader, over the same bytes
   pub none_longer : (is : List Item) (last : Stack) (x : List ℕ) → Runs nothing started is last → join is ++ x ≡ s.middle ++ held → Beyond is s.reached.items → ⊥
   none_longer is last x r at b =
       let t = runs_split s.reached.items (b.next ∷ b.more) nothing started last (subst (λ l. Runs nothing started l last) b.whole r) in
@@ -51,7 +52,7 @@ module _ (limits : Allowance) (bytes : List ℕ) (gs : List Tree) (e : Sums) (st
       no_item s.role b.next.number b.next.bytes (join b.more ++ x) (subst (λ r. Spells r b.next.number b.next.bytes) role t.rest.1) s.spelled
       (subst (λ l. GoOn l) stands s.go_on) (subst (λ l. (l ≡ []) ⊎ IsNumber s.role) stands s.number)
 
-  -- and no blob stands in front of them
+  -- no blob is at the start of such bytes
   none_whole : (g : Tree) (front x : List ℕ) → Blob limits front g → front ++ x ≡ s.middle ++ held → ⊥
   none_whole g front x b at =
       go (two_fronts b.items s.reached.items nothing started ([], Finished g) st x held whole s.reached.ran.runs (there ∙ ap (λ l. l ++ held) (sym s.reached.spelled)))
@@ -69,7 +70,7 @@ module _ (limits : Allowance) (bytes : List ℕ) (gs : List Tree) (e : Sums) (st
           let end : ([], Finished g) ≡ st = runs_same b.items nothing started ([], Finished g) st whole (subst (λ l. Runs nothing started l st) (sym i) s.reached.ran.runs) in
           let z : None ≡ Some s.role = ap (λ y. role_at e y) end ∙ s.wants in absurd cc
 
--- where two readers stand that have given the same geometries
+-- two readers that have given the same geometries are in the same state
 record SamePlace (e f : Sums) (st su : Stack) (held kept : List ℕ) : Type 0 where
   pub sums : e ≡ f
   pub stack : st ≡ su
@@ -98,7 +99,7 @@ same_place limits bytes other gs hs e f st su held kept s t at =
       bytes = peel (join s.reached.items) (join t.reached.items) held kept (ap join i) there;
     }
 
--- two cuts into blobs and the place behind them are one
+-- two cuts into blobs, with the states after them, are the same
 one_cut : (limits : Allowance) (a b bytes other : List ℕ) (gs hs ks ls : List Tree) (e f : Sums) (st su : Stack) (held kept : List ℕ) (s : Stands limits bytes ks e st held) (t : Stands limits other ls f su kept)
     → Stream limits a gs → Stream limits b hs → a ++ (s.middle ++ held) ≡ b ++ (t.middle ++ kept) → (gs ≡ hs) × SamePlace e f st su held kept
 one_cut limits a b bytes other [] [] ks ls e f st su held kept s t u v at =
@@ -119,14 +120,14 @@ one_cut limits a b bytes other (g ∷ gs) (h ∷ hs) ks ls e f st su held kept s
     let rest = one_cut limits u.1 v.1 bytes other gs hs ks ls e f st su held kept s t u.4 v.4 tail in
     (ap (λ c. c ∷ gs) one.0 ∙ ap (λ l. h ∷ l) rest.0, rest.1)
 
--- the bytes tell where a reader stands
+-- the bytes determine the state of a reader
 pub one_place : (limits : Allowance) (bytes : List ℕ) (gs hs : List Tree) (e f : Sums) (st su : Stack) (held kept : List ℕ) → Stands limits bytes gs e st held → Stands limits bytes hs f su kept
     → (gs ≡ hs) × (e ≡ f) × (st ≡ su) × (held ≡ kept)
 one_place limits bytes gs hs e f st su held kept s t =
     let one = one_cut limits s.front t.front bytes bytes gs hs gs hs e f st su held kept s t s.blobs t.blobs (sym s.whole ∙ t.whole) in
     (one.0, one.1.sums, one.1.stack, one.1.bytes)
 
--- nothing is held before the first item
+-- before the first item no byte is held
 none_held : (limits : Allowance) (bytes : List ℕ) (gs : List Tree) (e : Sums) (st : Stack) (held : List ℕ) (s : Stands limits bytes gs e st held) → s.middle ≡ [] → held ≡ []
 none_held limits bytes gs e st held s none = go s.number
   where
@@ -161,7 +162,7 @@ stands_whole limits bytes gs e st held s none =
     nil [] h = refl
     nil (x ∷ l) h = absurd (omega (arith, h))
 
--- and else they are cut
+-- elsewhere than at a blob's end the bytes are truncated
 pub stands_cut : (limits : Allowance) (bytes : List ℕ) (gs : List Tree) (e : Sums) (st : Stack) (held : List ℕ) (s : Stands limits bytes gs e st held) → 0 < e.bytes → StreamFault limits bytes gs (length s.front + e.bytes) Truncated
 stands_cut limits bytes gs e st held s some =
     record { front = s.front; rest = s.middle ++ held; within = e.bytes; whole = s.whole; blobs = s.blobs; first = go s.number; place = refl }
@@ -173,7 +174,7 @@ stands_cut limits bytes gs e st held s some =
     go (inl none) = subst (λ l. FirstFault limits l e.bytes Truncated) (sym (append-nil s.middle) ∙ ap (λ l. s.middle ++ l) (sym none)) (reached_end limits s.middle e st s.role s.reached s.wants not_nil s.spelled)
     go (inr n) = reached_cut limits s.middle e st held s.role s.reached s.wants n (s.few, s.go_on)
 
--- behind blobs a reader stands before the first item
+-- after some blobs, a reader is before the first item
 pub stands_start : (limits : Allowance) (bytes : List ℕ) (gs : List Tree) → IsAllowance limits → Stream limits bytes gs → Stands limits bytes gs nothing started []
 stands_start limits bytes gs allowed s = record {
   front = bytes;

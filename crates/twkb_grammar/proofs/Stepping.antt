@@ -1,4 +1,5 @@
--- One step of the plain reader: it takes an item that may stand there, or refuses it with the first reason.
+-- One step of the plain reader: it takes an item that is allowed there, or refuses it for the
+-- first reason.
 use Rattle.std.proofs.Common.{◌≡◌, ℕ, zero, suc, ◌+◌, ◌%◌, ◌<◌, ◌≤◌, ◌^◌, Bool, true, false, List, [], ◌∷◌, ◌++◌, length, refl, sym, ap, ◌∙◌, subst, arith, Option, Some, None, inl, inr, length-append}
 use Rattle.std.specs.Prelude.{ℤ, pos, negsuc, nat_lt, nat_le, nat_eq, not, ◌&&◌, ◌||◌, ◌⊎◌, ◌≢◌, ◌+ℤ◌, ⊤}
 use Rattle.std.proofs.lemmas.Bool.{ltb-true, ltb-false}
@@ -15,7 +16,7 @@ use Rattle.twkb_grammar.specs.Machine.{Sums}
 use Rattle.twkb_grammar.specs.PlainReader.{in_range, too_deep, unless, objection}
 use Rattle.twkb_grammar.proofs.Dead.{Allowed, run_ends, not_long, number_not}
 
--- tests of numbers
+-- ---- tests of numbers
 
 eq_true : (m n : ℕ) → nat_eq m n ≡ true → m ≡ n
 eq_true m n e = grind (arith, common_steps)
@@ -45,7 +46,7 @@ not_false : (b : Bool) → not b ≡ false → b ≡ true
 not_false true e = refl
 not_false false e = sym e
 
--- both tests hold
+-- both tests hold if their conjunction holds
 pub both : (a b : Bool) → (a && b) ≡ true → (a ≡ true) × (b ≡ true)
 both true b e = (refl, e)
 both false b e = cc
@@ -84,7 +85,7 @@ module _ (limits : Allowance) (before : List Item) (rest : List ℕ) where
   unless_says true reason others P f g = f refl
   unless_says false reason others P f g = g refl
 
-  -- a varint stands in front
+  -- there is a varint at the start of the bytes
   pub record Front (n : ℕ) : Type 0 where
     pub front : List ℕ
     pub more : List ℕ
@@ -123,7 +124,7 @@ module _ (limits : Allowance) (before : List Item) (rest : List ℕ) where
       go false h = absurd (omega (arith, le_false limits.nest level h, d))
 
   module _ (s : Sums) (agree : Agree s before) where
-    -- of a count
+    -- the objection to a count is its first reason
     pub count_says : (c : Counted) (n : ℕ) → Front n → Objects (Count c) n (objection limits s (Count c) n)
     count_says c n f =
         unless_says (too_deep limits c n) TooDeep _ (Objects (Count c) n)
@@ -143,7 +144,7 @@ module _ (limits : Allowance) (before : List Item) (rest : List ℕ) where
         (λ e. let few_points : s.points + points_of c n ≤ limits.points = ltb-false limits.points (s.points + points_of c n) e in
         ((deep_false c n shallow, subst (λ m. m + nodes_of c n ≤ limits.nodes) agree.nodes_are few_nodes, subst (λ m. m + points_of c n ≤ limits.points) agree.points_are few_points), tt, tt))))
 
-    -- of an x
+    -- the objection to an x is its first reason
     pub x_says : (n : ℕ) → Front n → Objects X n (objection limits s X n)
     x_says n f =
         let same : s.position.x +ℤ unzigzag_of n ≡ (position before).x +ℤ unzigzag_of n = ap (λ (p : Rattle.twkb_points.specs.Point.Point). p.x +ℤ unzigzag_of n) agree.position_is in
@@ -152,7 +153,7 @@ module _ (limits : Allowance) (before : List Item) (rest : List ℕ) where
         (subst (λ z. IsCoordinate z → ⊥) same (in_range_false (s.position.x +ℤ unzigzag_of n) (not_true (in_range (s.position.x +ℤ unzigzag_of n)) e)))))
         (λ e. (subst IsCoordinate same (in_range_true (s.position.x +ℤ unzigzag_of n) (not_false (in_range (s.position.x +ℤ unzigzag_of n)) e)), tt, tt))
 
-    -- of a y
+    -- the objection to a y is its first reason
     pub y_says : (n : ℕ) → Front n → Objects Y n (objection limits s Y n)
     y_says n f =
         let same : s.position.y +ℤ unzigzag_of n ≡ (position before).y +ℤ unzigzag_of n = ap (λ (p : Rattle.twkb_points.specs.Point.Point). p.y +ℤ unzigzag_of n) agree.position_is in
@@ -161,7 +162,7 @@ module _ (limits : Allowance) (before : List Item) (rest : List ℕ) where
         (subst (λ z. IsCoordinate z → ⊥) same (in_range_false (s.position.y +ℤ unzigzag_of n) (not_true (in_range (s.position.y +ℤ unzigzag_of n)) e)))))
         (λ e. (subst IsCoordinate same (in_range_true (s.position.y +ℤ unzigzag_of n) (not_false (in_range (s.position.y +ℤ unzigzag_of n)) e)), tt, tt))
 
-    -- of a type byte
+    -- the objection to a type byte is its first reason
     pub header_says : (n : ℕ) (more : List ℕ) → rest ≡ n ∷ more → Objects Header n (objection limits s Header n)
     header_says n more whole =
         let some : (before ≢ []) × (rest ≡ []) → ⊥ = (λ (h : (before ≢ []) × (rest ≡ [])). let z : n ∷ more ≡ [] = sym whole ∙ h.1 in cc) in
@@ -178,7 +179,7 @@ module _ (limits : Allowance) (before : List Item) (rest : List ℕ) where
         positive zero h = absurd (h refl)
         positive (suc m) h = omega arith
 
-    -- of a metadata byte
+    -- the objection to a metadata byte is its first reason
     pub metadata_says : (k n : ℕ) (more : List ℕ) → rest ≡ n ∷ more → Objects (Metadata k) n (objection limits s (Metadata k) n)
     metadata_says k n more whole =
         let some : rest ≡ [] → ⊥ = (λ (h : rest ≡ []). let z : n ∷ more ≡ [] = sym whole ∙ h in cc) in
@@ -199,7 +200,7 @@ module _ (limits : Allowance) (before : List Item) (rest : List ℕ) where
           tt,
         ))
 
-    -- of an extended byte
+    -- the objection to an extended byte is its first reason
     pub extended_says : (n : ℕ) (more : List ℕ) → rest ≡ n ∷ more → Objects Extended n (objection limits s Extended n)
     extended_says n more whole =
         let some : rest ≡ [] → ⊥ = (λ (h : rest ≡ []). let z : n ∷ more ≡ [] = sym whole ∙ h in cc) in
@@ -207,7 +208,7 @@ module _ (limits : Allowance) (before : List Item) (rest : List ℕ) where
         (λ e. inr (some, inl (subst (λ l. FirstByte (λ b. b % 4 ≢ 0) l) (sym whole) (λ (h : n % 4 ≡ 0). eq_false (n % 4) 0 (not_true (nat_eq (n % 4) 0) e) h), refl)))
         (λ e. (tt, eq_true (n % 4) 0 (not_false (nat_eq (n % 4) 0) e), tt))
 
-    -- of an end
+    -- the objection to an end is its first reason
     pub end_says : (d : Option ℕ) (came : ℕ) → Objects (End d came) 0 (objection limits s (End d came) 0)
     end_says None came = (tt, tt, tt)
     end_says (Some n) came =

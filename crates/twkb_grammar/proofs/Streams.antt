@@ -26,13 +26,13 @@ front_empty : (a b : List ℕ) → a ++ b ≡ [] → a ≡ []
 front_empty [] b e = refl
 front_empty (x ∷ a) b e = absurd cc
 
--- what is run through from the start has a byte
+-- items run through from the start have at least one byte
 pub first_item : (i : Item) (is : List Item) (last : Stack) → Runs nothing started (i ∷ is) last → join (i ∷ is) ≡ [] → ⊥
 first_item i is last r none =
     let head : Spells Header i.number i.bytes = subst (λ r. Spells r i.number i.bytes) (some_role Header i.role r.0) r.1 in
     let z : i.number ∷ [] ≡ [] = sym head.3 ∙ front_empty i.bytes (join is) none in cc
 
--- no bytes are no blob
+-- an empty list of bytes is not a blob
 pub blob_some : (limits : Allowance) (g : Tree) (bytes : List ℕ) → Blob limits bytes g → bytes ≡ [] → ⊥
 blob_some limits g bytes b none = go b.items (tree_runs g [] nothing b.items b.valid.tree b.are_items) (b.spelled ∙ none)
   where
@@ -40,7 +40,7 @@ blob_some limits g bytes b none = go b.items (tree_runs g [] nothing b.items b.v
     go [] r e = let z : AtHeader ≡ Finished g = ap (λ (s : Stack). s.1) r in cc
     go (i ∷ is) r e = first_item i is ([], Finished g) r e
 
--- and they have no fault
+-- an empty list of bytes has no fault
 pub no_fault_of_nothing : (limits : Allowance) (bytes : List ℕ) (offset : ℕ) (reason : Reason) → Fault limits bytes offset reason → bytes ≡ [] → ⊥
 no_fault_of_nothing limits bytes offset reason f none = go f.before refl
   where
@@ -67,7 +67,7 @@ no_fault_of_nothing limits bytes offset reason f none = go f.before refl
         nothing_refused (inr (h, inl k)) = absurd k.0
         nothing_refused (inr (h, inr k)) = absurd k.1
 
--- what a stream has behind a blob
+-- what a stream has after its first blob
 record Behind (limits : Allowance) (rest : List ℕ) (g : Tree) (gs : List Tree) : Type 0 where
   pub others : List Tree
   pub whole : gs ≡ g ∷ others
@@ -80,7 +80,7 @@ behind_blob limits a rest g (h ∷ gs) b s =
     let tail : rest ≡ s.1 = peel a s.0 rest s.1 one.1 s.2 in
     record { others = gs; whole = ap (λ t. t ∷ gs) (sym one.0); stream = subst (λ l. Stream limits l gs) (sym tail) s.4 }
 
--- a stream that begins with a stream has its geometries first, and is a stream behind it
+-- a stream that begins with another has its geometries first, and the rest is a stream
 pub behind_stream : (limits : Allowance) (bytes rest : List ℕ) (gs hs : List Tree) → Stream limits bytes gs → Stream limits (bytes ++ rest) hs → (ks : List Tree) × (hs ≡ gs ++ ks) × Stream limits rest ks
 behind_stream limits bytes rest [] hs s t = (hs, refl, subst (λ l. Stream limits (l ++ rest) hs) s t)
 behind_stream limits bytes rest (g ∷ gs) hs s t =
@@ -100,7 +100,7 @@ one_stream limits bytes gs hs s t =
     let r = behind_stream limits bytes [] gs hs s (subst (λ l. Stream limits l hs) (sym (append-nil bytes)) t) in
     sym (r.1 ∙ (ap (λ l. gs ++ l) (none_of_nothing limits r.0 r.2) ∙ append-nil gs))
 
--- streams join
+-- the join of two streams is a stream
 pub stream-append : (limits : Allowance) (a b : List ℕ) (gs hs : List Tree) → Stream limits a gs → Stream limits b hs → Stream limits (a ++ b) (gs ++ hs)
 stream-append limits a b [] hs s t = subst (λ l. Stream limits (l ++ b) hs) (sym s) t
 stream-append limits a b (g ∷ gs) hs s t = (s.0, s.1 ++ b, ap (λ l. l ++ b) s.2 ∙ append_assoc s.0 s.1 b, s.3, stream-append limits s.1 b gs hs s.4 t)
@@ -111,7 +111,7 @@ written_stream limits style [] allowed valid = refl
 written_stream limits style (g ∷ gs) allowed valid =
     (canonical_blob style g, canonical_stream style gs, refl, written_blob limits style g allowed valid.0, written_stream limits style gs allowed valid.1)
 
--- no stream has a fault behind some of its blobs
+-- no stream has a fault after some of its blobs
 pub no_stream : (limits : Allowance) (bytes rest : List ℕ) (gs hs : List Tree) (offset : ℕ) (reason : Reason) → Stream limits bytes gs → Fault limits rest offset reason → Stream limits (bytes ++ rest) hs → ⊥
 no_stream limits bytes rest gs hs offset reason s f t = let r = behind_stream limits bytes rest gs hs s t in go r.0 r.2
   where
@@ -119,7 +119,7 @@ no_stream limits bytes rest gs hs offset reason s f t = let r = behind_stream li
     go [] e = no_fault_of_nothing limits rest offset reason f e
     go (k ∷ ks) u = no_fault limits rest u.1 k offset reason (record { front = u.0; whole = u.2; blob = u.3 }) f
 
--- two streams before first faults are one
+-- two streams, each before a first fault of the same bytes, are the same
 same_front : (limits : Allowance) (a b x y : List ℕ) (gs hs : List Tree) (o p : ℕ) (r q : Reason) → Stream limits a gs → Stream limits b hs → FirstFault limits x o r → FirstFault limits y p q
     → a ++ x ≡ b ++ y → (gs ≡ hs) × (a ≡ b)
 same_front limits a b x y [] [] o p r q s t f k e = (refl, s ∙ sym t)
@@ -136,7 +136,7 @@ same_front limits a b x y (g ∷ gs) (h ∷ hs) o p r q s t f k e =
     let rest = same_front limits s.1 t.1 x y gs hs o p r q s.4 t.4 f k tail in
     (ap (λ c. c ∷ gs) one.0 ∙ ap (λ l. h ∷ l) rest.0, s.2 ∙ (ap (λ l. l ++ s.1) one.1 ∙ (ap (λ l. t.0 ++ l) rest.1 ∙ sym t.2)))
 
--- a stream's first fault is one, and so are the geometries before it
+-- a stream's first fault is unique, and so are the geometries before it
 pub one_stream_fault : (limits : Allowance) (bytes : List ℕ) (gs hs : List Tree) (o p : ℕ) (r q : Reason) → StreamFault limits bytes gs o r → StreamFault limits bytes hs p q → (gs ≡ hs) × (o ≡ p) × (r ≡ q)
 one_stream_fault limits bytes gs hs o p r q s t =
     let e : s.front ++ s.rest ≡ t.front ++ t.rest = sym s.whole ∙ t.whole in
@@ -146,7 +146,7 @@ one_stream_fault limits bytes gs hs o p r q s t =
     let long : length s.front ≡ length t.front = ap length cut.1 in
     (cut.0, omega (arith, s.place, t.place, long, one.0), one.1)
 
--- behind a stream, blobs and a first fault are those of the join
+-- a stream, followed by blobs and a first fault, has the blobs of both and that fault
 pub fault-append : (limits : Allowance) (a b : List ℕ) (gs hs : List Tree) (offset : ℕ) (reason : Reason) → Stream limits a gs → StreamFault limits b hs offset reason → StreamFault limits (a ++ b) (gs ++ hs) (length a + offset) reason
 fault-append limits a b gs hs offset reason s f = record {
   front = a ++ f.front;
@@ -158,7 +158,7 @@ fault-append limits a b gs hs offset reason s f = record {
   place = omega (arith, f.place, length-append a f.front);
 }
 
--- the bytes are a stream, or some blobs and then a first fault
+-- the bytes are a stream, or blobs followed by a first fault
 abbrev StreamOr : Allowance → List ℕ → Type 0
 StreamOr limits bytes = ((gs : List Tree) × Stream limits bytes gs) ⊎ ((gs : List Tree) × (offset : ℕ) × (reason : Reason) × StreamFault limits bytes gs offset reason)
 
@@ -172,7 +172,7 @@ pub blob_long : (limits : Allowance) (bytes : List ℕ) (g : Tree) → Blob limi
 blob_long limits [] g b = absurd (blob_some limits g [] b refl)
 blob_long limits (x ∷ bytes) g b = omega arith
 
--- the answer for some bytes, from that for fewer
+-- the answer for some bytes from the answer for fewer
 decided : (limits : Allowance) (bytes : List ℕ) → AreBytes bytes → ((rest : List ℕ) → AreBytes rest → length rest + 1 ≤ length bytes → StreamOr limits rest) → (a : Answer) → Outcome limits bytes a → StreamOr limits bytes
 decided limits bytes are again (Made g rest) b =
     let long : length bytes ≡ length b.front + length rest = ap length b.whole ∙ length-append b.front rest in
@@ -186,6 +186,6 @@ stream_within zero limits (x ∷ bytes) allowed are few = absurd (omega (arith, 
 stream_within (suc turns) limits (x ∷ bytes) allowed are few =
     decided limits (x ∷ bytes) are (λ rest rest_are fewer. stream_within turns limits rest allowed rest_are (omega (arith, few, fewer))) (decode limits (x ∷ bytes)) (decoded limits (x ∷ bytes) allowed are (λ e. cc))
 
--- bytes are a stream, or blobs and then a first fault
+-- bytes are a stream, or blobs followed by a first fault
 pub stream_or_fault : (limits : Allowance) (bytes : List ℕ) → IsAllowance limits → AreBytes bytes → StreamOr limits bytes
 stream_or_fault limits bytes allowed are = stream_within (length bytes) limits bytes allowed are (omega arith)

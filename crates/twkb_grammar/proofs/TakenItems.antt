@@ -1,4 +1,4 @@
--- One byte more ends an item, and the geometries that end with it.
+-- One more byte ends an item, and with it some geometries.
 use Rattle.std.proofs.Common.{◌≡◌, ℕ, List, [], ◌∷◌, ◌++◌, length, refl, sym, ap, ◌∙◌, subst, append_assoc, append-nil, length-append, arith, Some}
 use Rattle.twkb_tree.specs.Tree.{Tree}
 use Rattle.twkb_tree.specs.Limits.{Allowance}
@@ -24,7 +24,7 @@ ended (x ∷ xs) = more (ended xs)
     more (is_empty e) = has_last [] x (ap (λ l. x ∷ l) e)
     more (has_last ys y e) = has_last (x ∷ ys) y (ap (λ l. x ∷ l) e)
 
--- lists with one item more are the same before it
+-- lists that are equal with one more item are equal without it
 before_last : (xs ys : List ℕ) (a b : ℕ) → xs ++ a ∷ [] ≡ ys ++ b ∷ [] → xs ≡ ys
 before_last [] [] a b e = refl
 before_last [] (y ∷ ys) a b e = absurd (let z : length ((a ∷ [])) ≡ length (y ∷ (ys ++ b ∷ [])) = ap length e in omega (arith, z, length-append ys (b ∷ [])))
@@ -43,7 +43,7 @@ pub record Taken (is js : List Item) (held : List ℕ) (byte : ℕ) : Type 0 whe
   pub bytes : next.bytes ≡ held ++ byte ∷ []
 
 module _ (limits : Allowance) (bytes : List ℕ) (gs : List Tree) (e : Sums) (st : Stack) (held : List ℕ) (s : Stands limits bytes gs e st held) where
-  -- that byte took an item
+  -- the byte took an item
   pub taken : (js : List Item) (su : Stack) (byte : ℕ) (kept : List ℕ) → Runs nothing started js su → join js ++ kept ≡ (s.middle ++ held) ++ byte ∷ [] → Beyond js s.reached.items → Taken s.reached.items js held byte
   taken js su byte kept r at b = go (ended (join b.more ++ kept))
     where
@@ -74,7 +74,7 @@ module _ (limits : Allowance) (bytes : List ℕ) (gs : List Tree) (e : Sums) (st
           absurd (none_longer limits bytes gs e st held s (s.reached.items ++ b.next ∷ []) (stack_after (sums_after nothing s.reached.items) b.next t.mid) ys
           (Runs-append s.reached.items nothing started t.mid (b.next ∷ []) (stack_after (sums_after nothing s.reached.items) b.next t.mid) t.front (t.rest.0, t.rest.1, refl)) spelled (record { next = b.next; more = []; whole = refl }))
 
-  -- the role of what was taken
+  -- the role of the item taken
   pub taken_role : (js : List Item) (su : Stack) (byte : ℕ) → Runs nothing started js su → (t : Taken s.reached.items js held byte) → role_at e st ≡ Some t.next.role × IsItem t.next
   taken_role js su byte r t =
       let p = runs_split s.reached.items (t.next ∷ t.ends) nothing started su (subst (λ l. Runs nothing started l su) t.whole r) in

@@ -1,4 +1,4 @@
--- What the items of a geometry announce is what it has.
+-- The items of a geometry announce exactly what it has.
 use Rattle.std.proofs.Common.{Bool, true, false, ◌≡◌, ℕ, suc, ◌+◌, List, [], ◌∷◌, ◌++◌, map, length, refl, ap, sym, ◌∙◌, subst, Option, Some, None, arith, length-append}
 use Rattle.std.proofs.lemmas.Bool.{false≢true}
 use Rattle.std.proofs.lemmas.List.Sums.{sum_by-cons}
@@ -31,7 +31,7 @@ pub total-append : (f : Role → ℕ → ℕ) (is js : List Item) → total f (i
 total-append f [] js = omega arith
 total-append f (i ∷ is) js = omega (arith, total-append f is js)
 
--- over places: what the counts announce
+-- the sum over places of what their counts announce
 abbrev pub by_places : (Counted → ℕ → ℕ) → List Place → ℕ
 by_places c [] = 0
 by_places c (OfCount k n ∷ ps) = c k n + by_places c ps
@@ -94,7 +94,7 @@ module _ (f : Role → ℕ → ℕ) (c : Counted → ℕ → ℕ) (counts : (k :
   box_total true (i ∷ j ∷ k ∷ l ∷ []) have =
       omega (arith, ap (λ r. f r i.number) have.0, box i.number, ap (λ r. f r j.number) have.2.0, box j.number, ap (λ r. f r k.number) have.2.2.0, box k.number, ap (λ r. f r l.number) have.2.2.2.0, box l.number)
 
-  -- the total of a frame is that of its body
+  -- the total of a frame is that of its metadata byte and its body
   pub framed_total : (kind : ℕ) (p : ℤ) (own : Flags) (Body : List Item → Type 0) (is : List Item) → (fr : Framed kind p own Body is) → total f is ≡ f (Metadata kind) fr.meta + total f fr.body
   framed_total kind p own Body is fr =
       let last = end_item (declared fr.size) (fr.box ++ fr.body) in
@@ -187,7 +187,7 @@ nodes_framed kind p own Body is fr = let h : total nodes_by is ≡ nodes_by (Met
 points_framed : (kind : ℕ) (p : ℤ) (own : Flags) (Body : List Item → Type 0) (is : List Item) → (fr : Framed kind p own Body is) → total points_by is ≡ points_by (Metadata kind) fr.meta + total points_by fr.body
 points_framed kind p own Body is fr = framed_total points_by points_of (λ k n. refl) (λ n. refl) (λ n. refl) (λ n. refl) (λ n. refl) (λ n. refl) (λ n. refl) (λ n. refl) (λ d m n. refl) kind p own Body is fr
 
--- nodes and points of a shape
+-- the nodes and points of a simple shape
 simple_nodes : (s : Simple) (p : ℤ) (meta : ℕ) (body : List Item) → IdsFit s → Agrees (flags s) meta → (b : Bool) → bit meta 4 ≡ b → BodyAt b (AreFields (fields s)) body → total nodes_by body + 1 ≡ nodes_in s
 simple_nodes s p meta body fit agrees true bare is = omega (arith, ap (total nodes_by) is, ap nodes (left_out s p meta fit agrees bare), empty_nodes (SimpleKind (form_of s)) p)
 simple_nodes s p meta body fit agrees false full is = omega (arith, nodes_body origin (outline s) body (subst (λ fs. AreFields fs body) (fields_are s) is), shape_nodes s)

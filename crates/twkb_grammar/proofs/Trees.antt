@@ -12,7 +12,7 @@ use Rattle.twkb_points.specs.Point.{origin}
 use Rattle.twkb_grammar.proofs.Bodies.{form_of, shape_run, first_run, finish, SaysIds}
 use Rattle.twkb_grammar.proofs.Headers.{sums_after, Runs-append, head, RunsBody, framed_run}
 
--- the number of a shape is that of its form
+-- the number of a shape's type is that of its form
 pub kind_is : (s : Simple) → kind_of s ≡ kind_number (SimpleKind (form_of s))
 kind_is (point o) = refl
 kind_is (line ps) = refl
@@ -21,12 +21,12 @@ kind_is (multi_point ids ps) = refl
 kind_is (multi_line ids lines) = refl
 kind_is (multi_polygon ids areas) = refl
 
--- a body that is left out is that of a geometry with nothing of its own
+-- a body that is left out is that of a geometry without members or points
 none_left : (ids : Ids) → HasIds ids 0 → None ≡ ids
 none_left None h = refl
 none_left (Some ids) h = absurd (let z : 0 < 0 = h.0 in omega (arith, z))
 
--- a shape that bit 4 leaves out
+-- a shape whose body bit 4 leaves out
 pub left_out : (s : Simple) (p : ℤ) (meta : ℕ) → IdsFit s → Agrees (flags s) meta → bit meta 4 ≡ true → empty_of (SimpleKind (form_of s)) p ≡ simple p s
 left_out (point None) p meta fit agrees bare = refl
 left_out (point (Some q)) p meta fit agrees bare = absurd (false≢true (sym agrees ∙ bare))
@@ -54,22 +54,22 @@ simple_body s p fs meta body fit agrees false full body_is e size from here =
     let h : Head = head p meta size from in
     rw full (shape_run h fs (e.bytes + length (join body)) s fit agrees full e body here refl (subst (λ fields. AreFields fields body) (fields_are s) body_is))
 
--- trees one after another
+-- two lists of trees, one after the other
 abbrev pub joined : Trees → Trees → Trees
 joined end gs = gs
 joined (h ▷ hs) gs = h ▷ joined hs gs
 
--- one member more, and others
+-- one more member, with others after it
 pub joined-snoc : (hs : Trees) (g : Tree) (gs : Trees) → joined (snoc hs g) gs ≡ joined hs (g ▷ gs)
 joined-snoc end g gs = refl
 joined-snoc (h ▷ hs) g gs = ap (λ ts. h ▷ ts) (joined-snoc hs g gs)
 
--- one member more
+-- one more member at the end
 pub joined-last : (hs : Trees) (g : Tree) → snoc hs g ≡ joined hs (g ▷ end)
 joined-last end g = refl
 joined-last (h ▷ hs) g = ap (λ ts. h ▷ ts) (joined-last hs g)
 
--- an open collection
+-- the frame of an open collection
 abbrev pub frame : Head → Ids → Trees → ℕ → Frame
 frame h ids done left = record { head = h; ids = ids; done = done; left = left }
 
@@ -78,12 +78,12 @@ says_all h ids end fit agrees = sym (none_left ids fit)
 says_all h None (g ▷ gs) fit agrees = agrees.1
 says_all h (Some ids) (g ▷ gs) fit agrees = (agrees.1, fit.1)
 
--- the fields of ids, walked
+-- the fields of ids, along their places
 pub ids_steps : (ids : List ℤ) → filled (Rattle.std.specs.Prelude.map OfId ids) [] ≡ steps origin (Rattle.std.specs.Prelude.map OfId ids ++ [])
 ids_steps [] = refl
 ids_steps (id ∷ ids) = ap (λ fs. (Rattle.twkb_grammar.specs.Roles.Id, Rattle.twkb_num.specs.Zigzag.zigzag_of id) ∷ fs) (ids_steps ids)
 
--- also where there may be none
+-- the fields of optional ids, along their places
 pub names_steps : (ids : Ids) → id_fields ids ≡ steps origin (id_places ids ++ [])
 names_steps None = refl
 names_steps (Some ids) = ids_steps ids
@@ -93,7 +93,7 @@ empty_collection ids end p meta fit agrees bare = ap (λ i. collection p i end) 
 empty_collection None (g ▷ gs) p meta fit agrees bare = absurd (false≢true (sym agrees.0 ∙ bare))
 empty_collection (Some ids) (g ▷ gs) p meta fit agrees bare = absurd (false≢true (sym agrees.0 ∙ bare))
 
--- what it takes to run through the members
+-- the machine runs through the members
 abbrev RunsMembers : Trees → Type 0
 RunsMembers end = Unit {0}
 RunsMembers (g ▷ gs) = (h : Head) (ids : Ids) (done : Trees) (fs : List Frame) (e : Sums) (is : List Item) → ItemsOfAll (suc (length fs)) (g ▷ gs) is

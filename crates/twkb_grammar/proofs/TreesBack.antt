@@ -1,4 +1,4 @@
--- What the machine ran through are the items of a geometry.
+-- The items that the machine ran through are the items of a geometry.
 use Rattle.std.proofs.Common.{Bool, true, false, ◌≡◌, ℕ, zero, suc, ◌-◌, ◌/◌, ◌%◌, ◌<◌, ◌≤◌, List, [], ◌∷◌, ◌++◌, length, refl, ap, sym, ◌∙◌, subst, append_assoc, length-append, Option, Some, None, arith}
 use Rattle.std.proofs.lemmas.List.{append-nil}
 use Rattle.std.specs.Prelude.{ℤ}
@@ -27,7 +27,7 @@ framed kind p meta extended size box body =
     ∷ extended ++ (size ++ ((box ++ body) ++ end_item (declared size) (box ++ body) ∷ []))
 
 module _ (tree : Tree) where
-  -- the items begin with a body, and a geometry is at its end behind it
+  -- the items begin with a body, after which a geometry is at its end
   pub record Bodied (k : Kind) (p : ℤ) (meta : ℕ) (h : Head) (fs : List Frame) (e : Sums) (is : List Item) : Type 0 where
     pub geometry : Tree
     pub fits : IsPrecision p → IsTree geometry
@@ -67,7 +67,7 @@ module _ (tree : Tree) where
       let s : Spells (End h.size (e.bytes - h.from)) i.number i.bytes = subst (λ r. Spells r i.number i.bytes) role r.1 in
       record { last = i; rest = is; whole = refl; same = λ t. record { role = role t; number = s.0 t; bytes = s.1 t }; runs = r.2 }
 
-  -- the items behind a metadata byte
+  -- the items after a metadata byte
   record Behind (k : Kind) (p : ℤ) (meta : ℕ) (fs : List Frame) (e : Sums) (is : List Item) : Type 0 where
     geometry : Tree
     fits : IsPrecision p → IsTree geometry
@@ -145,7 +145,7 @@ module _ (tree : Tree) where
           ∙ (sums_after-append y.front ((z.front ++ b.front) ++ l.last ∷ []) e2
           ∙ (sums_after-append (z.front ++ b.front) (l.last ∷ []) e3 ∙ ap (λ s. added s l.last) both))
 
-  -- enough items for a geometry
+  -- at most n items that run from a header to a complete tree begin with a geometry
   abbrev TreeBack : ℕ → Type 0
   TreeBack n = (fs : List Frame) (e : Sums) (is : List Item) → length is ≤ n → Runs e (fs, AtHeader) is (fin tree) → Parsed fs e is
 
@@ -196,7 +196,7 @@ module _ (tree : Tree) where
       b : Behind k p j.number fs (added (added e i) j) is
       b = behind_back k n (body k) p j.number fs (added (added e i) j) is s2.0 (omega (arith, fuel)) here r.2.2
 
-  -- the items begin with the members that are left of a collection, and it is at its end behind them
+  -- the items begin with the members left of a collection, which is at its end after them
   record Remaining (left : ℕ) (h : Head) (ids : Ids) (done : Trees) (fs : List Frame) (e : Sums) (is : List Item) : Type 0 where
     members : Trees
     many : count members ≡ suc left
@@ -295,7 +295,7 @@ module _ (tree : Tree) where
   agrees_all h None (g ▷ gs) says full = (full, says)
   agrees_all h (Some ids) (g ▷ gs) says full = (full, says.0)
 
-  -- the members behind their count and ids
+  -- the items begin with the members of a collection, after their count and ids
   record All_of (n : ℕ) (h : Head) (ids : Ids) (fs : List Frame) (e : Sums) (is : List Item) : Type 0 where
     members : Trees
     many : count members ≡ n
@@ -372,13 +372,13 @@ module _ (tree : Tree) where
   body_back n one (SimpleKind f) p meta size from fs e is fuel here r = flat_back f p meta size from fs e is here (bit meta 4) refl r
   body_back n one CollectionKind p meta size from fs e is fuel here r = gathering_back n one p meta size from fs e is fuel here (bit meta 4) refl r
 
-  -- items that begin with a geometry
+  -- items that run from a header to a complete tree begin with a geometry
   pub tree_back : (n : ℕ) → TreeBack n
   tree_back zero fs e [] fuel r = let c = not_finished tree fs AtHeader r in absurd cc
   tree_back zero fs e (i ∷ is) fuel r = absurd (omega (arith, fuel))
   tree_back (suc n) fs e is fuel r = header_back n (body_back n (tree_back n)) fs e is fuel r
 
--- what the machine runs through from the start to a geometry are items of it
+-- items that the machine runs through from the start to a geometry are items of it
 pub runs_are_items : (g : Tree) (is : List Item) → Runs nothing started is ([], Finished g) → Items 0 g is × IsTree g
 runs_are_items g is r = go v.rest v.whole v.runs
   where

@@ -1,4 +1,4 @@
--- How many items may still come: a measure that each item lowers.
+-- A measure that each item lowers: how many items may still come.
 use Rattle.std.proofs.Common.{true, false, Bool, ◌≡◌, ℕ, zero, suc, ◌+◌, ◌*◌, ◌<◌, ◌≤◌, List, [], ◌∷◌, ◌++◌, length, refl, subst, Some, arith, ap}
 use Rattle.std.specs.Prelude.{if◌then◌else◌}
 use Rattle.twkb_num.specs.Varint.{HasMarks, IsVarint}
@@ -9,7 +9,7 @@ use Rattle.twkb_grammar.specs.Roles.{Role, Header, Metadata, Extended, Size, Box
 use Rattle.twkb_grammar.specs.Machine.{Body, Want, WantY, Done, opened, body_after, listed, Form, depth_of, Kind, SimpleKind, CollectionKind, PointForm, LineForm, PolygonForm, MultiPointForm, MultiLineForm, MultiPolygonForm, kind_number, Head, Frame, Phase, AtHeader, AtMetadata, AtOption, AtCount, AtId, AtBody, AtEnd, Finished, Many, ManyPoints, ManyLines, ManyPolygons, ManyGeometries, first_count, settled, begun, wanting, members_begin, counted, ended, asked, top, Stack, phase_role, advanced}
 use Rattle.twkb_grammar.proofs.BodiesBack.{some_role}
 
--- the geometries that are open, and the optional parts that are wanted
+-- the number of open geometries, and of optional parts that are expected
 abbrev pub pending : Stack → ℕ
 pending (fs, AtHeader) = length fs
 pending (fs, Finished g) = length fs
@@ -95,7 +95,7 @@ body_bytes (Want (suc d) a) r n bytes says s = let v : IsVarint bytes n = subst 
 body_bytes (WantY a) r n bytes says s = let v : IsVarint bytes n = subst (λ r. Spells r n bytes) (some_role Y r says) s in some_marks bytes v.marked
 body_bytes (Done v) r n bytes says s = absurd cc
 
--- each item lowers eight times the bytes that are left and what is pending
+-- each item lowers eight times the bytes left plus what is pending
 pub lowers : (p : Point) (level at total n : ℕ) (bytes : List ℕ) (fs : List Frame) (ph : Phase) (r : Role) → phase_role level at ph ≡ Some r → Spells r n bytes
     → pending (advanced p total n fs ph) + 1 ≤ 8 * length bytes + pending (fs, ph)
 lowers p level at total n bytes fs AtHeader r says s =

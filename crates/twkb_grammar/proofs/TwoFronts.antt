@@ -1,4 +1,5 @@
--- Two lists of items that the machine runs through over the same bytes: one goes on beyond the other, or they are one.
+-- Two lists of items that the machine runs through over the same bytes: one goes on beyond the
+-- other, or they are equal.
 use Rattle.std.proofs.Common.{◌≡◌, ℕ, List, [], ◌∷◌, ◌++◌, refl, sym, ap, ◌∙◌, subst, append_assoc, append-nil, Some, None}
 use Rattle.twkb_tree.specs.Tree.{Tree}
 use Rattle.twkb_tree.specs.Limits.{Allowance}
@@ -10,19 +11,19 @@ use Rattle.twkb_grammar.specs.Machine.{Finished, Sums, nothing, added, sums_afte
 use Rattle.twkb_grammar.proofs.One.{one_item, peel}
 use Rattle.twkb_grammar.proofs.Parts.{runs_split, runs_same}
 
--- the items are those before, one more and perhaps others
+-- the items are those before, one more, and perhaps others
 pub record Beyond (is before : List Item) : Type 0 where
   pub next : Item
   pub more : List Item
   pub whole : is ≡ before ++ next ∷ more
 
--- one goes on beyond the other, or they are one
+-- one list goes on beyond the other, or they are equal
 pub data Compared (is js : List Item) : Type 0 where
   longer : Beyond is js → Compared is js
   shorter : Beyond js is → Compared is js
   same : is ≡ js → Compared is js
 
--- over the same bytes one goes on beyond the other, or they are one
+-- over the same bytes one list goes on beyond the other, or they are equal
 pub two_fronts : (is js : List Item) (e : Sums) (st last other : Stack) (x y : List ℕ) → Runs e st is last → Runs e st js other → join is ++ x ≡ join js ++ y → Compared is js
 two_fronts [] [] e st last other x y r s eq = same refl
 two_fronts (i ∷ is) [] e st last other x y r s eq = longer (record { next = i; more = is; whole = refl })
@@ -39,19 +40,19 @@ two_fronts (i ∷ is) (j ∷ js) e st last other x y r s eq =
     behind i j is js one (shorter b) = shorter (record { next = b.next; more = b.more; whole = ap (λ k. k ∷ js) (sym one) ∙ ap (λ l. i ∷ l) b.whole })
     behind i j is js one (same e) = same (ap (λ k. k ∷ is) one ∙ ap (λ l. j ∷ l) e)
 
--- nothing goes on beyond a geometry that is finished
+-- no items go on beyond a geometry that is complete
 pub none_beyond : (is js : List Item) (g : Tree) (last : Stack) → Runs nothing started is ([], Finished g) → Runs nothing started js last → Beyond js is → ⊥
 none_beyond is js g last r s b =
     let t = runs_split is (b.next ∷ b.more) nothing started last (subst (λ l. Runs nothing started l last) b.whole s) in
     let z : None ≡ Some b.next.role = ap (λ x. role_at (sums_after nothing is) x) (runs_same is nothing started ([], Finished g) t.mid r t.front) ∙ t.rest.0 in
     absurd cc
 
--- the front of exact items is exact
+-- a prefix of exact items is exact
 pub exact_front : (is js : List Item) → AreExact (is ++ js) → AreExact is
 exact_front [] js h = tt
 exact_front (i ∷ is) js h = (h.0, exact_front is js h.1)
 
--- the front of a part is a part
+-- a prefix of a part is a part
 pub part_front : (limits : Allowance) (before more : List Item) → Part limits (before ++ more) → Part limits before
 part_front limits before more p = record {
   tree = p.tree;
@@ -65,12 +66,12 @@ part_front limits before more p = record {
 pub blob_part : (limits : Allowance) (bytes : List ℕ) (g : Tree) (b : Blob limits bytes g) → Part limits b.items
 blob_part limits bytes g b = record { tree = g; more = []; valid = b.valid; items = subst (λ l. Items 0 g l) (sym (append-nil b.items)) b.are_items; exact = b.exact }
 
--- the bytes of an item and others behind some
+-- the bytes of some items, one more item and others
 pub join-beyond : (before more : List Item) (i : Item) → join (before ++ i ∷ more) ≡ join before ++ (i.bytes ++ join more)
 join-beyond [] more i = refl
 join-beyond (j ∷ before) more i = ap (λ l. j.bytes ++ l) (join-beyond before more i) ∙ sym (append_assoc j.bytes (join before) (i.bytes ++ join more))
 
--- what follows the same bytes is the same
+-- after equal bytes the rests of equal lists are equal
 pub left_cancel : (a x y : List ℕ) → a ++ x ≡ a ++ y → x ≡ y
 left_cancel a x y e = peel a a x y refl e
 

@@ -20,7 +20,7 @@ use Rattle.twkb_grammar.proofs.Framing.{Spelling, frame, length-written}
 number_spelling : (fs : List Field) → AllFit fs → Spelling (AreFields fs) (varints fs)
 number_spelling fs fit = record { items = number_items fs; are = fields-number_items fs fit; exact = exact-number_items fs fit; spelled = join-number_items fs }
 
--- one spelling behind another
+-- two spellings, one after the other
 both_spelled : {First Second : List Item → Type 0} {xs ys : List ℕ} → Spelling First xs → Spelling Second ys → Spelling (Follow First Second) (xs ++ ys)
 both_spelled {First} {Second} {xs} {ys} a b = record {
   items = a.items ++ b.items;
@@ -45,7 +45,7 @@ length-id_fields : (ids : Ids) (n : ℕ) → HasIds ids n → length (id_fields 
 length-id_fields None n h = omega arith
 length-id_fields (Some ids) n h = subst (λ fs. length fs ≤ n) (sym (ids_are_steps ids)) (length-id_places (Some ids) n h)
 
--- how long a blob of so many nodes and points may be
+-- the most bytes of a blob with this many nodes and points
 abbrev room : ℕ → ℕ → ℕ
 room n p = 100 * n + 20 * p
 
@@ -54,7 +54,7 @@ record WrittenAs (style : Style) (level : ℕ) (g : Tree) : Type 0 where
   pub spelling : Spelling (Items level g) (canonical_blob style g)
   pub short : length (canonical_blob style g) + 10 ≤ room (nodes g) (length (flat g))
 
--- the same of members one after another
+-- written members as items, one member after another
 record AllWrittenAs (style : Style) (level : ℕ) (gs : Trees) : Type 0 where
   pub spelling : Spelling (ItemsOfAll level gs) (canonical_members style gs)
   pub short : length (canonical_members style gs) + 10 * count gs ≤ room (nodes_all gs) (length (flat_all gs))
@@ -118,7 +118,7 @@ written_blob limits style g allowed valid =
     let w = tree_written style 0 g valid.tree valid.in_range (omega (arith, valid.nodes_kept, allowed.nodes_cap)) (omega (arith, valid.points_kept, allowed.points_cap)) in
     record { valid = valid; items = w.spelling.items; are_items = w.spelling.are; exact = w.spelling.exact; spelled = w.spelling.spelled }
 
--- and it is short
+-- the canonical blob is short
 pub written_short : (limits : Allowance) (style : Style) (g : Tree) → IsAllowance limits → IsValid limits g → length (canonical_blob style g) ≤ 100 * nodes g + 20 * length (flat g)
 written_short limits style g allowed valid =
     let w = tree_written style 0 g valid.tree valid.in_range (omega (arith, valid.nodes_kept, allowed.nodes_cap)) (omega (arith, valid.points_kept, allowed.points_cap)) in

@@ -2,7 +2,7 @@
 use Rattle.std.specs.Prelude.{ℕ, ◌/◌, ◌%◌, ◌^◌, ◌<◌, Bool, nat_eq, List}
 use Rattle.std.specs.List.{AllByRecursion}
 
--- Bit k of n is set, where bit 0 is the lowest (TWKB, which numbers the bits of its bytes so).
+-- Bit k of n is set; bit 0 is the lowest (TWKB numbers the bits of its bytes so).
 abbrev pub bit : ℕ → ℕ → Bool
 bit n k = nat_eq (n / 2 ^ k % 2) 1
 

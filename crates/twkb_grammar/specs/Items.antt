@@ -1,4 +1,5 @@
--- The items of a geometry: every choice that the format leaves free, and no other (TWKB, structure and description of types).
+-- The items of a geometry, with every choice that the format leaves free, and no other (TWKB,
+-- structure and description of types).
 use Rattle.std.specs.Prelude.{◌≡◌, ℕ, suc, ◌+◌, ◌*◌, ◌<◌, Bool, true, false, List, [], ◌∷◌, ◌++◌, map, length, ℤ, Option, Some, None, flat_map, ⊤}
 use Rattle.twkb_num.specs.Zigzag.{zigzag_of}
 use Rattle.twkb_points.specs.Point.{Point}
@@ -7,13 +8,13 @@ use Rattle.twkb_tree.specs.Tree.{Simple, point, line, polygon, multi_point, mult
 use Rattle.twkb_grammar.specs.Bits.{bit}
 use Rattle.twkb_grammar.specs.Roles.{Counted, Vertices, Rings, Points, Parts, Geometries, Header, Metadata, Extended, Size, Box, Count, Id, X, Y, End, Item, join, Field, AreFields, HaveRoles, where_set, item}
 
--- A place in a body, with the point that stands there as it is: a count, an id or a point.
+-- A place in a body: a count, an id, or a point with its absolute coordinates.
 pub data Place : Type 0 where
   OfCount : Counted → ℕ → Place
   OfId : ℤ → Place
   OfPoint : Point → Place
 
--- The places of an id list, which is there only where there are ids (TWKB, metadata header, bit 2).
+-- The places of an id list, which exists only if there are ids (TWKB, metadata header, bit 2).
 abbrev pub id_places : Ids → List Place
 id_places None = []
 id_places (Some ids) = map OfId ids
@@ -22,11 +23,13 @@ id_places (Some ids) = map OfId ids
 abbrev pub run_of : List Point → List Place
 run_of ps = OfCount Vertices (length ps) ∷ map OfPoint ps
 
--- The places of a polygon: nrings, and each ring, taken as it stands (TWKB, polygon; profile: nothing is closed or checked).
+-- The places of a polygon: nrings, and each ring as it is (TWKB, polygon; profile: nothing is
+-- closed or checked).
 abbrev pub rings_of : List (List Point) → List Place
 rings_of rings = OfCount Rings (length rings) ∷ flat_map run_of rings
 
--- The places of a body; in a multi type the count, the ids and then the members (TWKB, description of types).
+-- The places of a body; in a multi type the count, then the ids, then the members (TWKB,
+-- description of types).
 abbrev pub outline : Simple → List Place
 outline (point None) = []
 outline (point (Some p)) = OfPoint p ∷ []
@@ -36,7 +39,8 @@ outline (multi_point ids ps) = OfCount Points (length ps) ∷ id_places ids ++ m
 outline (multi_line ids lines) = OfCount Parts (length lines) ∷ id_places ids ++ flat_map run_of lines
 outline (multi_polygon ids areas) = OfCount Parts (length areas) ∷ id_places ids ++ flat_map rings_of areas
 
--- The fields of these places, where the points take these differences in their order; ids and differences are zigzag numbers (TWKB, zigzag).
+-- The fields of these places, if the points have these differences in order. Ids and differences
+-- are zigzag numbers (TWKB, zigzag).
 abbrev pub filled : List Place → List (ℤ × ℤ) → List Field
 filled [] ds = []
 filled (OfCount c n ∷ ps) ds = (Count c, n) ∷ filled ps ds
@@ -44,8 +48,9 @@ filled (OfId id ∷ ps) ds = (Id, zigzag_of id) ∷ filled ps ds
 filled (OfPoint p ∷ ps) [] = []
 filled (OfPoint p ∷ ps) (d ∷ ds) = (X, zigzag_of d.0) ∷ (Y, zigzag_of d.1) ∷ filled ps ds
 
--- The fields of a body: one list of differences goes through all its points, lines, rings and polygons (TWKB, point arrays;
--- profile: the position is carried through the whole geometry, and each collection member begins at the origin).
+-- The fields of a body: one list of differences runs through all its points, lines, rings and
+-- polygons (TWKB, point arrays; profile: the position is carried through the whole geometry, and
+-- each collection member begins at the origin).
 abbrev pub fields : Simple → List Field
 fields s = filled (outline s) (differences (points_in s))
 
@@ -62,16 +67,17 @@ kind_of (multi_point ids ps) = 4
 kind_of (multi_line ids lines) = 5
 kind_of (multi_polygon ids areas) = 6
 
--- The type byte: the type in bits 0 to 3, and the precision as a zigzag number in bits 4 to 7 (TWKB, type and precision).
+-- The type byte: the type in bits 0 to 3, and the precision as a zigzag number in bits 4 to 7
+-- (TWKB, type and precision).
 abbrev pub header_byte : ℕ → ℤ → ℕ
 header_byte kind precision = kind + 16 * zigzag_of precision
 
--- What the metadata byte has to say of a body and of ids (TWKB, metadata header, bits 4 and 2).
+-- What the metadata byte must say about a body and ids (TWKB, metadata header, bits 4 and 2).
 pub data Flags : Type 0 where
   MustBeEmpty : Flags  -- a point without coordinates: bit 4
   MayBeEmpty : Flags  -- no members, rings or points: bit 4, or a count of 0 (profile: both are the same geometry)
   HasBody : Flags  -- type 1 to 3 with points or rings: no bit 4, and bit 2 is free (profile)
-  HasMembers : (named : Bool) → Flags  -- type 4 to 7 with members: no bit 4, and bit 2 where they have ids
+  HasMembers : (named : Bool) → Flags  -- type 4 to 7 with members: no bit 4, and bit 2 if they have ids
 
 -- The flags of a shape with members.
 abbrev pub members : {A : Type 0} → Ids → List A → Flags
@@ -100,36 +106,38 @@ flags_all ids end = MayBeEmpty
 flags_all None (g ▷ gs) = HasMembers false
 flags_all (Some ids) (g ▷ gs) = HasMembers true
 
--- The metadata byte says so (TWKB, metadata header; profile: bits 5 to 7 are free).
+-- The metadata byte says that (TWKB, metadata header; profile: bits 5 to 7 are free).
 abbrev pub Agrees : Flags → ℕ → Type 0
 Agrees MustBeEmpty meta = bit meta 4 ≡ true
 Agrees MayBeEmpty meta = ⊤
 Agrees HasBody meta = bit meta 4 ≡ false
 Agrees (HasMembers named) meta = (bit meta 4 ≡ false) × (bit meta 2 ≡ named)
 
--- The size that was declared, if any.
+-- The declared size, if there is one.
 abbrev pub declared : List Item → Option ℕ
 declared [] = None
 declared (i ∷ is) = Some i.number
 
--- The end of a geometry, behind the items that its size counts: all that follow the size, the box with them (TWKB, size).
+-- The end of a geometry, after the items that its size counts: all items after the size, the box
+-- included (TWKB, size).
 abbrev pub end_item : Option ℕ → List Item → Item
 end_item size is = record { role = End size (length (join is)); number = 0; bytes = [] }
 
--- There is no body where bit 4 is set, and this one elsewhere (TWKB, metadata header).
+-- If bit 4 is set there is no body; otherwise there is this one (TWKB, metadata header).
 abbrev pub BodyAt : Bool → (List Item → Type 0) → List Item → Type 0
 BodyAt true Body is = is ≡ []
 BodyAt false Body is = Body is
 
--- What stands before a body where the metadata byte asks for it, and nowhere else: the extended byte, the size and the four numbers of a
--- box (TWKB, metadata header, bits 3, 1 and 0).
+-- The optional parts before a body, each exactly if the metadata byte asks for it: the extended
+-- byte, the size, and the four numbers of a box (TWKB, metadata header, bits 3, 1 and 0).
 pub record AreOptional (meta : ℕ) (extended size box : List Item) : Type 0 where
   pub extended_is : HaveRoles (where_set (bit meta 3) (Extended ∷ [])) extended
   pub size_is : HaveRoles (where_set (bit meta 1) (Size ∷ [])) size
   pub box_is : HaveRoles (where_set (bit meta 0) (Box ∷ Box ∷ Box ∷ Box ∷ [])) box
 
--- A geometry: type byte, metadata byte, where flagged the extended byte, the size and the four numbers of a box, then the body
--- (TWKB, structure; profile: size, box numbers and bits 2 to 7 of the extended byte may be any).
+-- A geometry: type byte, metadata byte, if flagged the extended byte, the size and the four
+-- numbers of a box, then the body (TWKB, structure; profile: the size, the box numbers and bits 2
+-- to 7 of the extended byte may be anything).
 pub record Framed (kind : ℕ) (precision : ℤ) (own : Flags) (Body : List Item → Type 0) (is : List Item) : Type 0 where
   pub meta : ℕ
   pub extended : List Item
@@ -143,7 +151,7 @@ pub record Framed (kind : ℕ) (precision : ℤ) (own : Flags) (Body : List Item
   pub whole : is ≡ item Header (header_byte kind precision) ∷ item (Metadata kind) meta
       ∷ extended ++ (size ++ ((box ++ body) ++ end_item (declared size) (box ++ body) ∷ []))
 
--- Some items of the first sort, and then some of the second.
+-- Some items of the first sort, then some of the second.
 pub record Follow (First Second : List Item → Type 0) (is : List Item) : Type 0 where
   pub front : List Item
   pub rest : List Item
@@ -151,8 +159,9 @@ pub record Follow (First Second : List Item → Type 0) (is : List Item) : Type 
   pub second : Second rest
   pub whole : is ≡ front ++ rest
 
--- The items are those of a geometry inside `level` collections; a collection has its count, its ids and then its members,
--- each a whole geometry with a header of its own (TWKB, geometry collection).
+-- The items are those of a geometry inside `level` collections. A collection has its count, its
+-- ids and then its members, each a complete geometry with its own header (TWKB, geometry
+-- collection).
 abbrev mutual
   pub Items : ℕ → Tree → List Item → Type 0
   Items level (simple p s) is = Framed (kind_of s) p (flags s) (AreFields (fields s)) is

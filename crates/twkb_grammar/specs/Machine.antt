@@ -1,6 +1,7 @@
--- The item machine: behind any front of items, what stands open and what comes next. It knows no limits and judges no sizes.
--- It is our way to walk through the items of a geometry, and no part of the format: the laws `machine` and `fronts` say
--- that it runs through the items of geometries, and their fronts, and through nothing else.
+-- The item machine: for any prefix of items, which geometries are open and which item comes next.
+-- It knows no limits and judges no sizes. It is our way to walk through the items of a geometry,
+-- and no part of the format: the laws `machine` and `fronts` state that it runs through the items
+-- of geometries and their prefixes, and through nothing else.
 use Rattle.std.specs.Prelude.{◌≡◌, ℕ, zero, suc, ◌+◌, ◌-◌, ◌/◌, ◌%◌, if◌then◌else◌, List, [], ◌∷◌, ◌++◌, length, ℤ, Option, Some, None}
 use Rattle.twkb_num.specs.Zigzag.{unzigzag_of}
 use Rattle.twkb_points.specs.Point.{Point, origin}
@@ -9,23 +10,25 @@ use Rattle.twkb_grammar.specs.Bits.{bit}
 use Rattle.twkb_grammar.specs.Roles.{Counted, Vertices, Rings, Points, Parts, Geometries, Role, Header, Metadata, Extended, Size, Box, Count, Id, X, Y, End, Item, IsItem, where_set}
 use Rattle.twkb_grammar.specs.Fault.{nodes_by, points_by, moved}
 
--- A point, a list of points, a list of such lists ..
+-- A point, a list of points, a list of such lists, and so on.
 abbrev pub Nested : ℕ → Type 0
 Nested zero = Point
 Nested (suc d) = List (Nested d)
 
--- Where a value of depth d stands in one of depth `whole`: at the top, or in a list behind some that are done, with some left.
+-- The place of a value of depth d in one of depth `whole`: at the top, or in a list with some
+-- values done before it and some left after it.
 pub data Around (whole : ℕ) : ℕ → Type 0 where
   top : Around whole whole
   within : {d : ℕ} → (done : List (Nested d)) → (left : ℕ) → Around whole (suc d) → Around whole d
 
--- A body that is being read: a count, or x at depth 0, is wanted; a y is wanted; or it is done.
+-- A body that is being read: a count, or at depth 0 an x, is expected; a y is expected; or the
+-- body is complete.
 pub data Body (whole : ℕ) : Type 0 where
   Want : (d : ℕ) → Around whole d → Body whole
   WantY : Around whole 0 → Body whole
   Done : Nested whole → Body whole
 
--- A value is done: the next one of its list is wanted, or the list is done too.
+-- A value is complete: the next one of its list is expected, or the list is complete too.
 abbrev pub closed : {whole d : ℕ} → Around whole d → Nested d → Body whole
 closed top v = Done v
 closed (within done zero a) v = closed a (done ++ v ∷ [])
@@ -62,7 +65,7 @@ kind_number (SimpleKind MultiLineForm) = 5
 kind_number (SimpleKind MultiPolygonForm) = 6
 kind_number CollectionKind = 7
 
--- The type of a number; it is asked of 1 to 7 alone.
+-- The type with a number from 1 to 7.
 abbrev pub kind_at : ℕ → Kind
 kind_at (suc zero) = SimpleKind PointForm
 kind_at (suc (suc zero)) = SimpleKind LineForm
@@ -72,7 +75,7 @@ kind_at (suc (suc (suc (suc (suc zero))))) = SimpleKind MultiLineForm
 kind_at (suc (suc (suc (suc (suc (suc zero)))))) = SimpleKind MultiPolygonForm
 kind_at _ = CollectionKind
 
--- How deep the lists of a form nest.
+-- How deep the lists of a form are nested.
 abbrev pub depth_of : Form → ℕ
 depth_of PointForm = 0
 depth_of LineForm = 1
@@ -100,14 +103,15 @@ empty_of (SimpleKind MultiLineForm) p = simple p (multi_line None [])
 empty_of (SimpleKind MultiPolygonForm) p = simple p (multi_polygon None [])
 empty_of CollectionKind p = collection p None end
 
--- A header that was read: its precision, its metadata byte, its size if any, and `from`, where the bytes begin that a size counts.
+-- A header that was read: its precision, its metadata byte, its size if it has one, and `from`,
+-- the place from which a size counts the bytes.
 pub record Head : Type 0 where
   pub precision : ℤ
   pub meta : ℕ
   pub size : Option ℕ
   pub from : ℕ
 
--- An open collection: its header and ids, its members so far, and how many are left behind the one that stands open.
+-- An open collection: its header and ids, its members so far, and how many are left after the open one.
 pub record Frame : Type 0 where
   pub head : Head
   pub ids : Ids
@@ -118,29 +122,29 @@ pub record Frame : Type 0 where
 pub data Many : Type 0 where
   ManyPoints ManyLines ManyPolygons ManyGeometries : Many
 
--- What is wanted next in the geometry that stands open.
+-- What is expected next in the open geometry.
 pub data Phase : Type 0 where
   AtHeader : Phase
   AtMetadata : Kind → ℤ → Phase
-  AtOption : Kind → Head → Role → List Role → Phase  -- extended byte, size and box numbers, as far as they are wanted
+  AtOption : Kind → Head → Role → List Role → Phase  -- the optional part expected next, and those after it
   AtCount : Many → Head → Phase  -- the count before ids
-  AtId : Many → Head → (members : ℕ) → (ids : List ℤ) → (left : ℕ) → Phase  -- `left` more behind this one
+  AtId : Many → Head → (members : ℕ) → (ids : List ℤ) → (left : ℕ) → Phase  -- `left` ids follow this one
   AtBody : Head → (f : Form) → Ids → Body (depth_of f) → Phase
   AtEnd : Head → Tree → Phase
   Finished : Tree → Phase
 
--- What the items so far sum to: their bytes, the position, and what they have announced.
+-- What the items so far add up to: their bytes, the position, and what they have announced.
 pub record Sums : Type 0 where
   pub bytes : ℕ
   pub position : Point
-  pub nodes : ℕ  -- announced, the root included
+  pub nodes : ℕ  -- the number announced, the root included
   pub points : ℕ
 
--- Before the first item.
+-- The sums before the first item.
 abbrev pub nothing : Sums
 nothing = record { bytes = 0; position = origin; nodes = 1; points = 0 }
 
--- After one item more.
+-- The sums after one more item.
 abbrev pub added : Sums → Item → Sums
 added e i = record {
   bytes = e.bytes + length i.bytes;
@@ -149,20 +153,20 @@ added e i = record {
   points = e.points + points_by i.role i.number;
 }
 
--- After a list of items.
+-- The sums after a list of items.
 abbrev pub sums_after : Sums → List Item → Sums
 sums_after e [] = e
 sums_after e (i ∷ is) = sums_after (added e i) is
 
--- The open collections, the innermost first, and what stands in it.
+-- The open collections, innermost first, and the state of the geometry in the innermost.
 abbrev pub Stack : Type 0
 Stack = List Frame × Phase
 
--- Nothing stands open.
+-- The stack at the start: nothing is open.
 abbrev pub started : Stack
 started = ([], AtHeader)
 
--- What the count before ids counts.
+-- What the count before the ids counts.
 abbrev pub first_count : Many → ℕ → Counted
 first_count ManyPoints level = Points
 first_count ManyLines level = Parts
@@ -181,7 +185,7 @@ body_role (Want (suc d) a) = Some (Count (listed d))
 body_role (WantY a) = Some Y
 body_role (Done v) = None
 
--- The role of the next item, inside `level` collections and behind so many bytes.
+-- The role of the next item, inside `level` collections and after `bytes` bytes.
 abbrev pub phase_role : (level bytes : ℕ) → Phase → Option Role
 phase_role level bytes AtHeader = Some Header
 phase_role level bytes (AtMetadata k p) = Some (Metadata (kind_number k))
@@ -196,13 +200,13 @@ phase_role level bytes (Finished g) = None
 abbrev pub role_at : Sums → Stack → Option Role
 role_at e st = phase_role (length st.0) e.bytes st.1
 
--- A body that is done is a geometry at its end.
+-- A body that is complete is a geometry at its end.
 abbrev pub settled : Head → (f : Form) → Ids → Body (depth_of f) → Phase
 settled h f ids (Want d a) = AtBody h f ids (Want d a)
 settled h f ids (WantY a) = AtBody h f ids (WantY a)
 settled h f ids (Done v) = AtEnd h (simple h.precision (shape_of f ids v))
 
--- The body begins: a count or an x is wanted.
+-- The body begins: a count or an x is expected.
 abbrev pub begun : Kind → Head → Phase
 begun (SimpleKind PointForm) h = AtBody h PointForm None (Want 0 top)
 begun (SimpleKind LineForm) h = AtBody h LineForm None (Want 1 top)
@@ -212,7 +216,8 @@ begun (SimpleKind MultiLineForm) h = AtCount ManyLines h
 begun (SimpleKind MultiPolygonForm) h = AtCount ManyPolygons h
 begun CollectionKind h = AtCount ManyGeometries h
 
--- The next optional part is wanted, or else the body begins, unless bit 4 says that there is none.
+-- The next optional part is expected; after the last one the body begins, unless bit 4 says that
+-- there is none.
 abbrev pub wanting : Kind → Head → List Role → Phase
 wanting k h (r ∷ rs) = AtOption k h r rs
 wanting k h [] = if bit h.meta 4 then AtEnd h (empty_of k h.precision) else begun k h
@@ -221,18 +226,18 @@ wanting k h [] = if bit h.meta 4 then AtEnd h (empty_of k h.precision) else begu
 abbrev pub asked : ℕ → List Role
 asked meta = where_set (bit meta 3) (Extended ∷ []) ++ (where_set (bit meta 1) (Size ∷ []) ++ where_set (bit meta 0) (Box ∷ Box ∷ Box ∷ Box ∷ []))
 
--- The header after an optional part, at this many bytes.
+-- The header after an optional part that ends at this many bytes.
 abbrev pub with_option : Head → Role → ℕ → ℕ → Head
 with_option h Extended n bytes = record h { from = bytes }
 with_option h Size n bytes = record h { size = Some n; from = bytes }
 with_option h _ n bytes = h
 
--- One member more.
+-- The members with one more at the end.
 abbrev pub snoc : Trees → Tree → Trees
 snoc end g = g ▷ end
 snoc (h ▷ gs) g = h ▷ snoc gs g
 
--- The n members begin, behind their ids.
+-- The n members begin, after their ids.
 abbrev pub members_begin : Many → Head → List Frame → Ids → ℕ → Stack
 members_begin ManyPoints h fs ids n = (fs, settled h MultiPointForm ids (opened 0 n top))
 members_begin ManyLines h fs ids n = (fs, settled h MultiLineForm ids (opened 1 n top))
@@ -240,12 +245,12 @@ members_begin ManyPolygons h fs ids n = (fs, settled h MultiPolygonForm ids (ope
 members_begin ManyGeometries h fs ids zero = (fs, AtEnd h (collection h.precision None end))
 members_begin ManyGeometries h fs ids (suc n) = (record { head = h; ids = ids; done = end; left = n } ∷ fs, AtHeader)
 
--- A count of n members was read: their ids come next where bit 2 asks for them, and else the members.
+-- A count of n members was read: their ids come next if bit 2 asks for them, otherwise the members.
 abbrev pub counted : Many → Head → List Frame → ℕ → Stack
 counted m h fs zero = members_begin m h fs None 0
 counted m h fs (suc n) = if bit h.meta 2 then (fs, AtId m h (suc n) [] n) else members_begin m h fs None (suc n)
 
--- A geometry is done: it is the next member of the collection round it, or the whole.
+-- A geometry is complete: it is the next member of the innermost open collection, or the whole.
 abbrev pub ended : List Frame → Tree → Stack
 ended [] g = ([], Finished g)
 ended (f ∷ fs) g = elim f.left [
@@ -253,7 +258,7 @@ ended (f ∷ fs) g = elim f.left [
   | suc n ↦ (record { head = f.head; ids = f.ids; done = snoc f.done g; left = n } ∷ fs, AtHeader)
 ]
 
--- After an item with this number, with so many bytes and at this position behind it.
+-- The stack after an item with this number, with the bytes so far and the position after it.
 abbrev pub advanced : Point → (bytes n : ℕ) → List Frame → Phase → Stack
 advanced p bytes n fs AtHeader = (fs, AtMetadata (kind_at (n % 16)) (unzigzag_of (n / 16)))
 advanced p bytes n fs (AtMetadata k precision) = (fs, wanting k (record { precision = precision; meta = n; size = None; from = bytes }) (asked n))

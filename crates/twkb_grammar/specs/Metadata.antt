@@ -2,7 +2,7 @@
 use Rattle.std.specs.Prelude.{ℕ, ◌+◌, ◌^◌, Bool, if◌then◌else◌}
 use Rattle.twkb_grammar.specs.declared.metadata.MetadataFlags.{MetadataFlags}
 
--- the value of bit k where it is set; bit 0 is the lowest
+-- the value of bit k if it is set; bit 0 is the lowest
 abbrev pub bit_value : Bool → ℕ → ℕ
 bit_value b k = if b then 2 ^ k else 0
 

@@ -1,5 +1,6 @@
--- The plain reader: items are cut from bytes one by one, each taken by the machine or refused. It is slow, and it computes.
--- It is no definition of the format: the law `plain_reader` says that it answers as blobs and first faults have it.
+-- The plain reader: items are cut from bytes one by one, and the machine takes or refuses each.
+-- It is slow, but it computes. It does not define the format: the law `plain_reader` states that
+-- it answers as blobs and first faults require.
 use Rattle.std.specs.Prelude.{ℕ, zero, suc, ◌+◌, ◌-◌, ◌*◌, ◌%◌, ◌^◌, Bool, true, false, not, ◌&&◌, ◌||◌, nat_lt, nat_le, nat_eq, if◌then◌else◌, List, [], ◌∷◌, length, ℤ, pos, negsuc, ◌+ℤ◌, Option, Some, None, Result, Ok, Err}
 use Rattle.twkb_num.specs.Zigzag.{unzigzag_of}
 use Rattle.twkb_tree.specs.Tree.{Tree}
@@ -8,28 +9,28 @@ use Rattle.twkb_grammar.specs.Roles.{Counted, Geometries, Role, Header, Metadata
 use Rattle.twkb_grammar.specs.Fault.{Reason, Truncated, BadType, ExtraDimensions, BadVarint, TooDeep, TooManyNodes, TooManyPoints, CoordinateRange, SizeMismatch, announces_point, nodes_of, points_of}
 use Rattle.twkb_grammar.specs.Machine.{Sums, nothing, added, Stack, Phase, Finished, started, role_at, stack_after}
 
--- An item and what follows it, or why there is none.
+-- An item and the bytes after it, or the reason for which there is none.
 abbrev pub Cut : Type 0
 Cut = Result (ℕ × List ℕ × List ℕ) Reason
 
--- A byte with more behind it, in front of a number.
+-- The cut with one more byte before a number.
 abbrev pub with_byte : ℕ → Cut → Cut
 with_byte b (Ok r) = Ok ((b - 128) + 128 * r.0, b ∷ r.1, r.2)
 with_byte b (Err e) = Err e
 
--- The number, its bytes and the rest; at most so many bytes.
+-- The number, its bytes and the rest; the number has at most this many bytes.
 abbrev pub varint_at : ℕ → List ℕ → Cut
 varint_at zero bytes = Err BadVarint
 varint_at (suc more) [] = Err Truncated
 varint_at (suc zero) (b ∷ bytes) = if nat_lt b 2 then Ok (b, b ∷ [], bytes) else Err BadVarint
 varint_at (suc (suc more)) (b ∷ bytes) = if nat_lt b 128 then Ok (b, b ∷ [], bytes) else with_byte b (varint_at (suc more) bytes)
 
--- One byte, as its own number.
+-- One byte as a number.
 abbrev pub byte_at : List ℕ → Cut
 byte_at [] = Err Truncated
 byte_at (b ∷ bytes) = Ok (b, b ∷ [], bytes)
 
--- The next item of a role.
+-- The next item, by its role.
 abbrev pub cut : Role → List ℕ → Cut
 cut Header bytes = byte_at bytes
 cut (Metadata kind) bytes = byte_at bytes
@@ -37,12 +38,12 @@ cut Extended bytes = byte_at bytes
 cut (End declared came) bytes = Ok (0, [], bytes)
 cut _ bytes = varint_at 10 bytes
 
--- The number lies from -2 ^ 62 to 2 ^ 62 - 1 (profile).
+-- The number is from -2 ^ 62 to 2 ^ 62 - 1 (profile).
 abbrev pub in_range : ℤ → Bool
 in_range (pos n) = nat_lt n (2 ^ 62)
 in_range (negsuc n) = nat_lt n (2 ^ 62)
 
--- A collection with members inside as many collections as may be.
+-- A collection with members is already inside as many collections as allowed.
 abbrev pub too_deep : Allowance → Counted → ℕ → Bool
 too_deep limits (Geometries level) n = nat_le limits.nest level && nat_lt 0 n
 too_deep limits _ n = false
@@ -52,12 +53,12 @@ abbrev pub is_exact : Option ℕ → ℕ → Bool
 is_exact None came = true
 is_exact (Some n) came = nat_eq n came
 
--- This reason where the test holds, and else what the others say.
+-- This reason if the test holds; otherwise what the others say.
 abbrev pub unless : Bool → Reason → Option Reason → Option Reason
 unless true reason others = Some reason
 unless false reason others = others
 
--- Why the next item may not have this number.
+-- The reason for which the next item may not have this number, if there is one.
 abbrev pub objection : Allowance → Sums → Role → ℕ → Option Reason
 objection limits s Header n = unless (nat_eq (n % 16) 0 || nat_lt 7 (n % 16)) BadType None
 objection limits s (Metadata kind) n = unless (announces_point kind n && nat_le limits.points s.points) TooManyPoints None
@@ -71,28 +72,29 @@ objection limits s Y n = unless (not (in_range (s.position.y +ℤ unzigzag_of n)
 objection limits s (End declared came) n = unless (not (is_exact declared came)) SizeMismatch None
 objection limits s _ n = None
 
--- What the plain reader answers: a geometry with the bytes behind its blob, a fault, or that its turns did not suffice.
+-- The answer of the plain reader: a geometry with the bytes after its blob, a fault, or that its
+-- turns were not enough.
 pub data Answer : Type 0 where
   Made : Tree → (rest : List ℕ) → Answer
   RefusedAt : (offset : ℕ) → Reason → Answer
   GoesOn : Answer
 
--- It goes on where there is no objection.
+-- The reader goes on if there is no objection.
 abbrev pub after_objection : ℕ → (List ℕ → Answer) → List ℕ → Option Reason → Answer
 after_objection offset go rest None = go rest
 after_objection offset go rest (Some reason) = RefusedAt offset reason
 
--- It goes on where the next item was cut and none objects.
+-- The reader goes on if the next item was cut and there is no objection.
 abbrev pub after_cut : ℕ → (ℕ → List ℕ → Option Reason) → (ℕ → List ℕ → List ℕ → Answer) → Cut → Answer
 after_cut offset object go (Ok r) = after_objection offset (go r.0 r.1) r.2 (object r.0 r.1)
 after_cut offset object go (Err reason) = RefusedAt offset reason
 
--- The geometry, once it is finished.
+-- The answer if no item is expected: the geometry, once it is complete.
 abbrev pub made : Phase → List ℕ → Answer
 made (Finished g) rest = Made g rest
 made _ rest = GoesOn
 
--- At most so many items from here on.
+-- At most this many more items are read.
 abbrev pub decode_from : ℕ → Allowance → Sums → Stack → List ℕ → Answer
 decode_from zero limits e st bytes = GoesOn
 decode_from (suc turns) limits e st bytes =
@@ -103,6 +105,7 @@ decode_from (suc turns) limits e st bytes =
           (cut r bytes)
     ]
 
--- The answer for bytes that begin a blob; the turns are more than the items of a blob in these bytes.
+-- The answer for bytes that should begin a blob; there are more turns than items of a blob in
+-- these bytes.
 abbrev pub decode : Allowance → List ℕ → Answer
 decode limits bytes = decode_from (8 * length bytes + 1) limits nothing started bytes

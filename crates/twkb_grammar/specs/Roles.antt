@@ -1,4 +1,4 @@
--- Items: what a blob is made of, each a single byte, or a number with one of its spellings.
+-- Items: the parts of a blob, each a single byte, or a number in one of its spellings.
 use Rattle.std.specs.Prelude.{◌≡◌, ℕ, ◌<◌, ◌%◌, Bool, if◌then◌else◌, List, [], ◌∷◌, Option, flat_map, ⊤}
 use Rattle.twkb_num.specs.Varint.{IsVarint}
 
@@ -8,9 +8,9 @@ pub data Counted : Type 0 where
   Rings : Counted  -- the rings of a polygon
   Points : Counted  -- the members of a multipoint
   Parts : Counted  -- the members of a multilinestring or multipolygon
-  Geometries : (level : ℕ) → Counted  -- the members of a collection that stands inside `level` collections
+  Geometries : (level : ℕ) → Counted  -- the members of a collection inside `level` collections
 
--- What stands at a place of a blob (TWKB, structure).
+-- What is at a place of a blob (TWKB, structure).
 pub data Role : Type 0 where
   Header : Role  -- the type byte: type and precision
   Metadata : (kind : ℕ) → Role  -- the metadata byte of a geometry of this type
@@ -21,8 +21,8 @@ pub data Role : Type 0 where
   Id : Role
   X : Role
   Y : Role
-  -- the end of a geometry, which has no bytes: the size that was declared, if any, and the bytes that came
-  -- (profile: so that a size is judged at a place of its own)
+  -- the end of a geometry, which has no bytes: the declared size, if there is one, and the number
+  -- of bytes that came (profile: so that a size is judged at a place of its own)
   End : (declared : Option ℕ) → (came : ℕ) → Role
 
 -- One item: its role, its number and its bytes.
@@ -35,8 +35,9 @@ pub record Item : Type 0 where
 abbrev pub join : List Item → List ℕ
 join is = flat_map (λ i. i.bytes) is
 
--- The bytes say this number in this role: one byte in a header, a varint of at most ten bytes elsewhere, nothing at an end.
--- The type is 1 to 7 (TWKB, type and precision), and no geometry has Z or M (profile: bits 0 and 1 of the extended byte are clear).
+-- The bytes spell this number in this role: one byte in a header, a varint of at most ten bytes
+-- elsewhere, nothing at an end. The type is 1 to 7 (TWKB, type and precision), and no geometry
+-- has Z or M (profile: bits 0 and 1 of the extended byte are not set).
 abbrev pub Spells : Role → ℕ → List ℕ → Type 0
 Spells Header n bytes = (n < 256) × (0 < n % 16) × (n % 16 < 8) × (bytes ≡ n ∷ [])
 Spells (Metadata kind) n bytes = (n < 256) × (bytes ≡ n ∷ [])
@@ -49,7 +50,7 @@ Spells X n bytes = IsVarint bytes n
 Spells Y n bytes = IsVarint bytes n
 Spells (End declared came) n bytes = (n ≡ 0) × (bytes ≡ [])
 
--- A varint stands in this role, and neither a single byte nor nothing (TWKB, structure).
+-- In this role there is a varint, and not a single byte or nothing (TWKB, structure).
 abbrev pub IsNumber : Role → Type 0
 IsNumber Header = ⊥
 IsNumber (Metadata kind) = ⊥
@@ -62,19 +63,19 @@ IsNumber X = ⊤
 IsNumber Y = ⊤
 IsNumber (End declared came) = ⊥
 
--- An item with this role has bytes: it is no end.
+-- An item with this role has bytes: it is not an end.
 abbrev pub HasBytes : Role → Type 0
 HasBytes role = (declared : Option ℕ) (came : ℕ) → role ≡ End declared came → ⊥
 
--- The bytes of the item say its number in its role.
+-- The bytes of the item spell its number in its role.
 abbrev pub IsItem : Item → Type 0
 IsItem i = Spells i.role i.number i.bytes
 
--- A role, and the number that stands there.
+-- A role and the number at that place.
 abbrev pub Field : Type 0
 Field = Role × ℕ
 
--- The items have these roles and numbers, each in a spelling of its own.
+-- The items have these roles and numbers, each in its own spelling.
 abbrev pub AreFields : List Field → List Item → Type 0
 AreFields [] [] = ⊤
 AreFields (f ∷ fs) (i ∷ is) = (i.role ≡ f.0) × (i.number ≡ f.1) × IsItem i × AreFields fs is
@@ -88,7 +89,7 @@ HaveRoles (r ∷ rs) (i ∷ is) = (i.role ≡ r) × IsItem i × HaveRoles rs is
 HaveRoles [] (i ∷ is) = ⊥
 HaveRoles (r ∷ rs) [] = ⊥
 
--- The roles, where the bit that asks for them is set, and none elsewhere (TWKB, metadata header).
+-- The roles if the bit that asks for them is set; otherwise none (TWKB, metadata header).
 abbrev pub where_set : Bool → List Role → List Role
 where_set b roles = if b then roles else []
 

@@ -8,23 +8,23 @@ use Rattle.twkb_tree.specs.Tree.{point, line, polygon, multi_point, multi_line, 
 abbrev pub standard : Allowance
 standard = record { nest = 16; nodes = 2 ^ 20; points = 2 ^ 24 }
 
--- The standard limits, but at most eight collections round a member.
+-- The standard limits, but with at most eight collections around a member.
 abbrev pub nest_eight : Allowance
 nest_eight = record { nest = 8; nodes = 2 ^ 20; points = 2 ^ 24 }
 
--- The standard limits, but no collection has members.
+-- The standard limits, but with no members in collections.
 abbrev pub no_nest : Allowance
 no_nest = record { nest = 0; nodes = 2 ^ 20; points = 2 ^ 24 }
 
--- The standard limits, but at most two nodes.
+-- The standard limits, but with at most two nodes.
 abbrev pub two_nodes : Allowance
 two_nodes = record { nest = 16; nodes = 2; points = 2 ^ 24 }
 
--- The standard limits, but at most one point.
+-- The standard limits, but with at most one point.
 abbrev pub one_point_only : Allowance
 one_point_only = record { nest = 16; nodes = 2 ^ 20; points = 1 }
 
--- The standard limits, but no points.
+-- The standard limits, but with no points.
 abbrev pub no_points : Allowance
 no_points = record { nest = 16; nodes = 2 ^ 20; points = 0 }
 
@@ -44,7 +44,7 @@ two_rings = simple (pos 0) (polygon ((origin ∷ point_at (pos 4) (pos 0) ∷ po
 abbrev pub named_points : Tree
 named_points = simple (pos 0) (multi_point (Some (pos 1 ∷ pos 2 ∷ [])) (origin ∷ point_at (pos 1) (pos 1) ∷ []))
 
--- A collection with ids, of which one is below 0.
+-- A collection with ids, one of them negative.
 abbrev pub named_members : Tree
 named_members = collection (pos 0) (Some (pos 7 ∷ negsuc 0 ∷ [])) ((simple (pos 0) (point (Some (point_at (pos 1) (pos 1))))) ▷ (simple (pos 0) (line [])) ▷ end)
 
@@ -96,7 +96,7 @@ two_places = collection (pos 0) None ((simple (pos 0) (point (Some (point_at (po
 abbrev pub two_members : Tree
 two_members = collection (pos 0) None ((simple (pos 0) (point (Some (point_at (pos 1) (pos 1))))) ▷ (simple (pos 0) (point (Some (point_at (pos 1) (pos 1))))) ▷ end)
 
--- Nine collections, each but the first the one member of another.
+-- Nine collections, each the only member of the next.
 abbrev pub nine_deep : Tree
 nine_deep = collection (pos 0) None ((collection (pos 0) None ((collection (pos 0) None ((collection (pos 0) None ((collection (pos 0) None ((collection (pos 0) None ((collection (pos 0) None ((collection (pos 0) None ((collection (pos 0) None end) ▷ end)) ▷ end)) ▷ end)) ▷ end)) ▷ end)) ▷ end)) ▷ end)) ▷ end)
 
@@ -131,7 +131,7 @@ named_members_blob =
 abbrev pub bare_collection : List ℕ
 bare_collection = 0x07 ∷ 0x10 ∷ []
 
--- So many plain collections round a blob, each with the next as its one member.
+-- This many plain collections around a blob, each with the next as its only member.
 abbrev pub in_collections : ℕ → List ℕ → List ℕ
 in_collections zero bytes = bytes
 in_collections (suc n) bytes = 0x07 ∷ 0x00 ∷ 0x01 ∷ in_collections n bytes

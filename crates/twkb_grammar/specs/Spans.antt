@@ -1,4 +1,5 @@
--- What is told of each geometry of a blob: where it stands, what its header says, and what it holds (profile).
+-- What is reported of each geometry of a blob: its place, what its header says, and what it
+-- contains (profile).
 use Rattle.std.specs.Prelude.{◌≡◌, ℕ, ℤ, suc, ◌+◌, Bool, true, false, List, [], ◌∷◌, ◌++◌, length}
 use Rattle.twkb_tree.specs.declared.kind.Kind.{Kind}
 use Rattle.twkb_tree.specs.declared.kind.Kind.TheVariants as kind
@@ -24,8 +25,8 @@ abbrev pub kind_of_geometry : Tree → Kind
 kind_of_geometry (simple p s) = kind_of_shape s
 kind_of_geometry (collection p ids gs) = kind.Collection
 
--- The span of a geometry inside `level` collections, with these items and this metadata byte, whose type byte stands at this offset:
--- it is as long as its items, and has the points of its members too.
+-- The span of a geometry inside `level` collections, with these items and this metadata byte,
+-- whose type byte is at this offset: it is as long as its items, and has its members' points too.
 abbrev pub span_of : (level offset : ℕ) → Tree → (meta : ℕ) → List Item → Span
 span_of level offset g meta is = record {
   level = level;
@@ -41,12 +42,13 @@ span_of level offset g meta is = record {
 abbrev pub before_body : {kind : ℕ} {precision : ℤ} {own : Flags} {Body : List Item → Type 0} {is : List Item} → Framed kind precision own Body is → List Item
 before_body {kind} {precision} f = item Header (header_byte kind precision) ∷ item (Metadata kind) f.meta ∷ f.extended ++ (f.size ++ f.box)
 
--- The spans of members, whose items follow others in a body, where there is a body.
+-- The spans of members whose items come after others in a body, if there is a body.
 abbrev pub behind : (First Second : List Item → Type 0) → ℕ → ((offset : ℕ) (is : List Item) → Second is → List Span) → (bare : Bool) (body : List Item) → BodyAt bare (Follow First Second) body → List Span
 behind First Second offset spans true body b = []
 behind First Second offset spans false body b = spans (offset + length (join b.front)) b.rest b.second
 
--- The spans of a geometry with these items: its own, and then those of its members, each behind the bytes of the items before it.
+-- The spans of a geometry with these items: its own, then those of its members, each after the
+-- bytes of the items before it.
 abbrev mutual
   pub spans : (level offset : ℕ) (g : Tree) (is : List Item) → Items level g is → List Span
   spans level offset (simple p s) is f = span_of level offset (simple p s) f.meta is ∷ []
@@ -63,23 +65,23 @@ abbrev mutual
 abbrev pub spans_of_blob : {limits : Allowance} {bytes : List ℕ} {g : Tree} → (offset : ℕ) → Blob limits bytes g → List Span
 spans_of_blob {g = g} offset b = spans 0 offset g b.items b.are_items
 
--- How many geometries there are: itself, and its members.
+-- The number of geometries in a geometry: itself and its members.
 abbrev mutual
   pub geometries : Tree → ℕ
   geometries (simple p s) = 1
   geometries (collection p ids gs) = suc (geometries_of_all gs)
 
-  -- And of members.
+  -- The number of geometries in some members.
   pub geometries_of_all : Trees → ℕ
   geometries_of_all end = 0
   geometries_of_all (g ▷ gs) = geometries g + geometries_of_all gs
 
--- The first span is that of the whole: at no level, from the blob's start to its end.
+-- The first span is that of the whole blob: at level 0, from its start to its end.
 pub record CoversBlob (offset : ℕ) (bytes : List ℕ) (g : Tree) (ss : List Span) : Type 0 where
   pub meta : ℕ
   pub more : List Span
   pub first : ss ≡ record { level = 0; offset = offset; kind = kind_of_geometry g; precision = precision_of g; metadata = meta; length = length bytes; points = length (flat g) } ∷ more
 
--- A span in a stream that has so many bytes more before it.
+-- A span in a stream that has this many more bytes before it.
 abbrev pub moved_span : ℕ → Span → Span
 moved_span n s = record s { offset = n + s.offset }

@@ -4,7 +4,7 @@ use Rattle.twkb_num.specs.Zigzag.{zigzag_of}
 use Rattle.twkb_tree.specs.declared.kind.Kind.{Kind}
 use Rattle.twkb_tree.specs.declared.kind.Kind.TheVariants as kind
 
--- the number of a type (TWKB, type and precision); a ring has none
+-- the number of a type (TWKB, type and precision); 0 for a ring, which has none
 abbrev pub type_of : Kind → ℕ
 type_of kind.Ring = 0
 type_of kind.Point = 1

@@ -1,4 +1,5 @@
-//! The grammar of TWKB blobs: definitions, laws and samples; the type byte and the metadata byte, each made and read in one place.
+//! The grammar of TWKB blobs: definitions, laws and samples; and the type byte and the metadata
+//! byte, each made and read in one place.
 #![tactic(auto)]
 
 pub mod laws;

@@ -1,4 +1,5 @@
-//! The metadata byte: what stands between it and the body, and whether there are ids and a body (TWKB, metadata header).
+//! The metadata byte: which parts come before the body, and whether there are ids and a body
+//! (TWKB, metadata header).
 ghost use Rattle.std.specs.Prelude.{◌≡◌, ℕ, ◌<◌, ◌≤◌, ◌^◌, false};
 ghost use Rattle.twkb_grammar.specs.Bits.{bit};
 ghost use Rattle.twkb_grammar.specs.Metadata.{bit_value, metadata_number};
@@ -20,7 +21,7 @@ const EXTENDED: u32 = 3;
 // Bit of a metadata byte: there is no body.
 const EMPTY: u32 = 4;
 
-/// What the metadata byte of a geometry without extended dimensions says.
+/// The flags in the metadata byte of a geometry without extended dimensions.
 #[derive(Clone, Copy, Debug)]
 pub struct MetadataFlags {
     /// A box follows.
@@ -49,7 +50,7 @@ impl Model for Metadata {
     ghost inverse = { λ n. record { byte = n } };
 }
 
-// The value of this bit where it is set.
+// The value of this bit if it is set, or 0.
 #[inline]
 fn bit_if(is_set: bool, position: u32) -> u8
     requires { position < 8 }
@@ -60,7 +61,7 @@ fn bit_if(is_set: bool, position: u32) -> u8
 }
 
 impl Metadata {
-    /// That of a geometry with these parts. What is written is read again.
+    /// Makes the metadata byte with these flags; reading it gives them back.
     #[inline]
     pub fn of(flags: MetadataFlags) -> Metadata
         ensures number { result ≡ metadata_number flags }
@@ -78,7 +79,7 @@ impl Metadata {
         }
     }
 
-    /// The metadata byte that was read.
+    /// Takes the byte as it was read.
     #[inline]
     pub fn from_byte(byte: u8) -> Metadata
         ensures { result ≡ byte }
@@ -86,7 +87,7 @@ impl Metadata {
         Metadata { byte }
     }
 
-    /// The same, as the number of an item; above 255 its lowest byte.
+    /// Takes the lowest byte of an item's number.
     #[inline]
     pub fn from_number(number: u64) -> Metadata
         ensures whole { number < 256 → result ≡ number }
@@ -97,7 +98,7 @@ impl Metadata {
         }
     }
 
-    /// That of a geometry with a body alone.
+    /// Makes the metadata byte of a geometry that has only a body.
     #[inline]
     pub fn plain() -> Metadata
         ensures { result ≡ 0 }
@@ -105,7 +106,7 @@ impl Metadata {
         Metadata { byte: 0 }
     }
 
-    /// That of a geometry with a body behind its size.
+    /// Makes the metadata byte of a geometry that has a size and a body.
     #[inline]
     pub fn sized() -> Metadata
         ensures { result ≡ 2 }

@@ -1,4 +1,4 @@
-//! Samples of the definitions, each shown by computation: the vectors stand in docs/FORMATS.md.
+//! Samples of the definitions, checked by computation. The vectors are in docs/FORMATS.md.
 ghost use Rattle.std.specs.Prelude.{◌≡◌, [], ◌∷◌, take};
 ghost use Rattle.std.specs.List.{AllByRecursion};
 ghost use Rattle.twkb_grammar.specs.Blob.{Blob, Stream};
@@ -7,7 +7,7 @@ ghost use Rattle.twkb_grammar.specs.Fault.{FirstFault, StreamFault, Truncated, B
 ghost use Rattle.twkb_grammar.specs.Samples.{standard, nest_eight, no_nest, two_nodes, one_point_only, no_points, one_point, three_points, two_rings, named_points, named_members, widest, short_line, empty_point, empty_line, two_precisions, empty_part, named_areas, least_precision, greatest_precision, two_lines, two_places, two_members, nine_deep, three_points_blob, widest_blob, nine_deep_blob, named_members_blob, bare_collection, in_collections};
 ghost use Rattle.twkb_grammar.specs.declared.style.Style.TheVariants.{Full, Plain};
 
-/// The canonical blobs of some geometries in the full style.
+/// The canonical blobs of some geometries in full style.
 #[tactic(auto, unfolding(twkb_num::specs::Digits::digits, twkb_num::specs::Digits::digits_within, twkb_points::specs::Extent::joined))]
 pub fn full()
     ensures one_point { canonical_blob Full one_point ≡ 0x01 ∷ 0x02 ∷ 0x02 ∷ 0x04 ∷ 0x02 ∷ [] }
@@ -29,7 +29,7 @@ pub fn full()
     ensures nine_deep { canonical_blob Full nine_deep ≡ nine_deep_blob }
 {}
 
-/// The canonical blobs of some geometries in the plain style.
+/// The canonical blobs of some geometries in plain style.
 #[tactic(auto, unfolding(twkb_num::specs::Digits::digits, twkb_num::specs::Digits::digits_within))]
 pub fn plain()
     ensures one_point { canonical_blob Plain one_point ≡ 0x01 ∷ 0x00 ∷ 0x04 ∷ 0x02 ∷ [] }
@@ -39,7 +39,7 @@ pub fn plain()
     ensures named_points { canonical_blob Plain named_points ≡ 0x04 ∷ 0x04 ∷ 0x02 ∷ 0x02 ∷ 0x04 ∷ 0x00 ∷ 0x00 ∷ 0x02 ∷ 0x02 ∷ [] }
 {}
 
-/// Blobs that are not the canonical ones.
+/// Blobs that are not canonical.
 pub fn loose()
     ensures no_size { Blob standard (0x02 ∷ 0x00 ∷ 0x02 ∷ 0x02 ∷ 0x02 ∷ 0x08 ∷ 0x08 ∷ []) short_line }
     ensures padded_count { Blob standard (0x02 ∷ 0x00 ∷ 0x82 ∷ 0x00 ∷ 0x02 ∷ 0x02 ∷ 0x08 ∷ 0x08 ∷ []) short_line }
@@ -55,7 +55,7 @@ pub fn loose()
     ensures plain_members { Blob standard (0x07 ∷ 0x04 ∷ 0x02 ∷ 0x0E ∷ 0x01 ∷ 0x01 ∷ 0x00 ∷ 0x02 ∷ 0x02 ∷ 0x02 ∷ 0x10 ∷ []) named_members }
 {}
 
-/// First faults.
+/// First faults of some bytes.
 pub fn faults()
     ensures cut_line { FirstFault standard (0x02 ∷ 0x00 ∷ 0x02 ∷ 0x02 ∷ 0x02 ∷ 0x08 ∷ []) 6 Truncated }
     ensures wrong_size { FirstFault standard (0x01 ∷ 0x02 ∷ 0x03 ∷ 0x04 ∷ 0x02 ∷ []) 5 SizeMismatch }
@@ -86,12 +86,12 @@ pub fn faults()
     ensures cut_after_thirty_four { FirstFault standard (take 34 three_points_blob) 32 Truncated }
 {}
 
-/// Each proper front of a blob, of one byte at least, is refused at its end.
+/// Each proper prefix of a blob, except the empty one, is refused at its end.
 pub fn cut()
     ensures { AllByRecursion (λ k. FirstFault standard (take k named_members_blob) k Truncated) (1 ∷ 2 ∷ 3 ∷ 4 ∷ 5 ∷ 6 ∷ 7 ∷ 8 ∷ 9 ∷ 10 ∷ 11 ∷ 12 ∷ 13 ∷ 14 ∷ 15 ∷ 16 ∷ 17 ∷ []) }
 {}
 
-/// Streams: of nothing, and of a point and a second one that is cut.
+/// Streams: an empty one, and a point followed by a truncated one.
 pub fn streams()
     ensures nothing { Stream standard [] [] }
     ensures cut_point { StreamFault standard (0x01 ∷ 0x00 ∷ 0x04 ∷ 0x02 ∷ 0x01 ∷ 0x00 ∷ 0x04 ∷ []) (one_point ∷ []) 7 Truncated }

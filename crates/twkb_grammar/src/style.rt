@@ -1,10 +1,11 @@
 //! The two styles of a written blob.
 ghost use Rattle.std.specs.Prelude.{◌≡◌, ◌↔◌, true};
 
-/// What a written blob has beside type byte, metadata byte and body (TWKB leaves it free; profile).
+/// Which parts a written blob has beside type byte, metadata byte and body (TWKB leaves it free;
+/// profile).
 #[derive(Clone, Copy, Debug, PartialEq, Eq)]
 pub enum Style {
-    /// Each geometry has its exact size, and a tight box where it may have one.
+    /// Each geometry has its exact size, and a tight box if it may have one.
     Full,
     /// No geometry has a size or a box.
     Plain,
@@ -13,7 +14,7 @@ pub enum Style {
 impl Style {
     ghost use Rattle.twkb_grammar.specs.declared.style.Style.TheVariants.{Full};
 
-    /// Whether blobs of this style have sizes, and boxes where they may.
+    /// Whether blobs of this style have sizes, and boxes if they may have them.
     pub fn is_full(self) -> bool
         ensures { (result ≡ true) ↔ (self ≡ Full) }
     {

@@ -11,7 +11,7 @@ use std::marker::Model;
 use twkb_num::zigzag;
 use twkb_tree::Kind;
 
-// The values of half a byte: what the upper half counts.
+// The number of values of half a byte, by which the upper half is multiplied.
 const HALF: u8 = 16;
 
 // The lower half of a point's type byte.
@@ -36,7 +36,7 @@ impl Model for TypeByte {
     ghost inverse = { λ n. record { byte = n } };
 }
 
-// The number of a type; 0 for a ring, which has none.
+// The number of a type; 0 for a ring, which is not a type.
 #[inline]
 fn type_number(kind: Kind) -> u8
     ensures number { result ≡ type_of kind }
@@ -55,8 +55,9 @@ fn type_number(kind: Kind) -> u8
 }
 
 impl TypeByte {
-    /// That of a geometry of this kind, with the lowest four bits of the precision's zigzag form; a ring has no type, and gets 0. What is
-    /// written is read again: the kind, and a precision from -8 to 7.
+    /// Makes the type byte of a geometry of this kind, with the lowest four bits of the
+    /// precision's zigzag form. Reading it gives back the kind and a precision from -8 to 7. A
+    /// ring has no type and gets 0.
     #[inline]
     pub fn of(kind: Kind, precision: i8) -> TypeByte
         ensures number { result ≡ type_byte kind precision }
@@ -69,7 +70,7 @@ impl TypeByte {
         }
     }
 
-    /// The type byte that was read.
+    /// Takes the byte as it was read.
     #[inline]
     pub fn from_byte(byte: u8) -> TypeByte
         ensures { result ≡ byte }
@@ -77,7 +78,7 @@ impl TypeByte {
         TypeByte { byte }
     }
 
-    /// The same, as the number of an item; above 255 its lowest byte.
+    /// Takes the lowest byte of an item's number.
     #[inline]
     pub fn from_number(number: u64) -> TypeByte
         ensures whole { number < 256 → result ≡ number }
@@ -113,7 +114,7 @@ impl TypeByte {
         self.byte % HALF == POINT
     }
 
-    /// The kind of the type, never `Ring`. It is asked of a byte that names a type, and `Collection` elsewhere.
+    /// The kind of the type, never `Ring`. For a byte that names no type it is `Collection`.
     #[inline]
     pub fn kind(self) -> Kind
         ensures { result ≡ shown (kind_at (self % 16)) }
@@ -129,7 +130,7 @@ impl TypeByte {
         }
     }
 
-    /// Decimals of the coordinates, -8 to 7.
+    /// The number of decimals of the coordinates, -8 to 7.
     #[inline]
     pub fn precision(self) -> i8
         ensures value { result ≡ unzigzag_of (self / 16) }

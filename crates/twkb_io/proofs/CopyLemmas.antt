@@ -1,4 +1,4 @@
--- Copies of pieces, one after the other, copy the join.
+-- Copies of pieces, one after the other, are a copy of their join.
 use Rattle.std.proofs.Common.{◌≡◌, ◌+◌, ◌<◌, ℕ, List, ◌++◌, drop, length, Option, Some, None, arith, ap, sym, ◌∙◌, subst, append_assoc, length-append}
 use Rattle.std.proofs.KnownBytes.{Consumes-kept, Consumes-trans, Consumes-whole}
 use Rattle.std.proofs.lemmas.List.{take-append-drop}
@@ -13,29 +13,29 @@ use Rattle.twkb_io.specs.declared.copying.CopyFault.TheVariants.{Sink, Source}
 use Rattle.twkb_io.specs.Inputs.{rest_of}
 use Rattle.twkb_io.specs.Copies.{BeginsWith, Copied, StopsCopy, StopsPiece}
 
--- a copy is stopped by an input's fault exactly as the input is
+-- a copy is stopped by an input's fault exactly if the input is refused with it
 pub source_fault : {T U F : Type 0} {why k : InFault} → ◌≡◌ {A = Result T (CopyFault F)} (Err (Source why)) (Err (Source k)) → ◌≡◌ {A = Result U InFault} (Err why) (Err k)
 source_fault same = cc same
 
 pub fault_source : {T U F : Type 0} {why k : InFault} → ◌≡◌ {A = Result U InFault} (Err why) (Err k) → ◌≡◌ {A = Result T (CopyFault F)} (Err (Source why)) (Err (Source k))
 fault_source same = cc same
 
--- and a sink is no input
+-- a fault of the sink is none of the input
 pub sink_no_source : {T F : Type 0} {stop : F} {why : InFault} → ◌≡◌ {A = Result T (CopyFault F)} (Err (Sink stop)) (Err (Source why)) → ⊥
 sink_no_source other = cc other
 
--- a piece with some bytes is more
+-- a count grows by a piece that is not empty
 pub more_given : (a m b n : ℕ) → m ≡ a → b ≡ m + n → (n ≡ 0 → ⊥) → a < b
 more_given a m b n kept counted some = omega arith
 
--- what a kept rest loses, the rest before loses
+-- bytes lost from a kept rest are lost from the rest before it
 pub kept_consumes : (a b c : Option (List ℕ)) (bytes : List ℕ) → Keeps a b → Consumes b c bytes → Consumes a c bytes
 kept_consumes None b c bytes keeps loses = tt
 kept_consumes (Some all) None c bytes keeps loses = absurd keeps
 kept_consumes (Some all) (Some same) None bytes keeps loses = absurd loses
 kept_consumes (Some all) (Some same) (Some left) bytes keeps loses = sym keeps ∙ loses
 
--- a front of a piece that the rest begins with
+-- a prefix of a piece is a prefix of the rest that begins with the piece
 pub begins_front : (rest : Option (List ℕ)) (piece front more : List ℕ) → IfSome rest (λ bytes. StartsWith bytes piece) → piece ≡ front ++ more → BeginsWith rest front
 begins_front None piece front more starts parts = tt
 begins_front (Some bytes) piece front more starts parts =
@@ -47,7 +47,7 @@ kept_begins None b front keeps begins = tt
 kept_begins (Some all) None front keeps begins = absurd keeps
 kept_begins (Some all) (Some same) front keeps (left, parts) = (left, sym keeps ∙ parts)
 
--- what was lost, and then a front of what is left
+-- the bytes consumed and then a prefix of what is left are a prefix of the rest
 consumed_begins : (a b : Option (List ℕ)) (bytes front : List ℕ) → Consumes a b bytes → BeginsWith b front → BeginsWith a (bytes ++ front)
 consumed_begins None b bytes front loses begins = tt
 consumed_begins (Some all) None bytes front loses begins = absurd loses
@@ -63,11 +63,11 @@ module _ {R S : Type 0} {read : Ghosts R} (took : S → List ℕ → S → Type 
     counted = omega (arith, first.counted, second.counted, length-append xs ys);
   }
 
-  -- a copy up to the end is of the whole rest
+  -- a copy up to the input's end is a copy of the whole rest
   pub copied_whole : (a b : Input R read) (from to : S) (bytes : List ℕ) → Copied took a from bytes b to → IsAtEnd (rest_of b) → IfSome (rest_of a) (λ rest. took from rest to)
   copied_whole a b from to bytes copied end = Consumes-whole (rest_of a) (rest_of b) bytes (λ rest. took from rest to) copied.consumed end copied.taken
 
-  -- a copy that stops in a later piece
+  -- a copy that stops in a later piece stops in the whole
   pub stopped_join : {F : Type 0} (refused : S → List ℕ → F → S → Type 0)
       → ((a b c : S) (xs ys : List ℕ) (fault : F) → took a xs b → refused b ys fault c → refused a (xs ++ ys) fault c)
       → (a b c : Input R read) (from middle to : S) (xs : List ℕ) (stop : CopyFault F) → Copied took a from xs b middle

@@ -1,13 +1,13 @@
--- A front that was taken of a part is a front of the whole.
+-- A prefix taken of a part is a prefix of the whole.
 use Rattle.std.proofs.Common.{◌∙◌, ℕ, List, ◌++◌, ap, sym, append_assoc}
 use Rattle.twkb_io.specs.Sinks.{TookFront}
 
--- the first part was refused
+-- the case that the first part was refused
 pub took_front-before : {S F : Type 0} (refused : S → List ℕ → F → S → Type 0) (a b : S) (xs ys : List ℕ) (fault : F)
     → TookFront refused a xs fault b → TookFront refused a (xs ++ ys) fault b
 took_front-before refused a b xs ys fault (front, rest, whole, refuses) = (front, rest ++ ys, ap (λ l. l ++ ys) whole ∙ append_assoc front rest ys, refuses)
 
--- the first part was taken, and the second refused
+-- the case that the first part was taken and the second refused
 pub took_front-after : {S F : Type 0} (took : S → List ℕ → S → Type 0) (refused : S → List ℕ → F → S → Type 0)
     → ((a b c : S) (xs ys : List ℕ) (fault : F) → took a xs b → refused b ys fault c → refused a (xs ++ ys) fault c)
     → (a b c : S) (xs ys : List ℕ) (fault : F) → took a xs b → TookFront refused b ys fault c → TookFront refused a (xs ++ ys) fault c

@@ -1,4 +1,4 @@
--- What is held of an array: the part from `at` to `filled` that is unused, as far as there is room.
+-- The held bytes of an array: its unused part from `at` to `filled`, as far as there is room.
 use Rattle.std.proofs.Common.{◌≡◌, ◌≢◌, ◌≤◌, ◌<◌, ◌+◌, ◌-◌, min, ℕ, List, [], ◌∷◌, ◌++◌, take, drop, length, Option, Some, None, arith, ap, sym, ◌∙◌, refl, inl, inr, Bool, true, false, append_assoc, length-append, length-drop}
 use Rattle.std.proofs.KnownBytes.{Keeps-refl, prepend_known-end}
 use Rattle.std.proofs.Math.Nat.{eq-or-lt_of_le}
@@ -9,19 +9,19 @@ use Rattle.std.specs.Prelude.{IfSome, slice_get, slice_range}
 use Rattle.std.specs.Io.{StartsWith}
 use Rattle.std.specs.Io.KnownBytes.{Consumes, IsAtEnd, Keeps, prepend_known}
 
--- n bytes further, the unused part has lost its first n
+-- after n more bytes, the unused part has lost its first n
 pub unused_advanced : (held : List ℕ) (at filled n : ℕ) → at + n ≤ filled → slice_range held (at + n) filled ≡ drop n (slice_range held at filled)
 unused_advanced held at filled n fits =
     let parts : filled - at ≡ n + (filled - (at + n)) = omega arith in
     sym (ap (λ k. drop n (take k (drop at held))) parts ∙ drop-take n (filled - (at + n)) (drop at held) ∙ ap (take (filled - (at + n))) (drop-drop n at held))
 
--- and so has what is held
+-- after n more bytes, the held bytes have lost their first n
 pub held_advanced : (unused : List ℕ) (most given n : ℕ) → given + n ≤ most → take (most - (given + n)) (drop n unused) ≡ drop n (take (most - given) unused)
 held_advanced unused most given n fits =
     let parts : most - given ≡ n + (most - (given + n)) = omega arith in
     sym (ap (λ k. drop n (take k unused)) parts ∙ drop-take n (most - (given + n)) unused)
 
--- a front of the unused part is the front of the rest, and is consumed where it is dropped
+-- a prefix of the unused part is a prefix of the rest, and dropping it consumes it
 pub consumed_front : (unused : List ℕ) (known : Option (List ℕ)) (n room : ℕ) → n ≤ room
     → Consumes (prepend_known unused known) (prepend_known (drop n unused) known) (take n (take room unused))
 consumed_front unused None n room fits = tt
@@ -36,29 +36,29 @@ shown_front unused (Some more) room =
     ∙ ap (take (length (take room unused))) (append_assoc (take room unused) (drop room unused) more)
     ∙ take_at (take room unused) (drop room unused ++ more) (length (take room unused)) refl
 
--- an array that is not used up, since it is used up at the end alone
+-- an array is used up only at the end
 pub not_used_up : (at filled : ℕ) (ended : Bool) → at ≤ filled → (at ≡ filled → ended ≡ true) → ended ≡ false → at < filled
 not_used_up at filled ended ordered end more = elim (eq-or-lt_of_le ordered) [ inl same ↦ absurd (cc (end same, more)) | inr less ↦ less ]
 
--- where the array is not used up and there is room, a byte is held
+-- a byte is held if the array is not used up and there is room
 pub some_held : (held : List ℕ) (at filled room : ℕ) → at < filled → filled ≤ length held → 0 < room → take room (slice_range held at filled) ≢ []
 some_held held at filled room less within roomy none =
     omega (arith, ap length none, length-take room (slice_range held at filled), length-take (filled - at) (drop at held), length-drop at held)
 
--- an array with an unused byte is no empty rest
+-- the rest is not empty if the array has an unused byte
 pub held_rest : (held : List ℕ) (known : Option (List ℕ)) (at filled : ℕ) → at < filled → filled ≤ length held
     → IfSome (prepend_known (slice_range held at filled) known) (λ rest. rest ≢ [])
 held_rest held None at filled less within = tt
 held_rest held (Some more) at filled less within = λ none.
     omega (arith, ap length none, length-append (slice_range held at filled) more, length-take (filled - at) (drop at held), length-drop at held)
 
--- a rest that was kept was no empty one before
+-- a rest that was kept and is not empty was not empty before
 pub kept_rest : (old new : Option (List ℕ)) → Keeps old new → IfSome new (λ rest. rest ≢ []) → IfSome old (λ rest. rest ≢ [])
 kept_rest None new keeps some = tt
 kept_rest (Some rest) None keeps some = absurd keeps
 kept_rest (Some rest) (Some same) keeps some = λ none. some (keeps ∙ none)
 
--- a count of held bytes stays within the array and the room
+-- a number of held bytes stays within the array and the room
 pub count_fits : (held : List ℕ) (at filled room n : ℕ) → at ≤ filled → n ≤ length (take room (slice_range held at filled)) → (at + n ≤ filled) × (n ≤ room)
 count_fits held at filled room n ordered fits =
     let unused = slice_range held at filled in
@@ -66,12 +66,12 @@ count_fits held at filled room n ordered fits =
     let part : length unused ≡ min (filled - at) (length (drop at held)) = length-take (filled - at) (drop at held) in
     (omega arith, omega arith)
 
--- bytes of which there is no first are none
+-- bytes without a first byte are none
 pub no_first : (piece held : List ℕ) → piece ≡ held → None ≡ slice_get piece 0 → held ≡ []
 no_first [] held same none = sym same
 no_first (x ∷ xs) held same none = absurd (cc none)
 
--- a rest that was kept was at its end before
+-- a rest that was kept and is at its end was at its end before
 pub kept_end : (old new : Option (List ℕ)) → Keeps old new → IsAtEnd new → IsAtEnd old
 kept_end None new keeps end = tt
 kept_end (Some rest) None keeps end = absurd keeps
@@ -81,18 +81,18 @@ kept_end (Some rest) (Some same) keeps end = sym keeps ∙ end
 pub not_spent : {ended spent : Bool} → (ended ≡ true → spent ≡ false) → spent ≡ true → ended ≡ true → ⊥
 not_spent fresh was end = not_both was (fresh end)
 
--- an array that is used up holds none
+-- an array that is used up holds no byte
 pub none_unused : (held : List ℕ) (at filled : ℕ) → at ≡ filled → slice_range held at filled ≡ []
 none_unused held at filled same = nil_from_length (slice_range held at filled) (omega (arith, length-take (filled - at) (drop at held)))
 
 pub none_held : (held : List ℕ) (at filled room : ℕ) → at ≡ filled → take room (slice_range held at filled) ≡ []
 none_held held at filled room same = ap (take room) (none_unused held at filled same) ∙ take-nil room
 
--- so where bytes are held it is not used up
+-- an array that holds bytes is not used up
 pub held_unused : (held : List ℕ) (at filled room : ℕ) → at ≤ filled → take room (slice_range held at filled) ≢ [] → at < filled
 held_unused held at filled room ordered some = elim (eq-or-lt_of_le ordered) [ inl same ↦ absurd (some (none_held held at filled room same)) | inr less ↦ less ]
 
--- what a reader at its end tells
+-- a reader at its end gives nothing
 told_end : (known : Option (List ℕ)) → IfSome known (λ left. left ≡ []) → IsAtEnd known
 told_end None end = tt
 told_end (Some left) end = end

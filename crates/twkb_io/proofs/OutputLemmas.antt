@@ -1,4 +1,4 @@
--- Where a put is cut.
+-- Puts that were cut.
 use Rattle.std.proofs.Common.{◌≡◌, ◌<◌, ◌+◌, ◌∙◌, ℕ, List, [], ◌∷◌, ◌++◌, length, Option, true, false, arith, sym, ap, subst, append-nil, length-append, refl}
 use Rattle.std.specs.Prelude.{◌≢◌}
 use Rattle.twkb_io.specs.Sinks.{TookFront}
@@ -8,7 +8,7 @@ use Rattle.twkb_io.specs.declared.output.Output.{Output}
 use Rattle.twkb_io.specs.declared.output.OutFault.{OutFault}
 use Rattle.twkb_io.specs.declared.output.OutFault.TheVariants as fault
 
--- a device's fault is no other
+-- a fault of the device is not another fault
 pub no_device : (e other : OutFault) → is_device e ≡ true → is_device other ≡ false → e ≢ other
 no_device e other device none same = let both = sym device ∙ ap is_device same ∙ none in cc both
 
@@ -17,16 +17,16 @@ length-some [] some = absurd (some refl)
 length-some (x ∷ rest) some = omega arith
 
 module _ {W : Type 0} (contents : W → Option (List ℕ)) where
-  -- a cut put was handed over whole
+  -- a put that was cut was handed over as a prefix of itself
   pub front_cut : (a b : Output W) (bytes : List ℕ) (e : OutFault) → Cut contents a bytes e b → TookFront (Cut contents) a bytes e b
   front_cut a b bytes e cut = (bytes, [], sym (append-nil bytes), cut)
 
-  -- a put that is cut with some bytes left sends fewer than were handed over
+  -- a put that was cut with bytes left over sends fewer than were handed over
   pub cut_short : (a m b : Output W) (bytes front rest : List ℕ) (e : OutFault) → bytes ≡ front ++ rest → rest ≢ [] → Took contents a front m → Refused contents m [] e b → sent_of b < sent_of a + length bytes
   cut_short a m b bytes front rest e parts some took refused =
       omega (arith, length-some rest some, ap length parts, length-append front rest, took.sends.sent, refused.sends.sent)
 
-  -- behind a front that was sent, by the device
+  -- a put that was cut by the device after a prefix was sent
   pub cut_inside : (a m b : Output W) (bytes front rest : List ℕ) (e : OutFault) → bytes ≡ front ++ rest → rest ≢ [] → Took contents a front m → Refused contents m [] e b → is_device e ≡ true
       → Cut contents a bytes e b
   cut_inside a m b bytes front rest e parts some took refused device = record {

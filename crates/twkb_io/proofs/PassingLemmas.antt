@@ -1,4 +1,4 @@
--- What a fuse does to the bytes that a reader tells.
+-- The effect of a fuse on the bytes that a reader gives.
 use Rattle.std.proofs.Common.{◌≡◌, ◌≤◌, ◌+◌, ◌-◌, ℕ, List, ◌++◌, take, length, Option, Some, None, arith, ap, sym, ◌∙◌}
 use Rattle.std.proofs.Math.Seq.{take-append-add}
 use Rattle.std.proofs.lemmas.List.{length-take, length-take-le, nil_from_length, take-append-le}
@@ -15,7 +15,7 @@ passed_read (Some all) (Some rest) left n front back fits within taken =
     ap (take left) taken ∙ ap (λ k. take k (take n front ++ rest)) parts ∙ take-append-add (take n front) rest (left - n)
     ∙ ap (λ l. l ++ take (left - n) rest) (sym (take-append-le n front back within))
 
--- at the end nothing is left to pass
+-- at the reader's end nothing is left to pass
 pub passed_end : (known : Option (List ℕ)) (left : ℕ) → IsAtEnd known → IsAtEnd (passed left known)
 passed_end None left end = tt
 passed_end (Some rest) left end = nil_from_length (take left rest) (omega (arith, ap length end, length-take left rest))

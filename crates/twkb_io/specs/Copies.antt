@@ -1,4 +1,4 @@
--- What goes from an input to a sink.
+-- What moves from an input to a sink.
 use Rattle.std.specs.Prelude.{ℕ, ◌≡◌, ◌+◌, ◌<◌, ◌^◌, ◌↔◌, List, ◌++◌, length, Option, IfSome, Bool, true, false, Result, Ok, Err, IfOk, OnOk, IfErr, OnErr}
 use Rattle.std.specs.Io.KnownBytes.{Consumes, IsAtEnd, Keeps}
 use Rattle.std.specs.declared.io.traits.Read.{Ghosts}
@@ -18,21 +18,22 @@ pub record Copied {R S : Type 0} {read : Ghosts R} (took : S → List ℕ → S 
   pub taken : took from bytes to
   pub counted : given new ≡ given old + length bytes
 
--- the known bytes begin with these
+-- the known bytes begin with these bytes
 abbrev pub BeginsWith : Option (List ℕ) → List ℕ → Type 0
 BeginsWith rest front = IfSome rest (λ bytes. (left : List ℕ) × (bytes ≡ front ++ left))
 
--- a front of the rest left the input and was taken, or a front of the rest was taken and the put refused
+-- a prefix of the rest left the input and was taken; or a prefix of the rest was taken, and the
+-- put was refused
 abbrev pub StopsCopy : {S F : Type 0} → (S → List ℕ → S → Type 0) → (S → List ℕ → F → S → Type 0) → Option (List ℕ) → S → CopyFault F → Option (List ℕ) → S → Type 0
 StopsCopy took refused rest from (stop.Source why) left to = (front : List ℕ) × Consumes rest left front × took from front to
 StopsCopy took refused rest from (stop.Sink why) left to = (front : List ℕ) × BeginsWith rest front × refused from front why to
 
--- the same for one piece, of which no byte leaves the input
+-- a copy stops within one piece: no byte of it leaves the input, and the sink took a prefix of it
 abbrev pub StopsPiece : {S F : Type 0} → (S → List ℕ → F → S → Type 0) → Option (List ℕ) → S → CopyFault F → S → Type 0
 StopsPiece refused rest from (stop.Source why) to = to ≡ from
 StopsPiece refused rest from (stop.Sink why) to = (front : List ℕ) × BeginsWith rest front × refused from front why to
 
--- whether this is a failed read
+-- whether this fault is a failed read
 abbrev pub is_of_read : {F : Type 0} → CopyFault F → Bool
 is_of_read (stop.Source why) = is_read why
 is_of_read (stop.Sink why) = false
@@ -48,7 +49,7 @@ is_write_stop (Ok done) = false
 is_write_stop (Err (stop.Source why)) = false
 is_write_stop (Err (stop.Sink why)) = is_device why
 
--- one piece: all that is held goes to the sink, or the input is at its end, or the copy stops
+-- the step of one piece: all held bytes go to the sink, or the input is at its end, or the copy stops
 pub record CopiesPiece {R S F : Type 0} {read : Ghosts R} (took : S → List ℕ → S → Type 0) (refused : S → List ℕ → F → S → Type 0)
     (old : Input R read) (from : S) (result : Result Bool (CopyFault F)) (new : Input R read) (to : S) : Type 0 where
   pub ok : OnOk result ((bytes : List ℕ) × Copied took old from bytes new to)

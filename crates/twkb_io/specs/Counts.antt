@@ -1,7 +1,7 @@
--- What a count has seen.
+-- The bytes that a count has seen.
 use Rattle.std.specs.Prelude.{ℕ}
 use Rattle.twkb_io.specs.declared.count.Count.{Count}
 
--- the length of all puts that were taken
+-- the length of all accepted puts
 abbrev pub total_of : Count → ℕ
 total_of count = count.total

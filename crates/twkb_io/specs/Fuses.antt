@@ -1,4 +1,4 @@
--- What a fuse still passes.
+-- The bytes that a fuse still passes.
 use Rattle.std.specs.Prelude.{ℕ, ◌≡◌, List, Option, Bool, take, Result, Ok, Err, IsErr}
 use Rattle.std.specs.Option.{option_map}
 use Rattle.twkb_io.specs.declared.fuse.Fuse.{Fuse}
@@ -9,15 +9,15 @@ use Rattle.twkb_io.specs.declared.fuse.FuseEnd.TheVariants.{Fail, Zero}
 abbrev pub fuse_device : {D : Type 0} → Fuse D → D
 fuse_device fuse = fuse.device
 
--- how many bytes it still passes
+-- the number of bytes that it still passes
 abbrev pub left_of : {D : Type 0} → Fuse D → ℕ
 left_of fuse = fuse.left
 
--- the most that it passes in one call
+-- the most bytes that it passes in one call
 abbrev pub step_of : {D : Type 0} → Fuse D → ℕ
 step_of fuse = fuse.step
 
--- what it answers after its bytes
+-- how it answers after its bytes
 abbrev pub end_of : {D : Type 0} → Fuse D → FuseEnd
 end_of fuse = fuse.end
 
@@ -25,21 +25,21 @@ end_of fuse = fuse.end
 abbrev pub fails_flush : {D : Type 0} → Fuse D → Bool
 fails_flush fuse = fuse.flush_fails
 
--- the known bytes, as far as the fuse passes them
+-- the known bytes, up to the number that the fuse passes
 abbrev pub passed : ℕ → Option (List ℕ) → Option (List ℕ)
 passed left known = option_map (λ bytes. take left bytes) known
 
--- how many bytes a call moved
+-- the number of bytes that a call moved
 abbrev pub moved : {E : Type 0} → Result ℕ E → ℕ
 moved (Ok count) = count
 moved (Err e) = 0
 
--- after its bytes a fuse fails, or moves none
+-- after its bytes a fuse fails or moves no byte
 abbrev pub Dries : {E : Type 0} → FuseEnd → Result ℕ E → Type 0
 Dries Fail result = IsErr result
 Dries Zero result = result ≡ Ok 0
 
--- all but the device and the count of bytes stays
+-- all but the device and the number of bytes left stays as it was
 pub record KeepsSettings {D : Type 0} (old new : Fuse D) : Type 0 where
   pub step : step_of new ≡ step_of old
   pub end : end_of new ≡ end_of old

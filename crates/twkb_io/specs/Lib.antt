@@ -1,4 +1,4 @@
--- What the contracts say, by the type that it is said of.
+-- What the contracts say, one file for each type.
 pub mod Taps
 pub mod Inputs
 pub mod Sinks

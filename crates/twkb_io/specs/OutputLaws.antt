@@ -1,4 +1,4 @@
--- Two sends send the join, and a send that is cut is cut in the whole.
+-- Two sends are the send of their join, and a send that was cut is cut within the whole.
 use Rattle.std.specs.Prelude.{ℕ, ◌≡◌, ◌≤◌, ◌+◌, List, [], ◌∷◌, ◌++◌, length, Option, Some, None}
 use Rattle.std.proofs.Common.{sym, ap, ◌∙◌, refl, add-zero, arith, append_assoc, length-append}
 use Rattle.std.proofs.lemmas.List.{append-nil}
@@ -73,7 +73,7 @@ first_none : (xs ys : List ℕ) → xs ++ ys ≡ [] → xs ≡ []
 first_none [] ys none = refl
 first_none (x ∷ xs) ys none = cc none
 
--- where a front of some bytes was handed over and cut, they are cut
+-- bytes are cut if a prefix of them was handed over and cut
 pub cut_front : {W : Type 0} (contents : W → Option (List ℕ)) (a b : Output W) (xs : List ℕ) (e : OutFault)
     → TookFront (Cut contents) a xs e b → Cut contents a xs e b
 cut_front contents a b xs e (handed, unhanded, parts, cut) = record {

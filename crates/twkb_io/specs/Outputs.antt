@@ -1,4 +1,4 @@
--- What an output sent, and what a put did to it.
+-- The bytes that an output sent, and the effect of a put.
 use Rattle.std.specs.Prelude.{ℕ, ◌≡◌, ◌≢◌, ◌+◌, ◌^◌, ◌<◌, List, [], ◌++◌, length, Option, Bool, true, false}
 use Rattle.std.specs.Io.KnownBytes.{Appends}
 use Rattle.std.specs.Borrow.{MutBor}
@@ -8,33 +8,33 @@ use Rattle.twkb_io.specs.declared.output.OutFault.{OutFault}
 use Rattle.twkb_io.specs.declared.output.OutFault.TheVariants as fault
 use Rattle.twkb_io.specs.Taps.{count_failure, device_of, failures_of}
 
--- the tap that was lent
+-- the borrowed tap
 abbrev pub output_tap : {W : Type 0} → Output W → MutBor (Tap W)
 output_tap output = output.tap
 
 abbrev pub output_failures : {W : Type 0} → Output W → ℕ
 output_failures output = failures_of output.tap.now
 
--- how many bytes the writer took
+-- the number of bytes that the writer took
 abbrev pub sent_of : {W : Type 0} → Output W → ℕ
 sent_of output = output.sent
 
--- whether a call answered an error
+-- whether a call returned an error
 abbrev pub is_spent : {W : Type 0} → Output W → Bool
 is_spent output = output.spent
 
--- the bytes of the writer, where they are known
+-- the bytes of the writer, if they are known
 abbrev pub written : {W : Type 0} → (W → Option (List ℕ)) → Output W → Option (List ℕ)
 written contents output = contents (device_of output.tap.now)
 
--- a fault that a failed device is
+-- whether this fault is a failed device
 abbrev pub is_device : OutFault → Bool
 is_device fault.Write = true
 is_device fault.Stuck = true
 is_device fault.TooLong = false
 is_device fault.Spent = false
 
--- a fault of a write that was answered and took none
+-- whether this fault is a write that returned and took nothing
 abbrev pub is_of_stuck : OutFault → Bool
 is_of_stuck fault.Write = false
 is_of_stuck fault.Stuck = true
@@ -47,20 +47,21 @@ pub record Sent {W : Type 0} (contents : W → Option (List ℕ)) (old : Output 
   pub appends : Appends (written contents old) (written contents new) bytes
   pub sent : sent_of new ≡ sent_of old + length bytes
 
--- no put was refused on the way
+-- these bytes were sent, and no put was refused
 pub record Took {W : Type 0} (contents : W → Option (List ℕ)) (old : Output W) (bytes : List ℕ) (new : Output W) : Type 0 where
   pub sends : Sent contents old bytes new
   pub failures : output_failures new ≡ output_failures old
   pub spent : is_spent new ≡ is_spent old
 
--- the last call was refused with this fault, and these are the bytes that were taken
+-- the last call was refused with this fault, and these bytes were taken
 pub record Refused {W : Type 0} (contents : W → Option (List ℕ)) (old : Output W) (bytes : List ℕ) (e : OutFault) (new : Output W) : Type 0 where
   pub sends : Sent contents old bytes new
   pub failures : output_failures new ≡ count_failure (is_device e) (output_failures old)
   pub spent : is_spent new ≡ true
 
--- Of the bytes that were handed over the writer took a front, and the last put was refused with this fault. Bytes are left, unless the output
--- was refused before; where they were too many, it is all of them that would have passed the bound.
+-- The writer took a prefix of the bytes handed over, and the last put was refused with this
+-- fault. Bytes are left over, unless the output was refused before. If the fault is TooLong, all
+-- of them together would have passed the bound.
 pub record Cut {W : Type 0} (contents : W → Option (List ℕ)) (old : Output W) (bytes : List ℕ) (e : OutFault) (new : Output W) : Type 0 where
   pub front : List ℕ
   pub rest : List ℕ

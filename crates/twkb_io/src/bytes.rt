@@ -1,11 +1,11 @@
-//! A sink that keeps its bytes.
+//! A sink that keeps its bytes in memory.
 ghost use Rattle.std.specs.Prelude.{◌≡◌, ◌++◌, [], length, OnOk, OnErr, IfErr};
 ghost use Rattle.twkb_io.specs.Sinks.{TookFront};
 
 use crate::sink::Sink;
 use std::alloc::{AllocError, Global};
 
-/// A sink that keeps the bytes in a vector. A put takes memory, and is refused where there is none.
+/// A sink that keeps the bytes in a vector. A put takes memory, and is refused if there is none.
 #[derive(Drop)]
 pub struct Bytes {
     kept: Vec<u8>,
@@ -14,7 +14,7 @@ pub struct Bytes {
 impl Bytes {
     ghost use Rattle.twkb_io.specs.Bytes.{bytes_of};
 
-    /// A sink that keeps nothing yet. Takes no memory.
+    /// Makes a sink that holds no byte. Takes no memory.
     pub fn new(alloc: Global) -> Bytes
         ensures { bytes_of result ≡ [] }
     {
@@ -23,7 +23,7 @@ impl Bytes {
         }
     }
 
-    /// The bytes of all puts that were taken. Takes no memory.
+    /// The bytes of all accepted puts, in order. Takes no memory.
     pub fn into_vec(self) -> Vec<u8>
         ensures { result.items ≡ bytes_of self }
     {

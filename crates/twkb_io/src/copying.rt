@@ -1,4 +1,4 @@
-//! From a reader to any sink.
+//! Copying from an input to any sink.
 ghost use Rattle.std.specs.Prelude.{Err, ◌≡◌, ◌^◌, ◌↔◌, ℕ, List, true, IfSome, IfErr, OnOk};
 
 use crate::input::{InFault, Input};
@@ -9,7 +9,7 @@ use thiserror::Error;
 /// Why a copy stopped before the reader's end.
 #[derive(Clone, Copy, PartialEq, Eq, Debug, Error)]
 pub enum CopyFault<F> {
-    /// The input gave no byte.
+    /// The input failed.
     #[error("the input gave no byte")]
     Source(InFault),
     /// The sink refused a put.
@@ -21,8 +21,8 @@ ghost use Rattle.twkb_io.specs.Taps.{count_failure};
 ghost use Rattle.twkb_io.specs.Inputs.{given, has_ended, input_failures, input_tap, is_spent, rest_of};
 ghost use Rattle.twkb_io.specs.Copies.{Copied, CopiesPiece, StopsCopy, is_read_stop};
 
-/// Copies all that is left of an input to a sink, as many bytes a put as the input holds. After a
-/// refused put the bytes of that put are still in the input. Takes no memory but the sink's.
+/// Copies the rest of an input to a sink, one put for the bytes that the input holds at a time.
+/// The bytes of a refused put stay in the input. Takes no memory but the sink's.
 pub fn copy<R: Read, S: Sink>(
     input: &mut Input<'_, R>,
     sink: &mut S,
@@ -43,7 +43,7 @@ pub fn copy<R: Read, S: Sink>(
     }
 }
 
-// Copies what the input holds, and answers whether there was a byte.
+// Copies the bytes that the input holds, and returns whether there were any.
 fn copy_piece<R: Read, S: Sink>(
     input: &mut Input<'_, R>,
     sink: &mut S,

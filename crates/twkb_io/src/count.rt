@@ -1,4 +1,4 @@
-//! A sink that counts.
+//! A sink that counts bytes.
 ghost use Rattle.std.specs.Prelude.{◌≡◌, ◌+◌, ◌≤◌, ◌<◌, ◌^◌, ◌↔◌, length, OnOk, OnErr, IfErr, IsErr};
 ghost use Rattle.twkb_io.specs.Sinks.{TookFront};
 
@@ -6,7 +6,7 @@ use crate::MAX_BYTES;
 use crate::sink::Sink;
 use thiserror::Error;
 
-/// A sink that keeps the length of what it took, at most 2^62, and no byte of it. Takes no memory.
+/// A sink that keeps only the number of bytes it took, at most 2^62. Takes no memory.
 #[derive(Clone, Copy, Debug)]
 pub struct Count {
     total: u64,
@@ -21,14 +21,14 @@ pub struct CountFull;
 impl Count {
     ghost use Rattle.twkb_io.specs.Counts.{total_of};
 
-    /// A count of nothing.
+    /// Makes a count at 0.
     pub fn new() -> Count
         ensures { total_of result ≡ 0 }
     {
         Count { total: 0 }
     }
 
-    /// How many bytes were taken.
+    /// The number of bytes taken.
     pub fn total(&self) -> u64
         ensures total { result ≡ total_of self.now }
         ensures within { result ≤ 2 ^ 62 }

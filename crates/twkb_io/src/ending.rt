@@ -1,4 +1,4 @@
-//! A reader that is asked no more once it told its end.
+//! A reader that is not read again once it has reported its end.
 ghost use Rattle.std.specs.Prelude.{◌≡◌, true, false, IfSome, [], Ok};
 ghost use Rattle.std.specs.Io.{ReadsAtMost};
 ghost use Rattle.std.specs.Io.KnownBytes.{IsAtEnd, ReadConsumes};
@@ -7,9 +7,9 @@ ghost use Rattle.std.proofs.Props.{props};
 use std::io;
 use std::io::Read;
 
-/// A reader that remembers its end, as a reader of a terminal is to: once a read into a buffer with
-/// room gave no byte, each read gives none, and the reader underneath is asked no more. Takes no
-/// memory of its own.
+/// A reader that remembers its end, as a terminal's reader must: once a read into a buffer with
+/// room gives no byte, every later read gives none, and the reader underneath is not called
+/// again. Takes no memory itself.
 #[derive(Drop)]
 pub struct Ending<R: Read> {
     reader: R,
@@ -20,7 +20,7 @@ pub struct Ending<R: Read> {
 impl<R: Read> Ending<R> {
     ghost use Rattle.twkb_io.specs.Endings.{has_ended, under};
 
-    /// A reader of which no end was seen yet.
+    /// Wraps a reader whose end was not seen yet.
     pub fn new(reader: R) -> Ending<R>
         ensures reader { under result ≡ reader }
         ensures not_ended { has_ended result ≡ false }
@@ -39,7 +39,7 @@ impl<R: Read> Ending<R> {
         self.ended
     }
 
-    /// The reader underneath, as the reads left it.
+    /// Returns the reader underneath, as the reads left it.
     pub fn into_inner(self) -> R
         ensures { result ≡ under self }
     {

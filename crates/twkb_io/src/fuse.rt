@@ -1,4 +1,4 @@
-//! A device for tests, which fails after some bytes.
+//! A device for tests that fails after a number of bytes.
 ghost use Rattle.std.specs.Prelude.{◌≡◌, ◌-◌, ◌≤◌, ◌<◌, true, IsErr, IfOk, min};
 ghost use Rattle.std.specs.Io.{ReadsAtMost, WritesAtMost};
 ghost use Rattle.std.specs.Io.KnownBytes.{Keeps, ReadConsumes, WriteAppends};
@@ -6,19 +6,19 @@ ghost use Rattle.std.specs.Io.KnownBytes.{Keeps, ReadConsumes, WriteAppends};
 use std::io;
 use std::io::{ErrorKind, Read, Write};
 
-/// What a fuse answers after its bytes.
+/// How a fuse answers after its bytes.
 #[derive(Clone, Copy, PartialEq, Eq, Debug)]
 pub enum FuseEnd {
     /// Each read and each write fails.
     Fail,
-    /// Each read and each write answers that it moved no byte.
+    /// Each read and each write returns that it moved no byte.
     Zero,
 }
 
 impl FuseEnd {
     ghost use Rattle.twkb_io.specs.Fuses.{Dries};
 
-    // What a call answers that is to move a byte.
+    // The answer of a call that should move a byte.
     fn answer(self) -> io::Result<usize>
         ensures { Dries self result }
     {
@@ -29,8 +29,8 @@ impl FuseEnd {
     }
 }
 
-/// A device for tests: it passes the first bytes of another device, a step at a time, and then
-/// fails or stands still.
+/// A device for tests: passes the first bytes of another device, a step at a time, and then fails
+/// or moves no more bytes.
 #[derive(Drop)]
 pub struct Fuse<D> {
     device: D,
@@ -44,8 +44,8 @@ pub struct Fuse<D> {
 impl<D> Fuse<D> {
     ghost use Rattle.twkb_io.specs.Fuses.{end_of, fails_flush, fuse_device, left_of, step_of};
 
-    /// Passes at most `step` bytes a call of the first `bytes`. A flush fails where `flush_fails`
-    /// is set, else it passes through.
+    /// Passes the first `bytes` bytes, at most `step` of them in one call. A flush fails if
+    /// `flush_fails` is set; if not, it is passed on.
     pub fn new(device: D, bytes: u64, step: usize, end: FuseEnd, flush_fails: bool) -> Fuse<D>
         requires { 0 < step }
         ensures device { fuse_device result ≡ device }
@@ -63,7 +63,7 @@ impl<D> Fuse<D> {
         }
     }
 
-    /// The device that was passed to `new`, as the calls left it.
+    /// Returns the device that was passed to `new`, as the calls left it.
     pub fn into_inner(self) -> D
         ensures { result ≡ fuse_device self }
     {
@@ -71,7 +71,7 @@ impl<D> Fuse<D> {
     }
 }
 
-// How many bytes pass in one call.
+// The number of bytes that pass in one call.
 fn passing(length: usize, left: u64, step: usize) -> usize
     requires { 0 < step }
     ensures { result ≡ min (min length step) left }

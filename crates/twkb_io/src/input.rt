@@ -1,4 +1,4 @@
-//! Bytes of a reader, one at a time or as many as are held, through a fixed array.
+//! The bytes of a reader, one at a time or all that are held, through an array of fixed size.
 ghost use Rattle.std.specs.Prelude.{Ok, None, Err, ◌≡◌, ◌≢◌, ◌≤◌, ◌<◌, ◌+◌, ◌^◌, ◌↔◌, true, false, is_err, length, take, drop, IfSome, IfErr, OnOk, [], ◌⊎◌};
 ghost use Rattle.std.specs.Io.{StartsWith};
 ghost use Rattle.std.specs.Io.KnownBytes.{Consumes, IsAtEnd, Keeps};
@@ -14,20 +14,20 @@ const HELD: usize = 4096;
 /// Why an input gave no byte.
 #[derive(Clone, Copy, PartialEq, Eq, Debug, Error)]
 pub enum InFault {
-    /// The reader failed in this very call.
+    /// The reader failed in this call.
     #[error("read failed")]
     Read,
-    /// 2^62 bytes were given out, and the reader has another.
+    /// 2^62 bytes were given out, and the reader has more.
     #[error("input too long")]
     TooLong,
-    /// An earlier call answered an error.
+    /// An earlier call returned an error.
     #[error("input was refused before")]
     Spent,
 }
 
-/// A reader's bytes in order, each given out once. It holds at most 4096 bytes, in an array of its
-/// own, and takes no memory. The rest of an input is the unused part of that array, then what the
-/// reader still tells.
+/// A reader's bytes in order, each given out once. It holds at most 4096 bytes, in its own array,
+/// and takes no memory. The rest of an input is the unused part of that array, and then what the
+/// reader still gives.
 #[derive(Drop)]
 pub struct Input<'a, R: Read> {
     tap: &'a mut Tap<R>,
@@ -49,7 +49,7 @@ impl<'a, R: Read> Input<'a, R> {
     ghost use Rattle.twkb_io.specs.Taps.{calls_of, count_failure, device_of};
     ghost use Rattle.twkb_io.specs.Inputs.{GivesNext, given, given_after, has_ended, held_of, input_failures, input_tap, is_read_fault, is_spent, rest_of};
 
-    /// An input of all that the reader still tells. It reads nothing yet.
+    /// Makes an input of all that the reader still gives. Reads nothing yet.
     pub fn new(tap: &'a mut Tap<R>) -> Input<'a, R>
         ensures same_tap { (input_tap result).ghost_name ≡ tap.entry.ghost_name }
         ensures untouched { (input_tap result).now ≡ tap.old }
@@ -70,8 +70,9 @@ impl<'a, R: Read> Input<'a, R> {
         }
     }
 
-    /// The next byte. After an `Err` each call answers `Spent`, and after the end each call answers
-    /// `None` and reads no more. It reads at most once, and only where no byte is held.
+    /// Returns the next byte. After an `Err` each call returns `Spent`; after the end each call
+    /// returns `None` and does not read again. It reads at most once, and only if no byte is
+    /// held.
     pub fn next(&mut self) -> Result<Option<u8>, InFault>
         ensures same_tap { (input_tap self.new).ghost_name ≡ (input_tap self.old).ghost_name }
         ensures gives { GivesNext (rest_of self.old) result (rest_of self.new) }
@@ -97,8 +98,8 @@ impl<'a, R: Read> Input<'a, R> {
         Ok(Some(byte))
     }
 
-    /// Reads once where no byte is held; afterwards `held` is empty only at the end. After an `Err`
-    /// each call answers `Spent`, and after the end each call reads no more.
+    /// Reads once if no byte is held; afterwards `held` is empty only at the end. After an `Err`
+    /// each call returns `Spent`; after the end no call reads again.
     pub fn fill(&mut self) -> Result<(), InFault>
         ensures same_tap { (input_tap self.new).ghost_name ≡ (input_tap self.old).ghost_name }
         ensures keeps { Keeps (rest_of self.old) (rest_of self.new) }
@@ -130,8 +131,8 @@ impl<'a, R: Read> Input<'a, R> {
         Ok(())
     }
 
-    /// The bytes that can be given out without a read: the unused part of the array, cut where
-    /// 2^62 bytes would be passed.
+    /// The bytes that can be given out without a read: the unused part of the array, cut at 2^62
+    /// bytes in all.
     pub fn held(&self) -> &[u8]
         ensures held { result.now ≡ held_of self.now }
         ensures front { IfSome (rest_of self.now) (λ rest. StartsWith rest result.now) }
@@ -156,7 +157,7 @@ impl<'a, R: Read> Input<'a, R> {
         self.offset += count as u64;
     }
 
-    /// How many bytes were given out.
+    /// The number of bytes given out.
     pub fn offset(&self) -> u64
         ensures offset { result ≡ given self.now }
         ensures within { result ≤ 2 ^ 62 }
@@ -164,14 +165,14 @@ impl<'a, R: Read> Input<'a, R> {
         self.offset
     }
 
-    /// The failures of the tap that was lent.
+    /// The failures of the borrowed tap.
     pub fn failures(&self) -> u64
         ensures { result ≡ input_failures self.now }
     {
         self.tap.failures()
     }
 
-    // Reads where the array is used up.
+    // Reads if the array is used up.
     fn refill(&mut self) -> Result<(), InFault>
         requires { is_spent self.old ≡ false }
         ensures same_tap { (input_tap self.new).ghost_name ≡ (input_tap self.old).ghost_name }

@@ -1,4 +1,4 @@
-//! Bytes to a writer, with an exact count of what it took.
+//! A sink that sends bytes to a writer, with an exact count of the bytes that the writer took.
 ghost use Rattle.std.specs.Prelude.{◌≡◌, ◌≢◌, ◌+◌, ◌≤◌, ◌<◌, ◌^◌, ◌↔◌, [], true, false, length, take, Err, IfOk, OnOk, OnErr, IfErr};
 ghost use Rattle.twkb_io.specs.Sinks.{TookFront};
 
@@ -8,25 +8,25 @@ use crate::tap::Tap;
 use std::io::Write;
 use thiserror::Error;
 
-/// Why an output did not take all of a put, or a flush failed.
+/// Why an output did not take a complete put, or why a flush failed.
 #[derive(Clone, Copy, PartialEq, Eq, Debug, Error)]
 pub enum OutFault {
-    /// A write or a flush failed in this very call.
+    /// A write or a flush failed in this call.
     #[error("write failed")]
     Write,
-    /// A write of at least one byte took none, in this very call.
+    /// A write of at least one byte took none, in this call.
     #[error("the writer takes no more")]
     Stuck,
     /// More than 2^62 bytes would be sent.
     #[error("output too long")]
     TooLong,
-    /// An earlier call answered an error.
+    /// An earlier call returned an error.
     #[error("output was refused before")]
     Spent,
 }
 
 /// A sink that sends each put to a writer at once, and counts the bytes that the writer took. It
-/// holds no byte back, tries no write again, and takes no memory.
+/// holds no byte back, repeats no write, and takes no memory.
 #[derive(Drop)]
 pub struct Output<'a, W> {
     tap: &'a mut Tap<W>,
@@ -38,7 +38,7 @@ pub struct Output<'a, W> {
 impl<'a, W> Output<'a, W> {
     ghost use Rattle.twkb_io.specs.Outputs.{is_spent, output_failures, output_tap, sent_of};
 
-    /// An output that sent nothing yet.
+    /// Makes an output that has sent nothing.
     pub fn new(tap: &'a mut Tap<W>) -> Output<'a, W>
         ensures same_tap { (output_tap result).ghost_name ≡ tap.entry.ghost_name }
         ensures untouched { (output_tap result).now ≡ tap.old }
@@ -52,7 +52,7 @@ impl<'a, W> Output<'a, W> {
         }
     }
 
-    /// How many bytes the writer took.
+    /// The number of bytes that the writer took.
     pub fn sent(&self) -> u64
         ensures sent { result ≡ sent_of self.now }
         ensures within { result ≤ 2 ^ 62 }
@@ -60,7 +60,7 @@ impl<'a, W> Output<'a, W> {
         self.sent
     }
 
-    /// The failures of the tap that was lent.
+    /// The failures of the borrowed tap.
     pub fn failures(&self) -> u64
         ensures { result ≡ output_failures self.now }
     {
@@ -72,7 +72,7 @@ impl<'a, W: Write> Output<'a, W> {
     ghost use Rattle.twkb_io.specs.Taps.{calls_of, has_unflushed, is_stuck, one_call};
     ghost use Rattle.twkb_io.specs.Outputs.{Refused, Took, is_device, is_of_stuck, is_spent, output_tap, sent_of};
 
-    /// Flushes the writer. After an `Err` each call answers `Spent`.
+    /// Flushes the writer. After an `Err` each call returns `Spent`.
     pub fn flush(&mut self) -> Result<(), OutFault>
         ensures ok { OnOk result (Took W.contents self.old [] self.new) }
         ensures err { IfErr result (λ fault. Refused W.contents self.old [] fault self.new) }
@@ -92,7 +92,7 @@ impl<'a, W: Write> Output<'a, W> {
         Ok(())
     }
 
-    // One write of at least one byte.
+    // Makes one write of at least one byte.
     fn send(&mut self, bytes: &[u8]) -> Result<usize, OutFault>
         requires fresh { is_spent self.old ≡ false }
         requires some { 0 < length bytes.now }
@@ -142,7 +142,7 @@ impl<'a, W: Write> Sink for Output<'a, W> {
 
     ghost adds_no_more = { cut_within W.contents };
 
-    /// Sends the bytes, with as many writes as the writer needs. After an `Err` each call answers
+    /// Sends the bytes, with as many writes as the writer needs. After an `Err` each call returns
     /// `Spent`.
     fn put(&mut self, bytes: &[u8]) -> Result<(), OutFault>
         ensures ok { OnOk result (Took W.contents self.old bytes.now self.new) }

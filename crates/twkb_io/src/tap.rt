@@ -1,4 +1,4 @@
-//! A device under a count of its failures.
+//! A device with a count of its failures.
 ghost use Rattle.std.specs.Prelude.{◌≡◌, ◌&&◌, ◌||◌, is_err, false};
 ghost use Rattle.std.specs.Io.{ReadsAtMost, WritesAtMost};
 ghost use Rattle.std.specs.Io.KnownBytes.{Keeps, ReadConsumes, WriteAppends};
@@ -6,10 +6,10 @@ ghost use Rattle.std.specs.Io.KnownBytes.{Keeps, ReadConsumes, WriteAppends};
 use std::io;
 use std::io::{Read, Write};
 
-/// A reader or a writer, with a count of its calls, of those that failed and of the bytes that it
-/// gave, which knows whether it took bytes behind its last flush, and whether its last write took
-/// none. Each read, write and flush is passed through once, and answered as the device answers it.
-/// Takes no memory of its own.
+/// A reader or a writer with counts of its calls, of the calls that failed and of the bytes that
+/// it gave. It also knows whether it took bytes after its last flush, and whether its last write
+/// took none. Each read, write and flush is passed on once, and answered as the device answers
+/// it. Takes no memory itself.
 #[derive(Drop)]
 pub struct Tap<D> {
     device: D,
@@ -23,7 +23,7 @@ pub struct Tap<D> {
 impl<D> Tap<D> {
     ghost use Rattle.twkb_io.specs.Taps.{bytes_given, calls_of, count_failure, device_of, failures_of, has_unflushed, is_stuck, one_call};
 
-    /// A device of which no call has failed yet.
+    /// Wraps a device of which no call has failed yet.
     pub fn new(device: D) -> Tap<D>
         ensures device { device_of result ≡ device }
         ensures calls { calls_of result ≡ 0 }
@@ -41,42 +41,42 @@ impl<D> Tap<D> {
         }
     }
 
-    /// How many reads, writes and flushes were passed on. A count of `u64::MAX` stays there.
+    /// The number of reads, writes and flushes passed on. The count stops at `u64::MAX`.
     pub fn calls(&self) -> u64
         ensures { result ≡ calls_of self.now }
     {
         self.calls
     }
 
-    /// How many calls failed. A count of `u64::MAX` stays there.
+    /// The number of calls that failed. The count stops at `u64::MAX`.
     pub fn failures(&self) -> u64
         ensures { result ≡ failures_of self.now }
     {
         self.failures
     }
 
-    /// How many bytes the reads gave. A count of `u64::MAX` stays there.
+    /// The number of bytes that the reads gave. The count stops at `u64::MAX`.
     pub fn given(&self) -> u64
         ensures { result ≡ bytes_given self.now }
     {
         self.given
     }
 
-    /// Whether bytes were taken behind the last flush that passed.
+    /// Whether bytes were taken after the last flush that passed.
     pub fn has_unflushed(&self) -> bool
         ensures { result ≡ has_unflushed self.now }
     {
         self.unflushed
     }
 
-    /// The device, as the calls left it.
+    /// Returns the device, as the calls left it.
     pub fn into_inner(self) -> D
         ensures { result ≡ device_of self }
     {
         self.device
     }
 
-    // Counts a call, and where it failed its failure.
+    // Counts a call, and its failure if it failed.
     fn count(&mut self, has_failed: bool)
         ensures calls { calls_of self.new ≡ one_call (calls_of self.old) }
         ensures failures { failures_of self.new ≡ count_failure has_failed (failures_of self.old) }

@@ -1,4 +1,5 @@
--- What a reader answers: one answer fits, open units go on to a spelling, refused ones do not.
+-- The answers of a reader: one answer fits, open units can be completed to a spelling, refused
+-- ones can't.
 use Rattle.std.proofs.Common.{◌≡◌, ℕ, ◌+◌, ◌<◌, ◌≤◌, ◌^◌, Bool, true, false, ◌⊎◌, inl, inr, Option, Some, None, List, [], ◌∷◌, ◌++◌, length, refl, sym, ◌∙◌, ap, arith, append_assoc, length-append}
 use Rattle.std.specs.Prelude.{IsTrue, ◌↔◌}
 use Rattle.std.proofs.lemmas.Bool.{false≢true}
@@ -23,18 +24,18 @@ marks_apart g d e p q =
     let pair : (d, true) ≡ (e, false) = cc in
     false≢true (sym (ap (λ (z : ℕ × Bool). z.1) pair))
 
--- no unit both is one and is none
+-- no byte both is a unit and is none
 none_apart : (g : Option (ℕ × Bool)) (z : ℕ × Bool) → g ≡ None → g ≡ Some z → ⊥
 none_apart g z p q = cc
 
--- two tests of one fact are one
+-- two tests of the same fact are equal
 same_flag : (P : Type 0) (s t : Bool) → (IsTrue s ↔ P) → (IsTrue t ↔ P) → s ≡ t
 same_flag P true true a b = refl
 same_flag P false false a b = refl
 same_flag P true false a b = sym (b.1 (a.0 refl))
 same_flag P false true a b = a.1 (b.0 refl)
 
--- the unit u behind the units us, in a spelling by the digits ds
+-- the unit u comes after the units us in a spelling by the digits ds
 record StandsIn (group : ℕ → Option (ℕ × Bool)) (us : List ℕ) (u : ℕ) (ds : List ℕ) : Type 0 where
   pub digit : ℕ
   pub more : Bool
@@ -42,7 +43,7 @@ record StandsIn (group : ℕ → Option (ℕ × Bool)) (us : List ℕ) (u : ℕ)
   pub goes_on : more ≡ true → length us + 1 < length ds
 
 module _ {bits longest : ℕ} {unit : ℕ → Bool → ℕ} {group : ℕ → Option (ℕ × Bool)} (laws : AlphabetLaws bits longest unit group) where
-  -- each unit of a spelling is one of the alphabet, and goes on only where another follows
+  -- each unit of a spelling is in the alphabet, and says that more follow only if another follows
   stands_in : (us : List ℕ) (u : ℕ) (more ds : List ℕ) → AllBelowBase (2 ^ bits) ds → us ++ u ∷ more ≡ units_of unit ds → StandsIn group us u ds
   stands_in us u more [] below e = absurd (omega (arith, ap length e, length-append us (u ∷ more)))
   stands_in [] u more (d ∷ []) below e =
@@ -57,7 +58,7 @@ module _ {bits longest : ℕ} {unit : ℕ → Bool → ℕ} {group : ℕ → Opt
       let there = stands_in us u more (f ∷ ds) below.1 rest in
       record { digit = there.digit; more = there.more; read = there.read; goes_on = λ t. omega (arith, there.goes_on t) }
 
-  -- the last unit of a spelling has no more after it
+  -- the last unit of a spelling says that no more follow
   last_unit : (us : List ℕ) (u : ℕ) (ds : List ℕ) → AllBelowBase (2 ^ bits) ds → us ++ u ∷ [] ≡ units_of unit ds → (d : ℕ) × (group u ≡ Some (d, false))
   last_unit us u ds below e = go (stands_in us u [] ds below e).digit (stands_in us u [] ds below e).more (stands_in us u [] ds below e).read (stands_in us u [] ds below e).goes_on
     where
@@ -65,11 +66,11 @@ module _ {bits longest : ℕ} {unit : ℕ → Bool → ℕ} {group : ℕ → Opt
       go d false read goes_on = (d, read)
       go d true read goes_on = absurd (omega (arith, goes_on refl, ap length e, length-append us (u ∷ []), length-units_of unit ds))
 
-  -- digits behind units are some
+  -- units before the last one have digits
   some_digits : (us : List ℕ) (u : ℕ) (more ds : List ℕ) → us ++ u ∷ more ≡ units_of unit ds → 1 ≤ length ds
   some_digits us u more ds e = omega (arith, ap length e, length-append us (u ∷ more), length-units_of unit ds)
 
-  -- units of too large a number begin no spelling
+  -- units whose number is too large begin no spelling
   not_above : (us : List ℕ) (u : ℕ) (more : List ℕ) (n : ℕ) → IsAbove unit (2 ^ bits) (us ++ u ∷ []) → IsSpelling unit (2 ^ bits) longest (us ++ u ∷ more) n → ⊥
   not_above us u more n a s =
       let regrouped : (us ++ u ∷ []) ++ more ≡ us ++ u ∷ more = append_assoc us (u ∷ []) more in
@@ -117,9 +118,9 @@ module _ {bits longest : ℕ} {unit : ℕ → Bool → ℕ} {group : ℕ → Opt
   answer_one us u TooLong BadUnit p q = let l = long_reads us u p in absurd (none_apart (group u) (l.0, l.1) q l.2)
   answer_one us u TooLong TooLong p q = refl
 
-  -- ---- what can still come
+  -- ---- what can still follow
 
-  -- open units go on to a spelling: a last digit of 0 ends them
+  -- open units can be completed to a spelling: a last digit of 0 ends them
   pub open_ends : (us : List ℕ) → IsOpen unit (2 ^ bits) longest us → (u n : ℕ) × IsSpelling unit (2 ^ bits) longest (us ++ u ∷ []) n
   open_ends us o =
       let base = base-le bits laws.five in
@@ -152,21 +153,21 @@ module _ {bits longest : ℕ} {unit : ℕ → Bool → ℕ} {group : ℕ → Opt
       go d false read goes_on = marks_apart (group u) long.1.0 d long.1.1 read
   refused_ends us u more n (inr (inr above)) s = not_above us u more n above s
 
-  -- ---- what each answer is due to
+  -- ---- when each answer is due
 
-  -- the last of open units has more after it
+  -- the last of some open units says that more follow
   open_last : (us : List ℕ) (u : ℕ) (ds : List ℕ) → AllBelowBase (2 ^ bits) ds → us ++ u ∷ [] ≡ open_units unit ds → (d : ℕ) × (group u ≡ Some (d, true))
   open_last us u [] below e = absurd (omega (arith, ap length e, length-append us (u ∷ [])))
   open_last [] u (d ∷ ds) below e = let head : u ≡ unit d true = cc in (d, ap group head ∙ laws.read_back d true below.0)
   open_last (x ∷ us) u (d ∷ ds) below e = let rest : us ++ u ∷ [] ≡ open_units unit ds = cc in open_last us u ds below.1 rest
 
-  -- More, where the units with this one are open
+  -- the answer is More if the units with this one are open
   pub due_more : (us : List ℕ) (u : ℕ) (a : Step) → IsOpen unit (2 ^ bits) longest (us ++ u ∷ []) → IsAnswer unit group (2 ^ bits) longest us u a → a ≡ More
   due_more us u a o h =
       let many : length us + 1 ≡ length o.ds = sym (length-append us (u ∷ [])) ∙ ap length o.spelled ∙ length-map o.ds (λ d. unit d true) in
       answer_one us u a More h (omega (arith, o.room), open_last us u o.ds o.below o.spelled)
 
-  -- Done, where this one ends a spelling
+  -- the answer is Done if this unit ends a spelling
   pub due_done : (us : List ℕ) (u n : ℕ) (a : Step) → IsSpelling unit (2 ^ bits) longest (us ++ u ∷ []) n → IsAnswer unit group (2 ^ bits) longest us u a → (short : Bool) × (a ≡ Done n short)
   due_done us u n More s h = let l = done_ends us u n s in absurd (marks_apart (group u) h.1.0 l.0 h.1.1 l.1)
   due_done us u n (Done m short) s h = (short, ap (λ v. Done v short) (spelling_one laws (us ++ u ∷ []) (us ++ u ∷ []) [] [] m n h.0 s refl).1)

@@ -1,16 +1,16 @@
--- Units in front of bytes, and the bits of their ends.
-use Rattle.std.proofs.Common.{◌≡◌, ℕ, suc, ◌+◌, ◌-◌, ◌*◌, ◌/◌, ◌%◌, ◌<◌, ◌≤◌, ◌^◌, Bool, false, inl, inr, List, [], ◌∷◌, length, take, drop, map, get_or, min, max, refl, sym, ◌∙◌, ap, subst, arith, bit_and, bit_or, Fits, w8, w64}
+-- Units at the start of some bytes, and the bits of their ends.
+use Rattle.std.proofs.Common.{◌≡◌, ℕ, suc, ◌+◌, ◌-◌, ◌*◌, ◌/◌, ◌%◌, ◌<◌, ◌≤◌, ◌^◌, Bool, true, false, inl, inr, List, [], ◌∷◌, length, take, drop, map, get_or, min, max, refl, sym, ◌∙◌, ap, subst, arith, bit_and, bit_or, Fits, w8, w64}
 use lib.Lanes.{mask_l, zip2, Each1}
 use lib.ListN.{replicate}
 use mathlib.Core.Bool.{cond}
 use Rattle.std.specs.Prelude.{nat_eq, nat_lt}
 use Rattle.std.specs.Int.{bit_at, bit_not, trailing_zeros}
-use Rattle.std.proofs.lemmas.Bool.{cases_lt, eq-eqb, lt-ltb, le-ltb}
+use Rattle.std.proofs.lemmas.Bool.{cases_lt, eq-eqb, lt-ltb, le-ltb, ltb-true, eqb-true}
 use Rattle.std.proofs.lemmas.List.{drop-drop, drop-map, get_or-drop, get_or-map, get_or-take, get_or_past, length-drop, length-map, length-take-le, map-append, length-take, take-map, take-take, take_all, take_rest, drop-take}
 use Rattle.std.proofs.lemmas.Nat.{and_le_l, le_or_r, or_lt, shr-shr}
-use Rattle.std.proofs.lemmas.Nat.Bits.{bit_at-suc, bit_at_and, bit_at_or, bit_at_not, bit_at-trailing_zeros}
+use Rattle.std.proofs.lemmas.Nat.Bits.{bit_at-suc, bit_at_and, bit_at_or, bit_at_not, bit_at-pow_other, bit_at-trailing_zeros}
 use Rattle.std.proofs.lemmas.Simd.{bit_mask_l, chunk-fits, mask_l-lt}
-use Rattle.twkb_num.specs.Block.{units_in, AreUnits, AreEnds, AreMarks, AreEndsBefore}
+use Rattle.twkb_num.specs.Block.{units_in, AreUnits, AreEnds, AreMarks, AreEndsBefore, IsFault}
 use Rattle.twkb_num.specs.declared.block.Marks.{Marks}
 use Rattle.twkb_num.proofs.FoundLemmas.{take_apart}
 use Rattle.twkb_num.proofs.LaneLemmas.{lanes_are, wrapped_sub}
@@ -20,7 +20,7 @@ use Rattle.twkb_num.proofs.TwoLemmas.{AreLanes}
 
 -- ---- marks of more units
 
--- those of some units, and of others after them
+-- the marks of some units and of the units after them, joined
 pub marks_joined : (p : ℕ → Bool) (base n m : ℕ) (bytes : List ℕ) → n ≤ length bytes
     → mask_l (map p (units_in base (take (n + m) bytes))) ≡ mask_l (map p (units_in base (take n bytes))) + 2 ^ n * mask_l (map p (units_in base (take m (drop n bytes))))
 marks_joined p base n m bytes long =
@@ -34,7 +34,7 @@ marks_joined p base n m bytes long =
     ∙ mask_l-append (map p front) (map p next)
     ∙ ap (λ k. mask_l (map p front) + 2 ^ k * mask_l (map p next)) count
 
--- no more bits than units
+-- there are at most as many bits as units
 pub marks_small : (p : ℕ → Bool) (base n : ℕ) (bytes : List ℕ) → n ≤ length bytes → mask_l (map p (units_in base (take n bytes))) < 2 ^ n
 marks_small p base n bytes long =
     let unit = λ (b : ℕ). (b + (2 ^ 8 - base)) % 2 ^ 8 in
@@ -43,17 +43,17 @@ marks_small p base n bytes long =
     let power : 2 ^ length (map p us) ≡ 2 ^ n = ap (λ k. 2 ^ k) count in
     omega (arith, mask_l-lt (map p us))
 
--- ---- ends in front of a fault
+-- ---- ends before a fault
 
--- the bit of a unit
+-- the bit of one unit among the marks
 bit_of : (p : ℕ → Bool) (us : List ℕ) (k : ℕ) → k < length us → bit_at (mask_l (map p us)) k ≡ cond (p (get_or us k 0)) 1 0
 bit_of p us k within = bit_mask_l (map p us) k ∙ ap (λ b. cond b 1 0) (get_or-map p us k 0 false within)
 
--- what marks a fault, and the last bit
+-- the bits of the units at fault, and the last bit
 abbrev pub faults_of : Marks → ℕ
 faults_of m = bit_or (bit_or m.bad (bit_and (m.zeros / 2) (bit_not w64 m.ends))) 9223372036854775808
 
--- it has 64 bits, some of them set
+-- the fault bits have 64 bits, and one of them is set
 pub faults_fit : (m : Marks) → Fits w64 m.bad → Fits w64 m.zeros → (faults_of m < 2 ^ 64) × (0 < faults_of m)
 faults_fit m bad zeros =
     let behind = bit_and (m.zeros / 2) (bit_not w64 m.ends) in
@@ -62,7 +62,48 @@ faults_fit m bad zeros =
     let both = or_lt 64 m.bad behind bad_fits behind_fits in
     (or_lt 64 (bit_or m.bad behind) 9223372036854775808 both (omega arith), omega (arith, le_or_r (bit_or m.bad behind) 9223372036854775808))
 
--- no unit in front of the first is at fault
+-- a unit that is marked is there, and is what it is marked as
+marked : (p : ℕ → Bool) (us : List ℕ) (n k : ℕ) → n ≡ mask_l (map p us) → 0 < bit_at n k → (k < length us) × (p (get_or us k 0) ≡ true)
+marked p us n k is some = elim (cases_lt k (length us)) [
+  | inl within ↦ (within, set (p (get_or us k 0)) (let bit = ap (λ m. bit_at m k) is ∙ bit_of p us k within in omega arith))
+  | inr beyond ↦
+      let past : get_or (map p us) k false ≡ false = get_or_past (map p us) k false (omega (arith, length-map us p)) in
+      let none : bit_at n k ≡ 0 = ap (λ m. bit_at m k) is ∙ bit_mask_l (map p us) k ∙ ap (λ b. cond b 1 0) past in
+      absurd (omega arith)
+]
+  where
+    set : (b : Bool) → 0 < cond b 1 0 → b ≡ true
+    set true h = refl
+    set false h = absurd (omega (arith, h))
+
+-- the first fault among the first 63 units is a unit at fault
+first_fault : (m : Marks) (t radix most : ℕ) (us : List ℕ) → Fits w64 m.ends → t < 63 → bit_at (faults_of m) t ≡ 1 → AreMarks radix most us m → IsFault radix most us t
+first_fault m t radix most us ends_fit few set are =
+    let behind = bit_and (m.zeros / 2) (bit_not w64 m.ends) in
+    let top : bit_at 9223372036854775808 t ≡ 0 = bit_at-pow_other 63 t (λ e. absurd (omega (arith, e))) in
+    let outer = bit_at_or (bit_or m.bad behind) 9223372036854775808 t in
+    let inner = bit_at_or m.bad behind t in
+    elim (cases_lt 0 (bit_at m.bad t)) [
+      | inl bad ↦ inl (let is = marked (λ u. nat_lt most u) us m.bad t are.bad bad in ltb-true most (get_or us t 0) is.1)
+      | inr good ↦
+          let split = bit_at_and (m.zeros / 2) (bit_not w64 m.ends) t in
+          let half = bit_at-suc m.zeros t in
+          let zero_set : 0 < bit_at m.zeros (suc t) = omega arith in
+          let is = marked (λ u. nat_eq u 0) us m.zeros (suc t) are.zeros zero_set in
+          let small : m.ends < 2 ^ 64 = omega arith in
+          let unset = bit_at_not w64 m.ends t small (omega (arith, few)) in
+          inr (is.0, eqb-true (get_or us (suc t) 0) 0 is.1, goes_on (omega (arith, is.0)) (omega arith))
+    ]
+  where
+    goes_on : t < length us → bit_at m.ends t ≡ 0 → radix ≤ get_or us t 0
+    goes_on within none =
+        let bit = ap (λ n. bit_at n t) are.ends ∙ bit_of (λ u. nat_lt u radix) us t within in
+        elim (cases_lt (get_or us t 0) radix) [
+          | inl less ↦ let set = rw (lt-ltb (get_or us t 0) radix less) at bit in absurd (omega arith)
+          | inr more ↦ more
+        ]
+
+-- no unit before the first fault is at fault
 pub ends_before : (m : Marks) (t radix most : ℕ) (us : List ℕ) → Fits w64 m.ends → Fits w64 m.bad → Fits w64 m.zeros
     → t ≡ trailing_zeros w64 (faults_of m) → AreMarks radix most us m → AreEndsBefore radix most us (m.ends % 2 ^ t)
 ends_before m t radix most us ends_fit bad_fit zeros_fit is are =
@@ -78,6 +119,7 @@ ends_before m t radix most us ends_fit bad_fit zeros_fit is are =
       marks = ap (λ n. n % 2 ^ t) are.ends ∙ mask_l-take t (map (λ u. nat_lt u radix) us) ∙ ap mask_l (take-map (λ u. nat_lt u radix) t us);
       below = λ k low within. not_bad k within (let both = clear k low in omega arith);
       shortest = λ k low within is_zero. ends_there k within is_zero (omega (arith, lowest.0)) (let both = clear k low in omega arith);
+      far = λ few. first_fault m t radix most us ends_fit few (subst (λ k. bit_at (faults_of m) k ≡ 1) (sym is) lowest.1) are;
     }
   where
     not_bad : (k : ℕ) → k < length us → bit_at m.bad k ≡ 0 → get_or us k 0 ≤ most
@@ -102,9 +144,9 @@ ends_before m t radix most us ends_fit bad_fit zeros_fit is are =
           | inr large ↦ let not_set = rw (le-ltb (get_or us k 0) radix large) at end_bit in absurd (omega arith)
         ]
 
--- ---- these as ends of numbers in bytes
+-- ---- ends of numbers in bytes
 
--- bytes that are units and their base
+-- bytes are their units plus the base
 pub same_units : (base most : ℕ) (bytes : List ℕ) → most + base < 256 → Each1 (Fits w8) bytes → ((k : ℕ) → k < length bytes → get_or (units_in base bytes) k 0 ≤ most)
     → bytes ≡ map (λ u. u + base) (units_in base bytes)
 same_units base most [] room fit few = refl
@@ -115,14 +157,14 @@ same_units base most (b ∷ bytes) room fit few =
     let rest = same_units base most bytes room fit.1 (λ k low. few (suc k) (omega arith)) in
     rw first (ap (λ bs. b ∷ bs) rest)
 
--- a unit that there is not is 0
+-- a unit past the end of the list reads as 0
 pub all_below : (us : List ℕ) (bound : ℕ) → 0 < bound → ((k : ℕ) → k < length us → get_or us k 0 < bound) → (k : ℕ) → get_or us k 0 < bound
 all_below us bound some each k = elim (cases_lt k (length us)) [
   | inl within ↦ each k within
   | inr beyond ↦ let past = get_or_past us k 0 beyond in omega arith
 ]
 
--- The ends of so many bytes in front.
+-- The ends among the first n bytes.
 pub ends_of : (base radix most n ends : ℕ) (bytes : List ℕ) → most < 2 * radix → most + base < 256 → n ≤ length bytes → ((k : ℕ) → Fits w8 (get_or bytes k 0))
     → AreEndsBefore radix most (units_in base (take n bytes)) ends → AreEnds base radix bytes ends
 ends_of base radix most n ends bytes bound room long fit before =
@@ -160,14 +202,14 @@ ends_of base radix most n ends bytes bound room long fit before =
           | inr more ↦ let e : j ≡ min i j = omega arith in take_all i (take j bs) (omega (arith, length-take j bs)) ∙ ap (λ k. take k bs) e
         ]
 
--- none, where there are too few bytes
+-- there are no ends if there are too few bytes
 pub no_ends : (base radix : ℕ) (bytes : List ℕ) → 0 < radix → AreEnds base radix bytes 0
 no_ends base radix bytes some = record {
   units = [];
   are = record { within = omega arith; same = refl; below = λ k. omega arith; shortest = λ k low is_zero. omega arith; marks = refl };
 }
 
--- Behind some of the units the ends are those that are left.
+-- Shifting the ends by the units used gives the ends of the units after them.
 pub ends_dropped : (base radix used : ℕ) (bytes us : List ℕ) (ends : ℕ) → AreUnits base radix bytes us ends → used ≤ length us → AreEnds base radix (drop used bytes) (ends / 2 ^ used)
 ends_dropped base radix used bytes us ends read within =
     let bytes_long = length-drop used bytes in
@@ -191,7 +233,7 @@ ends_dropped base radix used bytes us ends read within =
       };
     }
 
--- Sixteen bytes as lanes hold these units.
+-- Sixteen bytes, loaded as lanes, hold these units.
 pub lanes_read : (base radix : ℕ) (bytes us : List ℕ) (ends : ℕ) → 16 ≤ length bytes → ((k : ℕ) → Fits w8 (get_or bytes k 0)) → AreUnits base radix bytes us ends
     → AreLanes (zip2 wrapped_sub (take 16 bytes) (replicate 16 base)) us
 lanes_read base radix bytes us ends long fit read =
@@ -209,14 +251,14 @@ lanes_read base radix bytes us ends long fit read =
       same = λ k low within. let is = lane k low in let at = byte k within in let small = fit k in omega arith;
     })
 
--- the ends that are left behind some bytes of a slice
+-- ends of a slice cut at i, after j bytes, are the ends after i + j bytes
 pub ends_after : (base radix : ℕ) (bytes : List ℕ) (ends i j : ℕ) → AreEnds base radix (drop j (take (length bytes - i) (drop i bytes))) ends → AreEnds base radix (drop (i + j) bytes) ends
 ends_after base radix bytes ends i j are = subst (λ l. AreEnds base radix l ends) (ap (drop j) (take_rest bytes i) ∙ drop-drop j i bytes) are
 
--- the same by one shift
+-- two shifts of the ends, by i and by j, are one by i + j
 pub ends_behind : (base radix : ℕ) (bytes : List ℕ) (ends i j : ℕ) → AreEnds base radix (drop j (take (length bytes - i) (drop i bytes))) (ends / 2 ^ i / 2 ^ j) → AreEnds base radix (drop (i + j) bytes) (ends / 2 ^ (i + j))
 ends_behind base radix bytes ends i j are = subst (λ n. AreEnds base radix (drop (i + j) bytes) n) (shr-shr ends i j) (ends_after base radix bytes (ends / 2 ^ i / 2 ^ j) i j are)
 
--- as a slice has them
+-- ends after i bytes are those of the slice cut there
 pub ends_in_slice : (base radix : ℕ) (bytes : List ℕ) (ends i : ℕ) → AreEnds base radix (drop i bytes) ends → AreEnds base radix (take (length bytes - i) (drop i bytes)) ends
 ends_in_slice base radix bytes ends i are = subst (λ l. AreEnds base radix l ends) (sym (take_rest bytes i)) are

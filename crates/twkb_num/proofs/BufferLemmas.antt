@@ -8,15 +8,15 @@ use Rattle.std.proofs.Common.{inl, inr}
 use Rattle.twkb_num.specs.Spelling.{shortest}
 use Rattle.twkb_num.proofs.SpellingLemmas.{shortest_one, shortest_more}
 
--- the code's mask
+-- the code's mask takes the remainder by a power of 2
 pub masked : (n bits : ℕ) → bits < 64 → bit_and n ((1 * 2 ^ bits) % 2 ^ 64 - 1) ≡ n % 2 ^ bits
 masked n bits h = rw (one_shl bits 64 h) (and_mask n bits)
 
--- an alphabet has 32 digits at least
+-- an alphabet has at least 32 digits
 pub base-le : (bits : ℕ) → 5 ≤ bits → 32 ≤ 2 ^ bits
 base-le bits h = pow-le-pow_right {n = 2} (lit< tt) h
 
--- a number with a quotient is not below the base
+-- a number whose quotient is not 0 is not below the base
 pub large_from_high : (n base : ℕ) → (n / base ≡ 0 → ⊥) → base ≤ n
 large_from_high n base h =
     elim (cases_lt n base) [
@@ -24,7 +24,7 @@ large_from_high n base h =
       | inr large ↦ large
     ]
 
--- the last unit, written behind the others, completes the spelling
+-- the last unit, written after the others, completes the spelling
 pub put_one : (unit : ℕ → Bool → ℕ) (base : ℕ) (units : List ℕ) (len rest number u : ℕ) → len < length units → rest < base → u ≡ unit rest false
     → take len units ++ shortest unit base rest ≡ shortest unit base number
     → take (len + 1) (set units len u) ≡ shortest unit base number
@@ -34,7 +34,7 @@ put_one unit base units len rest number u within small read spelled =
     ∙ ap (λ us. take len units ++ us) (sym (shortest_one unit base rest small))
     ∙ spelled
 
--- a unit with more after it, written behind the others, leaves the spelling of the quotient
+-- a unit that says that more follow, written after the others, leaves the spelling of the quotient
 pub put_more : (unit : ℕ → Bool → ℕ) (base : ℕ) (units : List ℕ) (len rest number u : ℕ) → 2 ≤ base → len < length units → base ≤ rest → u ≡ unit (rest % base) true
     → take len units ++ shortest unit base rest ≡ shortest unit base number
     → take (len + 1) (set units len u) ++ shortest unit base (rest / base) ≡ shortest unit base number
@@ -56,7 +56,7 @@ rest_small base len rest p small =
     let e : high * 32 ^ (len + 1) ≡ (high * 32) * 32 ^ len = rw (add-one, pow-suc 32 len) (omega arith) in
     omega arith
 
--- so there is room for another unit while the rest is not below the base
+-- there is room for another unit while the rest is not below the base
 pub room_left : (base len rest : ℕ) → 32 ≤ base → base ≤ rest → rest * 32 ^ len < 2 ^ 64 → len + 1 ≤ 12
 room_left base len rest p large small =
     elim (cases_lt len 12) [
@@ -67,7 +67,7 @@ room_left base len rest p large small =
           absurd (omega arith)
     ]
 
--- a number with no quotient is below the base
+-- a number whose quotient is 0 is below the base
 pub low_from_high : (n base : ℕ) → 0 < base → n / base ≡ 0 → n < base
 low_from_high n base p h =
     elim (cases_lt n base) [

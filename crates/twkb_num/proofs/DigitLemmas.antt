@@ -8,13 +8,13 @@ use Rattle.twkb_num.specs.Digits.{digits, digits_within, number_of, low_digits}
 
 -- ---- one digit
 
--- the remainder of a digit and the others above it
+-- the remainder of a digit plus higher digits is the digit
 pub low_digit : (base d n : ℕ) → d < base → (d + base * n) % base ≡ d
 low_digit base d n h =
     let turned : d + base * n ≡ d + n * base = omega arith in
     rw (turned, add-mul-mod_self_right d n base) (mod-eq_of_lt h)
 
--- the quotient
+-- the quotient of a digit plus higher digits is the number of the higher ones
 pub high_digits : (base d n : ℕ) → d < base → (d + base * n) / base ≡ n
 high_digits base d n h =
     let above : 0 < base = omega arith in
@@ -23,12 +23,12 @@ high_digits base d n h =
 
 -- ---- the number that digits stand for
 
--- digits above others count from their place on
+-- the number of two lists of digits: the second counts from its place on
 pub number_of-append : (base : ℕ) (xs ys : List ℕ) → number_of base (xs ++ ys) ≡ number_of base xs + base ^ length xs * number_of base ys
 number_of-append base [] ys = rw (pow-zero base) (omega arith)
 number_of-append base (x ∷ xs) ys = rw (number_of-append base xs ys, pow-suc base (length xs)) (omega arith)
 
--- one digit more, above the others
+-- the number of some digits with one more above them
 pub number_of-push : (base : ℕ) (xs : List ℕ) (d : ℕ) → number_of base (xs ++ d ∷ []) ≡ number_of base xs + base ^ length xs * d
 number_of-push base xs d = rw (number_of-append base xs (d ∷ [])) (omega arith)
 
@@ -40,7 +40,7 @@ number_of-lt base (d ∷ ds) below =
     let product : base * (number_of base ds + 1) ≤ base * base ^ length ds = mul-le-mul_left base (let q : number_of base ds + 1 ≤ base ^ length ds = omega arith in q) in
     rw (pow-suc base (length ds)) (omega (arith, below.0))
 
--- as many digits for the same number are the same digits
+-- two lists of equally many digits for the same number are equal
 pub number_of-same : (base : ℕ) (ds es : List ℕ) → AllBelowBase base ds → AllBelowBase base es → length ds ≡ length es → number_of base ds ≡ number_of base es → ds ≡ es
 number_of-same base [] [] p q l e = refl
 number_of-same base [] (d ∷ es) p q l e = absurd (omega arith)
@@ -53,19 +53,19 @@ number_of-same base (d ∷ ds) (f ∷ es) p q l e =
     let rest = number_of-same base ds es p.1 q.1 (omega arith) others in
     cc
 
--- one digit more is below the base too
+-- digits below the base stay so with one more such digit
 pub AllBelowBase-push : (base : ℕ) (ds : List ℕ) (d : ℕ) → AllBelowBase base ds → d < base → AllBelowBase base (ds ++ d ∷ [])
 AllBelowBase-push base [] d below h = (h, tt)
 AllBelowBase-push base (x ∷ ds) d below h = (below.0, AllBelowBase-push base ds d below.1 h)
 
 -- ---- the lowest digits
 
--- k of them
+-- there are k lowest digits
 pub length-low_digits : (base k n : ℕ) → length (low_digits base k n) ≡ k
 length-low_digits base zero n = refl
 length-low_digits base (suc k) n = ap suc (length-low_digits base k (n / base))
 
--- each below the base
+-- each of the lowest digits is below the base
 pub low_digits_below : (base k n : ℕ) → 0 < base → AllBelowBase base (low_digits base k n)
 low_digits_below base zero n p = tt
 low_digits_below base (suc k) n p = (mod_below n base p, low_digits_below base k (n / base) p)
@@ -74,13 +74,13 @@ low_digits_below base (suc k) n p = (mod_below n base p, low_digits_below base k
 high_below : (base k n : ℕ) → 0 < base → n < base ^ suc k → n / base < base ^ k
 high_below base k n p h = div_below n base (base ^ k) p (let e = rw (pow-suc base k) at h in e)
 
--- they stand for a number below the power
+-- the lowest k digits of a number below base ^ k stand for the number
 pub number_of-low_digits : (base k n : ℕ) → 0 < base → n < base ^ k → number_of base (low_digits base k n) ≡ n
 number_of-low_digits base zero n p h = let e = rw (pow-zero base) at h in omega arith
 number_of-low_digits base (suc k) n p h =
     rw (number_of-low_digits base k (n / base) p (high_below base k n p h)) (omega (arith, div-add-mod' n base))
 
--- one digit more, above the lowest k
+-- the lowest k digits with one more above them
 pub low_digits-push : (base k n d : ℕ) → n < base ^ k → d < base → low_digits base (suc k) (n + d * base ^ k) ≡ low_digits base k n ++ d ∷ []
 low_digits-push base zero n d h b =
     let small = rw (pow-zero base) at h in
@@ -99,17 +99,17 @@ digits_within-small : (f base n : ℕ) → n < base → digits_within (suc f) ba
 unfolding digits_within
 digits_within-small f base n h = rw (lt-ltb n base h, digits_within) refl
 
--- any other takes a turn
+-- any other number takes a turn
 digits_within-large : (f base n : ℕ) → base ≤ n → digits_within (suc f) base n ≡ (n % base) ∷ digits_within f base (n / base)
 unfolding digits_within
 digits_within-large f base n h = rw (le-ltb n base h, digits_within) refl
 
--- with no turn left the rest is the last digit
+-- with no turn left the rest of the number is the last digit
 digits_within-zero : (base n : ℕ) → digits_within 0 base n ≡ n ∷ []
 unfolding digits_within
 digits_within-zero base n = refl
 
--- more turns change nothing
+-- more turns than needed change nothing
 digits_within-turns : (f g base n : ℕ) → 2 ≤ base → n ≤ f → n ≤ g → digits_within f base n ≡ digits_within g base n
 digits_within-turns zero zero base n p a b = refl
 digits_within-turns zero (suc g) base n p a b = digits_within-zero base n ∙ sym (digits_within-small g base n (omega arith))
@@ -130,7 +130,7 @@ unfolding digits
 digits_one base zero h = digits_within-zero base 0
 digits_one base (suc n) h = digits_within-small n base (suc n) h
 
--- any other has its remainder as lowest digit
+-- any other number has its remainder as its lowest digit
 pub digits_more : (base n : ℕ) → 2 ≤ base → base ≤ n → digits base n ≡ (n % base) ∷ digits base (n / base)
 unfolding digits
 digits_more base zero p h = absurd (omega arith)
@@ -139,7 +139,7 @@ digits_more base (suc n) p h =
     digits_within-large n base (suc n) h
     ∙ ap (λ ds. (suc n % base) ∷ ds) (digits_within-turns n (suc n / base) base (suc n / base) p (omega arith) (omega arith))
 
--- the digits stand for the number, however many turns
+-- the digits stand for the number, whatever the number of turns
 number_of-digits_within : (f base n : ℕ) → 2 ≤ base → number_of base (digits_within f base n) ≡ n
 number_of-digits_within zero base n p = rw (digits_within-zero base n) (omega arith)
 number_of-digits_within (suc f) base n p =
@@ -148,7 +148,7 @@ number_of-digits_within (suc f) base n p =
       | inr large ↦ rw (digits_within-large f base n large, number_of-digits_within f base (n / base) p) (omega (arith, div-add-mod' n base))
     ]
 
--- with as many turns as the number each digit is below the base
+-- with as many turns as the number, each digit is below the base
 digits_within_below : (f base n : ℕ) → 2 ≤ base → n ≤ f → AllBelowBase base (digits_within f base n)
 digits_within_below zero base n p h = rw (digits_within-zero base n) (omega arith, tt)
 digits_within_below (suc f) base n p h =
@@ -169,7 +169,7 @@ pub digits_below : (base n : ℕ) → 2 ≤ base → AllBelowBase base (digits b
 unfolding digits
 digits_below base n p = digits_within_below n base n p (omega arith)
 
--- at most k digits below a power
+-- a number below base ^ k has at most k digits
 pub length-digits-le : (base k n : ℕ) → 2 ≤ base → n < base ^ suc k → length (digits base n) ≤ suc k
 length-digits-le base zero n p h =
     let small : n < base = let e = rw (pow-suc base 0, pow-zero base) at h in omega arith in
@@ -188,13 +188,13 @@ EndsAbove [] = ⊥
 EndsAbove (d ∷ []) = 0 < d
 EndsAbove (d ∷ e ∷ ds) = EndsAbove (e ∷ ds)
 
--- it is where a digit above 0 is put last
+-- the last digit is above 0 if a digit above 0 is put last
 pub EndsAbove-push : (ds : List ℕ) (d : ℕ) → 0 < d → EndsAbove (ds ++ d ∷ [])
 EndsAbove-push [] d h = h
 EndsAbove-push (x ∷ []) d h = h
 EndsAbove-push (x ∷ y ∷ ds) d h = EndsAbove-push (y ∷ ds) d h
 
--- such digits stand for a number above 0
+-- digits whose last is above 0 stand for a number above 0
 number_of-above : (base : ℕ) (ds : List ℕ) → 0 < base → EndsAbove ds → 0 < number_of base ds
 number_of-above base [] p h = absurd h
 number_of-above base (d ∷ []) p h = omega arith

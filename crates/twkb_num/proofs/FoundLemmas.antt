@@ -1,4 +1,4 @@
--- Four numbers that are found among units.
+-- Four numbers found among units.
 use Rattle.std.proofs.Common.{◌≡◌, ℕ, zero, suc, ◌+◌, ◌-◌, ◌*◌, ◌%◌, ◌<◌, ◌≤◌, ◌^◌, ◌⊎◌, Bool, true, false, inl, inr, List, [], ◌∷◌, ◌++◌, length, take, drop, map, get_or, refl, sym, ◌∙◌, ap, arith}
 use Rattle.std.specs.Prelude.{nat_lt}
 use Rattle.std.proofs.Math.Nat.{pow-suc, pow-le-pow_right, one-le-pow}
@@ -27,7 +27,7 @@ before_run radix (u ∷ us) (suc k) h =
       | inr large ↦ let more = rw (le-ltb u radix large) at h in before_run radix us k (omega arith)
     ]
 
--- four groups have 28 bits at most
+-- the number of four groups has at most 28 bits
 number_below : (radix more : ℕ) (us : List ℕ) → 1 ≤ radix → radix ≤ 128 → number_in_front radix more us < 128 ^ suc more
 number_below radix more [] p q = one-le-pow (suc more) 128 (omega arith)
 number_below radix zero (u ∷ us) p q = let digit : u % radix < radix = mod_below u radix p in omega arith
@@ -37,7 +37,7 @@ number_below radix (suc more) (u ∷ us) p q =
     let product : radix * number_in_front radix more us ≤ 128 * number_in_front radix more us = mul-le radix (number_in_front radix more us) 128 (number_in_front radix more us) q (omega arith) in
     rw (pow-suc 128 (suc more)) (omega arith)
 
--- so has a number of four units
+-- a number of at most four units has at most 28 bits
 pub number_small : (radix more : ℕ) (us : List ℕ) → (radix ≡ 128) ⊎ (radix ≡ 32) → more ≤ 3 → number_in_front radix more us < 2 ^ 28
 number_small radix more us alphabet short =
     let above : 1 ≤ radix = elim alphabet [ inl e ↦ omega arith | inr e ↦ omega arith ] in
@@ -81,20 +81,20 @@ spelled_at base radix at bytes us ends more n alphabet read more_is within n_is 
               absurd (omega arith)
         ]
 
--- none of no units
+-- taking from an empty list gives an empty list
 take_none : (j : ℕ) (us : List ℕ) → us ≡ [] → take j us ≡ []
 take_none zero us none = refl
 take_none (suc j) [] none = refl
 take_none (suc j) (u ∷ us) none = absurd (cc)
 
--- a list up to a place, and from there on
+-- a list up to a place is its part before an earlier place and the part between
 pub take_apart : (i j k : ℕ) (us : List ℕ) → k ≡ i + j → take k us ≡ take i us ++ take j (drop i us)
 take_apart zero j k us is = ap (λ n. take n us) (let e : k ≡ j = omega arith in e)
 take_apart (suc i) j k [] is = take_none k [] refl ∙ sym (take_none j [] refl)
 take_apart (suc i) j zero (u ∷ us) is = absurd (omega arith)
 take_apart (suc i) j (suc k) (u ∷ us) is = ap (λ xs. u ∷ xs) (take_apart i j k us (omega arith))
 
--- the units of one number, and those behind it
+-- the units of one number, and the units after it
 piece : (at more next rest whole : ℕ) (us : List ℕ) → next ≡ at + suc more → whole ≡ suc more + rest
     → take whole (drop at us) ≡ take (suc more) (drop at us) ++ take rest (drop next us)
 piece at more next rest whole us next_is whole_is =
@@ -120,7 +120,7 @@ four_pieces f i j k l second third fourth count us ks bs cs ds second_is third_i
     ap (map f) r ∙ map-append f (take (suc k) (drop third us)) (take (count - fourth) (drop fourth us))
     ∙ rw three (ap (λ xs. cs ++ xs) (ap (map f) s ∙ four))))))
 
--- Four numbers, each by the marks.
+-- Four numbers found by the marks of their last units.
 pub four_found : (base radix : ℕ) (bytes us : List ℕ) (ends i j k l second third fourth count a b c d : ℕ)
     → (radix ≡ 128) ⊎ (radix ≡ 32) → AreUnits base radix bytes us ends → AreFour (marks_of radix us) i j k l second third fourth count
     → a ≡ number_in_front radix i (drop 0 us) → b ≡ number_in_front radix j (drop second us)
@@ -148,24 +148,24 @@ four_found base radix bytes us ends i j k l second third fourth count a b c d al
       fourth_small = rw d_is (number_small radix l (drop fourth us) alphabet are.fourth_short);
     }
 
--- ---- units that are written in two ways
+-- ---- units written in two ways
 
--- as units of digits
+-- two ways to write units agree on the units of digits
 units_same : (unit other : ℕ → Bool → ℕ) → ((d : ℕ) (more : Bool) → unit d more ≡ other d more) → (ds : List ℕ) → units_of unit ds ≡ units_of other ds
 units_same unit other same [] = refl
 units_same unit other same (d ∷ []) = ap (λ u. u ∷ []) (same d false)
 units_same unit other same (d ∷ e ∷ ds) = ap (λ u. u ∷ units_of unit (e ∷ ds)) (same d true) ∙ ap (λ us. other d true ∷ us) (units_same unit other same (e ∷ ds))
 
--- as the bytes of varints
+-- units over base 0 are the bytes of varints
 leb_same : (d : ℕ) (more : Bool) → unit_over 0 128 d more ≡ leb_unit d more
 leb_same d true = omega arith
 leb_same d false = omega arith
 
--- so the shortest spelling over 0 is the shortest varint
+-- the shortest spelling over base 0 is the shortest varint
 pub leb_spelled : (n : ℕ) → shortest (unit_over 0 128) 128 n ≡ shortest leb_unit 128 n
 leb_spelled n = units_same (unit_over 0 128) leb_unit leb_same (digits 128 n)
 
--- and four numbers that are found are four varints
+-- four numbers found over base 0 are four varints
 pub four_as_varints : (bytes : List ℕ) (a b c d count : ℕ) → FourInFront (unit_over 0 128) 128 bytes a b c d count → FourInFront leb_unit 128 bytes a b c d count
 four_as_varints bytes a b c d count found =
     record {

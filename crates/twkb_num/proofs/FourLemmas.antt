@@ -1,4 +1,4 @@
--- Units that stand for a number, and the shortest spelling that they are.
+-- The number that units stand for, and that they are its shortest spelling.
 use Rattle.std.proofs.Common.{◌≡◌, ℕ, suc, ◌+◌, ◌-◌, ◌*◌, ◌%◌, ◌<◌, ◌≤◌, Bool, inl, inr, List, [], ◌∷◌, length, take, map, get_or, sym, ◌∙◌, ap, arith}
 use Rattle.std.specs.Prelude.{nat_lt}
 use Rattle.std.proofs.Math.Nat.{mod-eq_of_lt, mul-le-mul_left}
@@ -9,7 +9,7 @@ use Rattle.twkb_num.specs.Spelling.{shortest}
 use Rattle.twkb_num.proofs.DigitLemmas.{low_digit, high_digits}
 use Rattle.twkb_num.proofs.SpellingLemmas.{shortest_one, shortest_more}
 
--- the marks of units: each that ends a number
+-- the marks of units: one for each unit that ends a number
 abbrev pub marks_of : ℕ → List ℕ → List Bool
 marks_of radix us = map (λ u. nat_lt u radix) us
 
@@ -31,7 +31,8 @@ number_above radix (u ∷ us) p h above =
           rw goes_on (omega arith)
     ]
 
--- Units up to the first that ends a number are the shortest spelling of their number, where the last is no 0 behind others.
+-- Units up to the first that ends a number are the shortest spelling of their number, unless the
+-- last is a 0 after others.
 pub number_spelled : (base radix : ℕ) (us : List ℕ) → 2 ≤ radix → ((k : ℕ) → get_or us k 0 < 2 * radix)
     → run_of (marks_of radix us) < length us → (0 < run_of (marks_of radix us) → 0 < get_or us (run_of (marks_of radix us)) 0)
     → map (λ u. u + base) (take (suc (run_of (marks_of radix us))) us) ≡ shortest (unit_over base radix) radix (number_in_front radix (run_of (marks_of radix us)) us)

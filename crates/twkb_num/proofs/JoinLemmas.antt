@@ -1,4 +1,4 @@
--- The groups of sixteen bytes joined to four numbers, first by twos.
+-- The groups of sixteen bytes joined to four numbers, first two by two.
 use Rattle.std.proofs.Common.{◌≡◌, ℕ, zero, suc, ◌+◌, ◌*◌, ◌/◌, ◌%◌, ◌<◌, ◌^◌, ◌⊎◌, inl, inr, List, [], ◌∷◌, length, map, refl, sym, ◌∙◌, ap, arith, Fits, w8}
 use lib.Lanes.{number_l, digits_l, Each1}
 use Rattle.std.proofs.Math.Nat.{pow-suc, pow-zero}
@@ -6,23 +6,23 @@ use Rattle.std.proofs.lemmas.Nat.{div_below}
 use Rattle.twkb_num.specs.Four.{joined_groups}
 use Rattle.twkb_num.proofs.PlaceLemmas.{digits-number, word_of, groups_are, four_same}
 
--- ---- as lanes compute it
+-- ---- the sums as lanes compute them
 
--- the groups of a word's two bytes
+-- the number of the groups in a word's two bytes
 abbrev two_of : ℕ → ℕ → ℕ
 two_of radix word = (word % 256 + word / 256 * radix % 65536) % 65536
 
--- the numbers of a word's two halves
+-- the number of a word's two halves
 abbrev lane_of : ℕ → ℕ → ℕ
 lane_of square lane = (lane % 65536 + lane / 65536 * square % 4294967296) % 4294967296
 
--- both, of a word of four bytes
+-- a word of four bytes joined by twos, then by pairs
 abbrev word_joined : ℕ → ℕ → ℕ → ℕ
 word_joined radix square word = lane_of square (two_of radix (word % 65536) + 65536 * two_of radix (word / 65536))
 
 -- ---- bytes of numbers and back
 
--- a number of its digits
+-- a number equals the number of its digits
 number-digits : (p k n : ℕ) → 0 < p → n < p ^ k → number_l p (digits_l p k n) ≡ n
 number-digits p zero n some below = let one = pow-zero p in omega arith
 number-digits p (suc k) n some below =
@@ -30,7 +30,7 @@ number-digits p (suc k) n some below =
     let rest = number-digits p k (n / p) some (div_below n p (p ^ k) some (omega arith)) in
     rw rest (omega arith)
 
--- eight halves as four words
+-- eight half words as four words
 eight_halves : (a b c d e f g h : ℕ) → a < 65536 → b < 65536 → c < 65536 → d < 65536 → e < 65536 → f < 65536 → g < 65536 → h < 65536
     → digits_l 4294967296 4 (number_l 256 (digits_l 256 16 (number_l 65536 (a ∷ b ∷ c ∷ d ∷ e ∷ f ∷ g ∷ h ∷ []))))
     ≡ (a + 65536 * b) ∷ (c + 65536 * d) ∷ (e + 65536 * f) ∷ (g + 65536 * h) ∷ []
@@ -43,7 +43,7 @@ eight_halves a b c d e f g h i j k l m n o p =
 
 -- ---- one word
 
--- its four groups by twos
+-- the four groups of seven bits in a word, joined two by two
 joined_128 : (a b c d : ℕ) → a < 128 → b < 128 → c < 128 → d < 128 → word_joined 128 16384 (word_of a b c d) ≡ a + 128 * (b + 128 * (c + 128 * d))
 joined_128 a b c d p q r s =
     let first : word_of a b c d % 65536 ≡ a + 256 * b = omega arith in
@@ -52,7 +52,7 @@ joined_128 a b c d p q r s =
     let high : two_of 128 (c + 256 * d) ≡ c + 128 * d = omega arith in
     rw (first, second, low, high) (omega arith)
 
--- the same by five bits
+-- the four groups of five bits in a word, joined two by two
 joined_32 : (a b c d : ℕ) → a < 32 → b < 32 → c < 32 → d < 32 → word_joined 32 1024 (word_of a b c d) ≡ a + 32 * (b + 32 * (c + 32 * d))
 joined_32 a b c d p q r s =
     let first : word_of a b c d % 65536 ≡ a + 256 * b = omega arith in
@@ -61,7 +61,7 @@ joined_32 a b c d p q r s =
     let high : two_of 32 (c + 256 * d) ≡ c + 32 * d = omega arith in
     rw (first, second, low, high) (omega arith)
 
--- in each of the two alphabets
+-- the four groups of a word, joined in either alphabet
 joined_bytes : (radix square a b c d : ℕ) → (radix ≡ 128) ⊎ (radix ≡ 32) → square ≡ radix * radix → a < 256 → b < 256 → c < 256 → d < 256
     → word_joined radix square (word_of (a % radix) (b % radix) (c % radix) (d % radix)) ≡ joined_groups radix (word_of a b c d)
 joined_bytes radix square a b c d alphabet square_is p q r s = elim alphabet [
@@ -73,7 +73,7 @@ joined_bytes radix square a b c d alphabet square_is p q r s = elim alphabet [
       rw (e, wide) (joined_32 (a % 32) (b % 32) (c % 32) (d % 32) (omega arith) (omega arith) (omega arith) (omega arith) ∙ sym (groups_are 32 a b c d (inr refl) p q r s))
 ]
 
--- the word that stands lowest in a number, by its halves
+-- the lowest word of a number, by its halves
 lowest_word : (radix square x : ℕ) → lane_of square (two_of radix (x % 65536) + 65536 * two_of radix (x / 65536 % 65536)) ≡ word_joined radix square (x % 4294967296)
 lowest_word radix square x =
     let low : x % 4294967296 % 65536 ≡ x % 65536 = omega arith in
@@ -82,11 +82,11 @@ lowest_word radix square x =
 
 -- ---- words of bytes
 
--- the first four bytes
+-- the word of the first four bytes
 first_word : (a b c d : ℕ) (us : List ℕ) → a < 256 → b < 256 → c < 256 → d < 256 → number_l 256 (a ∷ b ∷ c ∷ d ∷ us) % 4294967296 ≡ word_of a b c d
 first_word a b c d us p q r s = omega arith
 
--- those behind
+-- the words after the first four bytes
 later_words : (a b c d : ℕ) (us : List ℕ) → a < 256 → b < 256 → c < 256 → d < 256 → number_l 256 (a ∷ b ∷ c ∷ d ∷ us) / 4294967296 ≡ number_l 256 us
 later_words a b c d us p q r s = omega arith
 
@@ -94,7 +94,7 @@ later_words a b c d us p q r s = omega arith
 group_below : (radix u : ℕ) → (radix ≡ 128) ⊎ (radix ≡ 32) → u % radix < 256
 group_below radix u alphabet = elim alphabet [ inl e ↦ rw e (omega arith) | inr e ↦ rw e (omega arith) ]
 
--- words of units, by their groups
+-- words of units are joined to the numbers of their groups
 words_joined : (radix square k : ℕ) (us : List ℕ) → (radix ≡ 128) ⊎ (radix ≡ 32) → square ≡ radix * radix → length us ≡ 4 * k → Each1 (Fits w8) us
     → map (word_joined radix square) (digits_l 4294967296 k (number_l 256 (map (λ u. u % radix) us))) ≡ map (joined_groups radix) (digits_l 4294967296 k (number_l 256 us))
 words_joined radix square zero us alphabet square_is long fit = refl
@@ -120,7 +120,7 @@ words_joined radix square (suc k) (a ∷ b ∷ c ∷ d ∷ us) alphabet square_i
 
 -- ---- four words
 
--- two shifts by half a word
+-- two shifts by half a word are one by a word
 two_halves : (x : ℕ) → x / 65536 / 65536 ≡ x / 4294967296
 two_halves x = omega arith
 
@@ -130,7 +130,7 @@ halves_are : (x y z w : ℕ) → y ≡ x / 4294967296 → z ≡ y / 4294967296 �
     ≡ (x % 65536) ∷ (x / 65536 % 65536) ∷ (y % 65536) ∷ (y / 65536 % 65536) ∷ (z % 65536) ∷ (z / 65536 % 65536) ∷ (w % 65536) ∷ (w / 65536 % 65536) ∷ []
 halves_are x y z w y_is z_is w_is = rw (two_halves x, ← y_is, two_halves y, ← z_is, two_halves z, ← w_is) refl
 
--- the four words
+-- a number of four words is their digits
 four_digits : (x y z w : ℕ) → y ≡ x / 4294967296 → z ≡ y / 4294967296 → w ≡ z / 4294967296
     → digits_l 4294967296 4 x ≡ (x % 4294967296) ∷ (y % 4294967296) ∷ (z % 4294967296) ∷ (w % 4294967296) ∷ []
 four_digits x y z w y_is z_is w_is = rw (← y_is, ← z_is, ← w_is) refl

@@ -1,4 +1,4 @@
--- The units of a number in a lane of four bytes, as code adds them, and the shortest spelling that they are.
+-- The units of a number in a lane of four bytes, as the code adds them, are its shortest spelling.
 use Rattle.std.proofs.Common.{◌≡◌, ℕ, zero, suc, ◌+◌, ◌*◌, ◌/◌, ◌%◌, ◌-◌, ◌<◌, ◌≤◌, ◌^◌, ◌⊎◌, Bool, true, false, inl, inr, [], ◌∷◌, ◌++◌, take, map, refl, sym, ◌∙◌, ap, arith}
 use lib.Dec.{leb}
 use lib.Lanes.{number_l, digits_l, mask_l, top}
@@ -13,11 +13,11 @@ use Rattle.twkb_num.specs.Spelling.{shortest}
 use Rattle.twkb_num.proofs.PlaceLemmas.{digits-number, four_words, word_of}
 use Rattle.twkb_num.proofs.SpellingLemmas.{shortest_one, shortest_more}
 
--- a number of few groups without its lowest
+-- a number without its lowest group has one group fewer
 fewer : (radix most n : ℕ) → 1 ≤ radix → n < radix ^ suc (suc most) → n / radix < radix ^ suc most
 fewer radix most n p below = div_below n radix (radix ^ suc most) p (rw (pow-suc radix (suc most)) at below)
 
--- one group
+-- a number of one group is below the radix
 one_group : (radix n : ℕ) → n < radix ^ 1 → n < radix
 one_group radix n below = let e = rw (pow-suc radix 0, pow-zero radix) at below in omega arith
 
@@ -44,7 +44,7 @@ mark_is : (base radix d : ℕ) (more : Bool) → d < radix → leb (base + radix
 mark_is base radix d true small = le-leb (base + radix) (d + radix + base) (omega arith)
 mark_is base radix d false small = lt-leb (base + radix) (d + base) (omega arith)
 
--- nothing goes on above a number
+-- no group follows the last one of a number
 no_marks : (base radix most : ℕ) → 1 ≤ radix → mask_l (map (λ u. leb (base + radix) u) (units_within base radix most 0)) ≡ 0
 no_marks base radix zero p = refl
 no_marks base radix (suc most) p =
@@ -52,7 +52,7 @@ no_marks base radix (suc most) p =
     let high : 0 / radix ≡ 0 = div-eq_of_lt p in
     rw (low, high, lt-leb radix 0 p, mark_is base radix 0 false p, no_marks base radix most p) refl
 
--- a bit for each group that has others above it
+-- the marks have a bit for each group that has others above it
 pub marks_are : (base radix most n : ℕ) → 1 ≤ radix → n < radix ^ suc most → mask_l (map (λ u. leb (base + radix) u) (units_within base radix (suc most) n)) ≡ 2 ^ groups_after radix most n - 1
 marks_are base radix zero n p below =
     let small = one_group radix n below in
@@ -70,7 +70,7 @@ marks_are base radix (suc most) n p below =
           rw (le-leb radix n large, mark_is base radix (n % radix) true (mod_below n radix p), rest) (omega arith)
     ]
 
--- no more than three
+-- at most three groups follow the first
 pub few_groups : (radix most n : ℕ) → groups_after radix most n ≤ most
 few_groups radix zero n = omega arith
 few_groups radix (suc most) n = by_test (nat_le radix n) (few_groups radix most (n / radix))
@@ -79,24 +79,24 @@ few_groups radix (suc most) n = by_test (nat_le radix n) (few_groups radix most 
     by_test true few = omega arith
     by_test false few = omega arith
 
--- ---- a lane, as code adds it
+-- ---- a lane as the code adds it
 
--- what a comparison selects
+-- the value that a comparison selects
 abbrev selected : Bool → ℕ → ℕ
 selected more value = cond (top 31 (cond more 4294967295 0)) value 0
 
--- groups, marks and the base
+-- a lane's groups, marks and base, added
 abbrev lane_of : (base radix n : ℕ) → ℕ
 lane_of base radix n =
     ((((n % radix + (n / radix % radix * 256) % 4294967296) % 4294967296 + (n / radix / radix % radix * 65536) % 4294967296) % 4294967296 + (n / radix / radix / radix * 16777216) % 4294967296) % 4294967296
     + ((selected (leb radix n) radix + selected (leb radix (n / radix)) (radix * 256)) % 4294967296 + selected (leb radix (n / radix / radix)) (radix * 65536)) % 4294967296) % 4294967296
 
--- groups at their places
+-- the sum of groups at their places
 groups_sum : (a b c d : ℕ) → a < 128 → b < 128 → c < 128 → d < 128
     → (((a + (b * 256) % 4294967296) % 4294967296 + (c * 65536) % 4294967296) % 4294967296 + (d * 16777216) % 4294967296) % 4294967296 ≡ a + 256 * b + 65536 * c + 16777216 * d
 groups_sum a b c d p q r s = omega arith
 
--- marks at theirs
+-- the sum of marks at their places
 marks_sum : (p q r : Bool) (radix : ℕ) → radix ≤ 128 → ((selected p radix + selected q (radix * 256)) % 4294967296 + selected r (radix * 65536)) % 4294967296
     ≡ cond p radix 0 + cond q radix 0 * 256 + cond r radix 0 * 65536
 marks_sum true true true radix most = omega arith
@@ -108,7 +108,7 @@ marks_sum false true false radix most = omega arith
 marks_sum false false true radix most = omega arith
 marks_sum false false false radix most = omega arith
 
--- no more than the radix
+-- a mark is at most the radix
 mark_below : (more : Bool) (radix : ℕ) → cond more radix 0 ≤ radix
 mark_below true radix = omega arith
 mark_below false radix = omega arith
@@ -123,13 +123,13 @@ unit_below : (base radix d : ℕ) (more : Bool) → d < radix → base + 2 * rad
 unit_below base radix d true small within = omega arith
 unit_below base radix d false small within = omega arith
 
--- sums that leave no carry
+-- a sum of bytes that leaves no carry is the sum of each byte
 whole_sum : (base radix a b c d x y z : ℕ) → radix ≤ 128 → base + 2 * radix ≤ 256 → a < radix → b < radix → c < radix → d < radix → x ≤ radix → y ≤ radix → z ≤ radix
     → ((a + 256 * b + 65536 * c + 16777216 * d + (x + y * 256 + z * 65536)) % 4294967296 + base * 16843009) % 4294967296
     ≡ word_of (a + x + base) (b + y + base) (c + z + base) (d + base)
 whole_sum base radix a b c d x y z most within p q r s u v w = omega arith
 
--- words of the same bytes
+-- words of equal bytes are equal
 word_same : (a b c d e f g h : ℕ) → a ≡ e → b ≡ f → c ≡ g → d ≡ h → word_of a b c d ≡ word_of e f g h
 word_same a b c d e f g h p q r s = cc
 
@@ -144,7 +144,7 @@ module _ (base radix : ℕ) (alphabet : (radix ≡ 128) ⊎ (radix ≡ 32)) (wit
   abbrev unit_0 : ℕ → ℕ
   unit_0 n = unit_over base radix (n % radix) (nat_le radix n)
 
-  -- a lane holds them
+  -- a lane holds the units of its number
   lane_is : (n : ℕ) → n < radix ^ 4 → (lane_of base radix n + base * 16843009) % 4294967296 ≡ word_of (unit_0 n) (unit_0 (n / radix)) (unit_0 (n / radix / radix)) (unit_0 (n / radix / radix / radix))
   lane_is n small =
       let two = n / radix in
@@ -165,7 +165,7 @@ module _ (base radix : ℕ) (alphabet : (radix ≡ 128) ⊎ (radix ≡ 32)) (wit
       ∙ whole_sum base radix (n % radix) (two % radix) (three % radix) four x y z most within a b c last (mark_below (leb radix n) radix) (mark_below (leb radix two) radix) (mark_below (leb radix three) radix)
       ∙ word_same _ _ _ _ _ _ _ _ (sym (unit_is base radix (n % radix) (leb radix n))) (sym (unit_is base radix (two % radix) (leb radix two))) (sym (unit_is base radix (three % radix) (leb radix three))) (sym ended)
 
-  -- a unit is a byte
+  -- each unit of a lane is a byte
   byte : (n : ℕ) → unit_0 n < 256
   byte n = unit_below base radix (n % radix) (nat_le radix n) (mod_below n radix some) within
 

@@ -1,4 +1,4 @@
--- Laws of the spellings of any alphabet: one spelling, one number, one shortest.
+-- Laws of spellings in any alphabet: each spells one number, and each number has one shortest spelling.
 use Rattle.std.proofs.Common.{◌≡◌, ℕ, suc, ◌-◌, ◌<◌, ◌≤◌, ◌^◌, Bool, true, false, Option, Some, List, [], ◌∷◌, ◌++◌, length, refl, sym, ◌∙◌, ap, arith}
 use Rattle.std.specs.Int.Digits.{AllBelowBase}
 use Rattle.twkb_num.specs.Alphabet.{AlphabetLaws}
@@ -11,14 +11,14 @@ pub use Rattle.twkb_num.proofs.DigitLemmas.{number_of-digits, digits_below}
 pub use Rattle.twkb_num.proofs.ZigzagLemmas.{zigzag_one}
 
 module _ {bits longest : ℕ} {unit : ℕ → Bool → ℕ} {group : ℕ → Option (ℕ × Bool)} (laws : AlphabetLaws bits longest unit group) where
-  -- a unit is of one digit and one mark
+  -- a unit has one digit and one mark
   unit_one : (d e : ℕ) (m n : Bool) → d < 2 ^ bits → e < 2 ^ bits → unit d m ≡ unit e n → (d ≡ e) × (m ≡ n)
   unit_one d e m n p q h =
       let both : Some (d, m) ≡ Some (e, n) = sym (laws.read_back d m p) ∙ ap group h ∙ laws.read_back e n q in
       let pair : (d, m) ≡ (e, n) = cc in
       (ap (λ (z : ℕ × Bool). z.0) pair, ap (λ (z : ℕ × Bool). z.1) pair)
 
-  -- no spelling's digits begin another's
+  -- the digits of no spelling begin those of another
   pub same_digits : (ds es x y : List ℕ) → AllBelowBase (2 ^ bits) ds → AllBelowBase (2 ^ bits) es → 1 ≤ length ds → 1 ≤ length es
       → units_of unit ds ++ x ≡ units_of unit es ++ y → ds ≡ es
   same_digits [] es x y p q a b h = absurd (omega arith)
@@ -38,13 +38,13 @@ module _ {bits longest : ℕ} {unit : ℕ → Bool → ℕ} {group : ℕ → Opt
       let first = (unit_one d e true true p.0 q.0 head).0 in
       let others = same_digits (c ∷ ds) (f ∷ es) x y p.1 q.1 (omega arith) (omega arith) rest in cc
 
-  -- no spelling begins another, and each is of one number
+  -- no spelling begins another, and each spells one number
   pub spelling_one : (a b x y : List ℕ) (m n : ℕ) → IsSpelling unit (2 ^ bits) longest a m → IsSpelling unit (2 ^ bits) longest b n → a ++ x ≡ b ++ y → (a ≡ b) × (m ≡ n)
   spelling_one a b x y m n p q h =
       let same = same_digits p.ds q.ds x y p.below q.below p.some q.some (ap (λ t. t ++ x) (sym p.spelled) ∙ h ∙ ap (λ t. t ++ y) q.spelled) in
       (p.spelled ∙ ap (units_of unit) same ∙ sym q.spelled, sym p.number ∙ ap (number_of (2 ^ bits)) same ∙ q.number)
 
-  -- the shortest spelling is one
+  -- the shortest spelling is a spelling
   pub shortest_spelling : (n : ℕ) → n < 2 ^ 64 → IsSpelling unit (2 ^ bits) longest (shortest unit (2 ^ bits) n) n
   shortest_spelling n h =
       let base = base-le bits laws.five in
@@ -70,7 +70,7 @@ module _ {bits longest : ℕ} {unit : ℕ → Bool → ℕ} {group : ℕ → Opt
       let fewer = length-digits-le (2 ^ bits) (length s.ds - 1) n (omega arith) (rw whole small) in
       rw (s.spelled, length-units_of unit s.ds, length-units_of unit (digits (2 ^ bits) n)) (omega arith)
 
-  -- and no other is as short
+  -- no other spelling of the number is as short as the shortest
   pub shortest_only : (us : List ℕ) (n : ℕ) → IsSpelling unit (2 ^ bits) longest us n → length us ≤ length (shortest unit (2 ^ bits) n) → us ≡ shortest unit (2 ^ bits) n
   shortest_only us n s h =
       let base = base-le bits laws.five in

@@ -11,11 +11,11 @@ use Rattle.twkb_num.specs.Lens.{four_lens, more_bytes}
 use Rattle.twkb_num.specs.Varint.{varint_of}
 use Rattle.twkb_num.proofs.VarintLemmas.{one_byte, one_byte_more}
 
--- a power of two times 128
+-- two to the power 7 + i is 128 times two to the power i
 pow-seven : (i : ℕ) → 2 ^ (7 + i) ≡ 128 * 2 ^ i
 pow-seven i = pow-add 2 7 i
 
--- a number whose highest bit stands at j has j / 7 + 1 bytes, and so has 0, for which j is 0
+-- a number whose highest bit is at j has j / 7 + 1 bytes; so has 0, if j is 0
 pub length_by_top : (k j n : ℕ) → j / 7 ≡ k → 2 ^ j ≤ n / 2 * 2 + 1 → n < 2 ^ suc j → length (varint_of n) ≡ k + 1
 length_by_top zero j n first low high =
     let few : 2 ^ suc j ≤ 2 ^ 7 = pow-le-pow_right {n = 2} (lit< tt) {i = suc j} {j = 7} (omega (arith, first)) in
@@ -30,7 +30,7 @@ length_by_top (suc k) j n more low high =
     let rest : length (varint_of (n / 128)) ≡ k + 1 = length_by_top k i (n / 128) (omega (arith, more)) (omega (arith, low, least)) (omega (arith, high, past)) in
     omega (arith, rest, one_byte_more n (omega (arith, low, least, some)))
 
--- so the leading zeros of an odd number beside it tell its bytes
+-- the leading zeros of the number with its last bit set give the length
 pub length_by_zeros : (n : ℕ) → n < 2 ^ 64 → (63 - count_leading_zeros 64 (n / 2 * 2 + 1)) / 7 + 1 ≡ length (varint_of n)
 length_by_zeros n fits =
     let top = leading_top 64 (n / 2 * 2 + 1) (omega arith) (omega (arith, fits)) in
@@ -39,17 +39,17 @@ length_by_zeros n fits =
     let bytes : length (varint_of n) ≡ j / 7 + 1 = length_by_top (j / 7) j n refl top.2 (omega (arith, top.3)) in
     omega (arith, place, bytes)
 
--- ---- by comparisons
+-- ---- lengths by comparisons
 
--- what a comparison with a bound adds
+-- what a comparison with a bound adds to a length
 abbrev pub one_from : ℕ → ℕ → ℕ
 one_from bound n = cond (top 31 (cond (leb bound n) 4294967295 0)) 1 0
 
--- as code adds them
+-- the bytes after the first, as the code adds them
 abbrev pub added : ℕ → ℕ
 added n = ((one_from 128 n + one_from 16384 n) % 4294967296 + one_from 2097152 n) % 4294967296
 
--- a number below 2 ^ 28 has so many bytes after its first
+-- comparisons with three bounds give the bytes after the first of a number below 2 ^ 28
 length_by_bounds : (n : ℕ) → n < 2 ^ 28 → length (varint_of n) ≡ added n + 1
 length_by_bounds n small =
     elim (cases_lt n 128) [
@@ -69,11 +69,11 @@ length_by_bounds n small =
       ]
     ]
 
--- which is what code adds
+-- the sum that the code adds is the number of bytes after the first
 pub added_is : (n : ℕ) → n < 2 ^ 28 → added n ≡ more_bytes n
 added_is n small = omega (arith, length_by_bounds n small)
 
--- one to four bytes
+-- a number below 2 ^ 28 has one to four bytes
 short_length : (n : ℕ) → n < 2 ^ 28 → (1 ≤ length (varint_of n)) × (length (varint_of n) ≤ 4)
 short_length n small =
     elim (cases_lt n 128) [
@@ -89,18 +89,18 @@ short_length n small =
       ]
     ]
 
--- ---- lanes that are added up
+-- ---- sums of lanes
 
--- four lanes more
+-- the sum of four lanes, with one length added to each
 lanes_more : (w x y z a b c d : ℕ) → w + (x + (y + (z + 0))) ≤ 2 ^ 31 → a ≤ 3 → b ≤ 3 → c ≤ 3 → d ≤ 3
     → (w + a) % 4294967296 + ((x + b) % 4294967296 + ((y + c) % 4294967296 + ((z + d) % 4294967296 + 0))) ≡ w + (x + (y + (z + 0))) + (a + b + c + d)
 lanes_more w x y z a b c d room p q r s = omega arith
 
--- the sum of lanes and others, with four lengths more
+-- the sum of lanes and other bytes, with four lengths added
 whole : (s o t i j k l a b c d : ℕ) → t ≡ s + (a + b + c + d) → i ≡ a + 1 → j ≡ b + 1 → k ≡ c + 1 → l ≡ d + 1 → t + (o + 4) ≡ s + o + (i + j + (k + l))
 whole s o t i j k l a b c d e p q r u = omega arith
 
--- a length is one and what is more
+-- a length is one and the bytes after the first
 one_more : (n : ℕ) → n < 2 ^ 28 → (length (varint_of n) ≡ more_bytes n + 1) × (more_bytes n ≤ 3)
 one_more n small = let short = short_length n small in (omega (arith, short.0), omega (arith, short.1))
 
@@ -119,14 +119,14 @@ lens_added (w ∷ x ∷ []) o a b c d four room p q r s = absurd (omega arith)
 lens_added (w ∷ x ∷ y ∷ []) o a b c d four room p q r s = absurd (omega arith)
 lens_added (w ∷ x ∷ y ∷ z ∷ v ∷ ls) o a b c d four room p q r s = absurd (omega arith)
 
--- four lengths of four at most
+-- four lengths of at most four are at most sixteen together
 four_fours : (i j k l : ℕ) → i ≤ 4 → j ≤ 4 → k ≤ 4 → l ≤ 4 → i + j + (k + l) ≤ 16
 four_fours i j k l p q r s = omega arith
 
 pub few_lens : (a b c d : ℕ) → a < 2 ^ 28 → b < 2 ^ 28 → c < 2 ^ 28 → d < 2 ^ 28 → four_lens a b c d ≤ 16
 few_lens a b c d p q r s = four_fours _ _ _ _ (short_length a p).1 (short_length b q).1 (short_length c r).1 (short_length d s).1
 
--- so a sum grows by sixteen at most
+-- a sum grows by at most sixteen
 pub grown_few : (new old more : ℕ) → new ≡ old + more → more ≤ 16 → new ≤ old + 16
 grown_few new old more e few = omega arith
 
@@ -139,12 +139,12 @@ lanes_total (w ∷ x ∷ []) o four room = absurd (omega arith)
 lanes_total (w ∷ x ∷ y ∷ []) o four room = absurd (omega arith)
 lanes_total (w ∷ x ∷ y ∷ z ∷ v ∷ ls) o four room = absurd (omega arith)
 
--- and with the others are the whole
+-- the lanes and the other bytes add up to the whole sum
 pub total_is : (ls : List ℕ) (sum o now : ℕ) → length ls ≡ 4 → sum ≡ fold_l (λ s x. (s + x) % 4294967296) 0 ls → sum_l ls + o ≡ now → now ≤ 2 ^ 31 → sum + o ≡ now
 total_is ls sum o now four sum_is whole room =
     let lanes = lanes_total ls o four (omega (arith, whole, room)) in
     ap (λ x. x + o) (sum_is ∙ lanes) ∙ whole
 
--- which fits
+-- the whole sum fits 64 bits
 pub total_fits : (sum o now : ℕ) → sum + o ≡ now → now ≤ 2 ^ 31 → Fits w64 (sum + o)
 total_fits sum o now is room = record { fits = omega arith }

@@ -13,6 +13,7 @@ pub mod MarkLemmas
 pub mod PartialLemmas
 pub mod PieceLemmas
 pub mod PlaceLemmas
+pub mod ReachLemmas
 pub mod ShuffleLemmas
 pub mod SpelledLemmas
 pub mod SpellingLemmas

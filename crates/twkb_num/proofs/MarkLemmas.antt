@@ -1,4 +1,4 @@
--- Marks as the bits of a number: those after the first so many, and the first so many.
+-- Marks as the bits of a number: the first k, and those after them.
 use Rattle.std.proofs.Common.{◌≡◌, ℕ, zero, suc, ◌+◌, ◌*◌, ◌/◌, ◌%◌, ◌^◌, Bool, true, false, inl, inr, List, [], ◌∷◌, length, take, drop, sym, ◌∙◌, ap, arith}
 use lib.Lanes.{mask_l}
 use Rattle.std.proofs.lemmas.Bool.{cases_lt}
@@ -9,7 +9,7 @@ use Rattle.twkb_num.proofs.DigitLemmas.{low_digit}
 use Rattle.twkb_num.proofs.TableLemmas.{mask_l-append}
 use mathlib.Core.Bool.{cond}
 
--- what a shift to the right leaves
+-- a shift to the right by k drops the first k marks
 pub mask_l-drop : (k : ℕ) (marks : List Bool) → mask_l marks / 2 ^ k ≡ mask_l (drop k marks)
 mask_l-drop zero marks = omega arith
 mask_l-drop (suc k) [] = omega arith
@@ -22,7 +22,7 @@ mask_l-drop (suc k) (mark ∷ marks) =
     half true n = omega arith
     half false n = omega arith
 
--- what a remainder leaves
+-- a remainder by 2 ^ k keeps the first k marks
 pub mask_l-take : (k : ℕ) (marks : List Bool) → mask_l marks % 2 ^ k ≡ mask_l (take k marks)
 mask_l-take k marks =
     elim (cases_lt k (length marks)) [

@@ -1,4 +1,4 @@
--- One more unit of a spelling.
+-- Adding one more unit to a spelling.
 use Rattle.std.proofs.Common.{◌≡◌, ℕ, zero, suc, ◌+◌, ◌-◌, ◌*◌, ◌/◌, ◌%◌, ◌<◌, ◌≤◌, ◌^◌, Bool, true, false, Option, [], ◌∷◌, ◌++◌, length, map, ◌⊎◌, inl, inr, refl, sym, ◌∙◌, ap, arith, lit<, add-one, length-append}
 use Rattle.std.proofs.lemmas.List.{map-append, length-map}
 use Rattle.std.proofs.lemmas.Nat.{pow-add, pow_pos, le-div}
@@ -29,7 +29,7 @@ one_more_below base k n d h b =
 
 -- ---- numbers of 64 bits
 
--- a group that the room above s bits can hold
+-- a group fits if the room above s bits can hold it
 pub stays_below : (s n d : ℕ) → s < 64 → n < 2 ^ s → d ≤ (2 ^ 64 - 1) / 2 ^ s → n + d * 2 ^ s < 2 ^ 64
 stays_below s n d within h b =
     let e : 64 ≡ (64 - s) + s = omega arith in
@@ -40,7 +40,7 @@ stays_below s n d within h b =
     let i : (d + 1) * 2 ^ s ≤ 2 ^ (64 - s) * 2 ^ s = mul-le-mul_right (2 ^ s) (let q : d + 1 ≤ 2 ^ (64 - s) = omega arith in q) in
     omega (arith, whole)
 
--- a group that it cannot
+-- a group overflows if the room above s bits can't hold it
 pub goes_above : (s d : ℕ) → 0 < 2 ^ s → (2 ^ 64 - 1) / 2 ^ s < d → 2 ^ 64 ≤ d * 2 ^ s
 goes_above s d p b =
     elim (cases_lt (d * 2 ^ s) (2 ^ 64)) [
@@ -51,7 +51,7 @@ goes_above s d p b =
 -- ---- the laws
 
 module _ {bits longest : ℕ} {unit : ℕ → Bool → ℕ} {group : ℕ → Option (ℕ × Bool)} (laws : AlphabetLaws bits longest unit group) where
-  -- what fewer than `longest` digits can spell is below 2 ^ 64
+  -- the number of fewer than `longest` digits is below 2 ^ 64
   pub power_fits : (k : ℕ) → k < longest → (2 ^ bits) ^ k < 2 ^ 64
   power_fits k h =
       let base = base-le bits laws.five in
@@ -75,15 +75,15 @@ module _ {bits longest : ℕ} {unit : ℕ → Bool → ℕ} {group : ℕ → Opt
       let f : 5 * (longest - 1) ≤ bits * (longest - 1) = mul-le-mul_right (longest - 1) laws.five in
       omega arith
 
-  -- the code's shift is the product with the power
+  -- the code's shift multiplies by the power
   pub shifted : (k d : ℕ) → d * (2 ^ bits) ^ k < 2 ^ 64 → (d * 2 ^ (bits * k)) % 2 ^ 64 ≡ d * (2 ^ bits) ^ k
   shifted k d h = rw (← (pow-mul bits k)) (mod-eq_of_lt h)
 
-  -- the value stays below the power, with a unit that has more after it
+  -- the value stays below the next power with a unit that says that more follow
   pub more_below : (k n d : ℕ) → k < longest → n < (2 ^ bits) ^ k → d < 2 ^ bits → n + d * (2 ^ bits) ^ k < (2 ^ bits) ^ (k + 1)
   more_below k n d h b c = rw (add-one k) (one_more_below (2 ^ bits) k n d b c)
 
-  -- and the units that it stands for gain that unit
+  -- the held units gain a unit that says that more follow
   pub more_held : (k n d u : ℕ) → n < (2 ^ bits) ^ k → d < 2 ^ bits → u ≡ unit d true
       → open_units unit (low_digits (2 ^ bits) (k + 1) (n + d * (2 ^ bits) ^ k)) ≡ open_units unit (low_digits (2 ^ bits) k n) ++ u ∷ []
   more_held k n d u h b e =
@@ -92,29 +92,29 @@ module _ {bits longest : ℕ} {unit : ℕ → Bool → ℕ} {group : ℕ → Opt
       ap (λ l. low_digits (2 ^ bits) l (n + d * (2 ^ bits) ^ k)) (add-one k) ∙ low_digits-push (2 ^ bits) k n d h b in
       ap (map unit_of) grown ∙ map-append unit_of (low_digits (2 ^ bits) k n) (d ∷ []) ∙ ap (λ v. open_units unit (low_digits (2 ^ bits) k n) ++ v ∷ []) (sym e)
 
-  -- so the value fits
+  -- the value with one more group fits 64 bits
   pub more_fits : (k n d : ℕ) → k + 1 < longest → n < (2 ^ bits) ^ k → d < 2 ^ bits → n + d * (2 ^ bits) ^ k < 2 ^ 64
   more_fits k n d h b c = omega (arith, more_below k n d (omega arith) b c, power_fits (k + 1) h)
 
-  -- and the code's sum is it
+  -- the code's sum is the value with one more group
   pub more_sum : (k n d : ℕ) → k + 1 < longest → n < (2 ^ bits) ^ k → d < 2 ^ bits → n + (d * 2 ^ (bits * k)) % 2 ^ 64 ≡ n + d * (2 ^ bits) ^ k
   more_sum k n d h b c = ap (λ x. n + x) (shifted k d (omega (arith, more_fits k n d h b c)))
 
-  -- a last group that passes the code's test fits
+  -- a last group that passes the code's test fits 64 bits
   pub last_fits : (k n d : ℕ) → k < longest → n < (2 ^ bits) ^ k → d ≤ (2 ^ 64 - 1) / 2 ^ (bits * k) → n + d * (2 ^ bits) ^ k < 2 ^ 64
   last_fits k n d h b c =
       let small : n < 2 ^ (bits * k) = rw (pow-mul bits k) at b in
       rw (pow-mul bits k) (stays_below (bits * k) n d (shift_fits k h) small c)
 
-  -- and the code's sum is the number
+  -- the code's sum is the number with its last group
   pub last_sum : (k n d : ℕ) → k < longest → n < (2 ^ bits) ^ k → d ≤ (2 ^ 64 - 1) / 2 ^ (bits * k) → n + (d * 2 ^ (bits * k)) % 2 ^ 64 ≡ n + d * (2 ^ bits) ^ k
   last_sum k n d h b c = ap (λ x. n + x) (shifted k d (omega (arith, last_fits k n d h b c)))
 
-  -- one that does not pass makes 2 ^ 64 or more
+  -- a last group that fails the code's test makes 2 ^ 64 or more
   pub last_above : (k d : ℕ) → (2 ^ 64 - 1) / 2 ^ (bits * k) < d → 2 ^ 64 ≤ d * (2 ^ bits) ^ k
   last_above k d c = rw (pow-mul bits k) (goes_above (bits * k) d (pow_pos (bits * k)) c)
 
-  -- what is held is open
+  -- the held units are open
   pub held_open : (k n : ℕ) → k < longest → IsOpen unit (2 ^ bits) longest (open_units unit (low_digits (2 ^ bits) k n))
   held_open k n h =
       let base = base-le bits laws.five in
@@ -127,24 +127,24 @@ module _ {bits longest : ℕ} {unit : ℕ → Bool → ℕ} {group : ℕ → Opt
 
   -- ---- the last unit
 
-  -- the held units and the last are the units of their digits
+  -- the held units and the last one are the units of their digits
   pub done_units : (k n d u : ℕ) → u ≡ unit d false
       → open_units unit (low_digits (2 ^ bits) k n) ++ u ∷ [] ≡ units_of unit (low_digits (2 ^ bits) k n ++ d ∷ [])
   done_units k n d u e = rw e (sym (units_of-push unit (low_digits (2 ^ bits) k n) d))
 
-  -- their number is the code's
+  -- the number of the held units and the last one is the code's number
   done_number : (k n d : ℕ) → n < (2 ^ bits) ^ k → d < 2 ^ bits → number_of (2 ^ bits) (low_digits (2 ^ bits) k n ++ d ∷ []) ≡ n + d * (2 ^ bits) ^ k
   done_number k n d h b =
       let base = base-le bits laws.five in
       rw (number_of-push (2 ^ bits) (low_digits (2 ^ bits) k n) d, number_of-low_digits (2 ^ bits) k n (omega arith) h, length-low_digits (2 ^ bits) k n) (omega arith)
 
-  -- they are digits
+  -- the digits of the held units and the last one are below the base
   done_below : (k n d : ℕ) → d < 2 ^ bits → AllBelowBase (2 ^ bits) (low_digits (2 ^ bits) k n ++ d ∷ [])
   done_below k n d b =
       let base = base-le bits laws.five in
       AllBelowBase-push (2 ^ bits) (low_digits (2 ^ bits) k n) d (low_digits_below (2 ^ bits) k n (omega arith)) b
 
-  -- one more than the held ones
+  -- there is one digit more than units held
   length_done : (k n d : ℕ) → length (low_digits (2 ^ bits) k n ++ d ∷ []) ≡ k + 1
   length_done k n d = length-append (low_digits (2 ^ bits) k n) (d ∷ []) ∙ ap (λ l. l + 1) (length-low_digits (2 ^ bits) k n)
 
@@ -161,7 +161,7 @@ module _ {bits longest : ℕ} {unit : ℕ → Bool → ℕ} {group : ℕ → Opt
     fits = fits;
   }
 
-  -- and one whose number does not fit
+  -- a last unit whose number does not fit ends a spelling that is too large
   pub done_above : (k n d u : ℕ) → n < (2 ^ bits) ^ k → d < 2 ^ bits → u ≡ unit d false → 2 ^ 64 ≤ d * (2 ^ bits) ^ k
       → IsAbove unit (2 ^ bits) (open_units unit (low_digits (2 ^ bits) k n) ++ u ∷ [])
   done_above k n d u h b e above = record {
@@ -171,7 +171,7 @@ module _ {bits longest : ℕ} {unit : ℕ → Bool → ℕ} {group : ℕ → Opt
     above = omega (arith, done_number k n d h b);
   }
 
-  -- the last digit above 0, or alone
+  -- the spelling is the shortest if its last digit is above 0 or alone
   pub is_shortest : (k n d u : ℕ) → n < (2 ^ bits) ^ k → d < 2 ^ bits → u ≡ unit d false → ((0 < d) ⊎ (k ≡ 0))
       → open_units unit (low_digits (2 ^ bits) k n) ++ u ∷ [] ≡ shortest unit (2 ^ bits) (n + d * (2 ^ bits) ^ k)
   is_shortest zero n d u h b e _ =
@@ -188,7 +188,7 @@ module _ {bits longest : ℕ} {unit : ℕ → Bool → ℕ} {group : ℕ → Opt
         | inr none ↦ absurd (omega arith)
       ]
 
-  -- a last digit of 0 that is not alone
+  -- the spelling is not the shortest if its last digit is 0 and not alone
   pub not_shortest : (k n u : ℕ) → n < (2 ^ bits) ^ k → 0 < k
       → open_units unit (low_digits (2 ^ bits) k n) ++ u ∷ [] ≡ shortest unit (2 ^ bits) (n + 0 * (2 ^ bits) ^ k) → ⊥
   not_shortest zero n u h p e = absurd (omega arith)
@@ -202,7 +202,7 @@ module _ {bits longest : ℕ} {unit : ℕ → Bool → ℕ} {group : ℕ → Opt
       rw (same, length-units_of unit (digits (2 ^ bits) n)) (length-digits-le (2 ^ bits) k n (omega arith) h) in
       omega arith
 
-  -- what the reader's flag says
+  -- the reader's flag says whether the spelling is the shortest
   pub flag_says : (k n d u : ℕ) (flag : Bool) → n < (2 ^ bits) ^ k → d < 2 ^ bits → u ≡ unit d false
       → (flag ≡ true → (0 < d) ⊎ (k ≡ 0)) → (flag ≡ false → (d ≡ 0) × (0 < k))
       → IsTrue flag ↔ (open_units unit (low_digits (2 ^ bits) k n) ++ u ∷ [] ≡ shortest unit (2 ^ bits) (n + d * (2 ^ bits) ^ k))

@@ -9,18 +9,18 @@ use Rattle.std.proofs.lemmas.Simd.{put_chunk_whole}
 use Rattle.std.specs.Int.{to_le_bytes, bytes_low_first, byte_at}
 use Rattle.twkb_num.specs.Digits.{low_digits}
 
--- some of the lowest digits
+-- the first k of the lowest m digits are the lowest k
 take-low_digits : (k m n : ℕ) → k ≤ m → take k (low_digits 256 m n) ≡ low_digits 256 k n
 take-low_digits zero m n few = refl
 take-low_digits (suc k) zero n few = absurd (omega arith)
 take-low_digits (suc k) (suc m) n few = ap (λ bs. (n % 256) ∷ bs) (take-low_digits k m (n / 256) (omega arith))
 
--- std's word for a byte, as a quotient at every place
+-- std's `byte_at` is a quotient's remainder at every place
 byte_at-is : (i n : ℕ) → byte_at i n ≡ n / 256 ^ i % 256
 byte_at-is zero n = rw (pow-zero 256, div-one n) refl
 byte_at-is (suc i) n = refl
 
--- std's word for bytes, as digits
+-- std's `bytes_low_first` gives the lowest digits
 bytes_low_first-is : (i k n : ℕ) → bytes_low_first i k n ≡ low_digits 256 k (n / 256 ^ i)
 bytes_low_first-is i zero n = refl
 bytes_low_first-is i (suc k) n =
@@ -34,7 +34,7 @@ take-le_bytes k n few =
     ap (take k) (bytes_low_first-is 0 8 n ∙ ap (low_digits 256 8) (rw (pow-zero 256) (div-one n)))
     ∙ take-low_digits k 8 n few
 
--- bytes stored whole behind those that are held, of which the first count
+-- bytes stored after those held, of which the first `count` are kept
 pub front_stored : (bytes held stored : List ℕ) (at room count : ℕ) → at ≤ length bytes → take at bytes ≡ held → count ≤ length stored
     → take (at + count) (put_mid at room bytes stored) ≡ held ++ take count stored
 front_stored bytes held stored at room count within view few =
@@ -44,7 +44,7 @@ front_stored bytes held stored at room count within view few =
     ∙ ap (λ bs. take at bytes ++ bs) (take-append-le count stored (post_of at room bytes) few)
     ∙ ap (λ bs. bs ++ take count stored) view
 
--- some of eight bytes, of which all eight are stored
+-- eight bytes stored after those held, of which some are kept
 pub eight_stored : (bytes held stored : List ℕ) (at room count : ℕ) → room ≡ 8 → at + 8 ≤ length bytes → take at bytes ≡ held → count ≤ 8 → length stored ≡ 8
     → take (at + count) (put_mid at room bytes (put_chunk 0 (mid_of at room bytes) stored)) ≡ held ++ take count stored
 eight_stored bytes held stored at room count eight within view few long =

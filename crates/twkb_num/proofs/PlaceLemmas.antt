@@ -1,4 +1,4 @@
--- The places from which units are brought into words, and the numbers that these words hold.
+-- The places from which units are loaded into words, and the numbers that these words hold.
 use Rattle.std.proofs.Common.{◌≡◌, ℕ, zero, suc, ◌+◌, ◌*◌, ◌/◌, ◌%◌, ◌<◌, ◌≤◌, ◌⊎◌, Bool, true, false, inl, inr, List, [], ◌∷◌, ◌++◌, length, drop, get_or, refl, sym, subst, ◌∙◌, ap, arith}
 use lib.Dec.{T, leb, ltb}
 use lib.Lanes.{number_l, digits_l, Each1}
@@ -13,7 +13,7 @@ use Rattle.twkb_num.proofs.DigitLemmas.{low_digit, high_digits}
 
 -- ---- words and their bytes
 
--- the digits of the number that they stand for
+-- digits below the base are those of their number
 pub digits-number : (p n : ℕ) (xs : List ℕ) → length xs ≡ n → Each1 (λ x. x < p) xs → digits_l p n (number_l p xs) ≡ xs
 digits-number p zero [] long below = refl
 digits-number p (suc n) [] long below = absurd (omega arith)
@@ -21,7 +21,7 @@ digits-number p zero (x ∷ xs) long below = absurd (omega arith)
 digits-number p (suc n) (x ∷ xs) long below =
     rw (low_digit p x (number_l p xs) below.0, high_digits p x (number_l p xs) below.0) (ap (λ ys. x ∷ ys) (digits-number p n xs (omega arith) below.1))
 
--- lists of four that are the same at each place
+-- lists of four that agree at each place are equal
 pub four_same : (a b c d e f g h : ℕ) → a ≡ e → b ≡ f → c ≡ g → d ≡ h → a ∷ b ∷ c ∷ d ∷ [] ≡ e ∷ f ∷ g ∷ h ∷ []
 four_same a b c d e f g h i j k l = cc
 
@@ -29,7 +29,7 @@ four_same a b c d e f g h i j k l = cc
 abbrev pub word_of : ℕ → ℕ → ℕ → ℕ → ℕ
 word_of a b c d = number_l 256 (a ∷ b ∷ c ∷ d ∷ [])
 
--- four bytes in front of others
+-- the number of four bytes and others after them
 front_word : (a b c d : ℕ) (xs : List ℕ) → number_l 256 (a ∷ b ∷ c ∷ d ∷ xs) ≡ word_of a b c d + 4294967296 * number_l 256 xs
 front_word a b c d xs = omega arith
 
@@ -56,14 +56,14 @@ place_is at more k within = elim (cases_lt more k) [
   | inr short ↦ inl (short, rw (le-leb k more short) refl)
 ]
 
--- it fits a byte
+-- a place fits a byte
 place_below : (at more k : ℕ) → at + more ≤ 15 → place_in at more k < 256
 place_below at more k within = elim (place_is at more k within) [
   | inl here ↦ let e = here.1 in let short = here.0 in omega arith
   | inr none ↦ let e = none.1 in omega arith
 ]
 
--- what `swizzle_dyn` asks of it
+-- a place passes the test of `swizzle_dyn`
 place_ok : (at more k : ℕ) → at + more ≤ 15 → T (zeroes 16 w8 (place_in at more k) || ltb (place_in at more k) 16)
 place_ok at more k within = elim (place_is at more k within) [
   | inl here ↦ let short = here.0 in rw here.1 (second (leb 128 (at + k)) (ltb (at + k) 16) (lt-ltb (at + k) 16 (omega arith)))
@@ -77,24 +77,24 @@ place_ok at more k within = elim (place_is at more k within) [
     second true q e = tt
     second false q e = rw e tt
 
--- the unit that it brings
+-- the unit that a place brings
 abbrev pub lane : List ℕ → ℕ → ℕ
 lane us place = cond (leb 128 place) 0 (get_or us (0 + place) 0)
 
--- a unit that the number has
+-- a place brings a unit that the number has
 lane_here : (us : List ℕ) (at more k : ℕ) → at + more ≤ 15 → k ≤ more → lane us (place_in at more k) ≡ get_or us (at + k) 0
 lane_here us at more k within short =
     let same : place_in at more k ≡ at + k = rw (le-leb k more short) refl in
     let place : 0 + (at + k) ≡ at + k = omega arith in
     rw (same, lt-leb 128 (at + k) (let q : at + k < 128 = omega arith in q), place) refl
 
--- 0 where the number has none
+-- a place brings 0 if the number has no such unit
 lane_none : (us : List ℕ) (at more k : ℕ) → at + more ≤ 15 → more < k → lane us (place_in at more k) ≡ 0
 lane_none us at more k within above =
     let same : place_in at more k ≡ at + 128 = rw (lt-leb k more above) refl in
     rw (same, le-leb 128 (at + 128) (let q : 128 ≤ at + 128 = omega arith in q)) refl
 
--- a byte
+-- a place brings a byte
 lane_below : (us : List ℕ) (place : ℕ) → ((k : ℕ) → get_or us k 0 < 256) → lane us place < 256
 lane_below us place fit = small (leb 128 place) (get_or us (0 + place) 0) (fit (0 + place))
   where
@@ -102,16 +102,16 @@ lane_below us place fit = small (leb 128 place) (get_or us (0 + place) 0) (fit (
     small true x h = omega arith
     small false x h = h
 
--- ---- places that are moved
+-- ---- places moved by the units before them
 
--- behind others
+-- a place after `used` units is moved by `used`
 place_moved : (used at more k : ℕ) → place_in (used + at) more k ≡ used + place_in at more k
 place_moved used at more k = elim (cases_lt more k) [
   | inl above ↦ rw (lt-leb k more above) (omega arith)
   | inr short ↦ rw (le-leb k more short) (omega arith)
 ]
 
--- the places of two numbers behind `used` units: so much more in each byte
+-- the places of two numbers after `used` units: each byte is `used` higher
 pub places_moved : (used first second i j : ℕ)
     → number_l 256 (places_in first i ++ places_in second j) + used * 72340172838076673 ≡ number_l 256 (places_in (used + first) i ++ places_in (used + second) j)
 places_moved used first second i j =
@@ -122,7 +122,7 @@ places_moved used first second i j =
         ≡ number_l 256 ((u + a) ∷ (u + b) ∷ (u + c) ∷ (u + d) ∷ (u + e) ∷ (u + f) ∷ (u + g) ∷ (u + h) ∷ [])
     sum a b c d e f g h u = omega arith
 
--- eight bytes have 64 bits
+-- the places of two numbers have 64 bits
 pub places_below : (a b i j : ℕ) → a + i ≤ 15 → b + j ≤ 15 → number_l 256 (places_in a i ++ places_in b j) < 18446744073709551616
 places_below a b i j f g =
     below (place_in a i 0) (place_in a i 1) (place_in a i 2) (place_in a i 3) (place_in b j 0) (place_in b j 1) (place_in b j 2) (place_in b j 3)
@@ -134,7 +134,7 @@ places_below a b i j f g =
 
 -- ---- numbers
 
--- the groups of a word's bytes
+-- the groups of seven bits in a word's bytes
 groups_128 : (a b c d : ℕ) → a < 256 → b < 256 → c < 256 → d < 256 → joined_groups 128 (word_of a b c d) ≡ a % 128 + 128 * (b % 128 + 128 * (c % 128 + 128 * (d % 128)))
 groups_128 a b c d p q r s =
     let second : word_of a b c d / 256 ≡ b + 256 * (c + 256 * (d + 256 * 0)) = high_digits 256 a (b + 256 * (c + 256 * (d + 256 * 0))) p in
@@ -142,7 +142,7 @@ groups_128 a b c d p q r s =
     let fourth : (c + 256 * (d + 256 * 0)) / 256 ≡ d + 256 * 0 = high_digits 256 c (d + 256 * 0) r in
     rw (second, third, fourth) (omega arith)
 
--- the same by five bits
+-- the groups of five bits in a word's bytes
 groups_32 : (a b c d : ℕ) → a < 256 → b < 256 → c < 256 → d < 256 → joined_groups 32 (word_of a b c d) ≡ a % 32 + 32 * (b % 32 + 32 * (c % 32 + 32 * (d % 32)))
 groups_32 a b c d p q r s =
     let second : word_of a b c d / 256 ≡ b + 256 * (c + 256 * (d + 256 * 0)) = high_digits 256 a (b + 256 * (c + 256 * (d + 256 * 0))) p in
@@ -150,11 +150,11 @@ groups_32 a b c d p q r s =
     let fourth : (c + 256 * (d + 256 * 0)) / 256 ≡ d + 256 * 0 = high_digits 256 c (d + 256 * 0) r in
     rw (second, third, fourth) (omega arith)
 
--- one unit of a number
+-- the group of a number's last unit
 last_unit : (radix at : ℕ) (us : List ℕ) → at < length us → number_in_front radix 0 (drop at us) ≡ get_or us at 0 % radix
 last_unit radix at us h = rw (drop_more us at 0 h) refl
 
--- a unit with others behind it
+-- the group of a unit with others after it
 next_unit : (radix at more : ℕ) (us : List ℕ) → at < length us → number_in_front radix (suc more) (drop at us) ≡ get_or us at 0 % radix + radix * number_in_front radix more (drop (at + 1) us)
 next_unit radix at more us h = rw (drop_more us at 0 h) refl
 
@@ -162,7 +162,7 @@ next_unit radix at more us h = rw (drop_more us at 0 h) refl
 abbrev pub word_at : List ℕ → ℕ → ℕ → ℕ
 word_at us at more = word_of (lane us (place_in at more 0)) (lane us (place_in at more 1)) (lane us (place_in at more 2)) (lane us (place_in at more 3))
 
--- in each of the two alphabets
+-- the groups in a word's bytes, in either alphabet
 pub groups_are : (radix a b c d : ℕ) → (radix ≡ 128) ⊎ (radix ≡ 32) → a < 256 → b < 256 → c < 256 → d < 256
     → joined_groups radix (word_of a b c d) ≡ a % radix + radix * (b % radix + radix * (c % radix + radix * (d % radix)))
 groups_are radix a b c d alphabet p q r s = elim alphabet [
@@ -170,21 +170,21 @@ groups_are radix a b c d alphabet p q r s = elim alphabet [
   | inr e ↦ rw e (groups_32 a b c d p q r s)
 ]
 
--- no unit adds nothing
+-- one unit and no more: the empty places add nothing
 closes_one : (radix a : ℕ) → (radix ≡ 128) ⊎ (radix ≡ 32) → a % radix ≡ a % radix + radix * (0 % radix + radix * (0 % radix + radix * (0 % radix)))
 closes_one radix a alphabet = elim alphabet [
   | inl e ↦ rw e (omega arith)
   | inr e ↦ rw e (omega arith)
 ]
 
--- behind two units
+-- two units and no more: the empty places add nothing
 closes_two : (radix a b : ℕ) → (radix ≡ 128) ⊎ (radix ≡ 32) → a % radix + radix * (b % radix) ≡ a % radix + radix * (b % radix + radix * (0 % radix + radix * (0 % radix)))
 closes_two radix a b alphabet = elim alphabet [
   | inl e ↦ rw e (omega arith)
   | inr e ↦ rw e (omega arith)
 ]
 
--- behind three
+-- three units and no more: the empty places add nothing
 closes_three : (radix a b c : ℕ) → (radix ≡ 128) ⊎ (radix ≡ 32)
     → a % radix + radix * (b % radix + radix * (c % radix)) ≡ a % radix + radix * (b % radix + radix * (c % radix + radix * (0 % radix)))
 closes_three radix a b c alphabet = elim alphabet [
@@ -244,7 +244,7 @@ sixteen_places a b c d i j k l =
     ∷ place_in c k 0 ∷ place_in c k 1 ∷ place_in c k 2 ∷ place_in c k 3
     ∷ place_in d l 0 ∷ place_in d l 1 ∷ place_in d l 2 ∷ place_in d l 3 ∷ []
 
--- in two words of eight bytes
+-- the sixteen places in two words of eight bytes
 pub places_of_two : (p q a b c d i j k l : ℕ) → p ≡ number_l 256 (places_in a i ++ places_in b j) → q ≡ number_l 256 (places_in c k ++ places_in d l)
     → number_l 18446744073709551616 (p ∷ q ∷ []) ≡ number_l 256 (sixteen_places a b c d i j k l)
 places_of_two p q a b c d i j k l p_is q_is =
@@ -259,7 +259,7 @@ places_of_two p q a b c d i j k l p_is q_is =
     eight : (x y p q : ℕ) → p ≡ x + 4294967296 * y → x + 4294967296 * (y + 4294967296 * q) ≡ number_l 18446744073709551616 (p ∷ q ∷ [])
     eight x y p q is = omega arith
 
--- in the bytes of a number
+-- the sixteen places are the bytes of a number
 places_are : (n a b c d i j k l : ℕ) → a + i ≤ 15 → b + j ≤ 15 → c + k ≤ 15 → d + l ≤ 15
     → n ≡ number_l 256 (sixteen_places a b c d i j k l) → digits_l 256 16 n ≡ sixteen_places a b c d i j k l
 places_are n a b c d i j k l f g h m is =
@@ -302,7 +302,7 @@ places_are n a b c d i j k l f g h m is =
       ),
     )
 
--- `swizzle_dyn` may read them
+-- the sixteen places pass the test of `swizzle_dyn`
 pub places_ok : (n a b c d i j k l : ℕ) → a + i ≤ 15 → b + j ≤ 15 → c + k ≤ 15 → d + l ≤ 15
     → n ≡ number_l 256 (sixteen_places a b c d i j k l) → SwzOk w8 16 16 0 (digits_l 256 16 n)
 places_ok n a b c d i j k l f g h m is =
@@ -351,7 +351,7 @@ word_at_below us at more fit =
     word_below (lane us (place_in at more 0)) (lane us (place_in at more 1)) (lane us (place_in at more 2)) (lane us (place_in at more 3))
     (lane_below us (place_in at more 0) fit) (lane_below us (place_in at more 1) fit) (lane_below us (place_in at more 2) fit) (lane_below us (place_in at more 3) fit)
 
--- it brings the units of four numbers into four words
+-- the places bring the units of four numbers into four words
 pub words_are : (us : List ℕ) (n a b c d i j k l : ℕ) → ((at : ℕ) → get_or us at 0 < 256) → a + i ≤ 15 → b + j ≤ 15 → c + k ≤ 15 → d + l ≤ 15
     → n ≡ number_l 256 (sixteen_places a b c d i j k l)
     → digits_l 4294967296 4 (number_l 256 (swz_l w8 16 us 0 (digits_l 256 16 n))) ≡ word_at us a i ∷ word_at us b j ∷ word_at us c k ∷ word_at us d l ∷ []

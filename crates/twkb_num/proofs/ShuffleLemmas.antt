@@ -1,4 +1,4 @@
--- The table of shuffles, and what a shuffle by it gives.
+-- The table of shuffles, and the units that a shuffle by it gives.
 use Rattle.std.proofs.Common.{◌≡◌, ℕ, zero, suc, ◌+◌, ◌*◌, ◌%◌, ◌-◌, ◌<◌, ◌≤◌, Bool, true, false, inl, inr, List, [], ◌∷◌, ◌++◌, take, drop, get_or, refl, sym, subst, ◌∙◌, ap, arith, count_ones, ltb}
 use lib.Dec.{T, leb}
 use lib.Lanes.{number_l, digits_l}
@@ -11,7 +11,7 @@ use Rattle.twkb_num.specs.declared.shuffles.TheConstants.{SHUFFLES}
 use Rattle.twkb_num.specs.Shuffles.{marks_of_two, place_for, shuffle_of}
 use Rattle.twkb_num.proofs.PlaceLemmas.{digits-number}
 
--- a fact about each number up to 3
+-- a fact about each number up to 3 is proved in four cases
 pub four_cases : (P : ℕ → Type 0) → P 0 → P 1 → P 2 → P 3 → (i : ℕ) → i ≤ 3 → P i
 four_cases P a b c d zero small = a
 four_cases P a b c d (suc zero) small = b
@@ -19,7 +19,7 @@ four_cases P a b c d (suc (suc zero)) small = c
 four_cases P a b c d (suc (suc (suc zero))) small = d
 four_cases P a b c d (suc (suc (suc (suc i)))) small = absurd (omega arith)
 
--- a fact about each two of them
+-- a fact about each pair of numbers up to 3
 abbrev pub OfTwo : (ℕ → ℕ → Type 0) → ℕ → Type 0
 OfTwo P i = (j : ℕ) → j ≤ 3 → P i j
 
@@ -28,7 +28,7 @@ OfTwo P i = (j : ℕ) → j ≤ 3 → P i j
 abbrev IsInTable : ℕ → ℕ → Type 0
 IsInTable i j = get_or SHUFFLES (marks_of_two i j) 0 ≡ number_l 256 (shuffle_of i j)
 
--- the table has the shuffle of each two marks
+-- the table has the shuffle of each pair of marks
 pub table_at : (i : ℕ) → i ≤ 3 → (j : ℕ) → j ≤ 3 → IsInTable i j
 table_at = four_cases (OfTwo IsInTable)
     (four_cases (IsInTable 0) refl refl refl refl)
@@ -38,13 +38,13 @@ table_at = four_cases (OfTwo IsInTable)
 
 -- ---- the places
 
--- eight places further on
+-- the places of a shuffle moved by eight
 abbrev pub moved : ℕ → ℕ → List ℕ
 moved i j =
     (8 + place_for i j 0) ∷ (8 + place_for i j 1) ∷ (8 + place_for i j 2) ∷ (8 + place_for i j 3)
     ∷ (8 + place_for i j 4) ∷ (8 + place_for i j 5) ∷ (8 + place_for i j 6) ∷ (8 + place_for i j 7) ∷ []
 
--- each is one of the eight units, or none
+-- each place is one of the eight units, or none
 place_cases : (P : ℕ → Type 0) → ((p : ℕ) → p ≤ 7 → P p) → P 128 → (i j k : ℕ) → i ≤ 3 → j ≤ 3 → P (place_for i j k)
 place_cases P unit none i j k p q =
     elim (cases_lt i k) [
@@ -55,11 +55,11 @@ place_cases P unit none i j k p q =
       ]
     ]
 
--- so it has seven bits and one
+-- a place has at most seven bits, or is the mark for none
 place_small : (i j k : ℕ) → i ≤ 3 → j ≤ 3 → place_for i j k ≤ 128
 place_small i j k p q = place_cases (λ x. x ≤ 128) (λ x h. omega arith) (omega arith) i j k p q
 
--- what `swizzle_dyn` asks of a place
+-- the test of `swizzle_dyn` for a place
 abbrev MayRead : ℕ → Type 0
 MayRead x = T (zeroes 16 w8 x || ltb x 16)
 
@@ -76,26 +76,26 @@ place_ok i j k p q = place_cases MayRead (λ x h. within_ok x (omega arith)) tt 
 moved_ok : (i j k : ℕ) → i ≤ 3 → j ≤ 3 → MayRead (8 + place_for i j k)
 moved_ok i j k p q = place_cases (λ x. MayRead (8 + x)) (λ x h. within_ok (8 + x) (omega arith)) tt i j k p q
 
--- ---- words of places
+-- ---- places as words
 
--- eight bytes
+-- the word of eight bytes
 abbrev eight : (a b c d e f g h : ℕ) → ℕ
 eight a b c d e f g h = number_l 256 (a ∷ b ∷ c ∷ d ∷ e ∷ f ∷ g ∷ h ∷ [])
 
--- have 64 bits
+-- a word of eight bytes has 64 bits
 eight_below : (a b c d e f g h : ℕ) → a ≤ 128 → b ≤ 128 → c ≤ 128 → d ≤ 128 → e ≤ 128 → f ≤ 128 → g ≤ 128 → h ≤ 128 → eight a b c d e f g h < 17726168133330272256
 eight_below a b c d e f g h i j k l m n o p = omega arith
 
--- with eight more in each
+-- the word with eight added to each byte
 eights_more : (a b c d e f g h : ℕ) → eight a b c d e f g h + 578721382704613384 ≡ eight (8 + a) (8 + b) (8 + c) (8 + d) (8 + e) (8 + f) (8 + g) (8 + h)
 eights_more a b c d e f g h = omega arith
 
--- two words of eight bytes
+-- two words of eight bytes as one number
 two_eights : (a b c d e f g h : ℕ) (xs : List ℕ)
     → eight a b c d e f g h + 18446744073709551616 * number_l 256 xs ≡ number_l 256 (a ∷ b ∷ c ∷ d ∷ e ∷ f ∷ g ∷ h ∷ xs)
 two_eights a b c d e f g h xs = omega arith
 
--- the number of two words, as code adds them
+-- the number of two words, as the code adds them
 abbrev pub joined_words : ℕ → ℕ → ℕ
 joined_words p q = number_l 18446744073709551616 ((p + 0) % 18446744073709551616 ∷ (q + 578721382704613384) % 18446744073709551616 ∷ [])
 
@@ -105,7 +105,7 @@ module _ (i j k l : ℕ) (is : i ≤ 3) (js : j ≤ 3) (ks : k ≤ 3) (ls : l �
       eight_below (place_for i j 0) (place_for i j 1) (place_for i j 2) (place_for i j 3) (place_for i j 4) (place_for i j 5) (place_for i j 6) (place_for i j 7)
       (place_small i j 0 is js) (place_small i j 1 is js) (place_small i j 2 is js) (place_small i j 3 is js) (place_small i j 4 is js) (place_small i j 5 is js) (place_small i j 6 is js) (place_small i j 7 is js)
 
--- the bytes of both words
+-- the bytes of the number are those of both words
 pub places_split : (p q i j k l : ℕ) → i ≤ 3 → j ≤ 3 → k ≤ 3 → l ≤ 3 → p ≡ number_l 256 (shuffle_of i j) → q ≡ number_l 256 (shuffle_of k l)
     → digits_l 256 16 (joined_words p q) ≡ shuffle_of i j ++ moved k l
 places_split p q i j k l is js ks ls p_is q_is =
@@ -160,7 +160,7 @@ places_split p q i j k l is js ks ls p_is q_is =
       ),
     )
 
--- `swizzle_dyn` may read them
+-- the places pass the test of `swizzle_dyn`
 pub shuffle_ok : (p q i j k l : ℕ) → i ≤ 3 → j ≤ 3 → k ≤ 3 → l ≤ 3 → p ≡ number_l 256 (shuffle_of i j) → q ≡ number_l 256 (shuffle_of k l)
     → SwzOk w8 16 16 0 (digits_l 256 16 (joined_words p q))
 shuffle_ok p q i j k l is js ks ls p_is q_is =
@@ -191,10 +191,10 @@ shuffle_ok p q i j k l is js ks ls p_is q_is =
       ),
     ))
 
--- ---- what a shuffle gives
+-- ---- the result of a shuffle
 
 module _ (a b c d e f g h i j k l m n o p : ℕ) where
-  -- sixteen units
+  -- sixteen units as a list
   abbrev units : List ℕ
   units = a ∷ b ∷ c ∷ d ∷ e ∷ f ∷ g ∷ h ∷ i ∷ j ∷ k ∷ l ∷ m ∷ n ∷ o ∷ p ∷ []
 
@@ -204,7 +204,7 @@ module _ (a b c d e f g h i j k l m n o p : ℕ) where
   abbrev IsHigh : ℕ → ℕ → Type 0
   IsHigh x y = (u v : ℕ) → take (x + y + 2) (take 8 (drop 8 (swz_l w8 16 units 0 (shuffle_of u v ++ moved x y)))) ≡ take (suc x) (i ∷ j ∷ k ∷ l ∷ []) ++ take (suc y) (m ∷ n ∷ o ∷ p ∷ [])
 
-  -- the units of the first two numbers
+  -- the first half of the shuffle has the units of the first two numbers
   pub low_gathered : (x : ℕ) → x ≤ 3 → (y : ℕ) → y ≤ 3 → IsLow x y
   low_gathered = four_cases (OfTwo IsLow)
       (four_cases (IsLow 0) (λ u v. refl) (λ u v. refl) (λ u v. refl) (λ u v. refl))
@@ -212,7 +212,7 @@ module _ (a b c d e f g h i j k l m n o p : ℕ) where
       (four_cases (IsLow 2) (λ u v. refl) (λ u v. refl) (λ u v. refl) (λ u v. refl))
       (four_cases (IsLow 3) (λ u v. refl) (λ u v. refl) (λ u v. refl) (λ u v. refl))
 
-  -- those of the others
+  -- the second half of the shuffle has the units of the other two numbers
   pub high_gathered : (x : ℕ) → x ≤ 3 → (y : ℕ) → y ≤ 3 → IsHigh x y
   high_gathered = four_cases (OfTwo IsHigh)
       (four_cases (IsHigh 0) (λ u v. refl) (λ u v. refl) (λ u v. refl) (λ u v. refl))
@@ -220,12 +220,12 @@ module _ (a b c d e f g h i j k l m n o p : ℕ) where
       (four_cases (IsHigh 2) (λ u v. refl) (λ u v. refl) (λ u v. refl) (λ u v. refl))
       (four_cases (IsHigh 3) (λ u v. refl) (λ u v. refl) (λ u v. refl) (λ u v. refl))
 
--- ---- how many units these are
+-- ---- the number of units
 
 abbrev IsCounted : ℕ → ℕ → Type 0
 IsCounted x y = count_ones (marks_of_two x y) + 2 ≡ x + y + 2
 
--- the marks and two
+-- the number of units is that of the marks, plus two
 pub marks_counted : (x : ℕ) → x ≤ 3 → (y : ℕ) → y ≤ 3 → IsCounted x y
 unfolding lib.Count.ones
 marks_counted = four_cases (OfTwo IsCounted)

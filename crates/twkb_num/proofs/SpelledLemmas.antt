@@ -1,4 +1,4 @@
--- Four numbers that are spelled by a shuffle of their units.
+-- Four numbers spelled by a shuffle of their units.
 use Rattle.std.proofs.Common.{◌≡◌, ℕ, ◌+◌, ◌*◌, ◌/◌, ◌%◌, ◌-◌, ◌<◌, ◌≤◌, ◌^◌, ◌⊎◌, inl, inr, List, [], ◌++◌, take, drop, map, refl, ◌∙◌, ap, arith, count_ones, w8}
 use lib.Dec.{leb}
 use lib.Lanes.{number_l, digits_l, mask_l, zip2, top}
@@ -17,7 +17,7 @@ use Rattle.twkb_num.proofs.TableLemmas.{mask_l-append}
 abbrev pub units_of_four : (base radix a b c d : ℕ) → List ℕ
 units_of_four base radix a b c d = lane_units base radix a ++ (lane_units base radix b ++ (lane_units base radix c ++ lane_units base radix d))
 
--- the mask that a comparison of sixteen units with a bound gives
+-- the mask of comparing sixteen units with a bound
 abbrev pub mask_from : ℕ → List ℕ → ℕ
 mask_from bound units = mask_l (map (top 7) (zip2 (λ x y. cond (leb x y) (2 ^ 8 - 1) 0) (replicate 16 bound) units)) % 18446744073709551616
 
@@ -32,11 +32,11 @@ two_small = four_cases (OfTwo IsSmall)
     (four_cases (IsSmall 2) (omega arith) (omega arith) (omega arith) (omega arith))
     (four_cases (IsSmall 3) (omega arith) (omega arith) (omega arith) (omega arith))
 
--- two lists that are the same
+-- lists joined from equal parts are equal
 both : (xs ys zs ws : List ℕ) → xs ≡ zs → ys ≡ ws → xs ++ ys ≡ zs ++ ws
 both xs ys zs ws e f = cc
 
--- four bits each
+-- a number of sixteen bits as four groups of four bits
 in_fours : (w x y z : ℕ) → w + 16 * (x + 16 * (y + 16 * z)) ≡ (w + 16 * x) + 256 * (y + 16 * z)
 in_fours w x y z = omega arith
 
@@ -47,7 +47,7 @@ module _ (base radix a b c d : ℕ) (alphabet : (radix ≡ 128) ⊎ (radix ≡ 3
   two : 2 ≤ radix
   two = elim alphabet [ inl e ↦ omega arith | inr e ↦ omega arith ]
 
-  -- how many groups of a number go on
+  -- how many groups of a number say that more follow
   abbrev more_of : ℕ → ℕ
   more_of n = groups_after radix 3 n
 
@@ -60,7 +60,7 @@ module _ (base radix a b c d : ℕ) (alphabet : (radix ≡ 128) ⊎ (radix ≡ 3
   abbrev high_marks : ℕ
   high_marks = marks_of_two (more_of c) (more_of d)
 
-  -- the marks of all
+  -- the marks of all four numbers
   all_marks : mask_l (map (λ u. leb (base + radix) u) (units_of_four base radix a b c d)) ≡ low_marks + 256 * high_marks
   all_marks =
       let marked = λ (n : ℕ). map (λ u. leb (base + radix) u) (lane_units base radix n) in
@@ -69,7 +69,7 @@ module _ (base radix a b c d : ℕ) (alphabet : (radix ≡ 128) ⊎ (radix ≡ 3
       ∙ rw (marks_are base radix 3 a one p, marks_are base radix 3 b one q, marks_are base radix 3 c one r, marks_are base radix 3 d one s)
       (in_fours (2 ^ more_of a - 1) (2 ^ more_of b - 1) (2 ^ more_of c - 1) (2 ^ more_of d - 1))
 
-  -- as code reads them
+  -- the marks of four numbers, as the code reads them
   marks_read : (units : List ℕ) → units ≡ units_of_four base radix a b c d → mask_from (base + radix) units ≡ low_marks + 256 * high_marks
   marks_read units is =
       let compared = tops_compared w8 leb (replicate 16 (base + radix)) (units_of_four base radix a b c d) in
@@ -87,7 +87,7 @@ module _ (base radix a b c d : ℕ) (alphabet : (radix ≡ 128) ⊎ (radix ≡ 3
     high_is : mask_from (base + radix) units / 256 ≡ high_marks
     high_is = let low = two_small (more_of a) (few a) (more_of b) (few b) in omega (arith, marks_read units units_are)
 
-    -- the higher marks are eight bits
+    -- the marks of the last two numbers are eight bits
     pub high_small : mask_from (base + radix) units / 256 < 256
     high_small = let high = two_small (more_of c) (few c) (more_of d) (few d) in omega (arith, high_is)
 
@@ -100,11 +100,11 @@ module _ (base radix a b c d : ℕ) (alphabet : (radix ≡ 128) ⊎ (radix ≡ 3
       y_is : y ≡ number_l 256 (shuffle_of (more_of c) (more_of d))
       y_is = high_found (more_of c) (more_of d) (few c) (few d) high_is
 
-      -- the shuffle may be made
+      -- the shuffle's places pass its test
       pub may_shuffle : SwzOk w8 16 16 0 (digits_l 256 16 (joined_words x y))
       may_shuffle = shuffle_ok x y (more_of a) (more_of b) (more_of c) (more_of d) (few a) (few b) (few c) (few d) x_is y_is
 
-      -- and it spells the numbers
+      -- the shuffle spells the four numbers
       pub four_spelled : AreSpelled (unit_over base radix) radix a b c d (swz_l w8 16 units 0 (digits_l 256 16 (joined_words x y)))
           (count_ones (mask_from (base + radix) units % 256) + 2) (count_ones (mask_from (base + radix) units / 256) + 2)
       four_spelled =
@@ -134,7 +134,7 @@ module _ (base radix a b c d : ℕ) (alphabet : (radix ≡ 128) ⊎ (radix ≡ 3
                 ∙ both _ _ _ _ (units_spell base radix 3 c two r) (units_spell base radix 3 d two s);
           }
 
--- Units that spell four numbers over 0 are four varints.
+-- Units that spell four numbers over base 0 are four varints.
 pub spelled_varints : (a b c d low high : ℕ) (units : List ℕ) → AreSpelled (unit_over 0 128) 128 a b c d units low high → AreSpelled leb_unit 128 a b c d units low high
 spelled_varints a b c d low high units are = record {
   few_low = are.few_low;

@@ -1,4 +1,4 @@
--- The tables of places and of units: each word is held against its definition, by computing.
+-- The tables of places and of lengths: each word is compared with its definition by computing.
 use Rattle.std.proofs.Common.{◌≡◌, ℕ, zero, suc, ◌+◌, ◌*◌, ◌%◌, ◌<◌, ◌^◌, ◌==◌, Bool, true, false, ◌&&◌, List, [], ◌∷◌, ◌++◌, length, take, drop, get_or, replicate, length-append, refl, sym, ◌∙◌, ap, arith}
 use Rattle.std.specs.Prelude.{nat_lt, if◌then◌else◌}
 use Rattle.std.proofs.Math.Nat.{pow-suc}
@@ -11,7 +11,7 @@ use Rattle.twkb_num.specs.declared.places.TheConstants.{PLACES, USED}
 use Rattle.twkb_num.specs.Four.{places_in, run_of}
 use Rattle.twkb_num.specs.Places.{run_behind, AreTwo}
 
--- the first two marks that are set end numbers of four units at most
+-- the first two set marks end numbers of at most four units
 abbrev is_two : List Bool → Bool
 is_two marks = nat_lt (run_of marks) 4 && (nat_lt (run_behind marks) 4 && nat_lt (suc (run_of marks + run_behind marks)) (length marks))
 
@@ -19,7 +19,7 @@ is_two marks = nat_lt (run_of marks) 4 && (nat_lt (run_behind marks) 4 && nat_lt
 abbrev two_places : List Bool → ℕ
 two_places marks = number_l 256 (places_in 0 (run_of marks) ++ places_in (suc (run_of marks)) (run_behind marks))
 
--- the word for eight marks
+-- the word that the table needs for eight marks
 abbrev word_for : List Bool → ℕ
 word_for marks = if is_two marks then two_places marks else 18446744073709551615
 
@@ -28,7 +28,7 @@ passes : ℕ → (List Bool → Bool) → Bool
 passes zero test = test []
 passes (suc k) test = passes k (λ marks. test (true ∷ marks)) && passes k (λ marks. test (false ∷ marks))
 
--- so at one of them
+-- a test that passes at every list of k marks passes at one of them
 passes_at : (k : ℕ) (test : List Bool → Bool) (marks : List Bool) → passes k test ≡ true → length marks ≡ k → test marks ≡ true
 unfolding passes
 passes_at zero test [] all long = all
@@ -37,31 +37,31 @@ passes_at zero test (mark ∷ marks) all long = absurd (omega arith)
 passes_at (suc k) test (true ∷ marks) all long = passes_at k (λ ms. test (true ∷ ms)) marks (and_parts _ _ all).0 (omega arith)
 passes_at (suc k) test (false ∷ marks) all long = passes_at k (λ ms. test (false ∷ ms)) marks (and_parts _ _ all).1 (omega arith)
 
--- the table has the word of each eight marks
+-- the table of places has the right word for each eight marks
 table_is : passes 8 (λ marks. get_or PLACES (mask_l marks) 0 == word_for marks) ≡ true
 unfolding passes
 table_is = refl
 
--- at each index
+-- the table of places at one index
 table_word : (marks : List Bool) → length marks ≡ 8 → get_or PLACES (mask_l marks) 0 ≡ word_for marks
 table_word marks long = eqb-true (get_or PLACES (mask_l marks) 0) (word_for marks) (passes_at 8 (λ ms. get_or PLACES (mask_l ms) 0 == word_for ms) marks table_is long)
 
--- the units for eight marks
+-- the number of units that the table needs for eight marks
 abbrev units_for : List Bool → ℕ
 units_for marks = if is_two marks then suc (suc (run_of marks + run_behind marks)) else 0
 
--- the other table has the units of each eight marks
+-- the table of lengths has the right number for each eight marks
 used_table_is : passes 8 (λ marks. get_or USED (mask_l marks) 0 == units_for marks) ≡ true
 unfolding passes
 used_table_is = refl
 
--- at each index
+-- the table of lengths at one index
 table_units : (marks : List Bool) → length marks ≡ 8 → get_or USED (mask_l marks) 0 ≡ units_for marks
 table_units marks long = eqb-true (get_or USED (mask_l marks) 0) (units_for marks) (passes_at 8 (λ ms. get_or USED (mask_l ms) 0 == units_for ms) marks used_table_is long)
 
--- ---- eight marks in front of others
+-- ---- eight marks before others
 
--- their bits stand below the others
+-- the bits of the first marks are below those of the others
 pub mask_l-append : (xs ys : List Bool) → mask_l (xs ++ ys) ≡ mask_l xs + 2 ^ length xs * mask_l ys
 mask_l-append [] ys = omega arith
 mask_l-append (x ∷ xs) ys =
@@ -69,13 +69,13 @@ mask_l-append (x ∷ xs) ys =
     let power : 2 ^ suc (length xs) ≡ 2 ^ length xs * 2 = pow-suc 2 (length xs) in
     rw (rest, power) (omega arith)
 
--- the first mark that is set
+-- the first set mark is found among the first marks, if one is set there
 run_of-append : (xs ys : List Bool) → run_of xs < length xs → run_of (xs ++ ys) ≡ run_of xs
 run_of-append [] ys within = absurd (omega arith)
 run_of-append (true ∷ xs) ys within = refl
 run_of-append (false ∷ xs) ys within = ap suc (run_of-append xs ys (omega arith))
 
--- the second
+-- the second set mark is found among the first marks, if two are set there
 run_behind-append : (xs ys : List Bool) → suc (run_of xs + run_behind xs) < length xs → run_behind (xs ++ ys) ≡ run_behind xs
 run_behind-append xs ys within =
     let first = run_of-append xs ys (omega arith) in
@@ -85,14 +85,14 @@ run_behind-append xs ys within =
 
 -- ---- two numbers
 
--- the test as facts
+-- what the test of two numbers says, as facts
 is_two-true : (marks : List Bool) → is_two marks ≡ true → (run_of marks < 4) × (run_behind marks < 4) × (suc (run_of marks + run_behind marks) < length marks)
 is_two-true marks is =
     let outer = and_parts _ _ is in
     let inner = and_parts _ _ outer.1 in
     (ltb-true (run_of marks) 4 outer.0, ltb-true (run_behind marks) 4 inner.0, ltb-true (suc (run_of marks + run_behind marks)) (length marks) inner.1)
 
--- an even word has two numbers
+-- an even word has the places of two numbers
 even_word : (marks : List Bool) (word : ℕ) → word ≡ word_for marks → word % 2 ≡ 0 → (is_two marks ≡ true) × (word ≡ two_places marks)
 even_word marks word is even = by_test (is_two marks) (two_places marks) word is even
   where
@@ -100,15 +100,15 @@ even_word marks word is even = by_test (is_two marks) (two_places marks) word is
     by_test true places word is even = (refl, is)
     by_test false places word is even = absurd (omega arith)
 
--- ---- marks that others which are not set follow
+-- ---- marks followed by marks that are not set
 
--- these add nothing
+-- marks that are not set add no bits
 pub mask_l-padded : (marks : List Bool) (n : ℕ) → mask_l (marks ++ replicate n false) ≡ mask_l marks
 mask_l-padded [] zero = refl
 mask_l-padded [] (suc n) = let rest = mask_l-padded [] n in omega arith
 mask_l-padded (mark ∷ marks) n = ap (λ m. cond mark 1 0 + 2 * m) (mask_l-padded marks n)
 
--- so the first that is set is one of the others
+-- the first set mark is not one of the added marks
 first_within : (marks : List Bool) (n : ℕ) → run_of (marks ++ replicate n false) < length marks + n → (run_of marks < length marks) × (run_of (marks ++ replicate n false) ≡ run_of marks)
 first_within [] n within = absurd (let none = unset n in omega arith)
   where
@@ -120,7 +120,7 @@ first_within (false ∷ marks) n within =
     let rest = first_within marks n (omega arith) in
     (omega (arith, rest.0), ap suc rest.1)
 
--- and the second
+-- the second set mark is not one of the added marks
 second_within : (marks : List Bool) (n : ℕ) → suc (run_of (marks ++ replicate n false) + run_behind (marks ++ replicate n false)) < length marks + n
     → (run_of (marks ++ replicate n false) ≡ run_of marks) × (run_behind (marks ++ replicate n false) ≡ run_behind marks) × (suc (run_of marks + run_behind marks) < length marks)
 second_within marks n within =
@@ -133,7 +133,7 @@ second_within marks n within =
     let second = first_within (drop at marks) n (omega (arith, first.0, first.1)) in
     (first.1, behind ∙ second.1, omega (arith, first.0, second.0))
 
--- What the tables have for the marks in front.
+-- The entries of both tables for the first eight marks.
 pub two_found : (marks : List Bool) (places used : ℕ) → places ≡ get_or PLACES (mask_l marks % 256) 0 → used ≡ get_or USED (mask_l marks % 256) 0 → places % 2 ≡ 0 → AreTwo marks places used
 two_found marks places used is used_is even =
     let all = marks ++ replicate 8 false in

@@ -1,4 +1,4 @@
--- Two numbers in front, and two behind them.
+-- The first two numbers of a text, and the next two.
 use Rattle.std.proofs.Common.{◌≡◌, ℕ, zero, suc, ◌+◌, ◌*◌, ◌/◌, ◌%◌, ◌<◌, ◌≤◌, ◌^◌, ◌⊎◌, Bool, List, [], ◌∷◌, ◌++◌, length, drop, map, get_or, refl, sym, ◌∙◌, ap, arith}
 use lib.Lanes.{mask_l, number_l, digits_l}
 use mir.Syntax.{w8}
@@ -11,12 +11,12 @@ use Rattle.twkb_num.proofs.FourLemmas.{marks_of}
 use Rattle.twkb_num.proofs.MarkLemmas.{mask_l-drop}
 use Rattle.twkb_num.proofs.PlaceLemmas.{sixteen_places, places_moved, places_of_two, places_below, places_ok, words_are, word_found, four_same}
 
--- two numbers in front, and two behind them
+-- the first two numbers, and the two after them
 pub record AreTwice (marks : List Bool) (places used later_places later_used : ℕ) : Type 0 where
   pub low : AreTwo marks places used
   pub high : AreTwo (drop used marks) later_places later_used
 
--- as they are found by the bits of the units, and by those behind the first two
+-- the end bits give the first two numbers, and the shifted bits the next two
 pub twice_found : (radix : ℕ) (us : List ℕ) (ends places used later_places later_used : ℕ) → ends ≡ mask_l (marks_of radix us)
     → ((marks : List Bool) → ends ≡ mask_l marks → AreTwo marks places used)
     → ((marks : List Bool) → ends / 2 ^ used ≡ mask_l marks → AreTwo marks later_places later_used)
@@ -26,8 +26,8 @@ twice_found radix us ends places used later_places later_used is first later = r
   high = later (drop used (marks_of radix us)) (ap (λ n. n / 2 ^ used) is ∙ mask_l-drop used (marks_of radix us));
 }
 
--- four numbers by the marks of their last units: how many units each has behind its first, at most three, where all but the
--- first begin, and how many units these are
+-- four numbers by the marks of their last units: how many units each has after its first, at most
+-- three, where all but the first begin, and how many units the four have
 pub record AreFour (marks : List Bool) (i j k l second third fourth count : ℕ) : Type 0 where
   pub second_at : second ≡ suc i
   pub third_at : third ≡ second + suc j
@@ -43,7 +43,7 @@ pub record AreFour (marks : List Bool) (i j k l second third fourth count : ℕ)
   pub third_short : k ≤ 3
   pub fourth_short : l ≤ 3
 
--- twice two are four
+-- two numbers and two more are four
 pub twice_two : (marks : List Bool) (places used later_places later_used : ℕ) → AreTwice marks places used later_places later_used
     → AreFour marks (run_of marks) (run_behind marks) (run_of (drop used marks)) (run_behind (drop used marks))
     (suc (run_of marks)) used (used + suc (run_of (drop used marks))) (used + later_used)
@@ -73,7 +73,7 @@ twice_two marks places used later_places later_used twice =
 
 -- ---- the places of all four
 
--- those of the two behind, moved
+-- the places of the last two numbers, moved by the units of the first two
 later_places_are : (marks : List Bool) (used moved later_places later_used : ℕ) → moved ≡ used → AreTwo marks later_places later_used
     → later_places + moved * 72340172838076673 ≡ number_l 256 (places_in used (run_of marks) ++ places_in (used + suc (run_of marks)) (run_behind marks))
 later_places_are marks used moved later_places later_used same high =
@@ -82,7 +82,7 @@ later_places_are marks used moved later_places later_used same high =
     (places_moved used 0 (suc (run_of marks)) (run_of marks) (run_behind marks)
     ∙ ap (λ at. number_l 256 (places_in at (run_of marks) ++ places_in (used + suc (run_of marks)) (run_behind marks))) none)
 
--- they fit
+-- the places of the last two numbers fit their bytes
 pub later_places_below : (marks : List Bool) (places used moved later_places later_used : ℕ) → moved ≡ used → AreTwice marks places used later_places later_used
     → later_places + moved * 72340172838076673 < 18446744073709551616
 later_places_below marks places used moved later_places later_used same twice =
@@ -94,7 +94,7 @@ later_places_below marks places used moved later_places later_used same twice =
 abbrev pub both_places : ℕ → ℕ → ℕ → ℕ
 both_places places moved later_places = number_l 18446744073709551616 (places ∷ (later_places + moved * 72340172838076673) ∷ [])
 
--- these are the places of the four
+-- the two words hold the places of the four numbers
 four_places : (marks : List Bool) (places used moved later_places later_used : ℕ) → moved ≡ used → AreTwice marks places used later_places later_used
     → both_places places moved later_places
     ≡ number_l 256 (sixteen_places 0 (suc (run_of marks)) used (used + suc (run_of (drop used marks))) (run_of marks) (run_behind marks) (run_of (drop used marks)) (run_behind (drop used marks)))
@@ -103,7 +103,7 @@ four_places marks places used moved later_places later_used same twice =
     0 (suc (run_of marks)) used (used + suc (run_of (drop used marks))) (run_of marks) (run_behind marks) (run_of (drop used marks)) (run_behind (drop used marks))
     twice.low.places_are (later_places_are (drop used marks) used moved later_places later_used same twice.high)
 
--- `swizzle_dyn` may read them
+-- the sixteen places pass the test of `swizzle_dyn`
 pub four_places_ok : (marks : List Bool) (places used moved later_places later_used : ℕ) → moved ≡ used → AreTwice marks places used later_places later_used
     → SwzOk w8 16 16 0 (digits_l 256 16 (both_places places moved later_places))
 four_places_ok marks places used moved later_places later_used same twice =
@@ -114,7 +114,7 @@ four_places_ok marks places used moved later_places later_used same twice =
 
 -- ---- lanes that hold units
 
--- the first units of a number tell it
+-- a number is given by its own units alone
 front_same : (radix more : ℕ) (us vs : List ℕ) → more < length us → more < length vs → ((k : ℕ) → k ≤ more → get_or us k 0 ≡ get_or vs k 0)
     → number_in_front radix more us ≡ number_in_front radix more vs
 front_same radix more [] vs within fits same = absurd (omega arith)
@@ -125,13 +125,13 @@ front_same radix (suc more) (u ∷ us) (v ∷ vs) within fits same =
     let rest = front_same radix more us vs (omega arith) (omega arith) (λ k few. same (suc k) (omega arith)) in
     rw (first, rest) refl
 
--- sixteen lanes that are bytes, and units as far as there are some
+-- sixteen lanes are bytes, and the first of them are these units
 pub record AreLanes (lanes us : List ℕ) : Type 0 where
   pub count : length lanes ≡ 16
   pub fit : (k : ℕ) → get_or lanes k 0 < 256
   pub same : (k : ℕ) → k < 16 → k < length us → get_or lanes k 0 ≡ get_or us k 0
 
--- so they tell a number of these units
+-- the lanes give the number of these units
 lanes_tell : (radix at more : ℕ) (lanes us : List ℕ) → AreLanes lanes us → at + more ≤ 15 → at + more < length us → number_in_front radix more (drop at lanes) ≡ number_in_front radix more (drop at us)
 lanes_tell radix at more lanes us are within fits =
     let count = are.count in
@@ -140,7 +140,7 @@ lanes_tell radix at more lanes us are within fits =
     front_same radix more (drop at lanes) (drop at us) (omega arith) (omega arith)
     (λ k few. get_or-drop at lanes k 0 ∙ are.same (at + k) (omega arith) (omega arith) ∙ sym (get_or-drop at us k 0))
 
--- The groups that they bring are those of the four numbers.
+-- The groups at the places found are those of the four numbers.
 pub numbers_found : (radix : ℕ) (lanes us : List ℕ) (places used moved later_places later_used : ℕ)
     → (radix ≡ 128) ⊎ (radix ≡ 32) → AreLanes lanes us → moved ≡ used → AreTwice (marks_of radix us) places used later_places later_used
     → map (joined_groups radix) (digits_l 4294967296 4 (number_l 256 (swz_l w8 16 lanes 0 (digits_l 256 16 (both_places places moved later_places)))))
@@ -165,7 +165,7 @@ numbers_found radix lanes us places used moved later_places later_used alphabet 
     ∙ four_same _ _ _ _ _ _ _ _ (number 0 (run_of marks) (omega arith) (omega arith) four.first_short) (number second (run_behind marks) (omega arith) (omega arith) four.second_short)
     (number used (run_of (drop used marks)) (omega arith) (omega arith) four.third_short) (number fourth (run_behind (drop used marks)) (omega arith) (omega arith) four.fourth_short)
 
--- they have sixteen units at most
+-- four numbers have at most sixteen units
 pub few_used : (marks : List Bool) (places used later_places later_used : ℕ) → AreTwice marks places used later_places later_used → (used + later_used ≤ 16) × (used + later_used ≤ length marks)
 few_used marks places used later_places later_used twice =
     let four = twice_two marks places used later_places later_used twice in

@@ -1,4 +1,4 @@
--- The numbers of four zigzag forms at once, in 32 bits each.
+-- The numbers of four zigzag forms, computed at once in 32 bits each.
 use Rattle.std.proofs.Common.{◌≡◌, ℕ, ℤ, pos, negsuc, zero, suc, ◌+◌, ◌-◌, ◌/◌, ◌%◌, ◌<◌, ◌^◌, Bool, true, false, List, [], ◌∷◌, length, map, refl, ◌∙◌, ap, arith, Fits, FitsSigned, w32, w64, eqb}
 use mir.Syntax.{Width}
 use mir.Val.{hbits}
@@ -12,14 +12,14 @@ use Rattle.twkb_num.specs.Four.{unzigzagged_bits}
 use Rattle.twkb_num.specs.Zigzag.{zigzag_of, unzigzag_of}
 use Rattle.twkb_num.proofs.ZigzagLemmas.{zigzag_of-unzigzag_of}
 
--- the lanes, as they are computed
+-- the lanes as the code computes them
 abbrev unzigzagged_lanes : ℕ → List ℕ → List ℕ
 unzigzagged_lanes k forms =
     sel_l (map (top 31) (zip2 (λ a b. cond (eqb a b) 4294967295 0) (zip2 (λ a b. a % b) forms (replicate k 2)) (replicate k 0)))
     (zip2 (λ a b. a / b) forms (replicate k 2))
     (zip2 (λ a b. (a + (4294967296 - b)) % 4294967296) (replicate k 4294967295) (zip2 (λ a b. a / b) forms (replicate k 2)))
 
--- one of them
+-- one lane is the unzigzagged number
 lane_is : (n : ℕ) → n < 4294967296
     → cond (top 31 (cond (eqb (n % 2) 0) 4294967295 0)) (n / 2) ((4294967295 + (4294967296 - n / 2)) % 4294967296) ≡ unzigzagged_bits n
 lane_is n small = go (n % 2) refl (omega arith)
@@ -29,7 +29,7 @@ lane_is n small = go (n % 2) refl (omega arith)
     go (suc zero) e h = rw e (omega arith)
     go (suc (suc r)) e h = absurd (omega arith)
 
--- all of them
+-- all lanes are the unzigzagged numbers
 pub unzigzagged_are : (k : ℕ) (forms : List ℕ) → length forms ≡ k → Each1 (Fits w32) forms → unzigzagged_lanes k forms ≡ map unzigzagged_bits forms
 unzigzagged_are zero [] long fit = refl
 unzigzagged_are zero (n ∷ forms) long fit = absurd (omega arith)
@@ -40,7 +40,7 @@ unzigzagged_are (suc k) (n ∷ forms) long fit =
 
 -- ---- the bits of one number
 
--- the number of a form fits a width's signed type where half the form does
+-- the number of a form fits a signed width if half the form fits its positive half
 number_fits : (w : Width) (n : ℕ) → n / 2 < 2 ^ hbits w → FitsSigned w (unzigzag_of n)
 number_fits w n half = fits (nat_eq (n % 2) 0)
   where
@@ -48,7 +48,7 @@ number_fits w n half = fits (nat_eq (n % 2) 0)
     fits true = record { sfits = half }
     fits false = record { sfits = half }
 
--- A lane that is read with its sign, and then widened, is the number of its form.
+-- A lane read with its sign, and then widened, is the number of its form.
 pub form_found : (n lane : ℕ) (read wide : ℤ) → n < 2 ^ 28 → lane ≡ unzigzagged_bits n → read ≡ cast_signed w32 lane
     → wide ≡ cast_signed w32 (cast_unsigned w32 read) → zigzag_of (cast_signed w64 (cast_unsigned w64 wide)) ≡ n
 form_found n lane read wide small lane_is read_is wide_is =

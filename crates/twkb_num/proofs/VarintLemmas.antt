@@ -1,4 +1,4 @@
--- Varints: the spellings by seven bits, one at a place, and those that are too long.
+-- Varints as the spellings by seven bits; no varint begins another; which ones are too long.
 use Rattle.std.proofs.Common.{◌≡◌, ℕ, ◌+◌, ◌-◌, ◌*◌, ◌/◌, ◌%◌, ◌<◌, ◌≤◌, ◌^◌, true, false, inl, inr, Some, List, [], ◌∷◌, ◌++◌, length, map, refl, sym, ◌∙◌, ap, arith, lit<}
 use Rattle.std.specs.Prelude.{◌↔◌}
 use Rattle.std.specs.Int.Digits.{AllBelowBase}
@@ -28,12 +28,12 @@ sevens_spell (b ∷ c ∷ bs) h =
     let rest = sevens_spell (c ∷ bs) h.2 in
     ap (λ n. n ∷ c ∷ bs) high ∙ ap (λ ts. (b % 128 + 128) ∷ ts) rest
 
--- these are digits
+-- the low seven bits of bytes are digits
 sevens_below : (bs : List ℕ) → AllBelowBase 128 (map (λ b. b % 128) bs)
 sevens_below [] = tt
 sevens_below (b ∷ bs) = (mod_below b 128 (omega arith), sevens_below bs)
 
--- and stand for the sum
+-- the low seven bits stand for the sum
 sevens_sum : (bs : List ℕ) → number_of 128 (map (λ b. b % 128) bs) ≡ seven_bit_sum bs
 sevens_sum [] = refl
 sevens_sum (b ∷ bs) = rw (sevens_sum bs) refl
@@ -50,7 +50,7 @@ units_marked (d ∷ []) p h = p.0
 units_marked (d ∷ e ∷ []) p h = (omega arith, omega (arith, p.0), p.1.0)
 units_marked (d ∷ e ∷ f ∷ ds) p h = (omega arith, omega (arith, p.0), units_marked (e ∷ f ∷ ds) p.1 (omega arith))
 
--- and their sum is the number
+-- the sum of the units of digits is their number
 units_sum : (ds : List ℕ) → AllBelowBase 128 ds → seven_bit_sum (units_of leb_unit ds) ≡ number_of 128 ds
 units_sum [] p = refl
 units_sum (d ∷ []) p = rw (mod-eq_of_lt p.0) refl
@@ -58,7 +58,7 @@ units_sum (d ∷ e ∷ ds) p =
     let low : (d + 128) % 128 ≡ d = omega (arith, p.0) in
     rw (low, units_sum (e ∷ ds) p.1) refl
 
--- the varints are the spellings by seven bits
+-- varints are the spellings by seven bits
 pub varint_is : (bs : List ℕ) (n : ℕ) → (IsVarint bs n → IsSpelling leb_unit 128 10 bs n) × (IsSpelling leb_unit 128 10 bs n → IsVarint bs n)
 varint_is bs n = (
   λ v. record {
@@ -78,15 +78,15 @@ varint_is bs n = (
   },
 )
 
--- no varint begins another, and each is of one number
+-- no varint begins another, and each spells one number
 pub one_varint : (a b x y : List ℕ) (m n : ℕ) → IsVarint a m → IsVarint b n → a ++ x ≡ b ++ y → (m ≡ n) × (a ≡ b)
 one_varint a b x y m n va vb e = let s = spelling_one leb_laws a b x y m n ((varint_is a m).0 va) ((varint_is b n).0 vb) e in (s.1, s.0)
 
--- the shortest varint is one
+-- the shortest varint is a varint
 pub IsVarint-varint_of : (n : ℕ) → n < 2 ^ 64 → IsVarint (varint_of n) n
 IsVarint-varint_of n h = (varint_is (varint_of n) n).1 (shortest_spelling leb_laws n h)
 
--- and has at most ten bytes
+-- the shortest varint of 64 bits has at most ten bytes
 pub length-varint_of : (n : ℕ) → n < 2 ^ 64 → length (varint_of n) ≤ 10
 length-varint_of n h = (IsVarint-varint_of n h).within
 
@@ -99,17 +99,17 @@ open_sevens (b ∷ bs) h l =
     let first : b ≡ b % 128 + 128 = omega (arith, h.0, l.0) in
     ap (λ n. n ∷ bs) first ∙ ap (λ ts. (b % 128 + 128) ∷ ts) (open_sevens bs h.1 l.1)
 
--- open units have the top bit set
+-- open units have their top bit set
 open_high : (ds : List ℕ) → AllByRecursion (λ b. 128 ≤ b) (open_units leb_unit ds)
 open_high [] = tt
 open_high (d ∷ ds) = (omega arith, open_high ds)
 
--- and are bytes
+-- open units are bytes
 open_low : (ds : List ℕ) → AllBelowBase 128 ds → AllByRecursion (λ b. b < 256) (open_units leb_unit ds)
 open_low [] p = tt
 open_low (d ∷ ds) p = (omega (arith, p.0), open_low ds p.1)
 
--- the bytes that begin varints are the open units by seven bits
+-- the bytes that begin varints are open units by seven bits
 pub open_varint_is : (bs : List ℕ) → (IsOpenVarint bs → IsOpen leb_unit 128 10 bs) × (IsOpen leb_unit 128 10 bs → IsOpenVarint bs)
 open_varint_is bs = (
   λ v. record {
@@ -127,17 +127,17 @@ open_varint_is bs = (
 
 -- ---- varints that are too long
 
--- one byte more counts from its place on
+-- the sum of some bytes with one more after them
 seven_bit_sum-push : (bs : List ℕ) (b : ℕ) → seven_bit_sum (bs ++ b ∷ []) ≡ seven_bit_sum bs + 128 ^ length bs * (b % 128)
 seven_bit_sum-push [] b = rw (pow-zero 128) (omega arith)
 seven_bit_sum-push (c ∷ bs) b = rw (seven_bit_sum-push bs b, pow-suc 128 (length bs)) (omega arith)
 
--- the sum is below the power
+-- the sum of k bytes is below 128 ^ k
 seven_bit_sum-lt : (bs : List ℕ) → seven_bit_sum bs < 128 ^ length bs
 seven_bit_sum-lt [] = rw (pow-zero 128) (omega arith)
 seven_bit_sum-lt (b ∷ bs) = rw (pow-suc 128 (length bs)) (omega (arith, seven_bit_sum-lt bs, mod_below b 128 (omega arith)))
 
--- a sum of 2 ^ 64 or above takes nine bytes and a tenth above 1
+-- a sum of 2 ^ 64 or above needs nine bytes and a tenth above 1
 too_large : (us : List ℕ) (u : ℕ) → length us ≤ 9 → 2 ^ 64 ≤ seven_bit_sum (us ++ u ∷ []) → (length us ≡ 9) × (2 ≤ u)
 too_large us u room large =
     let sum = rw (seven_bit_sum-push us u) at large in
@@ -170,7 +170,7 @@ high_from_group u d e =
       | inr high ↦ high
     ]
 
--- a varint is too long exactly at a tenth byte above 1
+-- a varint is too long exactly if its tenth byte is above 1
 pub too_long_is : (us : List ℕ) (u : ℕ) → IsOpenVarint us → u < 256 → IsAnswer leb_unit leb_group 128 10 us u TooLong ↔ ((length us ≡ 9) × (2 ≤ u))
 too_long_is us u o small = (λ t. long us u o t, λ h. answered us u o small h.0 h.1)
   where
@@ -203,7 +203,7 @@ too_long_is us u o small = (λ t. long us u o t, λ h. answered us u o small h.0
 pub one_byte : (n : ℕ) → n < 128 → length (varint_of n) ≡ 1
 one_byte n h = ap length (shortest_one leb_unit 128 n h)
 
--- any other one more than its quotient
+-- any other number has one byte more than its quotient
 pub one_byte_more : (n : ℕ) → 128 ≤ n → length (varint_of n) ≡ 1 + length (varint_of (n / 128))
 one_byte_more n h = omega (arith, ap length (shortest_more leb_unit 128 n (lit< tt) h))
 

@@ -1,13 +1,15 @@
--- The two zigzag functions undo each other, and no two numbers have one form.
-use Rattle.std.proofs.Common.{◌≡◌, ℕ, ℤ, pos, negsuc, ◌+◌, ◌*◌, ◌/◌, ◌%◌, ◌<◌, zero, suc, refl, ap, arith}
+-- The two zigzag functions undo each other, and no two numbers have the same form.
+use Rattle.std.proofs.Common.{◌≡◌, ℕ, ℤ, pos, negsuc, ◌+◌, ◌*◌, ◌/◌, ◌%◌, ◌<◌, ◌^◌, ◌-◌, zero, suc, refl, ap, arith}
+use Rattle.std.specs.Prelude.{◌≤ℤ◌}
+use Rattle.std.proofs.lemmas.Int.{ints}
 use Rattle.twkb_num.specs.Zigzag.{zigzag_of, unzigzag_of}
 
--- a number is that of its form
+-- unzigzag undoes zigzag
 pub unzigzag_of-zigzag_of : (n : ℤ) → unzigzag_of (zigzag_of n) ≡ n
 unzigzag_of-zigzag_of (pos n) = let e : (2 * n) % 2 ≡ 0 = omega arith in let d : (2 * n) / 2 ≡ n = omega arith in rw (e, d)
 unzigzag_of-zigzag_of (negsuc n) = let e : (2 * n + 1) % 2 ≡ 1 = omega arith in let d : (2 * n + 1) / 2 ≡ n = omega arith in rw (e, d)
 
--- a form is that of its number
+-- zigzag undoes unzigzag
 pub zigzag_of-unzigzag_of : (n : ℕ) → zigzag_of (unzigzag_of n) ≡ n
 zigzag_of-unzigzag_of n = go (n % 2) refl (omega arith)
   where
@@ -16,9 +18,14 @@ zigzag_of-unzigzag_of n = go (n % 2) refl (omega arith)
     go (suc zero) e h = rw e (omega arith)
     go (suc (suc r)) e h = absurd (omega arith)
 
--- numbers of one form are one
+-- numbers with the same zigzag form are equal
 pub zigzag_one : (m n : ℤ) → zigzag_of m ≡ zigzag_of n → m ≡ n
 zigzag_one (pos m) (pos n) e = let h : m ≡ n = omega arith in ap pos h
 zigzag_one (pos m) (negsuc n) e = absurd (omega arith)
 zigzag_one (negsuc m) (pos n) e = absurd (omega arith)
 zigzag_one (negsuc m) (negsuc n) e = let h : m ≡ n = omega arith in ap negsuc h
+
+-- a form below 2 ^ 28 is that of a number from -2 ^ 27 to 2 ^ 27 - 1
+pub short_form : (d : ℤ) → zigzag_of d < 2 ^ 28 → (negsuc (2 ^ 27 - 1) ≤ℤ d) × (d ≤ℤ pos (2 ^ 27 - 1))
+short_form (pos k) small = (omega (arith, ints, small), omega (arith, ints, small))
+short_form (negsuc k) small = (omega (arith, ints, small), omega (arith, ints, small))

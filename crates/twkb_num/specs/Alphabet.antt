@@ -1,7 +1,8 @@
--- Alphabets: a unit stands for a group of bits and says whether more follow. What each alphabet keeps, and our two.
+-- Alphabets: a unit stands for a group of bits and says whether more follow. The laws of an
+-- alphabet, and our two alphabets.
 use Rattle.std.specs.Prelude.{◌≡◌, ℕ, ◌+◌, ◌-◌, ◌<◌, ◌≤◌, ◌^◌, Bool, true, false, Option, Some, None, if◌then◌else◌, nat_lt}
 
--- what the numbers and functions of an alphabet keep
+-- the laws that the numbers and functions of an alphabet keep
 pub record AlphabetLaws (bits longest : ℕ) (unit : ℕ → Bool → ℕ) (group : ℕ → Option (ℕ × Bool)) : Type 0 where
   pub five : 5 ≤ bits
   pub seven : bits ≤ 7
@@ -15,7 +16,7 @@ pub record AlphabetLaws (bits longest : ℕ) (unit : ℕ → Bool → ℕ) (grou
   pub below : (u d : ℕ) (more : Bool) → u < 256 → group u ≡ Some (d, more) → d < 2 ^ bits
   pub written_back : (u d : ℕ) (more : Bool) → u < 256 → group u ≡ Some (d, more) → unit d more ≡ u
 
--- a varint's byte: seven bits, and 128 where more follow (TWKB specification; LEB128)
+-- a varint's byte: seven bits, and 128 if more follow (TWKB specification; LEB128)
 abbrev pub leb_unit : ℕ → Bool → ℕ
 leb_unit d more = if more then d + 128 else d
 
@@ -23,11 +24,12 @@ leb_unit d more = if more then d + 128 else d
 abbrev pub leb_group : ℕ → Option (ℕ × Bool)
 leb_group u = if nat_lt u 128 then Some (u, false) else Some (u - 128, true)
 
--- a polyline's character: five bits, 32 where more follow, and 63 (Encoded Polyline Algorithm Format)
+-- a polyline's character: five bits, 32 if more follow, and 63 (Encoded Polyline Algorithm Format)
 abbrev pub five_unit : ℕ → Bool → ℕ
 five_unit d more = (if more then d + 32 else d) + 63
 
--- the digit that a character stands for, and whether more follow: `?` to `^` are the last of their spelling, `_` to `~` are not
+-- the digit that a character stands for, and whether more follow: `?` to `^` are the last of
+-- their spelling, `_` to `~` are not
 abbrev pub five_group : ℕ → Option (ℕ × Bool)
 five_group u =
     if nat_lt u 63 then None else

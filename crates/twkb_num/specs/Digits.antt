@@ -1,8 +1,8 @@
 -- The digits of a number to a base, low first.
 use Rattle.std.specs.Prelude.{ℕ, zero, suc, ◌+◌, ◌*◌, ◌/◌, ◌%◌, true, false, List, [], ◌∷◌, nat_lt}
 
--- The digits by repeated division, at most `turns` beside the last. The cases stand in an `elim`, so that a computation
--- ends with the last digit and not with the last turn.
+-- The digits by repeated division, at most `turns` and the last. The cases stand in an `elim`, so
+-- that a computation ends with the last digit and not with the last turn.
 unfoldable pub digits_within : ℕ → ℕ → ℕ → List ℕ
 digits_within zero base n = n ∷ []
 digits_within (suc turns) base n =
@@ -20,7 +20,7 @@ abbrev pub number_of : ℕ → List ℕ → ℕ
 number_of base [] = 0
 number_of base (d ∷ ds) = d + base * number_of base ds
 
--- the lowest k digits of n, also those that are 0
+-- the lowest k digits of n, zeros included
 abbrev pub low_digits : ℕ → ℕ → ℕ → List ℕ
 low_digits base zero n = []
 low_digits base (suc k) n = (n % base) ∷ low_digits base k (n / base)

@@ -1,10 +1,11 @@
--- Four numbers in front of units, each in its shortest spelling.
+-- Four numbers at the start of some units, each in its shortest spelling.
 use Rattle.std.specs.Prelude.{◌≡◌, ℕ, zero, suc, ◌+◌, ◌*◌, ◌/◌, ◌%◌, ◌<◌, ◌≤◌, ◌^◌, Bool, true, false, List, [], ◌∷◌, ◌++◌, length, take, nat_le, if◌then◌else◌}
 use Rattle.std.specs.Int.{w32, cast_unsigned}
 use Rattle.twkb_num.specs.Spelling.{shortest}
 use Rattle.twkb_num.specs.Zigzag.{unzigzag_of}
 
--- the first `count` units are the shortest spellings of four numbers, one behind the other, none of more than 28 bits
+-- the first `count` units are the shortest spellings of four numbers, one after the other, of at
+-- most 28 bits each
 pub record FourInFront (unit : ℕ → Bool → ℕ) (base : ℕ) (units : List ℕ) (a b c d count : ℕ) : Type 0 where
   pub within : count ≤ length units
   pub spelled : take count units ≡ shortest unit base a ++ (shortest unit base b ++ (shortest unit base c ++ shortest unit base d))
@@ -13,25 +14,26 @@ pub record FourInFront (unit : ℕ → Bool → ℕ) (base : ℕ) (units : List 
   pub third_small : c < 2 ^ 28
   pub fourth_small : d < 2 ^ 28
 
--- the unit of a group in an alphabet that begins at `base`: `radix` more where more follow
+-- the unit of a group in an alphabet that begins at `base`; it is `radix` higher if more follow
 abbrev pub unit_over : ℕ → ℕ → ℕ → Bool → ℕ
 unit_over base radix d more = (if more then d + radix else d) + base
 
--- the number whose groups are those of the first unit and of `more` units behind it, low first
+-- the number whose groups are those of the first unit and the `more` units after it, low first
 abbrev pub number_in_front : ℕ → ℕ → List ℕ → ℕ
 number_in_front radix more [] = 0
 number_in_front radix zero (u ∷ us) = u % radix
 number_in_front radix (suc more) (u ∷ us) = u % radix + radix * number_in_front radix more us
 
--- the place of a number's unit k, where it begins at `at` and has `more` units behind the first; 128 or above where it has none
+-- the place of unit k of a number that begins at `at` and has `more` units after the first; 128
+-- or above if the number has no unit k
 abbrev pub place_in : ℕ → ℕ → ℕ → ℕ
 place_in at more k = if nat_le k more then at + k else at + 128
 
--- the four of these
+-- the places of a number's four units
 abbrev pub places_in : ℕ → ℕ → List ℕ
 places_in at more = place_in at more 0 ∷ place_in at more 1 ∷ place_in at more 2 ∷ place_in at more 3 ∷ []
 
--- the number of four groups that stand in the bytes of a word, low first
+-- the number of the four groups in the bytes of a word, low first
 abbrev pub joined_groups : ℕ → ℕ → ℕ
 joined_groups radix word =
     word % radix + radix * (word / 256 % radix + radix * (word / 256 / 256 % radix + radix * (word / 256 / 256 / 256 % radix)))
@@ -40,7 +42,7 @@ joined_groups radix word =
 abbrev pub unzigzagged_bits : ℕ → ℕ
 unzigzagged_bits form = cast_unsigned w32 (unzigzag_of form)
 
--- how many marks are not set before the first that is
+-- how many marks come before the first that is set
 abbrev pub run_of : List Bool → ℕ
 run_of [] = 0
 run_of (true ∷ marks) = 0

@@ -1,4 +1,4 @@
--- How many bytes four varints have together.
+-- The total length of four varints.
 use Rattle.std.specs.Prelude.{ℕ, ◌+◌, ◌-◌, length}
 use Rattle.twkb_num.specs.Varint.{varint_of}
 

@@ -1,14 +1,14 @@
--- Where the units of two numbers in front stand.
+-- The places of the units of the first two numbers.
 use Rattle.std.specs.Prelude.{◌≡◌, ℕ, suc, ◌+◌, ◌≤◌, Bool, List, ◌++◌, length, drop}
 use lib.Lanes.{number_l}
 use Rattle.twkb_num.specs.Four.{places_in, run_of}
 
--- how many marks are not set between the first two that are
+-- how many marks lie between the first two that are set
 abbrev pub run_behind : List Bool → ℕ
 run_behind marks = run_of (drop (suc (run_of marks)) marks)
 
--- the first two marks that are set end numbers of four units at most, which have so many units together, and whose units stand
--- at these places
+-- the first two marks that are set end numbers of at most four units; the two have `used` units
+-- together, which are at these places
 pub record AreTwo (marks : List Bool) (places used : ℕ) : Type 0 where
   pub first_short : run_of marks ≤ 3
   pub second_short : run_behind marks ≤ 3

@@ -1,10 +1,10 @@
--- Varints in the words of their format (TWKB specification; LEB128).
+-- Varints in the words of their specification (TWKB specification; LEB128).
 use Rattle.std.specs.Prelude.{◌≡◌, ℕ, ◌+◌, ◌*◌, ◌%◌, ◌<◌, ◌≤◌, ◌^◌, List, [], ◌∷◌, length}
 use Rattle.std.specs.List.{AllByRecursion}
 use Rattle.twkb_num.specs.Alphabet.{leb_unit}
 use Rattle.twkb_num.specs.Spelling.{shortest}
 
--- each byte but the last has its top bit set, and the last has not
+-- each byte but the last has its top bit set, and the last does not
 abbrev pub HasMarks : List ℕ → Type 0
 HasMarks [] = ⊥
 HasMarks (b ∷ []) = b < 128
@@ -15,7 +15,8 @@ abbrev pub seven_bit_sum : List ℕ → ℕ
 seven_bit_sum [] = 0
 seven_bit_sum (b ∷ bs) = b % 128 + 128 * seven_bit_sum bs
 
--- the bytes, 1 to 10, spell n, a number of 64 bits, also where fewer would do (profile: ten bytes at most, padding is read)
+-- the bytes, 1 to 10, spell n, a number of 64 bits, even if fewer would do (profile: ten bytes at
+-- most, padding is read)
 pub record IsVarint (bytes : List ℕ) (n : ℕ) : Type 0 where
   pub marked : HasMarks bytes
   pub within : length bytes ≤ 10
@@ -26,7 +27,7 @@ pub record IsVarint (bytes : List ℕ) (n : ℕ) : Type 0 where
 abbrev pub varint_of : ℕ → List ℕ
 varint_of n = shortest leb_unit 128 n
 
--- the bytes begin a varint and end none: at most nine, each with its top bit set
+-- the bytes begin a varint and do not end it: at most nine, each with its top bit set
 pub record IsOpenVarint (bytes : List ℕ) : Type 0 where
   pub high : AllByRecursion (λ b. 128 ≤ b) bytes
   pub below : AllByRecursion (λ b. b < 256) bytes

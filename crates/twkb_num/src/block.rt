@@ -1,31 +1,36 @@
-//! Where the numbers in front of units end.
-ghost use Rattle.std.specs.Prelude.{◌+◌, ◌*◌, ◌<◌, ◌≤◌, ℕ, List, length, take, drop};
-ghost use Rattle.twkb_num.specs.Block.{AreEnds, AreMarks, AreEndsBefore, units_in};
+//! Where numbers end in a block of 64 units, as a word with a bit for each unit.
+ghost use Rattle.std.specs.Prelude.{◌≡◌, ◌+◌, ◌*◌, ◌<◌, ◌≤◌, ℕ, List, length, take, drop};
+ghost use Rattle.twkb_num.specs.Block.{AreEnds, HasEndsOf, AreMarks, AreEndsBefore, units_in};
 
+use crate::alphabet::{Alphabet, POLYLINES, VARINTS};
 use std::simd::u8x16;
 
-/// How many units a block has.
+/// The number of units in a block.
 pub const BLOCK: usize = 64;
 
-/// A bit for each of the first 64 bytes that ends a varint, up to the first that is a padded number's last (TWKB specification;
-/// LEB128); 0 where there are fewer bytes. Takes no memory.
+/// Sets a bit for each of the first 63 bytes that ends a varint, and stops before the first
+/// padded number (TWKB specification; LEB128). Returns 0 if there are fewer than 64 bytes. Takes
+/// no memory.
 #[inline(always)]
 pub fn varint_ends(bytes: &[u8]) -> u64
-    ensures { AreEnds 0 128 bytes.now result }
+    ensures ends { AreEnds 0 128 bytes.now result }
+    ensures all { 64 ≤ length bytes.now → HasEndsOf 63 0 128 bytes.now result }
 {
-    block_ends(bytes, 0, 128, 255)
+    block_ends(bytes, VARINTS)
 }
 
-/// A bit for each of the first 64 characters that ends a number of a polyline, up to the first that is outside the alphabet or a
-/// padded number's last (Encoded Polyline Algorithm Format); 0 where there are fewer characters. Takes no memory.
+/// Sets a bit for each of the first 63 characters that ends a number of a polyline, and stops
+/// before the first character outside the alphabet and the first padded number (Encoded Polyline
+/// Algorithm Format). Returns 0 if there are fewer than 64 characters. Takes no memory.
 #[inline(always)]
 pub fn character_ends(text: &[u8]) -> u64
-    ensures { AreEnds 63 32 text.now result }
+    ensures ends { AreEnds 63 32 text.now result }
+    ensures all { 64 ≤ length text.now → HasEndsOf 63 63 32 text.now result }
 {
-    block_ends(text, 63, 32, 63)
+    block_ends(text, POLYLINES)
 }
 
-// Bits for units: those that end a number, those that are 0, and those outside the alphabet.
+// One bit for each unit: whether it ends a number, is 0, or is outside the alphabet.
 #[derive(Clone, Copy)]
 pub(crate) struct Marks {
     pub(crate) ends: u64,
@@ -33,28 +38,28 @@ pub(crate) struct Marks {
     pub(crate) bad: u64,
 }
 
-// The marks of the sixteen units from a place on.
+// Marks the sixteen units that begin at a place.
 #[inline(always)]
-fn sixteen(bytes: &[u8], at: usize, base: u8, radix: u8, most: u8) -> Marks
+fn sixteen(bytes: &[u8], at: usize, alphabet: Alphabet) -> Marks
     requires long { at + 16 ≤ length bytes.now }
-    ensures { AreMarks radix most (units_in base (take 16 (drop at bytes.now))) result }
+    ensures { AreMarks alphabet.radix alphabet.most (units_in alphabet.base (take 16 (drop at bytes.now))) result }
 {
-    let units = u8x16::from_slice(&bytes[at..]) - u8x16::splat(base);
+    let units = u8x16::from_slice(&bytes[at..]) - u8x16::splat(alphabet.base);
     Marks {
-        ends: units.simd_lt(u8x16::splat(radix)).to_bitmask(),
+        ends: units.simd_lt(u8x16::splat(alphabet.radix)).to_bitmask(),
         zeros: units.simd_eq(u8x16::splat(0)).to_bitmask(),
-        bad: units.simd_gt(u8x16::splat(most)).to_bitmask(),
+        bad: units.simd_gt(u8x16::splat(alphabet.most)).to_bitmask(),
     }
 }
 
-// The marks of 32 units from a place on.
+// Marks the 32 units that begin at a place.
 #[inline(always)]
-fn thirty_two(bytes: &[u8], at: usize, base: u8, radix: u8, most: u8) -> Marks
+fn thirty_two(bytes: &[u8], at: usize, alphabet: Alphabet) -> Marks
     requires long { at + 32 ≤ length bytes.now }
-    ensures { AreMarks radix most (units_in base (take 32 (drop at bytes.now))) result }
+    ensures { AreMarks alphabet.radix alphabet.most (units_in alphabet.base (take 32 (drop at bytes.now))) result }
 {
-    let low = sixteen(bytes, at, base, radix, most);
-    let high = sixteen(bytes, at + 16, base, radix, most);
+    let low = sixteen(bytes, at, alphabet);
+    let high = sixteen(bytes, at + 16, alphabet);
     Marks {
         ends: low.ends + high.ends * 0x1_0000,
         zeros: low.zeros + high.zeros * 0x1_0000,
@@ -62,14 +67,14 @@ fn thirty_two(bytes: &[u8], at: usize, base: u8, radix: u8, most: u8) -> Marks
     }
 }
 
-// The marks of 64 units.
+// Marks the first 64 units.
 #[inline(always)]
-fn sixty_four(bytes: &[u8], base: u8, radix: u8, most: u8) -> Marks
+fn sixty_four(bytes: &[u8], alphabet: Alphabet) -> Marks
     requires long { 64 ≤ length bytes.now }
-    ensures { AreMarks radix most (units_in base (take 64 bytes.now)) result }
+    ensures { AreMarks alphabet.radix alphabet.most (units_in alphabet.base (take 64 bytes.now)) result }
 {
-    let low = thirty_two(bytes, 0, base, radix, most);
-    let high = thirty_two(bytes, 32, base, radix, most);
+    let low = thirty_two(bytes, 0, alphabet);
+    let high = thirty_two(bytes, 32, alphabet);
     Marks {
         ends: low.ends + high.ends * 0x1_0000_0000,
         zeros: low.zeros + high.zeros * 0x1_0000_0000,
@@ -77,38 +82,40 @@ fn sixty_four(bytes: &[u8], base: u8, radix: u8, most: u8) -> Marks
     }
 }
 
-// The ends in front of the first unit outside the alphabet, and of the first that goes on to a last group of 0.
+// Keeps the ends before the first fault: a unit outside the alphabet, or a last group of 0 that
+// pads a number.
 #[inline(always)]
 fn before_fault(marks: Marks) -> u64
     ensures { (radix most : ℕ) (units : List ℕ) → AreMarks radix most units marks → AreEndsBefore radix most units result }
 {
-    // the last bit bounds the place, and costs the last unit of 64
+    // the last bit bounds the place of the first fault; the price is the last of the 64 units
     let faults = marks.bad | (marks.zeros / 2 & !marks.ends) | 1 << 63;
     marks.ends % (1 << faults.trailing_zeros())
 }
 
-// The ends of 64 units, 0 where there are fewer.
+// The ends among the first 63 units, or 0 if there are fewer than 64.
 #[inline(always)]
-fn block_ends(bytes: &[u8], base: u8, radix: u8, most: u8) -> u64
-    requires bound { most < 2 * radix }
-    requires in_bytes { most + base < 256 }
-    ensures { AreEnds base radix bytes.now result }
+fn block_ends(bytes: &[u8], alphabet: Alphabet) -> u64
+    requires bound { alphabet.most + 1 ≡ 2 * alphabet.radix }
+    requires in_bytes { alphabet.most + alphabet.base < 256 }
+    ensures ends { AreEnds alphabet.base alphabet.radix bytes.now result }
+    ensures all { 64 ≤ length bytes.now → HasEndsOf 63 alphabet.base alphabet.radix bytes.now result }
 {
     if bytes.len() < BLOCK {
         return 0;
     }
-    before_fault(sixty_four(bytes, base, radix, most))
+    before_fault(sixty_four(bytes, alphabet))
 }
 
-// The ends of sixteen units, 0 where there are fewer.
+// The ends among the first sixteen units, or 0 if there are fewer units.
 #[inline(always)]
-pub(crate) fn few_ends(bytes: &[u8], base: u8, radix: u8, most: u8) -> u64
-    requires bound { most < 2 * radix }
-    requires in_bytes { most + base < 256 }
-    ensures { AreEnds base radix bytes.now result }
+pub(crate) fn few_ends(bytes: &[u8], alphabet: Alphabet) -> u64
+    requires bound { alphabet.most < 2 * alphabet.radix }
+    requires in_bytes { alphabet.most + alphabet.base < 256 }
+    ensures { AreEnds alphabet.base alphabet.radix bytes.now result }
 {
     if bytes.len() < 16 {
         return 0;
     }
-    before_fault(sixteen(bytes, 0, base, radix, most))
+    before_fault(sixteen(bytes, 0, alphabet))
 }

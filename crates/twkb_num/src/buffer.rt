@@ -1,19 +1,19 @@
-//! Writing the shortest spelling of a number.
+//! The shortest spelling of a number, in a small buffer.
 ghost use Rattle.std.specs.Prelude.{◌≡◌, ◌^◌};
 ghost use Rattle.twkb_num.specs.Spelling.{shortest};
 
 use crate::groups::Groups;
 use crate::piece::Piece;
 
-// The most units that a spelling has: 64 bits in groups of five.
+// The most units in a spelling: 64 bits in groups of five.
 const ROOM: usize = 13;
 
-/// A spelling in a piece of its own, 1 to 13 units. A contract sees the list of its units.
+/// A piece that holds one spelling of 1 to 13 units. A contract sees the list of its units.
 pub type NumBuf = Piece<13>;
 
 impl Piece<13> {
-    /// The shortest spelling of the number in an alphabet: as many groups as its bits need, and one for 0 (LEB128; Encoded
-    /// Polyline Algorithm Format). Takes no memory.
+    /// Spells the number in an alphabet with the fewest units: one for each group of its bits,
+    /// and one for 0 (LEB128; Encoded Polyline Algorithm Format). Takes no memory.
     pub fn put<G: Groups>(number: u64) -> NumBuf
         ensures { result ≡ shortest G.unit_of (2 ^ G.BITS) number }
     {

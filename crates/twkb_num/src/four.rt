@@ -1,4 +1,4 @@
-//! Four numbers that stand whole in front, read at once.
+//! Four complete numbers at the start of some bytes, read at once.
 ghost use Rattle.std.specs.Prelude.{IfSome, ◌≡◌, ◌+◌, ◌*◌, ◌<◌, ◌^◌, ◌⊎◌, ◌/◌, ◌≤◌, length, drop, map};
 ghost use lib.Lanes.{digits_l, number_l};
 ghost use Rattle.twkb_num.specs.Alphabet.{five_unit, leb_unit};
@@ -6,11 +6,12 @@ ghost use Rattle.twkb_num.specs.Zigzag.{zigzag_of};
 ghost use Rattle.twkb_num.specs.Four.{FourInFront, unit_over, joined_groups, unzigzagged_bits};
 ghost use Rattle.twkb_num.specs.Block.{AreEnds};
 
+use crate::alphabet::{Alphabet, POLYLINES, VARINTS};
 use crate::block::few_ends;
 use crate::places::two_in_front;
 use std::simd::{u8x16, u16x8, u32x4, u64x2};
 
-/// Four whole numbers in front of bytes, and how many bytes these are.
+/// Four signed numbers, and the number of bytes that spell them.
 #[derive(Clone, Copy, Debug, PartialEq, Eq)]
 pub struct Four {
     pub first: i64,
@@ -20,28 +21,29 @@ pub struct Four {
     pub used: usize,
 }
 
-/// Four whole numbers in front, each by the varint of its zigzag form, in its shortest spelling of four bytes at most (TWKB
-/// specification; LEB128). `None` says nothing: such numbers are not found where there are fewer than sixteen bytes. Takes no
-/// memory.
+/// Fast path: reads the four signed numbers at the start of the bytes, if each has a shortest
+/// varint of at most four bytes (TWKB specification; LEB128). `None` proves nothing about the
+/// bytes: it is also the answer for fewer than sixteen bytes. Takes no memory.
 #[inline(always)]
 pub fn four_varints(bytes: &[u8]) -> Option<Four>
     ensures { IfSome result (λ f. FourInFront leb_unit 128 bytes.now (zigzag_of f.first) (zigzag_of f.second) (zigzag_of f.third) (zigzag_of f.fourth) f.used) }
 {
-    four_in_front(bytes, 0, 128, 255)
+    four_in_front(bytes, VARINTS)
 }
 
-/// Four whole numbers of a polyline in front, each by the characters of its zigzag form, which is below 2^28 and in its shortest
-/// spelling (Encoded Polyline Algorithm Format). `None` says nothing: such numbers are not found where one has more than four
-/// characters, or where there are fewer than sixteen in all. Takes no memory.
+/// Fast path: reads the four signed numbers at the start of a polyline's text, if each zigzag
+/// form is below 2^28 and in its shortest spelling (Encoded Polyline Algorithm Format). `None`
+/// proves nothing about the text: it is also the answer if a number has more than four
+/// characters, or if there are fewer than sixteen in all. Takes no memory.
 #[inline(always)]
 pub fn four_characters(text: &[u8]) -> Option<Four>
     ensures { IfSome result (λ f. FourInFront five_unit 32 text.now (zigzag_of f.first) (zigzag_of f.second) (zigzag_of f.third) (zigzag_of f.fourth) f.used) }
 {
-    four_in_front(text, 63, 32, 63)
+    four_in_front(text, POLYLINES)
 }
 
-/// The same as `four_varints`, by the ends that `varint_ends` found, moved to where these bytes begin. After the four the ends
-/// moved by as many bits are those of the bytes after them.
+/// Like `four_varints`, from the ends that `varint_ends` found, shifted to the start of these
+/// bytes. Shifted by `used` more, they are the ends of the bytes after the four numbers.
 #[inline(always)]
 pub fn four_varints_by(bytes: &[u8], ends: u64) -> Option<Four>
     requires long { 16 ≤ length bytes.now }
@@ -50,11 +52,11 @@ pub fn four_varints_by(bytes: &[u8], ends: u64) -> Option<Four>
     ensures few { IfSome result (λ f. f.used ≤ 16) }
     ensures rest { IfSome result (λ f. AreEnds 0 128 (drop f.used bytes.now) (ends / 2 ^ f.used)) }
 {
-    four_by(bytes, ends, 0, 128)
+    four_by(bytes, ends, VARINTS)
 }
 
-/// The same as `four_characters`, by the ends that `character_ends` found, moved to where this text begins. After the four the
-/// ends moved by as many bits are those of the text after them.
+/// Like `four_characters`, from the ends that `character_ends` found, shifted to the start of
+/// this text. Shifted by `used` more, they are the ends of the text after the four numbers.
 #[inline(always)]
 pub fn four_characters_by(text: &[u8], ends: u64) -> Option<Four>
     requires long { 16 ≤ length text.now }
@@ -63,44 +65,43 @@ pub fn four_characters_by(text: &[u8], ends: u64) -> Option<Four>
     ensures few { IfSome result (λ f. f.used ≤ 16) }
     ensures rest { IfSome result (λ f. AreEnds 63 32 (drop f.used text.now) (ends / 2 ^ f.used)) }
 {
-    four_by(text, ends, 63, 32)
+    four_by(text, ends, POLYLINES)
 }
 
-// A number below 0x100, times this, stands in each of eight bytes.
+// Times a number below 0x100: that number in each of eight bytes.
 const EACH_PLACE: u64 = 0x0101_0101_0101_0101;
 
-// Four whole numbers in an alphabet whose last units are `base` and less than `radix` more, and whose others are `radix` above
-// these.
+// Reads four complete numbers of an alphabet.
 #[inline(always)]
-fn four_in_front(bytes: &[u8], base: u8, radix: u8, most: u8) -> Option<Four>
-    requires alphabet { (radix ≡ 128) ⊎ (radix ≡ 32) }
-    requires bound { most < 2 * radix }
-    requires in_bytes { most + base < 256 }
-    ensures { IfSome result (λ f. FourInFront (unit_over base radix) radix bytes.now (zigzag_of f.first) (zigzag_of f.second) (zigzag_of f.third) (zigzag_of f.fourth) f.used) }
+fn four_in_front(bytes: &[u8], alphabet: Alphabet) -> Option<Four>
+    requires known { (alphabet.radix ≡ 128) ⊎ (alphabet.radix ≡ 32) }
+    requires bound { alphabet.most < 2 * alphabet.radix }
+    requires in_bytes { alphabet.most + alphabet.base < 256 }
+    ensures { IfSome result (λ f. FourInFront (unit_over alphabet.base alphabet.radix) alphabet.radix bytes.now (zigzag_of f.first) (zigzag_of f.second) (zigzag_of f.third) (zigzag_of f.fourth) f.used) }
 {
     if bytes.len() < 16 {
         return None;
     }
-    let ends = few_ends(bytes, base, radix, most);
-    four_by(bytes, ends, base, radix)
+    let ends = few_ends(bytes, alphabet);
+    four_by(bytes, ends, alphabet)
 }
 
-// The same, by the ends of the numbers.
+// Reads four numbers whose ends are known.
 #[inline(always)]
-fn four_by(bytes: &[u8], ends: u64, base: u8, radix: u8) -> Option<Four>
-    requires alphabet { (radix ≡ 128) ⊎ (radix ≡ 32) }
+fn four_by(bytes: &[u8], ends: u64, alphabet: Alphabet) -> Option<Four>
+    requires known { (alphabet.radix ≡ 128) ⊎ (alphabet.radix ≡ 32) }
     requires long { 16 ≤ length bytes.now }
-    requires ends { AreEnds base radix bytes.now ends }
-    ensures four { IfSome result (λ f. FourInFront (unit_over base radix) radix bytes.now (zigzag_of f.first) (zigzag_of f.second) (zigzag_of f.third) (zigzag_of f.fourth) f.used) }
+    requires ends { AreEnds alphabet.base alphabet.radix bytes.now ends }
+    ensures four { IfSome result (λ f. FourInFront (unit_over alphabet.base alphabet.radix) alphabet.radix bytes.now (zigzag_of f.first) (zigzag_of f.second) (zigzag_of f.third) (zigzag_of f.fourth) f.used) }
     ensures few { IfSome result (λ f. f.used ≤ 16) }
-    ensures rest { IfSome result (λ f. AreEnds base radix (drop f.used bytes.now) (ends / 2 ^ f.used)) }
+    ensures rest { IfSome result (λ f. AreEnds alphabet.base alphabet.radix (drop f.used bytes.now) (ends / 2 ^ f.used)) }
 {
     let low = two_in_front(ends)?;
     let high = two_in_front(ends >> low.used)?;
     let high_places = high.places + u64::from(low.used) * EACH_PLACE;
     let places = u64x2::from_array([low.places, high_places]).to_le_bytes();
-    let units = u8x16::from_slice(bytes) - u8x16::splat(base);
-    let numbers = joined(units.swizzle_dyn(places), radix);
+    let units = u8x16::from_slice(bytes) - u8x16::splat(alphabet.base);
+    let numbers = joined(units.swizzle_dyn(places), alphabet.radix);
     let [first, second, third, fourth] = unzigzagged(numbers).to_array();
     Some(Four {
         first: i64::from(first.cast_signed()),
@@ -111,7 +112,7 @@ fn four_by(bytes: &[u8], ends: u64, base: u8, radix: u8) -> Option<Four>
     })
 }
 
-// The numbers whose groups the bytes hold, four bytes for each. The groups of two bytes are joined first, then the twos.
+// Joins the groups of each four bytes to a number: first two by two, then the pairs.
 #[inline(always)]
 fn joined(units: u8x16, radix: u8) -> u32x4
     requires alphabet { (radix ≡ 128) ⊎ (radix ≡ 32) }
@@ -127,7 +128,7 @@ fn joined(units: u8x16, radix: u8) -> u32x4
     lanes % low + lanes / low * square
 }
 
-// The numbers whose zigzag forms these are, in 32 bits each.
+// Undoes zigzag in four lanes of 32 bits.
 #[inline(always)]
 fn unzigzagged(forms: u32x4) -> u32x4
     ensures { result ≡ map unzigzagged_bits forms }

@@ -1,15 +1,16 @@
-//! Four numbers spelled at once, with no branch on how many units each has: in tracks numbers of one, two and three units are
-//! mixed, and no processor foresees which comes next.
+//! Four numbers spelled at once, with no branch on their lengths: tracks mix numbers of one, two
+//! and three units, so such a branch can't be predicted.
 ghost use Rattle.std.specs.Prelude.{◌≡◌, ◌≤◌, ◌<◌, ◌+◌, ◌++◌, ◌*◌, ◌^◌, ◌⊎◌};
 ghost use Rattle.twkb_num.specs.Alphabet.{five_unit, leb_unit};
 ghost use Rattle.twkb_num.specs.Four.{unit_over};
 ghost use Rattle.twkb_num.specs.Shuffles.{lane_units, AreSpelled};
 
+use crate::alphabet::{Alphabet, POLYLINES, VARINTS};
 use crate::shuffles::shuffle;
 use std::simd::{u8x16, u32x4, u64x2};
 
-// Four numbers' units: those of the first two in the first eight bytes, those of the others in the last eight, and how many
-// of either count.
+// The units of four numbers: two numbers in the first eight bytes, two in the last eight, and how
+// many bytes of each half are used.
 #[derive(Drop)]
 pub(crate) struct FourUnits {
     pub(crate) units: u8x16,
@@ -17,13 +18,13 @@ pub(crate) struct FourUnits {
     pub(crate) high: u32,
 }
 
-// A number below 0x100, times this, stands in each of four bytes.
+// Times a number below 0x100: that number in each of four bytes.
 const EACH_BYTE: u32 = 0x0101_0101;
 
-// Eight in each of eight bytes.
+// The number eight in each of eight bytes.
 const EIGHTS: u64 = 0x0808_0808_0808_0808;
 
-// The shortest varints of four numbers.
+// Spells four numbers by their shortest varints.
 #[inline(always)]
 pub(crate) fn as_varints(first: u32, second: u32, third: u32, fourth: u32) -> FourUnits
     requires first_small { first < 2 ^ 28 }
@@ -32,10 +33,10 @@ pub(crate) fn as_varints(first: u32, second: u32, third: u32, fourth: u32) -> Fo
     requires fourth_small { fourth < 2 ^ 28 }
     ensures { AreSpelled leb_unit 128 first second third fourth result.units result.low result.high }
 {
-    spelled(first, second, third, fourth, 0, 128)
+    spelled(first, second, third, fourth, VARINTS)
 }
 
-// The characters of four numbers.
+// Spells four numbers by the characters of a polyline.
 #[inline(always)]
 pub(crate) fn as_characters(first: u32, second: u32, third: u32, fourth: u32) -> FourUnits
     requires first_small { first < 2 ^ 20 }
@@ -44,23 +45,24 @@ pub(crate) fn as_characters(first: u32, second: u32, third: u32, fourth: u32) ->
     requires fourth_small { fourth < 2 ^ 20 }
     ensures { AreSpelled five_unit 32 first second third fourth result.units result.low result.high }
 {
-    spelled(first, second, third, fourth, 63, 32)
+    spelled(first, second, third, fourth, POLYLINES)
 }
 
-// The units of four numbers in an alphabet whose last units are `base` and less than `radix` more, and whose others are
-// `radix` above these.
+// The units of four numbers in an alphabet.
 #[inline(always)]
-fn spelled(first: u32, second: u32, third: u32, fourth: u32, base: u8, radix: u8) -> FourUnits
-    requires alphabet { (radix ≡ 128) ⊎ (radix ≡ 32) }
-    requires in_bytes { base + 2 * radix ≤ 256 }
-    requires first_small { first < radix ^ 4 }
-    requires second_small { second < radix ^ 4 }
-    requires third_small { third < radix ^ 4 }
-    requires fourth_small { fourth < radix ^ 4 }
-    ensures { AreSpelled (unit_over base radix) radix first second third fourth result.units result.low result.high }
+fn spelled(first: u32, second: u32, third: u32, fourth: u32, alphabet: Alphabet) -> FourUnits
+    requires known { (alphabet.radix ≡ 128) ⊎ (alphabet.radix ≡ 32) }
+    requires in_bytes { alphabet.base + 2 * alphabet.radix ≤ 256 }
+    requires first_small { first < alphabet.radix ^ 4 }
+    requires second_small { second < alphabet.radix ^ 4 }
+    requires third_small { third < alphabet.radix ^ 4 }
+    requires fourth_small { fourth < alphabet.radix ^ 4 }
+    ensures { AreSpelled (unit_over alphabet.base alphabet.radix) alphabet.radix first second third fourth result.units result.low result.high }
 {
-    let units = lanes(first, second, third, fourth, base, radix);
-    let marks = units.simd_ge(u8x16::splat(base + radix)).to_bitmask();
+    let units = lanes(first, second, third, fourth, alphabet);
+    let marks = units
+        .simd_ge(u8x16::splat(alphabet.base + alphabet.radix))
+        .to_bitmask();
     let low = marks % 256;
     let high = marks / 256;
     let places = u64x2::from_array([shuffle(low), shuffle(high)]) + u64x2::from_array([0, EIGHTS]);
@@ -71,18 +73,18 @@ fn spelled(first: u32, second: u32, third: u32, fourth: u32, base: u8, radix: u8
     }
 }
 
-// The units of four numbers, each number's in a lane of four bytes.
+// The units of four numbers, four bytes for each number.
 #[inline(always)]
-fn lanes(first: u32, second: u32, third: u32, fourth: u32, base: u8, radix: u8) -> u8x16
-    requires alphabet { (radix ≡ 128) ⊎ (radix ≡ 32) }
-    requires in_bytes { base + 2 * radix ≤ 256 }
-    requires first_small { first < radix ^ 4 }
-    requires second_small { second < radix ^ 4 }
-    requires third_small { third < radix ^ 4 }
-    requires fourth_small { fourth < radix ^ 4 }
-    ensures { result ≡ lane_units base radix first ++ (lane_units base radix second ++ (lane_units base radix third ++ lane_units base radix fourth)) }
+fn lanes(first: u32, second: u32, third: u32, fourth: u32, alphabet: Alphabet) -> u8x16
+    requires known { (alphabet.radix ≡ 128) ⊎ (alphabet.radix ≡ 32) }
+    requires in_bytes { alphabet.base + 2 * alphabet.radix ≤ 256 }
+    requires first_small { first < alphabet.radix ^ 4 }
+    requires second_small { second < alphabet.radix ^ 4 }
+    requires third_small { third < alphabet.radix ^ 4 }
+    requires fourth_small { fourth < alphabet.radix ^ 4 }
+    ensures { result ≡ lane_units alphabet.base alphabet.radix first ++ (lane_units alphabet.base alphabet.radix second ++ (lane_units alphabet.base alphabet.radix third ++ lane_units alphabet.base alphabet.radix fourth)) }
 {
-    let bound = u32::from(radix);
+    let bound = u32::from(alphabet.radix);
     let group = u32x4::splat(bound);
     let none = u32x4::splat(0);
     let numbers = u32x4::from_array([first, second, third, fourth]);
@@ -100,5 +102,5 @@ fn lanes(first: u32, second: u32, third: u32, fourth: u32, base: u8, radix: u8) 
         + threes
             .simd_ge(group)
             .select(u32x4::splat(bound * 0x1_0000), none);
-    (groups + marks + u32x4::splat(u32::from(base) * EACH_BYTE)).to_le_bytes()
+    (groups + marks + u32x4::splat(u32::from(alphabet.base) * EACH_BYTE)).to_le_bytes()
 }

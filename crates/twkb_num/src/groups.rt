@@ -1,43 +1,43 @@
-//! The alphabets in which numbers are spelled.
+//! Alphabets, in which numbers are spelled by groups of bits.
 ghost use Rattle.std.specs.Prelude.{◌≡◌, ℕ, ◌<◌, ◌^◌, Bool, Option};
 ghost use Rattle.twkb_num.specs.Alphabet.{AlphabetLaws, leb_unit, leb_group, five_unit, five_group};
 ghost use Rattle.twkb_num.specs.AlphabetLemmas.{leb_laws, five_laws};
 
-/// An alphabet in which numbers of 64 bits are spelled by groups of bits, low group first: each unit, a byte, stands for a
-/// group and says whether more follow.
+/// An alphabet that spells numbers of 64 bits by groups of bits, low group first. Each unit is a
+/// byte that stands for a group and says whether more follow.
 pub trait Groups {
-    /// How many bits a group has, 5 to 7.
+    /// The number of bits in a group, 5 to 7.
     const BITS: u32;
 
     ghost BITS: { ℕ };
 
-    /// How many units the longest spelling has: as many as 2^64 - 1 needs.
+    /// The number of units in the longest spelling, that of 2^64 - 1.
     const MAX_LEN: usize;
 
     ghost MAX_LEN: { ℕ };
 
-    /// The unit of a group, and whether more follow.
+    /// The unit for a group and a mark that says whether more follow.
     ghost unit_of: { ℕ → Bool → ℕ };
 
-    /// What a unit stands for, where it is one of the alphabet.
+    /// The group and mark that a unit stands for, if it is in the alphabet.
     ghost group_of: { ℕ → Option (ℕ × Bool) };
 
-    /// The unit of a group below `2^BITS`.
+    /// Makes the unit of a group below `2^BITS`.
     fn to_unit(group: u8, more: bool) -> u8
         requires { group < 2 ^ BITS }
         ensures { result ≡ unit_of group more };
 
-    /// The group that a unit stands for, and whether more follow; `None` where the byte is no unit.
+    /// Reads the group of a unit, and whether more follow; `None` if the byte is not in the alphabet.
     fn from_unit(unit: u8) -> Option<(u8, bool)>
         ensures { result ≡ group_of unit };
 
     ghost laws: { AlphabetLaws BITS MAX_LEN unit_of group_of };
 }
 
-/// The bit that each byte of a varint has but its last (TWKB specification; LEB128).
+/// The bit that is set in each byte of a varint but its last (TWKB specification; LEB128).
 pub const GOES_ON: u8 = 0x80;
 
-/// The bytes of varints: seven bits each, 128 added where more follow (TWKB specification; LEB128).
+/// The bytes of varints: seven bits each, 128 added if more follow (TWKB specification; LEB128).
 #[derive(Clone, Copy, Debug, PartialEq, Eq)]
 pub struct Leb128;
 
@@ -69,8 +69,8 @@ impl Groups for Leb128 {
     ghost laws = { leb_laws };
 }
 
-/// The characters `?` to `~` of encoded polylines: five bits each, 32 added where more follow, and 63 (Encoded Polyline
-/// Algorithm Format).
+/// The characters `?` to `~` of encoded polylines: five bits each, plus 32 if more follow, plus
+/// 63 (Encoded Polyline Algorithm Format).
 #[derive(Clone, Copy, Debug, PartialEq, Eq)]
 pub struct Five;
 

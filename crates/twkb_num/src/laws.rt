@@ -1,4 +1,4 @@
-//! Laws of the numbers and spellings, each the contract of a function that does nothing.
+//! Laws of numbers and spellings, each stated as the contract of an empty function.
 ghost use Rattle.std.specs.Prelude.{◌≡◌, ℕ, ℤ, negsuc, ◌-◌, ◌<◌, ◌≤◌, ◌^◌, ◌↔◌, Bool, [], ◌∷◌, ◌++◌, List, length, codes};
 ghost use Rattle.twkb_num.specs.Alphabet.{leb_unit, leb_group, five_unit};
 ghost use Rattle.twkb_num.specs.Answer.{IsAnswer, IsRefused};
@@ -10,12 +10,12 @@ ghost use Rattle.twkb_num.specs.declared.partial.Step.TheVariants.{More, Done, T
 
 use crate::groups::Groups;
 
-/// No two numbers have one zigzag form.
+/// No two numbers have the same zigzag form.
 pub fn one_form()
     ensures { (m n : ℤ) → zigzag_of m ≡ zigzag_of n → m ≡ n }
 {}
 
-/// Zigzag and its inverse undo each other, on all numbers and all forms.
+/// Zigzag and its inverse undo each other, for all numbers and all forms.
 pub fn zigzag_undone()
     ensures number { (n : ℤ) → unzigzag_of (zigzag_of n) ≡ n }
     ensures form { (form : ℕ) → zigzag_of (unzigzag_of form) ≡ form }
@@ -37,40 +37,42 @@ pub fn none_shorter<G: Groups>()
     ensures only { (us : List ℕ) (n : ℕ) → IsSpelling G.unit_of (2 ^ G.BITS) G.MAX_LEN us n → length us ≤ length (shortest G.unit_of (2 ^ G.BITS) n) → us ≡ shortest G.unit_of (2 ^ G.BITS) n }
 {}
 
-/// At most one answer fits a unit behind others, so `Partial::step` answers the one that fits.
+/// At most one answer fits a unit after the units held, so `Partial::step` gives that answer.
 pub fn one_answer<G: Groups>()
     ensures { (us : List ℕ) (u : ℕ) (a b : Step) → IsAnswer G.unit_of G.group_of (2 ^ G.BITS) G.MAX_LEN us u a → IsAnswer G.unit_of G.group_of (2 ^ G.BITS) G.MAX_LEN us u b → a ≡ b }
 {}
 
-/// `Done` is answered wherever a unit ends a spelling, with its number, and `More` wherever the units stay open.
+/// A unit that ends a spelling is answered by `Done` with the number, and one that leaves it open
+/// by `More`.
 pub fn due_answers<G: Groups>()
     ensures done { (us : List ℕ) (u n : ℕ) (a : Step) → IsSpelling G.unit_of (2 ^ G.BITS) G.MAX_LEN (us ++ u ∷ []) n → IsAnswer G.unit_of G.group_of (2 ^ G.BITS) G.MAX_LEN us u a → (short : Bool) × (a ≡ Done n short) }
     ensures more { (us : List ℕ) (u : ℕ) (a : Step) → IsOpen G.unit_of (2 ^ G.BITS) G.MAX_LEN (us ++ u ∷ []) → IsAnswer G.unit_of G.group_of (2 ^ G.BITS) G.MAX_LEN us u a → a ≡ More }
 {}
 
-/// A reader that holds units can still come to the end of a spelling.
+/// A reader that holds units can still reach the end of a spelling.
 pub fn open_units_end<G: Groups>()
     ensures { (us : List ℕ) → IsOpen G.unit_of (2 ^ G.BITS) G.MAX_LEN us → (u n : ℕ) × IsSpelling G.unit_of (2 ^ G.BITS) G.MAX_LEN (us ++ u ∷ []) n }
 {}
 
-/// A unit that is refused is in no spelling behind these units, whatever follows.
+/// No spelling contains a refused unit after these units, whatever follows.
 pub fn refused_units_end<G: Groups>()
     ensures { (us : List ℕ) (u : ℕ) (more : List ℕ) (n : ℕ) → IsRefused G.unit_of G.group_of (2 ^ G.BITS) G.MAX_LEN us u → IsSpelling G.unit_of (2 ^ G.BITS) G.MAX_LEN (us ++ u ∷ more) n → ⊥ }
 {}
 
-/// The varints are the spellings in `Leb128`, and what begins a varint are its open units.
+/// Varints are the spellings in `Leb128`, and the beginnings of varints are its open units.
 pub fn varints()
     ensures whole { (bytes : List ℕ) (n : ℕ) → IsVarint bytes n ↔ IsSpelling leb_unit 128 10 bytes n }
     ensures begun { (bytes : List ℕ) → IsOpenVarint bytes ↔ IsOpen leb_unit 128 10 bytes }
 {}
 
-/// A varint is too long exactly where a byte above 1 stands behind nine bytes that go on.
+/// A varint is too long exactly if a byte above 1 follows nine bytes with their top bit set.
 pub fn long_varints()
     ensures { (us : List ℕ) (u : ℕ) → IsOpenVarint us → u < 256 → IsAnswer leb_unit leb_group 128 10 us u TooLong ↔ ((length us ≡ 9) × (2 ≤ u)) }
 {}
 
-/// Numbers of the public documents have the forms and spellings printed there, by computation: 300 is a varint of Protocol
-/// Buffers, 624485 one of LEB128, and -17998321 the number that the Encoded Polyline Algorithm Format works through.
+/// Checks by computation that numbers of the public documents have the forms and spellings
+/// printed there: 300 is a varint of Protocol Buffers, 624485 one of LEB128, and -17998321 the
+/// example of the Encoded Polyline Algorithm Format.
 #[tactic(auto, unfolding(crate::specs::Digits::digits, crate::specs::Digits::digits_within))]
 pub fn samples()
     ensures zigzag { zigzag_of (negsuc 17998320) ≡ 35996641 }

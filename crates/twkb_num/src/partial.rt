@@ -1,4 +1,4 @@
-//! Reading a spelling unit by unit.
+//! A reader of one spelling, unit by unit.
 ghost use Rattle.std.specs.Prelude.{◌≡◌, ◌^◌, ◌<◌, [], length};
 ghost use Rattle.twkb_num.specs.Answer.{IsAnswer, held_after};
 ghost use Rattle.twkb_num.specs.Spelling.{IsOpen};
@@ -6,8 +6,8 @@ ghost use Rattle.twkb_num.specs.Spelling.{IsOpen};
 use crate::groups::Groups;
 use std::marker::{Model, PhantomData};
 
-/// A spelling that is read unit by unit, so that the input may come in pieces. A contract sees the list of the units that
-/// it holds: those taken since the last spelling ended or was refused.
+/// Reads a spelling unit by unit, so that the input may come in pieces. A contract sees the list
+/// of units that it holds: those taken since the last spelling ended or was refused.
 #[derive(Drop)]
 pub struct Partial<G: Groups> {
     value: u64,
@@ -28,7 +28,7 @@ impl<G: Groups> Model for Partial<G> {
 }
 
 impl<G: Groups> Partial<G> {
-    /// One that holds no unit. Takes no memory.
+    /// Makes a reader that holds no unit. Takes no memory.
     pub fn new() -> Self
         ensures { result ≡ [] }
     {
@@ -39,7 +39,7 @@ impl<G: Groups> Partial<G> {
         }
     }
 
-    /// How many units it holds, 0 to `G::MAX_LEN - 1`.
+    /// The number of units held, 0 to `G::MAX_LEN - 1`.
     pub fn len(&self) -> usize
         ensures count { result ≡ length self.now }
         ensures short { result < G.MAX_LEN }
@@ -48,7 +48,8 @@ impl<G: Groups> Partial<G> {
         self.len
     }
 
-    /// Takes the next unit of a spelling, of any byte. After any answer but `More` it is as new. Takes no memory.
+    /// Takes the next unit, which may be any byte. After any answer but `More` the reader is as
+    /// new. Takes no memory.
     pub fn step(&mut self, unit: u8) -> Step
         ensures answer { IsAnswer G.unit_of G.group_of (2 ^ G.BITS) G.MAX_LEN self.old unit result }
         ensures held { self.new ≡ held_after self.old unit result }
@@ -79,7 +80,7 @@ impl<G: Groups> Partial<G> {
         Step::Done { value, shortest }
     }
 
-    // Makes it as new.
+    // Drops the units held, so that the reader is as new.
     fn clear(&mut self)
         ensures { self.new ≡ [] }
     {
@@ -88,10 +89,10 @@ impl<G: Groups> Partial<G> {
     }
 }
 
-/// What a `Partial` answers to a unit.
+/// The answer of a `Partial` to a unit.
 #[derive(Clone, Copy, Debug, PartialEq, Eq)]
 pub enum Step {
-    /// The unit says that more follow, and more may.
+    /// The spelling goes on: the unit says that more follow, and there is room for more.
     More,
     /// The unit ends a spelling.
     Done {
@@ -100,7 +101,7 @@ pub enum Step {
         /// Whether it is the shortest spelling of this number.
         shortest: bool,
     },
-    /// The unit is none of the alphabet.
+    /// The unit is not in the alphabet.
     BadUnit,
     /// The unit is number `MAX_LEN` and says that more follow, or the number is 2^64 or above.
     TooLong,

@@ -1,4 +1,4 @@
-//! Bytes that are gathered on the stack, on their way to a text.
+//! A small buffer on the stack, for bytes on their way to a text.
 ghost use Rattle.std.specs.Prelude.{◌≡◌, ◌↔◌, ◌≤◌, ◌<◌, ◌+◌, ◌^◌, ◌++◌, [], ◌∷◌, IsTrue, length, take};
 ghost use Rattle.twkb_num.specs.Alphabet.{five_unit};
 ghost use Rattle.twkb_num.specs.Digits.{low_digits};
@@ -9,10 +9,11 @@ use crate::four_out::{as_characters, as_varints};
 use std::marker::Model;
 use std::simd::u8x8;
 
-// The bytes of a word.
+// The number of bytes in a word.
 const WORD: usize = 8;
 
-/// Gathers up to `ROOM` bytes on the stack, behind no test for memory. A contract sees the bytes that it holds.
+/// Gathers up to `ROOM` bytes on the stack, so that no push needs a test for memory. A contract
+/// sees the bytes that it holds.
 #[derive(Drop)]
 pub struct Piece<const ROOM: usize> {
     pub(crate) bytes: [u8; ROOM],
@@ -30,7 +31,7 @@ impl<const ROOM: usize> Model for Piece<ROOM> {
 }
 
 impl<const ROOM: usize> Piece<ROOM> {
-    /// A piece without bytes. Takes no memory.
+    /// Makes an empty piece. Takes no memory.
     #[inline(always)]
     pub fn new() -> Self
         ensures { result ≡ [] }
@@ -41,7 +42,7 @@ impl<const ROOM: usize> Piece<ROOM> {
         }
     }
 
-    /// The bytes. Takes no memory.
+    /// The bytes held. Takes no memory.
     #[inline(always)]
     pub fn as_slice(&self) -> &[u8]
         ensures { result.now ≡ self.now }
@@ -49,7 +50,7 @@ impl<const ROOM: usize> Piece<ROOM> {
         &self.bytes[..self.len]
     }
 
-    /// Forgets the bytes. Takes no memory.
+    /// Drops the bytes held. Takes no memory.
     #[inline(always)]
     pub fn clear(&mut self)
         ensures { self.new ≡ [] }
@@ -57,7 +58,7 @@ impl<const ROOM: usize> Piece<ROOM> {
         self.len = 0;
     }
 
-    /// Whether there is room for so many bytes more. Takes no memory.
+    /// Whether there is room for `count` more bytes. Takes no memory.
     #[inline(always)]
     pub fn has_room(&self, count: usize) -> bool
         requires { count ≤ ROOM }
@@ -77,7 +78,8 @@ impl<const ROOM: usize> Piece<ROOM> {
         self.len = at + 1;
     }
 
-    /// Appends the low `count` bytes of a word: all eight by one store, and what is too much is not counted. Takes no memory.
+    /// Appends the low `count` bytes of a word. One store writes all eight bytes; those past
+    /// `count` are not counted. Takes no memory.
     #[inline(always)]
     pub fn push_low(&mut self, word: u64, count: u32)
         requires few { count ≤ 8 }
@@ -87,8 +89,8 @@ impl<const ROOM: usize> Piece<ROOM> {
         self.push_eight(u8x8::from_array(word.to_le_bytes()), count);
     }
 
-    // Appends the first `count` of eight bytes: all of them by one store of a vector, since to copy a slice asks first whether
-    // both places overlap.
+    // Appends the first `count` of eight bytes. One vector store writes all eight: a slice copy
+    // would first test whether the places overlap.
     #[inline(always)]
     fn push_eight(&mut self, bytes: u8x8, count: u32)
         requires few { count ≤ 8 }
@@ -101,7 +103,7 @@ impl<const ROOM: usize> Piece<ROOM> {
         self.len = at + count as usize;
     }
 
-    // Appends the shortest varints of four numbers, with no branch on how many bytes each has.
+    // Appends the shortest varints of four numbers, with no branch on their lengths.
     #[inline(always)]
     pub(crate) fn push_varints(&mut self, first: u32, second: u32, third: u32, fourth: u32)
         requires first_small { first < 2 ^ 28 }
@@ -117,8 +119,8 @@ impl<const ROOM: usize> Piece<ROOM> {
         self.push_eight(four.units.extract::<8, 8>(), four.high);
     }
 
-    /// Appends the characters of four numbers of a polyline (Encoded Polyline Algorithm Format), with no branch on how many each
-    /// has. Takes no memory.
+    /// Appends the characters of four numbers of a polyline, with no branch on their lengths
+    /// (Encoded Polyline Algorithm Format). Takes no memory.
     #[inline(always)]
     pub fn push_four_characters(&mut self, first: u32, second: u32, third: u32, fourth: u32)
         requires first_small { first < 2 ^ 20 }
@@ -134,8 +136,8 @@ impl<const ROOM: usize> Piece<ROOM> {
         self.push_eight(four.units.extract::<8, 8>(), four.high);
     }
 
-    /// Appends the first `count` of these bytes: all of them by stores of a fixed size, and what is too much is not counted. Takes
-    /// no memory.
+    /// Appends the first `count` of these bytes. Stores of a fixed size write all `N`; those past
+    /// `count` are not counted. Takes no memory.
     #[inline(always)]
     pub fn push_front<const N: usize>(&mut self, bytes: &[u8; N], count: usize)
         requires few { count ≤ N }

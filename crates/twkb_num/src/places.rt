@@ -1,16 +1,18 @@
-//! Where the units of two numbers stand, found by the units that end one.
+//! The places of the units of two numbers, looked up by the units that end a number.
 ghost use Rattle.std.specs.Prelude.{IfSome, ◌≡◌, List, Bool};
 ghost use lib.Lanes.{mask_l};
 ghost use Rattle.twkb_num.specs.Places.{AreTwo};
 
-// The places of the units of two numbers in front, a byte each, four for each number, and how many units these are.
+// The places of the units of the first two numbers, a byte for each place and four for each
+// number, and how many units the two have.
 #[derive(Clone, Copy)]
 pub(crate) struct Two {
     pub(crate) places: u64,
     pub(crate) used: u32,
 }
 
-// The first two numbers, by a bit for each unit that ends one. `None` where there are no two, or one has more than four units.
+// Finds the first two numbers by a bit for each unit that ends one. `None` if there are fewer
+// than two, or if one has more than four units.
 #[inline(always)]
 pub(crate) fn two_in_front(ends: u64) -> Option<Two>
     ensures { IfSome result (λ two. (marks : List Bool) → ends ≡ mask_l marks → AreTwo marks two.places two.used) }
@@ -26,8 +28,9 @@ pub(crate) fn two_in_front(ends: u64) -> Option<Two>
     })
 }
 
-// By the bits of eight units: the places of the first two numbers, low first; 0x80 or above, which `swizzle_dyn` reads as 0,
-// where a number has fewer than four units. An odd word where two numbers of four units at most do not end there.
+// Indexed by the end bits of eight units: the places of the units of the first two numbers, low
+// first. A byte of 0x80 or above, which `swizzle_dyn` reads as 0, stands for a unit that the
+// number does not have. The word is odd if two numbers of at most four units do not end there.
 #[rattlefmt::skip]
 static PLACES: [u64; 256] = [
     0xffff_ffff_ffff_ffff, 0xffff_ffff_ffff_ffff, 0xffff_ffff_ffff_ffff, 0x8181_8101_8080_8000,
@@ -96,7 +99,7 @@ static PLACES: [u64; 256] = [
     0x8383_8303_8002_0100, 0x8181_0201_8080_8000, 0x8282_8202_8080_0100, 0x8181_8101_8080_8000,
 ];
 
-// By the same bits: how many units these two numbers have; 0 where two do not end there.
+// Indexed by the same bits: how many units these two numbers have, or 0 if two do not end there.
 #[rattlefmt::skip]
 static USED: [u8; 256] = [
     0, 0, 0, 2, 0, 3, 3, 2, 0, 4, 4, 2, 4, 3, 3, 2,

@@ -1,10 +1,11 @@
-//! How the units of two numbers come to stand one after the other.
+//! The shuffle that moves the units of two numbers next to each other.
 ghost use Rattle.std.specs.Prelude.{◌≡◌, ◌≤◌, ◌<◌, ℕ};
 ghost use lib.Lanes.{number_l};
 ghost use Rattle.twkb_num.specs.Shuffles.{marks_of_two, shuffle_of};
 
-// The places of the units of two numbers, a byte each and low first, by their marks: a bit for each unit that goes on, four
-// for each number. The units of the first number begin at place 0, those of the second at place 4.
+// The places of the units of two numbers, a byte each and low first. The marks have a bit for
+// each unit that goes on, four for each number. The units of the first number begin at place 0,
+// those of the second at place 4.
 #[inline(always)]
 pub(crate) fn shuffle(marks: u64) -> u64
     requires { marks < 256 }
@@ -13,8 +14,9 @@ pub(crate) fn shuffle(marks: u64) -> u64
     SHUFFLES[marks as usize]
 }
 
-// By the marks of two numbers: the places of the first number's units, those of the second's, and 0x80, which `swizzle_dyn`
-// reads as 0, up to eight places. A number goes on up to its first unit without a mark, and has four units at most.
+// Indexed by the marks of two numbers: the places of the first number's units, those of the
+// second's, and 0x80, which `swizzle_dyn` reads as 0, up to eight places. A number ends at its
+// first unit without a mark, and has at most four units.
 #[rattlefmt::skip]
 static SHUFFLES: [u64; 256] = [
     0x8080_8080_8080_0400, 0x8080_8080_8004_0100, 0x8080_8080_8080_0400, 0x8080_8080_0402_0100,

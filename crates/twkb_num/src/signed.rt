@@ -1,9 +1,9 @@
-//! Signed numbers as unsigned ones.
+//! Signed numbers as unsigned ones, by zigzag.
 ghost use Rattle.std.specs.Prelude.{◌≡◌};
 ghost use Rattle.twkb_num.specs.Zigzag.{zigzag_of};
 
-/// The zigzag form of any number: `2n` from 0 up, `-2n - 1` below, so that numbers near 0 have small forms (TWKB
-/// specification; Encoded Polyline Algorithm Format).
+/// The zigzag form of a number: `2n` from 0 up, `-2n - 1` below, so that numbers near 0 have
+/// small forms (TWKB specification; Encoded Polyline Algorithm Format).
 pub fn zigzag(number: i64) -> u64
     ensures { result ≡ zigzag_of number }
 {
@@ -11,7 +11,7 @@ pub fn zigzag(number: i64) -> u64
     if number < 0 { !doubled } else { doubled }
 }
 
-/// The number whose zigzag form this is; there is one for each form.
+/// The number with this zigzag form; each form has one.
 pub fn unzigzag(form: u64) -> i64
     ensures { zigzag_of result ≡ form }
 {

@@ -1,21 +1,22 @@
-//! The length of a varint, before it is written.
+//! The length of a varint, known before it is written.
 ghost use Rattle.std.specs.Prelude.{◌≡◌, ◌≤◌, length};
 ghost use Rattle.twkb_num.specs.Varint.{varint_of};
 
-// Bits of a byte of a varint.
+// The number of bits that a byte of a varint holds.
 const BITS: u32 = 7;
 
-// The place of the highest bit of a number of 64 bits.
+// The place of the highest bit in a number of 64 bits.
 const TOP: u32 = 63;
 
-/// How many bytes the shortest varint of a number has (TWKB specification; LEB128). Takes no memory.
+/// The number of bytes in the shortest varint of a number, 1 to 10 (TWKB specification; LEB128).
+/// Takes no memory.
 #[inline(always)]
 pub fn varint_len(number: u64) -> u32
     ensures value { result ≡ length (varint_of number) }
     ensures some { 1 ≤ result }
     ensures most { result ≤ 10 }
 {
-    // with the last bit set there is a highest one, and no other length
+    // setting the last bit makes sure that there is a highest one, and changes no length
     let odd = number / 2 * 2 + 1;
     (TOP - odd.leading_zeros()) / BITS + 1
 }

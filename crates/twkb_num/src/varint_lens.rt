@@ -1,4 +1,4 @@
-//! Lengths of varints, counted four at once with no branch on how many bytes each has.
+//! Lengths of varints, counted four at once with no branch on their lengths.
 ghost use Rattle.std.specs.Prelude.{◌≡◌, ◌≤◌, ◌<◌, ◌+◌, ◌^◌, [], ◌∷◌, length};
 ghost use Rattle.twkb_num.specs.Lens.{four_lens, more_bytes};
 
@@ -6,18 +6,18 @@ use crate::varint::varint_len;
 use std::marker::Model;
 use std::simd::{u32x4, u64x2};
 
-// A number below this has four bytes at most (TWKB specification; LEB128).
+// Numbers from here up have five bytes or more (TWKB specification; LEB128).
 const FIVE_BYTES: u64 = 1 << 28;
 
-// The least number of four bytes, of three and of two.
+// The least numbers of four bytes, of three and of two.
 const FOUR_BYTES: u32 = 1 << 21;
 
 const THREE_BYTES: u32 = 1 << 14;
 
 const TWO_BYTES: u32 = 1 << 7;
 
-/// How many bytes some varints have together: those of short numbers are counted in lanes, and added up at the end. A contract
-/// sees the sum.
+/// Adds up the lengths of varints. Short numbers are counted in lanes, which are added up at the
+/// end. A contract sees the sum.
 #[derive(Drop)]
 pub struct VarintLens {
     lanes: u32x4,
@@ -53,7 +53,7 @@ fn more_lens(first: u32, second: u32, third: u32, fourth: u32) -> u32x4
 }
 
 impl VarintLens {
-    /// So many bytes, of no varint. Takes no memory.
+    /// Starts a sum at this number of bytes. Takes no memory.
     #[inline(always)]
     pub fn from(bytes: u64) -> VarintLens
         ensures { result ≡ bytes }
@@ -64,7 +64,7 @@ impl VarintLens {
         }
     }
 
-    // Counts the varints of four numbers of four bytes at most.
+    // Counts the varints of four numbers that have at most four bytes each.
     #[inline(always)]
     fn add_short(&mut self, first: u32, second: u32, third: u32, fourth: u32)
         requires first_small { first < 2 ^ 28 }
@@ -99,7 +99,7 @@ impl VarintLens {
         self.others += u64::from(lens);
     }
 
-    /// The sum. Takes no memory.
+    /// The sum of the lengths, in bytes. Takes no memory.
     #[inline(always)]
     pub fn total(&self) -> u64
         requires { self.now ≤ 2 ^ 31 }

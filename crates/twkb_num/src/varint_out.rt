@@ -1,4 +1,4 @@
-//! Varints that are appended to a piece.
+//! Varints appended to a piece.
 ghost use Rattle.std.specs.Prelude.{◌≡◌, ◌≤◌, ◌<◌, ◌+◌, ◌%◌, ◌++◌, ◌^◌, length, if◌then◌else◌, nat_lt};
 ghost use Rattle.twkb_num.specs.Varint.{varint_of};
 
@@ -6,16 +6,16 @@ use crate::groups::GOES_ON;
 use crate::piece::Piece;
 use std::simd::u64x2;
 
-// A number below this has one byte (TWKB specification; LEB128).
+// The least number of two bytes (TWKB specification; LEB128).
 const TWO_BYTES: u64 = 1 << 7;
 
-// A number below this has two bytes at most.
+// The least number of three bytes.
 const THREE_BYTES: u64 = 1 << 14;
 
-// A number below this has four bytes at most.
+// The least number of five bytes.
 const FIVE_BYTES: u64 = 1 << 28;
 
-// The bytes of a number that has two at most.
+// The length of a number that has at most two bytes.
 #[tactic(auto, using(crate::proofs::VarintLemmas::varint_lengths))]
 fn short_len(number: u64) -> usize
     requires { number < 2 ^ 14 }
@@ -25,7 +25,7 @@ fn short_len(number: u64) -> usize
     if number < TWO_BYTES { 1 } else { 2 }
 }
 
-// The first byte of a number.
+// The first byte of a number's varint.
 fn lead_byte(number: u64) -> u8
     ensures { result ≡ (if nat_lt number 128 then number else number % 128 + 128) }
 {
@@ -37,7 +37,7 @@ fn lead_byte(number: u64) -> u8
 }
 
 impl<const ROOM: usize> Piece<ROOM> {
-    // Appends a number that has two bytes at most, both written at once.
+    // Appends a number of one or two bytes. Both bytes are written at once.
     #[inline(always)]
     fn push_short(&mut self, number: u64)
         requires small { number < 2 ^ 14 }
@@ -50,7 +50,7 @@ impl<const ROOM: usize> Piece<ROOM> {
         self.len = at + short_len(number);
     }
 
-    // Appends a number that has three bytes or four.
+    // Appends a number of three or four bytes.
     #[inline(never)]
     fn push_middle(&mut self, number: u64)
         requires more { 2 ^ 14 ≤ number }
@@ -64,7 +64,7 @@ impl<const ROOM: usize> Piece<ROOM> {
         self.push_short(high / TWO_BYTES);
     }
 
-    // Appends any number, byte by byte.
+    // Appends a number of any length, byte by byte.
     #[inline(never)]
     fn push_long(&mut self, number: u64)
         requires { length self.old + 10 ≤ ROOM }
@@ -78,7 +78,8 @@ impl<const ROOM: usize> Piece<ROOM> {
         self.push(rest as u8);
     }
 
-    /// Appends a number, by its shortest varint: at most ten bytes (TWKB specification; LEB128). Takes no memory.
+    /// Appends a number by its shortest varint, at most ten bytes (TWKB specification; LEB128).
+    /// Takes no memory.
     #[inline(always)]
     pub fn push_varint(&mut self, number: u64)
         requires { length self.old + 10 ≤ ROOM }
@@ -94,8 +95,9 @@ impl<const ROOM: usize> Piece<ROOM> {
         }
     }
 
-    /// Appends four numbers, by their shortest varints (TWKB specification; LEB128). Where all have four bytes at most, as in
-    /// nearly all tracks, there is no branch on how many each has. Takes no memory.
+    /// Appends four numbers by their shortest varints (TWKB specification; LEB128). If all have
+    /// at most four bytes, as in nearly all tracks, there is no branch on their lengths. Takes no
+    /// memory.
     #[inline(always)]
     #[tactic(auto, using(std::proofs::lemmas::Nat::le_or_l, std::proofs::lemmas::Nat::le_or_r))]
     pub fn push_four_varints(&mut self, first: u64, second: u64, third: u64, fourth: u64)

@@ -1,4 +1,4 @@
--- The rows take the change of the next item.
+-- The rows can take the change of the next item.
 use Rattle.std.proofs.Common.{◌≡◌, ℕ, ◌≤◌, ◌^◌, List, [], ◌∷◌, ◌++◌, length, refl, sym, ◌∙◌, ap, arith, Some, None, inl, inr}
 use Rattle.std.specs.Prelude.{◌⊎◌, Bool, true, false}
 use Rattle.std.proofs.Math.Logic.{∥∥₁_elim}
@@ -27,7 +27,7 @@ use Rattle.twkb_outline.proofs.PointPairs.{outlined_point, point_takes}
 use Rattle.twkb_outline.proofs.LinePoints.{one_point_more}
 use Rattle.twkb_outline.proofs.Outlined.{outlined_item, outlined_largest, outlined_takes, row_goes_on}
 
--- valid rows have no more points than are allowed
+-- valid rows have at most as many points as allowed
 few_points : (rs : List Row) → AreValidRowsOfOne largest_limits rs → length (row_points rs) ≤ 2 ^ 24
 few_points [] v = omega arith
 few_points (r ∷ rs) v =
@@ -36,7 +36,7 @@ few_points (r ∷ rs) v =
     omega (arith, same, kept)
 
 module _ (limits : Allowance) (allowed : IsAllowance limits) where
-  -- a change after which a reader stands
+  -- rows can take a change that leads to a reader's state
   pub change_admitted : (bytes : List ℕ) (e : Sums) (o : Outline) (rs : List Row) (c : Change) → Takes c rs → Outlined limits bytes e o (applied c rs) → Admits c rs
   change_admitted bytes e o rs Nothing t r = tt
   change_admitted bytes e o rs (NewRow row) t r = row_goes_on limits allowed bytes e o rs row r
@@ -44,20 +44,20 @@ module _ (limits : Allowance) (allowed : IsAllowance limits) where
       let few = few_points (point_added p rs) (outlined_largest limits allowed bytes e o (point_added p rs) r) in
       (t, omega (arith, few, one_point_more p rs t))
 
-  -- that of an item
+  -- rows can take the change of an item
   pub item_admitted : (bytes : List ℕ) (e : Sums) (o : Outline) (rs : List Row) (i : Item) → Outlined limits bytes e o rs → outline_role e o ≡ Some i.role → Gives i.role i.number i.bytes
       → objection limits e i.role i.number ≡ None → Admits (change_after e i o) rs
   item_admitted bytes e o rs i r says gives free =
       change_admitted (bytes ++ i.bytes) (added e i) _ rs (change_after e i o) (outlined_takes limits bytes e o rs (moved e.position i.role i.number) i.number r) (outlined_item limits bytes e o rs i r says gives free)
 
-  -- that of a point, whose two numbers are taken at once
+  -- rows can take the change of a point whose two numbers are taken at once
   pub point_admitted : AtPoint (Outlined limits) (λ bytes e o change rs. Admits change rs)
   point_admitted front e gs h f ids lefts rs bytes to r cut =
       change_admitted (front ++ bytes) _ _ rs _ (point_takes limits front e gs h f ids lefts rs bytes to r cut) (outlined_point limits front e gs h f ids lefts rs bytes to r cut)
 
--- ---- when it is known only that some reader stands there
+-- ---- states of which it is only known that some reader reaches them
 
--- whether a row is a line's or a ring's
+-- whether a row is that of a line or a ring
 abbrev is_line : Kind → Bool
 is_line kinds.Linestring = true
 is_line kinds.Ring = true
@@ -77,7 +77,7 @@ line_true : (k : Kind) → (k ≡ kinds.Linestring) ⊎ (k ≡ kinds.Ring) → i
 line_true k (inl e) = ap is_line e
 line_true k (inr e) = ap is_line e
 
--- whether the last row is such a row
+-- whether the last row is that of a line or a ring
 abbrev ends_line : List Row → Bool
 ends_line [] = false
 ends_line (r ∷ []) = is_line r.kind
@@ -96,13 +96,14 @@ ends_behind (s ∷ t ∷ front) r h = ends_behind (t ∷ front) r h
 ends_true : (rs : List Row) → EndsInLine rs → ends_line rs ≡ true
 ends_true rs e = ap ends_line e.whole ∙ ends_behind e.front e.last (line_true e.last.kind e.line)
 
--- A change is admitted if some witness shows it: `Admits` says nothing of the witness, so a truncated one is enough.
+-- Rows can take a change if some witness shows it. `Admits` says nothing of the witness, so a
+-- truncated one is enough.
 pub admitted_by : (A : Type 0) (c : Change) (rs : List Row) → ∥ A ∥₁ → (A → Admits c rs) → Admits c rs
 admitted_by A Nothing rs t f = tt
 admitted_by A (NewRow r) rs t f = continues_is largest_limits rs r (∥∥₁_elim t (Bool-set _ _) (λ a. continues_true largest_limits rs r (f a)))
 admitted_by A (NewPoint p) rs t f = (ends_is rs (∥∥₁_elim t (Bool-set _ _) (λ a. ends_true rs (f a).0)), ∥∥₁_elim t (Prim.hlevel props) (λ a. (f a).1))
 
--- the change of an item, after some bytes
+-- the change of an item that comes after some bytes
 pub somewhere_admitted : (limits : Allowance) → IsAllowance limits → (e : Sums) (o : Outline) (rs : List Row) (role : Role) (n : ℕ) (bytes : List ℕ) → ∥ ((front : List ℕ) × Outlined limits front e o rs) ∥₁
     → outline_role e o ≡ Some role → Gives role n bytes → objection limits e role n ≡ None → Admits (change_of (moved e.position role n) n o) rs
 somewhere_admitted limits allowed e o rs role n bytes alive says gives free =

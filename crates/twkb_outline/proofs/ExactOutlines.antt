@@ -1,4 +1,4 @@
--- Where an outline waits for no end, no size is found wrong behind the bytes.
+-- If an outline waits for no end, no size is found wrong after the bytes.
 use Rattle.std.proofs.Common.{◌≡◌, List, ◌++◌, length, ℕ, sym, ap, ◌∙◌, Some}
 use Rattle.twkb_tree.specs.Limits.{Allowance}
 use Rattle.twkb_tree.specs.Rows.{Row}

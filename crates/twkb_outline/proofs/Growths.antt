@@ -1,4 +1,4 @@
--- The rows of a stack after an item, and behind the ends of geometries.
+-- The rows of a stack after an item, and after the ends of geometries.
 use Rattle.std.proofs.Common.{◌≡◌, ℕ, zero, suc, ◌-◌, Bool, true, false, List, [], ◌∷◌, ◌++◌, length, refl, sym, ◌∙◌, ap, append_assoc, append-nil, Option, Some, None}
 use Rattle.std.specs.Prelude.{ℤ, map, if◌then◌else◌, Ok}
 use Rattle.std.proofs.lemmas.List.{length-map}
@@ -47,7 +47,7 @@ wanting_rows front d id k h [] = go (bit h.meta 4)
     go true = ap (λ rs. front ++ rs) (empty_rows d id k h.precision) ∙ first_row front (own_of d id k h.precision)
     go false = ap (λ rs. front ++ rs) (begun_rows d id k h)
 
--- an optional part leaves precision and metadata byte
+-- an optional part leaves precision and metadata byte unchanged
 option_rows : (front : List Row) (d : ℕ) (id : Option ℤ) (k : Kind) (h : Head) (r : Role) (rs : List Role) (n bytes : ℕ) → front ++ phase_rows d id (wanting k (with_option h r n bytes) rs) ≡ applied (header_change d id k h.precision h.meta rs) (front ++ [])
 option_rows front d id k h Header rs n bytes = wanting_rows front d id k h rs
 option_rows front d id k h (Metadata kind) rs n bytes = wanting_rows front d id k h rs
@@ -62,7 +62,7 @@ option_rows front d id k h (End declared came) rs n bytes = wanting_rows front d
 
 -- ---- members
 
--- the rows where members begin
+-- the rows when members begin
 members_rows : (p : Point) (m : Many) (h : Head) (fs : List Frame) (ids : Ids) (n : ℕ) → rows_so_far (members_begin m h fs ids n) ≡ (frame_rows fs ++ []) ++ own_of (length fs) (id_within fs) (kind_with m) h.precision ∷ []
 members_rows p ManyPoints h fs ids n = body_grows (frame_rows fs) (length fs) (id_within fs) h ids p n MultiPointForm (Want 1 top)
 members_rows p ManyLines h fs ids n = body_grows (frame_rows fs) (length fs) (id_within fs) h ids p n MultiLineForm (Want 2 top)
@@ -82,12 +82,12 @@ counted_rows p m h fs (suc n) = go (bit h.meta 2)
 
 -- ---- ends
 
--- the rows of one member more
+-- the rows of one more member
 member-snoc : (d : ℕ) (ids : Ids) (gs : Trees) (g : Tree) → member_rows d ids (snoc gs g) ≡ member_rows d ids gs ++ rows_with (first_id (ids_after ids gs)) d g
 member-snoc d ids end g = append-nil (rows_with (first_id ids) d g)
 member-snoc d ids (k ▷ gs) g = ap (λ rs. rows_with (first_id ids) d k ++ rs) (member-snoc d (other_ids ids) gs g) ∙ sym (append_assoc (rows_with (first_id ids) d k) (member_rows d (other_ids ids) gs) (rows_with (first_id (ids_after (other_ids ids) gs)) d g))
 
--- the rows of a collection whose member ends
+-- the rows of a collection after a member ends
 member_ends : (fs : List Frame) (h : Head) (ids : Ids) (done : Trees) (g : Tree) →
     frame_rows fs ++ (whole_row (length fs) kinds.Collection (id_within fs) h.precision [] ∷ member_rows (suc (length fs)) ids (snoc done g))
     ≡ (frame_rows fs ++ (whole_row (length fs) kinds.Collection (id_within fs) h.precision [] ∷ member_rows (suc (length fs)) ids done)) ++ rows_with (first_id (ids_after ids done)) (suc (length fs)) g
@@ -130,7 +130,7 @@ rows_at_ends bytes fs (Finished g) st e = let same : (fs, Finished g) ≡ st = c
 
 -- ---- items
 
--- each item, told by the stack
+-- the change of each item, by the stack
 pub item_grows : (p : Point) (bytes n : ℕ) (fs : List Frame) (ph : Phase) → rows_so_far (advanced p bytes n fs ph) ≡ applied (step_change p n (length fs) (id_within fs) (step_of ph)) (rows_so_far (fs, ph))
 item_grows p bytes n fs AtHeader = refl
 item_grows p bytes n fs (AtMetadata k precision) = wanting_rows (frame_rows fs) (length fs) (id_within fs) k (record { precision = precision; meta = n; size = None; from = bytes }) (asked n)
@@ -142,17 +142,17 @@ item_grows p bytes n fs (AtBody h f ids b) = body_grows (frame_rows fs) (length 
 item_grows p bytes n fs (AtEnd h g) = ended_rows fs g
 item_grows p bytes n fs (Finished g) = refl
 
--- the id of the geometry that stands open is told by the outline
+-- the id of the open geometry is determined by the outline
 pub same_id : (fs : List Frame) → id_in (map group_of fs) ≡ id_within fs
 same_id [] = refl
 same_id (f ∷ fs) = refl
 
--- and so is the change
+-- the change is determined by the outline
 pub change_same : (p : Point) (n : ℕ) (fs : List Frame) (ph : Phase) → step_change p n (length fs) (id_within fs) (step_of ph) ≡ change_of p n (outline_of (fs, ph))
 change_same p n fs ph =
     ap (λ d. step_change p n d (id_within fs) (step_of ph)) (sym (length-map fs group_of))
     ∙ ap (λ id. step_change p n (length (map group_of fs)) id (step_of ph)) (sym (same_id fs))
 
--- each item, told by the outline
+-- the change of each item, by the outline
 pub stack_grows : (p : Point) (bytes n : ℕ) (fs : List Frame) (ph : Phase) → rows_so_far (advanced p bytes n fs ph) ≡ applied (change_of p n (outline_of (fs, ph))) (rows_so_far (fs, ph))
 stack_grows p bytes n fs ph = item_grows p bytes n fs ph ∙ ap (λ c. applied c (rows_so_far (fs, ph))) (change_same p n fs ph)

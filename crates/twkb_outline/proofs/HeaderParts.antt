@@ -1,4 +1,4 @@
--- A reader behind the optional parts of a header that are numbers.
+-- A reader after the optional parts of a header that are numbers.
 use Rattle.std.proofs.Common.{◌≡◌, ℕ, suc, ◌+◌, ◌<◌, List, [], ◌∷◌, ◌++◌, length, refl, sym, ◌∙◌, ap, subst, append_assoc, append-nil, length-append, false, ℤ, Option, None, arith}
 use Rattle.std.specs.Prelude.{if◌then◌else◌}
 use Rattle.twkb_num.specs.Varint.{IsVarint}
@@ -19,13 +19,13 @@ use Rattle.twkb_outline.specs.HeaderParts.{IsNumberPart, bare_head, AreNumberPar
 use Rattle.twkb_outline.proofs.Outlined.{noted_item}
 use Rattle.twkb_outline.proofs.NotedJoins.{noted_still, noted_join}
 
--- ---- parts alone
+-- ---- optional parts
 
--- one part
+-- one part is a list of parts
 pub one_part : (h : Head) (at n : ℕ) (r : Role) (bytes : List ℕ) → IsNumberPart r → IsVarint bytes n → AreNumberParts h at (r ∷ []) bytes (with_option h r n (at + length bytes))
 one_part h at n r bytes is v = (n, bytes, [], is, v, sym (append-nil bytes), (refl, refl))
 
--- some parts, and others behind them
+-- some parts and the parts after them are parts
 pub parts_join : (h mid to : Head) (at : ℕ) (rs qs : List Role) (xs ys : List ℕ) → AreNumberParts h at rs xs mid → AreNumberParts mid (at + length xs) qs ys to → AreNumberParts h at (rs ++ qs) (xs ++ ys) to
 parts_join h mid to at [] qs xs ys (none, same) next =
     let still : at + length xs ≡ at = omega (arith, ap length none) in
@@ -41,9 +41,9 @@ parts_join h mid to at (r ∷ rs) qs xs ys (n, part, rest, is, v, whole, more) n
       parts_join (with_option h r n (at + length part)) mid to (at + length part) rs qs rest ys more (subst (λ a. AreNumberParts mid a qs ys to) behind next),
     )
 
--- ---- a reader
+-- ---- the reader
 
--- what a part is not
+-- a part is neither a header nor an end
 record IsCalmPart (limits : Allowance) (e : Sums) (r : Role) (n : ℕ) : Type 0 where
   pub number : IsNumber r
   pub free : objection limits e r n ≡ None
@@ -65,7 +65,7 @@ no_row d id k precision meta (r ∷ rs) rows full = refl
 no_row d id k precision meta [] rows full = ap (λ b. applied (if b then NewRow (own_of d id k precision) else Nothing) rows) full
 
 module _ (limits : Allowance) (gs : List Group) (k : Kind) (rows : List Row) (told : ℕ → Notes) where
-  -- behind one part
+  -- the state after one part
   part_read : (front : List ℕ) (e : Sums) (h : Head) (r : Role) (rs : List Role) (n : ℕ) (part : List ℕ) → bit h.meta 4 ≡ false → IsNumberPart r → IsVarint part n → NotedOutline limits front e (gs, OnOption k h r rs) rows told
       → NotedOutline limits (front ++ part) (sums_past e part e.position) (gs, options k (with_option h r n (e.bytes + length part)) rs) rows told
   part_read front e h r rs n part full is v there =
@@ -80,7 +80,7 @@ module _ (limits : Allowance) (gs : List Group) (k : Kind) (rows : List Row) (to
       let d = subst (λ s. NotedOutline limits (front ++ part) s (gs, options k (with_option h r n (e.bytes + length part)) rs) rows (λ start. noted_by start e r n (told start))) sums b in
       record { outlined = d.outlined; notes = λ start. d.notes start ∙ c.silent start (told start) }
 
-  -- behind some
+  -- the state after some parts
   pub parts_read : (front : List ℕ) (e : Sums) (h to : Head) (rs : List Role) (bytes : List ℕ) → bit h.meta 4 ≡ false → AreNumberParts h e.bytes rs bytes to → NotedOutline limits front e (gs, options k h rs) rows told
       → NotedOutline limits (front ++ bytes) (sums_past e bytes e.position) (gs, options k to []) rows told
   parts_read front e h to [] bytes full (none, same) there =
@@ -93,11 +93,11 @@ module _ (limits : Allowance) (gs : List Group) (k : Kind) (rows : List Row) (to
       subst (λ l. NotedOutline limits (front ++ l) (sums_past e l e.position) (gs, options k to []) rows told) (sym whole)
       (noted_join limits front e (gs, options k to []) rows told part rest e.position e.position next)
 
--- the sums behind a metadata byte and such parts
+-- the sums after a metadata byte and the parts that it asks for
 abbrev pub sums_behind_header : Sums → Kind → (meta : ℕ) → (parts : List ℕ) → Sums
 sums_behind_header e k meta parts = record { bytes = e.bytes + suc (length parts); position = e.position; nodes = e.nodes; points = e.points + points_by (Metadata (kind_number k)) meta }
 
--- a metadata byte, the parts that it asks for, and then a body: the byte alone notes something
+-- a metadata byte, the parts that it asks for, and then a body: only the metadata byte adds notes
 pub header_read : (limits : Allowance) (front : List ℕ) (e : Sums) (gs : List Group) (k : Kind) (precision : ℤ) (rows : List Row) (told : ℕ → Notes) (meta : ℕ) (parts : List ℕ) (size : Option ℕ) (from : ℕ) → meta < 256 → bit meta 4 ≡ false
     → objection limits e (Metadata (kind_number k)) meta ≡ None → (let to : Head = record { precision = precision; meta = meta; size = size; from = from } in AreNumberParts (bare_head precision meta (e.bytes + 1)) (e.bytes + 1) (asked meta) parts to
     → NotedOutline limits front e (gs, OnMetadata k precision) rows told → NotedOutline limits (front ++ meta ∷ parts) (sums_behind_header e k meta parts) (gs, begins k to) rows (λ start. note_metadata meta (told start)))

@@ -1,4 +1,5 @@
--- Where the ends behind an item are passed, or none comes, the bytes were judged; and a part that ends in what is left of a piece ends in the piece.
+-- The bytes were judged if the ends after an item are passed, or if none comes; and a part that
+-- ends in the rest of a piece ends in the piece.
 use Rattle.std.proofs.Common.{◌≡◌, ℕ, zero, suc, ◌+◌, ◌-◌, ◌≤◌, List, ◌++◌, length, take, drop, subst, Result, Some, Ok, Err, OnErr, arith}
 use Rattle.twkb_tree.specs.Limits.{Allowance}
 use Rattle.twkb_tree.specs.Rows.{Row}
@@ -35,7 +36,7 @@ pub landed_judged : (limits : Allowance) (bytes : List ℕ) (e : Sums) (rs : Lis
 landed_judged limits bytes e rs (Ok o) l past = outlined_judged limits bytes e o rs l past
 landed_judged limits bytes e rs (Err x) l past = absurd past
 
--- what holds in any case holds where an error is answered
+-- what is true in any case is true if an error is returned
 pub on_err : {A E P : Type 0} (r : Result A E) → P → OnErr r P
 on_err (Ok x) p = tt
 on_err (Err e) p = p

@@ -1,4 +1,4 @@
--- Where a reader stands behind no bytes, and behind two pieces.
+-- The state of a reader after no bytes, and after two pieces.
 use Rattle.std.proofs.Common.{◌≡◌, ℕ, ◌+◌, List, [], ◌++◌, length, sym, subst, append_assoc, append-nil, length-append, arith}
 use Rattle.twkb_points.specs.Point.{Point}
 use Rattle.twkb_tree.specs.Limits.{Allowance}
@@ -9,13 +9,13 @@ use Rattle.twkb_outline.specs.Outline.{Outline}
 use Rattle.twkb_outline.specs.Reading.{sums_past}
 use Rattle.twkb_outline.specs.Noting.{NotedOutline}
 
--- the sums behind two pieces
+-- the sums after two pieces
 sums_join : (e : Sums) (xs ys : List ℕ) (at to : Point) → sums_past (sums_past e xs at) ys to ≡ sums_past e (xs ++ ys) to
 sums_join e xs ys at to =
     let sum : (e.bytes + length xs) + length ys ≡ e.bytes + length (xs ++ ys) = omega (arith, length-append xs ys) in
     λ t. record { bytes = sum t; position = to; nodes = e.nodes; points = e.points }
 
--- and behind no bytes
+-- the sums after no bytes
 sums_still : (e : Sums) (at : Point) → e.position ≡ at → e ≡ sums_past e [] at
 sums_still e at same =
     let none : e.bytes ≡ e.bytes + 0 = omega arith in

@@ -1,4 +1,4 @@
--- The two numbers of a point note nothing.
+-- The two numbers of a point add no notes.
 use Rattle.std.proofs.Common.{◌≡◌, ℕ, ◌+◌, List, ◌++◌, length, refl, sym, ◌∙◌, ap, subst, append_assoc, length-append, arith, None}
 use Rattle.std.specs.Prelude.{not, ◌+ℤ◌}
 use Rattle.twkb_num.specs.Zigzag.{unzigzag_of}
@@ -17,7 +17,7 @@ use Rattle.twkb_outline.specs.Reading.{Pair, sums_past, point_after}
 use Rattle.twkb_outline.specs.Noting.{NotedOutline}
 use Rattle.twkb_outline.proofs.Outlined.{noted_item}
 
--- behind a point, where one was wanted
+-- the notes after a point that was expected
 pub noted_point : (limits : Allowance) (front : List ℕ) (e : Sums) (gs : List Group) (h : Head) (f : Form) (ids : Ids) (lefts : List ℕ) (rs : List Row) (told : ℕ → Notes) (bytes : List ℕ) (to : Point)
     → NotedOutline limits front e (gs, OnBody h f ids (Wanted 0 lefts)) rs told → Pair e.position bytes to
     → NotedOutline limits (front ++ bytes) (sums_past e bytes to) (gs, shut h f ids 0 lefts) (applied (point_after to gs h f ids) rs) told

@@ -1,4 +1,4 @@
--- Where a reader stands that keeps an outline and rows.
+-- The state of a reader that keeps an outline and rows.
 use Rattle.std.proofs.Common.{◌≡◌, ℕ, zero, suc, ◌+◌, ◌≤◌, List, [], ◌∷◌, ◌++◌, length, refl, sym, ◌∙◌, ap, subst, arith, Option, Some, None}
 use Rattle.std.specs.Prelude.{◌≢◌, map, Result, Ok, Err}
 use Rattle.std.proofs.lemmas.List.{length-map}
@@ -47,7 +47,7 @@ pub same_role : (e : Sums) (st : Stack) → role_at e st ≡ outline_role e (out
 same_role e st = same_step_role e st.0 st.1
 
 module _ (limits : Allowance) where
-  -- what is valid within some limits is valid within the largest
+  -- a geometry that is valid within some limits is valid within the largest
   valid_largest : (g : Tree) → IsAllowance limits → IsValid limits g → IsValid largest_limits g
   valid_largest g a v = record {
     tree = v.tree;
@@ -61,14 +61,14 @@ module _ (limits : Allowance) where
   rows_largest [] a v = tt
   rows_largest (r ∷ rs) a v = (v.0, valid_largest v.0 a v.1, v.2)
 
-  -- the role that the stack has
+  -- the role of the next item is the stack's
   role_of : (bytes : List ℕ) (e : Sums) (o : Outline) (rs : List Row) (role : Role) (r : Outlined limits bytes e o rs) → outline_role e o ≡ Some role → role_at e r.stack ≡ Some role
   role_of bytes e o rs role r says = same_role e r.stack ∙ (ap (outline_role e) r.outline ∙ says)
 
   pub outlined_start : IsAllowance limits → Outlined limits [] nothing ([], OnHeader) []
   outlined_start allowed = record { stack = started; reached = reached_nothing limits allowed; outline = refl; rows = refl }
 
-  -- behind an item, which notes what it does of what was noted
+  -- the state after an item, with its notes added
   pub noted_item : (bytes : List ℕ) (e : Sums) (o : Outline) (rs : List Row) (told : ℕ → Notes) (i : Item) → NotedOutline limits bytes e o rs told → outline_role e o ≡ Some i.role → Gives i.role i.number i.bytes
       → objection limits e i.role i.number ≡ None → NotedOutline limits (bytes ++ i.bytes) (added e i) (outline_after e i o) (applied (change_after e i o) rs) (λ start. noted_by start e i.role i.number (told start))
   noted_item bytes e o rs told i n says gives free =
@@ -95,7 +95,7 @@ module _ (limits : Allowance) where
       → objection limits e i.role i.number ≡ Some reason → (more : List ℕ) → FirstFault limits (bytes ++ (i.bytes ++ more)) e.bytes reason
   outlined_refused bytes e o rs i reason r says gives objects = subst (Leads limits bytes e r.stack i) objects (leads limits bytes e r.stack i r.reached (role_of bytes e o rs i.role r says) gives)
 
-  -- behind the ends of a stack
+  -- the state after the ends of a stack
   landed_outline : (bytes : List ℕ) (e : Sums) (st : Stack) (w : Result Stack Reason) → ends e.bytes st.0 st.1 ≡ w → Landed limits bytes e w → OutlineLanded limits bytes e (rows_so_far st) (outline_in w)
   landed_outline bytes e st (Ok last) same l = record { stack = last; reached = l; outline = refl; rows = rows_at_ends e.bytes st.0 st.1 last same }
   landed_outline bytes e st (Err reason) same l = l
@@ -106,7 +106,7 @@ module _ (limits : Allowance) where
       let there = subst (OutlineLanded limits bytes e (rows_so_far r.stack)) (outline_at_ends e.bytes r.stack.0 r.stack.1 ∙ ap (outline_ends e.bytes) r.outline) here in
       subst (λ l. OutlineLanded limits bytes e l (outline_ends e.bytes o)) r.rows there
 
-  -- a stack whose outline is finished
+  -- a stack whose outline is finished is finished
   finished_stack : (bytes : List ℕ) (e : Sums) (fs : List Frame) (ph : Phase) → map group_of fs ≡ [] → step_of ph ≡ OnFinished → Reached limits bytes e (fs, ph) → (g : Tree) × Blob limits bytes g × (rows 0 g ≡ rows_so_far (fs, ph))
   finished_stack bytes e (f ∷ fs) ph none same r = absurd cc
   finished_stack bytes e [] (Finished g) none same r = (g, reached_blob limits bytes e g r, refl)
@@ -123,7 +123,7 @@ module _ (limits : Allowance) where
   pub outlined_whole : (bytes : List ℕ) (e : Sums) (rs : List Row) → Outlined limits bytes e ([], OnFinished) rs → (g : Tree) × Blob limits bytes g × (rows 0 g ≡ rs)
   outlined_whole bytes e rs r = let f = finished_stack bytes e r.stack.0 r.stack.1 (ap (λ (o : Outline). o.0) r.outline) (ap (λ (o : Outline). o.1) r.outline) r.reached in (f.0, f.1, f.2 ∙ r.rows)
 
-  -- the rows
+  -- the rows are those of a valid geometry
   pub outlined_valid : (bytes : List ℕ) (e : Sums) (o : Outline) (rs : List Row) → Outlined limits bytes e o rs → AreValidRowsOfOne limits rs
   outlined_valid bytes e o rs r = subst (AreValidRowsOfOne limits) r.rows (reached_valid limits bytes e r.stack r.reached)
 
@@ -133,7 +133,7 @@ module _ (limits : Allowance) where
   pub outlined_takes : (bytes : List ℕ) (e : Sums) (o : Outline) (rs : List Row) (p : Rattle.twkb_points.specs.Point.Point) (n : ℕ) → Outlined limits bytes e o rs → Takes (change_of p n o) rs
   outlined_takes bytes e o rs p n r = subst (λ q. Takes (change_of p n q) rs) r.outline (subst (Takes (change_of p n (outline_of r.stack))) r.rows (stack_takes p n r.stack.0 r.stack.1))
 
-  -- a row that begins goes on with the rows
+  -- a row that begins continues the rows
   pub row_goes_on : IsAllowance limits → (bytes : List ℕ) (e : Sums) (o : Outline) (rs : List Row) (row : Row) → Outlined limits bytes e o (rs ++ row ∷ []) → Continues largest_limits rs row
   row_goes_on allowed bytes e o rs row r = continues_largest limits rs row allowed (continues_row limits rs row (outlined_valid bytes e o (rs ++ row ∷ []) r))
 

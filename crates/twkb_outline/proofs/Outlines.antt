@@ -1,4 +1,4 @@
--- The outline behind an item is told by the outline before it.
+-- The outline after an item is determined by the outline before it.
 use Rattle.std.proofs.Common.{◌≡◌, ℕ, zero, suc, ◌-◌, Bool, true, false, List, [], ◌∷◌, ◌++◌, refl, ◌∙◌, ap, Some, None}
 use Rattle.std.specs.Prelude.{map, if◌then◌else◌, Ok}
 use Rattle.twkb_num.specs.Zigzag.{unzigzag_of}
@@ -12,29 +12,29 @@ use Rattle.twkb_grammar.specs.Machine.{Nested, Around, top, within, Body, Want, 
 use Rattle.twkb_grammar.specs.Reading.{past_end, ends}
 use Rattle.twkb_outline.specs.Outline.{ids_behind, ids_after, Group, Step, Wanted, WantedY, OnHeader, OnId, OnBody, OnEnd, group_of, lefts_of, ids_left, body_step, step_of, outline_of, next_ids, shut, listing, begins, options, members_open, many_counted, outline_ended, outline_advanced, outline_past_end, outline_ends, outline_in}
 
--- behind one value more there is one id less
+-- after one more value there is one id less
 pub ids_behind-snoc : {A : Type 0} (ids : Ids) (xs : List A) (x : A) → ids_behind ids (xs ++ x ∷ []) ≡ other_ids (ids_behind ids xs)
 ids_behind-snoc ids [] x = refl
 ids_behind-snoc ids (y ∷ ys) x = ids_behind-snoc (other_ids ids) ys x
 
--- and behind one geometry more
+-- after one more geometry there is one id less
 pub ids_after-snoc : (ids : Ids) (gs : Trees) (g : Tree) → ids_after ids (snoc gs g) ≡ other_ids (ids_after ids gs)
 ids_after-snoc ids end g = refl
 ids_after-snoc ids (k ▷ gs) g = ids_after-snoc (other_ids ids) gs g
 
--- a body whose end is its geometry's
+-- the step of a body, which at its end is its geometry's end
 abbrev spot_step : {whole : ℕ} → Head → Form → Ids → Body whole → Step
 spot_step h f ids (Want d a) = OnBody h f (ids_left ids a) (Wanted d (lefts_of a))
 spot_step h f ids (WantY a) = OnBody h f (ids_left ids a) (WantedY (lefts_of a))
 spot_step h f ids (Done v) = OnEnd h
 
--- a phase with a body
+-- the step of a phase with a body
 settled_step : (h : Head) (f : Form) (ids : Ids) (b : Body (depth_of f)) → step_of (settled h f ids b) ≡ spot_step h f ids b
 settled_step h f ids (Want d a) = refl
 settled_step h f ids (WantY a) = refl
 settled_step h f ids (Done v) = refl
 
--- the ids where the next value of a list is wanted
+-- the ids when the next value of a list is expected
 next_left : {whole d : ℕ} (ids : Ids) (done : List (Nested d)) (v : Nested d) (left : ℕ) (a : Around whole (suc d)) → ids_left ids (within (done ++ v ∷ []) left a) ≡ next_ids (lefts_of a) (ids_left ids (within done (suc left) a))
 next_left ids done v left top = ids_behind-snoc ids done v
 next_left ids done v left (within others more a) = refl
@@ -49,7 +49,7 @@ shut_step h f ids top v = refl
 shut_step {d = d} h f ids (within done zero a) v = shut_step h f ids a (done ++ v ∷ []) ∙ shut_ids h f ids done 0 a (suc d)
 shut_step {d = d} h f ids (within done (suc left) a) v = ap (λ js. OnBody h f js (Wanted d (left ∷ lefts_of a))) (next_left ids done v left a)
 
--- the ids where a list begins
+-- the ids when a list begins
 first_left : {whole d : ℕ} (ids : Ids) (left : ℕ) (a : Around whole (suc d)) → ids_left ids (within [] left a) ≡ ids_left ids a
 first_left ids left top = refl
 first_left ids left (within others more a) = refl
@@ -64,7 +64,7 @@ body_advanced p n h f ids (Want (suc d) a) bytes gs = settled_step h f ids (open
 body_advanced p n h f ids (WantY a) bytes gs = settled_step h f ids (closed a p) ∙ shut_step h f ids a p
 body_advanced p n h f ids (Done v) bytes gs = refl
 
--- the same with the collections round it
+-- the outline of a body with the collections around it
 body_outline : (p : Point) (bytes n : ℕ) (fs : List Frame) (h : Head) (f : Form) (ids : Ids) (b : Body (depth_of f)) → outline_of (fs, settled h f ids (body_after p n b)) ≡ outline_advanced bytes n (outline_of (fs, AtBody h f ids b))
 body_outline p bytes n fs h f ids (Want zero a) = refl
 body_outline p bytes n fs h f ids (Want (suc d) a) = ap (λ (s : Step). (map group_of fs, s)) (body_advanced p n h f ids (Want (suc d) a) bytes [])
@@ -111,7 +111,7 @@ ended_outline (f ∷ fs) g = go f.left
     go zero = refl
     go (suc n) = ap (λ js. (record { head = f.head; ids = js; left = n } ∷ map group_of fs, OnHeader)) (ids_after-snoc f.ids f.done g)
 
--- each item
+-- the outline after each item
 pub outline_steps : (p : Point) (bytes n : ℕ) (fs : List Frame) (ph : Phase) → outline_of (advanced p bytes n fs ph) ≡ outline_advanced bytes n (outline_of (fs, ph))
 outline_steps p bytes n fs AtHeader = refl
 outline_steps p bytes n fs (AtMetadata k precision) = ap (λ (s : Step). (map group_of fs, s)) (wanting_step k (record { precision = precision; meta = n; size = None; from = bytes }) (asked n))
@@ -123,7 +123,7 @@ outline_steps p bytes n fs (AtBody h f ids b) = body_outline p bytes n fs h f id
 outline_steps p bytes n fs (AtEnd h g) = ended_outline fs g
 outline_steps p bytes n fs (Finished g) = refl
 
--- the ends of geometries
+-- the outline after the ends of geometries
 past_end_outline : (exact : Bool) (bytes : ℕ) (g : Tree) (fs : List Frame) → outline_in (past_end exact bytes g fs) ≡ outline_past_end exact bytes (map group_of fs)
 past_end_outline false bytes g fs = refl
 past_end_outline true bytes g [] = refl
@@ -134,7 +134,7 @@ past_end_outline true bytes g (f ∷ fs) = go f.left (past_end_outline (is_exact
     go zero same = same
     go (suc n) same = ap (λ js. Ok (record { head = f.head; ids = js; left = n } ∷ map group_of fs, OnHeader)) (ids_after-snoc f.ids f.done g)
 
--- the ends behind an item
+-- the outline after the ends that follow an item
 pub outline_at_ends : (bytes : ℕ) (fs : List Frame) (ph : Phase) → outline_in (ends bytes fs ph) ≡ outline_ends bytes (outline_of (fs, ph))
 outline_at_ends bytes fs AtHeader = refl
 outline_at_ends bytes fs (AtMetadata k p) = refl

@@ -1,4 +1,4 @@
--- A point's own header that asks for nothing, or for a size of one byte.
+-- The header of a point that asks for nothing, or for a size of one byte.
 use Rattle.std.proofs.Common.{◌≡◌, ℕ, ◌+◌, ◌<◌, ◌/◌, ◌%◌, List, [], ◌∷◌, ◌++◌, length, length-append, sym, ap, ◌∙◌, subst, append_assoc, false, None, Some, refl, arith}
 use Rattle.std.specs.Prelude.{◌&&◌, ◌||◌, nat_eq, nat_lt, nat_le}
 use Rattle.std.proofs.lemmas.Bool.Decides.{nat_tests}
@@ -20,21 +20,21 @@ use Rattle.twkb_outline.proofs.PointPairs.{outlined_point}
 few : (limit points : ℕ) → points < limit → nat_le limit (points + 0) ≡ false
 few limit points h = grind (arith, nat_tests)
 
--- a byte that does not go on spells itself
+-- a byte below 128 spells itself
 byte_spells : (n : ℕ) → n < 128 → IsVarint (n ∷ []) n
 byte_spells n h = record { marked = h; within = omega arith; sum = omega (arith, h); fits = omega (arith, h) }
 
--- the sums behind so many bytes of such a point, which lead to this position
+-- the sums after this many bytes of such a point, which lead to this position
 abbrev pub sums_behind : Sums → (used : ℕ) → Point → Sums
 sums_behind e used to = record { bytes = e.bytes + used; position = to; nodes = e.nodes; points = e.points + 1 }
 
--- these bytes are a point's own header, behind which its first number is wanted
+-- these bytes are the header of a point, after which its first number is expected
 abbrev pub HeaderRead : Allowance → List ℕ → Sums → List Group → List Row → List ℕ → Head → Type 0
 HeaderRead limits front e gs rs own h = Outlined limits (front ++ own) (sums_behind e (length own) origin) (gs, OnBody h PointForm None (Wanted 0 [])) rs
 
--- where such a point's type byte comes next
+-- the type byte of such a point comes next
 module _ (limits : Allowance) (front : List ℕ) (e : Sums) (gs : List Group) (rs : List Row) (first : ℕ) (r : Outlined limits front e (gs, OnHeader) rs) (low : first < 256) (kind : first % 16 ≡ 1) (room : e.points < limits.points) where
-  -- the sums and the outline behind its type byte
+  -- the sums and the outline after its type byte
   abbrev typed : Sums
   typed = added e (item Header first)
 
@@ -55,7 +55,7 @@ module _ (limits : Allowance) (front : List ℕ) (e : Sums) (gs : List Group) (r
       let c = subst (λ m. Outlined limits (front ++ own) m (gs, OnBody h PointForm None (Wanted 0 [])) rs) sums b in
       subst (λ q. HeaderRead limits front e gs rs own q) head c
 
-  -- a header that asks for nothing
+  -- a header that asks for nothing is read
   pub bare_header_read : HeaderRead limits front e gs rs (first ∷ 0 ∷ []) (record { precision = unzigzag_of (first / 16); meta = 0; size = None; from = e.bytes + 2 })
   bare_header_read =
       let two : (e.bytes + 1) + 1 ≡ e.bytes + 2 = omega arith in
@@ -65,7 +65,7 @@ module _ (limits : Allowance) (front : List ℕ) (e : Sums) (gs : List Group) (r
       let sums : added typed (item (Metadata 1) 0) ≡ sums_behind e 2 origin = λ t. record { bytes = two t; position = origin; nodes = nodes t; points = points t } in
       reach (first ∷ 0 ∷ []) _ _ _ _ (append_assoc front (first ∷ []) (0 ∷ [])) sums (λ t. record { precision = unzigzag_of (first / 16); meta = 0; size = None; from = two t }) (metadata_read 0 (omega arith) free)
 
-  -- a header that asks for a size
+  -- a header that asks for a size of one byte is read
   pub sized_header_read : (n : ℕ) → n < 128 → HeaderRead limits front e gs rs (first ∷ 2 ∷ n ∷ []) (record { precision = unzigzag_of (first / 16); meta = 2; size = Some n; from = e.bytes + 3 })
   sized_header_read n short =
       let three : ((e.bytes + 1) + 1) + 1 ≡ e.bytes + 3 = omega arith in
@@ -79,7 +79,7 @@ module _ (limits : Allowance) (front : List ℕ) (e : Sums) (gs : List Group) (r
       let read = outlined_item limits ((front ++ first ∷ []) ++ 2 ∷ []) behind (gs, OnOption (SimpleKind PointForm) asking Size []) rs (item Size n) (metadata_read 2 (omega arith) free) refl (byte_spells n short) refl in
       reach (first ∷ 2 ∷ n ∷ []) _ _ _ _ spelled sums (λ t. record { precision = unzigzag_of (first / 16); meta = 2; size = Some n; from = three t }) read
 
--- behind such a header a point leads to the end of its geometry
+-- after such a header a point leads to the end of its geometry
 pub header_point_read : (limits : Allowance) (front : List ℕ) (e : Sums) (gs : List Group) (rs : List Row) (header steps : List ℕ) (h : Head) (to : Point) → HeaderRead limits front e gs rs header h → Pair origin steps to
     → Outlined limits (front ++ (header ++ steps)) (sums_behind e (length (header ++ steps)) to) (gs, OnEnd h) (applied (point_after to gs h PointForm None) rs)
 header_point_read limits front e gs rs header steps h to read pair =

@@ -22,7 +22,7 @@ pub outlined_point : (limits : Allowance) (front : List ℕ) (e : Sums) (gs : Li
 outlined_point limits front e gs h f ids lefts rs bytes to r p =
     (noted_point limits front e gs h f ids lefts rs (λ start. notes_in start r) bytes to (record { outlined = r; notes = λ start. refl }) p).outlined
 
--- and a point that comes to the last row comes to a line's
+-- a point that is added goes into the row of a line
 pub point_takes : (limits : Allowance) (front : List ℕ) (e : Sums) (gs : List Group) (h : Head) (f : Form) (ids : Ids) (lefts : List ℕ) (rs : List Row) (bytes : List ℕ) (to : Point)
     → Outlined limits front e (gs, OnBody h f ids (Wanted 0 lefts)) rs → Pair e.position bytes to → Takes (point_after to gs h f ids) rs
 point_takes limits front e gs h f ids lefts rs bytes to r p =

@@ -1,4 +1,4 @@
--- What an item changes of the rows.
+-- The change that an item makes to the rows.
 use Rattle.std.proofs.Common.{◌≡◌, ℕ, zero, suc, ◌≤◌, List, [], ◌∷◌, ◌++◌, refl, sym, ◌∙◌, ap, arith, append_assoc, append-nil, Option, Some, None}
 use Rattle.std.specs.Prelude.{ℤ}
 use Rattle.twkb_points.specs.Point.{Point}
@@ -14,29 +14,29 @@ use Rattle.twkb_outline.specs.Growing.{cut_behind, cut_before, cut, value_rows, 
 
 -- ---- lists
 
--- a row more behind rows that follow another
+-- one more row after the rows that follow another
 pub one_behind : (front : List Row) (o : Row) (rs : List Row) (r : Row) → front ++ (o ∷ (rs ++ r ∷ [])) ≡ (front ++ (o ∷ rs)) ++ r ∷ []
 one_behind front o rs r = sym (append_assoc front (o ∷ rs) (r ∷ []))
 
--- the same in rows that follow another
+-- one more point in the rows that follow another
 point_behind : (p : Point) (front : List Row) (o : Row) (rs : List Row) (r : Row) → front ++ (o ∷ (rs ++ with_point r p ∷ [])) ≡ point_added p (front ++ (o ∷ (rs ++ r ∷ [])))
 point_behind p front o rs r = one_behind front o rs (with_point r p) ∙ (sym (point_last p (front ++ (o ∷ rs)) r) ∙ ap (point_added p) (sym (one_behind front o rs r)))
 
--- the rows of one member more
+-- the rows of one more member
 pub each-snoc : {A : Type 0} (f : Option ℤ → A → List Row) (ids : Ids) (xs : List A) (x : A) → rows_of_each f ids (xs ++ x ∷ []) ≡ rows_of_each f ids xs ++ f (first_id (ids_behind ids xs)) x
 each-snoc f ids [] x = append-nil (f (first_id ids) x)
 each-snoc f ids (y ∷ ys) x = ap (λ rs. f (first_id ids) y ++ rs) (each-snoc f (other_ids ids) ys x) ∙ sym (append_assoc (f (first_id ids) y) (rows_of_each f (other_ids ids) ys) (f (first_id (ids_behind (other_ids ids) ys)) x))
 
--- where there are no ids
+-- without ids there are none for the members left
 no_ids : {A : Type 0} (xs : List A) → ids_behind None xs ≡ None
 no_ids [] = refl
 no_ids (x ∷ xs) = no_ids xs
 
--- the rows of one ring more
+-- the rows of one more ring
 pub ring-snoc : (d : ℕ) (rings : List (List Point)) (ring : List Point) → ring_rows d (rings ++ ring ∷ []) ≡ ring_rows d rings ++ plain_row d kinds.Ring None ring ∷ []
 ring-snoc d rings ring = each-snoc (λ none ps. plain_row d kinds.Ring none ps ∷ []) None rings ring ∙ ap (λ ids. ring_rows d rings ++ plain_row d kinds.Ring (first_id ids) ring ∷ []) (no_ids rings)
 
--- the rows of one ring more in the last polygon
+-- the rows of one more ring in the last polygon
 pub area_ring : (d : ℕ) (ids : Ids) (areas : List (List (List Point))) (rings : List (List Point)) (ring : List Point)
     → rows_of_each (polygon_rows d) ids (areas ++ (rings ++ ring ∷ []) ∷ []) ≡ rows_of_each (polygon_rows d) ids (areas ++ rings ∷ []) ++ plain_row (suc d) kinds.Ring None ring ∷ []
 area_ring d ids areas rings ring =
@@ -48,22 +48,22 @@ area_ring d ids areas rings ring =
     ∙ (one_behind before (plain_row d kinds.Polygon id []) (ring_rows (suc d) rings) r
     ∙ ap (λ rs. rs ++ r ∷ []) (sym (each-snoc (polygon_rows d) ids areas rings))))
 
--- a row more below a row
+-- one more row below a row
 row_below : (front : List Row) (o : Row) (rs more : List Row) (r : Row) → more ≡ rs ++ r ∷ [] → front ++ (o ∷ more) ≡ (front ++ (o ∷ rs)) ++ r ∷ []
 row_below front o rs more r e = ap (λ l. front ++ (o ∷ l)) e ∙ one_behind front o rs r
 
--- a point more below a row
+-- one more point below a row
 point_below : (p : Point) (front : List Row) (o : Row) (others rs more : List Row) (r : Row) → rs ≡ others ++ r ∷ [] → more ≡ others ++ with_point r p ∷ [] → front ++ (o ∷ more) ≡ point_added p (front ++ (o ∷ rs))
 point_below p front o others rs more r e h = ap (λ l. front ++ (o ∷ l)) h ∙ (point_behind p front o others r ∙ ap (λ l. point_added p (front ++ (o ∷ l))) (sym e))
 
 -- ---- bodies
 
--- lists go inwards
+-- the lists around a value are at most as deep as the whole
 pub around_within : {whole d : ℕ} (a : Around whole d) → d ≤ whole
 around_within top = omega arith
 around_within (within done left a) = omega (arith, around_within a)
 
--- what a body holds when a value is done, and when a list begins
+-- the contents of a body when a value is complete, and when a list begins
 cut-closed : {whole d : ℕ} (a : Around whole d) (v : Nested d) → cut (closed a v) ≡ Some (cut_behind a v)
 cut-closed top v = refl
 cut-closed (within done zero a) v = cut-closed a (done ++ v ∷ [])
@@ -79,11 +79,11 @@ settled_rows d id h f ids (WantY a) = refl
 settled_rows d id h f ids (Done v) = refl
 
 module _ (front : List Row) (d : ℕ) (id : Option ℤ) (h : Head) (ids : Ids) where
-  -- the rows with this value
+  -- the rows of a body with this value
   abbrev rows_at : (f : Form) → Nested (depth_of f) → List Row
   rows_at f v = front ++ rows_with id d (simple h.precision (shape_of f ids v))
 
-  -- the rows before it
+  -- the rows of a body before a place
   abbrev rows_before : (f : Form) {k : ℕ} → Around (depth_of f) k → List Row
   rows_before f a = front ++ value_rows d id h f ids (cut_before a)
 
@@ -142,7 +142,7 @@ module _ (front : List Row) (d : ℕ) (id : Option ℤ) (h : Head) (ids : Ids) w
       point_below p front (own kinds.MultiPolygon) (rows_of_each (polygon_rows (suc d)) ids (areas ++ rings ∷ [])) _ _ (plain_row (suc (suc d)) kinds.Ring None ps) (area_ring (suc d) ids areas rings ps) (area_ring (suc d) ids areas rings (ps ++ p ∷ []))
   point_comes p MultiPolygonForm (within ps left (within others more (within further most (within last least a)))) = absurd (omega (arith, around_within a))
 
-  -- what a number of a body changes
+  -- the change of a number in a body
   pub body_grows : (p : Point) (n : ℕ) (f : Form) (b : Body (depth_of f)) → front ++ phase_rows d id (settled h f ids (body_after p n b)) ≡ applied (step_change p n d id (body_step h f ids b)) (front ++ value_rows d id h f ids (cut b))
   body_grows p n f (Want zero a) = refl
   body_grows p n f (Want (suc k) a) = ap (λ rs. front ++ rs) (settled_rows d id h f ids (opened k n a)) ∙ (ap (λ v. front ++ value_rows d id h f ids v) (cut-opened k n a) ∙ list_begins f k a)

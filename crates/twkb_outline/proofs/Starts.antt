@@ -1,4 +1,4 @@
--- Where a reader stands that has read nothing.
+-- The state of a reader that has read nothing.
 use Rattle.std.proofs.Common.{◌≡◌, List, []}
 use Rattle.twkb_points.specs.Point.{Point, origin}
 use Rattle.twkb_tree.specs.Limits.{Allowance, IsAllowance}

@@ -27,7 +27,7 @@ use Rattle.twkb_outline.specs.Growing.{id_within, frame_rows, value_rows, cut_be
 use Rattle.twkb_outline.proofs.RowGrowth.{around_within, one_behind, each-snoc, ring-snoc, area_ring}
 use Rattle.twkb_outline.proofs.Growths.{item_grows, change_same}
 
--- ---- a line with a point less
+-- ---- a line with one point less
 
 fits_fewer : (k : row.Kind) (whole : Bool) (ps : List Point) → (k ≡ kinds.Linestring) ⊎ (k ≡ kinds.Ring) → points_fit k whole ps ≡ true
 fits_fewer k whole ps (inl e) = subst (λ k. points_fit k whole ps ≡ true) (sym e) (go whole ps)
@@ -68,13 +68,13 @@ fewer l rs q e v =
     let c = continues_row l e.front (with_point e.last q) more in
     subst (AreValidRowsOfOne l) (sym e.whole) (continued l e.front e.last front (accepts_fewer l (reverse e.front) e.last q e.line c.0, root_same e.front e.last q c.1))
 
--- rows before a change
+-- rows before a change are valid if those after it are
 before_change : (l : Allowance) (c : Change) (rs : List Row) → Takes c rs → AreValidRowsOfOne l (applied c rs) → AreValidRowsOfOne l rs
 before_change l Nothing rs t v = v
 before_change l (NewRow r) rs t v = one_valid_front l rs (r ∷ []) v
 before_change l (NewPoint p) rs t v = fewer l rs p t v
 
--- ---- a point comes to a line alone
+-- ---- a point is only added to a line
 
 if_takes : (b : Bool) (r : Row) (rs : List Row) → Takes (if b then NewRow r else Nothing) rs
 if_takes true r rs = tt
@@ -131,12 +131,12 @@ item_takes p n fs (Finished g) = tt
 
 -- ---- runs
 
--- rows before an item
+-- rows before an item are valid if those after it are
 before_item : (l : Allowance) (p : Point) (bytes n : ℕ) (fs : List Frame) (ph : Phase) → AreValidRowsOfOne l (rows_so_far (advanced p bytes n fs ph)) → AreValidRowsOfOne l (rows_so_far (fs, ph))
 before_item l p bytes n fs ph v =
     before_change l (step_change p n (length fs) (id_within fs) (step_of ph)) (rows_so_far (fs, ph)) (item_takes p n fs ph) (subst (AreValidRowsOfOne l) (item_grows p bytes n fs ph) v)
 
--- and before a run
+-- rows before a run are valid if those after it are
 before_run : (l : Allowance) (is : List Item) (e : Sums) (st last : Stack) → Runs e st is last → AreValidRowsOfOne l (rows_so_far last) → AreValidRowsOfOne l (rows_so_far st)
 before_run l [] e st last r v = subst (λ s. AreValidRowsOfOne l (rows_so_far s)) (sym r) v
 before_run l (i ∷ is) e st last r v =
@@ -156,10 +156,10 @@ ran_valid l is st r = go (ran_part l is st r)
         let same : s.mid ≡ st = runs_same is nothing started s.mid st s.front r.runs in
         subst (λ m. AreValidRowsOfOne l (rows_so_far m)) same (before_run l part.more (sums_after nothing is) s.mid ([], Finished part.tree) s.rest (whole_rows l part.tree part.valid (rows 0 part.tree) refl))
 
--- where a reader stands
+-- the rows of a reader's state are valid
 pub reached_valid : (l : Allowance) (bytes : List ℕ) (e : Sums) (st : Stack) → Reached l bytes e st → AreValidRowsOfOne l (rows_so_far st)
 reached_valid l bytes e st r = ran_valid l r.items st r.ran
 
--- a change told by the outline
+-- the change that the outline determines is one that the rows can take
 pub stack_takes : (p : Point) (n : ℕ) (fs : List Frame) (ph : Phase) → Takes (change_of p n (outline_of (fs, ph))) (rows_so_far (fs, ph))
 stack_takes p n fs ph = subst (λ c. Takes c (rows_so_far (fs, ph))) (change_same p n fs ph) (item_takes p n fs ph)

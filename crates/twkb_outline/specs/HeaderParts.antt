@@ -1,4 +1,4 @@
--- The optional parts of a header that are numbers, one behind the other.
+-- The optional parts of a header that are numbers.
 use Rattle.std.specs.Prelude.{⊤, ◌≡◌, ℕ, ◌+◌, ℤ, List, [], ◌∷◌, ◌++◌, length, None}
 use Rattle.twkb_num.specs.Varint.{IsVarint}
 use Rattle.twkb_grammar.specs.Roles.{Role, Size, Box}
@@ -10,11 +10,12 @@ IsNumberPart Size = ⊤
 IsNumberPart Box = ⊤
 IsNumberPart _ = ⊥
 
--- A header behind its metadata byte, before its optional parts.
+-- A header after its metadata byte, before its optional parts.
 abbrev pub bare_head : (precision : ℤ) → (meta from : ℕ) → Head
 bare_head precision meta from = record { precision = precision; meta = meta; size = None; from = from }
 
--- Behind so many bytes these bytes are parts with these roles, and the header with them is the last one.
+-- From this offset the bytes are parts with these roles, and the last header is the first one
+-- with these parts.
 abbrev pub AreNumberParts : Head → ℕ → List Role → List ℕ → Head → Type 0
 AreNumberParts h at [] bytes to = (bytes ≡ []) × (to ≡ h)
 AreNumberParts h at (r ∷ rs) bytes to =

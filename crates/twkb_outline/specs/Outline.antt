@@ -1,4 +1,4 @@
--- The outline of a stack: what stands open, without the values that were read.
+-- The outline of a stack: the open geometries without the values that were read.
 use Rattle.std.specs.Prelude.{ℕ, zero, suc, ◌-◌, ◌/◌, ◌%◌, if◌then◌else◌, List, [], ◌∷◌, ◌++◌, length, map, ℤ, Option, Some, None, Bool, true, false, Result, Ok, Err}
 use Rattle.twkb_num.specs.Zigzag.{unzigzag_of}
 use Rattle.twkb_tree.specs.Tree.{Ids, Trees, end, ◌▷◌}
@@ -9,30 +9,32 @@ use Rattle.twkb_grammar.specs.Fault.{Reason, SizeMismatch}
 use Rattle.twkb_grammar.specs.PlainReader.{is_exact}
 use Rattle.twkb_grammar.specs.Machine.{Around, top, within, Body, Want, WantY, Done, Form, PointForm, LineForm, PolygonForm, MultiPointForm, MultiLineForm, MultiPolygonForm, Kind, SimpleKind, CollectionKind, kind_number, kind_at, Head, Frame, Many, ManyPoints, ManyLines, ManyPolygons, ManyGeometries, first_count, listed, Phase, AtHeader, AtMetadata, AtOption, AtCount, AtId, AtBody, AtEnd, Finished, Sums, Stack, asked, with_option}
 
--- The ids of the members behind some values.
+-- The ids of the members after some values.
 abbrev pub ids_behind : {A : Type 0} → Ids → List A → Ids
 ids_behind ids [] = ids
 ids_behind ids (x ∷ xs) = ids_behind (other_ids ids) xs
 
--- The ids of the members behind some geometries.
+-- The ids of the members after some geometries.
 abbrev pub ids_after : Ids → Trees → Ids
 ids_after ids end = ids
 ids_after ids (g ▷ gs) = ids_after (other_ids ids) gs
 
--- An open collection: its header, the ids from the member on that stands open, and how many members are left behind that one.
+-- An open collection: its header, the ids from its open member on, and how many members are left
+-- after that one.
 pub record Group : Type 0 where
   pub head : Head
   pub ids : Ids
   pub left : ℕ
 
--- Where a body stands: a count, or x at depth 0, is wanted; a y is wanted; or it is done. Of each open list, the innermost first,
--- how many values are left behind the one that stands open.
+-- The place in a body: a count, or at depth 0 an x, is expected; a y is expected; or the body is
+-- complete. For each open list, innermost first, it has the number of values left after the open
+-- one.
 pub data Spot : Type 0 where
   Wanted : (d : ℕ) → (lefts : List ℕ) → Spot
   WantedY : (lefts : List ℕ) → Spot
   Full : Spot
 
--- What is wanted next in the geometry that stands open; a body has the ids from the member on that stands open.
+-- What is expected next in the open geometry. For a body it has the ids from the open member on.
 pub data Step : Type 0 where
   OnHeader : Step
   OnMetadata : Kind → ℤ → Step
@@ -43,7 +45,7 @@ pub data Step : Type 0 where
   OnEnd : Head → Step
   OnFinished : Step
 
--- The open collections, the innermost first, and what stands in it.
+-- The open collections, innermost first, and the step of the geometry in the innermost.
 abbrev pub Outline : Type 0
 Outline = List Group × Step
 
@@ -53,12 +55,12 @@ Outline = List Group × Step
 abbrev pub group_of : Frame → Group
 group_of f = record { head = f.head; ids = ids_after f.ids f.done; left = f.left }
 
--- How many values are left in each list round a value.
+-- The number of values left in each list around a value.
 abbrev pub lefts_of : {whole d : ℕ} → Around whole d → List ℕ
 lefts_of top = []
 lefts_of (within done left a) = left ∷ lefts_of a
 
--- The ids from the member on that stands open.
+-- The ids from the open member on.
 abbrev pub ids_left : {whole d : ℕ} → Ids → Around whole d → Ids
 ids_left ids top = ids
 ids_left ids (within done left top) = ids_behind ids done
@@ -87,14 +89,14 @@ outline_of st = (map group_of st.0, step_of st.1)
 
 -- ---- the role of the next item
 
--- In a body.
+-- The role of the next item in a body.
 abbrev pub spot_role : Spot → Option Role
 spot_role (Wanted zero lefts) = Some X
 spot_role (Wanted (suc d) lefts) = Some (Count (listed d))
 spot_role (WantedY lefts) = Some Y
 spot_role Full = None
 
--- Inside `level` collections and behind so many bytes.
+-- The role of the next item, inside `level` collections and after this many bytes.
 abbrev pub step_role : (level bytes : ℕ) → Step → Option Role
 step_role level bytes OnHeader = Some Header
 step_role level bytes (OnMetadata k p) = Some (Metadata (kind_number k))
@@ -105,18 +107,18 @@ step_role level bytes (OnBody h f ids s) = spot_role s
 step_role level bytes (OnEnd h) = Some (End h.size (bytes - h.from))
 step_role level bytes OnFinished = None
 
--- The role of the next item.
+-- The role of the next item of an outline.
 abbrev pub outline_role : Sums → Outline → Option Role
 outline_role e o = step_role (length o.0) e.bytes o.1
 
 -- ---- the outline after an item
 
--- The ids from the next value on, in a list inside these: only members have ids.
+-- The ids from the next value on, in a list inside these lists: only members have ids.
 abbrev pub next_ids : List ℕ → Ids → Ids
 next_ids [] ids = other_ids ids
 next_ids (left ∷ lefts) ids = ids
 
--- A value of depth d is done: the next one of its list is wanted, or the list is done too.
+-- A value of depth d is complete: the next one of its list is expected, or the list is complete too.
 abbrev pub shut : Head → Form → Ids → (d : ℕ) → List ℕ → Step
 shut h f ids d [] = OnEnd h
 shut h f ids d (zero ∷ lefts) = shut h f ids (suc d) lefts
@@ -127,7 +129,7 @@ abbrev pub listing : Head → Form → Ids → (d n : ℕ) → List ℕ → Step
 listing h f ids d zero lefts = shut h f ids (suc d) lefts
 listing h f ids d (suc n) lefts = OnBody h f ids (Wanted d (n ∷ lefts))
 
--- A body after a number.
+-- The step after a number in a body.
 abbrev pub spot_after : Head → Form → Ids → ℕ → Spot → Step
 spot_after h f ids n (Wanted zero lefts) = OnBody h f ids (WantedY lefts)
 spot_after h f ids n (Wanted (suc d) lefts) = listing h f ids d n lefts
@@ -144,12 +146,13 @@ begins (SimpleKind MultiLineForm) h = OnCount ManyLines h
 begins (SimpleKind MultiPolygonForm) h = OnCount ManyPolygons h
 begins CollectionKind h = OnCount ManyGeometries h
 
--- The next optional part is wanted, or else the body begins, unless bit 4 says that there is none.
+-- The next optional part is expected; after the last one the body begins, unless bit 4 says that
+-- there is none.
 abbrev pub options : Kind → Head → List Role → Step
 options k h (r ∷ rs) = OnOption k h r rs
 options k h [] = if bit h.meta 4 then OnEnd h else begins k h
 
--- The n members begin, behind their ids.
+-- The n members begin, after their ids.
 abbrev pub members_open : Many → Head → List Group → Ids → ℕ → Outline
 members_open ManyPoints h gs ids n = (gs, listing h MultiPointForm ids 0 n [])
 members_open ManyLines h gs ids n = (gs, listing h MultiLineForm ids 1 n [])
@@ -162,7 +165,7 @@ abbrev pub many_counted : Many → Head → List Group → ℕ → Outline
 many_counted m h gs zero = members_open m h gs None 0
 many_counted m h gs (suc n) = if bit h.meta 2 then (gs, OnId m h (suc n) [] n) else members_open m h gs None (suc n)
 
--- A geometry is done.
+-- A geometry is complete.
 abbrev pub outline_ended : List Group → Outline
 outline_ended [] = ([], OnFinished)
 outline_ended (g ∷ gs) = elim g.left [
@@ -170,7 +173,7 @@ outline_ended (g ∷ gs) = elim g.left [
   | suc n ↦ (record { head = g.head; ids = other_ids g.ids; left = n } ∷ gs, OnHeader)
 ]
 
--- After an item with this number, with so many bytes behind it.
+-- The outline after an item with this number, which ends after `bytes` bytes.
 abbrev pub outline_advanced : (bytes n : ℕ) → Outline → Outline
 outline_advanced bytes n (gs, OnHeader) = (gs, OnMetadata (kind_at (n % 16)) (unzigzag_of (n / 16)))
 outline_advanced bytes n (gs, OnMetadata k precision) = (gs, options k (record { precision = precision; meta = n; size = None; from = bytes }) (asked n))
@@ -182,7 +185,8 @@ outline_advanced bytes n (gs, OnBody h f ids s) = (gs, spot_after h f ids n s)
 outline_advanced bytes n (gs, OnEnd h) = outline_ended gs
 outline_advanced bytes n (gs, OnFinished) = (gs, OnFinished)
 
--- A geometry ends behind so many bytes, its size being exact or not, and with it each collection whose last member it is, while their sizes are exact.
+-- A geometry ends after these bytes; its size is exact or not. With it ends each collection whose
+-- last member it is, as long as their sizes are exact.
 abbrev pub outline_past_end : Bool → ℕ → List Group → Result Outline Reason
 outline_past_end false bytes gs = Err SizeMismatch
 outline_past_end true bytes [] = Ok ([], OnFinished)
@@ -191,12 +195,12 @@ outline_past_end true bytes (g ∷ gs) = elim g.left [
   | suc n ↦ Ok (record { head = g.head; ids = other_ids g.ids; left = n } ∷ gs, OnHeader)
 ]
 
--- The ends behind an item.
+-- The outline after the ends that follow an item.
 abbrev pub outline_ends : ℕ → Outline → Result Outline Reason
 outline_ends bytes (gs, OnEnd h) = outline_past_end (is_exact h.size (bytes - h.from)) bytes gs
 outline_ends bytes (gs, s) = Ok (gs, s)
 
--- The outline of a stack, where there is one.
+-- The outline of a stack, if there is one.
 abbrev pub outline_in : Result Stack Reason → Result Outline Reason
 outline_in (Ok st) = Ok (outline_of st)
 outline_in (Err reason) = Err reason

@@ -1,22 +1,24 @@
--- Where the bytes so far end a part that was judged.
+-- Bytes that end a part whose sizes were judged.
 use Rattle.std.specs.Prelude.{ℕ, ◌<◌, ◌≤◌, List, ◌++◌, length, take, Result, Ok, Err, ⊤}
 use Rattle.twkb_tree.specs.Limits.{Allowance}
 use Rattle.twkb_grammar.specs.Fault.{Reason, IsPart, FirstFault, SizeMismatch}
 use Rattle.twkb_outline.specs.Outline.{Outline, Step, OnHeader, OnMetadata, OnId, OnBody, OnFinished}
 
--- Whole items that are a part, and whatever follows no size is found wrong at their end: those of the geometries that end there are exact too.
+-- The bytes are complete items of a part, and no size is found wrong at their end, whatever
+-- follows: the geometries that end there have exact sizes too.
 pub record IsJudged (limits : Allowance) (bytes : List ℕ) : Type 0 where
   pub part : IsPart limits bytes
   pub exact : (more : List ℕ) → FirstFault limits (bytes ++ more) (length bytes) SizeMismatch → ⊥
 
--- Behind these bytes a front of the piece, one byte at least, ends whole items that were judged: the last may stand there, and the sizes behind it are exact.
+-- After these bytes, a prefix of the piece, of at least one byte, ends complete items that were
+-- judged: the last item is allowed there, and the sizes after it are exact.
 pub record PartIn (limits : Allowance) (bs piece : List ℕ) : Type 0 where
   pub used : ℕ
   pub some : 0 < used
   pub within : used ≤ length piece
   pub part : IsJudged limits (bs ++ take used piece)
 
--- An item comes next, inside its geometry or at its front; or nothing does.
+-- The next item is inside its geometry or at its beginning, or no item comes next.
 abbrev pub IsPastEnds : Step → Type 0
 IsPastEnds OnHeader = ⊤
 IsPastEnds (OnMetadata k p) = ⊤
@@ -25,7 +27,7 @@ IsPastEnds (OnBody h f ids s) = ⊤
 IsPastEnds OnFinished = ⊤
 IsPastEnds _ = ⊥
 
--- The ends behind an item are passed: each size is exact.
+-- The ends after an item are passed: each size is exact.
 abbrev pub Passes : Result Outline Reason → Type 0
 Passes (Ok o) = IsPastEnds o.1
 Passes (Err reason) = ⊥

@@ -1,4 +1,4 @@
-//! Laws of outlines, each the contract of a function that does nothing.
+//! Laws of outlines, each stated as the contract of an empty function.
 ghost use Rattle.std.specs.Prelude.{◌≡◌, ◌≢◌, ◌≤◌, ℕ, List, [], ◌∷◌, ◌++◌, length, Some, None, Ok};
 ghost use Rattle.twkb_points.specs.Point.{Point};
 ghost use Rattle.twkb_tree.specs.Rows.{Row, rows};
@@ -18,33 +18,37 @@ ghost use Rattle.twkb_outline.specs.Growing.{rows_so_far, change_of, applied, Ta
 ghost use Rattle.twkb_outline.specs.Reading.{Outlined, OutlinedBehind, Wants, WithItem, OutlineLanded, StepFits, open_count, AtPoint, change_after};
 ghost use Rattle.twkb_outline.specs.Admitting.{Admits};
 
-/// The role of the next item is told by the outline alone.
+/// The role of the next item is determined by the outline alone.
 pub fn role()
     ensures { (e : Sums) (st : Stack) → role_at e st ≡ outline_role e (outline_of st) }
 {}
 
-/// The outline behind an item is told by the outline before it, and the item's number.
+/// The outline after an item is determined by the outline before it and the item's number.
 pub fn steps()
     ensures item { (p : Point) (bytes n : ℕ) (st : Stack) → outline_of (advanced p bytes n st.0 st.1) ≡ outline_advanced bytes n (outline_of st) }
     ensures ends { (bytes : ℕ) (st : Stack) → outline_in (ends bytes st.0 st.1) ≡ outline_ends bytes (outline_of st) }
 {}
 
-/// The rows behind an item are those before it, with the change that the outline before it tells; the ends of geometries change none;
-/// and in the end they are the rows of the geometry.
+/// The rows after an item are those before it with the change that the outline determines. The
+/// ends of geometries change no row, and at the end of the blob the rows are those of the
+/// geometry.
 pub fn grows()
     ensures item { (p : Point) (bytes n : ℕ) (st : Stack) → rows_so_far (advanced p bytes n st.0 st.1) ≡ applied (change_of p n (outline_of st)) (rows_so_far st) }
     ensures ends { (bytes : ℕ) (st last : Stack) → ends bytes st.0 st.1 ≡ Ok last → rows_so_far last ≡ rows_so_far st }
     ensures whole { (g : Tree) → rows_so_far ([], Finished g) ≡ rows 0 g }
 {}
 
-/// Wherever a reader stands within limits, the rows so far are those of a valid geometry, or none; and an item's point comes to a line's row.
+/// Within the limits, the rows so far are always those of a valid geometry, or there are none.
+/// The point that an item adds goes into the row of a line.
 pub fn valid()
     ensures rows { (limits : Allowance) (bytes : List ℕ) (e : Sums) (st : Stack) → Reached limits bytes e st → AreValidRowsOfOne limits (rows_so_far st) }
     ensures takes { (p : Point) (n : ℕ) (st : Stack) → Takes (change_of p n (outline_of st)) (rows_so_far st) }
 {}
 
-/// Where a reader stands that keeps an outline and rows: at the start, behind an item, behind the ends of geometries, at a blob's end, and where bytes are missing
-/// or a number is too long. What it has read is a part. A row that an item begins goes on with the rows before it, and a point that it brings comes to a line's row.
+/// The state of a reader that keeps an outline and rows: at the start, after an item, after the
+/// ends of geometries, at a blob's end, and if bytes are missing or a number is too long. The
+/// bytes read are a part. A row that an item begins continues the rows before it, and a point
+/// that it adds goes into the row of a line.
 pub fn reading()
     ensures starts { (limits : Allowance) → IsAllowance limits → Outlined limits [] nothing ([], OnHeader) [] }
     ensures item { (limits : Allowance) (bytes : List ℕ) (e : Sums) (o : Outline) (rs : List Row) (i : Item) → Outlined limits bytes e o rs
@@ -69,14 +73,17 @@ pub fn reading()
         → bytes ≢ [] → HasBytes role → FirstFault limits bytes e.bytes Truncated }
 {}
 
-/// The rows so far take the change that the next item brings, if nothing objects to the item, whether or not the sizes that end with it are exact (`item`); so do they of the two numbers of a point at once (`point`).
+/// The rows so far can take the change of the next item if there is no objection to the item,
+/// whether or not the sizes that end with it are exact (`item`). They can also take the change of
+/// a point's two numbers at once (`point`).
 pub fn admitting()
     ensures item { (limits : Allowance) → IsAllowance limits → (bytes : List ℕ) (e : Sums) (o : Outline) (rs : List Row) (i : Item) → Outlined limits bytes e o rs
         → WithItem limits e o i None (Admits (change_after e i o) rs) }
     ensures point { (limits : Allowance) → IsAllowance limits → AtPoint (Outlined limits) (λ bytes e o change rs. Admits change rs) }
 {}
 
-/// The two numbers of a point, wherever one is wanted, taken at once: in a list behind which others follow, at the end of lists, and at that of a geometry.
+/// The two numbers of a point may be taken at once wherever a point is expected: inside a list,
+/// at the end of lists, and at the end of a geometry.
 pub fn points()
     ensures taken { (limits : Allowance) → AtPoint (Outlined limits) (λ bytes e o change rs. Outlined limits bytes e o (applied change rs)) }
     ensures takes { (limits : Allowance) → AtPoint (Outlined limits) (λ bytes e o change rs. Takes change rs) }
@@ -84,7 +91,7 @@ pub fn points()
         → AtPoint (λ bytes e o rs. NotedOutline limits bytes e o rs told) (λ bytes e o change rs. NotedOutline limits bytes e o (applied change rs) told) }
 {}
 
-/// What a reader notes of spans is told by the outline.
+/// The notes that a reader makes of spans are determined by the outline.
 pub fn noting()
     ensures note { (st : Stack) (offset points byte : ℕ) (w : Notes) → note_byte st.1 offset points byte w ≡ note_step (step_of st.1) offset points byte w }
     ensures calm { (st : Stack) → IsCalmStep (step_of st.1) → IsCalm st.1 }

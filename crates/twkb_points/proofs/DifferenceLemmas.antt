@@ -1,4 +1,4 @@
--- A list of points and its list of differences give each other.
+-- A list of points gives its list of differences, and that gives the points.
 use Rattle.std.proofs.Common.{◌≡◌, ℕ, zero, suc, ◌+◌, ◌<◌, ℤ, pos, ◌+ℤ◌, ◌-ℤ◌, List, [], ◌∷◌, ◌++◌, Some, length, get_or, take, drop, refl, sym, ◌∙◌, ap, subst, arith, add-one}
 use Rattle.std.specs.Prelude.{slice_get, ◌↔◌}
 use Rattle.std.proofs.lemmas.Option.{slice_get-get_or, slice_get_within}
@@ -16,7 +16,7 @@ less_before a d = omega (arith, ints)
 less_zero : (a : ℤ) → a -ℤ pos 0 ≡ a
 less_zero a = omega (arith, ints)
 
--- one step there and back
+-- p moved by the difference from p to q is q
 moved_by-difference : (p q : Point) → moved_by p (q.x -ℤ p.x) (q.y -ℤ p.y) ≡ q
 moved_by-difference p q = λ i. record { x = add_difference p.x q.x i; y = add_difference p.y q.y i }
 
@@ -33,15 +33,15 @@ differences_from-points_from p (d ∷ ds) =
     ap (λ (e : ℤ × ℤ). e ∷ differences_from (moved_by p d.0 d.1) (points_from (moved_by p d.0 d.1) ds)) first
     ∙ ap (λ (es : List (ℤ × ℤ)). d ∷ es) (differences_from-points_from (moved_by p d.0 d.1) ds)
 
--- the points come back from their differences
+-- the points of the differences of some points are those points
 pub points_of-differences : (ps : List Point) → points_of (differences ps) ≡ ps
 points_of-differences ps = points_from-differences_from origin ps
 
--- the differences come back from their points
+-- the differences of the points of some differences are those differences
 pub differences-points_of : (ds : List (ℤ × ℤ)) → differences (points_of ds) ≡ ds
 differences-points_of ds = differences_from-points_from origin ds
 
--- no two lists of points have one list of differences
+-- no two lists of points have the same differences
 pub differences_one : (ps qs : List Point) → differences ps ≡ differences qs → ps ≡ qs
 differences_one ps qs e = sym (points_of-differences ps) ∙ ap points_of e ∙ points_of-differences qs
 
@@ -97,7 +97,7 @@ same_lists (d ∷ ds) (e ∷ es) l same =
     let rest = same_lists ds es (omega arith) (λ i h. same (suc i) (omega arith)) in
     λ i. first i ∷ rest i
 
--- a list holds the differences place by place exactly where it is the list of differences
+-- a list holds the differences place by place exactly if it is the list of differences
 pub differences_is : (ps : List Point) (ds : List (ℤ × ℤ)) → (ds ≡ differences ps) ↔ AreDifferences ps ds
 differences_is ps ds = (
   (λ e. subst (AreDifferences ps) (sym e) (AreDifferences-differences ps)),
@@ -105,7 +105,7 @@ differences_is ps ds = (
       same_lists ds (differences ps) (a.as_many ∙ sym b.as_many) (same_at ps ds (differences ps) a b)),
 )
 
--- ---- the points of a list of differences, one after another
+-- ---- the points of a list of differences, one by one
 
 pub length-points_from : (p : Point) (ds : List (ℤ × ℤ)) → length (points_from p ds) ≡ length ds
 length-points_from p [] = refl
@@ -122,7 +122,7 @@ slice_get-after [] qs q (suc n) e = absurd (omega arith)
 slice_get-after (p ∷ ps) qs q zero e = absurd (omega arith)
 slice_get-after (p ∷ ps) qs q (suc n) e = slice_get-after ps qs q n (omega arith)
 
--- after the points that i differences led to, the next is that of difference i
+-- after the points of the first i differences, the next point is that of difference i
 pub next_point : (ds : List (ℤ × ℤ)) (ps : List Point) (at : Point) (i : ℕ) (none : ℤ × ℤ) → i < length ds → length ps ≡ length ds
     → take i ps ++ points_from at (drop i ds) ≡ points_of ds → slice_get (points_of ds) i ≡ Some (moved_by at (get_or ds i none).0 (get_or ds i none).1)
 next_point ds ps at i none h l e =
@@ -136,7 +136,7 @@ next_point ds ps at i none h l e =
 pub no_next_point : (ds : List (ℤ × ℤ)) (p : Point) → slice_get (points_of ds) (length ds) ≡ Some p → ⊥
 no_next_point ds p e = omega (arith, slice_get_within (points_of ds) (length ds) p e, length-points_from origin ds)
 
--- the differences of points in range lead to points in range alone
+-- the differences of points in range lead only to points in range
 pub in_range_again : (ps : List Point) (ds : List (ℤ × ℤ)) (i : ℕ) (p : Point) → AreInRange ps → ds ≡ differences ps → slice_get (points_of ds) i ≡ Some p → IsInRange p
 in_range_again ps ds i p a e at =
     AreInRange-slice_get ps i p a (ap (λ (qs : List Point). slice_get qs i) (sym (ap points_of e ∙ points_of-differences ps)) ∙ at)

@@ -19,19 +19,19 @@ joined_assoc a b c = λ i. record {
   greatest = record { x = int_max_assoc a.greatest.x b.greatest.x c.greatest.x i; y = int_max_assoc a.greatest.y b.greatest.y c.greatest.y i };
 }
 
--- extents may be joined in either order of steps
+-- the join of extents is associative
 pub joined_options_assoc : (a b c : Option Extent) → joined_options (joined_options a b) c ≡ joined_options a (joined_options b c)
 joined_options_assoc None b c = refl
 joined_options_assoc (Some a) None c = refl
 joined_options_assoc (Some a) (Some b) None = refl
 joined_options_assoc (Some a) (Some b) (Some c) = ap Some (joined_assoc a b c)
 
--- no points add nothing
+-- joining with the extent of no points changes nothing
 pub joined_options-none : (a : Option Extent) → joined_options a None ≡ a
 joined_options-none None = refl
 joined_options-none (Some a) = refl
 
--- the extent of two lists, one after the other
+-- the extent of two lists, one after the other, is the join of their extents
 pub extent-append : (ps qs : List Point) → extent (ps ++ qs) ≡ joined_options (extent ps) (extent qs)
 extent-append [] qs = refl
 extent-append (p ∷ ps) qs = ap (joined_options (Some (extent_of p))) (extent-append ps qs) ∙ sym (joined_options_assoc (Some (extent_of p)) (extent ps) (extent qs))
@@ -40,7 +40,7 @@ extent-append (p ∷ ps) qs = ap (joined_options (Some (extent_of p))) (extent-a
 pub extent-append_some : (ps qs : List Point) (a b : Extent) → extent ps ≡ Some a → extent qs ≡ Some b → extent (ps ++ qs) ≡ Some (joined a b)
 extent-append_some ps qs a b h k = extent-append ps qs ∙ (λ i. joined_options (h i) (k i))
 
--- one more point of a list, in the bounds so far
+-- the bounds of the first i points and of one more
 pub extent-one_more : (ps : List Point) (i : ℕ) (p : Point) (so_far next : Extent) → i < length ps → p ≡ get_or ps i p → next ≡ joined so_far (extent_of p)
     → joined_options (Some next) (extent (drop (i + 1) ps)) ≡ joined_options (Some so_far) (extent (drop i ps))
 extent-one_more ps i p so_far next h is e =

@@ -1,4 +1,5 @@
 pub mod DifferenceLemmas
 pub mod PointLemmas
+pub mod NearLemmas
 pub mod ExtentLemmas
 pub mod SpanLemmas

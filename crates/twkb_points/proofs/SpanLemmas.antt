@@ -1,4 +1,4 @@
--- Extents and boxes by what they say of the points.
+-- What extents and boxes say of the points.
 use Rattle.std.proofs.Common.{◌≡◌, ℤ, ◌+ℤ◌, ◌-ℤ◌, ◌≤ℤ◌, List, [], ◌∷◌, ◌++◌, Option, None, Some, ◌⊎◌, inl, inr, refl, sym, ◌∙◌, ap, subst, arith}
 use Rattle.std.specs.Prelude.{◌↔◌}
 use Rattle.std.specs.Int.{int_min, int_max}
@@ -106,14 +106,14 @@ Spans-one a b ps s t = λ i. record {
   greatest = record { x = IsGreatest-one a.greatest.x b.greatest.x (xs ps) s.greatest_x t.greatest_x i; y = IsGreatest-one a.greatest.y b.greatest.y (ys ps) s.greatest_y t.greatest_y i };
 }
 
--- the extent of points of which there is one at least
+-- the extent of at least one point spans the points
 spanned : (p : Point) (ps : List Point) → (e : Extent) × (extent (p ∷ ps) ≡ Some e) × Spans e (p ∷ ps)
 spanned p [] = (extent_of p, refl, Spans-extent_of p)
 spanned p (q ∷ qs) =
     let r = spanned q qs in
     (joined (extent_of p) r.0, ap (joined_options (Some (extent_of p))) r.1, Spans-joined (extent_of p) r.0 (p ∷ []) (q ∷ qs) (Spans-extent_of p) r.2)
 
--- the extent of a list is the one that spans it
+-- the extent of a list is the one extent that spans it
 pub extent_is : (ps : List Point) (e : Extent) → (extent ps ≡ Some e) ↔ Spans e ps
 extent_is [] e = ((λ h. cc), (λ s. absurd (IsLeast-none e.least.x s.least_x)))
 extent_is (p ∷ ps) e =

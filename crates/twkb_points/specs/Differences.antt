@@ -11,7 +11,7 @@ differences_from p (q ∷ qs) = (q.x -ℤ p.x, q.y -ℤ p.y) ∷ differences_fro
 abbrev pub differences : List Point → List (ℤ × ℤ)
 differences ps = differences_from origin ps
 
--- the points that the differences lead to from p, one after another
+-- the points that the differences lead to from p
 abbrev pub points_from : Point → List (ℤ × ℤ) → List Point
 points_from p [] = []
 points_from p (d ∷ ds) = moved_by p d.0 d.1 ∷ points_from (moved_by p d.0 d.1) ds
@@ -20,7 +20,8 @@ points_from p (d ∷ ds) = moved_by p d.0 d.1 ∷ points_from (moved_by p d.0 d.
 abbrev pub points_of : List (ℤ × ℤ) → List Point
 points_of ds = points_from origin ds
 
--- the same place by place: as many as points, the first point itself, and then each point less the one before it
+-- the differences, stated place by place: as many as points, first the first point, and then each
+-- point less the one before it
 pub record AreDifferences (ps : List Point) (ds : List (ℤ × ℤ)) : Type 0 where
   pub as_many : length ds ≡ length ps
   pub first : (p : Point) → slice_get ps 0 ≡ Some p → slice_get ds 0 ≡ Some (p.x, p.y)

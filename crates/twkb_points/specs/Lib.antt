@@ -1,4 +1,5 @@
 pub mod Differences
 pub mod Extent
+pub mod Near
 pub mod Point
 pub mod Spans

@@ -15,26 +15,27 @@ point_at x y = record { x = x; y = y }
 abbrev pub origin : Point
 origin = point_at (pos 0) (pos 0)
 
--- the point that lies dx and dy from p
+-- the point at dx and dy from p
 abbrev pub moved_by : Point → ℤ → ℤ → Point
 moved_by p dx dy = point_at (p.x +ℤ dx) (p.y +ℤ dy)
 
--- from -2 ^ 62 to 2 ^ 62 - 1, so that the difference of any two fits 64 bits (profile)
+-- a coordinate is from -2 ^ 62 to 2 ^ 62 - 1, so that the difference of any two fits 64 bits (profile)
 abbrev pub IsCoordinate : ℤ → Type 0
 IsCoordinate n = (negsuc (2 ^ 62 - 1) ≤ℤ n) × (n ≤ℤ pos (2 ^ 62 - 1))
 
--- both coordinates are in range
+-- both coordinates of a point are in range
 abbrev pub IsInRange : Point → Type 0
 IsInRange p = IsCoordinate p.x × IsCoordinate p.y
 
--- from -2 ^ 61 to 2 ^ 61 - 1, so that few short steps do not lead out of the range of a coordinate
+-- an inner coordinate is from -2 ^ 61 to 2 ^ 61 - 1, so that two short steps stay in the range of
+-- a coordinate
 abbrev pub IsInnerCoordinate : ℤ → Type 0
 IsInnerCoordinate n = (negsuc (2 ^ 61 - 1) ≤ℤ n) × (n ≤ℤ pos (2 ^ 61 - 1))
 
--- both coordinates are
+-- both coordinates of a point are inner ones
 abbrev pub IsInner : Point → Type 0
 IsInner p = IsInnerCoordinate p.x × IsInnerCoordinate p.y
 
--- each point is in range
+-- each point of a list is in range
 abbrev pub AreInRange : List Point → Type 0
 AreInRange ps = AllByRecursion IsInRange ps

@@ -1,23 +1,23 @@
--- Extents and boxes by what they say of the points: bounds that are reached.
+-- What extents and boxes say of the points: they are bounds, and each bound is reached.
 use Rattle.std.specs.Prelude.{ℤ, ◌+ℤ◌, ◌≤ℤ◌, List, map}
 use Rattle.std.specs.List.{All, Contains}
 use Rattle.twkb_points.specs.Point.{Point}
 use Rattle.twkb_points.specs.Extent.{Extent}
 
--- the first coordinates of the points
+-- the first coordinates of some points
 abbrev pub xs : List Point → List ℤ
 xs ps = map (λ (p : Point). p.x) ps
 
--- their second coordinates
+-- the second coordinates of some points
 abbrev pub ys : List Point → List ℤ
 ys ps = map (λ (p : Point). p.y) ps
 
--- n is one of the numbers, and none is below it
+-- n is one of the numbers, and none of them is below it
 pub record IsLeast (n : ℤ) (ns : List ℤ) : Type 0 where
   pub reached : Contains ns n
   pub bound : All (λ m. n ≤ℤ m) ns
 
--- n is one of the numbers, and none is above it
+-- n is one of the numbers, and none of them is above it
 pub record IsGreatest (n : ℤ) (ns : List ℤ) : Type 0 where
   pub reached : Contains ns n
   pub bound : All (λ m. m ≤ℤ n) ns
@@ -29,8 +29,8 @@ pub record Spans (e : Extent) (ps : List Point) : Type 0 where
   pub least_y : IsLeast e.least.y (ys ps)
   pub greatest_y : IsGreatest e.greatest.y (ys ps)
 
--- the box goes from the least first coordinate on for its width, and from the least second on for its height
--- (TWKB, bounding box)
+-- the box starts at the least first coordinate and the least second one, and reaches as far as
+-- its width and height (TWKB, bounding box)
 pub record IsBox (ps : List Point) (x width y height : ℤ) : Type 0 where
   pub least_x : IsLeast x (xs ps)
   pub greatest_x : IsGreatest (x +ℤ width) (xs ps)

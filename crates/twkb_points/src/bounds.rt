@@ -1,4 +1,4 @@
-//! The box round some points.
+//! The bounding box of some points.
 ghost use Rattle.std.specs.Prelude.{◌≡◌, ◌-ℤ◌, List, [], ◌∷◌, ◌++◌};
 ghost use Rattle.std.specs.Int.{int_min, int_max};
 ghost use Rattle.twkb_points.specs.Point.{Point, IsCoordinate, point_at};
@@ -7,7 +7,7 @@ ghost use Rattle.twkb_points.specs.Extent.{extent_of, joined, joined_options, ex
 use crate::point::Pt;
 use std::marker::Model;
 
-/// The least and the greatest coordinates of points, of which there is one at least. A contract sees their extent.
+/// The least and the greatest coordinates of at least one point. A contract sees their extent.
 #[derive(Clone, Copy, Debug, PartialEq, Eq)]
 pub struct Bounds {
     least: Pt,
@@ -56,7 +56,7 @@ fn width_of(least: i64, greatest: i64) -> i64
     greatest - least
 }
 
-// The lesser of each coordinate.
+// The lesser x and the lesser y of two points.
 fn least_of(a: Pt, b: Pt) -> Pt
     ensures { result ≡ point_at (int_min a.x b.x) (int_min a.y b.y) }
 {
@@ -65,7 +65,7 @@ fn least_of(a: Pt, b: Pt) -> Pt
     Pt::at(x, y)
 }
 
-// The greater of each coordinate.
+// The greater x and the greater y of two points.
 fn greatest_of(a: Pt, b: Pt) -> Pt
     ensures { result ≡ point_at (int_max a.x b.x) (int_max a.y b.y) }
 {
@@ -75,7 +75,7 @@ fn greatest_of(a: Pt, b: Pt) -> Pt
 }
 
 impl Bounds {
-    /// The bounds of one point. Takes no memory.
+    /// Makes the bounds of one point. Takes no memory.
     pub fn of(point: Pt) -> Bounds
         ensures { result ≡ extent_of point }
     {
@@ -85,7 +85,7 @@ impl Bounds {
         }
     }
 
-    /// The bounds of the points, and `None` where there are none. Takes no memory.
+    /// Finds the bounds of the points; `None` if there are no points. Takes no memory.
     pub fn around(points: &[Pt]) -> Option<Bounds>
         ensures { result ≡ extent points.now }
     {
@@ -97,7 +97,7 @@ impl Bounds {
         Some(bounds)
     }
 
-    /// Takes in a point. Takes no memory.
+    /// Widens the bounds to hold a point. Takes no memory.
     #[tactic(auto, using(crate::proofs::ExtentLemmas::extents))]
     pub fn include(&mut self, point: Pt)
         ensures value { self.new ≡ joined self.old (extent_of point) }
@@ -106,7 +106,7 @@ impl Bounds {
         self.merge(&Bounds::of(point));
     }
 
-    /// Takes in all that the other bounds take in. Takes no memory.
+    /// Widens the bounds to hold the other bounds. Takes no memory.
     #[tactic(auto, unfolding(crate::specs::Extent::joined))]
     pub fn merge(&mut self, other: &Bounds)
         ensures value { self.new ≡ joined self.old other.now }
@@ -118,7 +118,7 @@ impl Bounds {
         };
     }
 
-    /// Least x, how far the greatest x is above it, least y, how far the greatest y is above it, in the points' unit: the
+    /// The least x, the width in x, the least y, and the width in y, in the points' unit: the
     /// order of TWKB's bounding box. Takes no memory.
     pub fn items(&self) -> [i64; 4]
         ensures value { result ≡ box_numbers self.now }
@@ -132,7 +132,7 @@ impl Bounds {
     }
 }
 
-/// The bounds of what either takes in, and `None` where neither is there. Takes no memory.
+/// Joins the bounds that are there; `None` if neither is. Takes no memory.
 pub fn merged(a: Option<Bounds>, b: Option<Bounds>) -> Option<Bounds>
     ensures { result ≡ joined_options a b }
 {

@@ -1,11 +1,11 @@
-//! A place that moves from point to point.
+//! A cursor that moves from point to point.
 ghost use Rattle.std.specs.Prelude.{◌≡◌, ◌↔◌, ◌+ℤ◌, ◌-ℤ◌, IsTrue, IsSome, IfSome, IfNone};
 ghost use Rattle.twkb_points.specs.Point.{IsCoordinate, IsInRange, origin, moved_by};
 
 use crate::point::{Pt, moved_coordinate};
 use std::marker::Model;
 
-/// A place that moves from point to point. A contract sees the point where it stands.
+/// A cursor that moves from point to point. A contract sees the point where it is.
 ///
 /// It turns points into differences (`delta`) and differences into points (`add`), as TWKB and the Encoded Polyline
 /// Algorithm Format chain them.
@@ -27,14 +27,14 @@ impl Model for Cursor {
 }
 
 impl Cursor {
-    /// A cursor that stands at (0, 0), from which the first difference of a list counts. Takes no memory.
+    /// Makes a cursor at (0, 0), from which the first difference of a list counts. Takes no memory.
     pub fn origin() -> Cursor
         ensures { result ≡ origin }
     {
         Cursor { at: Pt::at(0, 0) }
     }
 
-    /// Where the cursor stands. Takes no memory.
+    /// The point where the cursor is. Takes no memory.
     #[inline(always)]
     pub fn place(&self) -> Pt
         ensures { result ≡ self.now }
@@ -50,8 +50,8 @@ impl Cursor {
         self.at = to;
     }
 
-    /// How far the point lies from where the cursor stands, x before y, in the points' unit: each from -(2^63 - 1) to
-    /// 2^63 - 1. The cursor moves there. Takes no memory.
+    /// Moves the cursor to the point and returns how far it moved, x before y, in the points'
+    /// unit: each from -(2^63 - 1) to 2^63 - 1. Takes no memory.
     pub fn delta(&mut self, to: Pt) -> (i64, i64)
         ensures x { result.0 ≡ to.x -ℤ self.old.x }
         ensures y { result.1 ≡ to.y -ℤ self.old.y }
@@ -62,8 +62,8 @@ impl Cursor {
         (to.x() - from.x(), to.y() - from.y())
     }
 
-    /// The point that lies `dx` and `dy` from where the cursor stands, which moves there. `None`, and no move, where a
-    /// coordinate would leave -2^62 to 2^62 - 1. Takes no memory.
+    /// Moves the cursor by `dx` and `dy` and returns the point reached. If a coordinate would
+    /// leave -2^62 to 2^62 - 1, the answer is `None` and the cursor stays. Takes no memory.
     pub fn add(&mut self, dx: i64, dy: i64) -> Option<Pt>
         ensures range { IsSome result ↔ IsInRange (moved_by self.old dx dy) }
         ensures point { IfSome result (λ p. p ≡ moved_by self.old dx dy) }
@@ -75,7 +75,8 @@ impl Cursor {
         Some(to)
     }
 
-    /// The same by steps that a coordinate could be, so that no sum passes 64 bits: one test of the point serves.
+    /// Like `add`, for steps that could be coordinates themselves: no sum passes 64 bits, so one
+    /// test of the point is enough.
     #[inline(always)]
     pub fn add_near(&mut self, dx: i64, dy: i64) -> Option<Pt>
         requires near_x { IsCoordinate dx }

@@ -1,4 +1,4 @@
-//! Whole lists of points as differences, and back.
+//! Lists of points as differences, and back.
 ghost use Rattle.std.specs.Prelude.{◌≡◌, ◌≤◌, ◌++◌, List, length, take, drop, slice_get};
 ghost use Rattle.twkb_points.specs.Point.{Point, IsInRange, AreInRange};
 ghost use Rattle.twkb_points.specs.Differences.{differences, points_of};
@@ -18,8 +18,9 @@ pub fn to_differences(points: &[Pt], deltas: &mut [(i64, i64)])
     }
 }
 
-/// Writes the points that the differences lead to from (0, 0), up to the first that leaves the range of a `Pt`, and
-/// tells how many those are. The places after them stay as they were. Takes no memory.
+/// Writes the points that the differences lead to from (0, 0), up to the first point out of the
+/// range of a `Pt`, and returns how many were written. The places after them stay as they were.
+/// Takes no memory.
 pub fn to_points(deltas: &[(i64, i64)], points: &mut [Pt]) -> usize
     requires { length points.old ≡ length deltas.now }
     ensures within { result ≤ length deltas.now }

@@ -13,12 +13,12 @@ const GREATEST: i64 = (1 << 62) - 1;
 // The least coordinate of an inner point, -2^61.
 const INNER_LEAST: i64 = -(1 << 61);
 
-// The greatest, 2^61 - 1.
+// The greatest coordinate of an inner point, 2^61 - 1.
 const INNER_GREATEST: i64 = (1 << 61) - 1;
 
-/// A point whose coordinates are from -2^62 to 2^62 - 1, so that the difference of any two fits 64 bits (a choice of
-/// this project). They are whole numbers, in a unit that the point does not know: TWKB and polylines keep the decimals
-/// beside the points.
+/// A point whose coordinates are from -2^62 to 2^62 - 1, so that the difference of any two fits
+/// 64 bits (a choice of this project). Coordinates are whole numbers; their unit is not part of
+/// the point, since TWKB and polylines keep the decimals beside the points.
 #[derive(Clone, Copy, Debug, PartialEq, Eq)]
 pub struct Pt {
     x: i64,
@@ -38,7 +38,7 @@ impl Model for Pt {
 }
 
 impl Pt {
-    /// The point, or `None` where a coordinate is outside -2^62 to 2^62 - 1. Takes no memory.
+    /// Makes a point; `None` if a coordinate is outside -2^62 to 2^62 - 1. Takes no memory.
     pub fn try_new(x: i64, y: i64) -> Option<Pt>
         ensures range { IsSome result ↔ (IsCoordinate x × IsCoordinate y) }
         ensures value { IfSome result (λ p. p ≡ point_at x y) }
@@ -58,7 +58,7 @@ impl Pt {
         is_inner_coordinate(self.x) && is_inner_coordinate(self.y)
     }
 
-    // The point at coordinates that are in range.
+    // Makes the point at coordinates that are in range.
     pub(crate) fn at(x: i64, y: i64) -> Pt
         requires x_in_range { IsCoordinate x }
         requires y_in_range { IsCoordinate y }
@@ -67,7 +67,7 @@ impl Pt {
         Pt { x, y }
     }
 
-    /// The point that lies `dx` and `dy` from this one, where no coordinate leaves its range. Takes no memory.
+    /// The point at `dx` and `dy` from this one, if both coordinates stay in range. Takes no memory.
     #[inline(always)]
     pub fn step(self, dx: i64, dy: i64) -> Pt
         requires x_in_range { IsCoordinate (self.x +ℤ dx) }
@@ -77,7 +77,7 @@ impl Pt {
         Pt::at(self.x + dx, self.y + dy)
     }
 
-    // The point that lies `dx` and `dy` from this one, or `None` where a coordinate would leave its range.
+    // The point at `dx` and `dy` from this one; `None` if a coordinate would leave its range.
     pub(crate) fn moved(self, dx: i64, dy: i64) -> Option<Pt>
         ensures range { IsSome result ↔ IsInRange (moved_by self dx dy) }
         ensures value { IfSome result (λ p. p ≡ moved_by self dx dy) }
@@ -88,7 +88,8 @@ impl Pt {
         Some(Pt { x, y })
     }
 
-    /// The first coordinate, from -2^62 to 2^62 - 1: the longitude, where the points are on a globe. Takes no memory.
+    /// The first coordinate, from -2^62 to 2^62 - 1: the longitude, if the points are on a globe.
+    /// Takes no memory.
     pub fn x(&self) -> i64
         ensures value { result ≡ self.now.x }
         ensures in_range { IsInRange self.now }
@@ -96,7 +97,8 @@ impl Pt {
         self.x
     }
 
-    /// The second coordinate, from -2^62 to 2^62 - 1: the latitude, where the points are on a globe. Takes no memory.
+    /// The second coordinate, from -2^62 to 2^62 - 1: the latitude, if the points are on a globe.
+    /// Takes no memory.
     pub fn y(&self) -> i64
         ensures value { result ≡ self.now.y }
         ensures in_range { IsInRange self.now }
@@ -120,7 +122,7 @@ pub(crate) fn is_coordinate(number: i64) -> bool
     LEAST <= number && number <= GREATEST
 }
 
-// The sum, where it is in the range of a coordinate.
+// The sum, if it is in the range of a coordinate.
 pub(crate) fn moved_coordinate(from: i64, by: i64) -> Option<i64>
     ensures range { IsSome result ↔ IsCoordinate (from +ℤ by) }
     ensures in_range { IfSome result IsCoordinate }

@@ -1,17 +1,17 @@
-//! The end of a list of points.
+//! The end of a list of points, for appending.
 ghost use Rattle.std.specs.Prelude.{◌≡◌, ◌++◌, ◌∷◌, [], List, length, take, OnOk, OnErr};
 ghost use Rattle.twkb_points.specs.Point.{Point};
 
 use crate::point::Pt;
 use std::alloc::AllocError;
 
-/// The end of a list of points, lent to be appended to. It takes points, is cut back and tells how many the list has, but
-/// gives none of them to read.
+/// The end of a list of points, borrowed for appending. It takes points, is cut back and returns
+/// the list's length; the points already in the list can't be read through it.
 pub trait PointTail {
     // The points of the list.
     ghost held: { Self → List Point };
 
-    /// How many points the list has. Takes no memory.
+    /// The number of points in the list. Takes no memory.
     fn count(&self) -> usize
         ensures { result ≡ length (held self.now) };
 
@@ -25,7 +25,7 @@ pub trait PointTail {
         ensures appended { OnOk result (held self.new ≡ held self.old ++ points.now) }
         ensures same { OnErr result (held self.new ≡ held self.old) };
 
-    /// Keeps the first `count` points, or all where there are fewer. Takes no memory.
+    /// Keeps the first `count` points, or all if there are fewer. Takes no memory.
     fn cut(&mut self, count: usize)
         ensures { held self.new ≡ take count (held self.old) };
 }

@@ -8,29 +8,29 @@ use Rattle.twkb_num.specs.Alphabet.{five_unit, five_group}
 use Rattle.twkb_num.specs.Spelling.{open_units}
 use Rattle.twkb_polyline.specs.Fault.{IsCharacter, GoesOn, EndsIn}
 
--- a character with a group that more follow
+-- a character whose group says that more follow goes on
 pub goes_on : (c d : ℕ) → five_group c ≡ Some (d, true) → GoesOn c
 goes_on c d h = (grind (arith, common_steps), grind (arith, common_steps))
 
--- a character by its group
+-- a character that goes on is the unit of its group
 pub unit_more : (c d : ℕ) → five_group c ≡ Some (d, true) → (c ≡ five_unit d true) × (d < 32)
 unit_more c d h = (grind (arith, common_steps), grind (arith, common_steps))
 
 pub unit_last : (c d : ℕ) → five_group c ≡ Some (d, false) → (c ≡ five_unit d false) × (d < 32)
 unit_last c d h = (grind (arith, common_steps), grind (arith, common_steps))
 
--- a code without a group
+-- a code without a group is no character
 pub no_character : (c : ℕ) → five_group c ≡ None → IsCharacter c → ⊥
 no_character c h known = grind (arith, common_steps)
 
--- each group below 32 has two characters
+-- for each group below 32 there is a character that goes on and one that ends a number
 pub unit_goes_on : (d : ℕ) → d < 32 → GoesOn (five_unit d true)
 unit_goes_on d h = (omega arith, omega arith)
 
 pub unit_ends : (d : ℕ) → d < 32 → EndsIn (five_unit d false) d
 unit_ends d h = (omega arith, h)
 
--- characters that go on are those of their groups
+-- the groups of characters that go on
 unfoldable pub groups_of : List ℕ → List ℕ
 groups_of us = map (λ c. c - 95) us
 
@@ -50,7 +50,7 @@ unfolding groups_of
 groups_below [] go = tt
 groups_below (u ∷ us) go = (omega (arith, go.0.0, go.0.1), groups_below us go.1)
 
--- one character more
+-- one more character that goes on
 pub GoesOn-push : (us : List ℕ) (u : ℕ) → AllByRecursion GoesOn us → GoesOn u → AllByRecursion GoesOn (us ++ u ∷ [])
 GoesOn-push [] u go h = (h, tt)
 GoesOn-push (v ∷ us) u go h = (go.0, GoesOn-push us u go.1 h)

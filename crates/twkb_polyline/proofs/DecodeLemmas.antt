@@ -10,9 +10,9 @@ use Rattle.twkb_polyline.specs.declared.fault.PolyFault.{PolyFault}
 use Rattle.twkb_polyline.specs.declared.fault.PolyFault.TheVariants.{Memory, At}
 use Rattle.twkb_polyline.proofs.PointLemmas.{text_left}
 
--- ---- one point more
+-- ---- one more point
 
--- the text of points and one more
+-- the text of some points and one more
 pub polyline_from-push : (p : Point) (ps : List Point) (q : Point) → polyline_from p (ps ++ q ∷ []) ≡ polyline_from p ps ++ (number_text (q.y -ℤ (last_after p ps).y) ++ (number_text (q.x -ℤ (last_after p ps).x) ++ []))
 polyline_from-push p [] q = refl
 polyline_from-push p (r ∷ ps) q =
@@ -31,7 +31,8 @@ AreInRange-push (p ∷ ps) q are is = (are.0, AreInRange-push ps q are.1 is)
 
 -- ---- the reader's loop
 
--- The text up to `at` is the polyline of points that were put behind `old`, and the cursor stands at the last of them.
+-- The text up to `at` is the polyline of points that were appended to `old`, and the cursor is at
+-- the last of them.
 pub record HasRead (text : List ℕ) (max at : ℕ) (cursor : Point) (old held : List Point) : Type 0 where
   pub ps : List Point
   pub held_is : held ≡ old ++ ps
@@ -41,20 +42,20 @@ pub record HasRead (text : List ℕ) (max at : ℕ) (cursor : Point) (old held :
   pub cursor_is : cursor ≡ last_after origin ps
   pub within : at ≤ length text
 
--- before the first point nothing was read
+-- before the first point nothing is read
 pub has_read_none : (text : List ℕ) (max : ℕ) (old : List Point) → HasRead text max 0 origin old old
 has_read_none text max old = record { ps = []; held_is = sym (append-nil old); told = refl; in_range = tt; few = omega arith; cursor_is = refl; within = omega arith }
 
 module _ (text : List ℕ) (max at : ℕ) (cursor : Point) (old held : List Point) (has : HasRead text max at cursor old held) where
-  -- how many were read
+  -- the number of points read
   pub read_count : length held ≡ length old + length has.ps
   read_count = ap length has.held_is ∙ length-append old has.ps
 
-  -- their text ends where the reader stands
+  -- the text of the points read ends at `at`
   pub front_length : length (polyline has.ps) ≡ at
   front_length = let whole = ap length has.told in omega (arith, length-append (polyline has.ps) (drop at text), length-drop at text, has.within)
 
-  -- one point more
+  -- one more point is read
   pub has_read_more : (q : Point) (end : ℕ) (after : List Point) → IsPointAt text at cursor q end → IsInRange q → length has.ps < max → after ≡ held ++ q ∷ [] → HasRead text max end q old after
   has_read_more q end after point inside room e =
       let dy = number_text (q.y -ℤ (last_after origin has.ps).y) in
@@ -76,7 +77,7 @@ module _ (text : List ℕ) (max at : ℕ) (cursor : Point) (old held : List Poin
         within = point.within;
       }
 
-  -- after the last point the text is their polyline
+  -- at the end of the text all its points are read
   pub has_read_all : length text ≤ at → AppendsDecoded text max old held
   has_read_all done = record {
     ps = has.ps;
@@ -84,7 +85,7 @@ module _ (text : List ℕ) (max at : ℕ) (cursor : Point) (old held : List Poin
     decoded = record { spelled = sym has.told ∙ ap (λ t. polyline has.ps ++ t) (drop_all at text done) ∙ append-nil (polyline has.ps); in_range = has.in_range; few = has.few };
   }
 
-  -- a point too many
+  -- a point too many is a fault of the text
   pub one_too_many : at < length text → length has.ps ≡ max → IsRefused text max (At at TooMany)
   one_too_many more full = record {
     ps = has.ps;
@@ -97,7 +98,7 @@ module _ (text : List ℕ) (max at : ℕ) (cursor : Point) (old held : List Poin
     fault = inl (full, refl, refl);
   }
 
-  -- what a point is refused for, the text is
+  -- a fault of the next point is a fault of the text
   pub text_refused : (e : PolyFault) → at < length text → length has.ps < max → IsRefusedFrom at (IsPointFault cursor (drop at text)) e → IsRefused text max e
   text_refused Memory more room f = absurd f
   text_refused (At offset reason) more room f = record {
@@ -111,7 +112,7 @@ module _ (text : List ℕ) (max at : ℕ) (cursor : Point) (old held : List Poin
     fault = inr (room, rw has.cursor_is at f.2);
   }
 
--- two points more
+-- two more points are read
 pub has_read_pair : (text : List ℕ) (max at : ℕ) (cursor : Point) (old held : List Point) (has : HasRead text max at cursor old held) (q r : Point) (end : ℕ) (after : List Point) → IsPairAt text at cursor q r end
     → IsInRange q × IsInRange r → length has.ps + 2 ≤ max → after ≡ held ++ q ∷ r ∷ [] → HasRead text max end r old after
 has_read_pair text max at cursor old held has q r end after pair inside room e =
@@ -121,7 +122,7 @@ has_read_pair text max at cursor old held has q r end after pair inside room e =
     omega (arith, read_count text max at cursor old held has, read_count text max pair.middle q old grown one, length-append held (q ∷ [])) in
     has_read_more text max pair.middle q old grown one r end after pair.second inside.1 some (e ∙ sym (append_assoc held (q ∷ []) (r ∷ [])))
 
--- no memory for one point more
+-- memory is refused for one more point
 pub no_memory : (text : List ℕ) (max at : ℕ) (cursor : Point) (old held : List Point) (has : HasRead text max at cursor old held) (q : Point) (end : ℕ) → IsPointAt text at cursor q end → IsInRange q → length has.ps < max → IsRefused text max Memory
 no_memory text max at cursor old held has q end point inside room =
     let grown = held ++ q ∷ [] in
@@ -135,7 +136,7 @@ no_memory text max at cursor old held has q end point inside room =
       few = more.few;
     }
 
--- no memory for the second of two points
+-- memory is refused for the second of two points
 pub no_memory_between : (text : List ℕ) (max at : ℕ) (cursor : Point) (old held : List Point) (has : HasRead text max at cursor old held) (q r : Point) (end : ℕ) → IsPairAt text at cursor q r end
     → IsInRange q × IsInRange r → length has.ps + 2 ≤ max → IsRefused text max Memory
 no_memory_between text max at cursor old held has q r end pair inside room =

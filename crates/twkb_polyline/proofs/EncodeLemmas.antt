@@ -1,4 +1,4 @@
--- The text of points, put in parts, one behind the other.
+-- The text of points, written in parts, one after the other.
 use Rattle.std.proofs.Common.{arith, ◌≡◌, ℕ, ℤ, zero, suc, ◌+◌, ◌*◌, ◌<◌, ◌-ℤ◌, List, [], ◌∷◌, ◌++◌, length, take, drop, get_or, refl, sym, subst, ◌∙◌, ap, append_assoc, append-nil, drop-cons, drop-drop, add-one}
 use Rattle.std.proofs.lemmas.List.{take-append-drop}
 use Rattle.std.specs.Simd.{first_chunks}
@@ -6,15 +6,15 @@ use Rattle.twkb_points.specs.Point.{Point}
 use Rattle.twkb_polyline.specs.Polyline.{number_text, polyline_from, last_after}
 use Rattle.twkb_polyline.specs.Spelling.{points_of}
 
--- Of the points behind `start` those in `left` are to come: the text of the others was put behind `old`, and the cursor
--- stands at the last of them.
+-- Of the points after `start`, those in `left` are still to be written: the text of the others
+-- was appended to `old`, and the cursor is at the last of them.
 pub record HasPut (start : Point) (points left : List Point) (cursor : Point) (old text : List ℕ) : Type 0 where
   pub put : List ℕ
   pub held : text ≡ old ++ put
   pub told : put ++ polyline_from cursor left ≡ polyline_from start points
   pub ends : last_after cursor left ≡ last_after start points
 
--- the text of some points, and of those after them
+-- the text of two lists of points, one after the other
 polyline_from-append : (p : Point) (ps qs : List Point) → polyline_from p (ps ++ qs) ≡ polyline_from p ps ++ polyline_from (last_after p ps) qs
 polyline_from-append p [] qs = refl
 polyline_from-append p (r ∷ ps) qs =
@@ -25,16 +25,16 @@ polyline_from-append p (r ∷ ps) qs =
     ∙ ap (λ t. dy ++ t) (sym (append_assoc dx (polyline_from r ps) tail))
     ∙ sym (append_assoc dy (dx ++ polyline_from r ps) tail)
 
--- the last of some points, and of those after them
+-- the last point of two lists, one after the other
 last_after-append : (p : Point) (ps qs : List Point) → last_after p (ps ++ qs) ≡ last_after (last_after p ps) qs
 last_after-append p [] qs = refl
 last_after-append p (r ∷ ps) qs = last_after-append r ps qs
 
--- before the first point nothing was put
+-- before the first point nothing is written
 pub has_put_none : (start : Point) (points : List Point) (old : List ℕ) → HasPut start points points start old old
 has_put_none start points old = record { put = []; held = sym (append-nil old); told = refl; ends = refl }
 
--- some points more
+-- some more points are written
 pub has_put_more : (start : Point) (points part left : List Point) (p q : Point) (old text after : List ℕ) → HasPut start points (part ++ left) p old text
     → q ≡ last_after p part → after ≡ text ++ polyline_from p part → HasPut start points left q old after
 has_put_more start points part left p q old text after has moved e = record {
@@ -48,17 +48,17 @@ has_put_more start points part left p q old text after has moved e = record {
   ends = ap (λ r. last_after r left) moved ∙ sym (last_after-append p part left) ∙ has.ends;
 }
 
--- the first points of all
+-- the first points of all are written
 pub has_put_first : (start : Point) (points part left : List Point) (q : Point) (old after : List ℕ) → points ≡ part ++ left
     → q ≡ last_after start part → after ≡ old ++ polyline_from start part → HasPut start points left q old after
 has_put_first start points part left q old after split moved e =
     has_put_more start points part left start q old old after (subst (λ ps. HasPut start points ps start old old) split (has_put_none start points old)) moved e
 
--- after the last point the cursor stands at it
+-- after all points the cursor is at the last one
 pub has_put_last : (start : Point) (points left : List Point) (p : Point) (old text : List ℕ) → HasPut start points left p old text → left ≡ [] → p ≡ last_after start points
 has_put_last start points left p old text has done = sym (ap (last_after p) done) ∙ has.ends
 
--- a text behind what was put
+-- a text appended to what was written
 pub put_behind : (old put more text middle : List ℕ) → text ≡ old ++ put → middle ≡ text ++ more → middle ≡ old ++ (put ++ more)
 put_behind old put more text middle held e = e ∙ ap (λ t. t ++ more) held ∙ append_assoc old put more
 
@@ -76,7 +76,7 @@ pair_text p middle (q ∷ r ∷ []) d e ax ay bx by two em eax eay ebx eby =
 
 -- ---- points in pairs
 
--- the pairs are the points, but for the rest behind them
+-- the pairs are all points but the rest after them
 points_split : (points : List Point) (k : ℕ) → points_of (first_chunks 2 k points) ++ drop (k * 2) points ≡ points
 points_split points zero = refl
 points_split points (suc k) =
@@ -87,14 +87,14 @@ points_split points (suc k) =
     ∙ ap (λ ps. take 2 points ++ ps) (points_split (drop 2 points) k)
     ∙ take-append-drop 2 points
 
--- the points are those of the pairs and the rest behind them
+-- the points are those of the pairs and the rest after them
 pub points_are : (points rest : List Point) (pairs : List (List Point)) (k : ℕ) → pairs ≡ first_chunks 2 k points → rest ≡ drop (k * 2) points → points ≡ points_of pairs ++ rest
 points_are points rest pairs k chunks behind = sym (points_split points k) ∙ ap (λ ps. ps ++ drop (k * 2) points) (ap points_of (sym chunks)) ∙ ap (λ ps. points_of pairs ++ ps) (sym behind)
 
--- one of a list, and those after it
+-- an element of a list, and the elements after it
 pub left_one : {X : Type 0} (xs : List X) (i : ℕ) (x : X) → i < length xs → x ≡ get_or xs i x → drop i xs ≡ x ∷ drop (i + 1) xs
 left_one xs i x within read = drop-cons xs i x within ∙ ap (λ y. y ∷ drop (suc i) xs) (sym read) ∙ ap (λ j. x ∷ drop j xs) (sym (add-one i))
 
--- one pair more of those that are left
+-- one more of the pairs that are left
 pub left_pair : (pairs : List (List Point)) (i : ℕ) (pair : List Point) → i < length pairs → pair ≡ get_or pairs i pair → points_of (drop i pairs) ≡ pair ++ points_of (drop (i + 1) pairs)
 left_pair pairs i pair within read = ap points_of (left_one pairs i pair within read)

@@ -1,4 +1,4 @@
--- Numbers of up to eight groups: how many groups they have, and their characters in a word of 64 bits.
+-- Numbers of up to eight groups: the number of groups, and their characters in a word of 64 bits.
 use Rattle.std.proofs.Common.{◌≡◌, ℕ, zero, suc, ◌+◌, ◌*◌, ◌/◌, ◌%◌, ◌-◌, ◌<◌, ◌≤◌, ◌^◌, inl, inr, length, refl, arith, lit≤, lit<, bit_or}
 use lib.Count.{count_leading_zeros}
 use Rattle.std.proofs.Math.Nat.{pow-suc, pow-le-pow_right}
@@ -12,14 +12,14 @@ use Rattle.twkb_num.proofs.DigitLemmas.{length-digits-le}
 use Rattle.twkb_num.proofs.SpellingLemmas.{length-units_of}
 use Rattle.twkb_polyline.proofs.WordLemmas.{spelled_groups}
 
--- five bits a group
+-- 2 ^ (5 k) is 32 ^ k
 fives : (k : ℕ) → 2 ^ (5 * k) ≡ 32 ^ k
 fives zero = refl
 fives (suc k) =
     let next : 5 * suc k ≡ 5 * k + 5 = omega arith in
     rw (next, pow-add 2 (5 * k) 5, fives k, pow-suc 32 k) refl
 
--- a number with its top bit at j
+-- the number of groups of a number whose top bit is at j
 groups_by_top : (n j : ℕ) → n < 2 ^ suc j → (0 < j → 2 ^ j ≤ n) → HasGroups n (j / 5 + 1)
 groups_by_top n j below above = record {
   some = omega arith;
@@ -31,7 +31,7 @@ groups_by_top n j below above = record {
       omega (arith, fives (j / 5 + 1 - 1), above (omega arith));
 }
 
--- at or above a power, with the lowest bit set or not
+-- a number is at or above a power of 2 if it is so with its lowest bit set
 above_power : (n j : ℕ) → 0 < j → 2 ^ j ≤ bit_or n 1 → 2 ^ j ≤ n
 above_power n j some h =
     elim (cases_lt n (2 ^ j)) [
@@ -39,7 +39,7 @@ above_power n j some h =
       | inr large ↦ large
     ]
 
--- as code counts groups
+-- the number of groups, as the code counts them
 pub group_count : (n z : ℕ) → n < 2 ^ 40 → z ≡ count_leading_zeros 64 (bit_or n 1) → HasGroups n ((68 - z) / 5)
 group_count n z small e =
     let m = bit_or n 1 in
@@ -52,7 +52,7 @@ group_count n z small e =
     let below : n < 2 ^ suc j = omega (arith, le_or_l n 1, top.3) in
     rw count (groups_by_top n j below (λ some. above_power n j some top.2))
 
--- below 2 ^ 40 they are eight at most
+-- a number below 2 ^ 40 has at most eight groups
 pub few_groups : (n c : ℕ) → n < 2 ^ 40 → HasGroups n c → c ≤ 8
 few_groups n c small h =
     elim (cases_lt 8 c) [
@@ -62,7 +62,7 @@ few_groups n c small h =
       | inr few ↦ few
     ]
 
--- the marks of all groups but the last
+-- the remainder by a power keeps the marks of all groups but the last
 pub marks_cut : (c : ℕ) → 1 ≤ c → c ≤ 8 → 2314885530818453536 % ((1 * 2 ^ (8 * c - 8)) % 2 ^ 64) ≡ marks c
 marks_cut zero some few = absurd (omega arith)
 marks_cut (suc zero) some few = refl
@@ -80,6 +80,6 @@ pub spelled_far : (n c groups : ℕ) → HasGroups n c → c ≤ 8 → groups �
     → low_digits 256 c (groups + 2314885530818453536 % ((1 * 2 ^ (8 * c - 8)) % 2 ^ 64) + 4557430888798830399) ≡ shortest five_unit 32 n
 spelled_far n c groups h few e = rw (marks_cut c h.some few, e) (spelled_groups 8 8 n c h few few)
 
--- a number of 64 bits has 13 characters at most
+-- a number of 64 bits has at most 13 characters
 pub few_characters : (n : ℕ) → n < 2 ^ 64 → length (shortest five_unit 32 n) ≤ 13
 few_characters n fits = rw (length-units_of five_unit (digits 32 n)) (length-digits-le 32 12 n (lit≤ tt) (omega arith))

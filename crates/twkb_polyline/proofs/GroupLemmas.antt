@@ -1,4 +1,4 @@
--- The groups of a number's characters: the last of them, and how large the number is.
+-- The groups of a number's characters: the last group, and the size of the number.
 use Rattle.std.proofs.Common.{◌≡◌, ℕ, zero, suc, ◌+◌, ◌*◌, ◌/◌, ◌%◌, ◌<◌, ◌≤◌, ◌^◌, true, false, List, [], ◌∷◌, ◌++◌, length, ◌⊎◌, inl, inr, refl, sym, ◌∙◌, ap, arith, lit≤, length-append}
 use Rattle.std.proofs.Math.Nat.{pow-le-pow_right, div-lt_self}
 use Rattle.std.proofs.lemmas.Bool.{cases_lt}
@@ -25,20 +25,20 @@ has_last (d ∷ e ∷ ds) below some =
     let rest = has_last (e ∷ ds) below.1 (omega arith) in
     record { front = d ∷ rest.front; last = rest.last; split = ap (λ es. d ∷ es) rest.split; below = (below.0, rest.below); last_below = rest.last_below }
 
--- the characters of groups and a last one
+-- the characters of some groups and a last one
 pub units_of-last : (ds : List ℕ) (h : HasLast ds) → units_of five_unit ds ≡ open_units five_unit h.front ++ five_unit h.last false ∷ []
 units_of-last ds h = ap (units_of five_unit) h.split ∙ units_of-push five_unit h.front h.last
 
 pub length-open_units : (ds : List ℕ) → length (open_units five_unit ds) ≡ length ds
 length-open_units ds = length-map ds (λ d. five_unit d true)
 
--- twelve groups or fewer are below 2 ^ 60
+-- the number of at most twelve groups is below 2 ^ 60
 pub twelve_below : (ds : List ℕ) → AllBelowBase 32 ds → length ds ≤ 12 → number_of 32 ds < 2 ^ 60
 twelve_below ds below few =
     let power : 32 ^ length ds ≤ 32 ^ 12 = pow-le-pow_right {n = 32} (lit≤ tt) few in
     omega (arith, number_of-lt 32 ds below)
 
--- thirteen groups are 2 ^ 64 or above exactly where the last is 16 or more
+-- the number of thirteen groups is 2 ^ 64 or above exactly if the last group is 16 or more
 pub thirteenth : (front : List ℕ) (d : ℕ) → AllBelowBase 32 front → length front ≡ 12 → (2 ^ 64 ≤ number_of 32 (front ++ d ∷ []) → 16 ≤ d) × (16 ≤ d → 2 ^ 64 ≤ number_of 32 (front ++ d ∷ []))
 thirteenth front d below twelve =
     let e : number_of 32 (front ++ d ∷ []) ≡ number_of 32 front + 32 ^ 12 * d = number_of-push 32 front d ∙ ap (λ k. number_of 32 front + 32 ^ k * d) twelve in
@@ -66,7 +66,7 @@ EndsAbove-last [] d h = h
 EndsAbove-last (x ∷ []) d h = h
 EndsAbove-last (x ∷ y ∷ front) d h = EndsAbove-last (y ∷ front) d h
 
--- the last group of a number is not 0 unless it is alone
+-- the last group of a number is not 0 unless it is the only one
 pub last_above : (n : ℕ) (front : List ℕ) (d : ℕ) → digits 32 n ≡ front ++ d ∷ [] → 0 < length front → 0 < d
 last_above n front d e some =
     elim (cases_lt n 32) [
@@ -74,7 +74,7 @@ last_above n front d e some =
       | inr large ↦ EndsAbove-last front d (rw e at (digits_end_within n n (omega arith) (omega arith)))
     ]
 
--- groups whose last is not 0, or alone, are those of their number
+-- groups are those of their number if the last is not 0 or is the only one
 pub spelled_shortest : (front : List ℕ) (d : ℕ) → AllBelowBase 32 (front ++ d ∷ []) → ((0 < d) ⊎ (front ≡ [])) → units_of five_unit (front ++ d ∷ []) ≡ shortest five_unit 32 (number_of 32 (front ++ d ∷ []))
 spelled_shortest front d below (inl high) = ap (units_of five_unit) (sym (digits-number_of 32 (front ++ d ∷ []) (lit≤ tt) below (EndsAbove-push front d high)))
 spelled_shortest [] d below (inr alone) = let same : d + 32 * 0 ≡ d = omega arith in rw (same, digits_one 32 d below.0) refl

@@ -1,4 +1,4 @@
--- What a reader of characters answers, as the fault of a number or as the number.
+-- The answers of a reader of characters: the number, or its fault.
 use Rattle.std.proofs.Common.{◌≡◌, ℕ, ℤ, drop, get_or, ◌+◌, ◌<◌, ◌≤◌, ◌^◌, false, List, [], ◌∷◌, ◌++◌, length, ◌⊎◌, inl, inr, refl, sym, ◌∙◌, ap, arith, append_assoc, append-nil, length-append, lit<, subst}
 use Rattle.std.specs.Prelude.{None}
 use Rattle.std.specs.List.{AllByRecursion}
@@ -19,7 +19,7 @@ use Rattle.twkb_polyline.specs.Reading.{IsNumberAt}
 use Rattle.twkb_polyline.proofs.CharacterLemmas.{goes_on, no_character}
 use Rattle.twkb_polyline.proofs.GroupLemmas.{HasLast, has_last, units_of-last, length-open_units, twelve_below, thirteenth, spelled_shortest}
 
--- The reader holds the characters `us` of the number at the front of `rest`, and u is the next.
+-- The reader holds the characters `us` of the number at the start of `rest`, and u is the next one.
 pub record IsNext (rest us : List ℕ) (u : ℕ) (more : List ℕ) : Type 0 where
   pub split : rest ≡ us ++ u ∷ more
   pub go_on : AllByRecursion GoesOn us
@@ -28,13 +28,13 @@ pub record IsNext (rest us : List ℕ) (u : ℕ) (more : List ℕ) : Type 0 wher
 pub reaches : (rest us : List ℕ) (u : ℕ) (more : List ℕ) (k : ℕ) → IsNext rest us u more → length us ≡ k → Reaches rest k u
 reaches rest us u more k next place = record { before = us; after = more; split = next.split; go_on = next.go_on; place = place; within = omega (arith, next.within) }
 
--- a character that is none
+-- a code that is no character is a fault
 pub bad_character : (rest us : List ℕ) (u : ℕ) (more : List ℕ) → IsNext rest us u more → five_group u ≡ None → IsNumberFault rest (length us) BadChar
 bad_character rest us u more next none = (u, reaches rest us u more (length us) next refl, no_character u none)
 
 -- ---- the last character of a spelling
 
--- The characters spell groups, of which u has the last.
+-- The characters spell groups, the last of which is that of u.
 record EndsAt (us : List ℕ) (u : ℕ) (ds : List ℕ) : Type 0 where
   pub last : HasLast ds
   pub front : us ≡ open_units five_unit last.front
@@ -62,14 +62,14 @@ above_ends us u within above =
           (twelve, (last.last, (at_end.end, last.last_below), (thirteenth last.front last.last last.below (sym at_end.count ∙ twelve)).0 value))
     ]
 
--- a thirteenth character that goes on, or a number of 2 ^ 64 or above
+-- a thirteenth character that goes on, or a number of 2 ^ 64 or above, is too long
 pub too_long : (rest us : List ℕ) (u : ℕ) (more : List ℕ) → IsNext rest us u more → IsAnswer five_unit five_group 32 13 us u step.TooLong → IsTooLong rest
 too_long rest us u more next (inl long) = record { character = u; reached = reaches rest us u more 12 next (omega (arith, long.0)); too_much = inl (goes_on u long.1.0 long.1.1) }
 too_long rest us u more next (inr above) =
     let ends = above_ends us u next.within above in
     record { character = u; reached = reaches rest us u more 12 next ends.0; too_much = inr ends.1 }
 
--- a spelling that is not the shortest
+-- a spelling that is not the shortest is padded
 pub padded : (rest us : List ℕ) (u : ℕ) (more : List ℕ) (value : ℕ) → IsNext rest us u more → IsSpelling five_unit 32 13 (us ++ u ∷ []) value → (us ++ u ∷ [] ≡ shortest five_unit 32 value → ⊥) → IsPadded rest
 padded rest us u more value next spelling longer =
     let at_end = ends_at us u spelling.ds spelling.spelled spelling.below in
@@ -81,7 +81,7 @@ padded rest us u more value next spelling longer =
     let some : 0 < length us = elim (cases_lt 0 (length us)) [ inl high ↦ high | inr low ↦ absurd (short (inr (nil_from_length last.front (omega (arith, at_end.count))))) ] in
     record { place = length us; some = some; character = u; reached = reaches rest us u more (length us) next refl; zero = (omega (arith, at_end.end, none), lit< tt) }
 
--- the shortest spelling
+-- the shortest spelling is the number
 pub read_number : (rest us : List ℕ) (u : ℕ) (more : List ℕ) (n : ℤ) (value : ℕ) → rest ≡ us ++ u ∷ more → us ++ u ∷ [] ≡ shortest five_unit 32 value → zigzag_of n ≡ value → value < 2 ^ 64 → StartsWithNumber rest n more
 read_number rest us u more n value split spelled form fits = record {
   split = split ∙ sym (append_assoc us (u ∷ []) more) ∙ ap (λ t. t ++ more) (spelled ∙ ap (shortest five_unit 32) (sym form));
@@ -90,15 +90,15 @@ read_number rest us u more n value split spelled form fits = record {
 
 -- ---- places in a text
 
--- the reader at a place of the text
+-- the reader's state as a place in the text
 pub next_at : (text : List ℕ) (start at : ℕ) (us : List ℕ) → us ++ drop at text ≡ drop start text → AllByRecursion GoesOn us → length us < 13 → at < length text → IsNext (drop start text) us (get_or text at 0) (drop (at + 1) text)
 next_at text start at us held go within more = record { split = sym held ∙ ap (λ t. us ++ t) (drop_more text at 0 more); go_on = go; within = within }
 
--- one character more
+-- the reader holds one more character
 pub held_more : (rest us : List ℕ) (u : ℕ) (more : List ℕ) → IsNext rest us u more → (us ++ u ∷ []) ++ more ≡ rest
 held_more rest us u more next = append_assoc us (u ∷ []) more ∙ sym next.split
 
--- the number that ends there
+-- a number ends at this place
 pub number_at : (text : List ℕ) (start at : ℕ) (us : List ℕ) (n : ℤ) (value : ℕ) → IsNext (drop start text) us (get_or text at 0) (drop (at + 1) text) → start + length us ≡ at → at < length text
     → us ++ get_or text at 0 ∷ [] ≡ shortest five_unit 32 value → zigzag_of n ≡ value → value < 2 ^ 64 → IsNumberAt text start n (at + 1)
 number_at text start at us n value next place more spelled form fits =

@@ -1,4 +1,4 @@
--- A text has one fault at most, and none where it is a polyline.
+-- A text has at most one fault, and none if it is a polyline.
 use Rattle.std.proofs.Common.{◌≡◌, ℕ, suc, ℤ, pos, negsuc, ◌+◌, ◌-◌, ◌<◌, ◌≤◌, ◌^◌, ◌+ℤ◌, ◌-ℤ◌, ◌≤ℤ◌, List, [], ◌∷◌, ◌++◌, length, ◌⊎◌, inl, inr, refl, sym, ◌∙◌, ap, arith, subst, append_assoc, append-nil, length-append, lit≤}
 use Rattle.std.specs.Prelude.{Some, None}
 use Rattle.std.proofs.lemmas.Int.{ints}
@@ -29,21 +29,21 @@ number_text_one m n x y h =
     let one = zigzag_one m n number in
     (one, append_cancel_left (number_text n) x y (ap (λ k. number_text k ++ x) (sym one) ∙ h))
 
--- a number has a character
+-- a number has at least one character
 pub number_text_length : (n : ℤ) → 1 ≤ length (number_text n)
 number_text_length n = omega (arith, length-units_of five_unit (digits 32 (zigzag_of n)), digits_some 32 (zigzag_of n) (lit≤ tt))
 
 number_text_some : (n : ℤ) (t : List ℕ) → number_text n ++ t ≡ [] → ⊥
 number_text_some n t h = let none = ap length h in omega (arith, length-append (number_text n) t, number_text_length n)
 
--- a number has one fault
+-- a number has at most one fault
 number_fault_one : (rest : List ℕ) (k l : ℕ) (r s : PolyReason) → IsNumberFault rest k r → IsNumberFault rest l s → (k ≡ l) × (r ≡ s)
 number_fault_one rest k l r s f g =
     let e = stops_one rest (Some (k, r)) (Some (l, s)) (fault_stops rest k r f) (fault_stops rest l s g) in
     let pair : (k, r) ≡ (l, s) = cc in
     (ap (λ (z : ℕ × PolyReason). z.0) pair, ap (λ (z : ℕ × PolyReason). z.1) pair)
 
--- and no fault where it is a number
+-- a number that can be read has no fault
 number_fault_none : (rest : List ℕ) (k : ℕ) (r : PolyReason) (n : ℤ) (after : List ℕ) → IsNumberFault rest k r → StartsWithNumber rest n after → ⊥
 number_fault_none rest k r n after f number =
     let e = stops_one rest (Some (k, r)) None (fault_stops rest k r f) (number_stops rest n after number) in cc
@@ -96,7 +96,7 @@ difference_fits a b p q = bounded (a -ℤ b) (omega (arith, ints)) (omega (arith
 there : (a b : ℤ) → b +ℤ (a -ℤ b) ≡ a
 there a b = omega (arith, ints)
 
--- the number of a difference between two coordinates in range
+-- a text that starts with the difference of two coordinates in range starts with a number
 pub difference_starts : (a b : ℤ) (after rest : List ℕ) → IsCoordinate a → IsCoordinate b → rest ≡ number_text (a -ℤ b) ++ after → StartsWithNumber rest (a -ℤ b) after
 difference_starts a b after rest p q split = record { split = split; fits = difference_fits a b p q }
 
@@ -109,7 +109,7 @@ point_fault_none p q rest after k r inp inq (inr f) split =
 
 -- ---- texts
 
--- the first point's numbers before the rest of a text
+-- the numbers of the first point, before the rest of the text
 pub regroup : (p q : Point) (qs : List Point) (rest : List ℕ) → polyline_from p (q ∷ qs) ++ rest ≡ number_text (q.y -ℤ p.y) ++ (number_text (q.x -ℤ p.x) ++ (polyline_from q qs ++ rest))
 regroup p q qs rest =
     append_assoc (number_text (q.y -ℤ p.y)) (number_text (q.x -ℤ p.x) ++ polyline_from q qs) rest
@@ -121,7 +121,7 @@ unmoved a b c e = omega (arith, ints)
 same_point : (p q : Point) → p.x ≡ q.x → p.y ≡ q.y → p ≡ q
 same_point p q ex ey = λ i. record { x = ex i; y = ey i }
 
--- two texts that begin alike begin with one point, and go on alike
+-- two texts that are equal start with the same point, and their rests are equal
 first_one : (p q r : Point) (qs rs : List Point) (s t : List ℕ) → polyline_from p (q ∷ qs) ++ s ≡ polyline_from p (r ∷ rs) ++ t → (q ≡ r) × (polyline_from q qs ++ s ≡ polyline_from r rs ++ t)
 first_one p q r qs rs s t e =
     let first = number_text_one (q.y -ℤ p.y) (r.y -ℤ p.y) (number_text (q.x -ℤ p.x) ++ (polyline_from q qs ++ s)) (number_text (r.x -ℤ p.x) ++ (polyline_from r rs ++ t)) (sym (regroup p q qs s) ∙ e ∙ regroup p r rs t) in
@@ -132,7 +132,7 @@ next_within : (p : Point) (count max : ℕ) (rest : List ℕ) (k : ℕ) (r : Pol
 next_within p count max rest k r (inl f) = omega arith
 next_within p count max rest k r (inr f) = omega arith
 
--- where a point could be read none is refused
+-- if the next point can be read, it is not refused
 next_none : (p q : Point) (count max : ℕ) (rest after : List ℕ) (k : ℕ) (r : PolyReason) → IsInRange p → IsInRange q → count < max → IsNextFault p count max rest k r → rest ≡ number_text (q.y -ℤ p.y) ++ (number_text (q.x -ℤ p.x) ++ after) → ⊥
 next_none p q count max rest after k r inp inq room (inl f) split = omega arith
 next_none p q count max rest after k r inp inq room (inr f) split = point_fault_none p q rest after k r inp inq f.1 split
@@ -143,7 +143,7 @@ next_one p count max rest k l r s (inl f) (inr g) = absurd (omega arith)
 next_one p count max rest k l r s (inr f) (inl g) = absurd (omega arith)
 next_one p count max rest k l r s (inr f) (inr g) = point_fault_one p rest k l r s f.1 g.1
 
--- how long a point's two numbers are
+-- the length of a point's two numbers
 abbrev head_length : Point → Point → ℕ
 head_length p q = length (number_text (q.y -ℤ p.y)) + length (number_text (q.x -ℤ p.x))
 
@@ -153,7 +153,7 @@ first_length p q qs =
     let dx = number_text (q.x -ℤ p.x) in
     omega (arith, length-append dy (dx ++ polyline_from q qs), length-append dx (polyline_from q qs))
 
--- two faults of a text, after some points before it, are one
+-- two faults of a text, found after some of its points, are the same fault
 faults_one : (ps qs : List Point) (p : Point) (c m n max : ℕ) (rest left : List ℕ) (k l : ℕ) (r s : PolyReason) → IsInRange p → AreInRange ps → AreInRange qs → c + length ps ≡ m → c + length qs ≡ n
     → polyline_from p ps ++ rest ≡ polyline_from p qs ++ left → IsNextFault (last_after p ps) m max rest k r → IsNextFault (last_after p qs) n max left l s
     → (length (polyline_from p ps) + k ≡ length (polyline_from p qs) + l) × (r ≡ s)
@@ -177,7 +177,7 @@ faults_one (q ∷ qs) (t ∷ ts) p c m n max rest left k l r s inp a b em en e f
     let tails = ap (λ z. length (polyline_from z qs)) first.0 in
     (omega (arith, first_length p q qs, first_length p t ts, heads, tails, same.0), same.1)
 
--- no text of points in range, few enough, has a fault after some points before it
+-- the text of few enough points in range has no fault after some of its points
 faults_none : (ps qs : List Point) (p : Point) (c m max : ℕ) (rest : List ℕ) (k : ℕ) (r : PolyReason) → IsInRange p → AreInRange ps → AreInRange qs → c + length ps ≡ m → c + length qs ≤ max
     → (rest ≡ [] → ⊥) → polyline_from p ps ++ rest ≡ polyline_from p qs → IsNextFault (last_after p ps) m max rest k r → ⊥
 faults_none [] [] p c m max rest k r inp a b em few some e f = some e
@@ -200,12 +200,12 @@ text_fault_one text max o p r s f g =
     let same = faults_one f.ps g.ps origin 0 (length f.ps) (length g.ps) max f.rest g.rest f.within g.within r s origin_in_range f.in_range g.in_range (omega arith) (omega arith) (sym f.split ∙ g.split) f.fault g.fault in
     (omega (arith, f.place, g.place, same.0), same.1)
 
--- and none where points are read from it
+-- a text from which points are read has no fault
 pub text_fault_none : (text : List ℕ) (max o : ℕ) (r : PolyReason) (ps : List Point) → IsTextFault text max o r → DecodesTo text max ps → ⊥
 text_fault_none text max o r ps f read =
     faults_none f.ps ps origin 0 (length f.ps) max f.rest f.within r origin_in_range f.in_range read.in_range (omega arith) (omega (arith, read.few)) f.left (sym f.split ∙ read.spelled) f.fault
 
--- points by their text
+-- points with the same text are equal
 polyline_from_one : (p : Point) (ps qs : List Point) → polyline_from p ps ≡ polyline_from p qs → ps ≡ qs
 polyline_from_one p [] [] e = refl
 polyline_from_one p [] (q ∷ qs) e = absurd (number_text_some (q.y -ℤ p.y) (number_text (q.x -ℤ p.x) ++ polyline_from q qs) (sym e))
@@ -219,24 +219,24 @@ polyline_from_one p (q ∷ qs) (t ∷ ts) e =
 pub one_polyline : (ps qs : List Point) → polyline ps ≡ polyline qs → ps ≡ qs
 one_polyline ps qs e = polyline_from_one origin ps qs e
 
--- ---- what a reader answers
+-- ---- the answers of a reader
 
--- no other points
+-- a text decodes to one list of points
 pub no_other_points : (text : List ℕ) (max : ℕ) (ps qs : List Point) → DecodesTo text max qs → DecodesTo text max ps → qs ≡ ps
 no_other_points text max ps qs read also = one_polyline qs ps (sym read.spelled ∙ also.spelled)
 
--- of a polyline only want of memory
+-- only want of memory refuses a polyline
 pub only_memory : (text : List ℕ) (max : ℕ) (ps : List Point) (e : PolyFault) → IsRefused text max e → DecodesTo text max ps → e ≡ Memory
 only_memory text max ps Memory f read = refl
 only_memory text max ps (At offset reason) f read = absurd (text_fault_none text max offset reason ps f read)
 
--- of a text with a fault that fault, or want of memory
+-- a text with a fault is refused for that fault, or for want of memory
 pub only_fault : (text : List ℕ) (max offset : ℕ) (reason : PolyReason) (e : PolyFault) → IsRefused text max e → IsTextFault text max offset reason → (e ≡ Memory) ⊎ (e ≡ At offset reason)
 only_fault text max offset reason Memory f fault = inl refl
 only_fault text max offset reason (At o r) f fault =
     let same = text_fault_one text max o offset r reason f fault in
     inr (ap (λ p. At p r) same.0 ∙ ap (λ s. At offset s) same.1)
 
--- points that were put behind none
+-- points appended to an empty list
 pub behind_none : (text : List ℕ) (max : ℕ) (old new : List Point) → old ≡ [] → AppendsDecoded text max old new → DecodesTo text max new
 behind_none text max old new none read = rw (read.appended, none) read.decoded

@@ -1,4 +1,4 @@
--- A text that is the polyline of one point, and texts that are not.
+-- Texts that are the polyline of one point, and texts that are not.
 use Rattle.std.proofs.Common.{◌≡◌, ℕ, ◌<◌, ◌≤◌, ◌-ℤ◌, List, [], ◌∷◌, ◌++◌, length, refl, ap, arith, length-append}
 use Rattle.twkb_points.specs.Point.{Point, IsInRange, origin}
 use Rattle.twkb_polyline.specs.Polyline.{number_text, DecodesTo}
@@ -16,25 +16,25 @@ nothing_read text = omega (arith, read_count text 1 0 origin [] [] (has_read_non
 first_read : (text : List ℕ) (q : Point) (end : ℕ) → IsPointAt text 0 origin q end → IsInRange q → HasRead text 1 end q [] (q ∷ [])
 first_read text q end point inside = has_read_more text 1 0 origin [] [] (has_read_none text 1 []) q end (q ∷ []) point inside (omega (arith, nothing_read text)) refl
 
--- a point that goes to the text's end
+-- a text whose first point ends with it is the polyline of one point
 pub one_point : (text : List ℕ) (q : Point) (end : ℕ) → IsPointAt text 0 origin q end → IsInRange q → length text ≤ end → DecodesTo text 1 (q ∷ [])
 one_point text q end point inside done = behind_none text 1 [] (q ∷ []) refl (has_read_all text 1 end q [] (q ∷ []) (first_read text q end point inside) done)
 
--- no text
+-- an empty text is not the polyline of one point
 pub one_of_none : (text : List ℕ) → length text ≡ 0 → (p : Point) → DecodesTo text 1 (p ∷ []) → ⊥
 one_of_none text none p read =
     let dy = number_text (p.y -ℤ origin.y) in
     let dx = number_text (p.x -ℤ origin.x) in
     omega (arith, none, ap length read.spelled, length-append dy (dx ++ []), number_text_length (p.y -ℤ origin.y))
 
--- a point with text behind it
+-- a text with more after its first point is not the polyline of one point
 pub one_with_more : (text : List ℕ) (q : Point) (end : ℕ) → IsPointAt text 0 origin q end → IsInRange q → end < length text → (p : Point) → DecodesTo text 1 (p ∷ []) → ⊥
 one_with_more text q end point inside more p read =
     let first = first_read text q end point inside in
     let full : length first.ps ≡ 1 = omega (arith, read_count text 1 end q [] (q ∷ []) first) in
     text_fault_none text 1 end TooMany (p ∷ []) (one_too_many text 1 end q [] (q ∷ []) first more full) read
 
--- a text whose first point is refused
+-- a text whose first point is refused is not the polyline of one point
 pub one_refused : (text : List ℕ) (e : PolyFault) → 0 < length text → IsRefusedFrom 0 (IsPointFault origin text) e → (p : Point) → DecodesTo text 1 (p ∷ []) → ⊥
 one_refused text Memory some fault p read = absurd fault
 one_refused text (At offset reason) some fault p read =

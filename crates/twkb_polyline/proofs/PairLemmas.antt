@@ -1,4 +1,4 @@
--- Four numbers of a text: two points.
+-- Four numbers in a text: two points.
 use Rattle.std.proofs.Common.{◌≡◌, ℕ, ℤ, pos, negsuc, take, drop, ◌+◌, ◌<◌, ◌≤◌, ◌^◌, List, ◌++◌, length, sym, ◌∙◌, ap, arith, append_assoc, length-append, length-drop}
 use Rattle.std.proofs.lemmas.Int.{ints}
 use Rattle.std.proofs.lemmas.List.{take-append-drop, drop-drop, drop_at}
@@ -11,12 +11,12 @@ use Rattle.twkb_polyline.specs.Reading.{IsPairAt}
 use Rattle.twkb_polyline.proofs.OneFault.{number_text_length}
 use Rattle.twkb_polyline.proofs.PointLemmas.{back}
 
--- a number of a small form could be a coordinate
+-- a number whose form is below 2 ^ 28 is in the range of a coordinate
 pub near : (n : ℤ) → zigzag_of n < 2 ^ 28 → IsCoordinate n
 near (pos n) small = omega (arith, ints)
 near (negsuc n) small = omega (arith, ints)
 
--- Four lists stand from `start` on, in `used` characters.
+-- Four lists are at `start`, in `used` characters.
 module _ (text : List ℕ) (start used : ℕ) (a b c d : List ℕ) (spelled : take used (drop start text) ≡ a ++ (b ++ (c ++ d))) where
   four_split : drop start text ≡ a ++ (b ++ (c ++ (d ++ drop (start + used) text)))
   four_split =
@@ -27,7 +27,7 @@ module _ (text : List ℕ) (start used : ℕ) (a b c d : List ℕ) (spelled : ta
       ∙ ap (λ t. a ++ t) (append_assoc b (c ++ d) rest ∙ ap (λ t. b ++ t) (append_assoc c d rest))
       ∙ ap (λ t. a ++ (b ++ (c ++ (d ++ t)))) (drop-drop used start text)
 
-  -- and behind two of them the others
+  -- after the first two lists come the other two
   two_split : drop (start + (length a + length b)) text ≡ c ++ (d ++ drop (start + used) text)
   two_split =
       let others = c ++ (d ++ drop (start + used) text) in
@@ -35,14 +35,14 @@ module _ (text : List ℕ) (start used : ℕ) (a b c d : List ℕ) (spelled : ta
       ∙ ap (drop (length a + length b)) (four_split ∙ sym (append_assoc a b others))
       ∙ drop_at (a ++ b) others (length a + length b) (length-append a b)
 
-  -- as long as all four
+  -- the length of all four lists
   four_length : start ≤ length text → used ≤ length (drop start text) → used ≡ (length a + length b) + (length c + length d)
   four_length before within =
       let rest = drop (start + used) text in
       let whole = ap length four_split in
       omega (arith, length-append a (b ++ (c ++ (d ++ rest))), length-append b (c ++ (d ++ rest)), length-append c (d ++ rest), length-append d rest, length-drop start text, length-drop (start + used) text)
 
--- the forms of a latitude and a longitude, and of those of the point behind it
+-- the numbers of two points at `start` are two points
 pub pair_read : (text : List ℕ) (start used : ℕ) (dx dy ex ey : ℤ) (p q r : Point) → start ≤ length text → FourInFront five_unit 32 (drop start text) (zigzag_of dy) (zigzag_of dx) (zigzag_of ey) (zigzag_of ex) used
     → q ≡ moved_by p dx dy → r ≡ moved_by q ex ey → IsPairAt text start p q r (start + used)
 pair_read text start used dx dy ex ey p q r before four to_q to_r =

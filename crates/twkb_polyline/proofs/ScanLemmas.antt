@@ -19,7 +19,7 @@ use Rattle.twkb_polyline.proofs.CharacterLemmas.{groups_of, groups_below, goes_o
 use Rattle.twkb_polyline.proofs.GroupLemmas.{twelve_below, thirteenth, spelled_shortest}
 use Rattle.twkb_polyline.proofs.NumberLemmas.{IsNext, reaches, above_ends, held_more, read_number}
 
--- A number at the front, or why it is none.
+-- A number at the start of `rest`, or the reason for which there is none.
 pub data NumberOrFault (rest : List ℕ) : Type 0 where
   is_number : (n : ℤ) (after : List ℕ) → StartsWithNumber rest n after → NumberOrFault rest
   is_fault : (k : ℕ) (reason : PolyReason) → IsNumberFault rest k reason → NumberOrFault rest
@@ -32,7 +32,8 @@ length-groups_of us = length-map us (λ c. c - 95)
 pub spells_groups : (us : List ℕ) (d : ℕ) → AllByRecursion GoesOn us → us ++ (d + 63) ∷ [] ≡ units_of five_unit (groups_of us ++ d ∷ [])
 spells_groups us d go = ap (λ vs. vs ++ (d + 63) ∷ []) (goes_on_open us go) ∙ sym (units_of-push five_unit (groups_of us) d)
 
--- a thirteenth character that ends a number: its group is 16 or more exactly where the number has more than 64 bits
+-- a thirteenth character that ends a number has a group of 16 or more exactly if the number has
+-- more than 64 bits
 pub too_long_numbers : (us : List ℕ) (c d : ℕ) → AllByRecursion GoesOn us → length us ≡ 12 → EndsIn c d → (16 ≤ d → IsAbove five_unit 32 (us ++ c ∷ [])) × (IsAbove five_unit 32 (us ++ c ∷ []) → 16 ≤ d)
 too_long_numbers us c d go twelve ends = (
   λ large. record {
@@ -44,7 +45,8 @@ too_long_numbers us c d go twelve ends = (
   λ above. let last = above_ends us c (omega arith) above in omega (arith, last.1.1.0, last.1.2, ends.0),
 )
 
--- characters that go on, and one that ends the number: not padded, and not too long
+-- characters that go on, and one that ends the number, are the number if it is neither padded nor
+-- too long
 ended : (rest us : List ℕ) (d : ℕ) (more : List ℕ) → IsNext rest us (d + 63) more → d < 32 → ((0 < d) ⊎ (groups_of us ≡ [])) → (length us ≡ 12 → d < 16) → NumberOrFault rest
 ended rest us d more next below above small =
     let front = groups_of us in
@@ -63,7 +65,7 @@ ended rest us d more next below above small =
     spells_groups us d next.go_on ∙ spelled_shortest front d all_below above in
     is_number (unzigzag_of (number_of 32 ds)) more (read_number rest us (d + 63) more (unzigzag_of (number_of 32 ds)) (number_of 32 ds) next.split spelled (zigzag_of-unzigzag_of (number_of 32 ds)) fits)
 
--- a last group that may be padding
+-- the last group may be padding, which is a fault
 scan_end : (rest us : List ℕ) (d c : ℕ) (more : List ℕ) → IsNext rest us c more → c ≡ d + 63 → d < 32 → (length us ≡ 12 → d < 16) → NumberOrFault rest
 scan_end rest us d c more next e below small =
     let last : IsNext rest us (d + 63) more = rw e at next in
@@ -76,7 +78,7 @@ scan_end rest us d c more next e below small =
           ]
     ]
 
--- a last group that may be too much
+-- the last group may be too large, which is a fault
 scan_last : (rest us : List ℕ) (d c : ℕ) (more : List ℕ) → IsNext rest us c more → c ≡ d + 63 → d < 32 → NumberOrFault rest
 scan_last rest us d c more next e below =
     elim (cases_lt (length us) 12) [
@@ -88,7 +90,7 @@ scan_last rest us d c more next e below =
           ]
     ]
 
--- the characters so far, which go on, and those that are left
+-- the scan so far: characters that go on, and the characters left
 scan_from : (left rest us : List ℕ) → rest ≡ us ++ left → AllByRecursion GoesOn us → length us < 13 → NumberOrFault rest
 scan_from [] rest us split go within =
     let same : rest ≡ us = split ∙ append-nil us in
@@ -112,6 +114,6 @@ scan_from (c ∷ left) rest us split go within =
           ]
     ]
 
--- each text
+-- each text starts with a number, or has a fault
 pub number_or_fault : (rest : List ℕ) → NumberOrFault rest
 number_or_fault rest = scan_from rest rest [] refl tt (lit< tt)

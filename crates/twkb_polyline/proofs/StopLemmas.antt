@@ -1,4 +1,4 @@
--- The characters of a number stop at one place, for one reason or as the number.
+-- The characters of a number stop at one place, where the number is read or refused for one reason.
 use Rattle.std.proofs.Common.{◌≡◌, ℕ, ℤ, suc, ◌+◌, ◌<◌, ◌≤◌, ◌^◌, List, [], ◌∷◌, ◌++◌, length, inl, inr, refl, sym, ◌∙◌, ap, arith, append_assoc, append-nil, length-append, lit≤}
 use Rattle.std.specs.Prelude.{Option, Some, None, nat_lt, if◌then◌else◌}
 use Rattle.std.specs.List.{AllByRecursion}
@@ -17,12 +17,12 @@ use Rattle.twkb_polyline.specs.declared.fault.PolyReason.TheVariants.{BadChar, C
 use Rattle.twkb_polyline.proofs.CharacterLemmas.{open_goes_on}
 use Rattle.twkb_polyline.proofs.GroupLemmas.{HasLast, has_last, units_of-last, length-open_units, thirteenth, last_above}
 
--- where they stop: k go on before, and these are left
+-- the place where characters stop: k of them go on, and these are left
 abbrev pub Halts : ℕ → List ℕ → Type 0
 Halts k [] = Unit {0}
 Halts k (c ∷ more) = GoesOn c → 12 ≤ k
 
--- what is answered there: how far into the number it is refused, and why, or that it is a number
+-- the verdict at that place: the offset and reason of a refusal, or none for a number
 abbrev pub verdict : ℕ → List ℕ → Option (ℕ × PolyReason)
 verdict k [] = Some (0, Cut)
 verdict k (c ∷ more) =
@@ -32,7 +32,7 @@ verdict k (c ∷ more) =
     if nat_lt c 79 then None else
     if nat_lt k 12 then None else Some (0, TooLong)
 
--- The number at the front of `rest` stops with this answer.
+-- The number at the start of `rest` stops with this verdict.
 pub record Stops (rest : List ℕ) (answer : Option (ℕ × PolyReason)) : Type 0 where
   pub us : List ℕ
   pub left : List ℕ
@@ -42,7 +42,7 @@ pub record Stops (rest : List ℕ) (answer : Option (ℕ × PolyReason)) : Type 
   pub halts : Halts (length us) left
   pub answered : verdict (length us) left ≡ answer
 
--- ---- one place
+-- ---- one place to stop
 
 same_stop : (n k l : ℕ) (us vs s t : List ℕ) → AllByRecursion GoesOn us → AllByRecursion GoesOn vs → n + length us ≡ k → n + length vs ≡ l → k ≤ 12 → l ≤ 12 → Halts k s → Halts l t
     → us ++ s ≡ vs ++ t → (us ≡ vs) × (s ≡ t)
@@ -64,13 +64,13 @@ same_stop n k l (u ∷ us) (v ∷ vs) s t g h p q a b x y e =
     let front : us ≡ vs = rest.0 in
     (cc, rest.1)
 
--- and one answer
+-- a number stops with one verdict
 pub stops_one : (rest : List ℕ) (a b : Option (ℕ × PolyReason)) → Stops rest a → Stops rest b → a ≡ b
 stops_one rest a b s t =
     let same = same_stop 0 (length s.us) (length t.us) s.us t.us s.left t.left s.go_on t.go_on (omega arith) (omega arith) s.within t.within s.halts t.halts (sym s.split ∙ t.split) in
     sym s.answered ∙ ap (λ us. verdict (length us) s.left) same.0 ∙ ap (λ left. verdict (length t.us) left) same.1 ∙ t.answered
 
--- ---- the answers
+-- ---- the verdicts
 
 outside_verdict : (k c : ℕ) (more : List ℕ) → (IsCharacter c → ⊥) → verdict k (c ∷ more) ≡ Some (k, BadChar)
 outside_verdict k c more unknown =
@@ -96,7 +96,7 @@ number_verdict k c more low high some few =
           ]
     ]
 
--- a fault of a number
+-- the fault of a number is the verdict where it stops
 pub fault_stops : (rest : List ℕ) (k : ℕ) (reason : PolyReason) → IsNumberFault rest k reason → Stops rest (Some (k, reason))
 fault_stops rest k BadChar f = record {
   us = f.1.before;
@@ -141,7 +141,7 @@ fault_stops rest k Half f = absurd f
 fault_stops rest k Range f = absurd f
 fault_stops rest k TooMany f = absurd f
 
--- a number, by its groups
+-- a number stops after its groups
 groups_stop : (rest after : List ℕ) (z : ℕ) (ds : List ℕ) → HasLast ds → digits 32 z ≡ ds → rest ≡ units_of five_unit ds ++ after → length ds ≤ 13 → number_of 32 ds ≡ z → z < 2 ^ 64 → Stops rest None
 groups_stop rest after z ds last digits_are split few value fits =
     let count : length ds ≡ length last.front + 1 = ap length last.split ∙ length-append last.front (last.last ∷ []) in
@@ -165,7 +165,7 @@ groups_stop rest after z ds last digits_are split few value fits =
           (λ full. omega (arith, below (omega arith)));
     }
 
--- a number
+-- a number stops with no refusal
 pub number_stops : (rest : List ℕ) (n : ℤ) (after : List ℕ) → StartsWithNumber rest n after → Stops rest None
 number_stops rest n after number =
     let z = zigzag_of n in

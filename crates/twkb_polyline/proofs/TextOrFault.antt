@@ -11,12 +11,12 @@ use Rattle.twkb_polyline.proofs.OneFault.{number_text_length, regroup}
 use Rattle.twkb_polyline.proofs.ScanLemmas.{number_or_fault}
 use Rattle.twkb_polyline.proofs.ScanLemmas.NumberOrFault.{is_number, is_fault}
 
--- a coordinate is in range, or out of it
+-- a coordinate is in range or out of range
 coordinate_or_not : (z : ℤ) → IsCoordinate z ⊎ (IsCoordinate z → ⊥)
 coordinate_or_not (pos n) = elim (cases_lt n (2 ^ 62)) [ inl small ↦ inl (omega (arith, ints), omega (arith, ints)) | inr large ↦ inr (λ h. omega (arith, ints, h.1)) ]
 coordinate_or_not (negsuc n) = elim (cases_lt n (2 ^ 62)) [ inl small ↦ inl (omega (arith, ints), omega (arith, ints)) | inr large ↦ inr (λ h. omega (arith, ints, h.0)) ]
 
--- A point at the front, or why there is none.
+-- A point at the start of the text, or the reason for which there is none.
 data PointOrFault (p : Point) (text : List ℕ) : Type 0 where
   is_point : (q : Point) (after : List ℕ) → text ≡ number_text (q.y -ℤ p.y) ++ (number_text (q.x -ℤ p.x) ++ after) → IsInRange q → PointOrFault p text
   no_point : (k : ℕ) (reason : PolyReason) → IsPointFault p text k reason → PointOrFault p text
@@ -24,7 +24,7 @@ data PointOrFault (p : Point) (text : List ℕ) : Type 0 where
 taken : (a b : ℤ) → (a +ℤ b) -ℤ a ≡ b
 taken a b = omega (arith, ints)
 
--- after a latitude
+-- the longitude after a latitude, or its fault
 longitude_or_fault : (p : Point) (text : List ℕ) (dy : ℤ) (after : List ℕ) → StartsWithNumber text dy after → IsCoordinate (p.y +ℤ dy) → PointOrFault p text
 longitude_or_fault p text dy [] latitude inside =
     no_point (length (number_text dy) + 0) Half (inr (record { difference = dy; after = []; latitude = latitude; inside = inside; within = 0; place = refl; fault = inl (refl, refl, refl) }))
@@ -67,14 +67,14 @@ data PointsOrFault (p : Point) (count max : ℕ) (text : List ℕ) : Type 0 wher
   no_points : (ps : List Point) (rest : List ℕ) (m k : ℕ) (reason : PolyReason) → text ≡ polyline_from p ps ++ rest → AreInRange ps → (rest ≡ [] → ⊥) → count + length ps ≡ m → IsNextFault (last_after p ps) m max rest k reason
       → PointsOrFault p count max text
 
--- a point more at the front
+-- one more point at the start of the text
 front_point : (p q : Point) (count max : ℕ) (text after : List ℕ) → text ≡ number_text (q.y -ℤ p.y) ++ (number_text (q.x -ℤ p.x) ++ after) → IsInRange q → PointsOrFault q (suc count) max after → PointsOrFault p count max text
 front_point p q count max text after split inside (are_points ps e are few) =
     are_points (q ∷ ps) (split ∙ ap (λ t. number_text (q.y -ℤ p.y) ++ (number_text (q.x -ℤ p.x) ++ t)) e) (inside, are) (omega arith)
 front_point p q count max text after split inside (no_points ps rest m k reason e are left count_is f) =
     no_points (q ∷ ps) rest m k reason (split ∙ ap (λ t. number_text (q.y -ℤ p.y) ++ (number_text (q.x -ℤ p.x) ++ t)) e ∙ sym (regroup p q ps rest)) (inside, are) left (omega arith) f
 
--- a point's text is not empty
+-- the text after a point is shorter
 shorter : (p q : Point) (text after : List ℕ) → text ≡ number_text (q.y -ℤ p.y) ++ (number_text (q.x -ℤ p.x) ++ after) → length after < length text
 shorter p q text after split =
     let dy = number_text (q.y -ℤ p.y) in
@@ -98,7 +98,7 @@ points_or_fault (suc turns) p count max (c ∷ cs) h few =
           ]
     ]
 
--- each text
+-- each text is a polyline or has a fault
 pub text_or_fault : (text : List ℕ) (max : ℕ) → ((ps : List Point) × DecodesTo text max ps) ⊎ ((offset : ℕ) × (reason : PolyReason) × IsTextFault text max offset reason)
 text_or_fault text max =
     elim (points_or_fault (length text) origin 0 max text (omega arith) (omega arith)) [

@@ -15,7 +15,7 @@ abbrev pub bases : ℕ → ℕ
 bases zero = 0
 bases (suc k) = 63 + 256 * bases k
 
--- the groups of a number in a word, each with its marks, are its characters
+-- the groups of a number in a word, each with its mark, are its characters
 spelled : (k j c n : ℕ) → suc c ≤ k → suc c ≤ j → n < 32 ^ suc c → (0 < c → 32 ^ c ≤ n) → low_digits 256 (suc c) (spread k n + marks (suc c) + bases j) ≡ shortest five_unit 32 n
 spelled zero j c n few room below above = absurd (omega arith)
 spelled (suc k) zero c n few room below above = absurd (omega arith)
@@ -38,7 +38,7 @@ spelled (suc k) (suc j) (suc c) n few room below above =
     ∙ ap (λ us. five_unit (n % 32) true ∷ us) (spelled k j c (n / 32) (omega arith) (omega arith) small (λ _. rest))
     ∙ sym (shortest_more five_unit 32 n (lit≤ tt) (omega arith))
 
--- the same by the count of its groups
+-- the groups in a word are the characters, by the number of groups
 pub spelled_groups : (k j n c : ℕ) → HasGroups n c → c ≤ k → c ≤ j → low_digits 256 c (spread k n + marks c + bases j) ≡ shortest five_unit 32 n
 spelled_groups k j n zero h few room = absurd (omega (arith, h.some))
 spelled_groups k j n (suc c) h few room =

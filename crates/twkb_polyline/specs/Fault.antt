@@ -9,7 +9,7 @@ use Rattle.twkb_polyline.specs.declared.fault.PolyReason.TheVariants.{BadChar, C
 use Rattle.twkb_polyline.specs.declared.fault.PolyFault.{PolyFault}
 use Rattle.twkb_polyline.specs.declared.fault.PolyFault.TheVariants.{Memory, At}
 
--- the most characters of a number
+-- the most characters that a number may have
 abbrev pub longest : ℕ
 longest = 13
 
@@ -17,16 +17,16 @@ longest = 13
 abbrev pub IsCharacter : ℕ → Type 0
 IsCharacter c = (63 ≤ c) × (c ≤ 126)
 
--- after the characters 95 to 126 a number goes on
+-- the characters 95 to 126, which say that more follow
 abbrev pub GoesOn : ℕ → Type 0
 GoesOn c = (95 ≤ c) × (c ≤ 126)
 
--- with the characters 63 to 94 it ends, and this is its last group
+-- a character from 63 to 94 ends a number, and this is its last group
 abbrev pub EndsIn : ℕ → ℕ → Type 0
 EndsIn c group = (c ≡ group + 63) × (group < 32)
 
--- The number at the front of `rest` has c as its character number k, from 0: all before it go on, and it is not past
--- the thirteenth.
+-- The number at the start of `rest` has c as its character number k, from 0: all characters
+-- before c say that more follow, and k is at most 12.
 pub record Reaches (rest : List ℕ) (k c : ℕ) : Type 0 where
   pub before : List ℕ
   pub after : List ℕ
@@ -54,7 +54,7 @@ pub record IsPadded (rest : List ℕ) : Type 0 where
   pub reached : Reaches rest place character
   pub zero : EndsIn character 0
 
--- what a number at the front of `rest` is refused for, and how far into it
+-- what a number at the start of `rest` is refused for, and at which offset in it
 abbrev pub IsNumberFault : List ℕ → ℕ → PolyReason → Type 0
 IsNumberFault rest k BadChar = (c : ℕ) × Reaches rest k c × ¬ IsCharacter c
 IsNumberFault rest k Cut = IsCut rest × (k ≡ 0)
@@ -64,29 +64,29 @@ IsNumberFault rest k Half = ⊥
 IsNumberFault rest k Range = ⊥
 IsNumberFault rest k TooMany = ⊥
 
--- The front of `rest` is a number of at most 64 bits in zigzag form, spelled as it should be.
+-- `rest` starts with a number of at most 64 bits in zigzag form, in its shortest spelling.
 pub record StartsWithNumber (rest : List ℕ) (n : ℤ) (after : List ℕ) : Type 0 where
   pub split : rest ≡ number_text n ++ after
   pub fits : zigzag_of n < 2 ^ 64
 
--- The front of `rest` is a difference that takes a coordinate out of its range.
+-- `rest` starts with a difference that takes a coordinate out of its range.
 pub record LeavesRange (coordinate : ℤ) (rest : List ℕ) : Type 0 where
   pub difference : ℤ
   pub after : List ℕ
   pub number : StartsWithNumber rest difference after
   pub outside : ¬ IsCoordinate (coordinate +ℤ difference)
 
--- what a coordinate at the front of `rest` is refused for: its number, or its range
+-- what a coordinate at the start of `rest` is refused for: a fault of its number, or its range
 abbrev pub IsCoordinateFault : ℤ → List ℕ → ℕ → PolyReason → Type 0
 IsCoordinateFault coordinate rest k reason =
     IsNumberFault rest k reason ⊎ (LeavesRange coordinate rest × (k ≡ 0) × (reason ≡ Range))
 
--- what a longitude is refused for: that no text is left for it, or as a coordinate
+-- what a longitude is refused for: that no text is left for it, or a fault of a coordinate
 abbrev pub IsLongitudeFault : ℤ → List ℕ → ℕ → PolyReason → Type 0
 IsLongitudeFault x rest k reason =
     ((rest ≡ []) × (k ≡ 0) × (reason ≡ Half)) ⊎ ((rest ≢ []) × IsCoordinateFault x rest k reason)
 
--- The front of `rest` is a latitude in range, and the longitude after it is refused.
+-- `rest` starts with a latitude in range, and the longitude after it is refused.
 pub record IsAfterLatitude (p : Point) (rest : List ℕ) (k : ℕ) (reason : PolyReason) : Type 0 where
   pub difference : ℤ
   pub after : List ℕ
@@ -96,12 +96,12 @@ pub record IsAfterLatitude (p : Point) (rest : List ℕ) (k : ℕ) (reason : Pol
   pub place : k ≡ length (number_text difference) + within
   pub fault : IsLongitudeFault p.x after within reason
 
--- what a point after p, at the front of `rest`, is refused for
+-- what a point after p, at the start of `rest`, is refused for
 abbrev pub IsPointFault : Point → List ℕ → ℕ → PolyReason → Type 0
 IsPointFault p rest k reason = IsCoordinateFault p.y rest k reason ⊎ IsAfterLatitude p rest k reason
 
--- what is refused where `count` points were read and text is left: a point too many, before any look at its characters,
--- or the point
+-- what is refused after `count` points, if text is left: a point too many, before any look at its
+-- characters, or the point itself
 abbrev pub IsNextFault : Point → ℕ → ℕ → List ℕ → ℕ → PolyReason → Type 0
 IsNextFault p count max rest k reason =
     ((count ≡ max) × (k ≡ 0) × (reason ≡ TooMany)) ⊎ ((count < max) × IsPointFault p rest k reason)
@@ -117,7 +117,7 @@ pub record IsTextFault (text : List ℕ) (max offset : ℕ) (reason : PolyReason
   pub place : offset ≡ length (polyline ps) + within
   pub fault : IsNextFault (last_after origin ps) (length ps) max rest within reason
 
--- The front of the text is the polyline of one point or more, all in range and at most `max`.
+-- The start of the text is the polyline of one point or more, all in range and at most `max`.
 pub record HasPoints (text : List ℕ) (max : ℕ) : Type 0 where
   pub ps : List Point
   pub rest : List ℕ
@@ -126,7 +126,7 @@ pub record HasPoints (text : List ℕ) (max : ℕ) : Type 0 where
   pub some : 1 ≤ length ps
   pub few : length ps ≤ max
 
--- what a refusal says of the text: want of memory comes only where a point was read
+-- what a refusal says of the text; memory can be refused only after a point was read
 abbrev pub IsRefused : List ℕ → ℕ → PolyFault → Type 0
 IsRefused text max Memory = HasPoints text max
 IsRefused text max (At offset reason) = IsTextFault text max offset reason

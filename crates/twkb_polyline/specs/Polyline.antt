@@ -6,7 +6,7 @@ use Rattle.twkb_num.specs.Zigzag.{zigzag_of}
 use Rattle.twkb_points.specs.Differences.{differences_from}
 use Rattle.twkb_points.specs.Point.{Point, AreInRange, origin}
 
--- a number's characters: the five-bit groups of its zigzag form, low group first
+-- a number's characters: the groups of five bits of its zigzag form, low group first
 abbrev pub number_text : ℤ → List ℕ
 number_text n = shortest five_unit 32 (zigzag_of n)
 
@@ -15,7 +15,7 @@ abbrev pub text_of : List (ℤ × ℤ) → List ℕ
 text_of [] = []
 text_of (d ∷ ds) = number_text d.1 ++ (number_text d.0 ++ text_of ds)
 
--- the text of points of which the first comes after p
+-- the text of points whose first one comes after p
 abbrev pub polyline_from : Point → List Point → List ℕ
 polyline_from p qs = text_of (differences_from p qs)
 
@@ -23,7 +23,7 @@ polyline_from p qs = text_of (differences_from p qs)
 abbrev pub polyline : List Point → List ℕ
 polyline ps = polyline_from origin ps
 
--- the last of the points, and p where there are none
+-- the last of the points; p if there are none
 abbrev pub last_after : Point → List Point → Point
 last_after p [] = p
 last_after p (q ∷ qs) = last_after q qs
@@ -34,7 +34,7 @@ pub record DecodesTo (text : List ℕ) (max : ℕ) (ps : List Point) : Type 0 wh
   pub in_range : AreInRange ps
   pub few : length ps ≤ max
 
--- The new points are the old ones, and behind them those whose polyline the text is.
+-- The new points are the old ones and then those whose polyline the text is.
 pub record AppendsDecoded (text : List ℕ) (max : ℕ) (old new : List Point) : Type 0 where
   pub ps : List Point
   pub appended : new ≡ old ++ ps

@@ -1,4 +1,5 @@
--- For the steps of a writer: points by pairs, and numbers' characters as the low bytes of a word, the first one lowest.
+-- For the steps of a writer: points in pairs, and the characters of numbers as the low bytes of a
+-- word, the first one lowest.
 use Rattle.std.specs.Prelude.{ℕ, zero, suc, ◌+◌, ◌*◌, ◌-◌, ◌<◌, ◌≤◌, ◌^◌, List, [], ◌∷◌, ◌++◌}
 use Rattle.twkb_num.specs.Digits.{low_digits, number_of}
 use Rattle.twkb_points.specs.Point.{Point}
@@ -12,7 +13,7 @@ points_of (pair ∷ pairs) = pair ++ points_of pairs
 abbrev pub spread : ℕ → ℕ → ℕ
 spread count n = number_of 256 (low_digits 32 count n)
 
--- A number has so many groups: one, or as many as it reaches.
+-- The number of groups of n: one for 0, and otherwise as many as its bits need.
 pub record HasGroups (n count : ℕ) : Type 0 where
   pub some : 1 ≤ count
   pub below : n < 32 ^ count

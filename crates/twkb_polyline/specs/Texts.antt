@@ -3,7 +3,7 @@ use Rattle.std.specs.Prelude.{ℕ, List, codes}
 use Rattle.twkb_polyline.specs.declared.fault.PolyReason.{PolyReason}
 use Rattle.twkb_polyline.specs.declared.fault.PolyReason.TheVariants as text
 
--- what is wrong with a text of points
+-- the text of each reason
 abbrev pub point_text_words : PolyReason → List ℕ
 point_text_words text.BadChar = codes "bad character"
 point_text_words text.Cut = codes "number cut short"

@@ -1,4 +1,4 @@
-//! Text to points.
+//! Decoding: from text to points.
 ghost use Rattle.std.specs.Prelude.{◌≡◌, ℕ, ◌<◌, ◌≤◌, List, ◌++◌, length, drop, ◌⊎◌, ◌∷◌, [], IfOk, IfErr, IfSome, IfNone, OnOk, OnErr, MatchResult};
 ghost use Rattle.twkb_points.specs.Point.{Point, IsInRange};
 ghost use Rattle.twkb_polyline.specs.Polyline.{AppendsDecoded, DecodesTo};
@@ -12,13 +12,13 @@ use std::alloc::{AllocError, Global};
 use twkb_num::{BLOCK, Five, Partial, Step, character_ends, unzigzag};
 use twkb_points::{Cursor, PointTail, Pt};
 
-/// The points whose polyline the text is, at most `max` of them (Encoded Polyline Algorithm
-/// Format). Any other text is refused at its first fault. Takes memory for the points alone.
+/// Decodes a polyline of at most `max` points (Encoded Polyline Algorithm Format). Refuses any
+/// other text at its first fault. Takes memory for the points alone.
 pub fn decode(alloc: Global, text: &[u8], max: u32) -> Result<Vec<Pt>, PolyFault>
     ensures decodes { IfOk result (λ points. DecodesTo text.now max points.items) }
     ensures refuses { IfErr result (IsRefused text.now max) }
 
-    // so each polyline gives its points, and each other text its fault, unless memory is refused
+    // each polyline gives its points, and each other text its fault, unless memory is refused
     ensures each_polyline { (ps : List Point) → DecodesTo text.now max ps →
         MatchResult result (λ points. points.items ≡ ps) (λ fault. fault ≡ PolyFault.Memory) }
     ensures each_fault { (offset : ℕ) (reason : PolyReason) → IsTextFault text.now max offset reason →
@@ -30,8 +30,8 @@ pub fn decode(alloc: Global, text: &[u8], max: u32) -> Result<Vec<Pt>, PolyFault
     Ok(points)
 }
 
-/// Appends the points whose polyline the text is, at most `max` of them. After a refusal the
-/// points are as they were. Reads none of the points that stand there.
+/// Decodes a polyline of at most `max` points and appends them. A refusal leaves the points as
+/// they were. The points already in the list are not read.
 pub fn decode_into<L: PointTail>(text: &[u8], max: u32, points: &mut L) -> Result<(), PolyFault>
     ensures decodes { OnOk result (AppendsDecoded text.now max (L.held points.old) (L.held points.new)) }
     ensures refuses { IfErr result (IsRefused text.now max) }
@@ -45,7 +45,7 @@ pub fn decode_into<L: PointTail>(text: &[u8], max: u32, points: &mut L) -> Resul
     result
 }
 
-/// The point whose polyline the text is, and `None` where it is not the polyline of just one. Takes no memory.
+/// Decodes a polyline of exactly one point; `None` for any other text. Takes no memory.
 #[inline(always)]
 pub fn decode_one(text: &[u8]) -> Option<Pt>
     ensures point { IfSome result (λ point. DecodesTo text.now 1 (point ∷ [])) }
@@ -97,16 +97,17 @@ fn read_points<L: PointTail>(text: &[u8], max: u32, points: &mut L) -> Result<()
     Ok(())
 }
 
-// How many points are taken at once, and how many numbers they have.
+// The number of points taken at once, and of their numbers.
 const POINTS: usize = 8;
 
 const NUMBERS: u32 = 16;
 
-// How many characters behind the last look blocks are looked for again.
+// The number of characters after a search for blocks before the next search.
 const APART: usize = 32;
 
-// Appends points from `start` on, eight at a time, as far as their numbers are found in blocks, so many at most. Where the text goes
-// on. After an `Err` those before the refusal are there.
+// Fast path: appends points from `start` on, eight at a time, as long as their numbers are found
+// in blocks, and at most `room` points. Returns where the text goes on. After an `Err` the points
+// before the refusal are appended.
 #[inline(never)]
 fn read_eights<L: PointTail>(
     text: &[u8],
@@ -140,7 +141,7 @@ fn read_eights<L: PointTail>(
     Ok(at)
 }
 
-// The point whose latitude begins at `start`, and where the text goes on.
+// Reads the point whose latitude begins at `start`, and where the text goes on.
 #[inline(always)]
 fn next_point(text: &[u8], start: usize, cursor: &mut Cursor) -> Result<(Pt, usize), PolyFault>
     requires { start < length text.now }
@@ -155,7 +156,8 @@ fn next_point(text: &[u8], start: usize, cursor: &mut Cursor) -> Result<(Pt, usi
     }
 }
 
-// The same step by step, so that a fault is found in its place.
+// Reads that point number by number, so that a fault is found at its place. Out of line: only
+// points that the fast path refuses get here.
 #[cold]
 fn point_at(text: &[u8], start: usize, cursor: &mut Cursor) -> Result<(Pt, usize), PolyFault>
     requires { start < length text.now }
@@ -178,7 +180,7 @@ fn point_at(text: &[u8], start: usize, cursor: &mut Cursor) -> Result<(Pt, usize
     }
 }
 
-// The number that begins at `start`, and where the text goes on.
+// Reads the number that begins at `start`, and where the text goes on.
 fn number_at(text: &[u8], start: usize) -> Result<(i64, usize), PolyFault>
     requires { start < length text.now }
     ensures read { IfOk result (λ r. IsNumberAt text.now start r.0 r.1) }

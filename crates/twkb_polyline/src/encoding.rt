@@ -1,4 +1,4 @@
-//! Points to text.
+//! Encoding: from points to text.
 ghost use Rattle.std.specs.Prelude.{◌≡◌, ◌≤◌, ◌+◌, [], ◌∷◌, ℕ, List, ◌++◌, length, IfOk, OnOk, OnErr};
 ghost use Rattle.twkb_polyline.specs.Polyline.{polyline, polyline_from, last_after};
 ghost use Rattle.twkb_polyline.specs.Spelling.{points_of};
@@ -9,7 +9,7 @@ use std::alloc::{AllocError, Global};
 use twkb_num::{Piece, zigzag};
 use twkb_points::{Cursor, Pt};
 
-/// The polyline of the points, in a vector of its own (Encoded Polyline Algorithm Format). Takes
+/// Encodes the points as a polyline, in a new vector (Encoded Polyline Algorithm Format). Takes
 /// memory for the text alone.
 pub fn encode(alloc: Global, points: &[Pt]) -> Result<Vec<u8>, AllocError>
     ensures { IfOk result (λ text. text.items ≡ polyline points.now) }
@@ -19,7 +19,7 @@ pub fn encode(alloc: Global, points: &[Pt]) -> Result<Vec<u8>, AllocError>
     Ok(text)
 }
 
-/// Appends the polyline of the points. Where memory is refused, the text is as it was.
+/// Appends the polyline of the points to a text. If memory is refused, the text is unchanged.
 pub fn encode_into(points: &[Pt], text: &mut Vec<u8>) -> Result<(), AllocError>
     ensures appended { OnOk result (text.new.items ≡ text.old.items ++ polyline points.now) }
     ensures same { OnErr result (text.new.items ≡ text.old.items) }
@@ -32,7 +32,8 @@ pub fn encode_into(points: &[Pt], text: &mut Vec<u8>) -> Result<(), AllocError>
     result
 }
 
-/// Appends the polyline of one point to a piece (Encoded Polyline Algorithm Format): at most 26 characters. Takes no memory.
+/// Appends the polyline of one point to a piece (Encoded Polyline Algorithm Format): at most 26
+/// characters. Takes no memory.
 #[inline(always)]
 pub fn encode_point(point: Pt, piece: &mut Piece<128>)
     requires room { length piece.old + 32 ≤ 128 }
@@ -43,8 +44,8 @@ pub fn encode_point(point: Pt, piece: &mut Piece<128>)
     push_point(&mut cursor, point, piece);
 }
 
-// Appends the polyline of the points, or a front of it where memory is refused: two points at a time,
-// whose four numbers fill a vector.
+// Appends the polyline of the points, or a prefix of it if memory is refused. It takes two points
+// at a time, whose four numbers fill a vector.
 fn put_points(points: &[Pt], text: &mut Vec<u8>) -> Result<(), AllocError>
     ensures appended { OnOk result (text.new.items ≡ text.old.items ++ polyline points.now) }
     ensures grown { (more : List ℕ) × (text.new.items ≡ text.old.items ++ more) }
@@ -60,8 +61,8 @@ fn put_points(points: &[Pt], text: &mut Vec<u8>) -> Result<(), AllocError>
     Ok(())
 }
 
-// Appends the characters of some pairs of points, or a front of them where memory is refused. A function
-// of its own, so that a list of one point does not pay for it.
+// Appends the characters of some pairs of points, or a prefix of them if memory is refused. Out
+// of line, so that a list of one point does not pay for it.
 #[inline(never)]
 fn put_pairs(pairs: &[[Pt; 2]], cursor: &mut Cursor, text: &mut Vec<u8>) -> Result<(), AllocError>
     ensures appended { OnOk result (text.new.items ≡ text.old.items ++ polyline_from cursor.old (points_of pairs.now)) }
@@ -77,8 +78,8 @@ fn put_pairs(pairs: &[[Pt; 2]], cursor: &mut Cursor, text: &mut Vec<u8>) -> Resu
     flush(&mut piece, text)
 }
 
-// Appends the characters of two points to what the piece holds, or a front of all that to the text where
-// memory is refused.
+// Appends the characters of two points to the piece, or a prefix of both to the text if memory is
+// refused.
 #[inline(always)]
 fn push_pair(
     cursor: &mut Cursor,
@@ -103,7 +104,7 @@ fn push_pair(
     )
 }
 
-// Appends the characters of a point, or none where memory is refused.
+// Appends the characters of a point to the text, or nothing if memory is refused.
 #[inline(always)]
 fn put_point(cursor: &mut Cursor, point: Pt, text: &mut Vec<u8>) -> Result<(), AllocError>
     ensures appended { OnOk result (text.new.items ≡ text.old.items ++ polyline_from cursor.old (point ∷ [])) }
@@ -115,7 +116,7 @@ fn put_point(cursor: &mut Cursor, point: Pt, text: &mut Vec<u8>) -> Result<(), A
     flush(&mut characters, text)
 }
 
-// Appends the characters of a point to what the piece holds.
+// Appends the characters of a point to the piece.
 #[inline(always)]
 fn push_point(cursor: &mut Cursor, point: Pt, piece: &mut Piece<128>)
     requires room { length piece.old + 32 ≤ 128 }

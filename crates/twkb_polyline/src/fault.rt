@@ -1,11 +1,11 @@
-//! Why a text is no polyline, and where.
+//! The reasons for which a text is no polyline, and their places.
 ghost use Rattle.std.specs.Prelude.{◌≡◌, ◌≤◌, length};
 ghost use Rattle.twkb_polyline.specs.Texts.{point_text_words};
 
 use std::alloc::AllocError;
 use thiserror::Error;
 
-/// Why a text is no polyline: what is met first from its front (reasons and order: profile).
+/// Why a text is no polyline: the first fault from its start (reasons and order: profile).
 #[derive(Clone, Copy, Debug, PartialEq, Eq, Error)]
 #[error("{}", self.text())]
 pub enum PolyReason {
@@ -21,7 +21,7 @@ pub enum PolyReason {
     Half,
     /// A coordinate outside -2^62 to 2^62 - 1.
     Range,
-    /// Text is left after as many points as are allowed.
+    /// Text is left after as many points as allowed.
     TooMany,
 }
 
@@ -43,7 +43,7 @@ impl PolyReason {
         }
     }
 
-    // The refusal for this reason at this offset.
+    // Makes the refusal for this reason at this offset.
     pub(crate) fn at(self, offset: usize) -> PolyFault
         ensures { result ≡ PolyFault.At offset self }
     {
@@ -63,9 +63,9 @@ pub enum PolyFault {
     /// The text is refused.
     #[error("{reason} at {offset}")]
     At {
-        /// Where, in bytes from the front of the text.
+        /// The offset of the fault, in bytes from the start of the text.
         offset: usize,
-        /// Why.
+        /// The reason.
         reason: PolyReason,
     },
 }

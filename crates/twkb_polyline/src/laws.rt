@@ -1,4 +1,4 @@
-//! Laws of polylines, each the contract of a function that does nothing.
+//! Laws of polylines, each stated as the contract of an empty function.
 ghost use Rattle.std.specs.Prelude.{◌≡◌, ℕ, ◌-◌, ◌^◌, ◌≤◌, ◌↔◌, ◌⊎◌, pos, negsuc, List, [], ◌∷◌, ◌++◌, length, codes};
 ghost use Rattle.std.specs.List.{AllByRecursion};
 ghost use Rattle.twkb_num.specs.Alphabet.{five_unit};
@@ -19,27 +19,27 @@ pub fn no_polyline()
         IsTextFault text max offset reason → DecodesTo text max ps → ⊥ }
 {}
 
-/// A text has one fault at most: one offset, and one reason.
+/// A text has at most one fault: one offset and one reason.
 pub fn one_fault()
     ensures { (text : List ℕ) (max o p : ℕ) (r s : PolyReason) →
         IsTextFault text max o r → IsTextFault text max p s → (o ≡ p) × (r ≡ s) }
 {}
 
-/// Each text is a polyline of points in range, at most `max` of them, or it has a fault.
+/// Each text is a polyline of at most `max` points in range, or it has a fault.
 pub fn polyline_or_fault()
     ensures { (text : List ℕ) (max : ℕ) → ((ps : List Point) × DecodesTo text max ps) ⊎
         ((offset : ℕ) × (reason : PolyReason) × IsTextFault text max offset reason) }
 {}
 
-/// A thirteenth character that ends a number has a group of 16 or more exactly where the number
-/// has more than 64 bits.
+/// A thirteenth character that ends a number has a group of 16 or more exactly if the number has
+/// more than 64 bits.
 pub fn too_long_numbers()
     ensures { (us : List ℕ) (c group : ℕ) → AllByRecursion GoesOn us → length us ≡ 12 → EndsIn c group →
         ((16 ≤ group) ↔ IsAbove five_unit 32 (us ++ c ∷ [])) }
 {}
 
-/// The definition gives the texts that are printed in the format's page, and that its steps give
-/// by hand at the ends of the range.
+/// Checks by computation that the definition gives the texts printed on the format's page, and
+/// the texts that its steps give by hand at the ends of the range.
 pub fn samples()
     ensures number { number_text (negsuc 17998320) ≡ codes "`~oia@" }
     ensures example { polyline (point_at (negsuc 12019999) (pos 3850000) ∷ point_at (negsuc 12094999) (pos 4070000)

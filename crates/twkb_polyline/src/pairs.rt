@@ -1,13 +1,14 @@
-//! Two points whose numbers stand whole in a text, read at once.
-ghost use Rattle.std.specs.Prelude.{◌≡◌, ◌≤◌, ◌/◌, ◌^◌, IfSome, IfNone, length, drop};
+//! Several points whose numbers are complete in the text, read at once.
+ghost use Rattle.std.specs.Prelude.{◌≡◌, ℕ, ◌+◌, ◌≤◌, ◌/◌, ◌^◌, IfSome, IfNone, length, drop};
 ghost use Rattle.twkb_num.specs.Block.{AreEnds};
 ghost use Rattle.twkb_points.specs.Point.{IsInRange};
+ghost use Rattle.twkb_points.specs.Near.{IsNear};
 ghost use Rattle.twkb_polyline.specs.Reading.{ArePointsAt, IsPairAt};
 
 use twkb_num::{BLOCK, four_characters, four_characters_by};
 use twkb_points::{Cursor, Pt};
 
-// Two points, one behind the other, and where the text goes on.
+// Two points, one after the other, and where the text goes on.
 #[derive(Clone, Copy)]
 pub(crate) struct Pair {
     pub(crate) first: Pt,
@@ -15,7 +16,8 @@ pub(crate) struct Pair {
     pub(crate) end: usize,
 }
 
-// The points whose four numbers begin at `start`, where there is room for both. `None` says nothing.
+// Fast path: reads the two points whose four numbers begin at `start`, if there is room for both.
+// `None` proves nothing about the text.
 #[inline(always)]
 pub(crate) fn two_points(
     text: &[u8],
@@ -45,40 +47,41 @@ pub(crate) fn two_points(
     })
 }
 
-// The points that four numbers in front lead to, by the ends that `character_ends` found, moved to where this text begins, and how
-// many characters they have; not found where the point before them is no inner one. Behind these characters the ends are moved by
-// as many bits.
+// Fast path: reads the two points at the start of the text, and the number of their characters,
+// from a point so near the origin that the range needs no test. `ends` are the ends that
+// `character_ends` found, shifted to where this text begins; shifted by that number more, they are
+// the ends after the two points.
 #[inline(always)]
 fn two_by(from: Pt, text: &[u8], ends: u64) -> Option<(Pt, Pt, usize)>
+    requires near { IsNear 6 from }
     requires long { 16 ≤ length text.now }
     requires ends { AreEnds 63 32 text.now ends }
     ensures read { IfSome result (λ two. IsPairAt text.now 0 from two.0 two.1 two.2) }
     ensures in_range { IfSome result (λ two. IsInRange two.0 × IsInRange two.1) }
+    ensures onward { IfSome result (λ two. (n : ℕ) → IsNear n from → IsNear (n + 2) two.1) }
     ensures few { IfSome result (λ two. two.2 ≤ 16) }
     ensures rest { IfSome result (λ two. AreEnds 63 32 (drop two.2 text.now) (ends / 2 ^ two.2)) }
 {
-    if !from.is_inner() {
-        return None;
-    }
     let four = four_characters_by(text, ends)?;
     let one = from.step(four.second, four.first);
     let two = one.step(four.fourth, four.third);
     Some((one, two, four.used))
 }
 
-// Eight points in front of a text, one behind the other.
+// The first eight points of a text.
 #[derive(Clone, Copy)]
 pub(crate) struct Eight {
     pub(crate) points: [Pt; 8],
-    // The last of them.
+    // The last of the eight points.
     pub(crate) last: Pt,
-    // How many characters they have.
+    // The number of characters of the eight points.
     pub(crate) used: usize,
-    // The ends of numbers behind these.
+    // The ends of the numbers after the eight points.
     pub(crate) ends: u64,
 }
 
-// The points that sixteen numbers in front lead to. `None` says nothing.
+// Fast path: reads the eight points of the first sixteen numbers; only from an inner point, so that
+// none of the eight can be out of range. `None` proves nothing about the text.
 #[inline(always)]
 pub(crate) fn eight_points(from: Pt, text: &[u8], ends: u64) -> Option<Eight>
     requires { AreEnds 63 32 text.now ends }
@@ -87,6 +90,9 @@ pub(crate) fn eight_points(from: Pt, text: &[u8], ends: u64) -> Option<Eight>
     ensures rest { IfSome result (λ eight. AreEnds 63 32 (drop eight.used text.now) eight.ends) }
 {
     if text.len() < BLOCK {
+        return None;
+    }
+    if !from.is_inner() {
         return None;
     }
     let (a, b, two) = two_by(from, text, ends)?;

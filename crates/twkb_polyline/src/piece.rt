@@ -1,10 +1,10 @@
-//! Characters that are gathered on the stack, and appended to the text when their piece is full.
+//! Characters gathered on the stack, and moved to the text when their piece is full.
 ghost use Rattle.std.specs.Prelude.{◌≡◌, ◌≤◌, ◌+◌, ◌++◌, [], ℕ, List, length, OnOk, OnErr};
 
 use std::alloc::AllocError;
 use twkb_num::Piece;
 
-// Appends what the piece holds to the text and empties it, or changes nothing where memory is refused.
+// Appends what the piece holds to the text and empties it, or changes nothing if memory is refused.
 #[inline(always)]
 pub(crate) fn flush(piece: &mut Piece<128>, text: &mut Vec<u8>) -> Result<(), AllocError>
     ensures appended { OnOk result (text.new.items ≡ text.old.items ++ piece.old) }
@@ -16,7 +16,7 @@ pub(crate) fn flush(piece: &mut Piece<128>, text: &mut Vec<u8>) -> Result<(), Al
     Ok(())
 }
 
-// Has room for so many characters more, after a flush where there was none.
+// Makes room for `count` more characters: the piece is flushed if it has too little.
 #[inline(always)]
 pub(crate) fn make_room(
     count: usize,

@@ -1,5 +1,5 @@
-//! Several numbers as characters at once, with no branch on how many characters each has: in tracks
-//! numbers of one, two and three characters are mixed, and no processor foresees which comes next.
+//! Several numbers spelled at once, with no branch on their lengths: tracks mix numbers of one,
+//! two and three characters, so such a branch can't be predicted.
 ghost use Rattle.std.specs.Prelude.{◌≡◌, ◌+◌, ◌<◌, ◌≤◌, ◌^◌, [], ◌∷◌, ℕ, List, ◌++◌, length, OnOk};
 ghost use Rattle.twkb_num.specs.Alphabet.{five_unit};
 ghost use Rattle.twkb_num.specs.Spelling.{shortest};
@@ -10,23 +10,23 @@ use std::alloc::AllocError;
 use std::simd::{u32x4, u64x2};
 use twkb_num::{Five, Groups, NumBuf, Piece};
 
-// The room that four numbers of two words take, each word stored whole.
+// The room for four numbers in two words, since each word is stored whole.
 const STEP: usize = 16;
 
-// Room enough for four numbers of any size: 13 characters each, the last words stored whole.
+// The room for four numbers of any size: 13 characters each, and the last words stored whole.
 const FAR_STEP: usize = 64;
 
-// Numbers below it have one group of five bits.
+// Numbers below this have one group of five bits.
 const TWO_GROUPS: u64 = 1 << 5;
 
-// Numbers below it have at most four groups, which a lane of 32 bits holds.
+// Numbers below this have at most four groups, which a lane of 32 bits holds.
 const FOUR_GROUPS: u64 = 1 << 20;
 
-// Numbers below it have at most eight, which a word of 64 bits holds.
+// Numbers below this have at most eight groups, which a word of 64 bits holds.
 const EIGHT_GROUPS: u64 = 1 << 40;
 
-// Appends the characters of four numbers to what the piece holds, or a front of all that to the text
-// where memory is refused. Nearly all numbers of a track are below 2^20.
+// Appends the characters of four numbers to the piece, or a prefix of them to the text if memory
+// is refused. Nearly all numbers of a track are below 2^20.
 #[inline(always)]
 #[tactic(auto, using(std::proofs::lemmas::Nat::le_or_l, std::proofs::lemmas::Nat::le_or_r))]
 pub(crate) fn push_four(
@@ -60,8 +60,8 @@ pub(crate) fn push_four(
     Ok(())
 }
 
-// Appends the characters of four numbers that have one each, as those of short steps have all: four
-// bytes of one word.
+// Fast path: appends four numbers of one character each, as short steps have, as four bytes of
+// one word.
 #[inline(always)]
 fn push_characters(first: u64, second: u64, third: u64, fourth: u64, piece: &mut Piece<128>)
     requires first_few { first < 32 }
@@ -82,7 +82,7 @@ fn push_characters(first: u64, second: u64, third: u64, fourth: u64, piece: &mut
     piece.push_low(u64::from(u32::from_le_bytes(characters)), 4);
 }
 
-// The character of a number of one group.
+// The character of a number that has one group.
 #[inline(always)]
 fn one_character(number: u64) -> u8
     requires { number < 32 }
@@ -91,8 +91,8 @@ fn one_character(number: u64) -> u8
     Five::to_unit(number as u8, false)
 }
 
-// Appends the characters of two numbers to what the piece holds: at most 13 each. Each fills two lanes by
-// its lower and its upper four groups.
+// Appends the characters of two numbers to the piece: at most 13 each. Each number fills two
+// lanes, with its lower and its upper four groups.
 #[inline(always)]
 #[tactic(auto, using(std::proofs::lemmas::Nat::le_or_l, std::proofs::lemmas::Nat::le_or_r))]
 pub(crate) fn push_two(first: u64, second: u64, piece: &mut Piece<128>)
@@ -120,7 +120,8 @@ pub(crate) fn push_two(first: u64, second: u64, piece: &mut Piece<128>)
     );
 }
 
-// Appends the characters of a number of any size: at most 13. Few texts have one that needs this.
+// Appends the characters of a number of any size to the piece: at most 13. Out of line: few texts
+// need it.
 #[inline(never)]
 fn push_one(number: u64, piece: &mut Piece<128>)
     requires room { length piece.old + 13 ≤ 128 }
@@ -130,7 +131,7 @@ fn push_one(number: u64, piece: &mut Piece<128>)
     piece.push_all(NumBuf::put::<Five>(number).as_slice());
 }
 
-// The groups of four numbers, each group in a byte of its number's lane.
+// Spreads the groups of four numbers, one group in each byte of the number's lane.
 #[inline(always)]
 fn spread_four(first: u32, second: u32, third: u32, fourth: u32) -> u32x4
     requires first_few { first < 2 ^ 20 }
@@ -147,7 +148,7 @@ fn spread_four(first: u32, second: u32, third: u32, fourth: u32) -> u32x4
         + ((numbers >> 15) << 24)
 }
 
-// Appends the characters of a number whose groups stand in a word, each in a byte.
+// Appends the characters of a number whose groups are in a word, one group in each byte.
 #[inline(always)]
 fn push_spread(number: u64, groups: u64, piece: &mut Piece<128>)
     requires few { number < 2 ^ 40 }
@@ -161,7 +162,7 @@ fn push_spread(number: u64, groups: u64, piece: &mut Piece<128>)
     piece.push_low(groups + marks + 0x3f3f_3f3f_3f3f_3f3f, count);
 }
 
-// How many groups a number has: one for 0.
+// The number of groups of a number: 1 for 0.
 #[inline(always)]
 fn group_count(number: u64) -> u32
     requires { number < 2 ^ 40 }

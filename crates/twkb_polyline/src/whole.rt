@@ -1,4 +1,4 @@
-//! Points whose numbers stand whole in a text.
+//! Fast path: points whose numbers are complete in the text.
 ghost use Rattle.std.specs.Prelude.{◌≡◌, ◌+◌, ◌<◌, true, false, Some, IfSome, IfNone, get_or, length};
 ghost use Rattle.twkb_num.specs.Alphabet.{five_group};
 ghost use Rattle.twkb_points.specs.Point.{IsInRange};
@@ -7,13 +7,14 @@ ghost use Rattle.twkb_polyline.specs.Reading.{IsNumberAt, IsPointAt, IsBegun};
 use twkb_num::unzigzag;
 use twkb_points::{Cursor, Pt};
 
-// Bits of a group.
+// The number of bits in a group.
 const BITS: u32 = 5;
 
 // The shift of a thirteenth group, the last that a number may have.
 const LAST_SHIFT: u32 = 12 * BITS;
 
-// The point whose latitude begins at `start`, and where the text goes on. `None` says nothing.
+// Reads the point whose latitude begins at `start`, and where the text goes on. `None` proves
+// nothing about the text.
 #[inline(always)]
 pub(crate) fn whole_point(text: &[u8], start: usize, cursor: &mut Cursor) -> Option<(Pt, usize)>
     ensures read { IfSome result (λ r. IsPointAt text.now start cursor.old r.0 r.1) }
@@ -27,7 +28,7 @@ pub(crate) fn whole_point(text: &[u8], start: usize, cursor: &mut Cursor) -> Opt
     Some((point, end))
 }
 
-// The group of a character behind which a number goes on.
+// The group of a character that says that more follow.
 #[inline(always)]
 fn open_group(unit: u8) -> Option<u64>
     ensures { IfSome result (λ group. five_group unit ≡ Some (group, true)) }
@@ -49,7 +50,8 @@ fn last_group(unit: u8) -> Option<u64>
     }
 }
 
-// The number that begins at `start`, and where the text goes on. `None` says nothing.
+// Reads the number that begins at `start`, and where the text goes on. `None` proves nothing
+// about the text.
 #[inline(always)]
 fn whole_number(text: &[u8], start: usize) -> Option<(i64, usize)>
     ensures { IfSome result (λ r. IsNumberAt text.now start r.0 r.1) }
@@ -62,7 +64,7 @@ fn whole_number(text: &[u8], start: usize) -> Option<(i64, usize)>
     later_number(text, start, first)
 }
 
-// The same of a number whose first character goes on, and has this group.
+// Goes on reading a number whose first character has this group and says that more follow.
 #[inline(always)]
 fn later_number(text: &[u8], start: usize, first: u64) -> Option<(i64, usize)>
     requires within { start < length text.now }
@@ -80,7 +82,7 @@ fn later_number(text: &[u8], start: usize, first: u64) -> Option<(i64, usize)>
     long_number(text, start, first + (second << BITS))
 }
 
-// The same of a number whose first two characters go on, and have this value.
+// Goes on reading a number whose first two characters have this value and say that more follow.
 #[inline(always)]
 fn long_number(text: &[u8], start: usize, begun: u64) -> Option<(i64, usize)>
     requires { IsBegun text.now start (start + 2) begun }

@@ -1,4 +1,4 @@
--- A record that is judged a row is the record of that row, and the row may come next.
+-- A record whose verdict is a row is the record of that row, and the row may come next.
 use Rattle.std.proofs.Common.{◌≡◌, ℕ, zero, suc, ◌+◌, ◌<◌, ◌≤◌, ◌==◌, true, false, List, [], ◌∷◌, length, Option, Some, None, refl, sym, ap, subst, arith, inl, inr}
 use Rattle.std.specs.Prelude.{ℤ, ◌&&◌, decimal, is_some, IfSome}
 use Rattle.std.proofs.lemmas.Bool.{cases_Bool, true≢false}
@@ -19,7 +19,7 @@ use Rattle.twkb_table.specs.Judged.{Accepted, When, Unless, place_of, points_lef
 use Rattle.twkb_table.specs.declared.reason.RowReason.TheVariants.{FieldCount, BadDepth, BadKind, BadPlace, TooDeep, TooManyNodes, BadId, IdNotAllowed, MixedIds, BadPrecision, PrecisionMissing, PrecisionNotAllowed, PolylineNotAllowed, Polyline, PointCount}
 use Rattle.twkb_table.proofs.Verdicts.{not_false, both_true, both, accepted_apart, same_accepted, passed, found}
 
--- a precision of its own where the row is a geometry of its own, and else none
+-- a row that is a geometry itself has its precision, and any other row has none
 precision_ok : (p : Option Row) (q : Option ℤ) → ((is_whole p ≡ true) × (is_some q ≡ false) → ⊥) → ((is_whole p ≡ false) × (is_some q ≡ true) → ⊥) → precision_fits p q ≡ true
 precision_ok p None missing extra = elim (cases_Bool (is_whole p)) [ inl w ↦ absurd (missing (w, refl)) | inr w ↦ rw w refl ]
 precision_ok p (Some n) missing extra = elim (cases_Bool (is_whole p)) [ inl w ↦ rw w refl | inr w ↦ absurd (extra (w, refl)) ]
@@ -33,7 +33,7 @@ pub record Passed (l : Allowance) (before : List Row) (fields : Record) (r : Row
   pub text : fields ≡ record_of r
   pub accepts : Accepts l before r
 
--- the points so far are few enough
+-- there are few enough points so far
 abbrev pub HasRoom : Allowance → List Row → Type 0
 HasRoom l before = (d : ℕ) → point_count (geometry_rows d before) ≤ l.points
 
@@ -117,7 +117,7 @@ judged_row l before (a ∷ b ∷ c ∷ e ∷ f ∷ []) r room h =
     stood.0 stood.1 (not_false (nest_kept l p d) nest.0) (omega (arith, nodes.0)) (not_false (id_allowed p k id) allowed.0) (not_false (has_same_ids (first_child d before) id) same.0)
     (precision_ok p q missing.0 extra.0) (room d)
 
--- ---- what the rows so far leave
+-- ---- what the rows so far allow
 
 rows_there : (d : ℕ) (before : List Row) → (d == 0) ≡ false → geometry_rows d before ≡ since_root before
 rows_there zero before e = absurd (true≢false e)
@@ -129,7 +129,7 @@ below_root l r before a e =
     let few = a.points in
     omega (arith, few, ap point_count same)
 
--- accepted rows have no more points than a geometry may have
+-- accepted rows have at most as many points as a geometry may have
 pub has_room : (l : Allowance) (before : List Row) → AreAccepted l before → HasRoom l before
 has_room l before a zero = omega arith
 has_room l [] a (suc d) = omega arith

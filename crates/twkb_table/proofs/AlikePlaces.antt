@@ -1,4 +1,4 @@
--- What a record is judged by the open rows, it is judged by the rows so far.
+-- The verdict on a record by the open rows is the verdict by the rows so far.
 use Rattle.std.proofs.Common.{◌≡◌, ℕ, ◌<◌, ◌≤◌, true, false, List, [], length, Option, Some, None, sym, ◌∙◌, ap, subst, arith}
 use Rattle.std.specs.Prelude.{ℤ, is_some, nat_le}
 use Rattle.std.proofs.lemmas.Bool.Decides.{nat_tests}
@@ -15,9 +15,10 @@ use Rattle.twkb_tree.specs.Standing.{standing_at}
 use Rattle.twkb_tree.proofs.OpenRefusal.{kind_under, ids_under, nodes_under, points_under}
 use Rattle.twkb_table.specs.Standing.{place_seen, StandsAfter}
 
--- ---- the chain looks at the kind of the parent and at whether the first child has an id
+-- ---- the chain of reasons looks only at the kind of the parent and at whether the first child
+-- has an id
 
--- some row of this kind
+-- a row of this kind
 abbrev of_kind : Kind → Row
 of_kind kind = record { depth = 0; kind = kind; id = None; precision = None; points = [] }
 
@@ -30,7 +31,7 @@ parent_alike l d (Some p) None f nodes points k id_field field text v e j = cc e
 parent_alike l d (Some p) (Some q) f nodes points k id_field field text v e j =
     subst (λ (kind : Kind). JudgedByPlace l (record { depth = d; steps = true; parent = Some (of_kind kind); first = f; nodes = nodes; points = points }) k id_field field text v) (head_kind p q e) j
 
--- some row with this id
+-- a row with this id
 abbrev of_id : Option ℤ → Row
 of_id id = record { depth = 0; kind = Kind.Point; id = id; precision = None; points = [] }
 
@@ -70,6 +71,6 @@ judged_there l before rows nodes points d k id_field field text v stands le j =
     let e = subst (λ n. JudgedByPlace l (record { depth = d; steps = true; parent = parent d before; first = first_child d before; nodes = length (geometry_rows d before); points = n }) k id_field field text v) (ap (count_at d) stands.points_held ∙ points_under d before) c in
     subst (λ s. JudgedByPlace l (record { depth = d; steps = s; parent = parent d before; first = first_child d before; nodes = length (geometry_rows d before); points = point_count (geometry_rows d before) }) k id_field field text v) steps e
 
--- a row may not stand deeper than one below the last row
+-- a row may not be more than one level below the last row
 pub steps_missing : (before : List Row) (rows : List OpenRow) (nodes points d : ℕ) → StandsAfter before rows nodes points → length rows < d → steps_to d before ≡ false
 steps_missing before rows nodes points d stands lt = steps_open d before rows stands.open_rows ∙ far d (length rows) lt

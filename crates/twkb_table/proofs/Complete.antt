@@ -1,4 +1,4 @@
--- What a fault leaves complete.
+-- The geometries that a fault leaves complete.
 use Rattle.std.proofs.Common.{◌≡◌, ℕ, ◌≤◌, List, [], ◌∷◌, length, refl, sym, ◌∙◌, ap, arith, inl, inr}
 use Rattle.std.specs.Prelude.{map}
 use Rattle.twkb_tree.specs.Tree.{Tree, simple, collection}
@@ -10,7 +10,7 @@ use Rattle.twkb_table.specs.RowFault.{RowFault, AreComplete, all_but_last}
 use Rattle.twkb_table.specs.declared.reason.RowReason.{RowReason}
 use Rattle.twkb_table.proofs.FaultLaws.{header_stands, are_one}
 
--- one list of geometries
+-- a fault leaves one list of geometries complete
 pub one_complete : (l : Allowance) (records : List Record) (m n : ℕ) (why reason : RowReason) (gs hs : List Tree) → IsAllowance l → AreComplete l records m why gs → AreComplete l records n reason hs → gs ≡ hs
 one_complete l records m n why reason gs hs cap (inl f) (inl g) = f.3 ∙ sym g.3
 one_complete l records m n why reason gs hs cap (inl f) (inr g) = absurd (header_stands l records n reason f.0 g.0)

@@ -1,4 +1,4 @@
--- Each record is judged some way, so that records name geometries or have a fault.
+-- Each record has a verdict, so that records name geometries or have a fault.
 use Rattle.std.proofs.Common.{◌≡◌, ℕ, ◌≤◌, ◌⊎◌, Bool, true, false, List, [], ◌∷◌, Option, refl, arith, inl, inr}
 use Rattle.std.specs.Prelude.{ℤ, is_some, ◌&&◌, nat_le}
 use Rattle.std.proofs.lemmas.Bool.{true≢false, false≢true}
@@ -26,7 +26,7 @@ use Rattle.twkb_polyline.proofs.TextOrFault.{text_or_fault}
 use Rattle.twkb_table.proofs.DecimalsDecided.{SomeOrNone, decided_depth, decided_kind, decided_optional_id, decided_optional_precision}
 use Rattle.twkb_table.proofs.ReadingLaws.{reads_table}
 
--- P holds, or it does not
+-- P holds or does not hold
 abbrev Decided : Type 0 → Type 0
 Decided P = P ⊎ (P → ⊥)
 
@@ -51,9 +51,9 @@ some_text : (text : List ℕ) → Decided (text ≡ [] → ⊥)
 some_text [] = inr (λ h. h refl)
 some_text (c ∷ cs) = inl (λ e. cc e)
 
--- ---- each step of the chain tells some verdict
+-- ---- each step of the chain gives a verdict
 
--- some verdict is told
+-- there is a verdict
 abbrev pub Told : (Verdict → Type 0) → Type 0
 Told S = (v : Verdict) × S v
 
@@ -103,7 +103,7 @@ by_place l here k id_field field text =
     (told_when _ Nodes TooDeep (is_false (nest_kept l p here.depth))
     (told_when _ (JudgedById l here k id_field field text) TooManyNodes (le_by l.nodes here.nodes (nat_le l.nodes here.nodes) refl) (by_id l here k id_field field text)))
 
--- each record is judged some way
+-- each record has a verdict
 pub some_verdict : (l : Allowance) (before : List Row) (fields : Record) → Told (Judged l before fields)
 some_verdict l before [] = (Refused FieldCount, refl)
 some_verdict l before (a ∷ []) = (Refused FieldCount, refl)

@@ -1,4 +1,4 @@
--- Whether a field spells a number, a depth, a precision, an id or a kind can be decided.
+-- It can be decided whether a field spells a number, a depth, a precision, an id or a kind.
 use Rattle.std.proofs.Common.{◌≡◌, ℕ, zero, suc, ◌<◌, ◌≤◌, ◌^◌, ◌==◌, ◌⊎◌, Bool, true, false, List, [], ◌∷◌, Option, Some, None, get_or, refl, sym, ◌∙◌, ap, subst, arith, inl, inr, ne_eqb}
 use Rattle.std.specs.Prelude.{ℤ, pos, negsuc, decimal, nat_le}
 use Rattle.std.specs.Fmt.{signed_decimal}
@@ -17,13 +17,13 @@ use Rattle.twkb_tree.specs.Kind.{word_of}
 use Rattle.twkb_table.proofs.DecimalLemmas.{mag-id, depth-id, precision-id, depth_number, precision_number}
 use Rattle.twkb_table.proofs.FieldLemmas.{kind_from, kind_from-word_of}
 
--- a value has P, or none has
+-- a value has P, or no value has it
 abbrev pub SomeOrNone : {A : Type 0} → (A → Type 0) → Type 0
 SomeOrNone {A} P = ((a : A) × P a) ⊎ ((a : A) → P a → ⊥)
 
 -- ---- the number that a field may spell
 
--- less than 0, where the number is not 0
+-- the negative of a number that is not 0
 abbrev negative : ℕ → ℤ
 negative zero = pos 0
 negative (suc m) = negsuc m
@@ -88,7 +88,7 @@ precision_of : (field : List ℕ) → SomeOrNone (IsIdField field) → SomeOrNon
 precision_of field (inl (n, h)) = precision_by field n (is_precision n) h refl
 precision_of field (inr none) = inr (λ q h. none q (h.0, precision-id q h.1))
 
--- ---- numbers or none
+-- ---- optional numbers
 
 optional_id_of : (field : List ℕ) → SomeOrNone (IsIdField field) → SomeOrNone (IsOptionalId field)
 optional_id_of [] d = inl (None, (refl, tt))

@@ -1,4 +1,4 @@
--- A fault excludes geometries, and records have one fault at most.
+-- A fault excludes geometries, and records have at most one fault.
 use Rattle.std.proofs.Common.{◌≡◌, ℕ, ◌<◌, List, [], ◌∷◌, ◌++◌, length, refl, sym, ◌∙◌, ap, subst, arith, append_assoc, length-append, inl, inr}
 use Rattle.std.specs.Prelude.{map, reverse}
 use Rattle.twkb_tree.specs.Tree.{Tree}
@@ -16,7 +16,7 @@ use Rattle.twkb_table.proofs.Tables.{one_table, table_front}
 snoc_some : (xs : List Record) (y : Record) → xs ++ y ∷ [] ≡ [] → ⊥
 snoc_some xs y e = omega (arith, ap length e, length-append xs (y ∷ []))
 
--- ---- a fault and geometries exclude each other
+-- ---- records with a fault name no geometries
 
 pub later_none : (l : Allowance) (records : List Record) (number : ℕ) (reason : RowReason) → IsLaterFault l records number reason → NamesNone l records
 later_none l records number reason f gs n =
@@ -34,7 +34,7 @@ fault_none l records number reason (inr f) gs n = later_none l records number re
 
 -- ---- a fault has one place
 
--- two ways to split a list: the longer front goes on from the shorter one
+-- two ways to split a list: the longer first part continues the shorter one
 longer : (xs ys : List Record) (x y : Record) (more rest : List Record) → xs ++ x ∷ more ≡ ys ++ y ∷ rest → length xs < length ys → (zs : List Record) × (ys ≡ (xs ++ x ∷ []) ++ zs)
 longer [] [] x y more rest e lt = absurd (omega arith)
 longer [] (b ∷ ys) x y more rest e lt = (ys, ap (λ q. q ∷ ys) (sym (head_same x b more (ys ++ y ∷ rest) e)))
@@ -63,7 +63,7 @@ same_number m n a b = omega arith
 pub header_stands : (l : Allowance) (records : List Record) (n : ℕ) (reason : RowReason) → HasNoHeader records → IsLaterFault l records n reason → ⊥
 header_stands l records n reason h g = front_header l g.before records (g.here ∷ g.more) g.geometries h g.split g.named
 
--- two ways to split a list with fronts of one length are one
+-- two ways to split a list with first parts of the same length are equal
 same_split : (xs ys : List Record) (x y : Record) (more rest : List Record) → xs ++ x ∷ more ≡ ys ++ y ∷ rest → length xs ≡ length ys → (xs ≡ ys) × (x ≡ y)
 same_split [] [] x y more rest e n = (refl, head_same x y more rest e)
 same_split [] (b ∷ ys) x y more rest e n = absurd (omega arith)
@@ -73,7 +73,7 @@ same_split (a ∷ xs) (b ∷ ys) x y more rest e n =
     let t = same_split xs ys x y more rest (tail_same a b (xs ++ x ∷ more) (ys ++ y ∷ rest) e) (omega arith) in
     (ap (λ q. q ∷ xs) h ∙ ap (λ qs. b ∷ qs) t.0, t.1)
 
--- Two faults of the same records.
+-- Two faults of the same records are equal.
 pub record AreOne (l : Allowance) (records : List Record) (m n : ℕ) (why other : RowReason) (f : IsLaterFault l records m why) (g : IsLaterFault l records n other) : Type 0 where
   pub number : m ≡ n
   pub geometries : f.geometries ≡ g.geometries
@@ -95,7 +95,7 @@ are_one l records m n why other f g cap =
     let same = one_table l g.before f.geometries g.geometries cap there g.named in
     record { number = number; geometries = same; reason = judged_alike l f.geometries g.geometries f.here g.here why other same parts.1 f.judged g.judged }
 
--- records have one fault at most
+-- records have at most one fault
 pub one_fault : (l : Allowance) (records : List Record) (m n : ℕ) (why reason : RowReason) → IsAllowance l → RowFault l records m why → RowFault l records n reason → (m ≡ n) × (why ≡ reason)
 one_fault l records m n why reason cap (inl f) (inl g) = (f.1 ∙ sym g.1, f.2 ∙ sym g.2)
 one_fault l records m n why reason cap (inl f) (inr g) = absurd (header_stands l records n reason f.0 g)

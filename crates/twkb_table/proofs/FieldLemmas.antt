@@ -18,7 +18,7 @@ use Rattle.twkb_table.proofs.DecimalLemmas.{mag-id, one_id, precision-id}
 
 -- ---- words
 
--- l, m or c is the first letter of the words of ten letters
+-- the kind of a word of ten letters, whose first letter is l, m or c
 abbrev pub kind_of_ten : List ℕ → Kind
 kind_of_ten [] = kind.Point
 kind_of_ten (c ∷ cs) = if c == 108 then kind.Linestring else if c == 109 then kind.MultiPoint else kind.Collection
@@ -43,11 +43,11 @@ kind_from-word_of kind.MultiLinestring = refl
 kind_from-word_of kind.MultiPolygon = refl
 kind_from-word_of kind.Collection = refl
 
--- no two kinds have one word
+-- two kinds with the same word are equal
 pub one_word : (j k : Kind) → word_of j ≡ word_of k → j ≡ k
 one_word j k e = sym (kind_from-word_of j) ∙ ap kind_from e ∙ kind_from-word_of k
 
--- ---- lists of one front element and one rest
+-- ---- lists with a first element
 
 pub head_same : {A : Type 0} (x y : A) (xs ys : List A) → x ∷ xs ≡ y ∷ ys → x ≡ y
 head_same x y xs ys e = cc e
@@ -57,7 +57,7 @@ tail_same x y xs ys e = cc e
 
 -- ---- numbers
 
--- two depths of one decimal are one
+-- two depths with the same decimal are equal
 pub one_depth : (d e : ℕ) → d ≤ 999 → e ≤ 999 → decimal d ≡ decimal e → d ≡ e
 one_depth d e p q h = decimal_injective d e (omega arith) (omega arith) h
 
@@ -66,14 +66,14 @@ some_decimal : (n : ℤ) → IsId n → signed_decimal n ≡ [] → ⊥
 some_decimal (pos m) p e = let few = mag-id (pos m) p in let some = decimal_nonempty m (omega arith) in omega (arith, ap length e)
 some_decimal (negsuc m) p e = cc e
 
--- two numbers or none of one text are one
+-- two optional numbers with the same text are equal
 pub one_optional : (a b : Option ℤ) → IfSome a IsId → IfSome b IsId → optional a ≡ optional b → a ≡ b
 one_optional None None p q e = refl
 one_optional None (Some b) p q e = absurd (some_decimal b q (sym e))
 one_optional (Some a) None p q e = absurd (some_decimal a p e)
 one_optional (Some a) (Some b) p q e = ap (λ z. Some z) (one_id a b p q e)
 
--- a precision or none is an i64 or none
+-- an optional precision is an optional i64
 pub precision-ids : (precision : Option ℤ) → IfSome precision IsPrecision → IfSome precision IsId
 precision-ids None h = tt
 precision-ids (Some n) h = precision-id n h
@@ -94,7 +94,7 @@ same_row r s same_depth same_kind same_id same_precision same_points =
     ∙ ap (λ (x : Option ℤ). record { depth = s.depth; kind = s.kind; id = s.id; precision = x; points = r.points }) same_precision
     ∙ ap (λ (x : List Point). record { depth = s.depth; kind = s.kind; id = s.id; precision = s.precision; points = x }) same_points
 
--- two rows of one record are one
+-- two rows with the same record are equal
 pub one_record : (r s : Row) → IsPlain r → IsPlain s → record_of r ≡ record_of s → r ≡ s
 one_record r s p q e =
     let depths : decimal r.depth ≡ decimal s.depth = cc e in
@@ -112,7 +112,7 @@ one_record r s p q e =
 abbrev pub ArePlain : List Row → Type 0
 ArePlain rs = AllByRecursion IsPlain rs
 
--- two lists of rows of the same records are one
+-- two lists of rows with the same records are equal
 pub one_list : (rs ss : List Row) → ArePlain rs → ArePlain ss → map record_of rs ≡ map record_of ss → rs ≡ ss
 one_list [] [] p q e = refl
 one_list [] (s ∷ ss) p q e = cc e

@@ -1,4 +1,5 @@
--- One record more: records that name geometries go on to name geometries exactly where the record is judged a row.
+-- One more record: records that name geometries still name geometries with it exactly if its
+-- verdict is a row.
 use Rattle.std.proofs.Common.{◌≡◌, List, [], ◌∷◌, ◌++◌, refl, sym, ◌∙◌, ap, subst}
 use Rattle.std.specs.Prelude.{map, reverse}
 use Rattle.twkb_tree.specs.Tree.{Tree}
@@ -19,7 +20,7 @@ map-append : (rs ss : List Row) → map record_of (rs ++ ss) ≡ map record_of r
 map-append [] ss = refl
 map-append (r ∷ rs) ss = ap (λ xs. record_of r ∷ xs) (map-append rs ss)
 
--- one record more names geometries
+-- the records with one more name geometries
 pub record Grown (l : Allowance) (records : List Record) (gs : List Tree) (r : Row) : Type 0 where
   pub geometries : List Tree
   pub named : Named l records geometries
@@ -38,7 +39,7 @@ grows l records here gs r n j =
       rows = v.2;
     }
 
--- what the last record of a named list is
+-- the last record of a list that names geometries
 pub record Last (l : Allowance) (here : Record) (gs hs : List Tree) : Type 0 where
   pub row : Row
   pub rows : rows_of hs ≡ rows_of gs ++ row ∷ []
@@ -71,7 +72,7 @@ last_row l records here gs hs cap n m =
       plain = (subst ArePlain end.1 plain.1).0;
     }
 
--- whatever the last record of a named list is judged, it is a row
+-- the verdict on the last record of a list that names geometries is a row
 pub only_accepted : (l : Allowance) (records : List Record) (here : Record) (gs hs : List Tree) (v : Verdict) → IsAllowance l → Named l records gs → Named l (records ++ here ∷ []) hs → Judged l (reverse (rows_of gs)) here v → (r : Row) × (v ≡ Accepted r)
 only_accepted l records here gs hs v cap n m j =
     let last = last_row l records here gs hs cap n m in

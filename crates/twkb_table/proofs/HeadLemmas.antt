@@ -26,24 +26,24 @@ use Rattle.twkb_table.specs.RowReading.{JudgedAfter}
 use Rattle.twkb_table.specs.declared.head.RowHead.{RowHead}
 use Rattle.twkb_table.proofs.RowReaderLemmas.{accepts_next}
 
--- points that were put behind none are all that are held
+-- points appended to an empty list are all points in it
 pub given_row : (head : RowHead) (row : Bare) (cleared points own : List Point) → row ≡ head_row head → cleared ≡ [] → points ≡ cleared ++ own → row_with (head_row head) own ≡ row_with row points
 given_row head row cleared points own row_is none put =
     ap (row_with (head_row head)) (sym (put ∙ ap (λ (xs : List Point). xs ++ own) none)) ∙ ap (λ r. row_with r points) (sym row_is)
 
--- A row that a record is judged after the rows of one geometry, and that they accept.
+-- The verdict on a record after the rows of one geometry is a row that they accept.
 pub record ComesNext (l : Allowance) (rows : List Row) (fields : Record) (row : Row) : Type 0 where
   pub judged : JudgedAfter l rows fields (Accepted row)
   pub accepts : Accepts l (reverse rows) row
 
--- where the record is what the points make of it, it is the row with the points that were given
+-- if the verdict on the record is that on its points, it is the row with the points given
 pub comes_next : (l : Allowance) (rows : List Row) (fields : Record) (head : RowHead) (row : Row) (own : List Point) → AreValidRowsOfOne l rows → ((v : Verdict) → JudgedAs head v → JudgedAfter l rows fields v)
     → row_with (head_row head) own ≡ row → JudgedAs head (Accepted (row_with (head_row head) own)) → ComesNext l rows fields row
 comes_next l rows fields head row own of_one read row_is given =
     let judged : JudgedAfter l rows fields (Accepted row) = subst (λ r. JudgedAfter l rows fields (Accepted r)) row_is (read (Accepted (row_with (head_row head) own)) given) in
     record { judged = judged; accepts = accepts_next l rows fields row of_one (judged []) }
 
--- a point's text is that of a row of kind point where there is room for it
+-- a text of one point is that of a row of kind point, if there is room for it
 one_accepted : (head : RowHead) (p : Point) → head.kind ≡ kind.Point → head.standing.points < head.limits.points → DecodesTo head.text.now 1 (p ∷ []) → JudgedAs head (Accepted (row_with (head_row head) (p ∷ [])))
 one_accepted head p is room read =
     let fits : points_fit head.kind (is_whole (place_seen head.standing).parent) (p ∷ []) ≡ true = ap (λ k. points_fit k (is_whole (place_seen head.standing).parent) (p ∷ [])) is in
@@ -55,7 +55,7 @@ one_judged head (Some p) is room read = one_accepted head p is room read
 
 -- ---- the points of a row
 
--- the kind of the row has no points, and its record has a text of them
+-- the kind of the row has no points, but its record has a text of points
 abbrev pub HasNeedlessText : RowHead → Type 0
 HasNeedlessText head = (head.text.now ≢ []) × (has_points head.kind ≡ false)
 
@@ -73,7 +73,7 @@ pub not_allowed : (head : RowHead) (empty has : Bool) → empty ≡ (length head
 not_allowed head empty has is some of_kind none =
     inl ((λ nil. true≢false (ap (λ (t : List ℕ). length t == 0) (sym nil) ∙ sym is ∙ some), sym of_kind ∙ none), refl)
 
--- so many points are left to the row
+-- this many points are left for the row
 abbrev pub AreLeft : RowHead → ℕ → ℕ → Type 0
 AreLeft head points left = (points ≡ head.limits.points) × (left ≡ points - head.standing.points)
 
@@ -92,7 +92,7 @@ has_grown text left held count old new a before after = omega (arith, before, af
 pub cut_back : (text : List ℕ) (left held : ℕ) (old new back : List Point) → AppendsDecoded text left old new → held ≡ length old → back ≡ take held new → back ≡ old
 cut_back text left held old new back a before cut = cut ∙ ap (take held) a.appended ∙ take_at old a.ps held (sym before)
 
--- whether as many points as the list grew by fit the row
+-- whether the row may have as many points as the list grew by
 abbrev pub TellsFit : RowHead → Bool → ℕ → Bool → Type 0
 TellsFit head whole count fits = (whole ≡ is_whole (place_seen head.standing).parent) × ((ps : List Point) → length ps ≡ count → points_fit head.kind whole ps ≡ fits)
 

@@ -1,4 +1,4 @@
--- A record is judged a row exactly where it is that row's record and the row may come next.
+-- The verdict on a record is a row exactly if it is that row's record and the row may come next.
 use Rattle.std.proofs.Common.{◌≡◌, ◌≤◌, List, [], ◌∷◌, ◌++◌, subst, sym}
 use Rattle.std.specs.Prelude.{◌↔◌, reverse}
 use Rattle.twkb_tree.specs.Limits.{Allowance, IsAllowance}
@@ -16,7 +16,7 @@ last_shallow : (rs : List Row) (r : Row) → AreShallow 999 (rs ++ r ∷ []) →
 last_shallow [] r h = h.0
 last_shallow (s ∷ rs) r h = last_shallow rs r h.1
 
--- a row that may come next is no deeper than a field may say
+-- a row that may come next is no deeper than a field can say
 pub depth_fits : (l : Allowance) (rs : List Row) (r : Row) → IsAllowance l → AreValidRows l rs → Accepts l (reverse rs) r → r.depth ≤ 999
 depth_fits l rs r cap v a = let g = row_accepted l rs r v a in last_shallow rs r (subst (AreShallow 999) g.2 (shallow_rows l g.0 cap g.1))
 

@@ -1,4 +1,4 @@
--- The lines of rows, put one after the other.
+-- The lines of rows, appended one after the other.
 use Rattle.std.proofs.Common.{◌≡◌, ℕ, ◌+◌, ◌<◌, ◌≤◌, List, [], ◌∷◌, ◌++◌, length, length-append, take, drop, get_or, slice_get, Some, arith, refl, sym, ◌∙◌, ap, subst, append_assoc, append-nil}
 use Rattle.std.specs.Prelude.{map, Result, OnOk}
 use Rattle.std.proofs.lemmas.List.{map-append, take_all, take_more, take-append-drop}
@@ -26,7 +26,7 @@ no_lines = refl
 pub grows_by : (old new xs : List ℕ) → new ≡ old ++ xs → Grows old new
 grows_by old new xs e = (xs, e)
 
--- first so, then so
+-- a text that grows twice grows
 pub grows_on : (old mid new : List ℕ) → Grows old mid → Grows mid new → Grows old new
 grows_on old mid new g h = (g.0 ++ h.0, h.1 ∙ ap (λ t. t ++ h.0) g.1 ∙ append_assoc old g.0 h.0)
 
@@ -35,7 +35,7 @@ grows_on old mid new g h = (g.0 ++ h.0, h.1 ∙ ap (λ t. t ++ h.0) g.1 ∙ appe
 cons_append : (x : ℕ) (xs ys : List ℕ) → (x ∷ xs) ++ ys ≡ x ∷ (xs ++ ys)
 cons_append x xs ys = refl
 
--- four fields, the second between two commas and a comma behind the others, put behind at once, then the fifth
+-- four fields, with commas after each, appended at once, and then the fifth
 pub fields_put : {T E : Type 0} (result : Result T E) (old depth kind id precision line head field a b c : List ℕ) → head ≡ ((depth ++ 44 ∷ (kind ++ 44 ∷ [])) ++ id) ++ 44 ∷ (precision ++ 44 ∷ []) → field ≡ head → a ≡ old ++ field → b ≡ a ++ line
     → OnOk result (c ≡ b ++ 10 ∷ []) → OnOk result (c ≡ old ++ csvtext ((depth ∷ kind ∷ id ∷ precision ∷ line ∷ []) ∷ []))
 fields_put result old depth kind id precision line head field a b c gathered same ea eb told =
@@ -47,7 +47,7 @@ fields_put result old depth kind id precision line head field a b c gathered sam
 pub just_one : {A : Type 0} (xs : List A) (x : A) → 1 ≤ length xs → length xs < 2 → x ≡ get_or xs 0 x → xs ≡ x ∷ []
 just_one xs x some few first = sym (take_all 1 xs (omega (arith, some, few))) ∙ take_more xs 0 x (omega (arith, some)) ∙ ap (λ y. y ∷ []) (sym first)
 
--- the five fields and the line feed, put behind at once
+-- the five fields and the line feed, appended at once
 pub line_put : {T E : Type 0} (result : Result T E) (old depth kind id precision line head fields whole given new : List ℕ) → head ≡ ((depth ++ 44 ∷ (kind ++ 44 ∷ [])) ++ id) ++ 44 ∷ (precision ++ 44 ∷ []) → fields ≡ head ++ line → whole ≡ fields ++ 10 ∷ [] → given ≡ whole
     → OnOk result (new ≡ old ++ given) → OnOk result (new ≡ old ++ csvtext ((depth ∷ kind ∷ id ∷ precision ∷ line ∷ []) ∷ []))
 line_put result old depth kind id precision line head fields whole given new gathered spelled ended same told =
@@ -55,7 +55,8 @@ line_put result old depth kind id precision line head fields whole given new gat
     let text : old ++ given ≡ old ++ csvtext ((depth ∷ kind ∷ id ∷ precision ∷ line ∷ []) ∷ []) = ap (λ t. old ++ t) all ∙ simp (append_assoc, append-nil, cons_append) in
     subst (λ u. OnOk result (new ≡ u)) text told
 
--- the lines of the rows before the place i were put behind `old`, and no more than these rows and their points were read
+-- the lines of the rows before place i were appended to `old`, and at most these rows and their
+-- points were read
 pub record RowsPut (rows : List Row) (i : ℕ) (old text : List ℕ) (before work : Work) : Type 0 where
   pub lines : text ≡ old ++ row_lines (take i rows)
   pub nodes : work.node_reads ≤ before.node_reads + i
@@ -87,7 +88,7 @@ rows_put_more rows i r old text after before work next so_far here counted put =
 pub all_lines : (rows : List Row) (i : ℕ) (old text : List ℕ) (before work : Work) → RowsPut rows i old text before work → i ≡ length rows → text ≡ old ++ row_lines rows
 all_lines rows i old text before work so_far end = so_far.lines ∙ ap (λ (rs : List Row). old ++ row_lines rs) (take_all i rows (omega (arith, end)))
 
--- no more points were read than there are
+-- at most as many points were read as there are
 pub few_points : (rows : List Row) (i : ℕ) (old text : List ℕ) (before work : Work) → RowsPut rows i old text before work → work.point_reads ≤ before.point_reads + length (row_points rows)
 few_points rows i old text before work so_far =
     let both : row_points (take i rows) ++ row_points (drop i rows) ≡ row_points rows = sym (flat_map-append (λ (q : Row). q.points) (take i rows) (drop i rows)) ∙ ap row_points (take-append-drop i rows) in

@@ -1,4 +1,4 @@
--- What the geometries are after one record more.
+-- The geometries after one more record.
 use Rattle.std.proofs.Common.{◌≡◌, ◌+◌, ◌<◌, List, [], ◌∷◌, ◌++◌, length, refl, sym, ◌∙◌, ap, append_assoc, inr}
 use Rattle.std.specs.Prelude.{map, reverse}
 use Rattle.twkb_tree.specs.Tree.{Tree}
@@ -16,25 +16,25 @@ use Rattle.twkb_table.specs.declared.reason.RowReason.{RowReason}
 use Rattle.twkb_table.proofs.AcceptedRecords.{judged_row, has_room}
 use Rattle.twkb_table.proofs.Growing.{grows, refused_none}
 
--- the records name these geometries and one more, whose rows these are
+-- the records name these geometries and one more with these rows
 pub record NamedWith (l : Allowance) (records : List Record) (given : List Tree) (so_far : List Row) : Type 0 where
   pub geometry : Tree
   pub named : Named l records (given ++ geometry ∷ [])
   pub rows_are : rows 0 geometry ≡ so_far
 
--- a record that is judged a row is accepted
+-- a record whose verdict is a row is accepted
 pub row_accepts : (l : Allowance) (records : List Record) (here : Record) (gs : List Tree) (row : Row) → Named l records gs → Judged l (reverse (rows_of gs)) here (Accepted row) → Accepts l (reverse (rows_of gs)) row
 row_accepts l records here gs row n j =
     let room = has_room l (reverse (rows_of gs)) (accepted_rows l (rows_of gs) (gs, n.valid, refl)) in
     (judged_row l (reverse (rows_of gs)) here row room j).accepts
 
--- geometries with one row more than those that records name
+-- the geometries with one more row than those that the records name
 named_by : (l : Allowance) (records : List Record) (here : Record) (gs hs : List Tree) (row : Row) → Named l records gs → Judged l (reverse (rows_of gs)) here (Accepted row) → rows_of hs ≡ rows_of gs ++ row ∷ [] → records ++ here ∷ [] ≡ table hs
 named_by l records here gs hs row n j e =
     let grown = grows l records here gs row n j in
     grown.named.table_of ∙ ap (λ (rs : List Row). header ∷ map record_of rs) (grown.rows ∙ sym e)
 
--- another row of the last geometry
+-- the row is one more row of the last geometry
 pub row_more : (l : Allowance) (records : List Record) (here : Record) (given : List Tree) (g : Tree) (row : Row) → Named l records (given ++ g ∷ []) → Judged l (reverse (rows_of (given ++ g ∷ []))) here (Accepted row) → 0 < row.depth
     → NamedWith l (records ++ here ∷ []) given (rows 0 g ++ row ∷ [])
 row_more l records here given g row n j below =
@@ -51,7 +51,7 @@ row_more l records here given g row n j below =
       rows_are = grown.2;
     }
 
--- the root of another geometry
+-- the row is the root of another geometry
 pub root_more : (l : Allowance) (records : List Record) (here : Record) (gs : List Tree) (row : Row) → Named l records gs → Judged l (reverse (rows_of gs)) here (Accepted row) → row.depth ≡ 0 → NamedWith l (records ++ here ∷ []) gs (row ∷ [])
 root_more l records here gs row n j root =
     let new = new_geometry l (rows_of gs) row (row_accepts l records here gs row n j) root in
@@ -64,7 +64,7 @@ root_more l records here gs row n j root =
       rows_are = new.2;
     }
 
--- a refused record leaves all but the last of the geometries
+-- a refused record leaves all geometries but the last
 pub refused_more : (l : Allowance) (records : List Record) (here : Record) (gs : List Tree) (reason : RowReason) → IsAllowance l → Named l records gs → Judged l (reverse (rows_of gs)) here (Refused reason)
     → AreComplete l (records ++ here ∷ []) (length records + 1) reason (all_but_last gs)
 refused_more l records here gs reason cap n j =

@@ -1,4 +1,4 @@
--- A record is judged in one way.
+-- A record has only one verdict.
 use Rattle.std.proofs.Common.{◌≡◌, ℕ, List, [], ◌∷◌, Option, sym, ◌∙◌, ap, subst, inl, inr}
 use Rattle.std.specs.Prelude.{ℤ}
 use Rattle.twkb_points.specs.Point.{Point}

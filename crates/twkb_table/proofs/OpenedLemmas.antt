@@ -1,4 +1,4 @@
--- The open rows after one more row, by their end.
+-- The open rows after one more row, from their last ones.
 use Rattle.std.proofs.Common.{◌≡◌, ℕ, zero, suc, ◌+◌, ◌-◌, ◌<◌, ◌≤◌, Bool, None, List, [], ◌∷◌, ◌++◌, length, take, set, get_or, refl, sym, ◌∙◌, ap, arith, length-append}
 use Rattle.std.specs.Prelude.{is_some}
 use Rattle.std.proofs.Math.Seq.{take-append_seam}
@@ -8,15 +8,15 @@ use Rattle.twkb_tree.specs.declared.open_rows.OpenRow.{OpenRow}
 use Rattle.twkb_tree.specs.Rows.{Row}
 use Rattle.twkb_tree.specs.Open.{opened, first_answer}
 
--- the row that stands last
+-- the open row of the last row
 abbrev pub entered : Row → OpenRow
 entered r = record { kind = r.kind; child_ids = None }
 
--- the parent, which has had a child
+-- the open row of the parent, with a child noted
 abbrev pub noted : OpenRow → Row → OpenRow
 noted o r = record { kind = o.kind; child_ids = first_answer o.child_ids (is_some r.id) }
 
--- a row of this kind enters so
+-- the open row of a row of this kind
 pub as_entered : (r : Row) (k : Kind) → r.kind ≡ k → record { kind = k; child_ids = None } ≡ entered r
 as_entered r k is = ap (λ (x : Kind). record { kind = x; child_ids = None }) (sym is)
 
@@ -39,7 +39,7 @@ opened_some (suc (suc d)) (o ∷ p ∷ os) (y ∷ ys) q r le e =
     let h = heads o y (take (suc d) (p ∷ os)) (ys ++ q ∷ []) e in
     ap (λ x. x ∷ opened (suc d) (p ∷ os) r) h.0 ∙ ap (λ xs. y ∷ xs) (opened_some (suc d) (p ∷ os) ys q r (omega arith) h.1)
 
--- only the rows above it count
+-- the open rows after a row depend only on those above it
 pub opened_front : (d n : ℕ) (os : List OpenRow) (r : Row) → d ≤ n → n ≤ length os → opened d (take n os) r ≡ opened d os r
 opened_front zero n os r le few = refl
 opened_front (suc d) zero os r le few = absurd (omega (arith, le))
@@ -47,12 +47,12 @@ opened_front (suc d) (suc n) [] r le few = absurd (omega (arith, few))
 opened_front (suc zero) (suc n) (o ∷ os) r le few = refl
 opened_front (suc (suc d)) (suc n) (o ∷ os) r le few = ap (λ xs. o ∷ xs) (opened_front (suc d) n os r (omega (arith, le)) (omega (arith, few)))
 
--- and not what comes after them
+-- the open rows after a row do not depend on those below it
 pub opened_before : (d : ℕ) (os more : List OpenRow) (r : Row) → d ≤ length os → opened d (os ++ more) r ≡ opened d os r
 opened_before d os more r le =
     sym (opened_front d (length os) (os ++ more) r le (omega (arith, length-append os more))) ∙ ap (λ (xs : List OpenRow). opened d xs r) (take-append_seam os more)
 
--- a row is written after its parent, which notes it
+-- a row is written after its parent, which notes it as a child
 pub row_written : (os : List OpenRow) (d : ℕ) (r : Row) (e x q : OpenRow) (b : Bool) → 0 < d → d < length os → e ≡ entered r
     → q ≡ record { kind = (get_or (set os d e) (d - 1) x).kind; child_ids = first_answer (get_or (set os d e) (d - 1) x).child_ids b } → b ≡ is_some r.id
     → take (d + 1) (set (set os d e) (d - 1) q) ≡ opened d os r
@@ -75,7 +75,7 @@ row_written os d r e x q b below within is notes bit =
     ∙ (ap (λ o. (take i os ++ noted p r ∷ []) ++ o ∷ []) is
     ∙ sym (opened_some d os (take i os) p r (omega (arith, within)) cut)))))
 
--- the places after the open ones do not count
+-- places after the open rows have no effect
 pub opened_in : (d n : ℕ) (items now : List OpenRow) (r : Row) → n ≤ length items → now ≡ take n items → d ≤ length now → opened d items r ≡ opened d now r
 opened_in d n items now r few is le =
     let size = length-take-le n items few in

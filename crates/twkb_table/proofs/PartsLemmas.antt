@@ -1,4 +1,4 @@
--- Tables joined, and cut before a root.
+-- Tables that are joined, and tables that are cut before a root.
 use Rattle.std.proofs.Common.{◌≡◌, ◌∙◌, List, [], ◌∷◌, ◌++◌, ap, arith, sym, subst}
 use Rattle.std.specs.Prelude.{map}
 use Rattle.std.proofs.lemmas.Fmt.{decimal_injective}
@@ -17,7 +17,7 @@ use Rattle.twkb_table.specs.Parts.{BeginAtRoot}
 use Rattle.twkb_table.proofs.FieldLemmas.{tail_same}
 use Rattle.twkb_table.proofs.Tables.{geometries, shallow_rows, split}
 
--- the records of geometries, and of others behind them
+-- the records of two lists of geometries, one after the other
 pub records-append : (gs hs : List Tree) → map record_of (rows_of (gs ++ hs)) ≡ map record_of (rows_of gs) ++ map record_of (rows_of hs)
 records-append gs hs = ap (λ rs. map record_of rs) (flat_map-append (rows 0) gs hs) ∙ map-append record_of (rows_of gs) (rows_of hs)
 

@@ -1,4 +1,4 @@
--- The plain reader answers the geometries that records name, or their fault.
+-- The plain reader returns the geometries that records name, or their fault.
 use Rattle.std.proofs.Common.{◌≡◌, ℕ, suc, ◌+◌, Bool, true, false, List, [], ◌∷◌, ◌++◌, length, refl, sym, ◌∙◌, ap, subst, arith, append_assoc, append-nil, length-append, inl, inr}
 use Rattle.std.specs.Prelude.{reverse, if◌then◌else◌}
 use Rattle.std.specs.Str.{bytes_eq}
@@ -17,7 +17,7 @@ use Rattle.twkb_tree.proofs.LimitLaws.{accepted_rows}
 use Rattle.twkb_table.proofs.Growing.{grows, refused_none}
 use Rattle.twkb_table.proofs.Verdicts.{both, both_true}
 
--- what is to be shown of the records that are left, after any that name geometries
+-- what must be shown of the records left, after any that name geometries
 abbrev ReadsOn : Allowance → (List Row → Record → Verdict) → List Record → Type 0
 ReadsOn l judge more = (front : List Record) (gs : List Tree) (number : ℕ) → Named l front gs → number ≡ length front + 1 → IsReading l (front ++ more) (read_rows judge (reverse (rows_of gs)) number more)
 

@@ -1,4 +1,4 @@
--- How a read of `csv` goes on in a text.
+-- How a read of `csv` moves on in a text.
 use Rattle.std.proofs.Common.{◌≡◌, ◌∙◌, ℕ, List, [], ◌∷◌, ◌++◌, Option, Some, None, Result, Ok, Err, Bool, true, false, sym, refl, inl}
 use Rattle.std.specs.Prelude.{option_map, is_err, IfErr, IfOk, IfSome}
 use Rattle.std.specs.Borrow.{MutBor}
@@ -15,7 +15,7 @@ use Rattle.twkb_table.specs.declared.record_source.RecordSource.{RecordSource}
 use Rattle.twkb_table.specs.declared.record_source.SourceFault.{SourceFault}
 use Rattle.twkb_table.specs.declared.record_source.SourceFault.TheVariants as fault
 
--- a new reader gave none
+-- a new reader has given no record
 pub given_none : {R : Type 0} (remaining : R → Option (List ℕ)) (told : Option (List ℕ)) (reader : Reader (MutBor (Tap R)))
     → source_of (told_by remaining) reader ≡ option_map strip_bom told → reader_state reader ≡ st.StartRecord
     → HasGivenOf remaining told [] reader
@@ -23,7 +23,7 @@ unfolding Reached
 given_none remaining None reader source state = tt
 given_none remaining (Some text) reader source state = (strip_bom text, source, (sym state, refl))
 
--- one record more
+-- one more record was given
 pub given_more : {R : Type 0} (remaining : R → Option (List ℕ)) (old new : Reader (MutBor (Tap R))) (fields : Record)
     → IsSetUp old → took_first new ≡ true → is_flexible new ≡ is_flexible old
     → ReadRecord (told_by remaining) old new true fields
@@ -32,13 +32,13 @@ given_more remaining old new fields set_up first flexible read None records give
 given_more remaining old new fields set_up first flexible read (Some text) records given =
     rows-more (told_by remaining) old new fields default_config st.StartRecord (strip_bom text) given.0 records set_up.3 given.1 given.2 read
 
--- the reader reads on
+-- the reader stays set up
 pub still_set_up : {R : Type 0} (remaining : R → Option (List ℕ)) (old new : Reader (MutBor (Tap R))) (fields : Record)
     → IsSetUp old → took_first new ≡ true → is_flexible new ≡ is_flexible old
     → ReadRecord (told_by remaining) old new true fields → IsSetUp new
 still_set_up remaining old new fields set_up first flexible read = (read.3 ∙ set_up.0, inl first, flexible ∙ set_up.2, read.2 ∙ set_up.3)
 
--- no record more
+-- there is no further record
 pub given_all : {R : Type 0} (remaining : R → Option (List ℕ)) (old new : Reader (MutBor (Tap R))) (fields : Record)
     → IsSetUp old → ReadRecord (told_by remaining) old new false fields
     → (told : Option (List ℕ)) (records : List Record) → HasGivenOf remaining told records old → IfSome told (λ text. AreRecordsOf text records)
@@ -54,7 +54,7 @@ standing_begins remaining (Some text) records true reader s = (s.0, s.1, s.2)
 
 -- ---- a source
 
--- what a read shows of the source
+-- what a read shows about the source
 pub source_gives : {R : Type 0} (remaining : R → Option (List ℕ)) (old new : RecordSource R) (r : Result Bool SourceFault) → new.spent ≡ is_err r
     → IfOk r (λ found. found ≡ true → Advances remaining old.ended old.reader (fields_of new.held) new.ended new.reader) → IfOk r (λ found. found ≡ true → GivesRecord remaining old new)
 source_gives remaining old new (Ok found) spent h = λ is told records s. (let (stands, begins) = h is told records s.0 in ((stands, spent), begins))

@@ -1,4 +1,4 @@
--- What a record of five fields is judged, by its fields.
+-- The verdict on a record of five fields, from its fields.
 use Rattle.std.proofs.Common.{◌≡◌, ℕ, zero, suc, ◌<◌, ◌≤◌, Bool, false, List, [], ◌∷◌, length, Option, Some, None, Result, Ok, Err, refl, sym, ◌∙◌, ap, subst, arith, inl, inr, Bor}
 use Rattle.std.specs.Prelude.{◌&&◌, IsSome, IfOk, IfErr, option_map}
 use Rattle.csv.specs.Records.{field_at}
@@ -67,7 +67,7 @@ five_are (v ∷ w ∷ x ∷ y ∷ z ∷ []) a b c e f h =
     let five = same_some z f h.fifth in
     ap (λ q. q ∷ w ∷ x ∷ y ∷ z ∷ []) one ∙ ap (λ q. a ∷ q ∷ x ∷ y ∷ z ∷ []) two ∙ ap (λ q. a ∷ b ∷ q ∷ y ∷ z ∷ []) three ∙ ap (λ q. a ∷ b ∷ c ∷ q ∷ z ∷ []) four ∙ ap (λ q. a ∷ b ∷ c ∷ e ∷ q ∷ []) five
 
--- ---- what each refusal says
+-- ---- what each refusal means
 
 pub bad_depth : (l : Allowance) (before : List Row) (a b c e f : List ℕ) → ((d : ℕ) → IsDepthField a d → ⊥) → Judged l before (a ∷ b ∷ c ∷ e ∷ f ∷ []) (Refused BadDepth)
 bad_depth l before a b c e f none = inl (none, refl)
@@ -83,7 +83,7 @@ pub bad_place : (l : Allowance) (before : List Row) (rows : List OpenRow) (nodes
 bad_place l before rows nodes points a b c e f d k depth word lt stands =
     inr (d, depth, inr (k, word, inl (no_steps (steps_to d before) (has_place (parent d before) k) (steps_missing before rows nodes points d stands lt), refl)))
 
--- and what is judged of the place that the open rows give
+-- the verdict by the place that the open rows give
 pub judged_of : (l : Allowance) (before : List Row) (rows : List OpenRow) (nodes points : ℕ) (a b c e f : List ℕ) (d : ℕ) (k : Kind) (standing : Standing) (v : Verdict) → IsDepthField a d → b ≡ word_of k
     → (d ≤ length rows) × (standing ≡ standing_at d rows nodes points) → JudgedByPlace l (place_seen standing) k c e f v → StandsAfter before rows nodes points → Judged l before (a ∷ b ∷ c ∷ e ∷ f ∷ []) v
 judged_of l before rows nodes points a b c e f d k standing v depth word at j stands =
@@ -104,7 +104,7 @@ pub if_refused : (P Q : RowReason → Type 0) (fault : JudgeFault) → ((reason 
 if_refused P Q Memory f h = tt
 if_refused P Q (Fault.Refused reason) f h = f reason h
 
--- a field is found where the record has one
+-- a field is found if the record has one
 pub some_field : (fs : Record) (i : ℕ) (o : Option (Bor (List ℕ))) → i < length fs → option_map (λ s. s.now) o ≡ field_at fs i → IsSome o
 some_field fs i (Some s) lt e = refl
 some_field fs i None lt e = field_there fs i None lt e

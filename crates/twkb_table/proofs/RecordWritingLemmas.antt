@@ -20,7 +20,7 @@ use Rattle.twkb_table.specs.RecordWriting.{IsBare, IsReady, Writes, text_of}
 use Rattle.twkb_table.proofs.LineLemmas.{no_lines, row_lines-append}
 use Rattle.twkb_table.proofs.Unquoted.{bare_text, bare_word, row_same}
 
--- a record of a row's fields, of which none needs quotes, is written as the row's line
+-- a record of a row's fields, which need no quotes, is written as the row's line
 pub row_written : {T E : Type 0} (result : Result T E) (old new : Writer (Vec ℕ)) (row : Row) (depth kind id precision line : List ℕ) → depth ≡ optional (Some (pos row.depth)) → kind ≡ word_of row.kind → id ≡ optional row.id → precision ≡ optional row.precision → line ≡ polyline row.points
     → IsBare depth → IsBare id → IsBare precision → OnOk result (Writes old new (row_text default_writer (depth ∷ kind ∷ id ∷ precision ∷ line ∷ []))) → OnOk result (Writes old new (row_lines (row ∷ [])))
 unfolding row_lines
@@ -31,14 +31,14 @@ row_written result old new row depth kind id precision line d k i p l bare_depth
     row_same depth kind (id ∷ precision ∷ line ∷ []) (bare_depth, (word, (bare_id, (bare_precision, (points, tt))))) ∙ rw (d, k, i, p, l) (sym (append-nil _)) in
     subst (λ text. OnOk result (Writes old new text)) plain written
 
--- the lines of rows, and then those of others, are written
+-- the lines of rows and then those of other rows are written
 rows_written : (a b c : Writer (Vec ℕ)) (rs ss : List Row) → Writes a b (row_lines rs) → Writes b c (row_lines ss) → Writes a c (row_lines (rs ++ ss))
 rows_written a b c rs ss front more = record {
   ready = more.ready;
   text = more.text ∙ ap (λ t. t ++ row_lines ss) front.text ∙ append_assoc (text_of a) (row_lines rs) (row_lines ss) ∙ ap (λ t. text_of a ++ t) (sym (row_lines-append rs ss));
 }
 
--- the records of the members before the place i were written
+-- the records of the members before place i were written
 pub record HasWritten {A : Type 0} (f : Option ℤ → A → List Row) (ids : Ids) (xs : List A) (i index : ℕ) (old now : Writer (Vec ℕ)) : Type 0 where
   pub place : index ≡ i
   pub ready : IsReady now
@@ -74,14 +74,14 @@ has_written_all f ids xs i index old now has done = record {
   text = sym (append-nil (text_of now)) ∙ ap (λ t. text_of now ++ t) (sym no_lines) ∙ ap (λ ys. text_of now ++ row_lines (rows_of_each f (ids_from i ids) ys)) (sym (drop_all i xs done)) ∙ has.lines;
 }
 
--- a geometry's own record and those below it, if all were written
+-- a geometry's own record and those below it are written, if all writes passed
 pub geometry_written : {T E : Type 0} (result : Result T E) (id : Option ℤ) (d : ℕ) (g : Tree) (r : Row) (rs : List Row) (old mid new : Writer (Vec ℕ)) → r ≡ own_row id d g → rs ≡ rows_under (d + 1) g → Writes old mid (row_lines (r ∷ [])) → OnOk result (Writes mid new (row_lines rs))
     → OnOk result (Writes old new (row_lines (rows_with id d g)))
 geometry_written result id d g r rs old mid new er ers own below =
     let whole : r ∷ rs ≡ rows_with id d g = ap (λ q. q ∷ rs) er ∙ ap (λ qs. own_row id d g ∷ qs) (ers ∙ ap (λ k. rows_under k g) (add-one d)) ∙ sym (own_row_first id d g) in
     subst (λ qs. OnOk result (Writes old new (row_lines qs))) whole (on_ok_weaker result (rows_written old mid new (r ∷ []) rs own) below)
 
--- a polygon's record, and those of its rings
+-- a polygon's record and those of its rings are written
 pub area_written : (d : ℕ) (id : Option ℤ) (rings given : List (List Point)) (old mid new : Writer (Vec ℕ)) → Writes old mid (row_lines (plain_row d Kind.Polygon id [] ∷ [])) → given ≡ rings → Writes mid new (row_lines (ring_rows (d + 1) given)) → Writes old new (row_lines (polygon_rows d id rings))
 area_written d id rings given old mid new own eg below =
     let rest : ring_rows (d + 1) given ≡ ring_rows (suc d) rings = ap (ring_rows (d + 1)) eg ∙ ap (λ k. ring_rows k rings) (add-one d) in

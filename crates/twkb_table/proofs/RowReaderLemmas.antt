@@ -1,4 +1,4 @@
--- What the next row is to the rows of the geometry that is being read.
+-- The next row and the rows of the geometry that is being read.
 use Rattle.std.proofs.Common.{◌≡◌, ℕ, zero, suc, ◌<◌, ◌≤◌, Bool, true, List, [], ◌∷◌, ◌++◌, length, Option, Some, None, refl, sym, ◌∙◌, ap, subst, arith, length-append}
 use Rattle.std.specs.Prelude.{reverse, is_some, ◌↔◌}
 use Rattle.std.proofs.lemmas.Bool.{false≢true}
@@ -29,7 +29,7 @@ use Rattle.twkb_table.specs.RowReading.{with_points}
 use Rattle.twkb_table.proofs.AcceptedRecords.{judged_row, has_room}
 use Rattle.twkb_table.proofs.Verdicts.{both_true}
 
--- rows have as many points as their points are
+-- two ways to count the points of rows agree
 point_total : (rs : List Row) → length (row_points rs) ≡ point_count rs
 point_total [] = refl
 point_total (r ∷ rs) = omega (arith, length-append r.points (row_points rs), point_total rs)
@@ -48,7 +48,7 @@ stands_after l os (s ∷ rs) earlier v some open_now =
       points_held = point_total (s ∷ rs) ∙ sym (ap point_count since ∙ point_count-reverse (s ∷ rs));
     }
 
--- a record that is judged a row after rows of one geometry
+-- a record whose verdict after the rows of one geometry is a row
 pub accepts_next : (l : Allowance) (rows : List Row) (fields : Record) (row : Row) → AreValidRowsOfOne l rows → Judged l (reverse rows) fields (Accepted row) → Accepts l (reverse rows) row
 accepts_next l rows fields row v j = (judged_row l (reverse rows) fields row (has_room l (reverse rows) (accepted_rows l rows (valid_list l rows v))) j).accepts
 
@@ -59,18 +59,18 @@ no_depth (suc d) e = cc e
 steps : (l : Allowance) (before : List Row) (row : Row) → Accepts l before row → steps_to row.depth before ≡ true
 steps l before row a = (both_true (steps_to row.depth before) (fits (parent row.depth before) (first_child row.depth before) row) a.admitted).0
 
--- a record that is judged a row where there is none is a root
+-- a record whose verdict is a row, if no row is there, is a root
 pub begins_first : (l : Allowance) (fields : Record) (row : Row) → Judged l [] fields (Accepted row) → Continues l [] row
 begins_first l fields row j =
     let a = (judged_row l [] fields row (has_room l [] tt) j).accepts in
     (a, no_depth row.depth (steps l [] row a))
 
--- another row is of the same geometry
+-- any other row belongs to the same geometry
 pub continues_below : (l : Allowance) (rows : List Row) (row : Row) → 0 < length rows → Accepts l (reverse rows) row → 0 < row.depth → Continues l rows row
 continues_below l [] row some a below = absurd (omega (arith, some))
 continues_below l (s ∷ rs) row some a below = (a, below)
 
--- a root after rows of one geometry begins another
+-- a root after the rows of one geometry begins another
 pub begins_anew : (l : Allowance) (rows : List Row) (row : Row) → Accepts l (reverse rows) row → row.depth ≡ 0 → Continues l [] row
 begins_anew l rows row a root = (root_alone l rows row a root, root)
 
@@ -85,39 +85,39 @@ root_id row root e =
     let id = (facts (parent row.depth []) (first_child row.depth []) row fit).id in
     none_is row.id (subst (λ d. id_allowed (parent d []) row.kind row.id ≡ true) root id)
 
--- what waits of a row
+-- the root that waits for a row
 abbrev pub root_of : Bare → Root
 root_of row = record { kind = row.kind; precision = row.precision }
 
--- so its kind, precision and points are all of it
+-- a root is its kind, precision and points
 pub root_is : (l : Allowance) (row : Bare) (points : List Point) → Continues l [] (row_with row points) → row_with row points ≡ row_with (root_row (root_of row)) points
 root_is l row points c =
     ap (λ d. record { depth = d; kind = row.kind; id = row.id; precision = row.precision; points = points }) c.1
     ∙ ap (λ i. record { depth = 0; kind = row.kind; id = i; precision = row.precision; points = points }) (root_id (row_with row points) c.1 c.0.admitted)
 
--- and it may wait
+-- a root may wait
 pub may_wait_as : (l : Allowance) (row : Bare) (points : List Point) → Continues l [] (row_with row points) → may_wait l (Some (root_of row)) points ≡ true
 may_wait_as l row points c = continues_true l [] (row_with (root_row (root_of row)) points) (subst (Continues l []) (root_is l row points c) c)
 
--- a root waits where there is one
+-- a root waits if there is one
 pub some_waits : (waits : Option Root) (points : List Point) (some : Bool) → some ≡ is_some waits → (some ≡ true) ↔ (0 < length (with_points waits points))
 some_waits None points some e = (λ yes. absurd (false≢true (sym e ∙ yes)), λ lt. absurd (omega (arith, lt)))
 some_waits (Some root) points some e = (λ yes. omega arith, λ lt. e)
 
--- no row stands where none is open
+-- without rows there are no open rows
 pub stands_nowhere : StandsAfter [] [] 0 0
 stands_nowhere = record { open_rows = open_none; node_count = refl; points_held = refl }
 
--- no deeper than the open rows
+-- a row is no deeper than the open rows allow
 pub depth_within : (l : Allowance) (before : List Row) (os : List OpenRow) (row : Row) → Accepts l before row → AreOpen before os → row.depth ≤ length os
 depth_within l before os row a open_now = omega (arith, steps_within row.depth before (steps l before row a), open_now.all)
 
--- the open rows after it
+-- the open rows after the next row
 opens_next : (l : Allowance) (rows : List Row) (os : List OpenRow) (row : Row) → Accepts l (reverse rows) row → AreOpen (reverse rows) os → AreOpen (reverse (rows ++ row ∷ [])) (opened row.depth os row)
 opens_next l rows os row a open_now =
     subst (λ xs. AreOpen xs (opened row.depth os row)) (sym (reverse-append rows (row ∷ []))) (open_more (reverse rows) os row (steps l (reverse rows) row a) open_now)
 
--- Rows of one geometry, of which there is one, and their open rows.
+-- The rows of one geometry, at least one, and their open rows.
 pub record Kept (l : Allowance) (rows : List Row) (os : List OpenRow) : Type 0 where
   pub of_one : AreValidRowsOfOne l rows
   pub some : 0 < length rows
@@ -139,7 +139,8 @@ keeps_next l row before rows was os v some open_before a below put open_now = re
   open_rows = subst (λ rs. AreOpen (reverse rs) os) (sym put) (subst (λ xs. AreOpen (reverse (before ++ row ∷ [])) xs) (sym open_now) (opens_next l before was row a open_before));
 }
 
--- what a record is judged by the open rows of one geometry, it is judged after all rows that end with those
+-- the verdict on a record by the open rows of one geometry is the verdict after all rows that end
+-- with that geometry
 pub judged_by_open : (l : Allowance) (rows : List Row) (os : List OpenRow) (nodes points : ℕ) (fields : Record) (v : Verdict) → AreValidRowsOfOne l rows → 0 < length rows → AreOpen (reverse rows) os → nodes ≡ length rows → points ≡ length (row_points rows)
     → ((before : List Row) → StandsAfter before os nodes points → Judged l before fields v) → (earlier : List Row) → Judged l (reverse (earlier ++ rows)) fields v
 judged_by_open l rows os nodes points fields v of_one some open_now count held j earlier =

@@ -1,4 +1,4 @@
--- The record of a row that may come next is judged that row, and nothing else.
+-- The verdict on the record of a row that may come next is that row, and nothing else.
 use Rattle.std.proofs.Common.{◌≡◌, ◌≤◌, true, false, List, [], length, Option, Some, None, refl, sym, ap, subst, arith, inl, inr}
 use Rattle.std.specs.Prelude.{ℤ, ◌&&◌, decimal, is_some, IfSome}
 use Rattle.std.proofs.lemmas.Bool.{true≢false, false≢true}
@@ -32,7 +32,7 @@ pub optional_precision_is : (q : Option ℤ) → precision_in_range q ≡ true �
 optional_precision_is None h = tt
 optional_precision_is (Some n) h = precision_is n h
 
--- the row's points are the only ones that its text decodes to
+-- the row's points are the only ones to which its text decodes
 decoded : (l : Allowance) (before : List Row) (r : Row) → Accepts l before r → DecodesTo (polyline r.points) (points_left l (place_of r.depth before)) r.points
 decoded l before r a = record { spelled = refl; in_range = a.in_range; few = (let few = a.points in omega (arith, few)) }
 

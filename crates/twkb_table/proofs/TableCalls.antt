@@ -1,4 +1,4 @@
--- What the calls of a reader of tables show, put together.
+-- What the calls of a reader of tables show, taken together.
 use Rattle.std.proofs.Common.{◌≡◌, ℕ, ◌+◌, ◌<◌, ◌^◌, ◌⊎◌, Bool, true, false, List, [], ◌∷◌, ◌++◌, length, Option, Some, None, Result, Ok, Err, refl, sym, ◌∙◌, ap, subst, arith, inl, inr}
 use Rattle.std.specs.Prelude.{◌↔◌, IfOk, IfSome}
 use Rattle.std.proofs.lemmas.Bool.{true≢false}
@@ -28,18 +28,18 @@ use Rattle.twkb_table.proofs.TableSteps.{too_many}
 
 -- ---- faults
 
--- where no record came
+-- no record came
 pub no_record : (l : Allowance) (told : Option (List ℕ)) (records : List Record) (given gs : List Tree) (number : ℕ) (f : TableFault) → Named l records gs → given ≡ all_but_last gs → number ≡ length records
     → (f ≡ fault.Source) ⊎ ((f ≡ fault.TooManyRecords) × (number + 1 ≡ 2 ^ 32) × ((here : Record) × IfSome told (λ text. BeginWith text (records ++ here ∷ [])))) → Explains l told records given f
 no_record l told records given gs number f named complete count (inl source) = subst (λ e. Explains l told records given e) (sym source) tt
 no_record l told records given gs number f named complete count (inr (many, last, here)) = subst (λ e. Explains l told records given e) (sym many) (too_many l told records given gs number here.0 named complete count last here.1)
 
--- where a record gave no row
+-- a record gave no row
 pub explained : (l : Allowance) (told : Option (List ℕ)) (records : List Record) (given : List Tree) (number : ℕ) (f : JudgeFault) → IfRefused (λ reason. IsRefusedAt l told records given number reason) f → Explains l told records given (fault_of number f)
 explained l told records given number Memory h = tt
 explained l told records given number (Refused reason) h = h
 
--- neither says that an earlier call was refused
+-- neither fault says that an earlier call was refused
 pub missed_fresh : {R : Type 0} (remaining : R → Option (List ℕ)) (ended : Bool) (reader : Reader (MutBor (Tap R))) (number : ℕ) (f : TableFault) → MissesRecord remaining ended reader number f → f ≡ fault.Spent → ⊥
 missed_fresh remaining ended reader number f (inl source) e = cc (source, e)
 missed_fresh remaining ended reader number f (inr many) e = (let is = many.0 in cc (is, e))
@@ -87,7 +87,7 @@ the_header l remaining told records given here old new s (none, before) source s
   };
 }
 
--- from before the header
+-- the end was reached, seen from before the header
 meets_from : {R : Type 0} (l : Allowance) (remaining : R → Option (List ℕ)) (told : Option (List ℕ)) (records seen : List Record) (given : List Tree) (reader : TableReader R) → Extends records seen → MeetsEnd l remaining told seen given reader → MeetsEnd l remaining told records given reader
 meets_from l remaining told records seen given reader x m = record { seen = m.seen; extends = extends_both records seen m.seen x m.extends; all = m.all; named = m.named; stands = m.stands }
 
@@ -107,7 +107,7 @@ after_header l remaining told records given mid new r h reads =
 still_read : {R : Type 0} (remaining : R → Option (List ℕ)) (told : Option (List ℕ)) (records : List Record) (old new : TableReader R) → HasRead remaining told records old → new.reader ≡ old.reader → is_ended new ≡ is_ended old → HasRead remaining told records new
 still_read remaining told records old new s source ended = subst (standing remaining told records (is_ended new)) (sym source) (subst (λ e. standing remaining told records e old.reader) (sym ended) s)
 
--- a root that waits is that of one geometry more
+-- a root that waits is that of one more geometry
 a_tree : (l : Allowance) (records : List Record) (given : List Tree) (ws : List Row) (ended : Bool) → HaveGiven l records given ws ended → 0 < length ws → (g : Tree) × Named l records (given ++ g ∷ []) × (rows 0 g ≡ ws)
 a_tree l records given [] ended h some = absurd (omega (arith, some))
 a_tree l records given (root ∷ more) ended h some = (h.0, h.1, h.2)
@@ -138,7 +138,7 @@ none_waiting (w ∷ ws) none = absurd (none (omega arith))
 
 -- ---- a geometry and its end
 
--- the root in the flat form
+-- the root is in the flat form
 pub reading_in : {R : Type 0} (l : Allowance) (remaining : R → Option (List ℕ)) (told : Option (List ℕ)) (records : List Record) (given : List Tree) (root flat : List Row) (old new : TableReader R) → IsReading l remaining told records given root old → flat ≡ root → new.reader ≡ old.reader → is_ended new ≡ is_ended old
     → new.number ≡ old.number → limits_of new.rows ≡ limits_of old.rows → is_spent new ≡ is_spent old → IsReading l remaining told records given flat new
 reading_in l remaining told records given root flat old new r put source ended number limits spent = record {
@@ -157,13 +157,13 @@ pub reads_by : {R : Type 0} (l : Allowance) (remaining : R → Option (List ℕ)
 reads_by l remaining told records given so_far reader true on end = on refl
 reads_by l remaining told records given so_far reader false on end = end refl
 
--- a row more was read
+-- one more row was read
 pub went_by : {R : Type 0} (l : Allowance) (remaining : R → Option (List ℕ)) (told : Option (List ℕ)) (records : List Record) (given : List Tree) (so_far : List Row) (reader : TableReader R) (more : Bool) → more ≡ true → ReadsOn l remaining told records given so_far reader (Ok more)
     → (here : Record) × IsReading l remaining told (records ++ here ∷ []) given so_far reader
 went_by l remaining told records given so_far reader true e reads = reads
 went_by l remaining told records given so_far reader false e reads = cc e
 
--- or the geometry is whole
+-- the geometry is complete
 pub ended_by : {R : Type 0} (l : Allowance) (remaining : R → Option (List ℕ)) (told : Option (List ℕ)) (records : List Record) (given : List Tree) (so_far : List Row) (reader : TableReader R) (more : Bool) → more ≡ false → ReadsOn l remaining told records given so_far reader (Ok more)
     → GivesNext l remaining told records given so_far reader
 ended_by l remaining told records given so_far reader true e reads = cc e
@@ -174,14 +174,14 @@ pub root_by : {R : Type 0} (l : Allowance) (remaining : R → Option (List ℕ))
     → BeginsNext l remaining told records given (waiting reader.rows) reader
 root_by l remaining told records given reader found e reads = rw e at reads
 
--- or the table ended
+-- the table ended
 pub end_by : {R : Type 0} (l : Allowance) (remaining : R → Option (List ℕ)) (told : Option (List ℕ)) (records : List Record) (given : List Tree) (reader : TableReader R) (found : Bool) → found ≡ false → ReadsRoot l remaining told records given reader (Ok found)
     → MeetsEnd l remaining told records given reader
 end_by l remaining told records given reader found e reads = rw e at reads
 
 -- ---- a call that goes on
 
--- some row is in the form, whether a row was put there or not
+-- there is a row in the form, whether or not one was just appended
 pub some_row : (l : Bool) (before after : List Row) → 0 < length before → (l ≡ true → 0 < length after) → (l ≡ false → after ≡ before) → 0 < length after
 some_row true before after some more same = more refl
 some_row false before after some more same = subst (λ (rs : List Row). 0 < length rs) (sym (same refl)) some
@@ -191,11 +191,11 @@ pub goes_on : {P X : Type 0} (over before : Bool) → (over ≡ true → P) × (
 goes_on over before tells going fresh (inl p) = absurd (true≢false (sym (tells.1 p) ∙ going))
 goes_on over before tells going fresh (inr e) = absurd (true≢false (sym e ∙ fresh))
 
--- what is given is no refusal, before or after
+-- an answer with a geometry is no refusal, before or after it
 pub not_spent : {A E : Type 0} (a : A) (f : E) (spent : Bool) → spent ≡ false → (◌≡◌ {A = Result A E} (Ok a) (Err f)) ↔ (spent ≡ true)
 not_spent a f spent fresh = (λ e. cc e, λ e. absurd (true≢false (sym e ∙ fresh)))
 
--- a form has rows only where they were given
+-- a form has rows only if they were given
 pub given_or_none : {E : Type 0} (found : Bool) (flat : List Row) → (◌≡◌ {A = Result Bool E} (Ok found) (Ok false) → flat ≡ []) → (◌≡◌ {A = Result Bool E} (Ok found) (Ok true)) ⊎ (flat ≡ [])
 given_or_none true flat none = inl refl
 given_or_none false flat none = inr (none refl)

@@ -1,4 +1,4 @@
--- What the calls of a reader of tables answer, by what one record shows.
+-- What the calls of a reader of tables return, from what one record shows.
 use Rattle.std.proofs.Common.{◌≡◌, ℕ, ◌<◌, List, [], ◌∷◌, ◌++◌, length, Option, Some, None, refl, sym, ◌∙◌, ap, subst, arith, append_assoc, append-nil}
 use Rattle.std.specs.Prelude.{reverse, IfSome}
 use Rattle.csv.specs.Reading.{strip_bom, Reached}
@@ -21,7 +21,7 @@ use Rattle.twkb_table.specs.declared.table_fault.TableFault.TheVariants as fault
 use Rattle.twkb_table.specs.declared.table_reader.TableReader.{TableReader}
 use Rattle.twkb_table.proofs.RecordFacts.{standing_begins}
 
--- ---- the text begins with the records that were read
+-- ---- the text begins with the records read
 
 pub begins_none : (told : Option (List ℕ)) → IfSome told (λ text. BeginWith text [])
 unfolding Reached
@@ -34,7 +34,7 @@ text_begins remaining told records reader s = standing_begins remaining told rec
 pub source_begins : {R : Type 0} (remaining : R → Option (List ℕ)) (told : Option (List ℕ)) (records : List Record) (source : RecordSource R) → Source.StandsAfter remaining told records source → IfSome told (λ text. BeginWith text records)
 source_begins remaining told records source s = standing_begins remaining told records source.ended source.reader s.0
 
--- ---- one call and the next
+-- ---- one call after another
 
 pub extends_none : (records : List Record) → Extends records records
 extends_none records = ([], sym (append-nil records))
@@ -65,7 +65,7 @@ pub gives_from : {R : Type 0} (l : Allowance) (remaining : R → Option (List �
     → GivesNext l remaining told seen given flat reader → GivesNext l remaining told records given flat reader
 gives_from l remaining told records seen given flat reader x g = record { seen = g.seen; extends = extends_both records seen g.seen x g.extends; begins = g.begins; geometry = g.geometry; valid = g.valid; rows = g.rows; stands = g.stands }
 
--- ---- records and what they name
+-- ---- records and the geometries that they name
 
 pub no_records : (records : List Record) → length records ≡ 0 → records ≡ []
 no_records [] e = refl
@@ -83,13 +83,13 @@ pub names_so_far : (l : Allowance) (records : List Record) (gs : List Tree) → 
 names_so_far l [] gs n = (let e = n.table_of in cc)
 names_so_far l (first ∷ records) gs n = n
 
--- all but the last
+-- all but the last of a list and one more
 pub all_but_last-last : (xs : List Tree) (x : Tree) → all_but_last (xs ++ x ∷ []) ≡ xs
 all_but_last-last [] x = refl
 all_but_last-last (y ∷ []) x = refl
 all_but_last-last (y ∷ z ∷ xs) x = ap (λ (l : List Tree). y ∷ l) (all_but_last-last (z ∷ xs) x)
 
--- a record judged after the rows of the last geometry is judged after those of all
+-- the verdict after the rows of the last geometry is the verdict after those of all
 pub judged_after : (l other : Allowance) (given : List Tree) (g : Tree) (so_far : List Row) (here : Record) (v : Verdict) → other ≡ l → rows 0 g ≡ so_far → JudgedAfter other so_far here v → Judged l (reverse (rows_of (given ++ g ∷ []))) here v
 judged_after l other given g so_far here v limits same j =
     let here_too : Judged l (reverse (rows_of given ++ so_far)) here v = subst (λ m. Judged m (reverse (rows_of given ++ so_far)) here v) limits (j (rows_of given)) in

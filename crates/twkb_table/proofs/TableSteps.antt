@@ -1,4 +1,4 @@
--- What one record more shows to a reader of tables.
+-- What one more record shows to a reader of tables.
 use Rattle.std.proofs.Common.{◌≡◌, ℕ, ◌+◌, ◌^◌, ◌<◌, Bool, true, false, List, [], ◌∷◌, ◌++◌, length, Option, Result, Ok, Err, refl, sym, ◌∙◌, ap, subst, arith, length-append, inl, inr}
 use Rattle.std.specs.Prelude.{reverse, IfSome}
 use Rattle.std.proofs.lemmas.Bool.{true≢false}
@@ -31,7 +31,7 @@ few_more m n records here next count few = omega (arith, next, count, few, lengt
 
 -- ---- while a geometry is read
 
--- a row more
+-- the record is one more row
 pub reads_more : {R : Type 0} (l : Allowance) (remaining : R → Option (List ℕ)) (told : Option (List ℕ)) (records : List Record) (given : List Tree) (before after : List Row) (here : Record) (old new : TableReader R)
     → IsReading l remaining told records given before old → HasRead remaining told (records ++ here ∷ []) new → new.number ≡ old.number + 1 → new.number < 2 ^ 32 → limits_of new.rows ≡ limits_of old.rows → is_spent new ≡ is_spent old
     → GoesOn old.rows before here new.rows after → IsReading l remaining told (records ++ here ∷ []) given after new
@@ -49,7 +49,7 @@ reads_more l remaining told records given before after here old new r source num
       unspent = spent ∙ r.unspent;
     }
 
--- the root of another geometry
+-- the record is the root of another geometry
 pub reads_next : {R : Type 0} (l : Allowance) (remaining : R → Option (List ℕ)) (told : Option (List ℕ)) (records : List Record) (given : List Tree) (before : List Row) (here : Record) (old new : TableReader R)
     → IsReading l remaining told records given before old → HasRead remaining told (records ++ here ∷ []) new → new.number ≡ old.number + 1 → new.number < 2 ^ 32 → limits_of new.rows ≡ limits_of old.rows → is_spent new ≡ is_spent old
     → is_ended new ≡ false → EndsBefore old.rows before here new.rows → GivesNext l remaining told records given before new
@@ -73,7 +73,7 @@ reads_next l remaining told records given before here old new r source number fe
       };
     }
 
--- the table's end
+-- the table ended
 pub reads_end : {R : Type 0} (l : Allowance) (remaining : R → Option (List ℕ)) (told : Option (List ℕ)) (records : List Record) (given : List Tree) (before : List Row) (old new : TableReader R)
     → IsReading l remaining told records given before old → HasRead remaining told records new → is_ended new ≡ true → new.number ≡ old.number → limits_of new.rows ≡ limits_of old.rows → is_spent new ≡ is_spent old
     → waiting new.rows ≡ [] → GivesNext l remaining told records given before new
@@ -94,7 +94,7 @@ reads_end l remaining told records given before old new r source ended number li
   };
 }
 
--- a refused record
+-- the record is refused
 refused_at : (l : Allowance) (told : Option (List ℕ)) (records : List Record) (here : Record) (gs given : List Tree) (number : ℕ) (reason : RowReason) → IsAllowance l → Named l records gs → all_but_last gs ≡ given
     → IfSome told (λ text. BeginWith text (records ++ here ∷ [])) → Judged l (reverse (rows_of gs)) here (Refused reason) → number ≡ length records + 1 → IsRefusedAt l told records given number reason
 refused_at l told records here gs given number reason cap n but begins j count = record {
@@ -112,7 +112,7 @@ reads_refused l remaining told records given before here old new reason r source
     refused_at l told records here (given ++ r.geometry ∷ []) given new.number reason (subst IsAllowance r.limits cap) r.named (all_but_last-last given r.geometry)
     (text_begins remaining told (records ++ here ∷ []) new source) (judged_after l (limits_of old.rows) given r.geometry before here (Refused reason) r.limits r.rows j) (omega (arith, number, r.count))
 
--- too many records
+-- the table has too many records
 pub too_many : (l : Allowance) (told : Option (List ℕ)) (records : List Record) (given gs : List Tree) (number : ℕ) (here : Record) → Named l records gs → given ≡ all_but_last gs → number ≡ length records → number + 1 ≡ 2 ^ 32
     → IfSome told (λ text. BeginWith text (records ++ here ∷ [])) → HasTooMany l told records given
 too_many l told records given gs number here named complete count last begins = record {
@@ -126,9 +126,9 @@ too_many l told records given gs number here named complete count last begins = 
   complete = complete;
 }
 
--- ---- where no root waits
+-- ---- if no root waits
 
--- the table's end
+-- the table ended, and no root waited
 pub meets_end : {R : Type 0} (l : Allowance) (remaining : R → Option (List ℕ)) (told : Option (List ℕ)) (records : List Record) (given : List Tree) (old new : TableReader R)
     → StandsAfter l remaining told records given old → waiting old.rows ≡ [] → 0 < old.number → HasRead remaining told records new → is_ended new ≡ true → IfSome told (λ text. AreRecordsOf text records)
     → new.number ≡ old.number → limits_of new.rows ≡ limits_of old.rows → is_spent new ≡ is_spent old → waiting new.rows ≡ [] → MeetsEnd l remaining told records given new
@@ -149,7 +149,7 @@ meets_end l remaining told records given old new s none some source ended all nu
       };
     }
 
--- before the end nothing was given
+-- before the end nothing was returned
 none_given : (l : Allowance) (records : List Record) (given : List Tree) (ended : Bool) → HaveGiven l records given [] ended → ended ≡ false → 0 < length records → Named l records [] × (given ≡ [])
 none_given l records given ended (n, inl none) going some = (subst (λ gs. Named l records gs) none (named_some l records given some n), none)
 none_given l records given ended (n, inr over) going some = absurd (true≢false (sym over ∙ going))
@@ -159,29 +159,29 @@ pub none_before : {R : Type 0} (l : Allowance) (remaining : R → Option (List �
 none_before l remaining told records given reader s none some going =
     none_given l records given (is_ended reader) (subst (λ w. HaveGiven l records given w (is_ended reader)) none s.gave) going (omega (arith, some, s.count))
 
--- a fault came, so the end was not met
+-- a fault came, so the end was not reached
 pub not_ended : (ended : Bool) (f : TableFault) → (ended ≡ true → ◌≡◌ {A = Result Bool TableFault} (Err f) (Ok false)) → ended ≡ false
 not_ended false f over = refl
 not_ended true f over = (let same = over refl in cc same)
 
--- after the end all was given
+-- after the end all geometries were returned
 pub over_meets : {R : Type 0} (l : Allowance) (remaining : R → Option (List ℕ)) (told : Option (List ℕ)) (records : List Record) (given : List Tree) (reader : TableReader R) → StandsAfter l remaining told records given reader → IsOver reader
     → MeetsEnd l remaining told records given reader
 over_meets l remaining told records given reader s over =
     meets_end l remaining told records given reader reader s over.none over.begun s.source over.ended (subst (λ e. standing remaining told records e reader.reader) over.ended s.source) refl refl refl over.none
 
--- a reader whose parts are as they were
+-- a reader whose parts are unchanged
 pub same_parts : {R : Type 0} (old : TableReader R) (reader : Reader (MutBor (Tap R))) (held : Csv.Row) (ended : Bool) (number : ℕ) → reader ≡ old.reader → held ≡ old.held → ended ≡ old.ended → number ≡ old.number
     → ◌≡◌ {A = TableReader R} (record old { reader = reader; held = held; ended = ended; number = number }) old
 same_parts old reader held ended number a b c d = rw (a, b, c, d) refl
 
--- a record came, so the end was not met
+-- a record came, so the end was not reached
 pub going_on : (ended found : Bool) → (ended ≡ true → ◌≡◌ {A = Result Bool TableFault} (Ok found) (Ok false)) → found ≡ true → ended ≡ false
 going_on false found over e = refl
 going_on true true over e = (let same = over refl in cc same)
 going_on true false over e = cc e
 
--- the first root
+-- the record is the first root
 pub begins_next : {R : Type 0} (l : Allowance) (remaining : R → Option (List ℕ)) (told : Option (List ℕ)) (records : List Record) (given : List Tree) (here : Record) (old new : TableReader R)
     → StandsAfter l remaining told records given old → waiting old.rows ≡ [] → 0 < old.number → is_ended old ≡ false → HasRead remaining told (records ++ here ∷ []) new
     → new.number ≡ old.number + 1 → new.number < 2 ^ 32 → limits_of new.rows ≡ limits_of old.rows → is_spent new ≡ is_spent old → BeginsFirst old.rows here new.rows

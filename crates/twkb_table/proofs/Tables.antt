@@ -1,4 +1,4 @@
--- Tables: each row of one is plain, they are read in one way, and their fronts are tables.
+-- Tables: each of their rows is plain, they are read in one way, and their prefixes are tables.
 use Rattle.std.proofs.Common.{◌≡◌, ℕ, ◌+◌, ◌≤◌, arith, List, [], ◌∷◌, ◌++◌, refl, sym, ◌∙◌, ap}
 use Rattle.std.specs.Prelude.{map, reverse, IfSome}
 use Rattle.std.specs.List.{AllByRecursion}
@@ -41,11 +41,11 @@ shallower : (m n : ℕ) (rs : List Row) → m ≤ n → AreShallow m rs → AreS
 shallower m n [] le h = tt
 shallower m n (r ∷ rs) le h = (omega (arith, h.0), shallower m n rs le h.1)
 
--- no row of valid geometries is deeper than a field may say
+-- no row of valid geometries is deeper than a field can say
 pub shallow_rows : (l : Allowance) (gs : List Tree) → IsAllowance l → AreValid l gs → AreShallow 999 (rows_of gs)
 shallow_rows l gs cap v = let most = cap.nest_cap in shallower (l.nest + 2) 999 (rows_of gs) (omega (arith, most)) (valid_depths l (rows_of gs) (gs, v, refl))
 
--- what holds of each row of a list turned round holds of each of the list
+-- what is true of each row of a reversed list is true of each row of the list
 all_back : (P : Row → Type 0) (xs ys : List Row) → AllByRecursion P (reverse_aux xs ys) → AllByRecursion P xs × AllByRecursion P ys
 all_back P [] ys h = (tt, h)
 all_back P (x ∷ xs) ys h = let t = all_back P xs (x ∷ ys) h in ((t.1.0, t.0), t.1.1)
@@ -72,7 +72,7 @@ one_table l records gs hs cap a b =
     let same = one_list (rows_of gs) (rows_of hs) (plain_rows l gs cap a.valid) (plain_rows l hs cap b.valid) lists in
     one_reading gs hs (geometries l gs a.valid) (geometries l hs b.valid) same
 
--- ---- fronts
+-- ---- prefixes
 
 -- What splits a list of records splits the list of rows.
 pub record Split (rs : List Row) (xs ys : List Record) : Type 0 where

@@ -20,7 +20,7 @@ use Rattle.twkb_table.specs.RecordWriting.{IsBare}
 use Rattle.twkb_table.specs.Text.{more_fields, joined}
 use Rattle.twkb_table.proofs.DecimalLemmas.{mag-id}
 
--- ---- bytes above the comma call for no quotes
+-- ---- bytes above the comma need no quotes
 
 abbrev pub IsHigh : List ℕ → Type 0
 IsHigh bytes = AllByRecursion (λ b. 45 ≤ b) bytes
@@ -50,7 +50,7 @@ unfolding fields_text
 fields_same [] h = refl
 fields_same (field ∷ fields) h = rw (field_same field h.0, fields_same fields h.1) refl
 
--- a record of two fields or more is written as its line
+-- a record of at least two fields is written as its line
 pub row_same : (x y : List ℕ) (ys : Record) → AreBare (x ∷ y ∷ ys) → row_text default_writer (x ∷ y ∷ ys) ≡ joined (x ∷ y ∷ ys) ++ 10 ∷ []
 unfolding is_blank
 row_same x y ys h = ap (λ t. (t ++ fields_text default_writer (y ∷ ys)) ++ 10 ∷ []) (field_same x h.0) ∙ ap (λ t. (x ++ t) ++ 10 ∷ []) (fields_same (y ∷ ys) h.1)

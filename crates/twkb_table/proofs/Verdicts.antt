@@ -22,7 +22,7 @@ both_true false b h = cc h
 pub both : (a b : Bool) → a ≡ true → b ≡ true → (a && b) ≡ true
 both a b p q = rw (p, q) refl
 
--- ---- a row passed each step
+-- ---- a row has passed each step
 
 pub accepted_apart : (r : Row) (reason : RowReason) → Accepted r ≡ Refused reason → ⊥
 accepted_apart r reason e = cc e
@@ -48,7 +48,7 @@ pub pick : {A : Type 0} (P : A → Type 0) (Others : A → Type 0) (v : Verdict)
 pick P Others v reason a (inl h) p one = absurd (h.0 a p)
 pick P Others v reason a (inr h) p one = subst Others (one h.0 h.1) h.2
 
--- ---- a step tells one verdict, where what follows does
+-- ---- a step gives one verdict if what follows does
 
 pub when_one : {P A B : Type 0} (v w : Verdict) (reason : RowReason) → (A → B → v ≡ w) → When v P reason A → When w P reason B → v ≡ w
 when_one v w reason f (inl h) (inl g) = h.1 ∙ sym g.1

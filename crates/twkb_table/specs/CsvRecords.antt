@@ -1,4 +1,4 @@
--- The records that `csv` reads from a text, and how far its reader gave them.
+-- The records that `csv` reads from a text, and how far its reader has come.
 use Rattle.std.specs.Prelude.{ℕ, ◌≡◌, List, [], ◌∷◌, ◌++◌, Option, Some, None, IfSome, Bool, true, false, ⊤}
 use Rattle.std.specs.Borrow.{MutBor}
 use Rattle.csv.specs.Reading.{AreRecords, Reached, Ready, default_config, is_flexible, reader_config, reader_state, reader_trim, source_of, strip_bom}
@@ -10,11 +10,12 @@ use Rattle.twkb_io.specs.declared.tap.Tap.{Tap}
 use Rattle.twkb_io.specs.Taps.{device_of}
 use Rattle.twkb_table.specs.Record.{Record}
 
--- these are all the records of a text: commas and quotes as in RFC 4180, no header row, any number of fields, no trimming (profile)
+-- these are all the records of a text: commas and quotes as in RFC 4180, no header row, any
+-- number of fields, no trimming (profile)
 abbrev pub AreRecordsOf : List ℕ → List Record → Type 0
 AreRecordsOf text records = AreRecords default_config st.StartRecord (strip_bom text) records
 
--- the records of a text begin with these
+-- the records of a text begin with these records
 abbrev pub BeginWith : List ℕ → List Record → Type 0
 BeginWith text records = (state : State) × (left : List ℕ) × Reached default_config st.StartRecord (strip_bom text) records state left
 
@@ -22,33 +23,36 @@ BeginWith text records = (state : State) × (left : List ℕ) × Reached default
 abbrev pub IsSetUp : {S : Type 0} → Reader S → Type 0
 IsSetUp reader = (reader_trim reader ≡ trim.None) × Ready reader × (is_flexible reader ≡ true) × (reader_config reader ≡ default_config)
 
--- the bytes that a tap tells through its loan
+-- the bytes that a borrowed tap gives
 abbrev pub told_by : {R : Type 0} → (R → Option (List ℕ)) → MutBor (Tap R) → Option (List ℕ)
 told_by remaining tap = remaining (device_of tap.now)
 
--- the reader of `csv` gave these records of a text, where the bytes are known
+-- the reader of `csv` gave these records of a text, if the bytes are known
 abbrev pub HasGivenOf : {R : Type 0} → (R → Option (List ℕ)) → Option (List ℕ) → List Record → Reader (MutBor (Tap R)) → Type 0
 HasGivenOf remaining None records reader = ⊤
 HasGivenOf remaining (Some text) records reader =
     (left : List ℕ) × (source_of (told_by remaining) reader ≡ Some left)
     × Reached default_config st.StartRecord (strip_bom text) records (reader_state reader) left
 
--- the same of a reader that is set up
+-- a reader that is set up gave these records of a text
 abbrev pub HasGiven : {R : Type 0} → (R → Option (List ℕ)) → Option (List ℕ) → List Record → Reader (MutBor (Tap R)) → Type 0
 HasGiven remaining told records reader = IsSetUp reader × HasGivenOf remaining told records reader
 
--- From a text that was told at the start these records were given, and they are all where the end was met.
+-- These records were given from the text known at the start, and they are all its records if the
+-- end was reached.
 abbrev pub standing : {R : Type 0} → (R → Option (List ℕ)) → Option (List ℕ) → List Record → Bool → Reader (MutBor (Tap R)) → Type 0
 standing remaining told records false reader = HasGiven remaining told records reader
 standing remaining told records true reader = IfSome told (λ text. AreRecordsOf text records)
 
--- wherever the old reader stands, the new one stands behind this record more, and the text begins with the records given
+-- wherever the old reader is in a text, the new one is after this one more record, and the text
+-- begins with the records given
 abbrev pub Advances : {R : Type 0} → (R → Option (List ℕ)) → Bool → Reader (MutBor (Tap R)) → Record → Bool → Reader (MutBor (Tap R)) → Type 0
 Advances remaining ended old here over new =
     (told : Option (List ℕ)) (records : List Record) → standing remaining told records ended old
     → standing remaining told (records ++ here ∷ []) over new × IfSome told (λ text. BeginWith text (records ++ here ∷ []))
 
--- wherever the old reader stands, the new one stands too, and the records given are all those of the text
+-- wherever the old reader is in a text, the new one is there too, and the records given are all
+-- those of the text
 abbrev pub Finishes : {R : Type 0} → (R → Option (List ℕ)) → Bool → Reader (MutBor (Tap R)) → Bool → Reader (MutBor (Tap R)) → Type 0
 Finishes remaining ended old over new =
     (told : Option (List ℕ)) (records : List Record) → standing remaining told records ended old

@@ -1,4 +1,5 @@
--- What a record after the first is, after the rows so far: a row, or refused for the first reason that holds (profile).
+-- The verdict on a record after the rows so far: a row, or refused for the first reason that
+-- holds (profile).
 use Rattle.std.specs.Prelude.{◌≡◌, ◌≢◌, ℕ, ◌-◌, ◌≤◌, ◌⊎◌, ◌&&◌, ℤ, List, [], ◌∷◌, length, Option, Bool, true, false, is_some}
 use Rattle.twkb_points.specs.Point.{Point}
 use Rattle.twkb_polyline.specs.Polyline.{DecodesTo}
@@ -20,21 +21,24 @@ pub data Verdict : Type 0 where
   Accepted : Row → Verdict
   Refused : RowReason → Verdict
 
--- the verdict is this reason where P holds, and else what the others say
+-- the verdict is this reason if P holds; otherwise it is as the others say
 abbrev pub When : Verdict → Type 0 → RowReason → Type 0 → Type 0
 When v P reason Others = (P × (v ≡ Refused reason)) ⊎ ((P → ⊥) × Others)
 
--- the verdict is this reason where no value has P, and else what the others say of a value that has P
+-- the verdict is this reason if no value has P; otherwise it is as the others say of the value
+-- that has P
 abbrev pub Unless : {A : Type 0} → Verdict → (A → Type 0) → RowReason → (A → Type 0) → Type 0
 Unless {A} v P reason Others = (((a : A) → P a → ⊥) × (v ≡ Refused reason)) ⊎ ((a : A) × P a × Others a)
 
--- the verdict is the text's fault with its place, and else what the others say of the points that it decodes to
+-- the verdict is the text's fault with its place; if it has none, it is as the others say of the
+-- points that it decodes to
 abbrev pub UnlessFaulty : List ℕ → ℕ → Verdict → (List Point → Type 0) → Type 0
 UnlessFaulty text most v Others =
     ((offset : ℕ) × (why : PolyReason) × IsTextFault text most offset why × (v ≡ Refused (Polyline offset why)))
     ⊎ ((ps : List Point) × DecodesTo text most ps × Others ps)
 
--- Where a row stands: its depth, whether a row may stand so deep here, its parent, the first child of that parent, and how many rows and points its geometry has so far.
+-- The place of a row: its depth, whether a row may be so deep here, its parent, the first child
+-- of that parent, and the numbers of rows and points of its geometry so far.
 pub record Place : Type 0 where
   pub depth : ℕ
   pub steps : Bool
@@ -43,7 +47,7 @@ pub record Place : Type 0 where
   pub nodes : ℕ
   pub points : ℕ
 
--- the place of a row at this depth after the rows so far, the last of which stands first
+-- the place of a row at this depth after the rows so far, last one first
 abbrev pub place_of : ℕ → List Row → Place
 place_of d before = record {
   depth = d;
@@ -54,7 +58,7 @@ place_of d before = record {
   points = point_count (geometry_rows d before);
 }
 
--- how many points the limit leaves to the geometry
+-- the number of points that the limit leaves for the geometry
 abbrev pub points_left : Allowance → Place → ℕ
 points_left l here = l.points - here.points
 
@@ -66,7 +70,7 @@ JudgedByPoints l here k id precision text v =
     When v (points_fit k (is_whole here.parent) ps ≡ false) PointCount
     (v ≡ Accepted (record { depth = here.depth; kind = k; id = id; precision = precision; points = ps }))))
 
--- the reasons BadPrecision, PrecisionMissing and PrecisionNotAllowed, and then those of the points
+-- the reasons BadPrecision, PrecisionMissing and PrecisionNotAllowed, followed by those of the points
 abbrev pub JudgedByPrecision : Allowance → Place → Kind → Option ℤ → List ℕ → List ℕ → Verdict → Type 0
 JudgedByPrecision l here k id precision_field text v =
     Unless v (IsOptionalPrecision precision_field) BadPrecision (λ precision.
@@ -74,7 +78,7 @@ JudgedByPrecision l here k id precision_field text v =
     (When v ((is_whole here.parent ≡ false) × (is_some precision ≡ true)) PrecisionNotAllowed
     (JudgedByPoints l here k id precision text v)))
 
--- the reasons BadId, IdNotAllowed and MixedIds, and then those of the precision
+-- the reasons BadId, IdNotAllowed and MixedIds, followed by those of the precision
 abbrev pub JudgedById : Allowance → Place → Kind → List ℕ → List ℕ → List ℕ → Verdict → Type 0
 JudgedById l here k id_field precision_field text v =
     Unless v (IsOptionalId id_field) BadId (λ id.
@@ -82,7 +86,7 @@ JudgedById l here k id_field precision_field text v =
     (When v (has_same_ids here.first id ≡ false) MixedIds
     (JudgedByPrecision l here k id precision_field text v)))
 
--- the reasons BadPlace, TooDeep and TooManyNodes, and then those of the id
+-- the reasons BadPlace, TooDeep and TooManyNodes, followed by those of the id
 abbrev pub JudgedByPlace : Allowance → Place → Kind → List ℕ → List ℕ → List ℕ → Verdict → Type 0
 JudgedByPlace l here k id_field precision_field text v =
     When v ((here.steps && has_place here.parent k) ≡ false) BadPlace
@@ -90,7 +94,8 @@ JudgedByPlace l here k id_field precision_field text v =
     (When v (l.nodes ≤ here.nodes) TooManyNodes
     (JudgedById l here k id_field precision_field text v)))
 
--- what a record is after these rows, the last of which stands first: FieldCount, BadDepth and BadKind, and then the reasons of its place
+-- the verdict on a record after these rows, last one first: FieldCount, BadDepth and BadKind,
+-- followed by the reasons of its place
 abbrev pub Judged : Allowance → List Row → Record → Verdict → Type 0
 Judged l before (depth_field ∷ kind_field ∷ id_field ∷ precision_field ∷ text ∷ []) v =
     Unless v (IsDepthField depth_field) BadDepth (λ d.

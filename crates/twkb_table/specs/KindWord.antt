@@ -1,4 +1,4 @@
--- By its length and its first letter a word can be that of one kind alone.
+-- By its length and its first letter, a word can be that of only one kind.
 use Rattle.std.specs.Prelude.{ℕ, if◌then◌else◌, ◌==◌}
 use Rattle.twkb_tree.specs.declared.kind.Kind.{Kind}
 use Rattle.twkb_tree.specs.declared.kind.Kind.TheVariants.{Point, Linestring, Polygon, Ring, MultiPoint, MultiLinestring, MultiPolygon, Collection}

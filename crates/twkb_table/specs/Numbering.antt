@@ -1,4 +1,4 @@
--- Why no record of a number gave a row.
+-- Why no record with a number gave a row.
 use Rattle.std.specs.Prelude.{ℕ, ◌≡◌, ◌+◌, ◌^◌, ◌⊎◌, List, [], ◌∷◌, ◌++◌, Option, IfSome, Bool}
 use Rattle.std.specs.Borrow.{MutBor}
 use Rattle.csv.specs.declared.reader.Reader.{Reader}
@@ -10,18 +10,18 @@ use Rattle.twkb_table.specs.declared.judging.JudgeFault.TheVariants.{Memory, Ref
 use Rattle.twkb_table.specs.declared.table_fault.TableFault.{TableFault}
 use Rattle.twkb_table.specs.declared.table_fault.TableFault.TheVariants as fault
 
--- wherever the reader stands, the text has a record more than it gave
+-- wherever the reader is in a text, the text has one more record than it gave
 abbrev pub HasMore : {R : Type 0} → (R → Option (List ℕ)) → Bool → Reader (MutBor (Tap R)) → Type 0
 HasMore remaining ended reader =
     (told : Option (List ℕ)) (records : List Record) → standing remaining told records ended reader
     → (here : Record) × IfSome told (λ text. BeginWith text (records ++ here ∷ []))
 
--- no record was read, or one that would have the number 2 ^ 32
+-- no record was read, or one whose number would be 2 ^ 32
 abbrev pub MissesRecord : {R : Type 0} → (R → Option (List ℕ)) → Bool → Reader (MutBor (Tap R)) → ℕ → TableFault → Type 0
 MissesRecord remaining ended reader number f =
     (f ≡ fault.Source) ⊎ ((f ≡ fault.TooManyRecords) × (number + 1 ≡ 2 ^ 32) × HasMore remaining ended reader)
 
--- want of memory, or the reason at this number
+-- want of memory, or the reason with this number
 abbrev pub fault_of : ℕ → JudgeFault → TableFault
 fault_of number Memory = fault.Memory
 fault_of number (Refused reason) = fault.At number reason

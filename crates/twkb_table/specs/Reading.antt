@@ -12,38 +12,40 @@ use Rattle.twkb_table.specs.RowFault.{IsLaterFault, HasNoHeader}
 use Rattle.twkb_table.specs.declared.reason.RowReason.{RowReason}
 use Rattle.twkb_table.specs.declared.reason.RowReason.TheVariants.{BadHeader}
 
--- all rows, or those before the record of a number that is refused for a reason; the last row first
+-- the result of reading: all rows, or the rows before a refused record with its number and
+-- reason; last row first
 pub data Reading : Type 0 where
   Whole : List Row → Reading
   Stopped : List Row → ℕ → RowReason → Reading
 
--- the reading goes on after an accepted row, and stops at a refused record
+-- after a row the reading goes on, and after a refused record it stops
 abbrev pub reading_after : Verdict → List Row → ℕ → (Row → Reading) → Reading
 reading_after (Accepted row) before number others = others row
 reading_after (Refused reason) before number others = Stopped before number reason
 
--- the reading of the records from this number on, by what a judge says of each
+-- the reading of the records from this number on, given a judge of each record
 abbrev pub read_rows : (List Row → Record → Verdict) → List Row → ℕ → List Record → Reading
 read_rows judge before number [] = Whole before
 read_rows judge before number (here ∷ more) =
     reading_after (judge before here) before number (λ row. read_rows judge (row ∷ before) (suc number) more)
 
--- the two records are one, field by field
+-- the two records are equal, field by field
 abbrev pub is_record : Record → Record → Bool
 is_record [] [] = true
 is_record (field ∷ fields) (other ∷ others) = bytes_eq field other && is_record fields others
 is_record _ _ = false
 
--- the reading of a table: the header first, and then the rows
+-- the reading of a table: first the header, then the rows
 abbrev pub read_table : (List Row → Record → Verdict) → List Record → Reading
 read_table judge [] = Stopped [] 1 BadHeader
 read_table judge (first ∷ records) = if is_record first header then read_rows judge [] 2 records else Stopped [] 1 BadHeader
 
--- the judge says what each record is
+-- the judge gives the right verdict on each record
 abbrev pub Judges : Allowance → (List Row → Record → Verdict) → Type 0
 Judges l judge = (before : List Row) (here : Record) → AreAccepted l before → Judged l before here (judge before here)
 
--- the reading is of records that name geometries, with their rows, or of records with this fault, with the rows before it
+-- the reading is the rows of the geometries that the records name, or the fault of the records
+-- with the rows before it
 abbrev pub IsReading : Allowance → List Record → Reading → Type 0
 IsReading l records (Whole before) = (gs : List Tree) × Named l records gs × (before ≡ reverse (rows_of gs))
 IsReading l records (Stopped before number reason) =

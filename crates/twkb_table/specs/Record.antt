@@ -6,7 +6,7 @@ use Rattle.twkb_tree.specs.Rows.{Row, rows_of}
 use Rattle.twkb_table.specs.Fields.{optional}
 use Rattle.twkb_tree.specs.Kind.{word_of}
 
--- the fields of a record, each of them bytes
+-- the fields of a record, each a list of bytes
 abbrev pub Record : Type 0
 Record = List (List ℕ)
 

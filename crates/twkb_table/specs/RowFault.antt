@@ -1,4 +1,4 @@
--- Where and why records are refused, and what is complete before that place (profile).
+-- Where and why records are refused, and which geometries are complete before that place (profile).
 use Rattle.std.specs.Prelude.{◌≡◌, ◌≢◌, ℕ, ◌+◌, ◌⊎◌, List, [], ◌∷◌, ◌++◌, length, reverse, ⊤}
 use Rattle.twkb_tree.specs.Tree.{Tree}
 use Rattle.twkb_tree.specs.Rows.{rows_of}
@@ -14,11 +14,12 @@ abbrev pub HasNoHeader : List Record → Type 0
 HasNoHeader [] = ⊤
 HasNoHeader (first ∷ records) = first ≢ header
 
--- what a record is behind the rows of these geometries
+-- the verdict on a record after the rows of these geometries
 abbrev pub JudgedBehind : Allowance → List Tree → Record → Verdict → Type 0
 JudgedBehind l gs here v = Judged l (reverse (rows_of gs)) here v
 
--- The records before this one name geometries, with it they name none, and the reason is the first that holds of it.
+-- The records before this one name geometries, with it they name none, and the reason is the
+-- first that holds of it.
 pub record IsLaterFault (l : Allowance) (records : List Record) (number : ℕ) (reason : RowReason) : Type 0 where
   pub before : List Record
   pub here : Record
@@ -30,19 +31,20 @@ pub record IsLaterFault (l : Allowance) (records : List Record) (number : ℕ) (
   pub none : NamesNone l (before ++ here ∷ [])
   pub judged : JudgedBehind l geometries here (Refused reason)
 
--- the records are refused at the record of this number, counted from 1, for this reason
+-- the records are refused at the record with this number, counted from 1, for this reason
 abbrev pub RowFault : Allowance → List Record → ℕ → RowReason → Type 0
 RowFault l records number reason =
     (HasNoHeader records × (number ≡ 1) × (reason ≡ BadHeader)) ⊎ IsLaterFault l records number reason
 
--- all but the last of the geometries, and none where there are none
+-- all geometries but the last; none if there are none
 abbrev pub all_but_last : List Tree → List Tree
 all_but_last [] = []
 all_but_last (g ∷ []) = []
 all_but_last (g ∷ h ∷ gs) = g ∷ all_but_last (h ∷ gs)
 
--- These are the geometries that a refusal leaves complete: all but the last of those that the records before it name, since the refused
--- row might have belonged to the last, and none where the first record is refused.
+-- These geometries are complete before a refusal: all but the last of those that the records
+-- before it name, since the refused row might have belonged to the last. If the first record is
+-- refused, there are none.
 abbrev pub AreComplete : Allowance → List Record → ℕ → RowReason → List Tree → Type 0
 AreComplete l records number reason gs =
     (HasNoHeader records × (number ≡ 1) × (reason ≡ BadHeader) × (gs ≡ []))

@@ -1,4 +1,4 @@
--- How a reader of rows stands in the geometry that it reads.
+-- The state of a reader of rows in the geometry that it reads.
 use Rattle.std.specs.Prelude.{◌≡◌, ◌<◌, List, [], ◌∷◌, ◌++◌, length, reverse, Option, Some, None}
 use Rattle.twkb_points.specs.Point.{Point}
 use Rattle.twkb_tree.specs.Limits.{Allowance}
@@ -13,7 +13,7 @@ use Rattle.twkb_table.specs.declared.row_reader.Root.{Root}
 use Rattle.twkb_table.specs.Judged.{Verdict, Accepted, Judged}
 use Rattle.twkb_table.specs.declared.row_reader.RowReader.{RowReader}
 
--- the most that a geometry may have
+-- the limits on a geometry
 abbrev pub limits_of : RowReader → Allowance
 limits_of reader = reader.limits
 
@@ -21,7 +21,7 @@ limits_of reader = reader.limits
 abbrev pub open_rows_of : RowReader → List OpenRow
 open_rows_of reader = reader.open_rows
 
--- a root that may be there, with these points
+-- a root with these points, if there is one
 abbrev pub with_points : Option Root → List Point → List TableRow
 with_points None points = []
 with_points (Some root) points = row_with (root_row root) points ∷ []
@@ -30,7 +30,8 @@ with_points (Some root) points = row_with (root_row root) points ∷ []
 abbrev pub waiting : RowReader → List TableRow
 waiting reader = with_points reader.waiting reader.points.items
 
--- the record is judged so after these rows of the last geometry, whatever rows stand before them
+-- this is the verdict on the record after these rows of the last geometry, whatever rows come
+-- before them
 abbrev pub JudgedAfter : Allowance → List TableRow → Record → Verdict → Type 0
 JudgedAfter l rows fields v = (earlier : List TableRow) → Judged l (reverse (earlier ++ rows)) fields v
 
@@ -41,7 +42,7 @@ pub record Keeps (reader : RowReader) (rows : List TableRow) : Type 0 where
   pub open_rows : AreOpen (reverse rows) (open_rows_of reader)
   pub none : waiting reader ≡ []
 
--- The record is a row more of the geometry that the reader reads.
+-- The record is one more row of the geometry that the reader reads.
 pub record GoesOn (old : RowReader) (before : List TableRow) (fields : Record) (new : RowReader) (after : List TableRow) : Type 0 where
   pub row : TableRow
   pub rows : after ≡ before ++ row ∷ []

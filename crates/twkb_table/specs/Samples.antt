@@ -9,21 +9,21 @@ use Rattle.twkb_table.specs.Text.{csvtext}
 abbrev pub a_point : Tree
 a_point = simple (pos 0) (point (Some (point_at (pos 2) (pos 1))))
 
--- its table
+-- the table of the point is as listed
 abbrev pub PointTable : Type 0
 PointTable = table (a_point ∷ []) ≡ header ∷ (codes "0" ∷ codes "point" ∷ [] ∷ codes "0" ∷ codes "AC" ∷ []) ∷ []
 
--- the text of that table
+-- the text of that table is as listed
 abbrev pub PointText : Type 0
 PointText = csvtext (table (a_point ∷ [])) ≡ codes "depth,kind,id,precision,polyline\n0,point,,0,AC\n"
 
--- a polygon of two rings
+-- the table of a polygon of two rings is as listed
 abbrev pub PolygonTable : Type 0
 PolygonTable =
     table (simple (pos 0) (polygon ((point_at (pos 0) (pos 0) ∷ point_at (pos 4) (pos 0) ∷ point_at (pos 0) (pos 4) ∷ []) ∷ (point_at (pos 1) (pos 1) ∷ point_at (pos 2) (pos 1) ∷ point_at (pos 1) (pos 2) ∷ []) ∷ [])) ∷ [])
     ≡ header ∷ (codes "0" ∷ codes "polygon" ∷ [] ∷ codes "0" ∷ [] ∷ []) ∷ (codes "1" ∷ codes "ring" ∷ [] ∷ [] ∷ codes "???GGF" ∷ []) ∷ (codes "1" ∷ codes "ring" ∷ [] ∷ [] ∷ codes "AA?AA@" ∷ []) ∷ []
 
--- a collection of a point and of a linestring without points, with ids
+-- the table of a collection with ids, of a point and a linestring without points, is as listed
 abbrev pub CollectionTable : Type 0
 CollectionTable =
     table (collection (pos 0) (Some (pos 7 ∷ negsuc 0 ∷ [])) (simple (pos 0) (point (Some (point_at (pos 1) (pos 1)))) ▷ simple (pos 0) (line []) ▷ end) ∷ [])

@@ -1,4 +1,4 @@
--- Where a source of records stands in the text of its reader.
+-- The place of a source of records in the text of its reader.
 use Rattle.std.specs.Prelude.{ℕ, ◌≡◌, List, [], ◌∷◌, ◌++◌, Option, IfSome, Bool, false}
 use Rattle.csv.specs.Records as Csv
 use Rattle.csv.specs.Records.{fields_of}
@@ -8,36 +8,39 @@ use Rattle.twkb_table.specs.declared.record_source.SourceFault.{SourceFault}
 use Rattle.twkb_table.specs.declared.record_source.SourceFault.TheVariants as fault
 use Rattle.twkb_table.specs.declared.record_source.RecordSource.{RecordSource}
 
--- the source gave these records, and refused no call
+-- the source gave these records, and no call was refused
 abbrev pub StandsAfter : {R : Type 0} → (R → Option (List ℕ)) → Option (List ℕ) → List Record → RecordSource R → Type 0
 StandsAfter remaining told records source = standing remaining told records source.ended source.reader × (source.spent ≡ false)
 
--- the last record that was read, as `csv` holds it
+-- the last record read, as `csv` holds it
 abbrev pub record_in : {R : Type 0} → RecordSource R → Csv.Row
 record_in source = source.held
 
--- whether the end of the text was met
+-- whether the end of the text was reached
 abbrev pub is_ended : {R : Type 0} → RecordSource R → Bool
 is_ended source = source.ended
 
--- whether a call answered an error
+-- whether a call returned an error
 abbrev pub is_spent : {R : Type 0} → RecordSource R → Bool
 is_spent source = source.spent
 
--- wherever the old source stands, the new one gave one record more, and the text begins with the records given
+-- wherever the old source is in a text, the new one gave one more record, and the text begins
+-- with the records given
 abbrev pub GivesRecord : {R : Type 0} → (R → Option (List ℕ)) → RecordSource R → RecordSource R → Type 0
 GivesRecord remaining old new =
     (told : Option (List ℕ)) (records : List Record) → StandsAfter remaining told records old
     → StandsAfter remaining told (records ++ fields_of (record_in new) ∷ []) new
     × IfSome told (λ text. BeginWith text (records ++ fields_of (record_in new) ∷ []))
 
--- wherever the old source stands, the new one stands too, and the records given are all those of the text
+-- wherever the old source is in a text, the new one is there too, and the records given are all
+-- those of the text
 abbrev pub Ends : {R : Type 0} → (R → Option (List ℕ)) → RecordSource R → RecordSource R → Type 0
 Ends remaining old new =
     (told : Option (List ℕ)) (records : List Record) → StandsAfter remaining told records old
     → StandsAfter remaining told records new × IfSome told (λ text. AreRecordsOf text records)
 
--- wherever the source stands, the fault is its reader's, and the text begins with the records given
+-- wherever the source is in a text, the fault is its reader's, and the text begins with the
+-- records given
 abbrev pub Faults : {R : Type 0} → (R → Option (List ℕ)) → RecordSource R → SourceFault → Type 0
 Faults remaining old f =
     (told : Option (List ℕ)) (records : List Record) → StandsAfter remaining told records old

@@ -1,4 +1,4 @@
--- Where a row stands, as a reader sees it by the open rows.
+-- The place of the next row, by the open rows.
 use Rattle.std.specs.Prelude.{◌≡◌, ℕ, true, List, length, ⊤}
 use Rattle.twkb_tree.specs.declared.open_rows.OpenRow.{OpenRow}
 use Rattle.twkb_tree.specs.Rows.{Row}
@@ -10,7 +10,7 @@ use Rattle.twkb_table.specs.declared.judging.JudgeFault.TheVariants.{Memory, Ref
 use Rattle.twkb_table.specs.declared.reason.RowReason.{RowReason}
 use Rattle.twkb_tree.specs.declared.standing.Standing.{Standing}
 
--- the place of a row that stands so: some parent of its kind, some first child with an id or without
+-- the place of a row, with a parent of the open row's kind and a first child with an id or without
 abbrev pub place_seen : Standing → Place
 place_seen standing = record {
   depth = standing.depth;
@@ -21,13 +21,13 @@ place_seen standing = record {
   points = standing.points;
 }
 
--- The open rows and the two counts are those of the rows so far, the last of which stands first.
+-- The open rows and the two counts are those of the rows so far, last one first.
 pub record StandsAfter (before : List Row) (rows : List OpenRow) (nodes points : ℕ) : Type 0 where
   pub open_rows : AreOpen before rows
   pub node_count : nodes ≡ length (since_root before)
   pub points_held : points ≡ point_count (since_root before)
 
--- a refusal for a reason that holds; want of memory says nothing of the record
+-- a refusal is for a reason that holds; want of memory says nothing about the record
 abbrev pub IfRefused : (RowReason → Type 0) → JudgeFault → Type 0
 IfRefused Holds Memory = ⊤
 IfRefused Holds (Refused reason) = Holds reason

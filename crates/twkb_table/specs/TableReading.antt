@@ -1,4 +1,4 @@
--- Where a reader of tables stands, and what its calls answer.
+-- The state of a reader of tables, and what its calls return.
 use Rattle.std.specs.Prelude.{◌≡◌, ℕ, ◌+◌, ◌^◌, ◌<◌, ◌⊎◌, List, [], ◌∷◌, ◌++◌, length, Option, IfSome, Result, Ok, Err, Bool, true, false, ⊤}
 use Rattle.twkb_tree.specs.Tree.{Tree}
 use Rattle.twkb_tree.specs.Rows.{Row, rows}
@@ -13,32 +13,35 @@ use Rattle.twkb_table.specs.declared.table_fault.TableFault.{TableFault}
 use Rattle.twkb_table.specs.declared.table_fault.TableFault.TheVariants as fault
 use Rattle.twkb_table.specs.declared.table_reader.TableReader.{TableReader}
 
--- ---- where a reader stands
+-- ---- the state of a reader
 
--- these records, as far as they were read, name these geometries: before the header none
+-- the records read so far name these geometries; before the header there are none
 abbrev pub NameSoFar : Allowance → List Record → List Tree → Type 0
 NameSoFar l [] gs = gs ≡ []
 NameSoFar l (first ∷ records) gs = Named l (first ∷ records) gs
 
--- The records name the geometries that were given, and one more where a root waits, whose only row is that root; then the table's end was
--- not met. Where none waits, either no geometry was given yet or the table's end was met.
+-- The records name the geometries that were returned, and one more if a root waits: its only row
+-- is that root, and the table's end was not reached. If none waits, either no geometry was
+-- returned yet or the table's end was reached.
 abbrev pub HaveGiven : Allowance → List Record → List Tree → List Row → Bool → Type 0
 HaveGiven l records given [] ended = NameSoFar l records given × ((given ≡ []) ⊎ (ended ≡ true))
 HaveGiven l records given (root ∷ more) ended = (last : Tree) × Named l records (given ++ last ∷ []) × (rows 0 last ≡ root ∷ more) × (ended ≡ false)
 
--- whether the end of the table was met
+-- whether the end of the table was reached
 abbrev pub is_ended : {R : Type 0} → TableReader R → Bool
 is_ended reader = reader.ended
 
--- whether a call answered an error
+-- whether a call returned an error
 abbrev pub is_spent : {R : Type 0} → TableReader R → Bool
 is_spent reader = reader.spent
 
--- `csv` gave the reader these records of a text that was told at the start, and they are all where the end was met
+-- `csv` gave the reader these records of a text known at the start, and they are all its records
+-- if the end was reached
 abbrev pub HasRead : {R : Type 0} → (R → Option (List ℕ)) → Option (List ℕ) → List Record → TableReader R → Type 0
 HasRead remaining told records reader = standing remaining told records (is_ended reader) reader.reader
 
--- A reader with these limits read these records of a text that was told at the start, fewer than 2 ^ 32, and gave these geometries.
+-- A reader with these limits read these records, fewer than 2 ^ 32, of a text known at the start,
+-- and returned these geometries.
 pub record StandsAfter {R : Type 0} (l : Allowance) (remaining : R → Option (List ℕ)) (told : Option (List ℕ)) (records : List Record) (given : List Tree) (reader : TableReader R) : Type 0 where
   pub source : HasRead remaining told records reader
   pub count : reader.number ≡ length records
@@ -47,19 +50,19 @@ pub record StandsAfter {R : Type 0} (l : Allowance) (remaining : R → Option (L
   pub gave : HaveGiven l records given (waiting reader.rows) (is_ended reader)
   pub unspent : is_spent reader ≡ false
 
--- The end of the table was met, and all its geometries were given.
+-- The end of the table was reached, and all its geometries were returned.
 pub record IsOver {R : Type 0} (reader : TableReader R) : Type 0 where
   pub ended : is_ended reader ≡ true
   pub none : waiting reader.rows ≡ []
   pub begun : 0 < reader.number
 
--- ---- what a call answers
+-- ---- what a call returns
 
 -- the second records begin with the first
 abbrev pub Extends : List Record → List Record → Type 0
 Extends records seen = (more : List Record) × (seen ≡ records ++ more)
 
--- The records seen name one geometry more, which is valid, and these are its rows.
+-- The records seen name one more geometry, which is valid, and these are its rows.
 pub record GivesNext {R : Type 0} (l : Allowance) (remaining : R → Option (List ℕ)) (told : Option (List ℕ)) (records : List Record) (given : List Tree) (flat : List Row) (reader : TableReader R) : Type 0 where
   pub seen : List Record
   pub extends : Extends records seen
@@ -69,14 +72,14 @@ pub record GivesNext {R : Type 0} (l : Allowance) (remaining : R → Option (Lis
   pub rows : rows 0 geometry ≡ flat
   pub stands : StandsAfter l remaining told seen (given ++ geometry ∷ []) reader
 
--- The records seen name this geometry more.
+-- The records seen name one more geometry, which is this one.
 pub record GivesTree {R : Type 0} (l : Allowance) (remaining : R → Option (List ℕ)) (told : Option (List ℕ)) (records : List Record) (given : List Tree) (geometry : Tree) (reader : TableReader R) : Type 0 where
   pub seen : List Record
   pub extends : Extends records seen
   pub begins : IfSome told (λ text. BeginWith text seen)
   pub stands : StandsAfter l remaining told seen (given ++ geometry ∷ []) reader
 
--- All records of the text name the geometries that were given.
+-- All records of the text name the geometries that were returned.
 pub record MeetsEnd {R : Type 0} (l : Allowance) (remaining : R → Option (List ℕ)) (told : Option (List ℕ)) (records : List Record) (given : List Tree) (reader : TableReader R) : Type 0 where
   pub seen : List Record
   pub extends : Extends records seen
@@ -84,8 +87,8 @@ pub record MeetsEnd {R : Type 0} (l : Allowance) (remaining : R → Option (List
   pub named : Named l seen given
   pub stands : StandsAfter l remaining told seen given reader
 
--- The records seen are refused at the last of them, for this reason, and the geometries that were given are those that the refusal leaves
--- complete. Where no record was seen, the text has none.
+-- The records seen are refused at the last of them, for this reason, and the geometries returned
+-- are those that the refusal leaves complete. If no record was seen, the text has none.
 pub record IsRefusedAt (l : Allowance) (told : Option (List ℕ)) (records : List Record) (given : List Tree) (number : ℕ) (reason : RowReason) : Type 0 where
   pub seen : List Record
   pub extends : Extends records seen
@@ -93,7 +96,8 @@ pub record IsRefusedAt (l : Allowance) (told : Option (List ℕ)) (records : Lis
   pub none : seen ≡ [] → IfSome told (λ text. AreRecordsOf text [])
   pub complete : AreComplete l seen number reason given
 
--- The text begins with 2 ^ 32 records. Those before the last name geometries, and all of them but the last were given.
+-- The text begins with 2 ^ 32 records. Those before the last name geometries, of which all but
+-- the last were returned.
 pub record HasTooMany (l : Allowance) (told : Option (List ℕ)) (records : List Record) (given : List Tree) : Type 0 where
   pub before : List Record
   pub here : Record
@@ -104,7 +108,7 @@ pub record HasTooMany (l : Allowance) (told : Option (List ℕ)) (records : List
   pub named : Named l before geometries
   pub complete : given ≡ all_but_last geometries
 
--- what a fault says of a text, of which these records were read and these geometries given
+-- what a fault says about a text of which these records were read and these geometries returned
 abbrev pub Explains : Allowance → Option (List ℕ) → List Record → List Tree → TableFault → Type 0
 Explains l told records given (fault.At number reason) = IsRefusedAt l told records given number reason
 Explains l told records given fault.TooManyRecords = HasTooMany l told records given
@@ -112,23 +116,24 @@ Explains l told records given fault.Source = ⊤
 Explains l told records given fault.Memory = ⊤
 Explains l told records given fault.Spent = ⊥
 
--- ---- what a call shows, wherever the reader stood before it
+-- ---- what a call shows, whatever the reader's state before it
 
--- this holds of the limits, the text, the records read and the geometries given with which the reader may stand
+-- P holds of the limits, the text, the records read and the geometries returned, for every state
+-- the reader may be in
 abbrev pub Wherever : {R : Type 0} → (R → Option (List ℕ)) → TableReader R → (Allowance → Option (List ℕ) → List Record → List Tree → Type 0) → Type 0
 Wherever remaining old Holds =
     (l : Allowance) (told : Option (List ℕ)) (records : List Record) (given : List Tree)
     → StandsAfter l remaining told records given old → Holds l told records given
 
--- the records name one geometry more, whose rows are these, and the new reader stands behind it
+-- the records name one more geometry with these rows, and the new reader is after it
 abbrev pub Gives : {R : Type 0} → (R → Option (List ℕ)) → TableReader R → List Row → TableReader R → Type 0
 Gives remaining old flat new = Wherever remaining old (λ l told records given. GivesNext l remaining told records given flat new)
 
--- the records name this geometry more, and the new reader stands behind it
+-- the records name this one more geometry, and the new reader is after it
 abbrev pub GivesGeometry : {R : Type 0} → (R → Option (List ℕ)) → TableReader R → Tree → TableReader R → Type 0
 GivesGeometry remaining old geometry new = Wherever remaining old (λ l told records given. GivesTree l remaining told records given geometry new)
 
--- all records of the text name the geometries given, and the new reader stands at its end
+-- all records of the text name the geometries returned, and the new reader is at its end
 abbrev pub Ends : {R : Type 0} → (R → Option (List ℕ)) → TableReader R → TableReader R → Type 0
 Ends remaining old new = Wherever remaining old (λ l told records given. MeetsEnd l remaining told records given new)
 
@@ -138,11 +143,11 @@ Faults remaining old f = Wherever remaining old (λ l told records given. Explai
 
 -- ---- inside a call
 
--- how many records were read
+-- the number of records read
 abbrev pub records_read : {R : Type 0} → TableReader R → ℕ
 records_read reader = reader.number
 
--- The records name the geometries that were given and one more, of which these are the rows so far.
+-- The records name the geometries that were returned and one more, which has these rows so far.
 pub record IsReading {R : Type 0} (l : Allowance) (remaining : R → Option (List ℕ)) (told : Option (List ℕ)) (records : List Record) (given : List Tree) (so_far : List Row) (reader : TableReader R) : Type 0 where
   pub source : HasRead remaining told records reader
   pub count : reader.number ≡ length records
@@ -153,57 +158,59 @@ pub record IsReading {R : Type 0} (l : Allowance) (remaining : R → Option (Lis
   pub rows : rows 0 geometry ≡ so_far
   pub unspent : is_spent reader ≡ false
 
--- The header was read, and nothing before it.
+-- The header was read, as the first record.
 pub record HasHeader {R : Type 0} (l : Allowance) (remaining : R → Option (List ℕ)) (told : Option (List ℕ)) (records : List Record) (given : List Tree) (reader : TableReader R) : Type 0 where
   pub fresh : records ≡ []
   pub none : given ≡ []
   pub stands : StandsAfter l remaining told (header ∷ []) [] reader
 
--- what the reading of the first record shows
+-- what reading the first record shows
 abbrev pub ReadsHeader : {R : Type 0} → Allowance → (R → Option (List ℕ)) → Option (List ℕ) → List Record → List Tree → TableReader R → Result (Unit {0}) TableFault → Type 0
 ReadsHeader l remaining told records given reader (Ok done) = HasHeader l remaining told records given reader
 ReadsHeader l remaining told records given reader (Err fault) = Explains l told records given fault
 
--- The records seen name one geometry more, of which the root alone was read.
+-- The records seen name one more geometry, of which only the root was read.
 pub record BeginsNext {R : Type 0} (l : Allowance) (remaining : R → Option (List ℕ)) (told : Option (List ℕ)) (records : List Record) (given : List Tree) (root : List Row) (reader : TableReader R) : Type 0 where
   pub seen : List Record
   pub extends : Extends records seen
   pub reading : IsReading l remaining told seen given root reader
 
--- what the reading of a root shows: it waits, or the table ended
+-- what reading a root shows: it waits, or the table ended
 abbrev pub ReadsRoot : {R : Type 0} → Allowance → (R → Option (List ℕ)) → Option (List ℕ) → List Record → List Tree → TableReader R → Result Bool TableFault → Type 0
 ReadsRoot l remaining told records given reader (Ok true) = BeginsNext l remaining told records given (waiting reader.rows) reader
 ReadsRoot l remaining told records given reader (Ok false) = MeetsEnd l remaining told records given reader
 ReadsRoot l remaining told records given reader (Err fault) = Explains l told records given fault
 
--- what the reading of one record shows: a row more of the geometry, the geometry's end, or a fault
+-- what reading one record shows: one more row of the geometry, the geometry's end, or a fault
 abbrev pub ReadsOn : {R : Type 0} → Allowance → (R → Option (List ℕ)) → Option (List ℕ) → List Record → List Tree → List Row → TableReader R → Result Bool TableFault → Type 0
 ReadsOn l remaining told records given so_far reader (Ok true) = (here : Record) × IsReading l remaining told (records ++ here ∷ []) given so_far reader
 ReadsOn l remaining told records given so_far reader (Ok false) = GivesNext l remaining told records given so_far reader
 ReadsOn l remaining told records given so_far reader (Err fault) = Explains l told records given fault
 
--- the reading of the first record shows it, wherever the old reader stood
+-- reading the first record shows this, whatever the old reader's state
 abbrev pub ShowsHeader : {R : Type 0} → (R → Option (List ℕ)) → TableReader R → TableReader R → Result (Unit {0}) TableFault → Type 0
 ShowsHeader remaining old new result = Wherever remaining old (λ l told records given. ReadsHeader l remaining told records given new result)
 
--- the reading of a root shows it, wherever the old reader stood
+-- reading a root shows this, whatever the old reader's state
 abbrev pub ShowsRoot : {R : Type 0} → (R → Option (List ℕ)) → TableReader R → TableReader R → Result Bool TableFault → Type 0
 ShowsRoot remaining old new result = Wherever remaining old (λ l told records given. ReadsRoot l remaining told records given new result)
 
--- this holds of the limits, the text, the records read and the geometries given with which the reader may be reading rows
+-- P holds of the limits, the text, the records read and the geometries returned, for every state
+-- in which the reader may be reading rows
 abbrev pub WhereverReading : {R : Type 0} → (R → Option (List ℕ)) → TableReader R → List Row → (Allowance → Option (List ℕ) → List Record → List Tree → Type 0) → Type 0
 WhereverReading remaining old so_far Holds =
     (l : Allowance) (told : Option (List ℕ)) (records : List Record) (given : List Tree)
     → IsReading l remaining told records given so_far old → Holds l told records given
 
--- the records name the geometry that was being read, whose rows are these, and the new reader stands behind it
+-- the records name the geometry that was being read, whose rows are these, and the new reader is
+-- after it
 abbrev pub Completes : {R : Type 0} → (R → Option (List ℕ)) → TableReader R → List Row → List Row → TableReader R → Type 0
 Completes remaining old so_far flat new = WhereverReading remaining old so_far (λ l told records given. GivesNext l remaining told records given flat new)
 
--- the text has what the fault says of a geometry that was being read
+-- the text has what the fault says about a geometry that was being read
 abbrev pub FaultsIn : {R : Type 0} → (R → Option (List ℕ)) → TableReader R → List Row → TableFault → Type 0
 FaultsIn remaining old so_far f = WhereverReading remaining old so_far (λ l told records given. Explains l told records given f)
 
--- the reading of one record shows it, wherever the old reader was reading
+-- reading one record shows this, whatever state of reading the old reader was in
 abbrev pub ShowsRow : {R : Type 0} → (R → Option (List ℕ)) → TableReader R → List Row → List Row → TableReader R → Result Bool TableFault → Type 0
 ShowsRow remaining old so_far flat new result = WhereverReading remaining old so_far (λ l told records given. ReadsOn l remaining told records given flat new result)

@@ -1,8 +1,8 @@
--- The text of records, of which no field needs a quote (RFC 4180).
+-- The text of records whose fields need no quotes (RFC 4180).
 use Rattle.std.specs.Prelude.{ℕ, List, [], ◌∷◌, ◌++◌, flat_map}
 use Rattle.twkb_table.specs.Record.{Record}
 
--- the fields with a comma before each
+-- the fields, each after a comma
 abbrev pub more_fields : Record → List ℕ
 more_fields [] = []
 more_fields (field ∷ fields) = 44 ∷ (field ++ more_fields fields)

@@ -17,7 +17,7 @@ value_words row.PointCount = codes "wrong number of points"
 value_words (row.Polyline offset reason) = point_text_words reason
 value_words reason = []
 
--- what is wrong with a record, in words: with its form or its place, and else with what it holds
+-- what is wrong with a record, in words: its form or its place, or a value in it
 abbrev pub row_words : RowReason → List ℕ
 row_words row.BadHeader = codes "bad header"
 row_words row.FieldCount = codes "not five fields"

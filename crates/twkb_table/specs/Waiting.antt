@@ -1,4 +1,4 @@
--- A root that waits until the geometry before it was given.
+-- A root that waits until the geometry before it was returned.
 use Rattle.std.specs.Prelude.{List, [], Option, Some, None, Bool, true}
 use Rattle.twkb_points.specs.Point.{Point}
 use Rattle.twkb_tree.specs.Limits.{Allowance}
@@ -7,7 +7,7 @@ use Rattle.twkb_flat.specs.Rows.{row_with}
 use Rattle.twkb_flat.specs.declared.node.Row.{Row}
 use Rattle.twkb_table.specs.declared.row_reader.Root.{Root}
 
--- its row
+-- the row of the root
 abbrev pub root_row : Root → Row
 root_row root = record { depth = 0; kind = root.kind; id = None; precision = root.precision }
 

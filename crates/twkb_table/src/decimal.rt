@@ -1,4 +1,4 @@
-//! Canonical decimals: digits without a leading zero, after a minus sign where the number is negative.
+//! Canonical decimals: digits without a leading zero, after a minus sign if the number is negative.
 ghost use Rattle.std.specs.Prelude.{◌≡◌, ◌++◌, IfSome, OnOk, OnErr};
 ghost use Rattle.std.specs.Fmt.{signed_decimal};
 ghost use Rattle.twkb_table.specs.Fields.{Reads, IsDepthField, IsIdField, IsPrecisionField, IsOptionalId, IsOptionalPrecision};
@@ -9,17 +9,17 @@ use twkb_tree::{GREATEST_PRECISION, LEAST_PRECISION};
 
 const GREATEST_DEPTH: i64 = 999;
 
-// The greatest number that is an i64 with any digit more behind it.
+// The greatest number that stays an i64 with any digit appended.
 const MOST_BEFORE_A_DIGIT: u64 = 922_337_203_685_477_579;
 
-// The least precision, as a number of any size.
+// The least precision, as an i64.
 const LEAST: i64 = LEAST_PRECISION as i64;
 
-// The greatest precision, as a number of any size.
+// The greatest precision, as an i64.
 const GREATEST: i64 = GREATEST_PRECISION as i64;
 
-/// The depth from 0 to 999 whose canonical decimal the field is, if it is one (profile). Takes no
-/// memory.
+/// Reads a depth from 0 to 999 from its canonical decimal; `None` for any other field (profile).
+/// Takes no memory.
 #[inline(always)]
 pub fn parse_depth(field: &[u8]) -> Option<u32>
     ensures reads { Reads (IsDepthField field.now) result }
@@ -30,7 +30,8 @@ pub fn parse_depth(field: &[u8]) -> Option<u32>
     }
 }
 
-/// The id, any i64, whose canonical decimal the field is, if it is one (profile). Takes no memory.
+/// Reads an id, any i64, from its canonical decimal; `None` for any other field (profile). Takes
+/// no memory.
 #[inline(always)]
 pub fn parse_id(field: &[u8]) -> Option<i64>
     ensures reads { Reads (IsIdField field.now) result }
@@ -42,7 +43,7 @@ pub fn parse_id(field: &[u8]) -> Option<i64>
     }
 }
 
-// The number that a field of digits spells, of which the first is not 0. `None` says nothing.
+// Fast path: reads a field of digits whose first is not 0. `None` proves nothing about the field.
 #[inline(always)]
 fn digits_of(field: &[u8]) -> Option<i64>
     ensures some { IfSome result (λ id. IsIdField field.now id) }
@@ -65,7 +66,7 @@ fn digits_of(field: &[u8]) -> Option<i64>
     Some(number.cast_signed())
 }
 
-// The id whose canonical decimal the field is, of any length: most are of a few digits alone.
+// Reads an id from its canonical decimal of any length. Most fields have only a few digits.
 #[inline(never)]
 fn read_number(field: &[u8]) -> Option<i64>
     ensures reads { Reads (IsIdField field.now) result }
@@ -76,7 +77,7 @@ fn read_number(field: &[u8]) -> Option<i64>
     read_decimal(field)
 }
 
-// The same by std's reader and printer.
+// Reads an id from its canonical decimal, by std's reader and printer. Out of line: few fields need it.
 #[inline(never)]
 fn read_decimal(field: &[u8]) -> Option<i64>
     ensures reads { Reads (IsIdField field.now) result }
@@ -95,8 +96,8 @@ fn read_decimal(field: &[u8]) -> Option<i64>
     }
 }
 
-/// The precision from -8 to 7 whose canonical decimal the field is, if it is one (profile). Takes no
-/// memory.
+/// Reads a precision from -8 to 7 from its canonical decimal; `None` for any other field
+/// (profile). Takes no memory.
 #[inline(always)]
 pub fn parse_precision(field: &[u8]) -> Option<i8>
     ensures reads { Reads (IsPrecisionField field.now) result }
@@ -107,8 +108,8 @@ pub fn parse_precision(field: &[u8]) -> Option<i8>
     }
 }
 
-/// The id that the field spells, `Some(None)` where the field is empty, and `None` where it is neither
-/// (profile). Takes no memory.
+/// Reads an optional id: `Some(None)` if the field is empty, `None` if it is neither empty nor an
+/// id (profile). Takes no memory.
 #[inline(always)]
 pub fn parse_optional_id(field: &[u8]) -> Option<Option<i64>>
     ensures reads { Reads (IsOptionalId field.now) result }
@@ -122,8 +123,8 @@ pub fn parse_optional_id(field: &[u8]) -> Option<Option<i64>>
     }
 }
 
-/// The precision that the field spells, `Some(None)` where the field is empty, and `None` where it is
-/// neither (profile). Takes no memory.
+/// Reads an optional precision: `Some(None)` if the field is empty, `None` if it is neither empty
+/// nor a precision (profile). Takes no memory.
 #[inline(always)]
 pub fn parse_optional_precision(field: &[u8]) -> Option<Option<i8>>
     ensures reads { Reads (IsOptionalPrecision field.now) result }
@@ -137,9 +138,9 @@ pub fn parse_optional_precision(field: &[u8]) -> Option<Option<i8>>
     }
 }
 
-/// Appends the canonical decimal of a number: its digits without a leading zero, after a minus sign
-/// where it is below 0 (profile). Takes memory for the text alone; where that is refused, the text is
-/// as it was.
+/// Appends the canonical decimal of a number: its digits without a leading zero, after a minus
+/// sign if it is negative (profile). Takes memory for the text alone; if it is refused, the text
+/// is as it was.
 pub fn push_decimal(text: &mut Vec<u8>, number: i64) -> Result<(), AllocError>
     ensures appended { OnOk result (text.new.items ≡ text.old.items ++ signed_decimal number) }
     ensures same { OnErr result (text.new.items ≡ text.old.items) }

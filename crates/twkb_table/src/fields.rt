@@ -5,10 +5,10 @@ ghost use Rattle.twkb_table.specs.FiveFields.{record_seen};
 
 use csv::ByteRecord;
 
-// How many fields the record of a row has.
+// The number of fields in the record of a row.
 pub(crate) const FIELD_COUNT: usize = 5;
 
-// The fields of a row's record, as they are read or written.
+// The five fields of a row's record, read or to be written.
 #[derive(Clone, Copy)]
 pub(crate) struct Fields<'a> {
     pub(crate) depth: &'a [u8],
@@ -18,7 +18,7 @@ pub(crate) struct Fields<'a> {
     pub(crate) polyline: &'a [u8],
 }
 
-// The field at this place, counted from 0, of a record that has it.
+// The field at this place, counted from 0; the record must have it.
 #[inline(always)]
 fn field(row: &ByteRecord, place: usize) -> &[u8]
     requires { place < length (fields_of row.now) }

@@ -8,14 +8,14 @@ use crate::row_line::put_row;
 use std::alloc::AllocError;
 use twkb_flat::{NodeId, Rows, Work};
 
-/// Appends the lines of the rows of a flat form, each ended by LF and none of them the header (profile;
-/// their polylines: Encoded Polyline Algorithm Format), and counts in `work` what it reads. Takes memory
-/// for the text alone; where that is refused, the text is as it was.
+/// Appends the lines of the rows of a flat form, each ended by LF, without the header's line
+/// (profile; their polylines: Encoded Polyline Algorithm Format). Counts its reads in `work`.
+/// Takes memory for the text alone; if it is refused, the text is as it was.
 pub fn put_flat_rows(rows: &Rows, work: &mut Work, text: &mut Vec<u8>) -> Result<(), AllocError>
     ensures appended { OnOk result (text.new.items ≡ text.old.items ++ csvtext (map record_of rows.now.flat)) }
     ensures same { OnErr result (text.new.items ≡ text.old.items) }
 
-    // each row and each point is read once at most
+    // each row and each point is read at most once
     ensures nodes { work.new.node_reads ≤ work.old.node_reads + length rows.now.flat }
     ensures points { work.new.point_reads ≤ work.old.point_reads + length (row_points rows.now.flat) }
 {

@@ -1,4 +1,4 @@
-//! A row that was read but for its points.
+//! A row that was read except for its points.
 use crate::judging::JudgeFault;
 use crate::reason::RowReason;
 use twkb_flat::{PointSource, Row};
@@ -7,8 +7,7 @@ use twkb_polyline::{PolyFault, decode_into, decode_one};
 use twkb_tree::row_rules::{count_fits, has_points, is_whole};
 use twkb_tree::{Kind, Limits, Standing};
 
-// A row that was read but for its points: where it stands, what its fields say, and the text of
-// its points.
+// A row that was read except for its points: its place, its fields, and the text of its points.
 #[derive(Clone, Copy)]
 pub(crate) struct RowHead<'a> {
     pub(crate) limits: Limits,
@@ -25,7 +24,7 @@ impl RowHead<'_> {
     ghost use Rattle.twkb_table.specs.Judged.{Accepted};
     ghost use Rattle.twkb_table.specs.Head.{head_row, JudgedAs};
 
-    // The row itself.
+    // The row without its points.
     #[inline(always)]
     pub(crate) fn row(&self) -> Row
         ensures { result ≡ head_row self.now }
@@ -38,7 +37,8 @@ impl RowHead<'_> {
         }
     }
 
-    // The point of a row of kind point that has one, where the limit leaves room for it. `None` says nothing.
+    // Fast path: reads the point of a row of kind point that has one, if the limit leaves room
+    // for it. `None` proves nothing.
     #[inline(always)]
     #[tactic(auto, using(crate::proofs::HeadLemmas::one_judged))]
     fn one_point(&self) -> Option<Pt>

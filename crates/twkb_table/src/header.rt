@@ -1,4 +1,4 @@
-//! The line that every table begins with.
+//! The first line of every table.
 ghost use Rattle.std.specs.Prelude.{◌≡◌, ◌↔◌, [], ◌∷◌, IsTrue};
 ghost use Rattle.csv.specs.Records.{fields_of};
 ghost use Rattle.twkb_table.specs.Record.{header};
@@ -14,7 +14,7 @@ pub fn header_text() -> &'static [u8]
     b"depth,kind,id,precision,polyline\n"
 }
 
-// The header's fields.
+// The fields of the header.
 const HEADER: [&[u8]; FIELD_COUNT] = [b"depth", b"kind", b"id", b"precision", b"polyline"];
 
 // Whether the record is the header.

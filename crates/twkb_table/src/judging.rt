@@ -1,4 +1,4 @@
-//! What a record after the first is: a row, or the first reason that holds of it.
+//! The verdict on a record after the first: a row, or the first reason to refuse it.
 ghost use Rattle.std.specs.Prelude.{List, IfOk, IfErr};
 ghost use Rattle.csv.specs.Records.{fields_of};
 ghost use Rattle.twkb_tree.specs.Rows.{Row as TableRow};
@@ -23,7 +23,7 @@ use twkb_tree::{Kind, Limits, OpenRow, Standing};
 /// Why a record gave no row.
 #[derive(Clone, Copy, Debug, PartialEq, Eq, Error)]
 pub enum JudgeFault {
-    /// No memory for its points.
+    /// No memory for the points of the record.
     #[error("out of memory")]
     Memory,
     /// The record is refused.
@@ -31,7 +31,8 @@ pub enum JudgeFault {
     Refused(RowReason),
 }
 
-// The row of these fields but for its points, of this kind and standing there, or why it is none.
+// Reads the row of these fields except for its points, given its kind and place, or finds the
+// reason to refuse it.
 #[inline(always)]
 fn judge_standing<'a>(
     limits: &Limits,
@@ -65,7 +66,8 @@ fn judge_standing<'a>(
     })
 }
 
-// The row of a record of these five fields but for its points, or why it is none.
+// Reads the row of a record of these five fields except for its points, or finds the reason to
+// refuse it.
 #[inline(always)]
 fn judge_fields<'a>(
     limits: &Limits,
@@ -96,9 +98,10 @@ fn judge_fields<'a>(
     )
 }
 
-// What a record after the first is but for its points, after rows so far with these open rows,
-// the root first, and these counts of rows and points since the last root: its row, or the first
-// reason that holds of it (profile). Whatever its points make of the row, they make of the record.
+// Reads a record after the first except for its points, given the open rows of the rows so far,
+// the root first, and the counts of rows and points since the last root. Returns its row, or the
+// first reason to refuse it (profile); the verdict on its points is then the verdict on the
+// record.
 #[inline(always)]
 pub(crate) fn judge_head<'a>(
     limits: &Limits,
@@ -117,10 +120,10 @@ pub(crate) fn judge_head<'a>(
     judge_fields(limits, rows, nodes, held, &fields)
 }
 
-/// What a record after the first is, after rows so far with these open rows, the root first, and
-/// these counts of rows and points since the last root: its row, or the first reason that holds of
-/// it (profile). The row's points replace those held in `points`, which alone takes memory; after an
-/// `Err` nothing is said of what it holds.
+/// Reads a record after the first, given the open rows of the rows so far, the root first, and
+/// the counts of rows and points since the last root. Returns its row, or the first reason to
+/// refuse it (profile). The row's points replace those in `points`, which alone takes memory.
+/// After an `Err` the contents of `points` are not specified.
 #[inline(always)]
 pub fn judge(
     limits: &Limits,

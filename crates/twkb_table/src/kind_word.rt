@@ -7,8 +7,9 @@ ghost use Rattle.twkb_tree.specs.Kind.{word_of};
 use twkb_num::Piece;
 use twkb_tree::Kind;
 
-/// The kind whose word the field is, if it is one: `point`, `linestring`, `polygon`, `ring`,
-/// `multipoint`, `multilinestring`, `multipolygon` or `collection` (profile). Takes no memory.
+/// Reads the kind whose word the field is, if it is one: `point`, `linestring`, `polygon`,
+/// `ring`, `multipoint`, `multilinestring`, `multipolygon` or `collection` (profile). Takes no
+/// memory.
 #[inline(always)]
 pub fn parse_kind(field: &[u8]) -> Option<Kind>
     ensures reads { Reads (λ kind. field.now ≡ word_of kind) result }
@@ -24,7 +25,7 @@ pub fn parse_kind(field: &[u8]) -> Option<Kind>
     }
 }
 
-// The one kind of which a word of this length with this first letter can be.
+// The only kind whose word can have this length and this first letter.
 #[inline(always)]
 fn likely_kind(count: usize, first: u8) -> Kind
     ensures { result ≡ likely count first }
@@ -39,7 +40,7 @@ fn likely_kind(count: usize, first: u8) -> Kind
     }
 }
 
-// The one kind of which a word of ten letters with this first one can be.
+// The only kind whose word can have ten letters and this first one.
 #[inline(always)]
 fn likely_of_ten(first: u8) -> Kind
     ensures { result ≡ likely_of_ten first }
@@ -51,7 +52,7 @@ fn likely_of_ten(first: u8) -> Kind
     }
 }
 
-/// Appends the word of a kind, with this byte before it and after it. Takes no memory.
+/// Appends the word of a kind, with this byte before and after it. Takes no memory.
 #[inline(always)]
 pub fn push_kind(kind: Kind, around: u8, piece: &mut Piece<128>)
     requires room { length piece.old + 17 ≤ 128 }
@@ -60,7 +61,7 @@ pub fn push_kind(kind: Kind, around: u8, piece: &mut Piece<128>)
 {
     let (word, count) = kind.padded_name();
     piece.push(around);
-    // all of a word with its spaces: each copy is of one size
+    // the word is copied with its padding, so that each copy has one size
     piece.push_front(word, count);
     piece.push(around);
 }

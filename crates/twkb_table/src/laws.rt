@@ -1,4 +1,4 @@
-//! Laws of tables: what records name, where they are refused, and how their text is read.
+//! Laws of tables: which geometries records name, when they are refused, and how their text is read.
 ghost use Rattle.std.specs.Prelude.{◌≡◌, ◌≢◌, ◌↔◌, ◌≤◌, ◌⊎◌, ◌++◌, ◌∷◌, [], ℕ, List, reverse};
 ghost use Rattle.csv.specs.Reading.{AreRecords, default_config, strip_bom};
 ghost use Rattle.csv.specs.declared.parser.State.TheVariants.{StartRecord};
@@ -17,17 +17,17 @@ ghost use Rattle.twkb_table.specs.Samples.{PointTable, PointText, PolygonTable, 
 ghost use Rattle.twkb_table.specs.Reading.{read_table, Judges, IsReading};
 ghost use Rattle.twkb_table.specs.declared.reason.RowReason.{RowReason};
 
-/// Records name one list of geometries at most.
+/// Records name at most one list of geometries.
 pub fn one_reading()
     ensures { (l : Allowance) (records : List Record) (gs hs : List Tree) → IsAllowance l → Named l records gs → Named l records hs → gs ≡ hs }
 {}
 
-/// Each front of a table of valid geometries is such a table, but for the empty front.
+/// Each prefix of a table of valid geometries is such a table, except the empty prefix.
 pub fn fronts()
     ensures { (l : Allowance) (front more : List Record) (gs : List Tree) → front ≢ [] → Named l (front ++ more) gs → (hs : List Tree) × Named l front hs }
 {}
 
-/// The rows of two tables, one after the other below one header, name the geometries of both; and a
+/// The rows of two tables, one after the other below one header, name the geometries of both. A
 /// table that is cut before a row of depth 0 is two such tables.
 pub fn parts()
     ensures joined { (l : Allowance) (rows more : List Record) (gs hs : List Tree) → Named l (header ∷ rows) gs → Named l (header ∷ more) hs → Named l (header ∷ (rows ++ more)) (gs ++ hs) }
@@ -40,45 +40,45 @@ pub fn read_back()
     ensures { (l : Allowance) (records : List Record) (gs : List Tree) → IsAllowance l → Named l records gs → AreRecords default_config StartRecord (strip_bom (csvtext records)) records }
 {}
 
-/// A record is judged a row exactly where it is that row's record and the row may come next.
+/// The verdict on a record is a row exactly if it is that row's record and the row may come next.
 pub fn judged_rows()
     ensures { (l : Allowance) (rows : List Row) (fields : Record) (row : Row) → IsAllowance l → AreValidRows l rows → Judged l (reverse rows) fields (Accepted row) ↔ ((fields ≡ record_of row) × Accepts l (reverse rows) row) }
 {}
 
-/// Each record is judged, and in one way.
+/// Each record has exactly one verdict.
 pub fn one_verdict()
     ensures some { (l : Allowance) (before : List Row) (fields : Record) → (v : Verdict) × Judged l before fields v }
     ensures one { (l : Allowance) (before : List Row) (fields : Record) (v w : Verdict) → Judged l before fields v → Judged l before fields w → v ≡ w }
 {}
 
-/// After records that name geometries, a record that is judged a row leads to records that name
-/// geometries with that row; one that is refused leads to records that name none.
+/// After records that name geometries, a record with a row as its verdict gives records that name
+/// geometries with that row; a refused record gives records that name none.
 pub fn judged()
     ensures grows { (l : Allowance) (records : List Record) (here : Record) (gs : List Tree) (row : Row) → Named l records gs → JudgedBehind l gs here (Accepted row) → NameMore l records here gs row }
     ensures refused { (l : Allowance) (records : List Record) (here : Record) (gs : List Tree) (reason : RowReason) → IsAllowance l → Named l records gs → JudgedBehind l gs here (Refused reason) → NamesNone l (records ++ here ∷ []) }
 {}
 
-/// Records name geometries or have a fault, and not both; the fault has one place and one reason.
+/// Records name geometries or have a fault, and never both; the fault has one place and one reason.
 pub fn faults()
     ensures decided { (l : Allowance) (records : List Record) → IsAllowance l → ((gs : List Tree) × Named l records gs) ⊎ ((number : ℕ) × (reason : RowReason) × RowFault l records number reason) }
     ensures none { (l : Allowance) (records : List Record) (number : ℕ) (reason : RowReason) → RowFault l records number reason → NamesNone l records }
     ensures one { (l : Allowance) (records : List Record) (m n : ℕ) (why reason : RowReason) → IsAllowance l → RowFault l records m why → RowFault l records n reason → (m ≡ n) × (why ≡ reason) }
 {}
 
-/// A fault leaves one list of geometries complete, and none at the first two records.
+/// A fault leaves one list of geometries complete, and none if it is at one of the first two records.
 pub fn complete()
     ensures some { (l : Allowance) (records : List Record) (number : ℕ) (reason : RowReason) → RowFault l records number reason → (gs : List Tree) × AreComplete l records number reason gs }
     ensures one { (l : Allowance) (records : List Record) (m n : ℕ) (why reason : RowReason) (gs hs : List Tree) → IsAllowance l → AreComplete l records m why gs → AreComplete l records n reason hs → gs ≡ hs }
     ensures early { (l : Allowance) (records : List Record) (number : ℕ) (reason : RowReason) (gs : List Tree) → number ≤ 2 → AreComplete l records number reason gs → gs ≡ [] }
 {}
 
-/// Whatever judges each record rightly, the plain reader reads the geometries that records name, or
+/// With any correct judge of records, the plain reader reads the geometries that records name, or
 /// their fault.
 pub fn plain_reading()
     ensures { (l : Allowance) (judge : List Row → Record → Verdict) (records : List Record) → IsAllowance l → Judges l judge → IsReading l records (read_table judge records) }
 {}
 
-/// The definitions give the records of worked tables.
+/// Checks by computation that the definitions give the records of worked tables.
 pub fn samples()
     ensures point { PointTable }
     ensures text { PointText }

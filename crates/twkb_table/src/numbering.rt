@@ -11,11 +11,11 @@ use csv::{ByteRecord, Reader};
 use std::io::Read;
 use twkb_io::Tap;
 
-// The greatest number that a record of a table may have.
+// The greatest number of a record in a table.
 const LAST_RECORD: u32 = u32::MAX;
 
-// Reads the record of the next number, and answers whether there was one. A table has fewer than
-// 2^32 records (profile).
+// Reads the next record and counts it; returns whether there was one. A table has fewer than 2^32
+// records (profile).
 #[inline(always)]
 pub(crate) fn next_record<R: Read>(
     reader: &mut Reader<&mut Tap<R>>,
@@ -45,7 +45,7 @@ pub(crate) fn next_record<R: Read>(
     Ok(true)
 }
 
-// What is answered of a record of this number that gave no row.
+// The fault of a record with this number that gave no row.
 pub(crate) fn fault_at(number: u32, fault: JudgeFault) -> TableFault
     ensures value { result ≡ fault_of number fault }
 {

@@ -12,11 +12,12 @@ use std::marker::Model;
 use twkb_flat::Row;
 use twkb_tree::{Kind, OpenRow};
 
-// Up to this many open rows take no memory of their own. Eight collections in one another, and a point in them, have nine.
+// Up to this many open rows are kept inline and take no memory. Eight nested collections and a
+// point in them have nine.
 const INLINE: usize = 16;
 
-// The open rows, the root first. A place is kept after its row is done, for the next one as deep: nothing is dropped, and no blank is
-// written.
+// The open rows, the root first. A place is kept after its row is complete, for the next row at
+// that depth, so nothing is dropped and no blank is written.
 #[derive(Drop)]
 pub(crate) struct OpenRows {
     places: SmallVec<OpenRow, INLINE>,
@@ -47,7 +48,7 @@ fn write(places: &mut [OpenRow], depth: usize, kind: Kind, has_id: bool)
     }
 }
 
-// Opens a row if there is no such place yet, or the places are in memory of their own.
+// Opens a row if there is no such place yet, or if the places are on the heap.
 #[cold]
 #[inline(never)]
 fn write_apart(
@@ -71,7 +72,7 @@ fn write_apart(
 }
 
 impl OpenRows {
-    // No open row. Takes no memory.
+    // Makes an empty list of open rows. Takes no memory.
     pub(crate) fn new(alloc: Global) -> OpenRows
         ensures { result ≡ [] }
     {
@@ -89,8 +90,9 @@ impl OpenRows {
         &self.places.as_slice()[..self.levels]
     }
 
-    // Opens a row that was read: the open rows at its depth and below are done, its parent notes a child, and the row is the last one. Takes
-    // memory if more rows are open than ever before, and more than sixteen; an `Err` changes nothing.
+    // Opens a row that was read: the open rows at its depth and below are complete, its parent
+    // notes a child, and the row is the last one. Takes memory if more rows are open than ever
+    // before, and more than sixteen; an `Err` changes nothing.
     #[inline(always)]
     pub(crate) fn open_row(&mut self, row: &Row) -> Result<(), AllocError>
         requires { row.now.depth ≤ length self.old }

@@ -1,4 +1,4 @@
-//! What a row may be where it stands.
+//! What a row's place allows.
 ghost use Rattle.std.specs.Prelude.{OnOk, IfOk, IfErr};
 ghost use Rattle.twkb_table.specs.Places.{HasPlace, LacksPlace, HasId, LacksId, HasPrecision, LacksPrecision};
 ghost use Rattle.twkb_table.specs.Standing.{place_seen};
@@ -8,7 +8,7 @@ use crate::reason::RowReason;
 use twkb_tree::row_rules::{has_place, has_same_ids, id_allowed, is_whole, nest_kept};
 use twkb_tree::{Kind, Limits, Standing};
 
-// Why a row of this kind may not stand there.
+// Checks that a row of this kind may come at this place, or returns the reason why not.
 #[inline(always)]
 pub(crate) fn check_place(limits: &Limits, standing: &Standing, kind: Kind) -> Result<(), RowReason>
     ensures passed { OnOk result (HasPlace limits.now (place_seen standing.now) kind) }
@@ -26,7 +26,7 @@ pub(crate) fn check_place(limits: &Limits, standing: &Standing, kind: Kind) -> R
     Ok(())
 }
 
-// The id of a row of this kind that stands there, or why it may not have it.
+// Reads the id of a row of this kind at this place, or returns the reason why it may not have it.
 #[inline(always)]
 pub(crate) fn read_id(
     standing: &Standing,
@@ -49,7 +49,7 @@ pub(crate) fn read_id(
     Ok(id)
 }
 
-// The precision of a row that stands there, or why it may not have it.
+// Reads the precision of a row at this place, or returns the reason why it may not have it.
 #[inline(always)]
 pub(crate) fn read_precision(standing: &Standing, field: &[u8]) -> Result<Option<i8>, RowReason>
     ensures read { IfOk result (λ precision. HasPrecision (place_seen standing.now) field.now precision) }

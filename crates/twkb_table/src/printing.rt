@@ -1,4 +1,4 @@
-//! The rows of a geometry as text, by the writer of `csv`.
+//! The rows of a geometry as text, written by the writer of `csv`.
 ghost use Rattle.std.specs.Prelude.{◌≡◌, ◌≤◌, ◌<◌, ◌+◌, ◌^◌, ◌∷◌, [], ◌++◌, map, OnOk, OnErr, IfOk};
 ghost use Rattle.twkb_tree.specs.Limits.{largest_limits};
 ghost use Rattle.twkb_tree.specs.Tree.{nest, nest_all, trees};
@@ -16,10 +16,10 @@ use twkb_flat::{Row, own_row};
 use twkb_points::Pt;
 use twkb_tree::{Geometry, Ids, Kind, Lines, Members, Pts, Shape, id_at};
 
-/// The lines of the geometry's rows, each ended by LF and none of them the header (profile; their
-/// polylines: Encoded Polyline Algorithm Format). The geometry nests no deeper than the largest limits
-/// let it, at most 32 collections round a member. Takes memory for the text, and for the longest
-/// polyline.
+/// The lines of the geometry's rows, each ended by LF, without the header's line (profile; their
+/// polylines: Encoded Polyline Algorithm Format). The geometry must nest no deeper than the
+/// largest limits allow: at most 32 collections around a member. Takes memory for the text and
+/// for the longest polyline.
 #[tactic(auto, unfolding(crate::specs::Printing::row_lines))]
 pub fn rows_text(alloc: Global, geometry: &Geometry) -> Result<Vec<u8>, AllocError>
     requires nest { nest geometry.now ≤ largest_limits.nest }
@@ -30,8 +30,8 @@ pub fn rows_text(alloc: Global, geometry: &Geometry) -> Result<Vec<u8>, AllocErr
     records.into_text()
 }
 
-/// Appends the lines of the geometry's rows, as `rows_text` gives them. Takes memory as `rows_text` does,
-/// and for the text; if that is refused, the text is as it was.
+/// Appends the lines of the geometry's rows, as `rows_text` returns them. Takes memory as
+/// `rows_text` does, and for the text; if it is refused, the text is as it was.
 pub fn put_rows(geometry: &Geometry, text: &mut Vec<u8>) -> Result<(), AllocError>
     requires nest { nest geometry.now ≤ largest_limits.nest }
     ensures appended { OnOk result (text.new.items ≡ text.old.items ++ csvtext (map record_of (rows 0 geometry.now))) }
@@ -41,7 +41,7 @@ pub fn put_rows(geometry: &Geometry, text: &mut Vec<u8>) -> Result<(), AllocErro
     text.extend_from_slice(&lines)
 }
 
-// Writes the records of a geometry's rows, which has this id and stands at this depth.
+// Writes the records of the rows of a geometry with this id at this depth.
 #[cycle(lines)]
 fn write_geometry(
     geometry: &Geometry,
@@ -68,7 +68,7 @@ fn write_geometry(
     }
 }
 
-// Writes the record of a part, which has no precision of its own.
+// Writes the record of a part, which has no precision.
 fn write_part(
     depth: u32,
     kind: Kind,
@@ -131,8 +131,8 @@ fn write_areas(
     Ok(())
 }
 
-// Writes the records of parts of this kind, each with a list of points: rings, or the linestrings of
-// a multilinestring.
+// Writes the records of parts of this kind, each a list of points: rings, or the linestrings of a
+// multilinestring.
 fn write_lines(
     depth: u32,
     kind: Kind,

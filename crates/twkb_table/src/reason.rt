@@ -1,33 +1,33 @@
-//! Why a record is refused.
+//! The reasons for which a record is refused.
 ghost use Rattle.std.specs.Prelude.{◌≡◌, ◌≤◌, length};
 ghost use Rattle.twkb_table.specs.Texts.{row_words};
 
 use thiserror::Error;
 use twkb_polyline::PolyReason;
 
-/// Why a record is no row of a table, in the order of the checks (profile).
+/// Why a record is not a row of a table, in the order of the checks (profile).
 #[derive(Clone, Copy, Debug, PartialEq, Eq, Error)]
 #[error("{}", self.text())]
 pub enum RowReason {
     /// The first record is missing, or is not the header.
     BadHeader,
-    /// The record has not five fields.
+    /// The record does not have five fields.
     FieldCount,
-    /// The depth is no canonical decimal from 0 to 999.
+    /// The depth is not a canonical decimal from 0 to 999.
     BadDepth,
     /// The kind is none of the eight words.
     BadKind,
     /// The row skips a depth, or a root is a ring, or its parent may not have this kind.
     BadPlace,
-    /// The parent is a collection inside as many collections as may nest.
+    /// The parent is a collection that is already inside as many collections as allowed.
     TooDeep,
-    /// The geometry has as many rows already as it may have.
+    /// The geometry already has as many rows as allowed.
     TooManyNodes,
     /// The id is neither empty nor the canonical decimal of an i64.
     BadId,
     /// A root or a ring has an id.
     IdNotAllowed,
-    /// Of this row and the first child of its parent only one has an id.
+    /// Only one of this row and its parent's first child has an id.
     MixedIds,
     /// The precision is neither empty nor a canonical decimal from -8 to 7.
     BadPrecision,
@@ -40,7 +40,7 @@ pub enum RowReason {
     /// The polyline is refused at this byte of it, counted from 0 (Encoded Polyline Algorithm Format).
     #[error("polyline at {0}: {1}")]
     Polyline(usize, PolyReason),
-    /// A point of a multipoint has not just one point, or another point has more than one.
+    /// A point of a multipoint does not have exactly one point, or another point has more than one.
     PointCount,
 }
 

@@ -13,15 +13,15 @@ use twkb_io::Tap;
 /// Why no record came.
 #[derive(Clone, Copy, PartialEq, Eq, Debug, Error)]
 pub enum SourceFault {
-    /// The reader failed, or no memory was found.
+    /// The reader failed, or memory was refused.
     #[error("reading the table failed")]
     Source,
-    /// An earlier call answered an error.
+    /// An earlier call returned an error.
     #[error("the table was refused before")]
     Spent,
 }
 
-/// The records that `csv` reads from a tap, of any number of fields, as they stand (RFC 4180).
+/// The records that `csv` reads from a tap, with any number of fields, unchanged (RFC 4180).
 #[derive(Drop)]
 pub struct RecordSource<'a, R> {
     reader: Reader<&'a mut Tap<R>>,
@@ -33,7 +33,7 @@ pub struct RecordSource<'a, R> {
 impl<'a, R: Read> RecordSource<'a, R> {
     ghost use Rattle.twkb_table.specs.SourceStanding.{StandsAfter, GivesRecord, Ends, Faults, is_ended, is_spent, record_in};
 
-    /// Reads nothing yet, and takes no memory.
+    /// Makes a source that has read nothing. Takes no memory.
     pub fn new(alloc: Global, tap: &'a mut Tap<R>) -> RecordSource<'a, R>
         ensures { StandsAfter R.remaining (R.remaining (device_of tap.old)) [] result }
     {
@@ -45,16 +45,16 @@ impl<'a, R: Read> RecordSource<'a, R> {
         }
     }
 
-    /// The last record that was read.
+    /// The last record read.
     pub fn record(&self) -> &ByteRecord
         ensures { result.now ≡ record_in self.now }
     {
         &self.held
     }
 
-    /// Reads the next record, and answers whether there was one. After an `Err` each call answers
-    /// `Spent`, and after the end each call answers that there is none. Takes memory for the reader of
-    /// `csv` and one record.
+    /// Reads the next record, and returns whether there was one. After an `Err` each call returns
+    /// `Spent`; after the end each call returns that there is none. Takes memory for the reader
+    /// of `csv` and one record.
     pub fn read(&mut self) -> Result<bool, SourceFault>
         ensures gives { IfOk result (λ found. found ≡ true → GivesRecord R.remaining self.old self.new) }
         ensures ends { IfOk result (λ found. found ≡ false → Ends R.remaining self.old self.new) }
@@ -74,7 +74,7 @@ impl<'a, R: Read> RecordSource<'a, R> {
     }
 }
 
-// Reads the next record, and answers whether there was one. After the end each call answers that
+// Reads the next record, and returns whether there was one. After the end each call returns that
 // there is none.
 #[inline(always)]
 pub(crate) fn read_next<R: Read>(
@@ -100,7 +100,7 @@ pub(crate) fn read_next<R: Read>(
     Ok(found)
 }
 
-// A reader of every record, of any length, as it stands.
+// Makes a reader of records of any length, unchanged.
 pub(crate) fn new_reader<'a, R: Read>(alloc: Global, tap: &'a mut Tap<R>) -> Reader<&'a mut Tap<R>>
     ensures { HasGiven R.remaining (R.remaining (device_of tap.old)) [] result }
 {

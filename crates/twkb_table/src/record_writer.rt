@@ -15,7 +15,7 @@ use twkb_flat::Row;
 use twkb_points::Pt;
 use twkb_polyline::encode_into;
 
-// A writer of `csv` over a text, and room for the polyline of one row.
+// A writer of `csv` into a text, with room for the polyline of one row.
 #[derive(Drop)]
 pub(crate) struct RecordWriter {
     writer: Writer<Vec<u8>>,
@@ -23,7 +23,7 @@ pub(crate) struct RecordWriter {
 }
 
 impl RecordWriter {
-    // A writer of records that wrote none. Takes no memory.
+    // Makes a writer that wrote no record. Takes no memory.
     pub(crate) fn new(alloc: Global) -> RecordWriter
         ensures ready { IsReady result.writer }
         ensures empty { text_of result.writer ≡ [] }
@@ -54,7 +54,7 @@ impl RecordWriter {
         write_record(&mut self.writer, &fields)
     }
 
-    // The text of all records.
+    // Returns the text of all records.
     pub(crate) fn into_text(self) -> Result<Vec<u8>, AllocError>
         ensures { IfOk result (λ text. text.items ≡ text_of self.writer) }
     {
@@ -65,7 +65,8 @@ impl RecordWriter {
     }
 }
 
-// Writes one record. Its only refusal is that of the text's growth: each record has five fields.
+// Writes one record. It can only fail for want of memory for the text, since each record has five
+// fields.
 fn write_record(writer: &mut Writer<Vec<u8>>, fields: &Fields<'_>) -> Result<(), AllocError>
     requires ready { IsReady writer.old }
     ensures { OnOk result (Writes writer.old writer.new (row_text default_writer (record_seen fields.now))) }
@@ -82,7 +83,7 @@ fn write_record(writer: &mut Writer<Vec<u8>>, fields: &Fields<'_>) -> Result<(),
     Ok(())
 }
 
-// The canonical decimal of a number where there is one, and else nothing.
+// The canonical decimal of a number, or an empty field if there is none.
 fn number_field(number: Option<i64>, buffer: &mut Buffer) -> &[u8]
     ensures spelled { result.now ≡ optional number }
     ensures bare { IsBare result.now }
@@ -93,7 +94,7 @@ fn number_field(number: Option<i64>, buffer: &mut Buffer) -> &[u8]
     }
 }
 
-// A precision as a number of 64 bits.
+// A precision as an i64.
 fn widened(precision: Option<i8>) -> Option<i64>
     ensures { result ≡ precision }
 {

@@ -1,4 +1,4 @@
-//! One row of a table as a line.
+//! One row of a table as a line of text.
 ghost use Rattle.std.specs.Prelude.{◌≡◌, ◌≤◌, ◌+◌, [], ◌∷◌, ◌++◌, OnOk, decimal, length};
 ghost use Rattle.std.specs.Fmt.{signed_decimal};
 ghost use Rattle.twkb_tree.specs.Kind.{word_of};
@@ -14,9 +14,9 @@ use twkb_num::Piece;
 use twkb_points::Pt;
 use twkb_polyline::{encode_into, encode_point};
 
-// Appends the line of a row with its points, or a front of it where memory is refused. What stands
-// before the points is gathered first and appended at once, behind one test for memory; the line of a
-// row of one point is gathered whole.
+// Appends the line of a row with its points, or a prefix of it if memory is refused. The fields
+// before the points are gathered first and appended together, with one test for memory; the line
+// of a row of one point is gathered whole.
 pub(crate) fn put_row(row: &Row, points: &[Pt], text: &mut Vec<u8>) -> Result<(), AllocError>
     ensures appended { OnOk result (text.new.items ≡ text.old.items ++ row_lines (row_with row.now points.now ∷ [])) }
     ensures grown { Grows text.old.items text.new.items }
@@ -33,7 +33,7 @@ pub(crate) fn put_row(row: &Row, points: &[Pt], text: &mut Vec<u8>) -> Result<()
     text.extend_from_slice(b"\n")
 }
 
-// Gathers the depth, the kind, the id and the precision of a row, each with the comma behind it.
+// Gathers the depth, the kind, the id and the precision of a row, each followed by a comma.
 #[inline(always)]
 fn push_head(row: &Row, head: &mut Piece<128>)
     requires empty { head.old ≡ [] }
@@ -48,7 +48,8 @@ fn push_head(row: &Row, head: &mut Piece<128>)
     head.push(b',');
 }
 
-// Gathers the canonical decimal of a number. Most have one digit: a byte costs less than a slice.
+// Gathers the canonical decimal of a number. Most have one digit, and pushing a byte is cheaper
+// than pushing a slice.
 #[inline(always)]
 fn push_number(number: i64, head: &mut Piece<128>)
     requires room { length head.old + 20 ≤ 128 }
@@ -62,7 +63,7 @@ fn push_number(number: i64, head: &mut Piece<128>)
     }
 }
 
-// Gathers the canonical decimal of an id where there is one.
+// Gathers the canonical decimal of an id, if there is one.
 #[inline(always)]
 fn push_id(id: Option<i64>, head: &mut Piece<128>)
     requires room { length head.old + 20 ≤ 128 }
@@ -75,7 +76,7 @@ fn push_id(id: Option<i64>, head: &mut Piece<128>)
     }
 }
 
-// Gathers the canonical decimal of a precision where there is one.
+// Gathers the canonical decimal of a precision, if there is one.
 #[inline(always)]
 fn push_precision(precision: Option<i8>, head: &mut Piece<128>)
     requires room { length head.old + 20 ≤ 128 }

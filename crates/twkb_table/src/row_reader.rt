@@ -17,15 +17,15 @@ use twkb_flat::{Flat, PointSource, Row};
 use twkb_points::Pt;
 use twkb_tree::{Kind, Limits};
 
-// A root that waits: each root stands at depth 0, and has no id.
+// A root that waits. Each root is at depth 0 and has no id.
 #[derive(Clone, Copy)]
 pub(crate) struct Root {
     kind: Kind,
     precision: Option<i8>,
 }
 
-// What a reader keeps of a table's rows: those that are open in the geometry that it reads, and
-// the root of the next geometry while it waits, with its points in a buffer that serves all roots.
+// The state of reading a table's rows: the open rows of the geometry that is read, and the root
+// of the next geometry while it waits, with its points in a buffer that all roots share.
 #[derive(Drop)]
 pub(crate) struct RowReader {
     limits: Limits,
@@ -38,7 +38,7 @@ pub(crate) struct RowReader {
 impl RowReader {
     ghost use Rattle.twkb_table.specs.RowReading.{limits_of, waiting, BeginsFirst, JudgedAfter, Keeps, GoesOn, EndsBefore};
 
-    // Keeps nothing yet. Takes no memory.
+    // Makes a state with no rows. Takes no memory.
     pub(crate) fn new(alloc: Global, limits: Limits) -> RowReader
         ensures limits { limits_of result ≡ limits }
         ensures none { waiting result ≡ [] }
@@ -59,14 +59,14 @@ impl RowReader {
         self.waiting.is_some()
     }
 
-    // Reads a record where no row is open: the root of the first geometry, which then waits.
+    // Reads a record while no row is open: the root of the first geometry, which then waits.
     pub(crate) fn read_root(&mut self, here: &ByteRecord) -> Result<(), JudgeFault>
         ensures read { OnOk result (BeginsFirst self.old (fields_of here.now) self.new) }
         ensures refused { IfErr result (IfRefused (λ reason. Judged (limits_of self.old) [] (fields_of here.now) (Refused reason))) }
         ensures limits { limits_of self.new ≡ limits_of self.old }
         ensures sound { IsAllowance (limits_of self.old) }
     {
-        // learnt: the limits are allowed
+        // gives proofs the fact that the limits are allowed
         let _learnt = self.limits.nest();
         self.waiting = None;
         match judge(&self.limits, &[], 0, 0, here, &mut self.points) {
@@ -82,7 +82,7 @@ impl RowReader {
         }
     }
 
-    // Puts the root that waits into a flat form, in place of its rows.
+    // Moves the root that waits into a flat form, in place of its rows.
     #[inline(always)]
     pub(crate) fn begin(&mut self, flat: &mut Flat) -> Result<(), AllocError>
         requires waits { 0 < length (waiting self.old) }
@@ -90,7 +90,7 @@ impl RowReader {
         ensures keeps { OnOk result (Keeps self.new flat.new) }
         ensures limits { limits_of self.new ≡ limits_of self.old }
     {
-        // learnt: the limits are allowed
+        // gives proofs the fact that the limits are allowed
         let _learnt = self.limits.nest();
         let Some(root) = self.waiting else {
             unreachable!()
@@ -107,8 +107,8 @@ impl RowReader {
         Ok(())
     }
 
-    // Reads a record after the rows of the flat form. A row of the same geometry is put there; the
-    // root of the next geometry waits, and the answer is false.
+    // Reads a record after the rows of the flat form. A row of the same geometry is appended
+    // there. The root of the next geometry waits, and the answer is `false`.
     #[inline(always)]
     pub(crate) fn read_row(
         &mut self,
@@ -122,7 +122,7 @@ impl RowReader {
         ensures limits { limits_of self.new ≡ limits_of self.old }
         ensures sound { IsAllowance (limits_of self.old) }
     {
-        // learnt: the limits are allowed
+        // gives proofs the fact that the limits are allowed
         let _learnt = self.limits.nest();
         self.waiting = None;
         let head = match self.judge_next(here, flat) {
@@ -151,7 +151,7 @@ impl RowReader {
         Ok(true)
     }
 
-    // Judges a record after the rows of the flat form, but for its points.
+    // Judges a record after the rows of the flat form, except for its points.
     #[inline(always)]
     fn judge_next<'a>(&self, here: &'a ByteRecord, flat: &Flat) -> Result<RowHead<'a>, RowReason>
         requires keeps { Keeps self.now flat.now }

@@ -16,28 +16,28 @@ use twkb_flat::Flat;
 use twkb_io::Tap;
 use twkb_tree::{Geometry, Limits};
 
-/// The geometries that a table names, read from a tap one after another (profile; RFC 4180).
+/// The geometries of a table, read from a tap one after another (profile; RFC 4180).
 #[derive(Drop)]
 pub struct TableReader<'a, R> {
     alloc: Global,
     reader: Reader<&'a mut Tap<R>>,
-    // The record that was read last.
+    // The last record read.
     held: ByteRecord,
-    // Whether the end of the table was met.
+    // Whether the end of the table was reached.
     ended: bool,
-    // How many records were read.
+    // The number of records read.
     number: u32,
     rows: RowReader,
-    // What `next` reads rows into.
+    // The flat form into which `next` reads rows.
     kept: Flat,
-    // Whether a call answered an error.
+    // Whether a call returned an error.
     spent: bool,
 }
 
 // The number that no record of a table may have.
 const RECORD_CAP: u64 = 1 << 32;
 
-// What a first record is answered that is missing or not the header.
+// The fault of a first record that is missing or not the header.
 const BAD_HEADER: TableFault = TableFault::At {
     number: 1,
     reason: RowReason::BadHeader,
@@ -47,7 +47,7 @@ impl<'a, R: Read> TableReader<'a, R> {
     ghost use Rattle.twkb_table.specs.RowReading.{waiting, Keeps};
     ghost use Rattle.twkb_table.specs.TableReading.{StandsAfter, Gives, GivesGeometry, Ends, Faults, Completes, FaultsIn, ShowsHeader, ShowsRoot, ShowsRow, IsOver, is_spent, records_read};
 
-    /// Reads nothing yet, and takes no memory. Each geometry is to keep the limits.
+    /// Makes a reader that has read nothing. Each geometry must keep the limits. Takes no memory.
     pub fn new(alloc: Global, tap: &'a mut Tap<R>, limits: Limits) -> TableReader<'a, R>
         ensures { StandsAfter limits R.remaining (R.remaining (device_of tap.old)) [] [] result }
     {
@@ -63,11 +63,11 @@ impl<'a, R: Read> TableReader<'a, R> {
         }
     }
 
-    /// Reads the next geometry into a flat form, in place of what it holds, and answers whether
-    /// there was one; after a false and after an `Err` the form is empty. A geometry is given once
-    /// the next root was accepted, or at the table's end. After the end each call answers false, and
-    /// after an `Err` each call answers `Spent`, and nothing more is read. Takes memory for the reader
-    /// of `csv`, one record, one root's points and the open rows, and for the flat form.
+    /// Reads the next geometry into a flat form, in place of its rows, and returns whether there
+    /// was one; after `false` and after an `Err` the form is empty. A geometry is returned once
+    /// the next root was accepted, or at the table's end. After the end each call returns
+    /// `false`, after an `Err` each call returns `Spent`, and neither reads more. Takes memory
+    /// for the reader of `csv`, one record, one root's points, the open rows, and the flat form.
     pub fn next_flat(&mut self, flat: &mut Flat) -> Result<bool, TableFault>
         ensures gives { IfOk result (λ found. found ≡ true → Gives R.remaining self.old flat.new self.new) }
         ensures ends { IfOk result (λ found. found ≡ false → Ends R.remaining self.old self.new) }
@@ -75,7 +75,7 @@ impl<'a, R: Read> TableReader<'a, R> {
         ensures cleared { (result ≡ Ok true) ⊎ (flat.new ≡ []) }
         ensures some { result ≡ Ok true → 0 < length flat.new }
 
-        // the end for good, and a refusal for good
+        // the end and a refusal are final
         ensures over { IsOver self.old → is_spent self.old ≡ false → result ≡ Ok false }
         ensures ended { result ≡ Ok false → IsOver self.new }
         ensures spent { (result ≡ Err TableFault.Spent) ↔ (is_spent self.old ≡ true) }
@@ -99,14 +99,14 @@ impl<'a, R: Read> TableReader<'a, R> {
         }
     }
 
-    /// The next geometry, or `None` at the table's end, as `next_flat` reads them; calls of the two
-    /// may be mixed. Takes memory for the geometry too.
+    /// Returns the next geometry, or `None` at the table's end, as `next_flat` reads them; calls
+    /// of the two may be mixed. Takes memory for the geometry too.
     pub fn next(&mut self) -> Result<Option<Geometry>, TableFault>
         ensures gives { IfOk result (λ found. IfSome found (λ geometry. GivesGeometry R.remaining self.old geometry self.new)) }
         ensures ends { result ≡ Ok None → Ends R.remaining self.old self.new }
         ensures fault { IfErr result (λ fault. Faults R.remaining self.old fault) }
 
-        // the end for good, and a refusal for good
+        // the end and a refusal are final
         ensures over { IsOver self.old → is_spent self.old ≡ false → result ≡ Ok None }
         ensures ended { result ≡ Ok None → IsOver self.new }
         ensures spent { (result ≡ Err TableFault.Spent) ↔ (is_spent self.old ≡ true) }
@@ -126,7 +126,7 @@ impl<'a, R: Read> TableReader<'a, R> {
         found
     }
 
-    // Whether the table's end was met, and all its geometries were given.
+    // Whether the table's end was reached, and all its geometries were returned.
     fn is_over(&self) -> bool
         ensures { IsTrue result ↔ IsOver self.now }
     {
@@ -136,7 +136,7 @@ impl<'a, R: Read> TableReader<'a, R> {
         !self.rows.has_root()
     }
 
-    // The next geometry, read into a flat form.
+    // Reads the next geometry into a flat form, and builds it.
     #[inline(never)]
     fn next_tree(&mut self, flat: &mut Flat) -> Result<Option<Geometry>, TableFault>
         ensures gives { IfOk result (λ found. IfSome found (λ geometry. GivesGeometry R.remaining self.old geometry self.new)) }
@@ -182,8 +182,8 @@ impl<'a, R: Read> TableReader<'a, R> {
         self.read_rows(flat)
     }
 
-    // Has the root of the next geometry wait, and answers whether there is one: one waits, or the
-    // first is read, behind the header.
+    // Makes sure that the root of the next geometry waits, and returns whether there is one. If
+    // none waits, the first root is read, after the header if need be.
     #[inline(always)]
     fn next_root(&mut self) -> Result<bool, TableFault>
         ensures reads { ShowsRoot R.remaining self.old self.new result }
@@ -204,7 +204,7 @@ impl<'a, R: Read> TableReader<'a, R> {
         self.first_root()
     }
 
-    // Reads the first record, which is to be the header.
+    // Reads the first record, which must be the header.
     #[inline(never)]
     fn read_header(&mut self) -> Result<(), TableFault>
         requires first { records_read self.old ≡ 0 }
@@ -227,7 +227,7 @@ impl<'a, R: Read> TableReader<'a, R> {
         Ok(())
     }
 
-    // Reads the root of the first geometry, behind the header.
+    // Reads the root of the first geometry, after the header.
     #[inline(never)]
     fn first_root(&mut self) -> Result<bool, TableFault>
         requires begun { 0 < records_read self.old }
@@ -254,7 +254,7 @@ impl<'a, R: Read> TableReader<'a, R> {
         }
     }
 
-    // Reads the rows of a geometry behind its first ones, up to its end, and answers true.
+    // Reads the rows of a geometry after its first ones, up to its end, and returns `true`.
     #[inline(always)]
     fn read_rows(&mut self, flat: &mut Flat) -> Result<bool, TableFault>
         requires keeps { Keeps self.old.rows flat.old }
@@ -265,7 +265,7 @@ impl<'a, R: Read> TableReader<'a, R> {
         ensures fresh { IfErr result (λ fault. fault ≢ TableFault.Spent) }
         ensures same { is_spent self.new ≡ is_spent self.old }
     {
-        // learnt: the number is a u32
+        // gives proofs the fact that the number is a u32
         let _learnt = self.number;
         for _ in 0..RECORD_CAP {
             match self.read_row(flat) {
@@ -277,7 +277,7 @@ impl<'a, R: Read> TableReader<'a, R> {
         Err(TableFault::TooManyRecords)
     }
 
-    // Reads one record, and answers whether it is a row more of the geometry.
+    // Reads one record, and returns whether it is one more row of the geometry.
     #[inline(always)]
     fn read_row(&mut self, flat: &mut Flat) -> Result<bool, TableFault>
         requires keeps { Keeps self.old.rows flat.old }

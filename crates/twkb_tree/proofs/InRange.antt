@@ -6,22 +6,22 @@ use Rattle.twkb_tree.specs.Tree.{Simple, point, line, polygon, multi_point, mult
 use Rattle.twkb_tree.specs.Limits.{Allowance, IsValid}
 use Rattle.twkb_tree.specs.InRange.{LinesAreInRange, AreasAreInRange, IsSimpleInRange, IsTreeInRange, AreTreesInRange}
 
--- two lists, one after the other
+-- the points of two lists in range, one after the other, are in range
 AreInRange-append : (ps qs : List Point) → AreInRange ps → AreInRange qs → AreInRange (ps ++ qs)
 AreInRange-append [] qs h k = k
 AreInRange-append (p ∷ ps) qs h k = (h.0, AreInRange-append ps qs h.1 k)
 
--- lines, joined
+-- the points of lines in range, joined, are in range
 AreInRange-flatten : (lines : List (List Point)) → LinesAreInRange lines → AreInRange (flatten lines)
 AreInRange-flatten [] h = tt
 AreInRange-flatten (ps ∷ lines) h = AreInRange-append ps (flatten lines) h.0 (AreInRange-flatten lines h.1)
 
--- polygons, joined
+-- the points of polygons in range, joined, are in range
 AreInRange-areas : (areas : List (List (List Point))) → AreasAreInRange areas → AreInRange (flat_map flatten areas)
 AreInRange-areas [] h = tt
 AreInRange-areas (rings ∷ areas) h = AreInRange-append (flatten rings) (flat_map flatten areas) (AreInRange-flatten rings h.0) (AreInRange-areas areas h.1)
 
--- a simple shape
+-- the points of a simple shape in range are in range
 AreInRange-points_in : (s : Simple) → IsSimpleInRange s → AreInRange (points_in s)
 AreInRange-points_in (point None) h = tt
 AreInRange-points_in (point (Some p)) h = (h, tt)
@@ -31,7 +31,7 @@ AreInRange-points_in (multi_point ids ps) h = h
 AreInRange-points_in (multi_line ids lines) h = AreInRange-flatten lines h
 AreInRange-points_in (multi_polygon ids areas) h = AreInRange-areas areas h
 
--- a geometry, and members
+-- the points of a geometry in range are in range, and so are those of members
 mutual
   pub AreInRange-flat : (g : Tree) → IsTreeInRange g → AreInRange (flat g)
   AreInRange-flat (simple p s) h = AreInRange-points_in s h
@@ -41,7 +41,7 @@ mutual
   AreInRange-flat_all end h = tt
   AreInRange-flat_all (g ▷ gs) h = AreInRange-append (flat g) (flat_all gs) (AreInRange-flat g h.0) (AreInRange-flat_all gs h.1)
 
--- a geometry of points in range that keeps each limit is valid
+-- a geometry with points in range that keeps each limit is valid
 pub valid_within : (l : Allowance) (g : Tree) → IsTree g → IsTreeInRange g → nest g ≤ l.nest → nodes g ≤ l.nodes → length (flat g) ≤ l.points → IsValid l g
 valid_within l g is_tree in_range few_levels few_nodes few_points =
     record { tree = is_tree; in_range = AreInRange-flat g in_range; nest_kept = few_levels; nodes_kept = few_nodes; points_kept = few_points }

@@ -1,4 +1,4 @@
--- The word of each kind is a text.
+-- The word of each kind is valid text.
 use Rattle.std.proofs.Common.{refl, codes}
 use Rattle.std.specs.Str.{IsUtf8}
 use lib.Utf8.{encode}

@@ -1,4 +1,4 @@
--- What is accepted within some limits is accepted within the largest.
+-- Rows accepted within some limits are accepted within the largest.
 use Rattle.std.proofs.Common.{◌≡◌, ℕ, ◌≤◌, true, List, Option, refl, arith, inl, inr}
 use Rattle.std.specs.Prelude.{nat_le}
 use Rattle.std.proofs.lemmas.Bool.{cases_Bool}

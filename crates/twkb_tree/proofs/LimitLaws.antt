@@ -1,4 +1,4 @@
--- Rows are accepted one by one exactly where they are the rows of valid geometries.
+-- Rows are accepted one by one exactly if they are the rows of valid geometries.
 use Rattle.std.proofs.Common.{◌≡◌, List, [], ◌∷◌, ◌++◌, length, None, refl, sym, ◌∙◌, ap, subst, arith}
 use Rattle.std.specs.Prelude.{reverse}
 use mathlib.Core.List.{reverse_aux}
@@ -25,34 +25,34 @@ use Rattle.twkb_tree.proofs.AllJoined.{all_join, all_apart}
 
 -- ---- sums
 
--- as many as the rows
+-- counting one for each row gives the number of rows
 weight-one : (rs : List Row) → weight (λ r. 1) rs ≡ length rs
 weight-one [] = refl
 weight-one (r ∷ rs) = omega (arith, weight-one rs)
 
--- as many as the nodes
+-- counting one for each row of a geometry gives its number of nodes
 weight-nodes : (g : Tree) → weight (λ r. 1) (rows 0 g) ≡ nodes g
 weight-nodes g = weight-one (rows 0 g) ∙ length-rows_with None 0 g
 
 -- ---- the range of points
 
--- the points of the row are in range, whatever came before
+-- the points of the row are in range, whatever came before it
 abbrev InRange : List Row → Row → Type 0
 InRange before r = HasPointsInRange r
 
--- along rows turned round
+-- rows with their points in range along the reversed rows have their points in range
 range_onto : (rs before : List Row) → Along InRange (reverse_aux rs before) → AllByRecursion HasPointsInRange rs × Along InRange before
 range_onto [] before a = (tt, a)
 range_onto (r ∷ rs) before a = let h = range_onto rs (r ∷ before) a in ((h.1.0, h.0), h.1.1)
 
--- and back
+-- rows with their points in range have them so along the reversed rows
 onto_range : (rs before : List Row) → AllByRecursion HasPointsInRange rs → Along InRange before → Along InRange (reverse_aux rs before)
 onto_range [] before h a = a
 onto_range (r ∷ rs) before h a = onto_range rs (r ∷ before) h.1 (h.0, a)
 
--- ---- all together
+-- ---- all parts of acceptance together
 
--- what is accepted, part by part
+-- acceptance of rows, part by part
 record Parts (l : Allowance) (before : List Row) : Type 0 where
   pub admitted : IsAdmitted before
   pub in_range : Along InRange before
@@ -87,7 +87,7 @@ whole l (r ∷ before) p = (
   whole l before (record { admitted = p.admitted.1; in_range = p.in_range.1; nest = p.nest.1; nodes = p.nodes.1; points = p.points.1 }),
 )
 
--- what makes members valid, said of their rows
+-- the facts about rows that make their members valid
 record OfValid (l : Allowance) (gs : Trees) : Type 0 where
   pub are : AreTrees gs
   pub in_range : AllByRecursion HasPointsInRange (rows_all gs)
@@ -95,7 +95,7 @@ record OfValid (l : Allowance) (gs : Trees) : Type 0 where
   pub nodes : TotalAll (λ r. 1) l.nodes gs
   pub points : TotalAll (λ r. length r.points) l.points gs
 
--- so the members are valid
+-- members are valid if their rows have these facts
 valid_all : (l : Allowance) (gs : Trees) → OfValid l gs → AreValid l (members gs)
 valid_all l end v = tt
 valid_all l (g ▷ gs) v =
@@ -110,7 +110,7 @@ valid_all l (g ▷ gs) v =
       valid_all l gs (record { are = v.are.1; in_range = range.1; nest = v.nest.1; nodes = v.nodes.1; points = v.points.1 }),
     )
 
--- and valid members do
+-- the rows of valid members have these facts
 of_valid : (l : Allowance) (gs : List Tree) → AreValid l gs → OfValid l (trees gs)
 of_valid l [] v = record { are = tt; in_range = tt; nest = tt; nodes = tt; points = tt }
 of_valid l (g ∷ gs) v =
@@ -123,7 +123,7 @@ of_valid l (g ∷ gs) v =
       points = ((let h = v.0.points_kept in omega (arith, h, point_count-rows g)), rest.points);
     }
 
--- accepted one by one: the rows of valid geometries
+-- rows accepted one by one are the rows of valid geometries
 pub valid_rows : (l : Allowance) (rs : List Row) → AreAccepted l (reverse rs) → AreValidRows l rs
 valid_rows l rs a =
     let p = parts l (reverse rs) a in
@@ -155,22 +155,22 @@ accepted_rows l rs v =
       points = subst (Along (Adds (λ r. length r.points) l.points)) onto_is (of_totals (λ r. length r.points) l.points gs [] f.are f.points tt);
     })
 
--- ---- one row more, and fronts
+-- ---- one more row, and prefixes
 
--- what comes before accepted rows is accepted
+-- rows before accepted rows are accepted
 accepted_tail : (l : Allowance) (xs ys : List Row) → AreAccepted l (xs ++ ys) → AreAccepted l ys
 accepted_tail l [] ys h = h
 accepted_tail l (x ∷ xs) ys h = accepted_tail l xs ys h.1
 
--- a front of rows of valid geometries
+-- a prefix of rows of valid geometries is rows of valid geometries
 pub valid_front : (l : Allowance) (front more : List Row) → AreValidRows l (front ++ more) → AreValidRows l front
 valid_front l front more v =
     valid_rows l front (accepted_tail l (reverse more) (reverse front) (subst (AreAccepted l) (reverse-append front more) (accepted_rows l (front ++ more) v)))
 
--- an accepted row goes on
+-- rows of valid geometries with one more accepted row are rows of valid geometries
 pub row_accepted : (l : Allowance) (rs : List Row) (r : Row) → AreValidRows l rs → Accepts l (reverse rs) r → AreValidRows l (rs ++ r ∷ [])
 row_accepted l rs r v h = valid_rows l (rs ++ r ∷ []) (subst (AreAccepted l) (sym (reverse-append rs (r ∷ []))) (h, accepted_rows l rs v))
 
--- a row that goes on is accepted
+-- the last of the rows of valid geometries is accepted after the others
 pub accepts_row : (l : Allowance) (rs : List Row) (r : Row) → AreValidRows l (rs ++ r ∷ []) → Accepts l (reverse rs) r
 accepts_row l rs r v = (subst (AreAccepted l) (reverse-append rs (r ∷ [])) (accepted_rows l (rs ++ r ∷ []) v)).0

@@ -12,74 +12,74 @@ use Rattle.twkb_tree.specs.Open.{ids_by, AreOpen, open_parent, row_of, child_by,
 use Rattle.twkb_tree.proofs.OpenDecides.{kind_by, head_kind, head_id, kind_at, blank_row, steps_open, open_at}
 use Rattle.twkb_tree.proofs.RowTests.{within_test}
 
--- ---- tests look at the kind of the parent and the id of the first child alone
+-- ---- the tests look only at the kind of the parent and at the id of the first child
 
--- of the first child its id counts
+-- of the first child only the id matters
 first_checks : (l : Allowance) (steps : Bool) (p f g : Option Row) (nodes points : ℕ) (r : Row) → ids_by f ≡ ids_by g → first_failed (checks_under l steps p f nodes points r) ≡ first_failed (checks_under l steps p g nodes points r)
 first_checks l steps p None None nodes points r e = refl
 first_checks l steps p None (Some g) nodes points r e = cc e
 first_checks l steps p (Some f) None nodes points r e = cc e
 first_checks l steps p (Some f) (Some g) nodes points r e = rw (head_id f g e) refl
 
--- of the parent its kind counts
+-- of the parent only the kind matters
 parent_checks : (l : Allowance) (steps : Bool) (p q f : Option Row) (nodes points : ℕ) (r : Row) → kind_by p ≡ kind_by q → first_failed (checks_under l steps p f nodes points r) ≡ first_failed (checks_under l steps q f nodes points r)
 parent_checks l steps None None f nodes points r e = refl
 parent_checks l steps None (Some q) f nodes points r e = cc e
 parent_checks l steps (Some p) None f nodes points r e = cc e
 parent_checks l steps (Some p) (Some q) f nodes points r e = rw (head_kind p q e) refl
 
--- a row too deep has no place
+-- a row that is too deep is refused for its place
 pub stepless : (l : Allowance) (steps : Bool) (p f : Option Row) (nodes points : ℕ) (r : Row) → steps ≡ false → first_failed (checks_under l steps p f nodes points r) ≡ Some BadPlace
 stepless l steps p f nodes points r e = rw e refl
 
 -- ---- what the open rows say
 
--- the parent below a root
+-- the parent of a row below a root
 pub open_parent_at : (d : ℕ) (os : List OpenRow) (blank : OpenRow) → d < length os → open_parent (suc d) os ≡ Some (get_or os d blank)
 open_parent_at d [] blank lt = absurd (omega arith)
 open_parent_at zero (o ∷ os) blank lt = refl
 open_parent_at (suc d) (o ∷ os) blank lt = open_parent_at d os blank (omega arith)
 
--- a root has none
+-- a root has no parent
 pub no_open_parent : (os : List OpenRow) → open_parent zero os ≡ None
 no_open_parent [] = refl
 no_open_parent (o ∷ os) = refl
 
--- the kind
+-- a row made from an open row has its kind
 kind_by-row_of : (o : OpenRow) → kind_by (row_of (Some o)) ≡ Some o.kind
 kind_by-row_of o = refl
 
--- the id
+-- a first child made from an open row has an id as recorded
 pub ids_by-child_by : (b : Option Bool) → ids_by (child_by b) ≡ b
 ids_by-child_by None = refl
 ids_by-child_by (Some true) = refl
 ids_by-child_by (Some false) = refl
 
--- the kind of the parent
+-- the parent found by the open rows has the kind of the parent among the rows
 pub kind_under : (d : ℕ) (before : List Row) (os : List OpenRow) → AreOpen before os → d ≤ length os → kind_by (row_of (open_parent d os)) ≡ kind_by (parent d before)
 kind_under zero before os a le = ap (λ o. kind_by (row_of o)) (no_open_parent os)
 kind_under (suc d) before os a le =
     ap (λ o. kind_by (row_of o)) (open_parent_at d os blank_row (omega arith)) ∙ sym (kind_at d before (get_or os d blank_row) (open_at d before os blank_row a (omega arith)))
 
--- the id of the first child
+-- the first child by the open rows has an id exactly if the one among the rows has
 pub ids_under : (d : ℕ) (before : List Row) (os : List OpenRow) → AreOpen before os → d ≤ length os → ids_by (child_of (open_parent d os)) ≡ ids_by (first_child d before)
 ids_under zero before os a le = ap (λ o. ids_by (child_of o)) (no_open_parent os)
 ids_under (suc d) before os a le =
     ap (λ o. ids_by (child_of o)) (open_parent_at d os blank_row (omega arith)) ∙ ids_by-child_by (get_or os d blank_row).child_ids ∙ (open_at d before os blank_row a (omega arith)).3
 
--- the rows of the geometry
+-- the number of rows of the geometry
 pub nodes_under : (d : ℕ) (before : List Row) → count_at d (length (since_root before)) ≡ length (geometry_rows d before)
 nodes_under zero before = refl
 nodes_under (suc d) before = refl
 
--- their points
+-- the number of points of the geometry
 pub points_under : (d : ℕ) (before : List Row) → count_at d (point_count (since_root before)) ≡ point_count (geometry_rows d before)
 points_under zero before = refl
 points_under (suc d) before = refl
 
 -- ---- the two tests
 
--- the same at a depth
+-- both tests give the same reason for a row at a depth
 refused_at : (l : Allowance) (d : ℕ) (before : List Row) (os : List OpenRow) (r : Row) → AreOpen before os
     → open_refusal_at l d os (length (since_root before)) (point_count (since_root before)) r ≡ first_failed (checks_at l d before r)
 refused_at l d before os r a =
@@ -99,6 +99,6 @@ refused_at l d before os r a =
           ∙ sym (stepless l (steps_to d before) (parent d before) (first_child d before) nodes points r (steps ∙ far))
     ]
 
--- both refuse for the same
+-- both tests give the same reason
 pub open_refused : (l : Allowance) (before : List Row) (os : List OpenRow) (r : Row) → AreOpen before os → open_refusal l os (length (since_root before)) (point_count (since_root before)) r ≡ refusal_after l before r
 open_refused l before os r a = refused_at l r.depth before os r a

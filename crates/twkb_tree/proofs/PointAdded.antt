@@ -1,4 +1,4 @@
--- A point more in the last row leaves the open rows as they are.
+-- One more point in the last row leaves the open rows as they are.
 use Rattle.std.proofs.Common.{◌≡◌, ℕ, suc, Bool, true, false, ◌==◌, List, [], ◌∷◌, ◌++◌, Option, Some, None, refl, sym, ◌∙◌, ap, subst}
 use Rattle.std.specs.Prelude.{reverse, if◌then◌else◌}
 use Rattle.std.proofs.lemmas.List.{reverse-append}
@@ -10,7 +10,7 @@ use Rattle.twkb_tree.specs.declared.kind.Kind.{Kind}
 use Rattle.twkb_tree.specs.declared.open_rows.OpenRow.{OpenRow}
 use Rattle.twkb_tree.specs.Open.{ids_by, IsOpenAt, AreOpenFrom, AreOpen}
 
--- a point more in the last row
+-- one more point in the last row
 pub point_last : (p : Point) (rs : List Row) (r : Row) → point_added p (rs ++ r ∷ []) ≡ rs ++ with_point r p ∷ []
 point_last p [] r = refl
 point_last p (s ∷ []) r = refl
@@ -36,7 +36,7 @@ open_each : (d : ℕ) (r : Row) (p : Point) (before : List Row) (os : List OpenR
 open_each d r p before [] h = tt
 open_each d r p before (o ∷ os) h = (open_same d r p before o h.0, open_each (suc d) r p before os h.1)
 
--- the open rows of rows with a point more
+-- the open rows after one more point
 pub open_point : (p : Point) (rs : List Row) (os : List OpenRow) → EndsInLine rs → AreOpen (reverse rs) os → AreOpen (reverse (point_added p rs)) os
 open_point p rs os e a =
     let there : reverse rs ≡ e.last ∷ reverse e.front = ap reverse e.whole ∙ reverse-append e.front (e.last ∷ []) in

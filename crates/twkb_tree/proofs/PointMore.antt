@@ -1,4 +1,4 @@
--- A line may get a point more while there is room.
+-- A line may get one more point as long as the limits allow it.
 use Rattle.std.proofs.Common.{◌≡◌, ◌+◌, ◌<◌, Bool, true, false, List, [], ◌∷◌, ◌++◌, length, length-append, Option, refl, sym, ◌∙◌, ap, subst, inl, inr, arith}
 use Rattle.std.specs.Prelude.{reverse, ◌⊎◌, ◌&&◌}
 use Rattle.twkb_points.specs.Point.{Point, IsInRange, AreInRange}
@@ -15,7 +15,7 @@ use Rattle.twkb_tree.proofs.RootLimits.{continued, continues_row, one_valid_fron
 use Rattle.twkb_tree.proofs.RowPoints.{length-row_points, row_points-append}
 use Rattle.twkb_tree.proofs.RowsLocal.{point_count-reverse}
 
--- any points fit a line
+-- a line fits any number of points
 pub line_fits : (k : Kind) (whole : Bool) (ps : List Point) → (k ≡ kinds.Linestring) ⊎ (k ≡ kinds.Ring) → points_fit k whole ps ≡ true
 line_fits k whole ps (inl e) = subst (λ k. points_fit k whole ps ≡ true) (sym e) (go whole ps)
   where
@@ -30,7 +30,7 @@ line_fits k whole ps (inr e) = subst (λ k. points_fit k whole ps ≡ true) (sym
     go false [] = refl
     go whole (p ∷ ps) = refl
 
--- so one more changes nothing
+-- one more point of a line changes none of the tests
 pub fits_same : (p f : Option Row) (r : Row) (q : Point) → (r.kind ≡ kinds.Linestring) ⊎ (r.kind ≡ kinds.Ring) → fits p f r ≡ fits p f (with_point r q)
 fits_same p f r q line =
     ap (λ b. has_place p r.kind && id_in_range r.id && id_allowed p r.kind r.id && has_same_ids f r.id && precision_in_range r.precision && precision_fits p r.precision && b)
@@ -54,7 +54,7 @@ root_more : (rs : List Row) (r : Row) (q : Point) → IsOneRoot rs r → IsOneRo
 root_more [] r q h = h
 root_more (s ∷ rs) r q h = h
 
--- the rows with a point more are valid
+-- the rows with one more point are valid
 pub line_more : (l : Allowance) (rs : List Row) (q : Point) → EndsInLine rs → IsInRange q → length (row_points rs) < l.points → AreValidRowsOfOne l rs → AreValidRowsOfOne l (point_added q rs)
 line_more l rs q e within room v =
     let whole : AreValidRowsOfOne l (e.front ++ e.last ∷ []) = subst (AreValidRowsOfOne l) e.whole v in

@@ -1,4 +1,4 @@
--- A row is refused exactly where it is not accepted.
+-- A row is refused exactly if it is not accepted.
 use Rattle.std.proofs.Common.{◌≡◌, ℕ, ◌+◌, ◌<◌, ◌≤◌, Bool, true, false, List, [], ◌∷◌, length, Option, Some, None, refl, ap, arith, inl, inr}
 use Rattle.std.specs.Prelude.{ℤ, not, ◌&&◌, ◌||◌, is_some, is_none, nat_lt, nat_le, reverse}
 use Rattle.std.specs.List.{AllByRecursion}
@@ -15,7 +15,7 @@ use Rattle.twkb_tree.proofs.RowFacts.{facts, fits_by, none_fit}
 use Rattle.twkb_tree.proofs.RowTests.{both_true, both, below_test, test_below, within_test, test_within}
 use Rattle.twkb_tree.proofs.RowRanges.{are_in_range-true, points_in_range}
 
--- ---- no test fails where all hold
+-- ---- no test fails exactly if all hold
 
 -- each test holds
 abbrev AllHold : List Check → Type 0
@@ -26,29 +26,29 @@ fails_first : (b : Bool) (why : Refusal) (cs : List Check) → first_failed (rec
 fails_first true why cs e = (refl, e)
 fails_first false why cs e = cc e
 
--- each holds where none fails
+-- each test holds if none fails
 all_hold : (cs : List Check) → first_failed cs ≡ None → AllHold cs
 all_hold [] e = tt
 all_hold (c ∷ cs) e = let h = fails_first c.holds c.otherwise cs e in (h.0, all_hold cs h.1)
 
--- none fails where each holds
+-- none fails if each test holds
 none_fails : (cs : List Check) → AllHold cs → first_failed cs ≡ None
 none_fails [] h = refl
 none_fails (c ∷ cs) h = rw (h.0) (none_fails cs h.1)
 
--- ---- the tests and what a row is to be
+-- ---- the tests and what a row must be
 
--- the two tests of a precision
+-- a precision that passes both tests fits
 precision_joined : (w : Bool) (p : Option Row) (q : Option ℤ) → is_whole p ≡ w → (not w || is_some q) ≡ true → (w || is_none q) ≡ true → precision_fits p q ≡ true
 precision_joined true p q e a b = rw e a
 precision_joined false p q e a b = rw e b
 
--- and back
+-- a precision that fits passes both tests
 missing_test : (w : Bool) (p : Option Row) (q : Option ℤ) → is_whole p ≡ w → precision_fits p q ≡ true → ((not w || is_some q) ≡ true) × ((w || is_none q) ≡ true)
 missing_test true p q e h = (rw e at h, refl)
 missing_test false p q e h = (refl, rw e at h)
 
--- points that fit are allowed
+-- points that fit pass the test of kinds without points
 points_test : (k : Kind) (w : Bool) (ps : List Point) → points_fit k w ps ≡ true → (has_points k || has_none ps) ≡ true
 points_test k w [] h = elim (cases_Bool (has_points k)) [
   | inl has ↦ rw has refl
@@ -61,7 +61,7 @@ points_test k w (p ∷ ps) h = elim (cases_Bool (has_points k)) [
 
 -- ---- accepted, and not refused
 
--- the tests of a row by their names
+-- the tests of a row, by name
 pub record Passes (l : Allowance) (steps : Bool) (p f : Option Row) (nodes points : ℕ) (r : Row) : Type 0 where
   pub place : (steps && has_place p r.kind) ≡ true
   pub nest : nest_kept l p r.depth ≡ true
@@ -77,7 +77,7 @@ pub record Passes (l : Allowance) (steps : Bool) (p f : Option Row) (nodes point
   pub points_left : nat_le (points + length r.points) l.points ≡ true
   pub number : points_fit r.kind (is_whole p) r.points ≡ true
 
--- where none fails, each holds
+-- each test holds if none fails, by name
 pub passes : (l : Allowance) (steps : Bool) (p f : Option Row) (nodes points : ℕ) (r : Row) → first_failed (checks_under l steps p f nodes points r) ≡ None → Passes l steps p f nodes points r
 passes l steps p f nodes points r e =
     let h = all_hold (checks_under l steps p f nodes points r) e in
@@ -99,7 +99,7 @@ passes l steps p f nodes points r e =
       number = from_8.1.1.1.1.0;
     }
 
--- where each holds, none fails
+-- none fails if each test holds, by name
 pub passed : (l : Allowance) (steps : Bool) (p f : Option Row) (nodes points : ℕ) (r : Row) → Passes l steps p f nodes points r → first_failed (checks_under l steps p f nodes points r) ≡ None
 passed l steps p f nodes points r h =
     none_fails (checks_under l steps p f nodes points r) (
@@ -107,7 +107,7 @@ passed l steps p f nodes points r h =
       (h.nest, (h.nodes_left, (h.id_range, (h.id, (h.same, (h.range, (h.missing, (h.extra, (h.allowed, (h.in_range, (h.points_left, (h.number, tt)))))))))))),
     )
 
--- so the row fits
+-- a row that passes the tests fits
 pub joined : (l : Allowance) (steps : Bool) (p f : Option Row) (nodes points : ℕ) (r : Row) → Passes l steps p f nodes points r → (steps && fits p f r) ≡ true
 joined l steps p f nodes points r h =
     let place = both_true steps (has_place p r.kind) h.place in
@@ -163,37 +163,37 @@ accepted_unrefused l before r a =
     passed l (steps_to r.depth before) (parent r.depth before) (first_child r.depth before) nodes points r
     (apart l (steps_to r.depth before) (parent r.depth before) (first_child r.depth before) nodes points r a.admitted a.nest a.nodes a.in_range a.points)
 
--- ---- by tests that compute
+-- ---- the tests that compute
 
--- nothing
+-- an option that is none
 pub none_is : {A : Type 0} (o : Option A) → is_none o ≡ true → o ≡ None
 none_is None h = refl
 none_is (Some x) h = cc h
 
--- what the test accepts
+-- a row that the test accepts is accepted
 pub accepts_is : (l : Allowance) (rs : List Row) (r : Row) → accepts l rs r ≡ true → Accepts l (reverse rs) r
 accepts_is l rs r h = accepts_unrefused l (reverse rs) r (none_is (refusal l rs r) h)
 
--- and what it is to accept
+-- the test accepts an accepted row
 pub accepts_true : (l : Allowance) (rs : List Row) (r : Row) → Accepts l (reverse rs) r → accepts l rs r ≡ true
 accepts_true l rs r h = ap is_none (accepted_unrefused l (reverse rs) r h)
 
--- what the test of a root says
+-- the test of a root gives the fact
 one_root_is : (rs : List Row) (r : Row) → is_one_root rs r ≡ true → IsOneRoot rs r
 one_root_is [] r h = grind (arith, nat_tests)
 one_root_is (s ∷ rs) r h = grind (arith, nat_tests)
 
--- and back
+-- the fact makes the test of a root true
 one_root_true : (rs : List Row) (r : Row) → IsOneRoot rs r → is_one_root rs r ≡ true
 one_root_true [] r h = grind (arith, nat_tests)
 one_root_true (s ∷ rs) r h = grind (arith, nat_tests)
 
--- what the test of one geometry accepts
+-- the test for one geometry gives the fact
 pub continues_is : (l : Allowance) (rs : List Row) (r : Row) → continues l rs r ≡ true → Continues l rs r
 continues_is l rs r h =
     let two = both_true (accepts l rs r) (is_one_root rs r) h in
     (accepts_is l rs r two.0, one_root_is rs r two.1)
 
--- and what it is to accept
+-- the fact makes the test for one geometry true
 pub continues_true : (l : Allowance) (rs : List Row) (r : Row) → Continues l rs r → continues l rs r ≡ true
 continues_true l rs r h = both (accepts l rs r) (is_one_root rs r) (accepts_true l rs r h.0) (one_root_true rs r h.1)

@@ -1,4 +1,4 @@
--- No row of a valid geometry is deeper than two below its deepest member.
+-- No row of a valid geometry is more than two levels below its deepest member.
 use Rattle.std.proofs.Common.{ℕ, suc, ◌+◌, ◌≤◌, List, [], ◌∷◌, Option, None, arith, subst}
 use Rattle.std.specs.Prelude.{ℤ}
 use Rattle.twkb_points.specs.Point.{Point}
@@ -9,16 +9,16 @@ use Rattle.twkb_tree.specs.Rows.{Row, rows, rows_of, rows_with, member_rows, row
 use Rattle.twkb_tree.specs.RowLists.{AreValid, AreValidRows, IsShallow, AreShallow}
 use Rattle.twkb_tree.proofs.AllJoined.{all_join}
 
--- each part is shallow
+-- the rows of parts are shallow
 shallow_each : {A : Type 0} (n : ℕ) (f : Option ℤ → A → List Row) (ids : Ids) (xs : List A) → ((id : Option ℤ) (x : A) → AreShallow n (f id x)) → AreShallow n (rows_of_each f ids xs)
 shallow_each n f ids [] h = tt
 shallow_each n f ids (x ∷ xs) h = all_join (IsShallow n) (f (first_id ids) x) (rows_of_each f (other_ids ids) xs) (h (first_id ids) x) (shallow_each n f (other_ids ids) xs h)
 
--- rings at this depth
+-- the rows of rings at this depth are shallow
 shallow_rings : (n d : ℕ) (rings : List (List Point)) → d ≤ n → AreShallow n (ring_rows d rings)
 shallow_rings n d rings le = shallow_each n (λ none ring. plain_row d kind.Ring none ring ∷ []) None rings (λ id ring. (le, tt))
 
--- below a simple shape
+-- the rows below a simple shape are shallow
 shallow_below : (n d : ℕ) (s : Simple) → suc d ≤ n → AreShallow n (rows_below d s)
 shallow_below n d (point o) le = tt
 shallow_below n d (line ps) le = tt
@@ -39,13 +39,13 @@ mutual
       let others : d + nest_all gs + 2 ≤ n = omega arith in
       all_join (IsShallow n) (rows_with (first_id ids) (suc d) g) (member_rows (suc d) (other_ids ids) gs) (shallow_with n (suc d) (first_id ids) g one) (shallow_members n d (other_ids ids) gs others)
 
--- the rows of valid geometries
+-- the rows of a list of valid geometries are shallow
 shallow_list : (l : Allowance) (gs : List Tree) → AreValid l gs → AreShallow (l.nest + 2) (rows_of gs)
 shallow_list l [] v = tt
 shallow_list l (g ∷ gs) v =
     let kept = v.0.nest_kept in
     all_join (IsShallow (l.nest + 2)) (rows 0 g) (rows_of gs) (shallow_with (l.nest + 2) 0 None g (omega arith)) (shallow_list l gs v.1)
 
--- rows of valid geometries
+-- the rows of valid geometries are shallow
 pub valid_depths : (l : Allowance) (rs : List Row) → AreValidRows l rs → AreShallow (l.nest + 2) rs
 valid_depths l rs v = subst (AreShallow (l.nest + 2)) v.2 (shallow_list l v.0 v.1)

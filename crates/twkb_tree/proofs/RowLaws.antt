@@ -1,4 +1,5 @@
--- Rows are admitted one by one exactly where they are rows of geometries, and they determine these.
+-- Rows are admitted one by one exactly if they are rows of geometries, and they determine the
+-- geometries.
 use Rattle.std.proofs.Common.{◌≡◌, true, false, List, [], ◌∷◌, ◌++◌, None, refl, sym, ◌∙◌, ap, subst, append-nil}
 use Rattle.std.specs.Prelude.{reverse}
 use Rattle.std.proofs.lemmas.List.{reverse-reverse, reverse-append}
@@ -15,7 +16,7 @@ use Rattle.twkb_tree.proofs.RowsBack.{trees_back}
 use Rattle.twkb_tree.proofs.RowRebuilding.{rebuilt}
 use Rattle.twkb_tree.proofs.RowsOfTrees.{rows_all, rows_all-trees, rows_of-members, members-trees, AreTrees-trees, geometries_are}
 
--- ---- rows of geometries are admitted, and what is admitted is rows of geometries
+-- ---- rows of geometries are admitted, and admitted rows are rows of geometries
 
 -- rows of members are admitted
 forest_admitted : (gs : Trees) → AreTrees gs → IsAdmitted (reverse (rows_all gs))
@@ -24,7 +25,7 @@ forest_admitted gs t =
     let same : past n [] ≡ reverse (rows_all gs) = past-listed n ∙ ap (λ xs. reverse xs) (listed-members 0 None gs) in
     subst IsAdmitted same (rows_admitted n (fit_roots gs t))
 
--- the geometries of rows that are admitted
+-- the geometries of admitted rows
 pub admitted_forest : (rs : List Row) → IsAdmitted (reverse rs) → (gs : Trees) × AreTrees gs × (rows_all gs ≡ rs)
 admitted_forest rs h =
     let n = forest_of (reverse rs) in
@@ -41,24 +42,24 @@ admitted_rows rs a = subst (λ xs. IsAdmitted (reverse xs)) (rows_all-trees a.0 
 pub rows_of_admitted : (rs : List Row) → IsAdmitted (reverse rs) → AreRows rs
 rows_of_admitted rs h = let f = admitted_forest rs h in (members f.0, geometries_are f.0 f.1, rows_of-members f.0 ∙ f.2)
 
--- ---- one row more
+-- ---- one more row
 
--- an admitted row goes on
+-- rows of geometries with one more admitted row are rows of geometries
 pub row_admitted : (rs : List Row) (r : Row) → AreRows rs → admits rs r ≡ true → AreRows (rs ++ r ∷ [])
 row_admitted rs r a h = rows_of_admitted (rs ++ r ∷ []) (subst IsAdmitted (sym (reverse-append rs (r ∷ []))) (h, admitted_rows rs a))
 
--- a row that goes on is admitted
+-- the last of the rows of geometries is admitted after the others
 pub admits_row : (rs : List Row) (r : Row) → AreRows (rs ++ r ∷ []) → admits rs r ≡ true
 admits_row rs r a = (subst IsAdmitted (reverse-append rs (r ∷ [])) (admitted_rows (rs ++ r ∷ []) a)).0
 
--- ---- fronts
+-- ---- prefixes
 
--- what comes before admitted rows is admitted
+-- rows before admitted rows are admitted
 admitted_tail : (xs ys : List Row) → IsAdmitted (xs ++ ys) → IsAdmitted ys
 admitted_tail [] ys h = h
 admitted_tail (x ∷ xs) ys h = admitted_tail xs ys h.1
 
--- a front of rows of geometries
+-- a prefix of rows of geometries is rows of geometries
 pub rows_front : (front more : List Row) → AreRows (front ++ more) → AreRows front
 rows_front front more a = rows_of_admitted front (admitted_tail (reverse more) (reverse front) (subst IsAdmitted (reverse-append front more) (admitted_rows (front ++ more) a)))
 

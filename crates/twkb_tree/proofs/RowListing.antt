@@ -7,22 +7,22 @@ use Rattle.twkb_tree.specs.Tree.{Tree, Trees, Simple, Ids, simple, collection, e
 use Rattle.twkb_tree.specs.Rows.{Row, plain_row, own_row, first_id, other_ids, ring_rows, rows_of_each, rows_below, rows_with, member_rows}
 use Rattle.twkb_tree.proofs.RowForest.{Nodes, none, listed, each_nodes, ring_nodes, simple_below, tree_below, member_nodes}
 
--- of parts
+-- the rows of the forest of parts
 listed-each : {A : Type 0} (row : Option ℤ → A → Row) (below : A → Nodes) (ids : Ids) (xs : List A) → listed (each_nodes row below ids xs) ≡ rows_of_each (λ id x. row id x ∷ listed (below x)) ids xs
 listed-each row below ids [] = refl
 listed-each row below ids (x ∷ xs) = ap (λ rs. row (first_id ids) x ∷ (listed (below x) ++ rs)) (listed-each row below (other_ids ids) xs)
 
--- of rings
+-- the rows of the forest of rings
 listed-rings : (d : ℕ) (rings : List (List Point)) → listed (ring_nodes d rings) ≡ ring_rows d rings
 listed-rings d [] = refl
 listed-rings d (ring ∷ rings) = ap (λ rs. plain_row d kind.Ring None ring ∷ rs) (listed-rings d rings)
 
--- of polygons
+-- the rows of the forest of polygons
 areas_listed : (d : ℕ) (ids : Ids) (areas : List (List (List Point))) → listed (each_nodes (λ id rings. plain_row d kind.Polygon id []) (ring_nodes (suc d)) ids areas) ≡ rows_below d (multi_polygon ids areas)
 areas_listed d ids [] = refl
 areas_listed d ids (rings ∷ areas) = rw (listed-rings (suc d) rings) (ap (λ rs. plain_row d kind.Polygon (first_id ids) [] ∷ (ring_rows (suc d) rings ++ rs)) (areas_listed d (other_ids ids) areas))
 
--- below a simple shape
+-- the rows of the forest below a simple shape
 listed-simple : (d : ℕ) (s : Simple) → listed (simple_below d s) ≡ rows_below d s
 listed-simple d (point o) = refl
 listed-simple d (line ps) = refl

@@ -15,29 +15,29 @@ other_from zero (Some (id ∷ ids)) = refl
 other_from (suc i) (Some []) = refl
 other_from (suc i) (Some (id ∷ ids)) = other_from i (Some ids)
 
--- from the first on, all ids
+-- the ids from place 0 on are all ids
 pub ids_from_start : (ids : Ids) → ids_from 0 ids ≡ ids
 ids_from_start None = refl
 ids_from_start (Some ids) = refl
 
--- the rows of a member, and those of the members after it
+-- the rows of a member and of the members after it
 pub each_next : {A : Type 0} (f : Option ℤ → A → List Row) (ids : Ids) (xs : List A) (i : ℕ) (x : A) → i < length xs → x ≡ get_or xs i x
     → rows_of_each f (ids_from i ids) (drop i xs) ≡ f (first_id (ids_from i ids)) x ++ rows_of_each f (ids_from (i + 1) ids) (drop (i + 1) xs)
 each_next f ids xs i x within read =
     ap (rows_of_each f (ids_from i ids)) (at_drop_more (λ ys. ys) xs i x within ∙ ap (λ y. y ∷ drop (i + 1) xs) (sym read))
     ∙ ap (λ js. f (first_id (ids_from i ids)) x ++ rows_of_each f js (drop (i + 1) xs)) (other_from i ids ∙ ap (λ j. ids_from j ids) (sym (add-one i)))
 
--- the rows of members, each by its own
+-- the rows of members, one member at a time
 pub member_rows_each : (d : ℕ) (ids : Ids) (gs : List Tree) → rows_of_each (λ id g. rows_with id d g) ids gs ≡ member_rows d ids (trees gs)
 member_rows_each d ids [] = refl
 member_rows_each d ids (g ∷ gs) = ap (λ rs. rows_with (first_id ids) d g ++ rs) (member_rows_each d (other_ids ids) gs)
 
--- a geometry's own row is before the others
+-- a geometry's own row comes before the others
 pub own_row_first : (id : Option ℤ) (d : ℕ) (g : Tree) → rows_with id d g ≡ own_row id d g ∷ rows_under (suc d) g
 own_row_first id d (simple p s) = refl
 own_row_first id d (collection p ids gs) = refl
 
--- a member stands in one collection more
+-- a member is in one collection more than its collection
 pub nest_member : (gs : List Tree) (i : ℕ) (g : Tree) → i < length gs → g ≡ get_or gs i g → nest g < nest_all (trees gs)
 nest_member [] i g within read = absurd (omega arith)
 nest_member (u ∷ us) zero g within read = rw read (omega arith)

@@ -1,4 +1,4 @@
--- The rows of a geometry keep the nesting exactly where the geometry does.
+-- The rows of a geometry keep the nesting exactly if the geometry does.
 use Rattle.std.proofs.Common.{◌≡◌, ℕ, suc, ◌+◌, ◌≤◌, true, false, List, [], ◌∷◌, Option, Some, None, refl, sym, ◌∙◌, ap, arith}
 use Rattle.std.specs.Prelude.{⊤, nat_le, ℤ}
 use Rattle.std.proofs.lemmas.Bool.Decides.{nat_tests}
@@ -17,12 +17,12 @@ use Rattle.twkb_tree.proofs.RowsAlong.{Locally}
 abbrev pub Nests : Allowance → Option Row → Row → Type 0
 Nests m p r = nest_kept m p r.depth ≡ true
 
--- parts are no members
+-- parts are not members of a collection
 simple_each : {A : Type 0} (m : Allowance) (p : Row) (row : Option ℤ → A → Row) (below : A → Nodes) (ids : Ids) (xs : List A) → is_collection p.kind ≡ false → ((id : Option ℤ) (x : A) → Locally (Nests m) (Some (row id x)) (below x)) → Locally (Nests m) (Some p) (each_nodes row below ids xs)
 simple_each m p row below ids [] e h = tt
 simple_each m p row below ids (x ∷ xs) e h = (rw e refl, h (first_id ids) x, simple_each m p row below (other_ids ids) xs e h)
 
--- nor is what is below a simple shape
+-- the rows below a simple shape are not members of a collection
 simple_nests : (m : Allowance) (d : ℕ) (p : Row) (s : Simple) → is_collection p.kind ≡ false → Locally (Nests m) (Some p) (simple_below d s)
 simple_nests m d p (point o) e = tt
 simple_nests m d p (line ps) e = tt
@@ -65,12 +65,12 @@ abbrev pub NestAll : Allowance → Trees → Type 0
 NestAll m end = ⊤
 NestAll m (g ▷ gs) = (nest g ≤ m.nest) × NestAll m gs
 
--- the rows of roots keep it, so the roots do
+-- roots keep the nesting if their rows do
 pub roots_nest : (m : Allowance) (gs : Trees) → Locally (Nests m) None (member_nodes 0 None gs) → NestAll m gs
 roots_nest m end h = tt
 roots_nest m (g ▷ gs) h = (omega (arith, nests_depth m 0 None g (omega arith) h.1), roots_nest m gs h.2)
 
--- the roots keep it, so their rows do
+-- the rows of roots keep the nesting if the roots do
 pub nest_roots : (m : Allowance) (gs : Trees) → NestAll m gs → Locally (Nests m) None (member_nodes 0 None gs)
 nest_roots m end h = tt
 nest_roots m (g ▷ gs) h = (refl, depth_nests m 0 None g (omega (arith, h.0)), nest_roots m gs h.1)

@@ -1,4 +1,4 @@
--- The rows below a row of points give its parts, and the parts these rows.
+-- The rows below a row with parts give its parts, and the parts give these rows.
 use Rattle.std.proofs.Common.{◌≡◌, ℕ, suc, Bool, true, false, List, [], ◌∷◌, ◌++◌, Option, Some, None, refl, sym, ◌∙◌, ap, inl, inr}
 use Rattle.std.specs.Prelude.{ℤ, is_some}
 use Rattle.std.proofs.lemmas.Bool.{cases_Bool}
@@ -22,7 +22,7 @@ mode_next None f r c l = refl
 mode_next (Some p) None r c l = refl
 mode_next (Some p) (Some f) r c l = refl
 
--- and so has the row itself
+-- the row itself has an id as the first has
 pub mode_here : (p f : Option Row) (r : Row) (c l : Nodes) → Facts p f r → is_some r.id ≡ mode p f (node r c l)
 mode_here None f r c l h = none-is_some r.id h.id
 mode_here (Some p) None r c l h = refl
@@ -36,7 +36,7 @@ pub first_id-when : (b : Bool) (r : Row) (c l : Nodes) → is_some r.id ≡ b �
 first_id-when false r c l h = sym (is_some-none r.id h)
 first_id-when true r c l h = sym (is_some-some r.id h)
 
--- the other ids are those of the others
+-- the other ids are those of the other rows
 pub other_ids-when : (b : Bool) (r : Row) (c l : Nodes) → other_ids (ids_when b (node r c l)) ≡ ids_when b l
 other_ids-when false r c l = refl
 other_ids-when true r c l = refl
@@ -45,7 +45,7 @@ other_ids-when true r c l = refl
 pub node_is : (r s : Row) (c b l a : Nodes) → r ≡ s → c ≡ b → l ≡ a → node r c l ≡ node s b a
 node_is r s c b l a p q w = cc
 
--- one more part in front
+-- one more part at the start
 each_step : {A : Type 0} (row : Option ℤ → A → Row) (below : A → Nodes) (b : Bool) (r : Row) (c l : Nodes) (x : A) (xs : List A)
     → is_some r.id ≡ b → row r.id x ≡ r → below x ≡ c → each_nodes row below (ids_when b l) xs ≡ l
     → each_nodes row below (ids_when b (node r c l)) (x ∷ xs) ≡ node r c l
@@ -55,7 +55,7 @@ each_step row below b r c l x xs h e q rest =
 
 -- ---- parts
 
--- rings
+-- the rows of rings are those of the rings they give
 pub rings_back : (d : ℕ) (p : Row) (f : Option Row) (n : Nodes) → p.kind ≡ kind.Polygon → Fit d (Some p) f n → ring_nodes d (lines_of n) ≡ n
 rings_back d p f none e fit = refl
 rings_back d p f (node r c l) e fit =
@@ -68,11 +68,11 @@ rings_back d p f (node r c l) e fit =
     (sym (leaf (suc d) r None c fit.2 (may_none r.kind kind.Ring k (λ m. refl))))
     (rings_back d p (next_first (Some p) f r) l e fit.3)
 
--- a part's ids are those of its first sibling
+-- whether a part has an id is as for its first sibling
 deeper_mode : (p : Row) (f : Option Row) (r : Row) (c l : Nodes) (b : Bool) → mode (Some p) f (node r c l) ≡ b → mode (Some p) (next_first (Some p) f r) l ≡ b
 deeper_mode p f r c l b m = mode_next (Some p) f r c l ∙ m
 
--- linestrings
+-- the rows of linestrings are those of the linestrings they give
 pub lines_back : (d : ℕ) (p : Row) (f : Option Row) (n : Nodes) (b : Bool) → p.kind ≡ kind.MultiLinestring → Fit d (Some p) f n → mode (Some p) f n ≡ b
     → each_nodes (plain_row d kind.Linestring) (λ ps. none) (ids_when b n) (lines_of n) ≡ n
 lines_back d p f none b e fit m = refl
@@ -84,7 +84,7 @@ lines_back d p f (node r c l) b e fit m =
     (sym (leaf (suc d) r None c fit.2 (may_none r.kind kind.Linestring k (λ m. refl))))
     (lines_back d p (next_first (Some p) f r) l b e fit.3 (deeper_mode p f r c l b m))
 
--- polygons
+-- the rows of polygons are those of the polygons they give
 pub areas_back : (d : ℕ) (p : Row) (f : Option Row) (n : Nodes) (b : Bool) → p.kind ≡ kind.MultiPolygon → Fit d (Some p) f n → mode (Some p) f n ≡ b
     → each_nodes (λ id rings. plain_row d kind.Polygon id []) (ring_nodes (suc d)) (ids_when b n) (areas_of n) ≡ n
 areas_back d p f none b e fit m = refl
@@ -97,7 +97,7 @@ areas_back d p f (node r c l) b e fit m =
     (rings_back (suc d) r None c k fit.2)
     (areas_back d p (next_first (Some p) f r) l b e fit.3 (deeper_mode p f r c l b m))
 
--- points
+-- the rows of points are those of the points they give
 pub points_back : (d : ℕ) (p : Row) (f : Option Row) (n : Nodes) (b : Bool) → p.kind ≡ kind.MultiPoint → Fit d (Some p) f n → mode (Some p) f n ≡ b
     → each_nodes (λ id q. plain_row d kind.Point id (q ∷ [])) (λ q. none) (ids_when b n) (points_of n) ≡ n
 points_back d p f none b e fit m = refl

@@ -8,27 +8,27 @@ use Rattle.twkb_tree.specs.Rows.{Row, rows, rows_with, member_rows, rows_below, 
 use Rattle.twkb_tree.specs.Accepted.{point_count}
 use Rattle.twkb_tree.proofs.AllJoined.{all_join, all_apart}
 
--- points of joined rows
+-- the points of joined rows
 pub row_points-append : (xs ys : List Row) → row_points (xs ++ ys) ≡ row_points xs ++ row_points ys
 row_points-append [] ys = refl
 row_points-append (x ∷ xs) ys = ap (λ ps. x.points ++ ps) (row_points-append xs ys) ∙ sym (append_assoc x.points (row_points xs) (row_points ys))
 
--- of rings
+-- the points of the rows of rings
 row_points-rings : (d : ℕ) (rings : List (List Point)) → row_points (ring_rows d rings) ≡ flatten rings
 row_points-rings d [] = refl
 row_points-rings d (ring ∷ rings) = ap (λ ps. ring ++ ps) (row_points-rings d rings)
 
--- of points
+-- the points of the rows of points
 row_points-points : (d : ℕ) (ids : Ids) (ps : List Point) → row_points (rows_below d (multi_point ids ps)) ≡ ps
 row_points-points d ids [] = refl
 row_points-points d ids (p ∷ ps) = ap (λ qs. p ∷ qs) (row_points-points d (other_ids ids) ps)
 
--- of linestrings
+-- the points of the rows of linestrings
 row_points-lines : (d : ℕ) (ids : Ids) (lines : List (List Point)) → row_points (rows_below d (multi_line ids lines)) ≡ flatten lines
 row_points-lines d ids [] = refl
 row_points-lines d ids (ps ∷ lines) = ap (λ qs. ps ++ qs) (row_points-lines d (other_ids ids) lines)
 
--- of polygons
+-- the points of the rows of polygons
 row_points-areas : (d : ℕ) (ids : Ids) (areas : List (List (List Point))) → row_points (rows_below d (multi_polygon ids areas)) ≡ flat_map flatten areas
 row_points-areas d ids [] = refl
 row_points-areas d ids (rings ∷ areas) =
@@ -36,7 +36,7 @@ row_points-areas d ids (rings ∷ areas) =
     ∙ ap (λ ps. ps ++ row_points (rows_below d (multi_polygon (other_ids ids) areas))) (row_points-rings (suc d) rings)
     ∙ ap (λ ps. flatten rings ++ ps) (row_points-areas d (other_ids ids) areas)
 
--- of a simple shape
+-- the points of the rows of a simple shape
 row_points-simple : (d : ℕ) (s : Simple) → own_points s ++ row_points (rows_below d s) ≡ points_in s
 row_points-simple d (point None) = refl
 row_points-simple d (point (Some p)) = refl
@@ -58,37 +58,37 @@ mutual
       ∙ ap (λ ps. ps ++ row_points (member_rows d (other_ids ids) gs)) (row_points-with (first_id ids) d g)
       ∙ ap (λ ps. flat g ++ ps) (row_points-members d (other_ids ids) gs)
 
--- ---- their number
+-- ---- the number of points
 
--- as many as the rows count
+-- there are as many points as the rows count
 pub length-row_points : (rs : List Row) → length (row_points rs) ≡ point_count rs
 length-row_points [] = refl
 length-row_points (r ∷ rs) = omega (arith, length-append r.points (row_points rs), length-row_points rs)
 
--- as many as the geometry has
+-- there are as many points as the geometry has
 pub point_count-rows : (g : Tree) → point_count (rows 0 g) ≡ length (flat g)
 point_count-rows g = sym (length-row_points (rows 0 g)) ∙ ap (λ ps. length ps) (row_points-with None 0 g)
 
--- ---- their range
+-- ---- the range of points
 
 -- the points of the row are in range
 abbrev pub HasPointsInRange : Row → Type 0
 HasPointsInRange r = AreInRange r.points
 
--- each row's points in range, so all
+-- all points are in range if each row's are
 of_each_row : (rs : List Row) → AllByRecursion HasPointsInRange rs → AreInRange (row_points rs)
 of_each_row [] h = tt
 of_each_row (r ∷ rs) h = all_join IsInRange r.points (row_points rs) h.0 (of_each_row rs h.1)
 
--- all in range, so each row's
+-- each row's points are in range if all are
 each_row : (rs : List Row) → AreInRange (row_points rs) → AllByRecursion HasPointsInRange rs
 each_row [] h = tt
 each_row (r ∷ rs) h = let t = all_apart IsInRange r.points (row_points rs) h in (t.0, each_row rs t.1)
 
--- the rows of a geometry in range, so its points
+-- a geometry's points are in range if its rows' points are
 pub flat_in_range : (g : Tree) → AllByRecursion HasPointsInRange (rows 0 g) → AreInRange (flat g)
 flat_in_range g h = subst AreInRange (row_points-with None 0 g) (of_each_row (rows 0 g) h)
 
--- its points in range, so its rows
+-- a geometry's rows have their points in range if its points are
 pub rows_in_range : (g : Tree) → AreInRange (flat g) → AllByRecursion HasPointsInRange (rows 0 g)
 rows_in_range g h = each_row (rows 0 g) (subst AreInRange (sym (row_points-with None 0 g)) h)

@@ -1,4 +1,4 @@
--- A forest that fits is that of the geometries which it gives.
+-- A forest that fits is the forest of the geometries that it gives.
 use Rattle.std.proofs.Common.{◌≡◌, ℕ, suc, Bool, true, false, List, [], ◌∷◌, length, Option, Some, None, refl, sym, ◌∙◌, ap, arith, inl, inr}
 use Rattle.std.specs.Prelude.{ℤ, pos, is_some, not}
 use Rattle.std.proofs.lemmas.Bool.{cases_Bool}
@@ -13,39 +13,39 @@ use Rattle.twkb_tree.proofs.RowFacts.{Facts, facts, row_is, leaf, may_none, most
 use Rattle.twkb_tree.proofs.RowParts.{mode, mode_next, mode_here, first_id-when, other_ids-when, node_is, rings_back, lines_back, areas_back, points_back}
 use Rattle.twkb_tree.proofs.RowRanges.{id_is, precision_is}
 
--- ---- how many
+-- ---- numbers of rows
 
--- how many rows the first level has
+-- the number of rows of the first level
 abbrev width : Nodes → ℕ
 width none = 0
 width (node r c l) = suc (width l)
 
--- as many ids
+-- there are as many ids as rows of the first level
 length-all_ids : (n : Nodes) → length (all_ids n) ≡ width n
 length-all_ids none = refl
 length-all_ids (node r c l) = omega (arith, length-all_ids l)
 
--- as many linestrings
+-- there are as many linestrings as rows of the first level
 length-lines_of : (n : Nodes) → length (lines_of n) ≡ width n
 length-lines_of none = refl
 length-lines_of (node r c l) = omega (arith, length-lines_of l)
 
--- as many polygons
+-- there are as many polygons as rows of the first level
 length-areas_of : (n : Nodes) → length (areas_of n) ≡ width n
 length-areas_of none = refl
 length-areas_of (node r c l) = omega (arith, length-areas_of l)
 
--- as many as there are parts
+-- there are as many rows of the first level as parts
 width-each : {A : Type 0} (row : Option ℤ → A → Row) (below : A → Nodes) (ids : Ids) (xs : List A) → width (each_nodes row below ids xs) ≡ length xs
 width-each row below ids [] = refl
 width-each row below ids (x ∷ xs) = omega (arith, width-each row below (other_ids ids) xs)
 
--- as many geometries
+-- there are as many geometries as rows of the first level
 count-trees_from : (n : Nodes) → count (trees_from n) ≡ width n
 count-trees_from none = refl
 count-trees_from (node r c l) = omega (arith, count-trees_from l)
 
--- an id in range
+-- an id that passes the test is in range
 number_is : (o : Option ℤ) → id_in_range o ≡ true → IsId (number_in o)
 number_is None h = id_is (pos 0) refl
 number_is (Some n) h = id_is n h
@@ -55,59 +55,59 @@ all_ids_range : (d : ℕ) (p f : Option Row) (n : Nodes) → Fit d p f n → Are
 all_ids_range d p f none fit = tt
 all_ids_range d p f (node r c l) fit = (number_is r.id (facts p f r fit.1).id_range, all_ids_range d p (next_first p f r) l fit.3)
 
--- ids are as many as the rows
+-- ids of a forest with a first row are as many as its rows
 has_ids_when : (b : Bool) (r : Row) (c l : Nodes) (k : ℕ) → AreIds (all_ids (node r c l)) → k ≡ width (node r c l) → HasIds (ids_when b (node r c l)) k
 has_ids_when false r c l k are e = tt
 has_ids_when true r c l k are e = (omega arith, omega (arith, length-all_ids l), are)
 
--- and only where there are rows
+-- ids are there only if there are rows
 has_ids : (d : ℕ) (p f : Option Row) (n : Nodes) (k : ℕ) → Fit d p f n → k ≡ width n → HasIds (ids_of n) k
 has_ids d p f none k fit e = tt
 has_ids d p f (node r c l) k fit e = has_ids_when (is_some r.id) r c l k (all_ids_range d p f (node r c l) fit) e
 
--- ---- whole geometries
+-- ---- complete geometries
 
--- a geometry of its own, and its place
+-- a precision that passes the tests is in range
 precision_known : (o : Option ℤ) → is_some o ≡ true → precision_in_range o ≡ true → (o ≡ Some (number_in o)) × IsPrecision (number_in o)
 precision_known None h in_range = cc h
 precision_known (Some q) h in_range = (refl, precision_is q in_range)
 
--- it has a precision in range
+-- a row that is a geometry itself has a precision in range
 whole_precision : (p f : Option Row) (r : Row) → is_whole p ≡ true → Facts p f r → (r.precision ≡ Some (number_in r.precision)) × IsPrecision (number_in r.precision)
 whole_precision p f r w h = precision_known r.precision (rw w at h.precision) h.range
 
--- no ring
+-- a kind that passes the test is not a ring
 not_ring : (k : Kind) → not (is_ring k) ≡ true → is_ring k ≡ false
 not_ring kind.Ring h = cc h
 not_ring _ h = refl
 
--- a collection
+-- a kind that passes the test is the collection
 collection_kind : (k : Kind) → is_collection k ≡ true → k ≡ kind.Collection
 collection_kind kind.Collection h = refl
 collection_kind _ h = cc h
 
--- a member is no ring
+-- a member of a collection is not a ring
 in_collection : (k : Kind) → may_have kind.Collection k ≡ true → is_ring k ≡ false
 in_collection kind.Ring h = cc h
 in_collection _ h = refl
 
--- the same, by the kind
+-- a child of a collection, known by its kind, is not a ring
 under_collection : (j k : Kind) → is_collection j ≡ true → may_have j k ≡ true → is_ring k ≡ false
 under_collection j k w h = in_collection k (ap (λ i. may_have i k) (sym (collection_kind j w)) ∙ h)
 
--- a geometry of its own is no ring
+-- a row that is a geometry itself is not a ring
 no_ring : (p f : Option Row) (r : Row) → is_whole p ≡ true → Facts p f r → is_ring r.kind ≡ false
 no_ring None f r w h = not_ring r.kind h.place
 no_ring (Some p) f r w h = under_collection p.kind r.kind w h.place
 
--- the shape of a row that is no collection and no ring
+-- the shape of a row that is neither a collection nor a ring
 record Shaped (d : ℕ) (r : Row) (c : Nodes) (s : Simple) : Type 0 where
   pub kind : kind_in s ≡ r.kind
   pub points : own_points s ≡ r.points
   pub below : simple_below (suc d) s ≡ c
   pub ids : IdsFit s
 
--- a row and what is below it make a simple shape
+-- a row and the rows below it make a simple shape
 shaped : (d : ℕ) (r : Row) (c : Nodes) (k : Kind) → r.kind ≡ k → is_ring k ≡ false → is_collection k ≡ false → points_fit r.kind true r.points ≡ true → Fit (suc d) (Some r) None c → Shaped d r c (simple_from k r.points c)
 shaped d r c kind.Point e ring coll h fit = record { kind = sym e; points = most_one r.points (ap (λ j. points_fit j true r.points) (sym e) ∙ h); below = sym (leaf (suc d) r None c fit (may_none r.kind kind.Point e (λ m. refl))); ids = tt }
 shaped d r c kind.Linestring e ring coll h fit = record { kind = sym e; points = refl; below = sym (leaf (suc d) r None c fit (may_none r.kind kind.Linestring e (λ m. refl))); ids = tt }
@@ -120,13 +120,13 @@ shaped d r c kind.MultiLinestring e ring coll h fit = record { kind = sym e; poi
 shaped d r c kind.MultiPolygon e ring coll h fit = record { kind = sym e; points = sym (no_points_of kind.MultiPolygon r.kind true r.points e refl h); below = areas_back (suc d) r None c (first_has_id c) e fit refl; ids = has_ids (suc d) (Some r) None c (length (areas_of c)) fit (length-areas_of c) }
 shaped d r c kind.Collection e ring coll h fit = cc coll
 
--- what a row and what is below it make
+-- the geometry that a row and the rows below it make
 record Rebuilt (d : ℕ) (r : Row) (c : Nodes) (g : Tree) : Type 0 where
   pub tree : IsTree g
   pub own : own_row r.id d g ≡ r
   pub below : tree_below (suc d) g ≡ c
 
--- a simple shape
+-- they make a simple shape
 rebuilt_simple : (d : ℕ) (p f : Option Row) (r : Row) (c : Nodes) → is_whole p ≡ true → r.depth ≡ d → Facts p f r → is_collection r.kind ≡ false → Fit (suc d) (Some r) None c → Rebuilt d r c (simple (number_in r.precision) (simple_from r.kind r.points c))
 rebuilt_simple d p f r c w e h coll fit =
     let s = shaped d r c r.kind refl (no_ring p f r w h) coll (ap (λ b. points_fit r.kind b r.points) (sym w) ∙ h.points) fit in
@@ -139,7 +139,7 @@ rebuilt_simple d p f r c w e h coll fit =
       below = s.below;
     }
 
--- a collection
+-- they make a collection
 rebuilt_collection : (d : ℕ) (p f : Option Row) (r : Row) (c : Nodes) → is_whole p ≡ true → r.depth ≡ d → Facts p f r → is_collection r.kind ≡ true → Fit (suc d) (Some r) None c → AreTrees (trees_from c) → member_nodes (suc d) (ids_of c) (trees_from c) ≡ c → Rebuilt d r c (collection (number_in r.precision) (ids_of c) (trees_from c))
 rebuilt_collection d p f r c w e h coll fit trees below =
     let k = collection_kind r.kind coll in
@@ -151,12 +151,12 @@ rebuilt_collection d p f r c w e h coll fit trees below =
       below = below;
     }
 
--- a forest of the geometries that it gives
+-- a forest is that of the geometries that it gives
 pub record Members (d : ℕ) (b : Bool) (n : Nodes) : Type 0 where
   pub trees : AreTrees (trees_from n)
   pub nodes : member_nodes d (ids_when b n) (trees_from n) ≡ n
 
--- one more geometry in front
+-- one more geometry at the start
 members_step : (d : ℕ) (b : Bool) (r : Row) (c l : Nodes) (g : Tree) → is_some r.id ≡ b → Rebuilt d r c g → Members d b l → (IsTree g × AreTrees (trees_from l)) × (member_nodes d (ids_when b (node r c l)) (g ▷ trees_from l) ≡ node r c l)
 members_step d b r c l g h one rest = (
   (one.tree, rest.trees),
@@ -165,7 +165,7 @@ members_step d b r c l g h one rest = (
       (ap (λ ids. member_nodes d ids (trees_from l)) (other_ids-when b r c l) ∙ rest.nodes),
 )
 
--- a forest that fits is such
+-- a forest that fits is that of the geometries that it gives
 pub rebuilt : (d : ℕ) (p f : Option Row) (n : Nodes) (b : Bool) → is_whole p ≡ true → Fit d p f n → mode p f n ≡ b → Members d b n
 rebuilt d p f none b w fit m = record { trees = tt; nodes = refl }
 rebuilt d p f (node r c l) b w fit m =

@@ -1,4 +1,4 @@
--- What adds up over the rows of one geometry, along rows and over the geometry.
+-- Sums over the rows of one geometry: along the rows, and over the geometry.
 use Rattle.std.proofs.Common.{◌≡◌, ℕ, zero, suc, ◌+◌, ◌≤◌, ◌==◌, true, false, List, [], ◌∷◌, ◌++◌, None, refl, sym, ◌∙◌, ap, subst, arith, eq-eqb, ne_eqb}
 use Rattle.std.specs.Prelude.{⊤, reverse}
 use mathlib.Core.List.{reverse_aux}
@@ -12,18 +12,18 @@ use Rattle.twkb_tree.proofs.RowsOfTrees.{rows_all}
 use Rattle.twkb_tree.proofs.RootLaws.{AreDeep, below_root}
 use Rattle.twkb_tree.proofs.RowsAlong.{Along}
 
--- the row and those of its geometry before it add up to no more
+-- the sum over the row and the rows of its geometry before it is at most `most`
 abbrev pub Adds : (Row → ℕ) → ℕ → List Row → Row → Type 0
 Adds w most before r = weight w (geometry_rows r.depth before) + w r ≤ most
 
--- back to the root
+-- the rows back to the root
 pub since_root-over : (ys : List Row) (own : Row) (before : List Row) → AreDeep 1 ys → own.depth ≡ 0 → since_root (ys ++ own ∷ before) ≡ ys ++ own ∷ []
 since_root-over [] own before deep e = let t : (own.depth == 0) ≡ true = eq-eqb own.depth 0 e in rw t refl
 since_root-over (y ∷ ys) own before deep e =
     let t : (y.depth == 0) ≡ false = ne_eqb y.depth 0 (λ z. omega (arith, deep.0)) in
     rw t (ap (λ rs. y ∷ rs) (since_root-over ys own before deep.1 e))
 
--- below a root all rows since it count
+-- below a root all rows since it are counted
 pub geometry_rows-deep : (d : ℕ) (before : List Row) → 1 ≤ d → geometry_rows d before ≡ since_root before
 geometry_rows-deep zero before h = absurd (omega arith)
 geometry_rows-deep (suc d) before h = refl
@@ -33,39 +33,39 @@ pub weight-append : (w : Row → ℕ) (xs ys : List Row) → weight w (xs ++ ys)
 weight-append w [] ys = omega arith
 weight-append w (x ∷ xs) ys = omega (arith, weight-append w xs ys)
 
--- what a row below the root has before it
+-- the sum over the rows before a row below the root
 adds_here : (w : Row → ℕ) (y own : Row) (ys before : List Row) → AreDeep 1 (y ∷ ys) → own.depth ≡ 0 → weight w (geometry_rows y.depth (ys ++ own ∷ before)) ≡ weight w ys + w own
 adds_here w y own ys before deep e =
     ap (weight w) (geometry_rows-deep y.depth (ys ++ own ∷ before) deep.0 ∙ since_root-over ys own before deep.1 e)
     ∙ weight-append w ys (own ∷ []) ∙ omega arith
 
--- a root has nothing before it
+-- for a root there are no rows before it
 adds_own : (w : Row → ℕ) (own : Row) (before : List Row) → own.depth ≡ 0 → weight w (geometry_rows own.depth before) ≡ 0
 adds_own w own before e = ap (λ d. weight w (geometry_rows d before)) e
 
--- the same of one geometry
+-- the sum along the rows of one geometry bounds the sum over it
 total_of : (w : Row → ℕ) (most : ℕ) (ys : List Row) (own : Row) (before : List Row) → AreDeep 1 ys → own.depth ≡ 0 → Along (Adds w most) (ys ++ own ∷ before) → (weight w ys + w own ≤ most) × Along (Adds w most) before
 total_of w most [] own before deep e a = (omega (arith, a.0, adds_own w own before e), a.1)
 total_of w most (y ∷ ys) own before deep e a =
     (omega (arith, a.0, adds_here w y own ys before deep e), (total_of w most ys own before deep.1 e a.1).1)
 
--- and back
+-- the sum over one geometry bounds the sums along its rows
 of_total : (w : Row → ℕ) (most : ℕ) (ys : List Row) (own : Row) (before : List Row) → AreDeep 1 ys → own.depth ≡ 0 → weight w ys + w own ≤ most → Along (Adds w most) before → Along (Adds w most) (ys ++ own ∷ before)
 of_total w most [] own before deep e le a = (omega (arith, adds_own w own before e), a)
 of_total w most (y ∷ ys) own before deep e le a =
     (omega (arith, adds_here w y own ys before deep e), of_total w most ys own before deep.1 e (omega arith) a)
 
--- turned round, rows are as deep
+-- reversed rows are as deep
 pub deep_reverse : (xs ys : List Row) → AreDeep 1 xs → AreDeep 1 ys → AreDeep 1 (reverse_aux xs ys)
 deep_reverse [] ys h g = g
 deep_reverse (x ∷ xs) ys h g = deep_reverse xs (x ∷ ys) h.1 (h.0, g)
 
--- turned round, rows sum up to the same
+-- reversed rows have the same sum
 pub weight-onto : (w : Row → ℕ) (xs ys : List Row) → weight w (reverse_aux xs ys) ≡ weight w xs + weight w ys
 weight-onto w [] ys = omega arith
 weight-onto w (x ∷ xs) ys = omega (arith, weight-onto w xs (x ∷ ys))
 
--- the rows of a geometry on top of those before
+-- the rows of a geometry, on top of the rows before it
 pub record Onto (g : Tree) (before : List Row) : Type 0 where
   pub own : Row
   pub above : List Row
@@ -74,7 +74,7 @@ pub record Onto (g : Tree) (before : List Row) : Type 0 where
   pub root : own.depth ≡ 0
   pub weighs : (w : Row → ℕ) → weight w above + w own ≡ weight w (rows 0 g)
 
--- the rows of a geometry so
+-- each geometry has its rows on top of the rows before it
 onto : (g : Tree) (before : List Row) → IsTree g → Onto g before
 onto g before t =
     let b = below_root g t in
@@ -87,12 +87,12 @@ onto g before t =
       weighs = λ w. (let e = ap (weight w) b.1 in omega (arith, e, weight-onto w b.0 []));
     }
 
--- the rows of each member add up to no more
+-- the sum over the rows of each member is at most `most`
 abbrev pub TotalAll : (Row → ℕ) → ℕ → Trees → Type 0
 TotalAll w most end = ⊤
 TotalAll w most (g ▷ gs) = (weight w (rows 0 g) ≤ most) × TotalAll w most gs
 
--- each row adds up, so each member does
+-- the sum over each member is bounded if the sums along the rows are
 pub totals : (w : Row → ℕ) (most : ℕ) (gs : Trees) (before : List Row) → AreTrees gs → Along (Adds w most) (reverse_aux (rows_all gs) before) → TotalAll w most gs × Along (Adds w most) before
 totals w most end before t a = (tt, a)
 totals w most (g ▷ gs) before t a =
@@ -103,7 +103,7 @@ totals w most (g ▷ gs) before t a =
     let one = total_of w most o.above o.own before o.deep o.root rest.1 in
     ((omega (arith, one.0, o.weighs w), rest.0), one.1)
 
--- each member adds up, so each row does
+-- the sums along the rows are bounded if the sum over each member is
 pub of_totals : (w : Row → ℕ) (most : ℕ) (gs : Trees) (before : List Row) → AreTrees gs → TotalAll w most gs → Along (Adds w most) before → Along (Adds w most) (reverse_aux (rows_all gs) before)
 of_totals w most end before t h a = a
 of_totals w most (g ▷ gs) before t h a =

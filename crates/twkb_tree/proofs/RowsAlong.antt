@@ -1,4 +1,4 @@
--- What holds of each row under its parent, along rows and along their forest.
+-- A fact about each row and its parent, along the rows and along their forest.
 use Rattle.std.proofs.Common.{◌≡◌, ℕ, suc, List, [], ◌∷◌, Option, Some, None, sym, ◌∙◌, ap, subst}
 use Rattle.std.specs.Prelude.{⊤}
 use Rattle.twkb_tree.specs.Rows.{Row}
@@ -6,21 +6,21 @@ use Rattle.twkb_tree.specs.Admits.{parent}
 use Rattle.twkb_tree.proofs.RowForest.{Nodes, none, node, past, Fit, next_first}
 use Rattle.twkb_tree.proofs.RowSteps.{fit_deep, Stands, stands_below, stands_after}
 
--- of each row after those before it
+-- the fact holds for each row and the rows before it
 abbrev pub Along : (List Row → Row → Type 0) → List Row → Type 0
 Along Q [] = ⊤
 Along Q (r ∷ before) = Q before r × Along Q before
 
--- of each row under its parent
+-- the fact holds for each row of a forest and its parent
 abbrev pub Locally : (Option Row → Row → Type 0) → Option Row → Nodes → Type 0
 Locally Q p none = ⊤
 Locally Q p (node r c l) = Q p r × Locally Q (Some r) c × Locally Q p l
 
--- of a row under its parent
+-- the fact holds for a row and its parent among the rows before it
 abbrev pub UnderParent : (Option Row → Row → Type 0) → List Row → Row → Type 0
 UnderParent Q before r = Q (parent r.depth before) r
 
--- along the rows, so along the forest
+-- a fact that holds along the rows holds along the forest
 pub along_locally : (Q : Option Row → Row → Type 0) (d : ℕ) (p f : Option Row) (n : Nodes) (before : List Row) → Fit d p f n → Stands d p f before → Along (UnderParent Q) (past n before) → Locally Q p n × Along (UnderParent Q) before
 along_locally Q d p f none before fit s a = (tt, a)
 along_locally Q d p f (node r c l) before fit s a =
@@ -30,7 +30,7 @@ along_locally Q d p f (node r c l) before fit s a =
     let same : parent r.depth before ≡ p = ap (λ k. parent k before) fit.0 ∙ s.under in
     ((subst (λ q. Q q r) same below.1.0, below.0, after.0), below.1.1)
 
--- along the forest, so along the rows
+-- a fact that holds along the forest holds along the rows
 pub locally_along : (Q : Option Row → Row → Type 0) (d : ℕ) (p f : Option Row) (n : Nodes) (before : List Row) → Fit d p f n → Stands d p f before → Locally Q p n → Along (UnderParent Q) before → Along (UnderParent Q) (past n before)
 locally_along Q d p f none before fit s h a = a
 locally_along Q d p f (node r c l) before fit s h a =

@@ -9,7 +9,7 @@ use Rattle.twkb_tree.specs.Admits.{is_collection}
 use Rattle.twkb_tree.proofs.RowForest.{Nodes, none, each_nodes, ring_nodes, simple_below, tree_below, member_nodes, all_ids, ids_when, ids_of, first_has_id, lines_of, points_of, areas_of, simple_from, tree_from, trees_from}
 use Rattle.twkb_tree.proofs.RowFitting.{own_row-id}
 
--- the ids of parts, where they have ids
+-- the ids of parts, if they have any
 all_ids-each : {A : Type 0} (row : Option ℤ → A → Row) (below : A → Nodes) (ids : List ℤ) (xs : List A) → ((id : Option ℤ) (x : A) → (row id x).id ≡ id) → length ids ≡ length xs → all_ids (each_nodes row below (Some ids) xs) ≡ ids
 all_ids-each row below [] [] at e = refl
 all_ids-each row below (id ∷ ids) [] at e = absurd (omega arith)
@@ -27,7 +27,7 @@ ids_of-each row below (Some (id ∷ ids)) (x ∷ xs) at h =
     let has : first_has_id (each_nodes row below (Some (id ∷ ids)) (x ∷ xs)) ≡ true = rw (at (Some id) x) refl in
     ap (λ b. ids_when b (each_nodes row below (Some (id ∷ ids)) (x ∷ xs))) has ∙ ap (λ is. Some is) one
 
--- the ids of members, where they have ids
+-- the ids of members, if they have any
 all_ids-members : (d : ℕ) (ids : List ℤ) (gs : Trees) → length ids ≡ count gs → all_ids (member_nodes d (Some ids) gs) ≡ ids
 all_ids-members d [] end e = refl
 all_ids-members d (id ∷ ids) end e = absurd (omega arith)
@@ -45,27 +45,27 @@ ids_of-members d (Some (id ∷ ids)) (g ▷ gs) h =
     let has : first_has_id (member_nodes d (Some (id ∷ ids)) (g ▷ gs)) ≡ true = rw (own_row-id (Some id) d g) refl in
     ap (λ b. ids_when b (member_nodes d (Some (id ∷ ids)) (g ▷ gs))) has ∙ ap (λ is. Some is) one
 
--- the rings
+-- the forest of rings gives the rings
 lines_of-rings : (d : ℕ) (rings : List (List Point)) → lines_of (ring_nodes d rings) ≡ rings
 lines_of-rings d [] = refl
 lines_of-rings d (ring ∷ rings) = ap (λ ls. ring ∷ ls) (lines_of-rings d rings)
 
--- the linestrings
+-- the forest of linestrings gives the linestrings
 lines_of-lines : (d : ℕ) (ids : Ids) (lines : List (List Point)) → lines_of (each_nodes (plain_row d kind.Linestring) (λ ps. none) ids lines) ≡ lines
 lines_of-lines d ids [] = refl
 lines_of-lines d ids (ps ∷ lines) = ap (λ ls. ps ∷ ls) (lines_of-lines d (other_ids ids) lines)
 
--- the points
+-- the forest of points gives the points
 points_of-points : (d : ℕ) (ids : Ids) (ps : List Point) → points_of (each_nodes (λ id p. plain_row d kind.Point id (p ∷ [])) (λ p. none) ids ps) ≡ ps
 points_of-points d ids [] = refl
 points_of-points d ids (p ∷ ps) = ap (λ ls. p ∷ ls) (points_of-points d (other_ids ids) ps)
 
--- the polygons
+-- the forest of polygons gives the polygons
 areas_of-areas : (d : ℕ) (ids : Ids) (areas : List (List (List Point))) → areas_of (each_nodes (λ id rings. plain_row d kind.Polygon id []) (ring_nodes (suc d)) ids areas) ≡ areas
 areas_of-areas d ids [] = refl
 areas_of-areas d ids (rings ∷ areas) = rw (lines_of-rings (suc d) rings) (ap (λ ls. rings ∷ ls) (areas_of-areas d (other_ids ids) areas))
 
--- the simple shape
+-- the forest below a simple shape gives the shape
 simple_from-below : (d : ℕ) (s : Simple) → IdsFit s → simple_from (kind_in s) (own_points s) (simple_below d s) ≡ s
 simple_from-below d (point None) h = refl
 simple_from-below d (point (Some p)) h = refl
@@ -81,7 +81,7 @@ simple_from-below d (multi_polygon ids areas) h =
     ap (λ is. multi_polygon is (areas_of (simple_below d (multi_polygon ids areas)))) (ids_of-each (λ id rings. plain_row d kind.Polygon id []) (ring_nodes (suc d)) ids areas (λ id x. refl) h)
     ∙ ap (λ ls. multi_polygon ids ls) (areas_of-areas d ids areas)
 
--- a simple shape is no collection
+-- a simple shape's kind is not the collection
 pub simple_kind : (s : Simple) → is_collection (kind_in s) ≡ false
 simple_kind (point o) = refl
 simple_kind (line ps) = refl

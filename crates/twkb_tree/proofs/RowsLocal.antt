@@ -20,18 +20,18 @@ use Rattle.twkb_tree.proofs.RootLimits.{one_since_root}
 use Rattle.twkb_tree.proofs.RowSums.{since_root-over, deep_reverse, weight-onto}
 use Rattle.twkb_tree.proofs.RowTests.{both_true}
 
--- ---- rows that were admitted have open rows
+-- ---- admitted rows have open rows
 
--- the open rows of rows that were admitted
+-- admitted rows have open rows
 pub open_rows : (before : List Row) → IsAdmitted before → (os : List OpenRow) × AreOpen before os
 open_rows [] a = ([], open_none)
 open_rows (r ∷ before) a =
     let rest = open_rows before a.1 in
     (opened r.depth rest.0 r, open_more before rest.0 r (both_true (steps_to r.depth before) (fits (parent r.depth before) (first_child r.depth before) r) a.0).0 rest.1)
 
--- ---- earlier rows do not matter where a row at the depth stands after them
+-- ---- earlier rows do not matter if a row at the depth comes after them
 
--- the last row at a depth
+-- the last row at a depth is not an earlier one
 last_over : (d : ℕ) (xs earlier : List Row) (r : Row) → last_at d xs ≡ Some r → last_at d (xs ++ earlier) ≡ Some r
 last_over d [] earlier r e = cc e
 last_over d (x ∷ xs) earlier r e = elim (cases_Bool (x.depth == d)) [
@@ -39,7 +39,7 @@ last_over d (x ∷ xs) earlier r e = elim (cases_Bool (x.depth == d)) [
   | inr off ↦ rw off (last_over d xs earlier r (rw off at e))
 ]
 
--- and the first row below it
+-- the first row below it is not an earlier one
 first_over : (d : ℕ) (xs earlier : List Row) (r : Row) → last_at d xs ≡ Some r → first_below d (xs ++ earlier) ≡ first_below d xs
 first_over d [] earlier r e = cc e
 first_over d (x ∷ xs) earlier r e = elim (cases_Bool (x.depth == d)) [
@@ -47,16 +47,16 @@ first_over d (x ∷ xs) earlier r e = elim (cases_Bool (x.depth == d)) [
   | inr off ↦ rw (off, first_over d xs earlier r (rw off at e)) refl
 ]
 
--- so an open row
+-- an open row is the same with earlier rows
 open_over : (d : ℕ) (xs earlier : List Row) (o : OpenRow) → IsOpenAt d xs o → IsOpenAt d (xs ++ earlier) o
 open_over d xs earlier o h = (h.0, last_over d xs earlier h.0 h.1, h.2, h.3 ∙ sym (ap ids_by (first_over d xs earlier h.0 h.1)))
 
--- so all open rows
+-- all open rows are the same with earlier rows
 each_over : (d : ℕ) (xs earlier : List Row) (os : List OpenRow) → AreOpenFrom d xs os → AreOpenFrom d (xs ++ earlier) os
 each_over d xs earlier [] h = tt
 each_over d xs earlier (o ∷ os) h = (open_over d xs earlier o h.0, each_over (suc d) xs earlier os h.1)
 
--- and their number
+-- the number of open rows is the same with earlier rows
 are_over : (x : Row) (xs earlier : List Row) (os : List OpenRow) → AreOpen (x ∷ xs) os → AreOpen (x ∷ xs ++ earlier) os
 are_over x xs earlier os a = record { each = each_over 0 (x ∷ xs) earlier os a.each; all = a.all }
 
@@ -65,7 +65,7 @@ pub open_last : (xs earlier : List Row) (os : List OpenRow) → 0 < length xs �
 open_last [] earlier os some a = absurd (omega (arith, some))
 open_last (x ∷ xs) earlier os some a = are_over x xs earlier os a
 
--- ---- so the row is judged alike
+-- ---- the row is judged the same
 
 -- the rows back to the last root
 pub since_last : (s : Row) (rs earlier : List Row) → AreRowsOfOne (s ∷ rs) → since_root (reverse (s ∷ rs) ++ earlier) ≡ reverse (s ∷ rs)
@@ -75,7 +75,7 @@ since_last s rs earlier a =
     let root = root_depth a.0 s [] rs a.1 (append-nil (rows 0 a.0) ∙ a.2) in
     ap (λ xs. since_root (xs ++ earlier)) split ∙ ap since_root (append_assoc (reverse rs) (s ∷ []) earlier) ∙ since_root-over (reverse rs) s earlier deep root ∙ sym split
 
--- rows of the same open rows and the same last geometry
+-- with the same open rows and the same last geometry, a row is judged the same
 judged_alike : (l : Allowance) (before other : List Row) (os : List OpenRow) (r : Row) → AreOpen before os → AreOpen other os → since_root before ≡ since_root other → refusal_after l before r ≡ refusal_after l other r
 judged_alike l before other os r a b same =
     sym (open_refused l before os r a) ∙ ap (λ xs. open_refusal l os (length xs) (point_count xs) r) same ∙ open_refused l other os r b
@@ -90,7 +90,7 @@ local_refusal l s rs earlier r a =
     ∙ judged_alike l (reverse (s ∷ rs) ++ reverse earlier) (reverse (s ∷ rs)) open_now.0 r all open_now.1
     (since_last s rs (reverse earlier) a ∙ sym (one_since_root (s ∷ rs) a))
 
--- at depth 0 no row is looked at
+-- a row at depth 0 is judged by no row
 root_at : (l : Allowance) (d : ℕ) (before other : List Row) (r : Row) → d ≡ 0 → first_failed (checks_at l d before r) ≡ first_failed (checks_at l d other r)
 root_at l d before other r e = rw e refl
 
@@ -100,19 +100,19 @@ root_refusal l rs r e = root_at l r.depth (reverse rs) [] r e
 
 -- ---- the test for one geometry, by the open rows
 
--- some row is open
+-- at least one row is open after a row
 open_count-some : (x : Row) (xs ys : List Row) (zs : List Row) → zs ≡ ys ++ x ∷ xs → 0 < open_count zs
 open_count-some x xs [] zs e = rw e (omega arith)
 open_count-some x xs (y ∷ ys) zs e = rw e (omega arith)
 
--- a root comes first and only there
+-- a row is a root exactly if it comes first
 next_is : (rs : List Row) (os : List OpenRow) (r : Row) → AreOpen (reverse rs) os → is_next os r ≡ is_one_root rs r
 next_is [] [] r a = refl
 next_is [] (o ∷ os) r a = absurd (omega (arith, a.all))
 next_is (s ∷ rs) [] r a = absurd (omega (arith, a.all, open_count-some s [] (reverse rs) (reverse (s ∷ rs)) (reverse_onto rs s [])))
 next_is (s ∷ rs) (o ∷ os) r a = refl
 
--- turned round, rows have as many points
+-- reversed rows have as many points
 pub point_count-reverse : (rs : List Row) → point_count (reverse rs) ≡ point_count rs
 point_count-reverse rs = weight-onto (λ r. length r.points) rs [] ∙ omega arith
 

@@ -8,7 +8,7 @@ use Rattle.twkb_tree.specs.declared.geometry.Shape.{Shape}
 use Rattle.twkb_tree.specs.declared.geometry.Shape.TheVariants.{Point, Line, Polygon, MultiPoint, MultiLine, MultiPolygon, Collection}
 use Rattle.twkb_tree.proofs.Forest.{count-trees}
 
--- a fit shape of a precision in range is a geometry
+-- a shape with fitting ids and a precision in range is a geometry
 pub IsTree-tree_of : (p : ℤ) (s : Shape) → IsPrecision p → HasFitIds s → HasTrees s → IsTree (tree_of p s)
 IsTree-tree_of p (Point o) small fit are = (small, tt)
 IsTree-tree_of p (Line ps) small fit are = (small, tt)
@@ -18,7 +18,7 @@ IsTree-tree_of p (MultiLine lines ids) small fit are = (small, fit)
 IsTree-tree_of p (MultiPolygon areas ids) small fit are = (small, fit)
 IsTree-tree_of p (Collection gs ids) small fit are = (small, subst (λ n. HasIds ids n) (sym (count-trees gs)) fit, are)
 
--- and a geometry's precision and shape are such
+-- a geometry has fitting ids and a precision in range
 pub fit-tree_of : (p : ℤ) (s : Shape) → IsTree (tree_of p s) → IsPrecision p × HasFitIds s
 fit-tree_of p (Point o) t = (t.0, tt)
 fit-tree_of p (Line ps) t = (t.0, tt)
@@ -39,16 +39,16 @@ IsTreeInRange-tree_of p (MultiLine lines ids) h = h
 IsTreeInRange-tree_of p (MultiPolygon areas ids) h = h
 IsTreeInRange-tree_of p (Collection gs ids) h = h
 
--- the members of a list, as a list again
+-- a list turned into members and back is the list
 members-trees : (gs : List Tree) → members (trees gs) ≡ gs
 members-trees [] = refl
 members-trees (g ∷ gs) = ap (λ (l : List Tree). g ∷ l) (members-trees gs)
 
--- a list is known by its members
+-- lists with the same members are equal
 trees_inj : (gs hs : List Tree) → trees gs ≡ trees hs → gs ≡ hs
 trees_inj gs hs e = sym (members-trees gs) ∙ ap members e ∙ members-trees hs
 
--- a shape is known by its tree
+-- shapes with the same tree are equal
 tree_of-shape : (p q : ℤ) (s t : Shape) → tree_of p s ≡ tree_of q t → s ≡ t
 tree_of-shape p q (Point a) (Point b) e = cc
 tree_of-shape p q (Line a) (Line b) e = cc
@@ -63,7 +63,7 @@ tree_of-shape p q (Collection gs is) (Collection hs js) e =
     λ i. Collection (same_members i) (same_ids i)
 tree_of-shape p q _ _ e = cc
 
--- two trees of one precision are one where their shapes are
+-- trees of the same precision are equal exactly if their shapes are
 pub same_trees : (g h : Tree) (s t : Shape) (r : Bool) → precision_of g ≡ precision_of h → tree_of (precision_of g) s ≡ g → tree_of (precision_of h) t ≡ h → (IsTrue r ↔ (s ≡ t)) → IsTrue r ↔ (g ≡ h)
 same_trees g h s t r same_precision g_is h_is same_shape = (
   λ so. sym g_is ∙ (λ i. tree_of (same_precision i) (same_shape.0 so i)) ∙ h_is,

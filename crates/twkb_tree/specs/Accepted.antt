@@ -1,35 +1,35 @@
--- Whether a row may come after the rows so far within the limits (profile).
+-- When a row may come after the rows so far, within the limits (profile).
 use Rattle.std.specs.Prelude.{◌≡◌, ℕ, zero, suc, ◌+◌, ◌<◌, ◌≤◌, ◌==◌, nat_le, List, [], ◌∷◌, length, reverse, Option, Some, None, Bool, true, false, if◌then◌else◌, ⊤}
 use Rattle.twkb_points.specs.Point.{AreInRange}
 use Rattle.twkb_tree.specs.Limits.{Allowance}
 use Rattle.twkb_tree.specs.Rows.{Row}
 use Rattle.twkb_tree.specs.Admits.{admits_after, parent, is_collection}
 
--- under this parent a row is a member of a collection
+-- a row under this parent is a member of a collection
 abbrev pub is_member : Option Row → Bool
 is_member None = false
 is_member (Some p) = is_collection p.kind
 
--- no member at a depth above `nest`
+-- a member is not at a depth above `nest`
 abbrev pub nest_kept : Allowance → Option Row → ℕ → Bool
 nest_kept l p d = if is_member p then nat_le d l.nest else true
 
--- the rows, the last one first, back to the last root
+-- the rows, last one first, back to the last root
 abbrev pub since_root : List Row → List Row
 since_root [] = []
 since_root (r ∷ before) = if r.depth == 0 then r ∷ [] else r ∷ since_root before
 
--- the rows so far that are of the geometry of a row at this depth
+-- the rows so far of the geometry that a row at this depth belongs to
 abbrev pub geometry_rows : ℕ → List Row → List Row
 geometry_rows zero before = []
 geometry_rows (suc d) before = since_root before
 
--- the sum of a number of each row
+-- the sum of a number over rows
 abbrev pub weight : (Row → ℕ) → List Row → ℕ
 weight w [] = 0
 weight w (r ∷ rs) = w r + weight w rs
 
--- how many points the rows have
+-- the number of points of the rows
 abbrev pub point_count : List Row → ℕ
 point_count rs = weight (λ r. length r.points) rs
 
@@ -41,16 +41,16 @@ pub record Accepts (l : Allowance) (before : List Row) (r : Row) : Type 0 where
   pub in_range : AreInRange r.points
   pub points : point_count (geometry_rows r.depth before) + length r.points ≤ l.points
 
--- each row, the last one first, may come after those before it
+-- each row, last one first, may come after those before it
 abbrev pub AreAccepted : Allowance → List Row → Type 0
 AreAccepted l [] = ⊤
 AreAccepted l (r ∷ before) = Accepts l before r × AreAccepted l before
 
--- the first row is a root, and no later one is
+-- the row is a root exactly if no row comes before it
 abbrev pub IsOneRoot : List Row → Row → Type 0
 IsOneRoot [] r = r.depth ≡ 0
 IsOneRoot (s ∷ rs) r = 0 < r.depth
 
--- the row may come next after rows of one geometry, and is of the same geometry
+-- the row may come next after rows of one geometry, and belongs to that geometry
 abbrev pub Continues : Allowance → List Row → Row → Type 0
 Continues l rs r = Accepts l (reverse rs) r × IsOneRoot rs r

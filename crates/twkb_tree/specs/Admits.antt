@@ -1,11 +1,11 @@
--- Whether a row may come after the rows so far: the rules of the table but for its limits (profile).
+-- When a row may come after the rows so far, by all rules of the table but its limits (profile).
 use Rattle.std.specs.Prelude.{◌≡◌, ℕ, zero, suc, ◌^◌, ℤ, pos, negsuc, List, [], ◌∷◌, Option, Some, None, Bool, true, false, not, ◌&&◌, ◌||◌, ◌==◌, nat_le, nat_lt, if◌then◌else◌, reverse, is_some, is_none, ⊤}
 use Rattle.twkb_points.specs.Point.{Point}
 use Rattle.twkb_tree.specs.declared.kind.Kind.{Kind}
 use Rattle.twkb_tree.specs.declared.kind.Kind.TheVariants as kind
 use Rattle.twkb_tree.specs.Rows.{Row}
 
--- ---- the rows so far stand with the last one first: "before"
+-- ---- the rows so far, last one first, are called "before"
 
 -- the last row at a depth
 abbrev pub last_at : ℕ → List Row → Option Row
@@ -23,17 +23,17 @@ first_below d [] = None
 first_below d (r ∷ before) =
     if r.depth == d then None else or_else (first_below d before) (if r.depth == suc d then Some r else None)
 
--- the row that a row at this depth comes under; a root comes under none
+-- the parent of a row at this depth; a root has none
 abbrev pub parent : ℕ → List Row → Option Row
 parent zero before = None
 parent (suc d) before = last_at d before
 
--- the first row that came under the same parent
+-- the first child of the same parent
 abbrev pub first_child : ℕ → List Row → Option Row
 first_child zero before = None
 first_child (suc d) before = first_below d before
 
--- a row at this depth is a root, or no deeper than one below the last row
+-- a row at this depth is a root, or at most one level below the last row
 abbrev pub steps_to : ℕ → List Row → Bool
 steps_to zero before = true
 steps_to (suc d) [] = false
@@ -61,7 +61,7 @@ abbrev pub is_point : Kind → Bool
 is_point kind.Point = true
 is_point _ = false
 
--- rows of the kind have points of their own
+-- rows of the kind hold points themselves
 abbrev pub has_points : Kind → Bool
 has_points kind.Point = true
 has_points kind.Linestring = true
@@ -73,53 +73,53 @@ abbrev pub is_collection : Kind → Bool
 is_collection kind.Collection = true
 is_collection _ = false
 
--- ---- what a row is to be under its parent
+-- ---- what a row must be under its parent
 
--- under this parent a row is a geometry of its own: a root, or a member of a collection
+-- a row under this parent is a geometry itself: a root, or a member of a collection
 abbrev pub is_whole : Option Row → Bool
 is_whole None = true
 is_whole (Some p) = is_collection p.kind
 
--- a root is no ring, and another row is what its parent may have
+-- a root is not a ring, and another row has a kind that its parent may have
 abbrev pub has_place : Option Row → Kind → Bool
 has_place None k = not (is_ring k)
 has_place (Some p) k = may_have p.kind k
 
--- from -2 ^ 63 to 2 ^ 63 - 1
+-- an id is from -2 ^ 63 to 2 ^ 63 - 1
 abbrev pub is_id : ℤ → Bool
 is_id (pos n) = nat_lt n (2 ^ 63)
 is_id (negsuc n) = nat_lt n (2 ^ 63)
 
--- an id is in range
+-- an id is in range, if there is one
 abbrev pub id_in_range : Option ℤ → Bool
 id_in_range None = true
 id_in_range (Some n) = is_id n
 
--- no id on a root or a ring
+-- there is no id on a root or a ring
 abbrev pub id_allowed : Option Row → Kind → Option ℤ → Bool
 id_allowed None k id = is_none id
 id_allowed (Some p) k id = not (is_ring k) || is_none id
 
--- an id on each child or on none: as the first child has it
+-- each child has an id or none has one, like the first child
 abbrev pub has_same_ids : Option Row → Option ℤ → Bool
 has_same_ids None id = true
 has_same_ids (Some f) id = if is_some f.id then is_some id else is_none id
 
--- from -8 to 7
+-- a precision is from -8 to 7
 abbrev pub is_precision : ℤ → Bool
 is_precision (pos n) = nat_lt n 8
 is_precision (negsuc n) = nat_lt n 8
 
--- a precision is in range
+-- a precision is in range, if there is one
 abbrev pub precision_in_range : Option ℤ → Bool
 precision_in_range None = true
 precision_in_range (Some n) = is_precision n
 
--- a precision on a geometry of its own, and on no other row
+-- a geometry itself has a precision, and no other row has one
 abbrev pub precision_fits : Option Row → Option ℤ → Bool
 precision_fits p precision = if is_whole p then is_some precision else is_none precision
 
--- the points that a row may have, by its kind; a point that is no geometry of its own has one
+-- a row has a number of points that its kind allows; a point that is part of a geometry has one
 abbrev pub points_fit : Kind → Bool → List Point → Bool
 points_fit k whole [] = whole || not (is_point k)
 points_fit kind.Point whole (p ∷ []) = true
@@ -128,7 +128,7 @@ points_fit kind.Linestring whole (p ∷ ps) = true
 points_fit kind.Ring whole (p ∷ ps) = true
 points_fit k whole (p ∷ ps) = false
 
--- the row is what it is to be under this parent, after this first child
+-- the row is what it must be under this parent, after this first child
 abbrev pub fits : Option Row → Option Row → Row → Bool
 fits p f r =
     has_place p r.kind && id_in_range r.id && id_allowed p r.kind r.id && has_same_ids f r.id
@@ -136,15 +136,15 @@ fits p f r =
 
 -- ---- the row may come next
 
--- after the rows so far with the last one first
+-- the row may come after the rows so far, last one first
 abbrev pub admits_after : List Row → Row → Bool
 admits_after before r = steps_to r.depth before && fits (parent r.depth before) (first_child r.depth before) r
 
--- after the rows so far in their order
+-- the row may come after the rows so far, in their order
 abbrev pub admits : List Row → Row → Bool
 admits rs r = admits_after (reverse rs) r
 
--- each row, the last one first, may come after those before it
+-- each row, last one first, may come after those before it
 abbrev pub IsAdmitted : List Row → Type 0
 IsAdmitted [] = ⊤
 IsAdmitted (r ∷ before) = (admits_after before r ≡ true) × IsAdmitted before

@@ -1,4 +1,4 @@
--- Each point of a geometry is in range, said along its shape.
+-- Each point of a geometry is in range, stated along its shape.
 use Rattle.std.specs.Prelude.{List, None, Some, ⊤}
 use Rattle.std.specs.List.{AllByRecursion}
 use Rattle.twkb_points.specs.Point.{Point, IsInRange, AreInRange}

@@ -7,36 +7,37 @@ use Rattle.twkb_tree.specs.Limits.{Allowance}
 use Rattle.twkb_tree.specs.Admits.{last_at, first_below}
 use Rattle.twkb_tree.specs.Refusal.{Refusal, checks_under, first_failed}
 
--- whether the row has an id, where there is a row
+-- whether the row has an id, if there is a row
 abbrev pub ids_by : Option Row → Option Bool
 ids_by None = None
 ids_by (Some f) = Some (is_some f.id)
 
--- this is kept of the last row at a depth: its kind, and whether its first child has an id
+-- the open row keeps this of the last row at a depth: its kind, and whether its first child has an id
 abbrev pub IsOpenAt : ℕ → List Row → OpenRow → Type 0
 IsOpenAt d before o = (r : Row) × (last_at d before ≡ Some r) × (o.kind ≡ r.kind) × (o.child_ids ≡ ids_by (first_below d before))
 
--- these are kept of the last rows at this depth and the depths after it
+-- these are the open rows of the last rows at this depth and at each deeper one
 abbrev pub AreOpenFrom : ℕ → List Row → List OpenRow → Type 0
 AreOpenFrom d before [] = ⊤
 AreOpenFrom d before (o ∷ os) = IsOpenAt d before o × AreOpenFrom (suc d) before os
 
--- how many rows are open: one at each depth, down to that of the last row
+-- the number of open rows: one for each depth, down to that of the last row
 abbrev pub open_count : List Row → ℕ
 open_count [] = 0
 open_count (r ∷ before) = suc r.depth
 
--- these are the open rows of the rows so far, the last of which stands first
+-- these are the open rows of the rows so far, last one first
 pub record AreOpen (before : List Row) (os : List OpenRow) : Type 0 where
   pub each : AreOpenFrom 0 before os
   pub all : length os ≡ open_count before
 
--- the first answer stays
+-- the first answer is kept
 abbrev pub first_answer : Option Bool → Bool → Option Bool
 first_answer None b = Some b
 first_answer (Some a) b = Some a
 
--- the open rows after one more row at this depth: those above it, its parent with a child more, and the row
+-- the open rows after one more row at this depth: those above its parent, its parent with one
+-- more child, and the row
 abbrev pub opened : ℕ → List OpenRow → Row → List OpenRow
 opened zero os r = record { kind = r.kind; child_ids = None } ∷ []
 opened (suc d) [] r = []
@@ -45,48 +46,49 @@ opened (suc (suc d)) (o ∷ os) r = o ∷ opened (suc d) os r
 
 -- ---- the test of a row by the open rows
 
--- the open row that a row at this depth comes under; a root comes under none
+-- the open row that is the parent of a row at this depth; a root has none
 abbrev pub open_parent : ℕ → List OpenRow → Option OpenRow
 open_parent d [] = None
 open_parent zero (o ∷ os) = None
 open_parent (suc zero) (o ∷ os) = Some o
 open_parent (suc (suc d)) (o ∷ os) = open_parent (suc d) os
 
--- some row of the open row's kind
+-- a row of the open row's kind, standing for it in the tests
 abbrev pub row_of : Option OpenRow → Option Row
 row_of None = None
 row_of (Some o) = Some (record { depth = 0; kind = o.kind; id = None; precision = None; points = [] })
 
--- some first child of the open row, with an id or without
+-- a first child with an id or without, standing for it in the tests
 abbrev pub child_by : Option Bool → Option Row
 child_by None = None
 child_by (Some true) = Some (record { depth = 0; kind = Kind.Point; id = Some (pos 0); precision = None; points = [] })
 child_by (Some false) = Some (record { depth = 0; kind = Kind.Point; id = None; precision = None; points = [] })
 
--- the same of an open row that may be missing
+-- a first child of an open row that may be missing
 abbrev pub child_of : Option OpenRow → Option Row
 child_of None = None
 child_of (Some o) = child_by o.child_ids
 
--- a count since the last root, for a row at this depth: a root begins anew
+-- a count since the last root, for a row at this depth: it is 0 for a root
 abbrev pub count_at : ℕ → ℕ → ℕ
 count_at zero n = 0
 count_at (suc d) n = n
 
--- what the row at this depth is refused for, by the open rows and the counts of rows and points since the last root
+-- the reason to refuse a row at this depth, by the open rows and the counts of rows and points
+-- since the last root
 abbrev pub open_refusal_at : Allowance → ℕ → List OpenRow → ℕ → ℕ → Row → Option Refusal
 open_refusal_at l d os nodes points r =
     first_failed (checks_under l (nat_le d (length os)) (row_of (open_parent d os)) (child_of (open_parent d os)) (count_at d nodes) (count_at d points) r)
 
--- the same at its own depth
+-- the reason to refuse a row at the depth that it names
 abbrev pub open_refusal : Allowance → List OpenRow → ℕ → ℕ → Row → Option Refusal
 open_refusal l os nodes points r = open_refusal_at l r.depth os nodes points r
 
--- the row is a root where no row is open, and only there
+-- the row is a root exactly if no row is open
 abbrev pub is_next : List OpenRow → Row → Bool
 is_next [] r = r.depth == 0
 is_next (o ∷ os) r = nat_lt 0 r.depth
 
--- the row may come next after the rows of one geometry, so many rows and points, and is of the same geometry
+-- the row may come next after one geometry's rows, with these counts, and belongs to that geometry
 abbrev pub open_continues : Allowance → List OpenRow → ℕ → ℕ → Row → Bool
 open_continues l os nodes points r = is_none (open_refusal l os nodes points r) && is_next os r

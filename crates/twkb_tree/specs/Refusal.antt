@@ -1,4 +1,5 @@
--- What a row is refused for: the first test that it fails, in the order of the table's reasons (profile).
+-- The reason to refuse a row: the first test that it fails, in the order of the table's reasons
+-- (profile).
 use Rattle.std.specs.Prelude.{ℕ, ◌+◌, ◌^◌, Bool, true, false, ◌&&◌, ◌||◌, not, is_some, is_none, nat_lt, nat_le, ℤ, pos, negsuc, List, [], ◌∷◌, ◌++◌, length, Option, Some, None, reverse, ◌==◌, if◌then◌else◌}
 use Rattle.twkb_points.specs.Point.{Point}
 use Rattle.twkb_tree.specs.Limits.{Allowance}
@@ -6,14 +7,14 @@ use Rattle.twkb_tree.specs.Rows.{Row}
 use Rattle.twkb_tree.specs.Admits.{parent, first_child, steps_to, has_place, id_in_range, id_allowed, has_same_ids, precision_in_range, is_whole, has_points, points_fit}
 use Rattle.twkb_tree.specs.Accepted.{nest_kept, geometry_rows, point_count}
 
--- why a row may not come next
+-- the reasons for which a row may not come next
 pub data Refusal : Type 0 where
   BadPlace TooDeep TooManyNodes : Refusal
   BadId IdNotAllowed MixedIds : Refusal
   BadPrecision PrecisionMissing PrecisionNotAllowed : Refusal
   PointsNotAllowed CoordinateRange TooManyPoints PointCount : Refusal
 
--- from -2 ^ 62 to 2 ^ 62 - 1
+-- a coordinate is from -2 ^ 62 to 2 ^ 62 - 1
 abbrev pub is_coordinate : ℤ → Bool
 is_coordinate (pos n) = nat_lt n (2 ^ 62)
 is_coordinate (negsuc n) = nat_lt n (2 ^ 62)
@@ -23,21 +24,21 @@ abbrev pub are_in_range : List Point → Bool
 are_in_range [] = true
 are_in_range (p ∷ ps) = (is_coordinate p.x && is_coordinate p.y) && are_in_range ps
 
--- there is no point
+-- the list of points is empty
 abbrev pub has_none : List Point → Bool
 has_none [] = true
 has_none (p ∷ ps) = false
 
--- a test, and what a row is refused for that fails it
+-- a test, and the reason to refuse a row that fails it
 pub record Check : Type 0 where
   pub holds : Bool
   pub otherwise : Refusal
 
--- the test and the reason together
+-- makes a check from a test and a reason
 abbrev pub check : Bool → Refusal → Check
 check holds otherwise = record { holds = holds; otherwise = otherwise }
 
--- the tests of a row's id under this parent, beside this first child
+-- the tests of a row's id under this parent and beside this first child
 abbrev pub id_checks : Option Row → Option Row → Row → List Check
 id_checks p f r = check (id_in_range r.id) BadId ∷ check (id_allowed p r.kind r.id) IdNotAllowed ∷ check (has_same_ids f r.id) MixedIds ∷ []
 
@@ -49,7 +50,7 @@ precision_checks p r =
     ∷ check (is_whole p || is_none r.precision) PrecisionNotAllowed
     ∷ []
 
--- the tests of a row's points under this parent, in a geometry with so many points so far
+-- the tests of a row's points under this parent, in a geometry that has `points` points so far
 abbrev pub point_checks : Allowance → Option Row → ℕ → Row → List Check
 point_checks l p points r =
     check (has_points r.kind || has_none r.points) PointsNotAllowed
@@ -58,7 +59,8 @@ point_checks l p points r =
     ∷ check (points_fit r.kind (is_whole p) r.points) PointCount
     ∷ []
 
--- the tests of a row in their order: whether it is not too deep to stand here, its parent and the first child, how many rows and points its geometry has
+-- all tests of a row in order, from its parent and first child, whether it is not too deep, and
+-- the rows and points of its geometry so far
 abbrev pub checks_under : Allowance → Bool → Option Row → Option Row → ℕ → ℕ → Row → List Check
 checks_under l steps p f nodes points r =
     check (steps && has_place p r.kind) BadPlace
@@ -66,21 +68,21 @@ checks_under l steps p f nodes points r =
     ∷ check (nat_lt nodes l.nodes) TooManyNodes
     ∷ id_checks p f r ++ (precision_checks p r ++ point_checks l p points r)
 
--- the tests of a row at this depth after the rows so far with the last one first
+-- the tests of a row at this depth after the rows so far, last one first
 abbrev pub checks_at : Allowance → ℕ → List Row → Row → List Check
 checks_at l d before r =
     checks_under l (steps_to d before) (parent d before) (first_child d before) (length (geometry_rows d before)) (point_count (geometry_rows d before)) r
 
--- what the first test says that does not hold
+-- the reason of the first test that fails
 abbrev pub first_failed : List Check → Option Refusal
 first_failed [] = None
 first_failed (c ∷ cs) = if c.holds then first_failed cs else Some c.otherwise
 
--- what the row is refused for after the rows so far with the last one first, if it is refused
+-- the reason to refuse a row after the rows so far, last one first; None if it is not refused
 abbrev pub refusal_after : Allowance → List Row → Row → Option Refusal
 refusal_after l before r = first_failed (checks_at l r.depth before r)
 
--- the same after the rows so far in their order
+-- the reason to refuse a row after the rows so far, in their order
 abbrev pub refusal : Allowance → List Row → Row → Option Refusal
 refusal l rs r = refusal_after l (reverse rs) r
 
@@ -88,11 +90,11 @@ refusal l rs r = refusal_after l (reverse rs) r
 abbrev pub accepts : Allowance → List Row → Row → Bool
 accepts l rs r = is_none (refusal l rs r)
 
--- the row is a root where it is the first, and only there
+-- the row is a root exactly if it is the first
 abbrev pub is_one_root : List Row → Row → Bool
 is_one_root [] r = r.depth == 0
 is_one_root (s ∷ rs) r = nat_lt 0 r.depth
 
--- the row may come next, and is of the same geometry
+-- the row may come next, and belongs to the same geometry
 abbrev pub continues : Allowance → List Row → Row → Bool
 continues l rs r = accepts l rs r && is_one_root rs r

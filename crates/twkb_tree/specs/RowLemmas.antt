@@ -6,7 +6,7 @@ use Rattle.twkb_tree.specs.Tree.{Ids, Simple, point, line, polygon, multi_point,
 use Rattle.twkb_tree.specs.declared.kind.Kind.TheVariants as Kind
 use Rattle.twkb_tree.specs.Rows.{Row, plain_row, rows_of_each, rows_with, rows_below, member_rows, polygon_rows, first_id, other_ids}
 
--- where each item has one row
+-- each item gives one row, so there are as many rows as items
 length-rows_of_one : {A : Type 0} (f : Option ℤ → A → Row) (ids : Ids) (xs : List A) → length (rows_of_each (λ id x. f id x ∷ []) ids xs) ≡ length xs
 length-rows_of_one f ids [] = omega arith
 length-rows_of_one f ids (x ∷ xs) = omega (arith, length-rows_of_one f (other_ids ids) xs)

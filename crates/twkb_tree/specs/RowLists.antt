@@ -1,15 +1,15 @@
--- Lists of rows that are those of geometries.
+-- Lists of rows that belong to geometries.
 use Rattle.std.specs.Prelude.{◌≡◌, ℕ, ◌<◌, ◌≤◌, List, [], ◌∷◌, ◌++◌, ⊤}
 use Rattle.std.specs.List.{AllByRecursion}
 use Rattle.twkb_tree.specs.Limits.{Allowance, IsValid}
 use Rattle.twkb_tree.specs.Tree.{Tree, IsTree}
 use Rattle.twkb_tree.specs.Rows.{Row, rows, rows_of}
 
--- each is a geometry, whatever the limits
+-- each tree is a geometry, whatever the limits
 abbrev pub AreGeometries : List Tree → Type 0
 AreGeometries gs = AllByRecursion IsTree gs
 
--- each is a valid geometry
+-- each tree is a valid geometry
 abbrev pub AreValid : Allowance → List Tree → Type 0
 AreValid l gs = AllByRecursion (IsValid l) gs
 
@@ -25,12 +25,12 @@ AreValidRows l rs = (gs : List Tree) × AreValid l gs × (rows_of gs ≡ rs)
 abbrev pub BeginValidRows : Allowance → List Row → Type 0
 BeginValidRows l rs = (more : List Row) × AreValidRows l (rs ++ more)
 
--- these are the rows of one geometry, or none
+-- these are the rows of one geometry, or there are none
 abbrev pub AreRowsOfOne : List Row → Type 0
 AreRowsOfOne [] = ⊤
 AreRowsOfOne (r ∷ rs) = (g : Tree) × IsTree g × (rows 0 g ≡ r ∷ rs)
 
--- these are the rows of one valid geometry, or none
+-- these are the rows of one valid geometry, or there are none
 abbrev pub AreValidRowsOfOne : Allowance → List Row → Type 0
 AreValidRowsOfOne l [] = ⊤
 AreValidRowsOfOne l (r ∷ rs) = (g : Tree) × IsValid l g × (rows 0 g ≡ r ∷ rs)
@@ -40,15 +40,15 @@ abbrev pub IsAtRoot : List Row → Type 0
 IsAtRoot [] = ⊤
 IsAtRoot (r ∷ rs) = r.depth ≡ 0
 
--- the first of the rows, if there is one, stands above this depth
+-- the first of the rows, if there is one, is above this depth
 abbrev pub IsAbove : ℕ → List Row → Type 0
 IsAbove d [] = ⊤
 IsAbove d (r ∷ rs) = r.depth < d
 
--- the row stands at this depth or above it
+-- the row is at this depth or above it
 abbrev pub IsShallow : ℕ → Row → Type 0
 IsShallow n r = r.depth ≤ n
 
--- each row does
+-- each row is at this depth or above it
 abbrev pub AreShallow : ℕ → List Row → Type 0
 AreShallow n rs = AllByRecursion (IsShallow n) rs

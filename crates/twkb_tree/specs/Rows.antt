@@ -4,7 +4,7 @@ use Rattle.twkb_points.specs.Point.{Point}
 use Rattle.twkb_tree.specs.declared.kind.Kind.{Kind}
 use Rattle.twkb_tree.specs.Tree.{Ids, Simple, point, line, polygon, multi_point, multi_line, multi_polygon, Tree, simple, collection, Trees, end, ◌▷◌, point_list}
 
--- one row: depth, kind, id and precision where it has one, and its own points
+-- one row: its depth, its kind, its id and precision if it has them, and its own points
 pub record Row : Type 0 where
   pub depth : ℕ
   pub kind : Kind
@@ -42,16 +42,16 @@ abbrev pub ids_from : ℕ → Ids → Ids
 ids_from i None = None
 ids_from i (Some ids) = Some (drop i ids)
 
--- the rows of each member, with its id
+-- the rows of each member with its id
 abbrev pub rows_of_each : {A : Type 0} → (Option ℤ → A → List Row) → Ids → List A → List Row
 rows_of_each f ids [] = []
 rows_of_each f ids (x ∷ xs) = f (first_id ids) x ++ rows_of_each f (other_ids ids) xs
 
--- a row with no precision of its own
+-- a row without a precision
 abbrev pub plain_row : ℕ → Kind → Option ℤ → List Point → Row
 plain_row d kind id ps = record { depth = d; kind = kind; id = id; precision = None; points = ps }
 
--- a row with a precision of its own
+-- a row with a precision
 abbrev pub whole_row : ℕ → Kind → Option ℤ → ℤ → List Point → Row
 whole_row d kind id p ps = record { depth = d; kind = kind; id = id; precision = Some p; points = ps }
 
@@ -59,11 +59,11 @@ whole_row d kind id p ps = record { depth = d; kind = kind; id = id; precision =
 abbrev pub ring_rows : ℕ → List (List Point) → List Row
 ring_rows d rings = rows_of_each (λ none ring. plain_row d Kind.Ring none ring ∷ []) None rings
 
--- a polygon's row, and those of its rings
+-- the row of a polygon, and those of its rings
 abbrev pub polygon_rows : ℕ → Option ℤ → List (List Point) → List Row
 polygon_rows d id rings = plain_row d Kind.Polygon id [] ∷ ring_rows (suc d) rings
 
--- the rows below a simple shape, at depth d
+-- the rows below that of a simple shape, at depth d
 abbrev pub rows_below : ℕ → Simple → List Row
 rows_below d (point o) = []
 rows_below d (line ps) = []
@@ -72,7 +72,7 @@ rows_below d (multi_point ids ps) = rows_of_each (λ id p. plain_row d Kind.Poin
 rows_below d (multi_line ids lines) = rows_of_each (λ id ps. plain_row d Kind.Linestring id ps ∷ []) ids lines
 rows_below d (multi_polygon ids areas) = rows_of_each (polygon_rows d) ids areas
 
--- the row of the geometry itself, with this id at a depth
+-- the row of the geometry itself, with this id and at this depth
 abbrev pub own_row : Option ℤ → ℕ → Tree → Row
 own_row id d (simple p s) = record { depth = d; kind = kind_in s; id = id; precision = Some p; points = own_points s }
 own_row id d (collection p ids gs) = record { depth = d; kind = Kind.Collection; id = id; precision = Some p; points = [] }
@@ -87,7 +87,7 @@ abbrev mutual
   member_rows d ids end = []
   member_rows d ids (g ▷ gs) = rows_with (first_id ids) d g ++ member_rows d (other_ids ids) gs
 
--- the rows of a geometry but for its own, at depth d
+-- the rows of a geometry except its own, at depth d
 abbrev pub rows_under : ℕ → Tree → List Row
 rows_under d (simple p s) = rows_below d s
 rows_under d (collection p ids gs) = member_rows d ids gs
@@ -96,7 +96,7 @@ rows_under d (collection p ids gs) = member_rows d ids gs
 abbrev pub rows : ℕ → Tree → List Row
 rows d g = rows_with None d g
 
--- the rows of geometries one after another
+-- the rows of geometries, one after another
 abbrev pub rows_of : List Tree → List Row
 rows_of gs = flat_map (rows 0) gs
 

@@ -1,4 +1,4 @@
--- A shape as a tree of some precision.
+-- A shape with a precision as a tree.
 use Rattle.std.specs.Prelude.{ℤ, length, None, Some, ⊤}
 use Rattle.twkb_points.specs.Point.{IsInRange, AreInRange}
 use Rattle.twkb_tree.specs.Tree.{Tree, simple, collection, point, line, polygon, multi_point, multi_line, multi_polygon, trees, HasIds, AreTrees}
@@ -6,7 +6,7 @@ use Rattle.twkb_tree.specs.InRange.{LinesAreInRange, AreasAreInRange, AreTreesIn
 use Rattle.twkb_tree.specs.declared.geometry.Shape.{Shape}
 use Rattle.twkb_tree.specs.declared.geometry.Shape.TheVariants.{Point, Line, Polygon, MultiPoint, MultiLine, MultiPolygon, Collection}
 
--- the tree of a precision and a shape
+-- the tree of a shape with a precision
 abbrev pub tree_of : ℤ → Shape → Tree
 tree_of p (Point o) = simple p (point o)
 tree_of p (Line ps) = simple p (line ps)
@@ -16,7 +16,7 @@ tree_of p (MultiLine lines ids) = simple p (multi_line ids lines)
 tree_of p (MultiPolygon areas ids) = simple p (multi_polygon ids areas)
 tree_of p (Collection gs ids) = collection p ids (trees gs)
 
--- ids are there only with members, and are as many
+-- there are no ids, or one for each member and at least one member
 abbrev pub HasFitIds : Shape → Type 0
 HasFitIds (MultiPoint ps ids) = HasIds ids (length ps)
 HasFitIds (MultiLine lines ids) = HasIds ids (length lines)

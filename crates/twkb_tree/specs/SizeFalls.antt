@@ -1,4 +1,4 @@
--- The members are smaller than the geometry.
+-- Members are smaller than their geometry.
 use Rattle.std.specs.Prelude.{ℤ, ◌*◌, ◌≤◌}
 use Rattle.std.proofs.Common.{arith}
 use Rattle.twkb_tree.specs.declared.geometry.Shape.{Shape}
@@ -7,7 +7,7 @@ use Rattle.twkb_tree.specs.declared.geometry.Geometry.TheDeep.{deep-Shape}
 use Rattle.twkb_tree.specs.Tree.{nodes}
 use Rattle.twkb_tree.specs.Shape.{tree_of}
 
--- what a shape holds is no larger than its tree
+-- the parts of a shape are no larger than its tree
 pub deep_le-nodes : (p : ℤ) (s : Shape) → deep-Shape s ≤ 2 * nodes (tree_of p s)
 deep_le-nodes p (Point o) = omega arith
 deep_le-nodes p (Line ps) = omega arith

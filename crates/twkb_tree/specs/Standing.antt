@@ -1,9 +1,10 @@
--- Where a row stands, as a reader sees it by the open rows.
+-- The place of the next row, by the open rows.
 use Rattle.std.specs.Prelude.{ℕ, List}
 use Rattle.twkb_tree.specs.declared.open_rows.OpenRow.{OpenRow}
 use Rattle.twkb_tree.specs.declared.standing.Standing.{Standing}
 use Rattle.twkb_tree.specs.Open.{open_parent, count_at}
 
--- where a row at this depth stands, under the open rows, with the counts of rows and points since the last root
+-- the place of a row at this depth, from the open rows and the counts of rows and points since
+-- the last root
 abbrev pub standing_at : ℕ → List OpenRow → ℕ → ℕ → Standing
 standing_at depth rows nodes points = record { depth = depth; parent = open_parent depth rows; nodes = count_at depth nodes; points = count_at depth points }

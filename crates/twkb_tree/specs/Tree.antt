@@ -16,7 +16,7 @@ pub data Simple : Type 0 where
   multi_line : Ids → List (List Point) → Simple
   multi_polygon : Ids → List (List (List Point)) → Simple
 
--- a geometry: its precision, and its shape
+-- a geometry: its precision and its shape
 mutual
   pub data Tree : Type 0 where
     simple : ℤ → Simple → Tree
@@ -28,7 +28,7 @@ mutual
     ◌▷◌ : Tree → Trees → Trees
 
 infixr 5 ◌▷◌
--- how many members there are
+-- the number of members
 abbrev pub count : Trees → ℕ
 count end = 0
 count (g ▷ gs) = suc (count gs)
@@ -48,7 +48,7 @@ abbrev pub precision_of : Tree → ℤ
 precision_of (simple p s) = p
 precision_of (collection p ids gs) = p
 
--- the point, if there is one
+-- the point as a list, empty if there is none
 abbrev pub point_list : Option Point → List Point
 point_list None = []
 point_list (Some p) = p ∷ []
@@ -66,7 +66,7 @@ points_in (multi_point ids ps) = ps
 points_in (multi_line ids lines) = flatten lines
 points_in (multi_polygon ids areas) = flat_map flatten areas
 
--- all points, in order, members' points included
+-- all points of a geometry in order, members' points included
 abbrev mutual
   pub flat : Tree → List Point
   flat (simple p s) = points_in s
@@ -76,12 +76,12 @@ abbrev mutual
   flat_all end = []
   flat_all (g ▷ gs) = flat g ++ flat_all gs
 
--- how many rows some polygons have: one each, and one for each ring
+-- the number of rows of some polygons: one for each polygon and one for each ring
 abbrev pub area_nodes : List (List (List Point)) → ℕ
 area_nodes [] = 0
 area_nodes (rings ∷ areas) = 1 + length rings + area_nodes areas
 
--- the rows of a simple shape: its own, and one for each member and ring
+-- the number of rows of a simple shape: one for itself, and one for each member and ring
 abbrev pub nodes_in : Simple → ℕ
 nodes_in (point o) = 1
 nodes_in (line ps) = 1
@@ -90,7 +90,7 @@ nodes_in (multi_point ids ps) = 1 + length ps
 nodes_in (multi_line ids lines) = 1 + length lines
 nodes_in (multi_polygon ids areas) = 1 + area_nodes areas
 
--- how many rows a geometry has in a table
+-- the number of rows of a geometry in a table
 abbrev mutual
   pub nodes : Tree → ℕ
   nodes (simple p s) = nodes_in s
@@ -100,7 +100,7 @@ abbrev mutual
   nodes_all end = 0
   nodes_all (g ▷ gs) = nodes g + nodes_all gs
 
--- how many collections there are round a member, at most
+-- the most collections that a member is in
 abbrev mutual
   pub nest : Tree → ℕ
   nest (simple p s) = 0
@@ -110,11 +110,11 @@ abbrev mutual
   nest_all end = 0
   nest_all (g ▷ gs) = max (suc (nest g)) (nest_all gs)
 
--- from -8 to 7
+-- a precision is from -8 to 7
 abbrev pub IsPrecision : ℤ → Type 0
 IsPrecision n = (negsuc 7 ≤ℤ n) × (n ≤ℤ pos 7)
 
--- from -2 ^ 63 to 2 ^ 63 - 1
+-- an id is from -2 ^ 63 to 2 ^ 63 - 1
 abbrev pub IsId : ℤ → Type 0
 IsId n = (negsuc (2 ^ 63 - 1) ≤ℤ n) × (n ≤ℤ pos (2 ^ 63 - 1))
 
@@ -122,7 +122,7 @@ IsId n = (negsuc (2 ^ 63 - 1) ≤ℤ n) × (n ≤ℤ pos (2 ^ 63 - 1))
 abbrev pub AreIds : List ℤ → Type 0
 AreIds ids = AllByRecursion IsId ids
 
--- ids are there only with members, one for each of n
+-- there are no ids, or one for each of n members, and n is at least 1
 abbrev pub HasIds : Ids → ℕ → Type 0
 HasIds None n = ⊤
 HasIds (Some ids) n = (0 < n) × (length ids ≡ n) × AreIds ids
@@ -136,7 +136,7 @@ IdsFit (multi_point ids ps) = HasIds ids (length ps)
 IdsFit (multi_line ids lines) = HasIds ids (length lines)
 IdsFit (multi_polygon ids areas) = HasIds ids (length areas)
 
--- what is a geometry at all, whatever the limits: precisions in range, and ids that fit
+-- what makes a tree a geometry, whatever the limits: precisions in range, and ids that fit
 abbrev mutual
   pub IsTree : Tree → Type 0
   IsTree (simple p s) = IsPrecision p × IdsFit s

@@ -6,23 +6,23 @@ use base.Stored.{Gv, gnil, gnum, gcons}
 use Rattle.twkb_points.specs.Point.{Point}
 use Rattle.twkb_tree.specs.Tree.{Ids, Simple, point, line, polygon, multi_point, multi_line, multi_polygon, Tree, simple, collection, Trees, end, ◌▷◌}
 
--- the codes of points, of lists of them, and of ids
+-- the code of points
 abbrev pub coded_point : Coded Point
 coded_point = code_by (ℤ × ℤ) (coded× coded_ℤ coded_ℤ) (λ p. (p.x, p.y)) (λ c. record { x = c.0; y = c.1 }) (λ _. refl)
 
--- of a list of points
+-- the code of lists of points
 abbrev pub coded_points : Coded (List Point)
 coded_points = coded_list coded_point
 
--- of lists of points
+-- the code of lists of lines
 abbrev pub coded_lines : Coded (List (List Point))
 coded_lines = coded_list coded_points
 
--- of lists of lines
+-- the code of lists of polygons
 abbrev pub coded_areas : Coded (List (List (List Point)))
 coded_areas = coded_list coded_lines
 
--- of ids
+-- the code of ids
 abbrev pub coded_ids : Coded Ids
 coded_ids = coded_option (coded_list coded_ℤ)
 
@@ -57,7 +57,7 @@ rest gnil = gnil
 rest (gnum n) = gnil
 rest (gcons a b) = b
 
--- two simple shapes of one code are one
+-- simple shapes with the same code are equal
 pub code_simple_inj : (x y : Simple) → code_simple x ≡ code_simple y → x ≡ y
 code_simple_inj (point a) (point b) e = λ i. point ((coded_option coded_point).inj a b (ap rest e) i)
 code_simple_inj (line a) (line b) e = λ i. line (coded_points.inj a b (ap rest e) i)
@@ -67,7 +67,7 @@ code_simple_inj (multi_line is a) (multi_line js b) e = λ i. multi_line (coded_
 code_simple_inj (multi_polygon is a) (multi_polygon js b) e = λ i. multi_polygon (coded_ids.inj is js (ap (λ g. rest (rest g)) e) i) (coded_areas.inj a b (ap (λ g. first (rest g)) e) i)
 code_simple_inj _ _ e = cc
 
--- two trees of one code are one
+-- trees with the same code are equal
 mutual
   pub code_tree_inj : (x y : Tree) → code_tree x ≡ code_tree y → x ≡ y
   code_tree_inj (simple p s) (simple q t) e = λ i. simple (coded_ℤ.inj p q (ap (λ g. first (rest g)) e) i) (code_simple_inj s t (ap (λ g. rest (rest g)) e) i)
@@ -80,6 +80,6 @@ mutual
   code_trees_inj (g ▷ gs) (h ▷ hs) e = λ i. code_tree_inj g h (ap first e) i ▷ code_trees_inj gs hs (ap rest e) i
   code_trees_inj _ _ e = cc
 
--- trees, told apart by their codes
+-- trees with their codes
 abbrev pub coded_tree : Coded Tree
 coded_tree = record { code = code_tree; inj = code_tree_inj }

@@ -1,4 +1,4 @@
-//! A second geometry that equals a first.
+//! Copies of geometries.
 ghost use Rattle.std.specs.Prelude.{◌≡◌, IfOk};
 ghost use Rattle.twkb_tree.specs.declared.geometry.Shape.{Shape};
 
@@ -67,7 +67,7 @@ fn copy_areas(alloc: Global, areas: &Areas, ids: &Ids) -> Result<Shape, AllocErr
     Ok(Shape::MultiPolygon(areas, ids))
 }
 
-// A collection of these members, with a copy of the ids.
+// Makes a collection of these members, with a copy of the ids.
 fn with_ids(alloc: Global, members: Members, ids: &Ids) -> Result<Shape, AllocError>
     ensures { IfOk result (λ made. made ≡ Shape.Collection members ids.now) }
 {
@@ -93,8 +93,8 @@ impl Shape {
 }
 
 impl Geometry {
-    /// A geometry equal to this one. Takes memory for each list in it, and answers `AllocError` only where a growth was
-    /// refused.
+    /// Makes a geometry equal to this one. Takes memory for each list in it, and returns
+    /// `AllocError` only if memory is refused.
     #[cycle(copy)]
     pub fn copy(&self, alloc: Global) -> Result<Geometry, AllocError>
         ensures { IfOk result (λ copy. copy ≡ self.now) }

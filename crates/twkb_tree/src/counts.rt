@@ -1,4 +1,4 @@
-//! How many rows and points a geometry has.
+//! The numbers of rows and points of a geometry.
 ghost use Rattle.std.specs.Prelude.{◌≡◌, length};
 ghost use Rattle.twkb_tree.specs.Tree.{saturated, trees, area_nodes, nodes, nodes_all, flat, flat_all};
 ghost use Rattle.twkb_tree.specs.Rows.{rows};
@@ -7,7 +7,7 @@ use crate::geometry::{Geometry, Members, Shape};
 use crate::lists::Areas;
 use crate::placed::Placed;
 
-// The rows of polygons: one each, and one for each ring.
+// The number of rows of polygons: one for each polygon and one for each ring.
 fn rows_of(areas: &Areas) -> u64
     ensures { result ≡ saturated (area_nodes areas.now) }
 {
@@ -44,8 +44,8 @@ impl Members {
 }
 
 impl Geometry {
-    /// The rows of its table, itself included: one for each member and ring, at any depth. At most `u64::MAX`. Takes
-    /// no memory.
+    /// The number of rows of its table: one for itself, and one for each member and ring at any
+    /// depth. At most `u64::MAX`. Takes no memory.
     #[tactic(auto, using(crate::specs::RowLemmas::row_counts))]
     pub fn nodes(&self) -> u64
         ensures { result ≡ saturated (length (rows 0 self.now)) }
@@ -68,7 +68,7 @@ impl Geometry {
         below.saturating_add(1)
     }
 
-    /// Its points, members' points included, at most `u64::MAX`. Takes no memory.
+    /// The number of its points, members' points included, at most `u64::MAX`. Takes no memory.
     #[cycle(points)]
     pub fn points(&self) -> u64
         ensures { result ≡ saturated (length (flat self.now)) }

@@ -1,4 +1,4 @@
-//! Whether two geometries are one.
+//! Equality of geometries.
 ghost use Rattle.std.specs.Prelude.{◌≡◌, ◌↔◌, IsTrue};
 ghost use Rattle.twkb_tree.specs.Equal.{tree_eq, tree_eq_partial, tree_eq_equiv};
 
@@ -88,7 +88,7 @@ impl PartialEq for Geometry {
 
     ghost laws = { tree_eq_partial };
 
-    /// Whether the two are one tree. Takes no memory.
+    /// Whether the two geometries are equal. Takes no memory.
     fn eq(&self, other: &Geometry) -> bool
         ensures test { result ≡ tree_eq self.now other.now }
         ensures same { IsTrue result ↔ (self.now ≡ other.now) }

@@ -1,4 +1,4 @@
-//! The box round a geometry.
+//! The bounding box of a geometry.
 ghost use Rattle.std.specs.Prelude.{◌≡◌};
 ghost use Rattle.twkb_points.specs.Extent.{extent};
 ghost use Rattle.twkb_tree.specs.Tree.{trees, flat, flat_all};
@@ -22,8 +22,8 @@ impl Members {
 }
 
 impl Geometry {
-    /// The least box round all its points, members' points included, and `None` where it has none (TWKB, bounding
-    /// box; profile: what it spans in a collection). Takes no memory.
+    /// The smallest box that holds all its points, members' points included; `None` if it has no
+    /// points (TWKB, bounding box; profile: what it spans in a collection). Takes no memory.
     #[cycle(bounds)]
     pub fn bounds(&self) -> Option<Bounds>
         ensures { result ≡ extent (flat self.now) }

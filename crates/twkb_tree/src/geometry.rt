@@ -1,4 +1,4 @@
-//! Geometries, their shapes and members.
+//! Geometries, their shapes and their members.
 ghost use Rattle.std.specs.Prelude.{◌≡◌, ◌↔◌, IsTrue, IsOk, IfOk};
 ghost use Rattle.twkb_tree.specs.Tree.{HasIds, AreTrees, trees};
 ghost use Rattle.twkb_tree.specs.InRange.{AreTreesInRange};
@@ -14,22 +14,22 @@ pub const LEAST_PRECISION: i8 = -8;
 /// The greatest precision.
 pub const GREATEST_PRECISION: i8 = 7;
 
-/// The members of a collection, of which there may be none. A contract sees the list of their trees.
+/// The members of a collection, possibly none. A contract sees the list of their trees.
 #[cycle(geometry)]
 #[derive(Debug, Drop)]
 pub struct Members {
     pub(crate) items: Vec<Geometry>,
 }
 
-/// One of the seven shapes (TWKB, the geometry types), with the ids of its members where it may have them.
+/// One of the seven shapes (TWKB, the geometry types), with the ids of its members if they have any.
 #[cycle(geometry)]
 #[derive(Debug, Drop)]
 pub enum Shape {
-    /// A point, or none.
+    /// A point, or an empty point.
     Point(Option<Pt>),
-    /// A linestring's points.
+    /// The points of a linestring.
     Line(Pts),
-    /// A polygon's rings, taken as they stand.
+    /// The rings of a polygon, not checked for closing or order.
     Polygon(Lines),
     /// Points, each a member.
     MultiPoint(Pts, Ids),
@@ -37,11 +37,11 @@ pub enum Shape {
     MultiLine(Lines, Ids),
     /// Polygons, each a member.
     MultiPolygon(Areas, Ids),
-    /// Whole geometries, each a member.
+    /// Geometries of any shape, each a member.
     Collection(Members, Ids),
 }
 
-/// A shape with the number of its coordinates' decimals, the precision. A contract sees the tree.
+/// A shape with a precision, the number of its coordinates' decimals. A contract sees the tree.
 #[cycle(geometry)]
 #[derive(Debug, Drop)]
 pub struct Geometry {
@@ -100,25 +100,25 @@ impl Model for Geometry {
 }
 
 impl Members {
-    /// The members in this order. Takes no memory.
+    /// Makes the members in this order. Takes no memory.
     pub fn from_vec(items: Vec<Geometry>) -> Members
         ensures { result ≡ items.items }
     {
         for member in &items {
-            // learnt: that the member is a tree, with its points in range
+            // gives proofs the fact that the member is a tree with its points in range
             let _learnt = member.precision();
         }
         Members { items }
     }
 
-    /// The geometries. Takes no memory.
+    /// The members as a vector. Takes no memory.
     pub fn into_vec(self) -> Vec<Geometry>
         ensures { result.items ≡ self }
     {
         self.items
     }
 
-    /// The geometries. Takes no memory.
+    /// The members as a slice. Takes no memory.
     pub fn as_slice(&self) -> &[Geometry]
         ensures items { result.now ≡ self.now }
         ensures trees { AreTrees (trees self.now) }
@@ -128,7 +128,7 @@ impl Members {
     }
 }
 
-// Whether ids are there only with members, one for each of `count`.
+// Whether there are no ids, or one for each of `count` members and at least one member.
 fn ids_fit(count: usize, ids: &Ids) -> bool
     ensures { IsTrue result ↔ HasIds ids.now count }
 {
@@ -144,7 +144,8 @@ fn ids_fit(count: usize, ids: &Ids) -> bool
 impl Shape {
     ghost use Rattle.twkb_tree.specs.Shape.{HasFitIds, HasTrees, IsShapeInRange};
 
-    // Whether the ids of its members fit. Tells a proof of its members and points on the way.
+    // Whether the ids of its members fit. On the way it gives proofs the facts about its members
+    // and points.
     fn has_fit_ids(&self) -> bool
         ensures fit { IsTrue result ↔ HasFitIds self.now }
         ensures trees { HasTrees self.now }
@@ -153,17 +154,17 @@ impl Shape {
         match self {
             Shape::Point(None) => true,
             Shape::Point(Some(point)) => {
-                // learnt: that the point is in range
+                // gives proofs the fact that the point is in range
                 let _learnt = point.x();
                 true
             }
             Shape::Line(points) => {
-                // learnt: that its points are in range
+                // gives proofs the fact that its points are in range
                 let _learnt = points.as_slice();
                 true
             }
             Shape::Polygon(rings) => {
-                // learnt: that its points are in range
+                // gives proofs the fact that its points are in range
                 let _learnt = rings.as_slice();
                 true
             }
@@ -180,7 +181,8 @@ impl Geometry {
     ghost use Rattle.twkb_tree.specs.Tree.{precision_of, IsTree, IsPrecision};
     ghost use Rattle.twkb_tree.specs.InRange.{IsTreeInRange};
 
-    /// The geometry of a precision, -8 to 7, and a shape. Hands the shape back where it refuses. Takes no memory.
+    /// Makes the geometry of a shape with a precision from -8 to 7. If it refuses, it returns the
+    /// shape. Takes no memory.
     pub fn try_new(precision: i8, shape: Shape) -> Result<Geometry, (Shape, GeomFault)>
         ensures accepted { IsOk result ↔ (IsPrecision precision × HasFitIds shape) }
         ensures tree { IfOk result (λ g. g ≡ tree_of precision shape) }
@@ -197,7 +199,7 @@ impl Geometry {
         Ok(Geometry { precision, shape })
     }
 
-    /// Decimals of its coordinates, -8 to 7.
+    /// The number of decimals of its coordinates, -8 to 7.
     pub fn precision(&self) -> i8
         ensures value { result ≡ precision_of self.now }
         ensures sound { IsTree self.now }

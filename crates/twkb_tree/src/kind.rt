@@ -1,11 +1,11 @@
-//! Kinds of rows, and their words.
+//! Kinds of rows, and their words in a table.
 ghost use Rattle.std.specs.Prelude.{◌≡◌, ◌≤◌, take};
 ghost use Rattle.twkb_tree.specs.Kind.{word_of};
 
-/// What a row of a table holds: one of the seven shapes, or a ring of a polygon.
+/// The kind of a row of a table: one of the seven shapes, or a ring of a polygon.
 #[derive(Clone, Copy, Debug, PartialEq, Eq)]
 pub enum Kind {
-    /// One point, or none.
+    /// One point, or an empty point.
     Point,
     /// Points in a line.
     Linestring,
@@ -13,18 +13,19 @@ pub enum Kind {
     Polygon,
     /// The points of one ring of a polygon.
     Ring,
-    /// Points, each a row of its own.
+    /// Points, each in its own row.
     MultiPoint,
-    /// Linestrings, each a row of its own.
+    /// Linestrings, each in its own row.
     MultiLinestring,
-    /// Polygons, each a row of its own.
+    /// Polygons, each in its own row.
     MultiPolygon,
-    /// Whole geometries.
+    /// Geometries of any kind.
     Collection,
 }
 
 impl Kind {
-    /// The table's word in ASCII, with spaces after it so that each copy is of one size, and its length. Takes no memory.
+    /// The kind's word in a table, in ASCII and padded with spaces to a fixed size, and the
+    /// word's length. Takes no memory.
     #[inline(always)]
     pub fn padded_name(self) -> (&'static [u8; 16], usize)
         ensures few { result.1 ≤ 15 }
@@ -42,7 +43,7 @@ impl Kind {
         }
     }
 
-    /// The table's word, as the bytes of a field. Takes no memory.
+    /// The kind's word in a table, as the bytes of a field. Takes no memory.
     #[inline(always)]
     pub fn word(self) -> &'static [u8]
         ensures { result.now ≡ word_of self }
@@ -51,7 +52,7 @@ impl Kind {
         &padded[..count]
     }
 
-    /// The table's word, as text. Takes no memory.
+    /// The kind's word in a table, as text. Takes no memory.
     pub fn name(self) -> &'static str
         ensures { result.now ≡ word_of self }
     {

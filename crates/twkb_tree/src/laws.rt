@@ -1,4 +1,4 @@
-//! Laws of the rows of geometries. Each function does nothing; its contract is the law.
+//! Laws of the rows of geometries, each stated as the contract of an empty function.
 ghost use Rattle.std.specs.Prelude.{◌≡◌, ◌↔◌, ◌<◌, ◌≤◌, ◌+◌, ◌++◌, ◌∷◌, [], List, length, reverse, true, None};
 ghost use Rattle.twkb_tree.specs.declared.open_rows.OpenRow.{OpenRow};
 ghost use Rattle.twkb_tree.specs.Limits.{Allowance, IsValid};
@@ -19,43 +19,44 @@ pub fn nodes_are_rows()
     ensures points { (g : Tree) → row_points (rows 0 g) ≡ flat g }
 {}
 
-/// Rows determine the geometries, and the rows of one determine it.
+/// The rows of a list of geometries determine the list, and those of one geometry determine it.
 pub fn one_reading()
     ensures list { (gs hs : List Tree) → AreGeometries gs → AreGeometries hs → rows_of gs ≡ rows_of hs → gs ≡ hs }
     ensures one { (g h : Tree) → IsTree g → IsTree h → rows 0 g ≡ rows 0 h → g ≡ h }
 {}
 
-/// The rows of a geometry go on below its root or end: where the next row is a root, or where
-/// there is none, the geometry is whole.
+/// If one geometry's rows begin with another's, they go on with a row below its root. If the next
+/// row is a root, or there is none, the rows so far are a complete geometry.
 pub fn ends()
     ensures below { (g h : Tree) (r : Row) (more : List Row) → IsTree g → IsTree h → rows 0 g ++ r ∷ more ≡ rows 0 h → 0 < r.depth }
     ensures whole { (g : Tree) (more : List Row) (hs : List Tree) → IsTree g → AreGeometries hs → IsAtRoot more → rows 0 g ++ more ≡ rows_of hs → (rest : List Tree) × (hs ≡ g ∷ rest) × (rows_of rest ≡ more) }
 {}
 
-/// Each front of rows of geometries is rows of geometries; the same of valid ones, and of one
-/// valid geometry.
+/// Each prefix of rows of geometries is rows of geometries. The same is true of valid geometries,
+/// and of one valid geometry.
 pub fn fronts()
     ensures geometries { (front more : List Row) → AreRows (front ++ more) → AreRows front }
     ensures valid { (l : Allowance) (front more : List Row) → AreValidRows l (front ++ more) → AreValidRows l front }
     ensures one { (l : Allowance) (front more : List Row) → AreValidRowsOfOne l (front ++ more) → AreValidRowsOfOne l front }
 {}
 
-/// No row of a valid geometry is deeper than two below the deepest member that the limits allow.
+/// No row of a valid geometry is more than two levels below the deepest member that the limits allow.
 pub fn depths()
     ensures { (l : Allowance) (rs : List Row) → AreValidRows l rs → AreShallow (l.nest + 2) rs }
 {}
 
 // ---- when a row may come next
 
-/// After rows of geometries a row is admitted exactly where rows of geometries come of it; the
-/// same of one geometry, whose root alone is a root.
+/// After rows of geometries a row is admitted exactly if the rows with it are rows of geometries;
+/// after rows of one geometry, exactly if they are rows of one geometry, whose first row alone is
+/// a root.
 pub fn admitted()
     ensures list { (rs : List Row) (r : Row) → AreRows rs → (admits rs r ≡ true) ↔ AreRows (rs ++ r ∷ []) }
     ensures one { (rs : List Row) (r : Row) → AreRowsOfOne rs → ((admits rs r ≡ true) × IsOneRoot rs r) ↔ AreRowsOfOne (rs ++ r ∷ []) }
 {}
 
-/// Rows are accepted one by one exactly where they are rows of valid geometries, and a row is
-/// accepted after such rows exactly where rows of valid geometries begin with these and it.
+/// Rows are accepted one by one exactly if they are rows of valid geometries. After such rows one
+/// more is accepted exactly if rows of valid geometries begin with these rows and that one.
 pub fn accepted()
     ensures one_by_one { (l : Allowance) (rs : List Row) → AreAccepted l (reverse rs) ↔ AreValidRows l rs }
     ensures next { (l : Allowance) (rs : List Row) (r : Row) → AreValidRows l rs → Accepts l (reverse rs) r ↔ AreValidRows l (rs ++ r ∷ []) }
@@ -63,34 +64,36 @@ pub fn accepted()
     ensures test { (l : Allowance) (rs : List Row) (r : Row) → (accepts l rs r ≡ true) ↔ Accepts l (reverse rs) r }
 {}
 
-/// The same of one valid geometry.
+/// After rows of one valid geometry a row continues it exactly if the rows with it are rows of
+/// one valid geometry.
 pub fn continued()
     ensures next { (l : Allowance) (rs : List Row) (r : Row) → AreValidRowsOfOne l rs → Continues l rs r ↔ AreValidRowsOfOne l (rs ++ r ∷ []) }
     ensures test { (l : Allowance) (rs : List Row) (r : Row) → (continues l rs r ≡ true) ↔ Continues l rs r }
     ensures counted { (rs : List Row) (r : Row) → AreRowsOfOne rs → IsOneRoot rs r → geometry_rows r.depth (reverse rs) ≡ reverse rs }
 {}
 
-/// An accepted root begins a new geometry, and another accepted row is one more row of the last
-/// geometry; the others stay as they are.
+/// An accepted root begins a new geometry; any other accepted row is one more row of the last
+/// geometry. The other geometries stay as they are.
 pub fn grows()
     ensures root { (l : Allowance) (gs : List Tree) (r : Row) → Accepts l (reverse (rows_of gs)) r → r.depth ≡ 0 → (h : Tree) × IsValid l h × (rows 0 h ≡ r ∷ []) }
     ensures below { (l : Allowance) (gs : List Tree) (g : Tree) (r : Row) → AreValid l (gs ++ g ∷ []) → Accepts l (reverse (rows_of (gs ++ g ∷ []))) r → 0 < r.depth → (h : Tree) × IsValid l h × (rows 0 h ≡ rows 0 g ++ r ∷ []) }
 {}
 
-/// A row is judged by the rows of the last geometry alone, and a root by no row.
+/// A row is judged by the rows of the last geometry alone, and a root by no row at all.
 pub fn last_geometry()
     ensures local { (l : Allowance) (earlier : List Row) (s : Row) (rs : List Row) (r : Row) → AreRowsOfOne (s ∷ rs) → refusal l (earlier ++ s ∷ rs) r ≡ refusal l (s ∷ rs) r }
     ensures root { (l : Allowance) (rs : List Row) (r : Row) → r.depth ≡ 0 → refusal l rs r ≡ refusal l [] r }
 {}
 
-/// A row has a reason to be refused exactly where it is not accepted, and no rows of valid
-/// geometries begin with rows and a row that is refused after them.
+/// A row has a reason to be refused exactly if it is not accepted. No rows of valid geometries
+/// begin with some rows and a row that is refused after them.
 pub fn refused()
     ensures reasons { (l : Allowance) (rs : List Row) (r : Row) → (refusal l rs r ≡ None) ↔ Accepts l (reverse rs) r }
     ensures dead { (l : Allowance) (rs : List Row) (r : Row) (more : List Row) → (¬ Accepts l (reverse rs) r) → ¬ AreValidRows l (rs ++ r ∷ more) }
 {}
 
-/// The open rows follow the rows, and with two counts they tell what a row is refused for.
+/// The open rows are kept up to date row by row, and with two counts they decide for what a row
+/// is refused.
 pub fn open_rows()
     ensures none { AreOpen [] [] }
     ensures more { (before : List Row) (os : List OpenRow) (r : Row) → steps_to r.depth before ≡ true → AreOpen before os → AreOpen (r ∷ before) (opened r.depth os r) }
@@ -120,7 +123,7 @@ pub fn accepted_tables()
     ensures two_roots { TwoRoots }
 {}
 
-/// Tables with a row that is refused, and what for.
+/// Tables with a refused row, and its reason.
 pub fn refused_tables()
     ensures ids_on_some { IdsOnSome }
     ensures no_level { NoLevel }
@@ -131,7 +134,7 @@ pub fn refused_tables()
     ensures first_rows { FirstRows }
 {}
 
-/// The ends of the ranges of precisions, coordinates and ids, and a second root.
+/// The ends of the ranges of precisions, coordinates and ids; and a second root.
 pub fn ranges_of_rows()
     ensures precisions { PrecisionRange }
     ensures coordinates { CoordinateRanges }

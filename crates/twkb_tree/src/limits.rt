@@ -1,10 +1,11 @@
-//! The most that a geometry may have.
+//! Limits on the size of a geometry.
 ghost use Rattle.std.specs.Prelude.{◌≡◌, ◌↔◌, IsSome, IfSome};
 ghost use Rattle.twkb_tree.specs.Limits.{IsAllowance, standard_limits, largest_limits};
 
 use std::marker::Model;
 
-/// The most that one geometry may have, its members included: levels of collections, rows and points (profile).
+/// Limits on one geometry with its members: the levels of collections, the rows and the points
+/// (profile).
 #[derive(Clone, Copy, Debug, PartialEq, Eq)]
 pub struct Limits {
     nest: u32,
@@ -37,7 +38,8 @@ pub const NODES_CAP: u32 = 1 << 20;
 pub const POINTS_CAP: u32 = 1 << 24;
 
 impl Limits {
-    /// Limits of `nest` 0 to 32, `nodes` 1 to 2^20 and `points` 0 to 2^24, and `None` where one is not. Takes no memory.
+    /// Makes limits of `nest` from 0 to 32, `nodes` from 1 to 2^20 and `points` from 0 to 2^24;
+    /// `None` if one is out of its range. Takes no memory.
     pub fn try_new(nest: u32, nodes: u32, points: u32) -> Option<Limits>
         ensures accepted { IsSome result ↔ IsAllowance (record { nest = nest; nodes = nodes; points = points }) }
         ensures value { IfSome result (λ l. l ≡ record { nest = nest; nodes = nodes; points = points }) }
@@ -52,7 +54,7 @@ impl Limits {
         })
     }
 
-    /// Sixteen levels, 2^20 rows and 2^24 points. Takes no memory.
+    /// The standard limits: sixteen levels, 2^20 rows and 2^24 points. Takes no memory.
     pub fn standard() -> Limits
         ensures { result ≡ standard_limits }
     {
@@ -63,7 +65,7 @@ impl Limits {
         }
     }
 
-    /// Each limit at its cap: 32 levels, 2^20 rows and 2^24 points. Takes no memory.
+    /// The largest limits: 32 levels, 2^20 rows and 2^24 points. Takes no memory.
     pub fn largest() -> Limits
         ensures { result ≡ largest_limits }
     {
@@ -74,7 +76,8 @@ impl Limits {
         }
     }
 
-    /// How many collections may stand round a member: a collection inside that many must have no members.
+    /// The number of collections that a member may be in. A collection inside that many must have
+    /// no members.
     pub fn nest(&self) -> u32
         ensures value { result ≡ self.now.nest }
         ensures sound { IsAllowance self.now }
@@ -82,14 +85,14 @@ impl Limits {
         self.nest
     }
 
-    /// How many rows a geometry may have, its own included.
+    /// The number of rows that a geometry may have, its own row included.
     pub fn nodes(&self) -> u32
         ensures { result ≡ self.now.nodes }
     {
         self.nodes
     }
 
-    /// How many points a geometry may have, its members' included.
+    /// The number of points that a geometry may have, its members' points included.
     pub fn points(&self) -> u32
         ensures { result ≡ self.now.points }
     {

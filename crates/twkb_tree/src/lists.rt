@@ -8,24 +8,24 @@ use std::alloc::{AllocError, Global};
 use std::marker::Model;
 use twkb_points::Pt;
 
-/// What `look` is given. It is not passed on, so no other crate adds to what a list may hold.
+/// The argument of `look`. It is not exported, so no other crate can add types of items.
 #[derive(Clone, Copy)]
 pub struct Look;
 
-/// What such a list may hold: a point, an id, or another list, and nothing else.
+/// What a list may hold: a point, an id, or another list, and nothing else.
 pub trait Item: Drop {
-    // What each item is known to be.
+    // The fact that is known of each item.
     ghost Fits: { Self → Type 0 };
 
-    /// Tells a proof that the item fits. It does nothing when it runs.
+    /// Gives a proof the fact that the item fits. Does nothing at run time.
     fn look(&self, look: Look)
         ensures { Fits self.now };
 
-    /// Whether the two are one.
+    /// Whether the two items are equal.
     fn same(&self, other: &Self) -> bool
         ensures { IsTrue result ↔ (self.now ≡ other.now) };
 
-    /// An item equal to this one. A list takes memory for its items.
+    /// Makes an item equal to this one. A list takes memory for its items.
     fn copy(&self, alloc: Global) -> Result<Self, AllocError>
         ensures { IfOk result (λ copy. copy ≡ self.now) };
 }
@@ -34,7 +34,7 @@ impl Item for Pt {
     ghost Fits = { IsInRange };
 
     fn look(&self, _look: Look) {
-        // learnt: that the point is in range
+        // gives proofs the fact that the point is in range
         let _learnt = self.x();
     }
 
@@ -51,7 +51,7 @@ impl Item for i64 {
     ghost Fits = { IsId };
 
     fn look(&self, _look: Look) {
-        // learnt: that the id is one, by its type's range
+        // gives proofs the fact that the id is in range, by its type
         let _learnt = *self;
     }
 
@@ -64,7 +64,7 @@ impl Item for i64 {
     }
 }
 
-/// Items in their order, of which there may be none.
+/// Items in their order, possibly none.
 #[derive(Debug, Drop)]
 pub struct Items<T: Item> {
     items: Vec<T>,
@@ -82,25 +82,25 @@ impl<T: Item> Model for Items<T> {
 }
 
 impl<T: Item> Items<T> {
-    /// The list of these items. Takes no memory.
+    /// Makes the list of these items. Takes no memory.
     pub fn from_vec(items: Vec<T>) -> Items<T>
         ensures { result ≡ items.items }
     {
         for item in &items {
-            // learnt: that the item fits
+            // gives proofs the fact that the item fits
             let _learnt = item.look(Look);
         }
         Items { items }
     }
 
-    /// The items. Takes no memory.
+    /// The items as a vector. Takes no memory.
     pub fn into_vec(self) -> Vec<T>
         ensures { result.items ≡ self }
     {
         self.items
     }
 
-    /// The items, each of which fits. Takes no memory.
+    /// The items as a slice, each of which fits. Takes no memory.
     pub fn as_slice(&self) -> &[T]
         ensures items { result.now ≡ self.now }
         ensures fit { AllByRecursion T.Fits self.now }
@@ -113,7 +113,7 @@ impl<T: Item> Item for Items<T> {
     ghost Fits = { AllByRecursion T.Fits };
 
     fn look(&self, _look: Look) {
-        // learnt: that each of its items fits
+        // gives proofs the fact that each of its items fits
         let _learnt = self.as_slice();
     }
 
@@ -147,11 +147,11 @@ pub type Pts = Items<Pt>;
 /// Lines, or the rings of a polygon.
 pub type Lines = Items<Pts>;
 
-/// Polygons, each as its rings.
+/// Polygons, each a list of its rings.
 pub type Areas = Items<Lines>;
 
-/// The ids of members, in the members' order.
+/// The ids of members, in the order of the members.
 pub type IdList = Items<i64>;
 
-/// The ids of members, where they have any.
+/// The ids of members, if they have any.
 pub type Ids = Option<IdList>;

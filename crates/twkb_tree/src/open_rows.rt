@@ -1,20 +1,20 @@
-//! Open rows: what a reader of rows keeps at each depth.
+//! Open rows: the state that a reader of rows keeps for each depth.
 ghost use Rattle.std.specs.Prelude.{◌≡◌, None};
 ghost use Rattle.twkb_tree.specs.Open.{first_answer};
 
 use crate::kind::Kind;
 
-/// A row that may still have children. A reader keeps one at each depth, the root first.
+/// A row that may still get children. A reader keeps one for each depth, the root first.
 #[derive(Clone, Copy, Debug, PartialEq, Eq)]
 pub struct OpenRow {
     /// The row's kind.
     pub kind: Kind,
-    /// Whether the first child has an id; None before the first child.
+    /// Whether the first child has an id; `None` before the first child.
     pub child_ids: Option<bool>,
 }
 
 impl OpenRow {
-    /// The row after one more child, which has an id or has none. Takes no memory.
+    /// The row after one more child, with an id or without. Takes no memory.
     pub fn with_child(self, has_id: bool) -> OpenRow
         ensures { result ≡ record { kind = self.kind; child_ids = first_answer self.child_ids has_id } }
     {
@@ -26,7 +26,7 @@ impl OpenRow {
 }
 
 impl Default for OpenRow {
-    /// A point's row, which stands in unused places of a list.
+    /// A point's row, which fills the unused places of a list.
     fn default() -> OpenRow
         ensures { result ≡ record { kind = Kind.Point; child_ids = None } }
     {

@@ -25,7 +25,7 @@ pub fn own_parts(shape: &Shape) -> (Kind, &[Pt])
     }
 }
 
-/// The id of the member at a place, from 0, if the members have ids. Takes no memory.
+/// The id of the member at a place, from 0; `None` if the members have no ids. Takes no memory.
 pub fn id_at(ids: &Ids, index: usize) -> Option<i64>
     ensures { result ≡ first_id (ids_from index ids.now) }
 {

@@ -1,4 +1,4 @@
-//! How many points a list of points, lines or polygons has, and the box round them.
+//! The number of points and the bounding box of lists of points, lines or polygons.
 ghost use Rattle.std.specs.Prelude.{◌≡◌, List, length, flat_map};
 ghost use Rattle.twkb_points.specs.Point.{Point};
 ghost use Rattle.twkb_points.specs.Extent.{extent};
@@ -7,16 +7,16 @@ ghost use Rattle.twkb_tree.specs.Tree.{flatten, saturated};
 use crate::lists::{Areas, Lines, Pts};
 use twkb_points::{Bounds, merged};
 
-// What has points, in an order.
+// Has points, in an order.
 pub(crate) trait Placed {
     // Its points, in order.
     ghost points_of: { Self → List Point };
 
-    // How many points it has, at most `u64::MAX`.
+    // The number of points, at most `u64::MAX`.
     fn points(&self) -> u64
         ensures { result ≡ saturated (length (points_of self.now)) };
 
-    // The least box round its points, and `None` where it has none.
+    // The smallest box that holds the points; `None` if there are none.
     fn bounds(&self) -> Option<Bounds>
         ensures { result ≡ extent (points_of self.now) };
 }

@@ -1,4 +1,4 @@
-//! Whether the members of a geometry have its precision.
+//! The test that a geometry's members have its precision.
 ghost use Rattle.std.specs.Prelude.{◌≡◌};
 ghost use Rattle.twkb_tree.specs.Tree.{trees};
 ghost use Rattle.twkb_tree.specs.Uniform.{has_precision, have_precision, uniform};
@@ -20,7 +20,7 @@ impl Members {
 }
 
 impl Geometry {
-    // Whether it and each member of a collection in it, at any depth, have this precision.
+    // Whether the geometry, and each member of a collection in it at any depth, has this precision.
     #[cycle(uniform)]
     fn has_precision(&self, precision: i8) -> bool
         ensures { result ≡ has_precision precision self.now }
@@ -34,8 +34,8 @@ impl Geometry {
         }
     }
 
-    /// Whether each member of a collection in it, at any depth, has its precision (profile: where not, a blob has no
-    /// box). Takes no memory.
+    /// Whether each member of a collection in the geometry, at any depth, has its precision
+    /// (profile: if not, a blob has no box). Takes no memory.
     pub fn uniform(&self) -> bool
         ensures { result ≡ uniform self.now }
     {

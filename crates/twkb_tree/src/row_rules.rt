@@ -1,4 +1,4 @@
-//! What a row may be where it stands, by the open row that it comes under.
+//! The rules for a row under its parent, by the parent's open row.
 ghost use Rattle.std.specs.Prelude.{◌≡◌, ℤ, List, length, Option, is_some};
 ghost use Rattle.twkb_points.specs.Point.{Point};
 ghost use Rattle.twkb_tree.specs.Admits.{may_have, has_place, is_whole, id_allowed, has_same_ids, points_fit, has_points};
@@ -23,7 +23,7 @@ pub fn may_have(parent: Kind, child: Kind) -> bool
     }
 }
 
-/// Whether a row of this kind may stand under this parent; a root has none. Takes no memory.
+/// Whether a row of this kind may come under this parent, which is `None` for a root. Takes no memory.
 pub fn has_place(parent: Option<OpenRow>, kind: Kind) -> bool
     ensures value { result ≡ has_place (row_of parent) kind }
 {
@@ -33,7 +33,7 @@ pub fn has_place(parent: Option<OpenRow>, kind: Kind) -> bool
     }
 }
 
-/// Whether a row under this parent is a geometry of its own: a root, or a member of a collection.
+/// Whether a row under this parent is a geometry itself: a root, or a member of a collection.
 /// Takes no memory.
 pub fn is_whole(parent: Option<OpenRow>) -> bool
     ensures value { result ≡ is_whole (row_of parent) }
@@ -44,7 +44,7 @@ pub fn is_whole(parent: Option<OpenRow>) -> bool
     }
 }
 
-/// Whether the collections round a row at this depth are not too many. Takes no memory.
+/// Whether a row at this depth is inside no more collections than the limits allow. Takes no memory.
 pub fn nest_kept(limits: &Limits, parent: Option<OpenRow>, depth: u32) -> bool
     ensures value { result ≡ nest_kept limits.now (row_of parent) depth }
 {
@@ -54,14 +54,14 @@ pub fn nest_kept(limits: &Limits, parent: Option<OpenRow>, depth: u32) -> bool
     }
 }
 
-/// Whether a row of this kind under this parent may have an id, or may have none. Takes no memory.
+/// Whether a row of this kind under this parent may have an id, if it has one. Takes no memory.
 pub fn id_allowed(parent: Option<OpenRow>, kind: Kind, has_id: bool) -> bool
     ensures value { (id : Option ℤ) → is_some id ≡ has_id → id_allowed (row_of parent) kind id ≡ result }
 {
     !has_id || (parent.is_some() && kind != Kind::Ring)
 }
 
-/// Whether a row under this parent has an id where the first child has one, and none else. Takes
+/// Whether a row under this parent has an id exactly if the parent's first child has one. Takes
 /// no memory.
 pub fn has_same_ids(parent: Option<OpenRow>, has_id: bool) -> bool
     ensures value { (id : Option ℤ) → is_some id ≡ has_id → has_same_ids (child_of parent) id ≡ result }
@@ -75,15 +75,15 @@ pub fn has_same_ids(parent: Option<OpenRow>, has_id: bool) -> bool
     }
 }
 
-/// Whether rows of this kind have points of their own. Takes no memory.
+/// Whether rows of this kind hold points themselves. Takes no memory.
 pub fn has_points(kind: Kind) -> bool
     ensures value { result ≡ has_points kind }
 {
     matches!(kind, Kind::Point | Kind::Linestring | Kind::Ring)
 }
 
-/// Whether a row of this kind may have so many points, as a geometry of its own or a part of one.
-/// Takes no memory.
+/// Whether a row of this kind may have `count` points: as a geometry itself if `whole`, as a part
+/// of one if not. Takes no memory.
 pub fn count_fits(kind: Kind, whole: bool, count: usize) -> bool
     ensures value { (points : List Point) → length points ≡ count → points_fit kind whole points ≡ result }
 {

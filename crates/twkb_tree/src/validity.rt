@@ -1,4 +1,4 @@
-//! Whether a geometry is within limits.
+//! The test of a geometry against limits.
 ghost use Rattle.std.specs.Prelude.{◌≡◌, ◌↔◌, IsTrue};
 ghost use Rattle.twkb_tree.specs.Tree.{saturated, trees, nest, nest_all};
 ghost use Rattle.twkb_tree.specs.Limits.{IsValid};
@@ -20,7 +20,7 @@ impl Members {
 }
 
 impl Geometry {
-    // How many collections there are round a member, at most.
+    // The most collections that a member is in.
     #[cycle(nest)]
     fn nest(&self) -> u64
         ensures { result ≡ saturated (nest self.now) }
@@ -31,12 +31,13 @@ impl Geometry {
         }
     }
 
-    /// Whether it keeps the limits: the nesting of its collections, its rows and its points. Takes no memory.
+    /// Whether the geometry keeps the limits on the nesting of its collections, its rows and its
+    /// points. Takes no memory.
     #[tactic(auto, using(crate::proofs::InRange::validity))]
     pub fn within(&self, limits: &Limits) -> bool
         ensures { IsTrue result ↔ IsValid limits.now self.now }
     {
-        // learnt: that it is a tree, with its points in range
+        // gives proofs the fact that it is a tree with its points in range
         let _learnt = self.precision();
         if self.nest() > u64::from(limits.nest()) {
             return false;

@@ -13,12 +13,12 @@ use Rattle.twkb_grammar.specs.Items.{OfId}
 use Rattle.twkb_writer.specs.Bytes.{members_below, ids_bytes, id_bytes, signed}
 use Rattle.twkb_writer.proofs.WayLemmas.{walked}
 
--- no row is there, or the first is at this depth or above it
+-- there is no row, or the first is at this depth or above it
 abbrev pub Stops : ℕ → List Row → Type 0
 Stops d [] = ⊤
 Stops d (r ∷ rs) = r.depth ≤ d
 
--- also at a greater depth
+-- rows that stop at a depth stop at a greater one
 pub stops_deeper : (d : ℕ) (rs : List Row) → Stops d rs → Stops (suc d) rs
 stops_deeper d [] h = tt
 stops_deeper d (r ∷ rs) h = omega arith
@@ -29,14 +29,14 @@ stops_deeper d (r ∷ rs) h = omega arith
 pub members-over : (d : ℕ) (r : Row) (rs : List Row) → r.depth ≤ d → members_below d (r ∷ rs) ≡ []
 members-over d r rs h = let le : nat_le r.depth d ≡ true = grind (arith, nat_tests) in rw le refl
 
--- a row one deeper is a member
+-- a row one level deeper is a member
 pub members-one : (d : ℕ) (r : Row) (rs : List Row) → r.depth ≡ suc d → members_below d (r ∷ rs) ≡ r ∷ members_below d rs
 members-one d r rs e =
     let le : nat_le r.depth d ≡ false = grind (arith, nat_tests) in
     let eq : nat_eq r.depth (suc d) ≡ true = grind (arith, nat_tests) in
     rw (le, eq) refl
 
--- a deeper row is none
+-- a row more than one level deeper is not a member
 pub members-past : (d : ℕ) (r : Row) (rs : List Row) → suc d < r.depth → members_below d (r ∷ rs) ≡ members_below d rs
 members-past d r rs h =
     let le : nat_le r.depth d ≡ false = grind (arith, nat_tests) in
@@ -45,17 +45,17 @@ members-past d r rs h =
 
 -- ---- lists of rows
 
--- rows that stop have no members
+-- rows that stop at the depth have no members
 pub members-stop : (d : ℕ) (rs : List Row) → Stops d rs → members_below d rs ≡ []
 members-stop d [] h = refl
 members-stop d (r ∷ rs) h = members-over d r rs h
 
--- deeper rows are passed over
+-- rows below the members are passed over
 pub members-deeper : (d : ℕ) (xs rs : List Row) → AreDeep (suc (suc d)) xs → members_below d (xs ++ rs) ≡ members_below d rs
 members-deeper d [] rs deep = refl
 members-deeper d (x ∷ xs) rs deep = members-past d x (xs ++ rs) (let low = deep.0 in omega (arith, low)) ∙ members-deeper d xs rs deep.1
 
--- of each part its first row is the member
+-- the member of each part is the part's first row
 pub members-each : {A : Type 0} (d : ℕ) (f : Option ℤ → A → List Row) (own : Option ℤ → A → Row) (deeper : Option ℤ → A → List Row)
     → ((id : Option ℤ) (x : A) → f id x ≡ own id x ∷ deeper id x) → ((id : Option ℤ) (x : A) → (own id x).depth ≡ suc d) → ((id : Option ℤ) (x : A) → AreDeep (suc (suc d)) (deeper id x))
     → (ids : Ids) (xs : List A) (rs : List Row) → members_below d (rows_of_each f ids xs ++ rs) ≡ rows_of_each (λ id x. own id x ∷ []) ids xs ++ members_below d rs
@@ -68,12 +68,12 @@ members-each d f own deeper is at deep ids (x ∷ xs) rs =
     ∙ members-one d (own id x) (deeper id x ++ (rest ++ rs)) (at id x)
     ∙ ap (λ (l : List Row). own id x ∷ l) (members-deeper d (deeper id x) (rest ++ rs) (deep id x) ∙ members-each d f own deeper is at deep (other_ids ids) xs rs)
 
--- one row each
+-- there is one member for each part
 pub length-each : {A : Type 0} (own : Option ℤ → A → Row) (ids : Ids) (xs : List A) → length (rows_of_each (λ id x. own id x ∷ []) ids xs) ≡ length xs
 length-each own ids [] = refl
 length-each own ids (x ∷ xs) = let more = length-each own (other_ids ids) xs in omega (arith, more)
 
--- their ids
+-- the ids of the members are those of the parts
 pub ids-each : {A : Type 0} (own : Option ℤ → A → Row) → ((id : Option ℤ) (x : A) → (own id x).id ≡ id) → (at : Point) (ids : List ℤ) (xs : List A) → length ids ≡ length xs
     → ids_bytes (rows_of_each (λ id x. own id x ∷ []) (Some ids) xs) ≡ walked at (map OfId ids)
 ids-each own is at [] [] e = refl
@@ -85,17 +85,17 @@ ids-each own is at (id ∷ ids) (x ∷ xs) e =
 
 -- ---- depths
 
--- parts are deep where each is
+-- parts are deep if each is
 pub deep-each : {A : Type 0} (d : ℕ) (f : Option ℤ → A → List Row) → ((id : Option ℤ) (x : A) → AreDeep d (f id x)) → (ids : Ids) (xs : List A) → AreDeep d (rows_of_each f ids xs)
 deep-each d f deep ids [] = tt
 deep-each d f deep ids (x ∷ xs) = all_join (IsDeeper d) (f (first_id ids) x) (rows_of_each f (other_ids ids) xs) (deep (first_id ids) x) (deep-each d f deep (other_ids ids) xs)
 
--- deeper is deep
+-- rows deeper than one depth are deeper than a smaller one
 pub deep-less : (d : ℕ) (rs : List Row) → AreDeep (suc d) rs → AreDeep d rs
 deep-less d [] h = tt
 deep-less d (r ∷ rs) h = (let low = h.0 in omega (arith, low), deep-less d rs h.1)
 
--- the rings of a polygon
+-- the rings of a polygon are deep
 pub deep-rings : (d : ℕ) (rings : List (List Point)) → AreDeep d (ring_rows d rings)
 deep-rings d rings = deep-each d (λ none ring. plain_row d Kind.Ring none ring ∷ []) (λ id x. (omega arith, tt)) None rings
 
@@ -117,7 +117,7 @@ pub rows_with-below : (id : Option ℤ) (d : ℕ) (g : Tree) → rows_with id d 
 rows_with-below id d (simple p s) = refl
 rows_with-below id d (collection p ids gs) = refl
 
--- a row at a depth and deeper ones below it
+-- a geometry's rows are at its depth or deeper
 deep-own : (d : ℕ) (id : Option ℤ) (g : Tree) → AreDeep (suc d) (below_of (suc d) g) → AreDeep d (rows_with id d g)
 deep-own d id g h =
     let own = own_row-depth id d g in
@@ -132,7 +132,7 @@ mutual
   deep-members d ids end = tt
   deep-members d ids (g ▷ gs) = all_join (IsDeeper d) (rows_with (first_id ids) d g) (member_rows d (other_ids ids) gs) (deep-own d (first_id ids) g (deep-below (suc d) g)) (deep-members d (other_ids ids) gs)
 
--- the rows of members are those of each
+-- the rows of members are those of each member
 pub member_rows-each : (d : ℕ) (ids : Ids) (gs : Trees) → member_rows d ids gs ≡ rows_of_each (λ id g. rows_with id d g) ids (members gs)
 member_rows-each d ids end = refl
 member_rows-each d ids (g ▷ gs) = ap (λ (l : List Row). rows_with (first_id ids) d g ++ l) (member_rows-each d (other_ids ids) gs)

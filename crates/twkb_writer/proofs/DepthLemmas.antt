@@ -14,7 +14,7 @@ blank_levels l none = record {
   blanks = λ k from small. get_or-replicate 36 k l blank small ∙ none;
 }
 
--- a level made blank, or one that was
+-- a level is the one made blank, or one that was there
 set_blank : (levels : List Level) (i k : ℕ) (l : Level) → l ≡ blank → i < length levels → (k ≢ i → get_or levels k blank ≡ blank) → get_or (set levels i l) k blank ≡ blank
 set_blank levels i k l none here there =
     elim (cases_eq k i) [
@@ -22,7 +22,7 @@ set_blank levels i k l none here there =
       | inr other ↦ get_or-set_other levels i k l blank other ∙ there other
     ]
 
--- a level from which on there are no rows is blank already
+-- a level after the last one with rows is already blank
 pub blank_there : (used : ℕ) (levels now : List Level) (depth : ℕ) → IsBlankFrom used levels → levels ≡ now → used ≤ depth → depth < 36 → now ≡ set now depth blank
 blank_there used levels now depth old view above small =
     let kept : levels ≡ set levels depth blank = sym (ap (λ (l : Level). set levels depth l) (sym (old.blanks depth above small)) ∙ set-get_or levels depth blank) in

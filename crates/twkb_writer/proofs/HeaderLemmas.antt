@@ -39,7 +39,7 @@ tree_type : (id : Option ℤ) (d : ℕ) (g : Tree) → type_of (own_row id d g).
 tree_type id d (simple p s) = simple_type s
 tree_type id d (collection p ids gs) = refl
 
--- the precision of any geometry
+-- the precision of a geometry is in range
 tree_precision : (g : Tree) → IsTree g → IsPrecision (precision_of g)
 tree_precision (simple p s) t = t.0
 tree_precision (collection p ids gs) t = t.0
@@ -59,11 +59,11 @@ box_where : (b : Bool) (ps : List Point) → box_bytes (if b then extent ps else
 box_where false ps = refl
 box_where true ps = option_box (extent ps)
 
--- the box of the entry
+-- the box of the entry is the canonical box
 pub box_is : (g : Tree) → box_bytes (bounds_of Full g) ≡ box_of g
 box_is g = box_where (boxed g) (flat g)
 
--- bit 0
+-- bit 0 of the metadata byte
 abbrev box_bit : Option Extent → ℕ
 box_bit None = 0
 box_bit (Some b) = 1
@@ -82,7 +82,7 @@ boxed_any g h = (both_true (has_any (flat g)) (uniform g) (both_true (not (is_po
 
 -- ---- metadata byte
 
--- bits 4 and 2
+-- bits 4 and 2 of the metadata byte
 abbrev body_bits : ℕ → Entry → ℕ
 body_bits own e = if is_bare own e then 16 else if e.named then 4 else 0
 
@@ -118,7 +118,7 @@ full_bits false true (Some e) = refl
 full_bits false false None = refl
 full_bits false false (Some e) = refl
 
--- and in a plain one
+-- the sum of the bits in a plain blob
 plain_bits : (bare named : Bool) → bit_value false 0 + bit_value false 1 + bit_value (not bare && named) 2 + bit_value bare 4 ≡ (if bare then 16 else if named then 4 else 0)
 plain_bits true named = refl
 plain_bits false true = refl
@@ -134,7 +134,7 @@ meta_is Plain id d g =
     let own = length (own_row id d g).points in
     plain_bits (is_bare own (entry_of Plain g)) (entry_of Plain g).named ∙ tree_bits Plain id d g
 
--- ---- the whole
+-- ---- the complete header
 
 framed_is : (style : Style) (g : Tree) → (size_bytes style (entry_of style g) ++ box_bytes (bounds_of style g)) ++ own_body style g ≡ framed style g (own_body style g)
 framed_is Full g =

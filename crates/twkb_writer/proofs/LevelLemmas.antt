@@ -1,4 +1,4 @@
--- What the rows at one depth come to, by the first row.
+-- The totals of the rows at one depth, by the first row.
 use Rattle.std.proofs.Common.{◌≡◌, ℕ, suc, ◌<◌, ◌≤◌, List, [], ◌∷◌, ◌++◌, length, true, false, refl, ◌∙◌, ap, arith}
 use Rattle.std.specs.Prelude.{nat_lt, nat_eq, if◌then◌else◌}
 use Rattle.std.proofs.lemmas.Bool.Decides.{nat_tests}
@@ -38,21 +38,21 @@ chosen_below d k own others h =
 pub level_above : (style : Style) (k : ℕ) (r : Row) (rs : List Row) → r.depth < k → level style k (r ∷ rs) ≡ blank
 level_above style k r rs h = chosen_above r.depth k (row_level style r.kind (length r.points) r.id r.precision (level style (suc k) rs) (tail_of (r.points ++ points_ahead rs)) (level style k rs)) (level style k rs) h
 
--- a row at the depth is one of its rows
+-- a row at the depth is counted
 pub level_at : (style : Style) (k : ℕ) (r : Row) (rs : List Row) → r.depth ≡ k
     → level style k (r ∷ rs) ≡ row_level style r.kind (length r.points) r.id r.precision (level style (suc k) rs) (tail_of (r.points ++ points_ahead rs)) (level style k rs)
 level_at style k r rs e = chosen_at r.depth k (row_level style r.kind (length r.points) r.id r.precision (level style (suc k) rs) (tail_of (r.points ++ points_ahead rs)) (level style k rs)) (level style k rs) e
 
--- a deeper row is passed
+-- a deeper row is passed over
 pub level_below : (style : Style) (k : ℕ) (r : Row) (rs : List Row) → k < r.depth → level style k (r ∷ rs) ≡ level style k rs
 level_below style k r rs h = chosen_below r.depth k (row_level style r.kind (length r.points) r.id r.precision (level style (suc k) rs) (tail_of (r.points ++ points_ahead rs)) (level style k rs)) (level style k rs) h
 
--- nothing is at a depth that the next row is above
+-- nothing is counted at a depth if the next row is above it
 pub level_none : (style : Style) (k : ℕ) (rs : List Row) → IsAbove k rs → level style k rs ≡ blank
 level_none style k [] h = refl
 level_none style k (r ∷ rs) h = level_above style k r rs h
 
--- deeper rows are passed
+-- deeper rows are passed over
 pub level_past : (style : Style) (k : ℕ) (xs rest : List Row) → AreDeep (suc k) xs → level style k (xs ++ rest) ≡ level style k rest
 level_past style k [] rest h = refl
 level_past style k (x ∷ xs) rest h = level_below style k x (xs ++ rest) (omega (arith, h.0)) ∙ level_past style k xs rest h.1

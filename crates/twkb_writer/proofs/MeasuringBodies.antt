@@ -1,4 +1,4 @@
--- The length of a simple geometry's body, by its rows.
+-- The length of a simple geometry's body, from its rows.
 use Rattle.std.proofs.Common.{◌≡◌, ℕ, suc, ◌+◌, Bool, true, false, List, [], ◌∷◌, ◌++◌, length, map, None, Some, refl, sym, ◌∙◌, ap, arith, length-append}
 use Rattle.std.specs.Prelude.{ℤ, ◌-ℤ◌, flat_map, nat_eq, ◌&&◌}
 use Rattle.std.proofs.lemmas.Bool.Decides.{nat_tests}
@@ -25,14 +25,14 @@ pub length-number : (n : ℕ) → length (varint_of n) ≡ number_len n
 unfolding number_len
 length-number n = refl
 
--- the bytes of counts and ids
+-- the number of bytes of counts and ids
 abbrev pub places_len : List Place → ℕ
 places_len [] = 0
 places_len (OfCount c n ∷ ps) = number_len n + places_len ps
 places_len (OfId id ∷ ps) = signed_len id + places_len ps
 places_len (OfPoint p ∷ ps) = places_len ps
 
--- the bytes of places are those of their counts and ids, and of the way through their points
+-- the bytes of places are those of their counts and ids, and of the differences through their points
 pub length-steps : (p : Point) (ps : List Place) → length (varints (steps p ps)) ≡ places_len ps + way_len p (places ps)
 length-steps p [] = refl
 length-steps p (OfCount c n ∷ ps) = omega (arith, length-append (varint_of n) (varints (steps p ps)), length-number n, length-steps p ps)
@@ -42,11 +42,11 @@ length-steps p (OfPoint q ∷ ps) =
     let y : ℕ = zigzag_of (q.y -ℤ p.y) in
     omega (arith, length-append (varint_of x) (varint_of y ++ varints (steps q ps)), length-append (varint_of y) (varints (steps q ps)), length-number x, length-number y, length-steps q ps)
 
--- the bytes of a simple geometry's body
+-- the length of a simple geometry's body
 pub length-fields : (s : Simple) → length (varints (fields s)) ≡ places_len (outline s) + way_len origin (points_in s)
 length-fields s = ap (λ fs. length (varints fs)) (fields_are s) ∙ length-steps origin (outline s) ∙ ap (λ ps. places_len (outline s) + way_len origin ps) (points_are s)
 
--- the way of a tail
+-- the bytes of the differences of a tail
 pub from_origin-tail_of : (ps : List Point) → from_origin (tail_of ps) ≡ way_len origin ps
 from_origin-tail_of [] = refl
 from_origin-tail_of (p ∷ ps) = refl
@@ -76,9 +76,9 @@ places_len-each f (x ∷ xs) = places_len-append (f x) (flat_map f xs) ∙ ap (�
 places_len-run : (ps : List Point) → number_len (length ps) + 0 ≡ places_len (run_of ps)
 places_len-run ps = ap (λ n. number_len (length ps) + n) (sym (places_len-points ps))
 
--- ---- what the parts of a shape come to
+-- ---- the totals of the parts of a shape
 
--- the bytes of the places of its parts
+-- the number of bytes of the places of its parts
 abbrev pub parts_bytes : Simple → ℕ
 parts_bytes (point o) = 0
 parts_bytes (line ps) = 0
@@ -93,14 +93,14 @@ no_parts = record { members = refl; ids_are = refl; named = refl; bytes_are = re
 total_rings : (rings : List (List Point)) → IsTotal (rings_level rings) (length rings) None (total (λ ps. places_len (run_of ps)) rings)
 total_rings rings = total_each kind.Ring (λ ps. length ps) (λ ps. blank) (λ ps. places_len (run_of ps)) places_len-run None rings tt
 
--- a count, ids and parts
+-- the totals of a count, ids and parts
 lead_total : (l : Level) (n : ℕ) (ids : Ids) (bytes : ℕ) → IsTotal l n ids bytes → number_len l.members + l.ids + l.bytes ≡ number_len n + ids_len ids + bytes
 lead_total l n ids bytes t = λ i. number_len (t.members i) + t.ids_are i + t.bytes_are i
 
 lead_rings : (rings : List (List Point)) → number_len (rings_level rings).members + (rings_level rings).ids + (rings_level rings).bytes ≡ places_len (rings_of rings)
 lead_rings rings = omega (arith, lead_total (rings_level rings) (length rings) None (total (λ ps. places_len (run_of ps)) rings) (total_rings rings), places_len-each run_of rings)
 
--- the parts of a shape
+-- the totals of the parts of a shape
 pub total_parts : (s : Simple) → IdsFit s → IsTotal (parts_level s) (parts_in s) (ids_in s) (parts_bytes s)
 total_parts (point o) h = no_parts
 total_parts (line ps) h = no_parts
@@ -113,11 +113,11 @@ total_none : (ps : List Point) → total (λ (p : Point). 0) ps ≡ 0
 total_none [] = refl
 total_none (p ∷ ps) = omega (arith, total_none ps)
 
--- a count, ids and places behind them
+-- the bytes of a count, ids and the places after them
 places_behind : (n : ℕ) (ids : Ids) (ps : List Place) → number_len n + ids_len ids + places_len ps ≡ number_len n + places_len (id_places ids ++ ps)
 places_behind n ids ps = omega (arith, places_len-append (id_places ids) ps, places_len-id_places ids)
 
--- the count and ids of a shape's row, and the bytes of its parts, are those of its places
+-- the bytes of the count and ids of a shape's row, and of its parts, are those of its places
 pub lead_parts : (s : Simple) → IdsFit s → lead_len (kind_in s) (length (own_points s)) (parts_level s) + (parts_level s).bytes ≡ places_len (outline s)
 lead_parts (point None) h = refl
 lead_parts (point (Some p)) h = refl
@@ -154,7 +154,7 @@ and_true : (b : Bool) → (b && true) ≡ b
 and_true true = refl
 and_true false = refl
 
--- the row is bare where its shape has no body
+-- the row is bare exactly if its shape has no body
 pub bare_shape : (s : Simple) → IdsFit s → is_bare (length (own_points s)) (parts_level s) ≡ is_empty (flags s)
 bare_shape (point None) h = refl
 bare_shape (point (Some p)) h = refl

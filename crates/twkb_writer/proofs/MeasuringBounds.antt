@@ -1,4 +1,4 @@
--- Bounds on what rows come to.
+-- Bounds on the totals of rows.
 use Rattle.std.proofs.Common.{◌≡◌, ℕ, suc, ◌+◌, ◌*◌, ◌<◌, ◌≤◌, ◌^◌, true, false, List, [], ◌∷◌, ◌++◌, length, Option, None, Some, inl, inr, refl, ap, arith, length-append}
 use Rattle.std.specs.Prelude.{ℤ, nat_lt, if◌then◌else◌}
 use Rattle.std.proofs.lemmas.Bool.{cases_lt, cases_eq}
@@ -32,14 +32,14 @@ chosen_cost-le d k n = elim (cases_lt d k) [
   | inr here ↦ omega (arith, costs_here d k n here)
 ]
 
--- what is at each depth costs no more than its rows, without those below it
+-- the totals at each depth are at most the costs of its rows, without the rows below it
 abbrev pub IsBounded : Style → List Row → Type 0
 IsBounded style rs = (k : ℕ) → load (level style k rs) + costs (suc k) rs ≤ costs k rs
 
 pub bounded_none : (style : Style) → IsBounded style []
 bounded_none style k = omega arith
 
--- with a row in front, where it adds no more than its cost
+-- the bound with one more row in front, if it adds at most its cost
 pub bounded_step : (style : Style) (r : Row) (rs : List Row) → IsBounded style rs
     → load (row_level style r.kind (length r.points) r.id r.precision (level style (suc r.depth) rs) (tail_of (r.points ++ points_ahead rs)) (level style r.depth rs))
     ≤ load (level style (suc r.depth) rs) + load (level style r.depth rs) + cost_of r.precision (20 * length (r.points ++ points_ahead rs))
@@ -80,7 +80,7 @@ cost_within : (p : Option ℤ) (ps ahead : List Point) → cost_of p (20 * lengt
 cost_within None ps ahead = omega (arith, length-append ps ahead)
 cost_within (Some p) ps ahead = omega (arith, length-append ps ahead)
 
--- the costs of rows, by how many rows and points there are
+-- the costs of rows are bounded by the numbers of rows and points
 pub costs_within : (k : ℕ) (rs : List Row) → costs k rs + 20 * length (points_ahead rs) ≤ 100 * length rs + 20 * length (row_points rs)
 costs_within k [] = omega arith
 costs_within k (r ∷ rs) =
@@ -93,7 +93,7 @@ members_row : (style : Style) (r : Row) (p : Option ℤ) (below others : Level) 
 members_row style r None below others ps = refl
 members_row style r (Some p) below others ps = refl
 
--- no more members than rows
+-- there are at most as many members as rows
 members_within : (style : Style) (k : ℕ) (rs : List Row) → (level style k rs).members ≤ length rs
 members_within style k [] = omega arith
 members_within style k (r ∷ rs) = elim (cases_lt r.depth k) [
@@ -109,7 +109,7 @@ members_within style k (r ∷ rs) = elim (cases_lt r.depth k) [
   ]
 ]
 
--- what rows within the caps come to is small
+-- the totals of rows within the caps are small
 pub level_small : (style : Style) (k : ℕ) (rs : List Row) → IsBounded style rs → length rs ≤ 2 ^ 20 → length (row_points rs) ≤ 2 ^ 24 → IsSmall (level style k rs)
 level_small style k rs bounded few few_points = record {
   members = omega (arith, members_within style k rs, few);

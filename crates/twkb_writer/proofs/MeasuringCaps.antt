@@ -10,13 +10,13 @@ use Rattle.twkb_tree.proofs.RowPoints.{row_points-with}
 use Rattle.twkb_flat.specs.declared.node.Node.{Node}
 use Rattle.twkb_flat.specs.Rows.{IsNode}
 
--- at most so many rows and points, none deeper than 34
+-- there are at most this many rows and points, and none is deeper than 34
 pub record IsCapped (rs : List Row) : Type 0 where
   pub nodes : length rs ≤ 2 ^ 20
   pub points : length (row_points rs) ≤ 2 ^ 24
   pub depths : AreShallow 34 rs
 
--- so are the rows of a geometry
+-- the rows of a geometry are within the caps
 pub capped : (rs : List Row) → AreValidRowsOfOne largest_limits rs → IsCapped rs
 capped [] v = record { nodes = omega arith; points = omega arith; depths = tt }
 capped (r ∷ rs) v =
@@ -29,7 +29,7 @@ capped (r ∷ rs) v =
       depths = valid_depths largest_limits (r ∷ rs) all;
     }
 
--- and those from a place on
+-- the rows from a place on are within the caps
 pub capped_drop : (i : ℕ) (rs : List Row) → IsCapped rs → IsCapped (drop i rs)
 capped_drop zero rs c = c
 capped_drop (suc i) [] c = c
@@ -40,6 +40,6 @@ capped_drop (suc i) (r ∷ rs) c =
       depths = c.depths.1;
     })
 
--- no node is deeper
+-- no node is deeper than 34
 pub node_depth : (rs : List Row) (i : ℕ) (node : Node) → IsCapped rs → IsNode rs i node → node.row.depth ≤ 34
 node_depth rs i node c is = (subst (AreShallow 34) is.here (capped_drop i rs c).depths).0

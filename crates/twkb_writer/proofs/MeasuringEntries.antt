@@ -1,4 +1,4 @@
--- The entry of a geometry, by the rows below it.
+-- The entry of a geometry, from the rows below it.
 use Rattle.std.proofs.Common.{◌≡◌, ℕ, ◌+◌, Bool, true, false, List, [], ◌∷◌, ◌++◌, length, Option, None, Some, refl, sym, ◌∙◌, ap, arith, length-append}
 use Rattle.std.specs.Prelude.{ℤ, ◌-ℤ◌, is_some, not, ◌&&◌, if◌then◌else◌}
 use Rattle.twkb_num.specs.Zigzag.{zigzag_of}
@@ -25,7 +25,7 @@ use Rattle.twkb_writer.proofs.MeasuringBodies.{length-number}
 
 -- ---- boxes
 
--- the bytes of a box
+-- the number of bytes of a box
 length-box : (b : Option Extent) → length (box_bytes b) ≡ box_len b
 length-box None = refl
 length-box (Some e) =
@@ -43,7 +43,7 @@ length-box (Some e) =
       length-number (zigzag_of h),
     )
 
--- no points, no box
+-- without points there is no box
 box_if : (a u : Bool) (ps : List Point) → (if a && u then extent ps else None) ≡ (if a && (has_any ps && u) then extent ps else None)
 box_if true true [] = refl
 box_if true false [] = refl
@@ -62,7 +62,7 @@ sized_length a b rest = omega (arith, length-append (varint_of (length rest)) re
 plain_length : (a b : ℕ) (rest : List ℕ) → length (a ∷ b ∷ rest) ≡ 2 + length rest
 plain_length a b rest = omega arith
 
--- a blob is as long as its box and body say
+-- the length of a blob follows from its box and body
 pub blob_length : (style : Style) (g : Tree) → blob_len style (length (content_of style g)) ≡ length (canonical_blob style g)
 blob_length Full g =
     ap (λ b. blob_len Full (length (b ++ own_body Full g))) (box_is_written g)
@@ -74,7 +74,8 @@ blob_length Plain g =
 
 -- ---- the entry
 
--- a row of this kind, with so many points of its own, these rows below it and these points up to its end, is that of the geometry
+-- a row of this kind, with this many points, these rows below it and these points up to its end,
+-- is that of the geometry
 pub record IsMeasured (style : Style) (g : Tree) (k : Kind) (own : ℕ) (below : Level) (t : Tail) : Type 0 where
   pub point : is_point k ≡ is_point_tree g
   pub members : below.members ≡ part_count g
@@ -100,7 +101,7 @@ content_is style g k own below t m =
     (λ i. box_len (box_is style g k own below t m i) + (if m.bare i then 0 else lead_len k own below + below.bytes + from_origin t))
     ∙ size_is (bounds_of style g) (is_empty (flags_of_tree g)) (lead_len k own below + below.bytes + from_origin t) (body_of style g) m.body
 
--- its entry is the geometry's
+-- the entry of such a row is the geometry's
 pub entry_is : (style : Style) (g : Tree) (k : Kind) (own : ℕ) (below : Level) (t : Tail) → IsMeasured style g k own below t
     → entry_for style k (precision_of g) own below t ≡ entry_of style g
 entry_is style g k own below t m = λ i. record {

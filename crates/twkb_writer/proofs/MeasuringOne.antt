@@ -1,4 +1,4 @@
--- The sizes of a flat form of one node, which needs no pass.
+-- The sizes of a flat form of one node, measured without a pass.
 use Rattle.std.proofs.Common.{◌≡◌, ℕ, ◌+◌, ◌<◌, ◌≤◌, ◌^◌, false, List, [], ◌∷◌, ◌++◌, length, drop, Option, None, Some, refl, sym, ◌∙◌, ap, subst, arith, append-nil}
 use Rattle.std.specs.Prelude.{ℤ, slice_get}
 use Rattle.std.proofs.lemmas.List.{drop_all}
@@ -41,18 +41,18 @@ pub root_whole : (rs : List Row) (node : Node) → AreValidRowsOfOne largest_lim
 root_whole [] node valid is none = let e = is.here in cc e
 root_whole (r ∷ rs) node valid is none = root_of valid.0 (row_with node.row is.own) is.rest (valid.2 ∙ is.here) none
 
--- no node is behind the only one
+-- there is no node after the only one
 none_behind : (rs : List Row) (node : Node) (is : IsNode rs 0 node) → length rs ≡ 1 → is.rest ≡ []
 none_behind rs node is one = rest_is rs 0 node is ∙ drop_all 1 rs (omega (arith, one))
 
 -- ---- its points
 
--- the points up to its end are its own
+-- the points up to the end are the node's own
 pub all_points : (rs : List Row) (node : Node) (is : IsNode rs 0 node) (points before : Tail) → before ≡ tail_of []
     → ((ahead : List Point) → before ≡ tail_of ahead → points ≡ tail_of (points_at (drop 0 rs) ++ ahead)) → points ≡ tail_of is.own
 all_points rs node is points before none found = found [] none ∙ ap tail_of (append-nil (points_at (drop 0 rs)) ∙ own_at rs 0 node is)
 
--- where it has one, the one that was read
+-- the only point is the one that was read
 only_point : (rs : List Row) (node : Node) (is : IsNode rs 0 node) (p : Point) → node.points ≡ 1 → slice_get (row_points rs) node.first.0 ≡ Some p → is.own ≡ p ∷ []
 only_point rs node is p one read =
     let here : node.first.0 ≡ node.first.0 + 0 = omega arith in
@@ -73,7 +73,7 @@ reads_point old next new points all few_nodes few_points node_read point_read on
 
 -- ---- its entry
 
--- what a pass finds
+-- the entry that a pass finds
 measured_one : (style : Style) (rs : List Row) (node : Node) (is : IsNode rs 0 node) → length rs ≡ 1
     → measured style rs ≡ option_list (row_entry style node.row.kind node.points node.row.precision blank (tail_of is.own))
 measured_one style rs node is one =
@@ -98,13 +98,13 @@ sizes_of_one style rs node p below points e valid one is whole no_rows points_ar
     ∙ ap (λ (q : Option ℤ). option_list (row_entry style node.row.kind node.points q blank (tail_of is.own))) (sym whole)
     ∙ sym (measured_one style rs node is one))
 
--- of a point
+-- the entry of a point
 pub point_entry_is : (style : Style) (p : ℤ) (q : Point) (size : ℕ) → size ≡ step_len origin q
     → record { size = size; bounds = None; members = 0; named = false } ≡ entry_for style kind.Point p 1 blank (tail_of (q ∷ []))
 point_entry_is Full p q size e = let whole : size ≡ 0 + (0 + 0 + (step_len origin q + 0)) = omega (arith, e) in ap (λ (n : ℕ). record { size = n; bounds = None; members = 0; named = false }) whole
 point_entry_is Plain p q size e = let whole : size ≡ 0 + (0 + 0 + (step_len origin q + 0)) = omega (arith, e) in ap (λ (n : ℕ). record { size = n; bounds = None; members = 0; named = false }) whole
 
--- and it is all sizes where it is the only node
+-- the entry of a point is all sizes if it is the only node
 pub sizes_of_point : (style : Style) (rs : List Row) (node : Node) (p : ℤ) (q : Point) (e : Entry) → AreValidRowsOfOne largest_limits rs → length rs ≡ 1 → IsNode rs 0 node
     → node.row.precision ≡ Some p → (node.row.kind ≡ kind.Point) × (node.points ≡ 1) → slice_get (row_points rs) node.first.0 ≡ Some q
     → e ≡ entry_for style kind.Point p 1 blank (tail_of (q ∷ [])) → AreSizes style rs (e ∷ [])

@@ -1,4 +1,4 @@
--- What the parts of a simple geometry come to, rows without a precision of their own.
+-- The totals of the parts of a simple geometry, which are rows without a precision.
 use Rattle.std.proofs.Common.{◌≡◌, ℕ, suc, ◌<◌, List, [], ◌∷◌, ◌++◌, length, Option, None, refl, sym, ◌∙◌, ap, subst, arith, append_assoc}
 use Rattle.std.specs.Prelude.{ℤ, flat_map}
 use Rattle.twkb_points.specs.Point.{Point}
@@ -19,26 +19,27 @@ abbrev pub with_each : {A : Type 0} → (Option ℤ → A → Level → Level) �
 with_each w ids [] l = l
 with_each w ids (x ∷ xs) l = w (first_id ids) x (with_each w (other_ids ids) xs l)
 
--- above a greater depth
+-- rows above a depth are above a greater one
 pub above_less : (d : ℕ) (rs : List Row) → IsAbove d rs → IsAbove (suc d) rs
 above_less d [] h = tt
 above_less d (r ∷ rs) h = omega arith
 
--- what the rows of one part at depth d do: they count as w says, have the points g, and no geometry among them
+-- what is true of the rows of one part at depth d: their totals are given by w, they have the
+-- points g, and none of them is a geometry
 pub record IsPart {A : Type 0} (style : Style) (d : ℕ) (f : Option ℤ → A → List Row) (w : Option ℤ → A → Level → Level) (g : A → List Point) : Type 0 where
   pub begins : (id : Option ℤ) (x : A) (more : List Row) → IsAbove (suc d) (f id x ++ more)
   pub counts : (id : Option ℤ) (x : A) (more : List Row) → IsAbove (suc d) more → level style d (f id x ++ more) ≡ w id x (level style d more)
   pub ahead : (id : Option ℤ) (x : A) (more : List Row) → points_ahead (f id x ++ more) ≡ g x ++ points_ahead more
   pub no_entry : (id : Option ℤ) (x : A) (more : List Row) → measured style (f id x ++ more) ≡ measured style more
 
--- parts begin no deeper
+-- the first row of parts is no deeper than d
 above_each : {A : Type 0} (style : Style) (d : ℕ) (f : Option ℤ → A → List Row) (w : Option ℤ → A → Level → Level) (g : A → List Point) → IsPart style d f w g
     → (ids : Ids) (xs : List A) (rest : List Row) → IsAbove (suc d) rest → IsAbove (suc d) (rows_of_each f ids xs ++ rest)
 above_each style d f w g part ids [] rest h = h
 above_each style d f w g part ids (x ∷ xs) rest h =
     subst (IsAbove (suc d)) (sym (append_assoc (f (first_id ids) x) (rows_of_each f (other_ids ids) xs) rest)) (part.begins (first_id ids) x (rows_of_each f (other_ids ids) xs ++ rest))
 
--- what parts come to
+-- the totals of parts
 pub level_each : {A : Type 0} (style : Style) (d : ℕ) (f : Option ℤ → A → List Row) (w : Option ℤ → A → Level → Level) (g : A → List Point) → IsPart style d f w g
     → (ids : Ids) (xs : List A) (rest : List Row) → IsAbove (suc d) rest → level style d (rows_of_each f ids xs ++ rest) ≡ with_each w ids xs (level style d rest)
 level_each style d f w g part ids [] rest h = refl
@@ -59,7 +60,7 @@ ahead_each style d f w g part ids (x ∷ xs) rest =
     ∙ ap (λ ps. g x ++ ps) (ahead_each style d f w g part (other_ids ids) xs rest)
     ∙ sym (append_assoc (g x) (flat_map g xs) (points_ahead rest))
 
--- no geometry is among parts
+-- none of the parts is a geometry
 pub no_entry_each : {A : Type 0} (style : Style) (d : ℕ) (f : Option ℤ → A → List Row) (w : Option ℤ → A → Level → Level) (g : A → List Point) → IsPart style d f w g
     → (ids : Ids) (xs : List A) (rest : List Row) → measured style (rows_of_each f ids xs ++ rest) ≡ measured style rest
 no_entry_each style d f w g part ids [] rest = refl
@@ -69,9 +70,9 @@ no_entry_each style d f w g part ids (x ∷ xs) rest =
     ∙ part.no_entry (first_id ids) x others
     ∙ no_entry_each style d f w g part (other_ids ids) xs rest
 
--- ---- one row each: rings, points, linestrings
+-- ---- parts of one row each: rings, points, linestrings
 
--- how one such row counts
+-- the totals with one such row before the others
 abbrev pub with_row_of : {A : Type 0} → Kind → (A → List Point) → Option ℤ → A → Level → Level
 with_row_of k g id x l = with_part k (length (g x)) id blank l
 
@@ -81,7 +82,7 @@ counts_one style d k id ps more h =
     level_at style d (plain_row d k id ps) more refl
     ∙ ap (λ (l : Level). with_part k (length ps) id l (level style d more)) (level_none style (suc d) more h)
 
--- such a row is a part
+-- one such row is a part
 pub one_part : {A : Type 0} (style : Style) (d : ℕ) (k : Kind) (g : A → List Point) → IsPart style d (λ id x. plain_row d k id (g x) ∷ []) (with_row_of k g) g
 one_part style d k g = record {
   begins = λ id x more. (let le : d < suc d = omega arith in le);
@@ -92,15 +93,15 @@ one_part style d k g = record {
 
 -- ---- polygons with their rings
 
--- what rings come to
+-- the totals of rings
 abbrev pub rings_level : List (List Point) → Level
 rings_level rings = with_each (with_row_of kind.Ring (λ ps. ps)) None rings blank
 
--- how a polygon counts
+-- the totals with a polygon before the others
 abbrev pub with_polygon : Option ℤ → List (List Point) → Level → Level
 with_polygon id rings l = with_part kind.Polygon 0 id (rings_level rings) l
 
--- rings before rows that are above them
+-- the totals of rings before rows that are above them
 pub level_rings : (style : Style) (d : ℕ) (rings : List (List Point)) (rest : List Row) → IsAbove d rest → level style d (ring_rows d rings ++ rest) ≡ rings_level rings
 level_rings style d rings rest h =
     level_each style d (λ none ring. plain_row d kind.Ring none ring ∷ []) (with_row_of kind.Ring (λ ps. ps)) (λ ps. ps) (one_part style d kind.Ring (λ ps. ps)) None rings rest (above_less d rest h)
@@ -124,7 +125,7 @@ polygon_part style d = record {
 
 -- ---- the parts of a simple shape
 
--- what they come to
+-- the totals of the parts of a shape
 abbrev pub parts_level : Simple → Level
 parts_level (point o) = blank
 parts_level (line ps) = blank
@@ -133,7 +134,7 @@ parts_level (multi_point ids ps) = with_each (with_row_of kind.Point (λ p. p �
 parts_level (multi_line ids lines) = with_each (with_row_of kind.Linestring (λ ps. ps)) ids lines blank
 parts_level (multi_polygon ids areas) = with_each with_polygon ids areas blank
 
--- their rows come to that
+-- the rows of the parts have these totals
 pub level_parts : (style : Style) (d : ℕ) (s : Simple) (rest : List Row) → IsAbove d rest → level style d (rows_below d s ++ rest) ≡ parts_level s
 level_parts style d (point o) rest h = level_none style d rest h
 level_parts style d (line ps) rest h = level_none style d rest h
@@ -165,7 +166,7 @@ ahead_parts style d (multi_line ids lines) rest =
     ahead_each style d (λ id ps. plain_row d kind.Linestring id ps ∷ []) (with_row_of kind.Linestring (λ ps. ps)) (λ ps. ps) (one_part style d kind.Linestring (λ ps. ps)) ids lines rest
 ahead_parts style d (multi_polygon ids areas) rest = ahead_each style d (polygon_rows d) with_polygon flatten (polygon_part style d) ids areas rest
 
--- and none of them is a geometry
+-- none of the rows of the parts is a geometry
 pub no_entry_parts : (style : Style) (d : ℕ) (s : Simple) (rest : List Row) → measured style (rows_below d s ++ rest) ≡ measured style rest
 no_entry_parts style d (point o) rest = refl
 no_entry_parts style d (line ps) rest = refl

@@ -12,11 +12,11 @@ use Rattle.twkb_writer.specs.Measuring.{points_at}
 use Rattle.twkb_writer.specs.Tails.{tail_of}
 use Rattle.twkb_writer.proofs.RowStep.{points_split}
 
--- the first row behind a place is the node, with its own points
+-- the first row from a place on is the node with its own points
 pub own_at : (rows : List Row) (i : ℕ) (node : Node) (is : IsNode rows i node) → points_at (drop i rows) ≡ is.own
 own_at rows i node is = ap points_at is.here
 
--- a point that was read stands before those after it
+-- the point that was read comes before those already added
 pub read_back : (rows : List Row) (i : ℕ) (node : Node) → IsNode rows i node → (j : ℕ) (p : Point) → j < node.points → slice_get (row_points rows) (node.first.0 + j) ≡ Some p
     → drop j (points_at (drop i rows)) ≡ p ∷ drop (j + 1) (points_at (drop i rows))
 read_back rows i node is j p within read =
@@ -31,7 +31,7 @@ read_back rows i node is j p within read =
     subst (λ (own : List Point). drop j own ≡ p ∷ drop (j + 1) own) (sym (own_at rows i node is))
     (at_drop_more (λ l. l) is.own j p inside ∙ ap (λ q. q ∷ drop (j + 1) is.own) at)
 
--- with that point before them
+-- the tail with that point before the others
 pub tail_back : (rows : List Row) (i : ℕ) (node : Node) → IsNode rows i node → (count back : ℕ) (p : Point) (ahead : List Point) (new : Tail) → count ≡ node.points → back < count
     → slice_get (row_points rows) (node.first.0 + (count - 1 - back)) ≡ Some p
     → new ≡ tail_of (p ∷ (drop (count - back) (points_at (drop i rows)) ++ ahead))
@@ -45,7 +45,7 @@ tail_back rows i node is count back p ahead new counted below read new_is =
     ∙ ap (λ l. tail_of (l ++ ahead)) (sym (read_back rows i node is (count - 1 - back) p (omega arith) read))
     ∙ ap (λ n. tail_of (drop n own ++ ahead)) there
 
--- with two points before them
+-- the tail with two points before the others
 pub tail_two : (rows : List Row) (i : ℕ) (node : Node) → IsNode rows i node → (back j k : ℕ) (p q : Point) (ahead : List Point) (new : Tail) → back + 2 ≤ node.points
     → j ≡ node.first.0 + (node.points - 1 - back) → k + 1 ≡ j → slice_get (row_points rows) j ≡ Some q → slice_get (row_points rows) k ≡ Some p
     → new ≡ tail_of (p ∷ q ∷ (drop (node.points - back) (points_at (drop i rows)) ++ ahead))
@@ -63,7 +63,7 @@ tail_two rows i node is back j k p q ahead new within j_is k_is last before new_
     tail_back rows i node is node.points (back + 1) p ahead new refl (omega arith) (ap (slice_get (row_points rows)) (sym place) ∙ before) (new_is ∙ ap (λ l. tail_of (p ∷ (l ++ ahead))) (sym behind))
     ∙ ap (λ n. tail_of (drop (node.points - n) own ++ ahead)) next
 
--- with the first point before the others
+-- the tail with the node's first point before the others
 pub tail_first : (rows : List Row) (i : ℕ) (node : Node) → IsNode rows i node → (count back : ℕ) (p : Point) (ahead : List Point) (new : Tail) → count ≡ node.points → back + 1 ≡ count
     → slice_get (row_points rows) node.first.0 ≡ Some p
     → new ≡ tail_of (p ∷ (drop (count - back) (points_at (drop i rows)) ++ ahead))
@@ -75,7 +75,7 @@ tail_first rows i node is count back p ahead new counted last read new_is =
     tail_back rows i node is count back p ahead new counted (omega arith) (ap (slice_get (row_points rows)) (sym place) ∙ read) new_is
     ∙ ap (λ n. tail_of (drop n own ++ ahead)) all
 
--- with the last point before those ahead
+-- the tail with the node's last point before those after the node
 pub tail_last : (rows : List Row) (i : ℕ) (node : Node) → IsNode rows i node → (p : Point) (ahead : List Point) (new : Tail) → 1 ≤ node.points
     → slice_get (row_points rows) (node.first.0 + (node.points - 1)) ≡ Some p
     → new ≡ tail_of (p ∷ ahead)

@@ -1,4 +1,4 @@
--- The pass over rows from the last to the first, one row at a time.
+-- The pass over rows, from the last to the first, one row at a time.
 use Rattle.std.proofs.Common.{◌≡◌, ◌≢◌, ℕ, zero, suc, ◌+◌, ◌*◌, ◌<◌, ◌≤◌, List, [], ◌∷◌, ◌++◌, length, drop, get_or, set, inl, inr, refl, sym, ◌∙◌, ap, arith, length-append}
 use Rattle.std.specs.Prelude.{reverse, Option, None, Some, slice_index, ℤ}
 use Rattle.std.proofs.lemmas.List.{get_or-set_same, get_or-set_other, length-set, reverse-append}
@@ -17,11 +17,11 @@ use Rattle.twkb_writer.specs.Tails.{tail_of}
 use Rattle.twkb_writer.proofs.LevelLemmas.{level_above, level_at, level_below, level_none}
 use Rattle.twkb_writer.proofs.MeasuringBounds.{IsBounded, bounded_none, bounded_step}
 
--- an array keeps what the rows at each depth come to
+-- an array has the totals of the rows at each depth
 abbrev pub Stands : Style → List Level → List Row → Type 0
 Stands style levels rs = (k : ℕ) → k < 36 → get_or levels k blank ≡ level style k rs
 
--- the array with a row's depth set, and the depth below it blank
+-- the array with one depth set, and the depth below it blank
 abbrev pub set_row : List Level → ℕ → Level → List Level
 set_row levels d l = set (set levels (d + 1) blank) d l
 
@@ -29,7 +29,7 @@ above_more : (j k : ℕ) (rs : List Row) → j ≤ k → IsAbove j rs → IsAbov
 above_more j k [] le h = tt
 above_more j k (r ∷ rs) le h = omega arith
 
--- the array with a row in front
+-- the array after one more row in front
 pub stands_step : (style : Style) (levels : List Level) (r : Row) (rs : List Row) (own : Level) → length levels ≡ 36 → r.depth < 35 → IsAbove (r.depth + 2) rs
     → own ≡ row_level style r.kind (length r.points) r.id r.precision (level style (suc r.depth) rs) (tail_of (r.points ++ points_ahead rs)) (level style r.depth rs)
     → Stands style levels rs → Stands style (set_row levels r.depth own) (r ∷ rs)
@@ -60,7 +60,7 @@ stands_step style levels r rs own whole deep child is stands k small =
           ]
     ]
 
--- the points up to the end of their geometry, with a row in front
+-- the points up to the end of their geometry, after one more row in front
 tail_by : (p : Option ℤ) (ps : List Point) → tail_after p (tail_of ps) ≡ tail_of (ahead_of p ps)
 tail_by None ps = refl
 tail_by (Some p) ps = refl
@@ -73,13 +73,13 @@ cost_more : (p : Option ℤ) (a b : ℕ) → a ≤ b → cost_of p a ≤ cost_of
 cost_more None a b h = omega arith
 cost_more (Some p) a b h = omega arith
 
--- the entries, the last one first, with one more
+-- the entries, last one first, with one more
 reverse-option : (e : Option Entry) → reverse (option_list e) ≡ option_list e
 reverse-option None = refl
 reverse-option (Some e) = refl
 
--- What a pass knows behind a place: of each depth what its rows come to, of the points up to the next geometry, and the
--- entries, the last one first.
+-- What a pass knows after a place: the totals at each depth, the points up to the next geometry,
+-- and the entries, last one first.
 pub record Pass (style : Style) (rs : List Row) (levels : List Level) (tail : Tail) (es : List Entry) : Type 0 where
   pub whole : length levels ≡ 36
   pub stands : Stands style levels rs
@@ -88,7 +88,7 @@ pub record Pass (style : Style) (rs : List Row) (levels : List Level) (tail : Ta
   pub tail_small : tail.bytes ≤ 20 * length (points_ahead rs)
   pub kept : es ≡ reverse (measured style rs)
 
--- what it takes in with a row: the points, the rows at its depth, and its entry
+-- what it adds with a row: the points, the rows at its depth, and its entry
 pub record TakesIn (style : Style) (r : Row) (n : ℕ) (rs : List Row) (levels : List Level) (tail points : Tail) (own : Level) (e : Option Entry) : Type 0 where
   pub deep : r.depth < 35
   pub child : IsAbove (r.depth + 2) rs
@@ -99,7 +99,7 @@ pub record TakesIn (style : Style) (r : Row) (n : ℕ) (rs : List Row) (levels :
   pub own_small : load own ≤ load (get_or levels (r.depth + 1) blank) + load (get_or levels r.depth blank) + cost_of r.precision points.bytes
   pub entry_is : e ≡ row_entry style r.kind n r.precision (get_or levels (r.depth + 1) blank) points
 
--- a row in front
+-- the pass after one more row in front
 pub pass_cons : (style : Style) (r : Row) (n : ℕ) (rs : List Row) (levels : List Level) (tail points : Tail) (own : Level) (e : Option Entry) (es : List Entry)
     → Pass style rs levels tail es → TakesIn style r n rs levels tail points own e
     → Pass style (r ∷ rs) (set_row levels r.depth own) (tail_after r.precision points) (es ++ option_list e)
@@ -128,11 +128,11 @@ pass_cons style r n rs levels tail points own e es pass t =
           ∙ sym (reverse-append (option_list (row_entry style r.kind (length r.points) r.precision (level style (suc d) rs) (tail_of ps))) (measured style rs));
     }
 
--- no row is behind the end
+-- the pass before the last row
 pub pass_none : (style : Style) (levels : List Level) → length levels ≡ 36 → ((k : ℕ) → k < 36 → get_or levels k blank ≡ blank) → Pass style [] levels (tail_of []) []
 pass_none style levels whole blanks = record { whole = whole; stands = blanks; bounded = bounded_none style; tail_is = refl; tail_small = omega arith; kept = refl }
 
--- the rows behind a node are no deeper than its members
+-- the rows after a node are no deeper than its members
 pub above_drop : (rows : List Row) (j n : ℕ) → (j < length rows → slice_index (depths rows) j < n) → IsAbove n (drop j rows)
 above_drop [] zero n h = tt
 above_drop [] (suc j) n h = tt

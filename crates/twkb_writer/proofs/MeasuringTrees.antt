@@ -1,4 +1,4 @@
--- What the rows of a geometry come to.
+-- The totals of the rows of a geometry.
 use Rattle.std.proofs.Common.{◌≡◌, ℕ, suc, ◌+◌, ◌<◌, ◌≤◌, false, List, [], ◌∷◌, ◌++◌, length, Option, None, Some, refl, sym, ◌∙◌, ap, subst, arith, append_assoc, append-nil, length-append}
 use Rattle.std.specs.Prelude.{ℤ, is_some, ◌||◌, nat_eq, map}
 use Rattle.std.proofs.lemmas.Bool.Decides.{nat_tests}
@@ -43,7 +43,7 @@ with_tree style id g l = record {
   precisions = agreed (precisions_of g) l.precisions;
 }
 
--- what the members of a collection come to
+-- the totals of the members of a collection
 abbrev pub trees_level : Style → Ids → Trees → Level
 trees_level style ids gs = with_each (with_tree style) ids (members gs) blank
 
@@ -91,7 +91,7 @@ simple_measured style p s h =
 
 -- ---- a collection is measured by its members
 
--- its ids are as many as its members
+-- a collection's ids are as many as its members
 pub ids_fit : (ids : Ids) (gs : Trees) → HasIds ids (count gs) → HasIds ids (length (members gs))
 ids_fit ids gs h = subst (HasIds ids) (sym (length-members gs)) h
 
@@ -139,9 +139,9 @@ collection_measured style p ids gs h = record {
   body = body_trees style p ids gs h;
 }
 
--- ---- rows of a geometry, behind each other
+-- ---- the rows of a geometry, one after the other
 
--- rows that come to what a geometry comes to
+-- rows whose totals are those of a geometry
 pub row_is : (style : Style) (g : Tree) (r : Row) (below others below' others' : Level) (ahead ps : List Point) → below ≡ below' → others ≡ others' → r.points ++ ahead ≡ ps
     → IsMeasured style g r.kind (length r.points) below' (tail_of ps) → agreed (One (precision_of g)) below'.precisions ≡ precisions_of g
     → row_level style r.kind (length r.points) r.id (Some (precision_of g)) below (tail_of (r.points ++ ahead)) others ≡ with_tree style r.id g others'
@@ -157,13 +157,13 @@ row_is style g r below others below' others' ahead ps eb eo ep m precisions =
       precisions = agreed (precisions i) others'.precisions;
     })
 
--- and its entry
+-- the entry of such rows is the geometry's
 pub row_entry_is : (style : Style) (g : Tree) (r : Row) (below below' : Level) (ahead ps : List Point) → below ≡ below' → r.points ++ ahead ≡ ps
     → IsMeasured style g r.kind (length r.points) below' (tail_of ps) → entry_for style r.kind (precision_of g) (length r.points) below (tail_of (r.points ++ ahead)) ≡ entry_of style g
 row_entry_is style g r below below' ahead ps eb ep m =
     (λ i. entry_for style r.kind (precision_of g) (length r.points) (eb i) (tail_of (ep i))) ∙ entry_is style g r.kind (length r.points) below' (tail_of ps) m
 
--- rows behind a geometry at this depth: none deeper first, and no part first
+-- the rows after a geometry at this depth: the first is no deeper and not a part
 pub record IsBehind (d : ℕ) (rest : List Row) : Type 0 where
   pub above : IsAbove (suc d) rest
   pub no_part : points_ahead rest ≡ []
@@ -185,7 +185,7 @@ pub simple_points : (style : Style) (d : ℕ) (s : Simple) (rest : List Row) →
 simple_points style d s rest h = ahead_parts style d s rest ∙ ap (λ ps. points_in s ++ ps) h ∙ append-nil (points_in s)
 
 mutual
-  -- what the rows of a geometry come to
+  -- the totals of the rows of a geometry
   pub level_tree : (style : Style) (d : ℕ) (id : Option ℤ) (g : Tree) (rest : List Row) → IsTree g → IsBehind d rest → level style d (rows_with id d g ++ rest) ≡ with_tree style id g (level style d rest)
   level_tree style d id (simple p s) rest fits h =
       let own = own_row id d (simple p s) in
@@ -202,7 +202,7 @@ mutual
       (level_past style d (member_rows (suc d) ids gs) rest (deep-below (suc d) (collection p ids gs))) (behind_members (suc d) ids gs rest (behind_deeper d rest h)).no_part
       (collection_measured style p ids gs (ids_fit ids gs fits.1)) (ap (agreed (One p)) (trees_precisions style ids gs))
 
-  -- and those of members, one after another
+  -- the totals of the rows of members, one after another
   pub level_members : (style : Style) (d : ℕ) (ids : Ids) (gs : Trees) (rest : List Row) → AreTrees gs → IsBehind d rest
       → level style d (member_rows d ids gs ++ rest) ≡ with_each (with_tree style) ids (members gs) (level style d rest)
   level_members style d ids end rest fits h = refl
@@ -213,7 +213,7 @@ mutual
       ∙ ap (with_tree style (first_id ids) g) (level_members style d (other_ids ids) gs rest fits.1 h)
 
 mutual
-  -- the entries of a geometry, and of all members in it
+  -- the entries of a geometry and of all members in it
   pub measured_tree : (style : Style) (d : ℕ) (id : Option ℤ) (g : Tree) (rest : List Row) → IsTree g → IsBehind d rest → measured style (rows_with id d g ++ rest) ≡ sizes_of style g ++ measured style rest
   measured_tree style d id (simple p s) rest fits h =
       let own = own_row id d (simple p s) in

@@ -16,7 +16,7 @@ members_skip d (r ∷ rs) (suc n) deep =
     let here = deep 0 (omega arith) (omega arith) in
     members-past d r rs (omega (arith, here)) ∙ members_skip d rs n (λ j h k. deep (suc j) (omega arith) (omega arith))
 
--- rows that begin no deeper have no members
+-- rows whose first is no deeper have no members
 members_none : (d : ℕ) (rs : List Row) → (0 < length rs → get_or (depths rs) 0 0 ≤ d) → members_below d rs ≡ []
 members_none d [] h = refl
 members_none d (r ∷ rs) h = members-over d r rs (h (omega arith))
@@ -28,12 +28,12 @@ depths_drop [] (suc i) j = refl
 depths_drop (r ∷ rs) (suc i) j =
     depths_drop rs i j ∙ ap (λ (k : ℕ). get_or (depths (r ∷ rs)) k 0) (let e : suc (i + j) ≡ suc i + j = omega arith in e)
 
--- a place of the walk: at a member, or at the end
+-- a place of the walk is at a member, or at the end
 pub record At (rows : List Row) (d end i : ℕ) : Type 0 where
   pub within : i ≤ end
   pub level : i < end → get_or (depths rows) i 0 ≡ d + 1
 
--- where the rows below a row at this depth end
+-- the rows below a row at this depth end there
 pub record Ends (rows : List Row) (d first end : ℕ) : Type 0 where
   pub fits : end ≤ length rows
   pub deeper : (j : ℕ) → first ≤ j → j < end → d < get_or (depths rows) j 0

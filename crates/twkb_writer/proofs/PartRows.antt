@@ -1,4 +1,4 @@
--- The bytes of the rows below a geometry that are parts of it.
+-- The bytes of the rows that are parts of a geometry.
 use Rattle.std.proofs.Common.{◌≡◌, ℕ, suc, List, [], ◌∷◌, ◌++◌, map, length, Option, None, refl, ap, sym, ◌∙◌, append_assoc, append-nil, arith}
 use Rattle.std.specs.Prelude.{ℤ, ◌-ℤ◌, flat_map}
 use Rattle.twkb_num.specs.Varint.{varint_of}
@@ -15,16 +15,16 @@ use Rattle.twkb_writer.specs.Bytes.{rows_bytes, counts_bytes, members_below, ste
 use Rattle.twkb_writer.proofs.WayLemmas.{walked, walked-append, walked-points, reached-points}
 use Rattle.twkb_writer.proofs.BelowLemmas.{Stops, members-each, members-stop, length-each}
 
--- a number, a way, and what follows
+-- a number, some bytes and what follows, regrouped
 pub regroup : (v w x a t : List ℕ) → x ≡ a ++ t → (v ++ w) ++ x ≡ (v ++ (w ++ a)) ++ t
 regroup v w x a t e =
     ap (λ l. (v ++ w) ++ l) e ∙ append_assoc v w (a ++ t) ∙ ap (λ l. v ++ l) (sym (append_assoc w a t)) ∙ sym (append_assoc v (w ++ a) t)
 
--- a kind whose rows say how many points they have
+-- a kind whose rows have a count of points
 abbrev pub IsRun : Kind → Type 0
 IsRun k = (own members : ℕ) (ids : List ℕ) → counts_bytes k own members ids ≡ varint_of own
 
--- rings, or linestrings
+-- the bytes of the rows of rings or linestrings
 pub run_rows : (style : Style) (d : ℕ) (k : Kind) → IsRun k → (ids : Ids) (lines : List (List Point)) (at : Point) (es : List Entry) (rs : List Row)
     → rows_bytes style at es (rows_of_each (λ id ps. plain_row d k id ps ∷ []) ids lines ++ rs)
     ≡ walked at (flat_map run_of lines) ++ rows_bytes style (reached at (flat_map run_of lines)) es rs
@@ -40,16 +40,16 @@ run_rows style d k is ids (ps ∷ lines) at es rs =
     ∙ regroup v (way_bytes at ps) (rows_bytes style (way_end at ps) es after) (walked (way_end at ps) ms) tail more
     ∙ ap (λ l. (v ++ l) ++ tail) (sym (walked-points at ps ms))
 
--- the rings of a polygon
+-- the bytes of the rows of a polygon's rings
 pub ring_rows-bytes : (style : Style) (d : ℕ) (rings : List (List Point)) (at : Point) (es : List Entry) (rs : List Row)
     → rows_bytes style at es (ring_rows d rings ++ rs) ≡ walked at (flat_map run_of rings) ++ rows_bytes style (reached at (flat_map run_of rings)) es rs
 ring_rows-bytes style d rings at es rs = run_rows style d kind.Ring (λ own members ids. refl) None rings at es rs
 
--- a way of one step and more
+-- the bytes of one difference and those after it
 one_step : (at p : Point) (ps : List Point) → way_bytes at (p ∷ []) ++ way_bytes p ps ≡ way_bytes at (p ∷ ps)
 one_step at p ps = ap (λ l. l ++ way_bytes p ps) (append-nil (step_bytes (p.x -ℤ at.x, p.y -ℤ at.y)))
 
--- the points of a multipoint
+-- the bytes of the rows of a multipoint's points
 pub point_rows : (style : Style) (d : ℕ) (ids : Ids) (ps : List Point) (at : Point) (es : List Entry) (rs : List Row)
     → rows_bytes style at es (rows_of_each (λ id p. plain_row d kind.Point id (p ∷ []) ∷ []) ids ps ++ rs) ≡ way_bytes at ps ++ rows_bytes style (way_end at ps) es rs
 point_rows style d ids [] at es rs = refl
@@ -69,12 +69,12 @@ ring_members d rings rs stops =
     ∙ append-nil (rows_of_each (λ id ps. own id ps ∷ []) None rings))
     ∙ length-each own None rings
 
--- polygons stop at their depth
+-- the rows of polygons stop at their depth
 stops_areas : (d : ℕ) (ids : Ids) (areas : List (List (List Point))) (rs : List Row) → Stops d rs → Stops d (rows_of_each (polygon_rows d) ids areas ++ rs)
 stops_areas d ids [] rs h = h
 stops_areas d ids (rings ∷ areas) rs h = omega arith
 
--- the polygons of a multipolygon
+-- the bytes of the rows of a multipolygon's polygons
 pub area_rows : (style : Style) (d : ℕ) (ids : Ids) (areas : List (List (List Point))) (at : Point) (es : List Entry) (rs : List Row) → Stops d rs
     → rows_bytes style at es (rows_of_each (polygon_rows d) ids areas ++ rs) ≡ walked at (flat_map rings_of areas) ++ rows_bytes style (reached at (flat_map rings_of areas)) es rs
 area_rows style d ids [] at es rs stops = refl

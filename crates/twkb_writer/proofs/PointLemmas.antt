@@ -6,24 +6,24 @@ use Rattle.std.proofs.lemmas.Option.{get_or_from_slice_get, slice_get_within}
 use Rattle.twkb_points.specs.Point.{Point}
 use Rattle.twkb_writer.specs.Bytes.{step_bytes, way_bytes, way_end}
 
--- the next of some points, and the others
+-- the next of some points, and the points after it
 pub part_more : (ps : List Point) (i end : ℕ) (p : Point) → i < end → slice_get ps i ≡ Some p → take (end - i) (drop i ps) ≡ p ∷ take (end - (i + 1)) (drop (i + 1) ps)
 part_more ps i end p h e =
     let here : drop i ps ≡ p ∷ drop (i + 1) ps = drop_more ps i p (slice_get_within ps i p e) ∙ ap (λ (q : Point). q ∷ drop (i + 1) ps) (get_or_from_slice_get ps i p p e) in
     let turns : end - i ≡ suc (end - (i + 1)) = omega arith in
     ap (λ (n : ℕ). take n (drop i ps)) turns ∙ ap (take (suc (end - (i + 1)))) here
 
--- the way to it, and on
+-- the differences to the next point and from there on
 pub way_more : (ps : List Point) (i end : ℕ) (at p : Point) → i < end → slice_get ps i ≡ Some p
     → way_bytes at (take (end - i) (drop i ps)) ≡ step_bytes (p.x -ℤ at.x, p.y -ℤ at.y) ++ way_bytes p (take (end - (i + 1)) (drop (i + 1) ps))
 way_more ps i end at p h e = ap (way_bytes at) (part_more ps i end p h e)
 
--- where it ends
+-- the last point of the rest is the last of all
 pub end_more : (ps : List Point) (i end : ℕ) (at p : Point) → i < end → slice_get ps i ≡ Some p
     → way_end at (take (end - i) (drop i ps)) ≡ way_end p (take (end - (i + 1)) (drop (i + 1) ps))
 end_more ps i end at p h e = ap (way_end at) (part_more ps i end p h e)
 
--- the way to the next two, and on
+-- the differences to the next two points and from there on
 pub way_two : (ps : List Point) (i end : ℕ) (at p q : Point) → i + 2 ≤ end → slice_get ps i ≡ Some p → slice_get ps (i + 1) ≡ Some q
     → way_bytes at (take (end - i) (drop i ps)) ≡ (step_bytes (p.x -ℤ at.x, p.y -ℤ at.y) ++ step_bytes (q.x -ℤ p.x, q.y -ℤ p.y)) ++ way_bytes q (take (end - (i + 2)) (drop (i + 2) ps))
 way_two ps i end at p q h e f =
@@ -35,7 +35,7 @@ way_two ps i end at p q h e f =
     ∙ ap (λ k. first ++ (second ++ way_bytes q (take (end - k) (drop k ps)))) place
     ∙ sym (append_assoc first second (way_bytes q (take (end - (i + 2)) (drop (i + 2) ps))))
 
--- where it ends
+-- the last point of the rest after two is the last of all
 pub end_two : (ps : List Point) (i end : ℕ) (at p q : Point) → i + 2 ≤ end → slice_get ps i ≡ Some p → slice_get ps (i + 1) ≡ Some q
     → way_end at (take (end - i) (drop i ps)) ≡ way_end q (take (end - (i + 2)) (drop (i + 2) ps))
 end_two ps i end at p q h e f =

@@ -1,4 +1,4 @@
--- What is known of the precisions of geometries.
+-- The precisions of geometries, as far as a box needs them.
 use Rattle.std.proofs.Common.{◌≡◌, ℤ, pos, negsuc, Bool, true, false, refl, sym, ◌∙◌, ap}
 use Rattle.std.specs.Prelude.{◌&&◌, if◌then◌else◌}
 use Rattle.std.proofs.lemmas.Bool.{eqb-true, eq-eqb}
@@ -8,14 +8,14 @@ use Rattle.twkb_writer.specs.declared.precisions.Precisions.{Precisions}
 use Rattle.twkb_writer.specs.declared.precisions.Precisions.TheVariants.{Absent, One, Several}
 use Rattle.twkb_writer.specs.Precisions.{all_are, agreed}
 
--- numbers that the test finds equal are one
+-- numbers that the test finds equal are equal
 int_eq_is : (m n : ℤ) → int_eq m n ≡ true → m ≡ n
 int_eq_is (pos m) (pos n) h = ap pos (eqb-true m n h)
 int_eq_is (negsuc m) (negsuc n) h = ap negsuc (eqb-true m n h)
 int_eq_is (pos m) (negsuc n) h = cc
 int_eq_is (negsuc m) (pos n) h = cc
 
--- and a number equals itself
+-- a number passes the test with itself
 int_eq_self : (n : ℤ) → int_eq n n ≡ true
 int_eq_self (pos n) = eq-eqb n n refl
 int_eq_self (negsuc n) = eq-eqb n n refl
@@ -32,7 +32,7 @@ and_self : (b : Bool) → b ≡ (b && b)
 and_self true = refl
 and_self false = refl
 
--- a number is not two that differ
+-- a number is not equal to two numbers that differ
 apart : (p q r : ℤ) (b : Bool) → int_eq p q ≡ b → int_eq q r ≡ false → false ≡ (b && int_eq p r)
 apart p q r true h e = sym (ap (λ z. int_eq z r) (int_eq_is p q h) ∙ e)
 apart p q r false h e = refl
@@ -41,7 +41,7 @@ two_ones : (p q r : ℤ) (b : Bool) → int_eq q r ≡ b → all_are p (if b the
 two_ones p q r true e = and_self (int_eq p q) ∙ ap (λ z. int_eq p q && int_eq p z) (int_eq_is q r e)
 two_ones p q r false e = apart p q r (int_eq p q) refl e
 
--- all of both are a number where all of each are
+-- all of both groups have a precision if all of each have it
 pub all_are-agreed : (p : ℤ) (a b : Precisions) → all_are p (agreed a b) ≡ (all_are p a && all_are p b)
 all_are-agreed p Absent b = refl
 all_are-agreed p (One q) Absent = and_true (int_eq p q)
@@ -49,7 +49,7 @@ all_are-agreed p (One q) (One r) = two_ones p q r (int_eq q r) refl
 all_are-agreed p (One q) Several = and_false (int_eq p q)
 all_are-agreed p Several b = refl
 
--- what is known of a geometry and of all members in it
+-- the precisions of a geometry and of all members in it
 abbrev mutual
   pub precisions_of : Tree → Precisions
   precisions_of (simple p s) = One p
@@ -71,12 +71,12 @@ mutual
       ∙ ap (λ b. b && all_are p (precisions_of_all gs)) (all_are-precisions_of p g)
       ∙ ap (λ b. has_precision p g && b) (all_are-precisions_of_all p gs)
 
--- what is known of the members of a geometry
+-- the precisions of the members of a geometry
 abbrev pub members_precisions : Tree → Precisions
 members_precisions (simple p s) = Absent
 members_precisions (collection p ids gs) = precisions_of_all gs
 
--- its members have its precision where all of theirs are it
+-- a geometry's members have its precision if all precisions found are that one
 pub all_are-uniform : (g : Tree) → all_are (precision_of g) (members_precisions g) ≡ uniform g
 all_are-uniform (simple p s) = sym (int_eq_self p)
 all_are-uniform (collection p ids gs) = all_are-precisions_of_all p gs ∙ ap (λ b. b && have_precision p gs) (sym (int_eq_self p))

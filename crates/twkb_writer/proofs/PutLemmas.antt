@@ -7,17 +7,17 @@ use Rattle.twkb_io.specs.Sinks.{TookFront}
 use Rattle.twkb_writer.specs.declared.gatherer.Gatherer.{Gatherer}
 use Rattle.twkb_writer.specs.Putting.{Stands, Put, Progress}
 
--- two appended, one after the other
+-- two lists appended, one after the other
 pub pushed_twice : (left mid now first second : List ℕ) → mid ≡ left ++ first → now ≡ mid ++ second → now ≡ left ++ (first ++ second)
 pushed_twice left mid now first second e f = f ∙ ap (λ (l : List ℕ). l ++ second) e ∙ append_assoc left first second
 
 module _ {S F : Type 0} (took : S → List ℕ → S → Type 0) (refused : S → List ℕ → F → S → Type 0) where
-  -- more is held, or lost behind a refusal
+  -- more bytes are held, or they are lost after a refusal
   more : (from : S) (all bytes held : List ℕ) (o : Option F) (sink : S) → Stands took refused from all o sink held → Stands took refused from (all ++ bytes) o sink (held ++ bytes)
   more from all bytes held None sink h = (h.0, h.1, ap (λ (l : List ℕ). l ++ bytes) h.2 ∙ append_assoc h.0 held bytes)
   more from all bytes held (Some fault) sink h = (h.0, h.1 ++ bytes, ap (λ (l : List ℕ). l ++ bytes) h.2 ∙ append_assoc h.0 h.1 bytes, h.3)
 
-  -- behind a refusal it does not matter what is held
+  -- after a refusal it does not matter which bytes are held
   lost : (from : S) (all held left : List ℕ) (o : Option F) (sink : S) → IsTrue (is_some o) → Stands took refused from all o sink held → Stands took refused from all o sink left
   lost from all held left None sink some h = cc some
   lost from all held left (Some fault) sink some h = h
@@ -49,7 +49,7 @@ module _ {S F : Type 0} (took : S → List ℕ → S → Type 0) (refused : S �
         (subst (λ (fault : _). Stands took refused from (before ++ bytes) fault.now b.sink.now (b.piece.now ++ bytes)) (sym kept) (more from before bytes b.piece.now b.fault.now b.sink.now room)));
   }
 
-  -- the piece was emptied behind a refusal
+  -- the piece was emptied after a refusal
   pub emptied : (a c : Gatherer S F) → IsTrue (is_some a.fault.now) → c.sink ≡ a.sink → c.fault ≡ a.fault → Put took refused a [] c
   emptied a c some same kept = record {
     same_sink = ap (λ (sink : _). sink.ghost_name) same;
@@ -60,7 +60,7 @@ module _ {S F : Type 0} (took : S → List ℕ → S → Type 0) (refused : S �
         (subst (λ (fault : _). Stands took refused from before fault.now a.sink.now c.piece.now) (sym kept) (lost from before a.piece.now c.piece.now a.fault.now a.sink.now some h)));
   }
 
-  -- ---- of all bytes some are left
+  -- ---- bytes that are still to be put
 
   pub begun : (a : Gatherer S F) (all : List ℕ) → Progress took refused a all a all
   begun a all = record { written = []; put = put_none a; total = refl }
@@ -76,7 +76,7 @@ module _ {S F : Type 0} (took : S → List ℕ → S → Type 0) (refused : S �
   finished a b all rest e p =
       subst (λ (l : List ℕ). Put took refused a l b) (sym (append-nil p.written) ∙ ap (λ (l : List ℕ). p.written ++ l) (sym e) ∙ p.total) p.put
 
-  -- behind a refusal it does not matter what is left
+  -- after a refusal it does not matter which bytes are left
   pub given_up : (a b : Gatherer S F) (all rest : List ℕ) → IsTrue (is_some b.fault.now) → Progress took refused a all b rest → Put took refused a all b
   given_up a b all rest some p = record {
     same_sink = p.put.same_sink;
@@ -94,7 +94,7 @@ module _ {S F : Type 0} (took : S → List ℕ → S → Type 0) (refused : S �
       let first : Stands took refused a.sink.now [] None a.sink.now a.piece.now = ([], none, sym empty) in
       p.puts a.sink.now [] (subst (λ (o : Option F). Stands took refused a.sink.now [] o a.sink.now a.piece.now) (sym fresh) first)
 
-  -- that ended without a refusal, and with an empty piece
+  -- such a run that ended without a refusal and with an empty piece
   pub whole_run : (a b c : Gatherer S F) (after : S) (o : Option F) (bytes : List ℕ) → took a.sink.now [] a.sink.now → a.fault.now ≡ None → a.piece.now ≡ [] → Put took refused a bytes b → Put took refused b [] c
       → o ≡ c.fault.now → o ≡ None → c.piece.now ≡ [] → after ≡ c.sink.now → took a.sink.now bytes after
   whole_run a b c after o bytes none fresh empty p q told_is no_fault left same =
@@ -103,7 +103,7 @@ module _ {S F : Type 0} (took : S → List ℕ → S → Type 0) (refused : S �
       let front_is : told.0 ≡ bytes = sym (append-nil told.0) ∙ ap (λ (l : List ℕ). told.0 ++ l) (sym left) ∙ sym told.2 ∙ append-nil bytes in
       subst (took a.sink.now bytes) (sym same) (subst (λ (l : List ℕ). took a.sink.now l c.sink.now) front_is told.1)
 
-  -- that ended with a refusal
+  -- such a run that ended with a refusal
   pub cut_run : (a b c : Gatherer S F) (after : S) (o : Option F) (bytes : List ℕ) (fault : F) → took a.sink.now [] a.sink.now → a.fault.now ≡ None → a.piece.now ≡ [] → Put took refused a bytes b → Put took refused b [] c
       → o ≡ c.fault.now → o ≡ Some fault → after ≡ c.sink.now → TookFront refused a.sink.now bytes fault after
   cut_run a b c after o bytes fault none fresh empty p q told_is some same =
@@ -111,7 +111,7 @@ module _ {S F : Type 0} (took : S → List ℕ → S → Type 0) (refused : S �
       let told : Stands took refused a.sink.now (bytes ++ []) (Some fault) c.sink.now c.piece.now = subst (λ (o : Option F). Stands took refused a.sink.now (bytes ++ []) o c.sink.now c.piece.now) (sym told_is ∙ some) all in
       subst (TookFront refused a.sink.now bytes fault) (sym same) (subst (λ (l : List ℕ). TookFront refused a.sink.now l fault c.sink.now) (append-nil bytes) told)
 
--- what was held is put
+-- the bytes that were held are put
 module _ {S F : Type 0} (took : S → List ℕ → S → Type 0) (refused : S → List ℕ → F → S → Type 0)
     (join : (a b c : S) (xs ys : List ℕ) → took a xs b → took b ys c → took a (xs ++ ys) c)
     (join_refused : (a b c : S) (xs ys : List ℕ) (fault : F) → took a xs b → refused b ys fault c → refused a (xs ++ ys) fault c) where

@@ -53,13 +53,13 @@ reads_row a b c d e n m k p r s t u =
     reads_join a d e (n + (1 + k)) m 0 p (n + (1 + k)) (m + p)
     (reads_join a c d (n + 1) m k 0 (n + (1 + k)) m (reads_join a b c n m 1 0 (n + 1) m r s (omega arith) (omega arith)) t (omega arith) (omega arith)) u (omega arith) (omega arith)
 
--- ---- just so many
+-- ---- exact counts
 
--- no node and no point
+-- no node and no point was read
 pub exactly_none : (w : Work) → w.node_reads < 2 ^ 64 → w.point_reads < 2 ^ 64 → ReadsExactly w 0 0 w
 exactly_none w nodes points = record { node_reads = omega arith; point_reads = omega arith; same_points = refl; same_nodes = refl; same_entries = refl }
 
--- one after the other
+-- exact counts, one after the other, add up
 pub exactly_join : (a b c : Work) (n m k j p q : ℕ) → ReadsExactly a n m b → ReadsExactly b k j c → p ≡ n + k → q ≡ m + j → ReadsExactly a p q c
 exactly_join a b c n m k j p q r s h i = record {
   node_reads = omega (arith, r.node_reads, s.node_reads);
@@ -69,11 +69,11 @@ exactly_join a b c n m k j p q r s h i = record {
   same_entries = s.same_entries ∙ r.same_entries;
 }
 
--- by a count that is the same
+-- exact counts, with a number that is equal
 pub exactly_same : (a c : Work) (n m p : ℕ) → ReadsExactly a n m c → p ≡ m → ReadsExactly a n p c
 exactly_same a c n m p r e = subst (λ k. ReadsExactly a n k c) (sym e) r
 
--- a node more
+-- one more node was read
 pub exactly_node : (a b c : Work) (n m : ℕ) → ReadsExactly a n m b → c ≡ record b { node_reads = saturated (b.node_reads + 1) } → ReadsExactly a (n + 1) m c
 exactly_node a b c n m r e = record {
   node_reads = omega (arith, r.node_reads, ap (λ (w : Work). w.node_reads) e);
@@ -83,7 +83,7 @@ exactly_node a b c n m r e = record {
   same_entries = ap (λ (w : Work). w.entries) e ∙ r.same_entries;
 }
 
--- a point more
+-- one more point was read
 pub exactly_point : (a b c : Work) (n m : ℕ) → ReadsExactly a n m b → c ≡ record b { point_reads = saturated (b.point_reads + 1) } → ReadsExactly a n (m + 1) c
 exactly_point a b c n m r e = record {
   node_reads = ap (λ (w : Work). w.node_reads) e ∙ r.node_reads;

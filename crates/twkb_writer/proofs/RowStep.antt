@@ -19,7 +19,7 @@ use Rattle.twkb_writer.proofs.WalkLemmas.{walks}
 pub rest_is : (rows : List Row) (i : ℕ) (node : Node) (is : IsNode rows i node) → is.rest ≡ drop (i + 1) rows
 rest_is rows i node is = sym (ap (drop 1) is.here) ∙ drop-drop 1 i rows
 
--- all points, by those before, the node's own, and those after
+-- all points are those before the node, the node's own, and those after it
 pub points_split : (rows : List Row) (i : ℕ) (node : Node) (is : IsNode rows i node) → row_points rows ≡ row_points (take i rows) ++ (is.own ++ row_points is.rest)
 points_split rows i node is =
     ap row_points (sym (take-append-drop i rows)) ∙ row_points-append (take i rows) (drop i rows) ∙ ap (λ (rs : List Row). row_points (take i rows) ++ row_points rs) is.here
@@ -31,7 +31,7 @@ own_points rows i node is =
     ∙ ap (take node.points) (drop_at (row_points (take i rows)) (is.own ++ row_points is.rest) node.first.0 is.first)
     ∙ take_at is.own (row_points is.rest) node.points is.count
 
--- they are within all points
+-- the node's own points are within all points
 pub points_within : (rows : List Row) (i : ℕ) (node : Node) → IsNode rows i node → node.first.0 + node.points ≤ length (row_points rows)
 points_within rows i node is =
     omega (arith, ap length (points_split rows i node is), length-append (row_points (take i rows)) (is.own ++ row_points is.rest), length-append is.own (row_points is.rest), is.first, is.count)
@@ -84,17 +84,17 @@ own_geometry : (style : Style) (p : ℤ) (es : List Entry) (h : ℕ) (e : Entry)
 own_geometry style p es h e k d own rs within is =
     ap (λ (l : List Entry). lead style (Some p) l k d own rs) (drop_more es h e within ∙ ap (λ (x : Entry). x ∷ drop (h + 1) es) (sym is))
 
--- a geometry of its own has the entry at its place
+-- a row that is a geometry itself has the entry at its place
 pub own_at : (style : Style) (o : Option ℤ) (p : ℤ) (es : List Entry) (h : ℕ) (e : Entry) (k : Kind) (d own : ℕ) (rs : List Row) → o ≡ Some p → h < length es → e ≡ get_or es h e
     → lead style o (drop h es) k d own rs ≡ geometry_lead style p e k d own rs
 own_at style o p es h e k d own rs some within is =
     ap (λ (q : Option ℤ). lead style q (drop h es) k d own rs) some ∙ own_geometry style p es h e k d own rs within is
 
--- which is there
+-- there is an entry at this place
 pub room_here : (o : Option ℤ) (p : ℤ) (h n : ℕ) → o ≡ Some p → h + entry_count o ≤ n → h < n
 room_here o p h n some room = let one : entry_count o ≡ 1 = ap entry_count some in omega arith
 
--- the way of a row from where it starts, and what follows
+-- the bytes of a row from where it starts, and the bytes after them
 pub next_rows : (style : Style) (p : Option ℤ) (es : List Entry) (h after : ℕ) (at last from : Point) (ps : List Point) (rs : List Row)
     → after ≡ h + entry_count p → from ≡ way_start p at → last ≡ way_end from ps
     → way_bytes (way_start p at) ps ++ rows_bytes style (way_end (way_start p at) ps) (drop (entry_count p) (drop h es)) rs ≡ way_bytes from ps ++ rows_bytes style last (drop after es) rs

@@ -1,4 +1,4 @@
--- How many sizes there are.
+-- The number of sizes.
 use Rattle.std.proofs.Common.{◌≡◌, ◌∙◌, List, [], ◌∷◌, length, suc, refl, sym, ap, arith, length-append}
 use Rattle.twkb_tree.specs.Tree.{Tree, simple, collection, Trees, end, ◌▷◌, IsTree}
 use Rattle.twkb_tree.specs.Rows.{Row, rows}
@@ -10,7 +10,7 @@ use Rattle.twkb_writer.specs.Sizes.{AreSizes, sizes_of, sizes_of_all}
 use Rattle.twkb_writer.proofs.WrittenRows.{some_row}
 
 mutual
-  -- an entry for each TWKB geometry
+  -- there is one entry for each TWKB geometry
   length-sizes_of : (style : Style) (g : Tree) → length (sizes_of style g) ≡ geometries g
   length-sizes_of style (simple p s) = refl
   length-sizes_of style (collection p ids gs) = ap suc (length-sizes_of_all style gs)

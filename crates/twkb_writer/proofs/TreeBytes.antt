@@ -23,7 +23,7 @@ use Rattle.twkb_writer.proofs.HeaderLemmas.{headed}
 
 -- ---- id lists
 
--- an id list, and places after it
+-- the bytes of an id list, and of places after it
 walked-id_places : (at : Point) (ids : Ids) (ms : List Place) → walked at (id_places ids ++ ms) ≡ walked at (id_places ids) ++ walked at ms
 walked-id_places at None ms = refl
 walked-id_places at (Some ids) ms = walked-ids at ids ms
@@ -32,7 +32,7 @@ reached-id_places : (at : Point) (ids : Ids) (ms : List Place) → reached at (i
 reached-id_places at None ms = refl
 reached-id_places at (Some ids) ms = reached-ids at ids ms
 
--- the ids of the rows below, where there are ids
+-- the ids of the rows below, if there are ids
 part_ids : {A : Type 0} (d : ℕ) (f : Option ℤ → A → List Row) (own : Option ℤ → A → Row) (deeper : Option ℤ → A → List Row)
     → ((id : Option ℤ) (x : A) → f id x ≡ own id x ∷ deeper id x) → ((id : Option ℤ) (x : A) → (own id x).depth ≡ suc d) → ((id : Option ℤ) (x : A) → AreDeep (suc (suc d)) (deeper id x))
     → ((id : Option ℤ) (x : A) → (own id x).id ≡ id) → (at : Point) (ids : Ids) (xs : List A) (rs : List Row) → Stops d rs → HasIds ids (length xs)
@@ -46,7 +46,7 @@ part_ids d f own deeper is level deep same at (Some ids) xs rs stops h =
 
 -- ---- bodies
 
--- count, ids, and what follows
+-- the bytes of a count, ids, and what follows
 many_body : (v named ids x w t body : List ℕ) → named ≡ ids → x ≡ w ++ t → body ≡ v ++ (ids ++ w) → (v ++ named) ++ x ≡ body ++ t
 many_body v named ids x w t body e f g = ap (λ l. (v ++ l) ++ x) e ∙ regroup v ids x w t f ∙ ap (λ l. l ++ t) (sym g)
 
@@ -55,7 +55,7 @@ has_body : {A : Type 0} (ids : Ids) (x : A) (xs : List A) (body : List ℕ) → 
 has_body None x xs body = refl
 has_body (Some ids) x xs body = refl
 
--- and so has a collection
+-- a collection with a member has a body
 collection_body : (ids : Ids) (g : Tree) (gs : Trees) (body : List ℕ) → (if is_empty (flags_all ids (g ▷ gs)) then [] else body) ≡ body
 collection_body None g gs body = refl
 collection_body (Some ids) g gs body = refl
@@ -65,11 +65,11 @@ multi_body : (c : Counted) (n : ℕ) (ids : Ids) (ms : List Place) (body : List 
     → body ≡ varint_of n ++ (walked origin (id_places ids) ++ walked origin ms)
 multi_body c n ids ms body e = e ∙ ap (λ l. varint_of n ++ l) (walked-id_places origin ids ms)
 
--- where it ends
+-- the point after the body of a multi type
 multi_end : (style : Style) (ids : Ids) (ms : List Place) (es : List Entry) (rs : List Row) → rows_bytes style (reached origin ms) es rs ≡ rows_bytes style (reached origin (id_places ids ++ ms)) es rs
 multi_end style ids ms es rs = ap (λ p. rows_bytes style p es rs) (sym (reached-id_places origin ids ms))
 
--- what the writer puts behind the header of a simple shape at depth d, before other rows
+-- the bytes after the header of a simple shape at depth d, before other rows
 abbrev put_body : Style → ℤ → Simple → ℕ → List Entry → List Row → List ℕ
 put_body style p s d es rs =
     (if is_bare (length (own_points s)) (entry_of style (simple p s)) then [] else counts_bytes (kind_in s) (length (own_points s)) (parts_in s) (if is_some (ids_in s) then ids_bytes (members_below d (rows_below (suc d) s ++ rs)) else []))
@@ -124,17 +124,18 @@ pub lead_join : (h b w x body t blob : List ℕ) → b ++ (w ++ x) ≡ body ++ t
 lead_join h b w x body t blob e f =
     append_assoc (h ++ b) w x ∙ append_assoc h b (w ++ x) ∙ ap (λ l. h ++ l) e ∙ sym (append_assoc h body t) ∙ ap (λ l. l ++ t) f
 
--- the bytes of a geometry's rows before others are its canonical blob, and the others go on from some place
+-- the bytes of a geometry's rows before others are its canonical blob, and the others go on from
+-- some point
 abbrev Spelled : Style → List ℕ → Point → List Entry → List Row → List Entry → List Row → Type 0
 Spelled style blob at all whole es rs = (after : Point) × (rows_bytes style at all whole ≡ blob ++ rows_bytes style after es rs)
 
--- the next member stops the rows of the one before it
+-- the first row of the next member stops the rows of the one before it
 stops_members : (d : ℕ) (ids : Ids) (gs : Trees) (rs : List Row) → Stops d rs → Stops d (member_rows d ids gs ++ rs)
 stops_members d ids end rs h = h
 stops_members d ids (simple p s ▷ gs) rs h = omega arith
 stops_members d ids (collection p is hs ▷ gs) rs h = omega arith
 
--- the members as a list are as many
+-- the members as a list are as many as the members
 length-members : (gs : Trees) → length (members gs) ≡ count gs
 length-members end = refl
 length-members (g ▷ gs) = let more = length-members gs in omega (arith, more)
@@ -155,12 +156,12 @@ id_fields-walked : (ids : Ids) → varints (id_fields ids) ≡ walked origin (id
 id_fields-walked None = refl
 id_fields-walked (Some ids) = filled-ids origin ids
 
--- what stands between the header of a geometry's row and its points, with the rows below it
+-- what comes between the header of a geometry's row and its points, given the rows below it
 abbrev counts_of : Style → Tree → Row → List Row → List ℕ
 counts_of style g r below =
     if is_bare (length r.points) (entry_of style g) then [] else counts_bytes r.kind (length r.points) (part_count g) (if is_some (ids_of g) then ids_bytes (members_below r.depth below) else [])
 
--- a geometry whose body is put behind its header
+-- a geometry whose body comes after its header
 geometry_spelled : (style : Style) (g : Tree) (id : Option ℤ) (d : ℕ) (at : Point) (es : List Entry) (below : List Row) (t : List ℕ) → IsTree g
     → counts_of style g (own_row id d g) below ++ (way_bytes origin (own_row id d g).points ++ rows_bytes style (way_end origin (own_row id d g).points) es below) ≡ own_body style g ++ t
     → rows_bytes style at (entry_of style g ∷ es) (own_row id d g ∷ below) ≡ canonical_blob style g ++ t

@@ -1,4 +1,4 @@
--- What a geometry comes to, by its tree: parts and members from the last to the first.
+-- The totals of a geometry, from its tree: parts and members from the last to the first.
 use Rattle.std.proofs.Common.{◌≡◌, ℕ, zero, suc, ◌+◌, ◌-◌, ◌<◌, ◌≤◌, List, [], ◌∷◌, ◌++◌, length, drop, get_or, Option, None, Some, refl, sym, ◌∙◌, ap, arith, append_assoc, append-nil, length-append}
 use Rattle.std.specs.Prelude.{ℤ, flat_map}
 use Rattle.std.proofs.lemmas.List.{at_drop_more, drop_all}
@@ -28,9 +28,9 @@ use Rattle.twkb_writer.proofs.MeasuringParts.{with_each, with_row_of, with_polyg
 use Rattle.twkb_writer.proofs.MeasuringTotals.{IsCounted, members_each}
 use Rattle.twkb_writer.proofs.MeasuringTrees.{with_tree, trees_level, row_is, simple_points, simple_measured, collection_measured, trees_precisions, ids_fit, level_members}
 
--- ---- from a place on
+-- ---- lists from a place on
 
--- a list from the place before one
+-- a list from the place before another one
 from_before : {A : Type 0} (xs : List A) (k : ℕ) (x : A) → 0 < k → k ≤ length xs → x ≡ get_or xs (k - 1) x → drop (k - 1) xs ≡ x ∷ drop k xs
 from_before xs k x some within read =
     let next : k - 1 + 1 ≡ k = omega arith in
@@ -40,7 +40,7 @@ from_before xs k x some within read =
 other_before : (k : ℕ) (ids : Ids) → 0 < k → other_ids (ids_from (k - 1) ids) ≡ ids_from k ids
 other_before k ids some = let next : suc (k - 1) ≡ k = omega arith in other_from (k - 1) ids ∙ ap (λ n. ids_from n ids) next
 
--- with the part at that place before those after it
+-- the totals with the part before those after it
 pub each_back : {A : Type 0} (w : Option ℤ → A → Level → Level) (ids : Ids) (xs : List A) (k : ℕ) (x : A) (l new : Level) → 0 < k → k ≤ length xs → x ≡ get_or xs (k - 1) x
     → l ≡ with_each w (ids_from k ids) (drop k xs) blank → new ≡ w (first_id (ids_from (k - 1) ids)) x l → new ≡ with_each w (ids_from (k - 1) ids) (drop (k - 1) xs) blank
 each_back w ids xs k x l new some within read behind is =
@@ -48,23 +48,23 @@ each_back w ids xs k x l new some within read behind is =
     ∙ ap (w (first_id (ids_from (k - 1) ids)) x) (behind ∙ ap (λ js. with_each w js (drop k xs) blank) (sym (other_before k ids some)))
     ∙ ap (λ ys. with_each w (ids_from (k - 1) ids) ys blank) (sym (from_before xs k x some within read))
 
--- from the end on there is none
+-- from the end on there are no parts
 pub each_none : {A : Type 0} (w : Option ℤ → A → Level → Level) (ids : Ids) (xs : List A) (k : ℕ) (l : Level) → length xs ≤ k → l ≡ blank → l ≡ with_each w (ids_from k ids) (drop k xs) blank
 each_none w ids xs k l past none = none ∙ ap (λ ys. with_each w (ids_from k ids) ys blank) (sym (drop_all k xs past))
 
--- from the start on there are all
+-- from the start on there are all parts
 pub each_all : {A : Type 0} (w : Option ℤ → A → Level → Level) (ids : Ids) (xs : List A) (k : ℕ) (l : Level) → k ≤ 0 → l ≡ with_each w (ids_from k ids) (drop k xs) blank → l ≡ with_each w ids xs blank
 each_all w ids xs k l start is =
     let none : k ≡ 0 = omega arith in
     is ∙ ap (λ n. with_each w (ids_from n ids) (drop n xs) blank) none ∙ ap (λ js. with_each w js xs blank) (ids_from_start ids)
 
--- the points of parts from a place on are no more than all
+-- the parts from a place on have at most as many points as all
 pub fewer_points : {A : Type 0} (f : A → List Point) (k : ℕ) (xs : List A) → length (flat_map f (drop k xs)) ≤ length (flat_map f xs)
 fewer_points f zero xs = omega arith
 fewer_points f (suc k) [] = omega arith
 fewer_points f (suc k) (x ∷ xs) = omega (arith, fewer_points f k xs, length-append (f x) (flat_map f xs))
 
--- those of a part and of the parts after it
+-- the points of a part and of the parts after it
 pub count_back : {A : Type 0} (f : A → List Point) (xs : List A) (k : ℕ) (x : A) → 0 < k → k ≤ length xs → x ≡ get_or xs (k - 1) x
     → length (flat_map f (drop (k - 1) xs)) ≡ length (f x) + length (flat_map f (drop k xs))
 count_back f xs k x some within read = ap (λ ys. length (flat_map f ys)) (from_before xs k x some within read) ∙ length-append (f x) (flat_map f (drop k xs))
@@ -75,21 +75,21 @@ pub tail_back : {A : Type 0} (f : A → List Point) (xs : List A) (k : ℕ) (x :
 tail_back f xs k x ahead new some within read is =
     is ∙ ap tail_of (sym (append_assoc (f x) (flat_map f (drop k xs)) ahead)) ∙ ap (λ ys. tail_of (flat_map f ys ++ ahead)) (sym (from_before xs k x some within read))
 
--- no points from the end on
+-- from the end on there are no points
 pub tail_end : {A : Type 0} (f : A → List Point) (xs : List A) (k : ℕ) (ahead : List Point) (t : Tail) → length xs ≤ k → t ≡ tail_of ahead → t ≡ tail_of (flat_map f (drop k xs) ++ ahead)
 tail_end f xs k ahead t past is = is ∙ ap (λ ys. tail_of (flat_map f ys ++ ahead)) (sym (drop_all k xs past))
 
--- how many parts there are from a place on
+-- the number of parts from a place on
 pub length_back : {A : Type 0} (xs : List A) (k : ℕ) (x : A) → 0 < k → k ≤ length xs → x ≡ get_or xs (k - 1) x → length (drop (k - 1) xs) ≡ 1 + length (drop k xs)
 length_back xs k x some within read = omega (arith, ap (λ ys. length ys) (from_before xs k x some within read))
 
--- they are no more than all
+-- from a place on there are at most as many parts as in all
 pub fewer : {A : Type 0} (k : ℕ) (xs : List A) → length (drop k xs) ≤ length xs
 fewer zero xs = omega arith
 fewer (suc k) [] = omega arith
 fewer (suc k) (x ∷ xs) = omega (arith, fewer k xs)
 
--- how many rows polygons have from a place on
+-- the number of rows of polygons from a place on
 pub areas_back : (xs : List (List (List Point))) (k : ℕ) (x : List (List Point)) → 0 < k → k ≤ length xs → x ≡ get_or xs (k - 1) x → area_nodes (drop (k - 1) xs) ≡ 1 + length x + area_nodes (drop k xs)
 areas_back xs k x some within read = omega (arith, ap area_nodes (from_before xs k x some within read))
 
@@ -98,7 +98,7 @@ fewer_areas zero xs = omega arith
 fewer_areas (suc k) [] = omega arith
 fewer_areas (suc k) (x ∷ xs) = omega (arith, fewer_areas k xs)
 
--- no polygon has more rings than all have rows
+-- a polygon has at most as many rings as all polygons have rows
 pub area_within : (xs : List (List (List Point))) (k : ℕ) (x : List (List Point)) → 0 < k → k ≤ length xs → x ≡ get_or xs (k - 1) x → length x ≤ area_nodes xs
 area_within xs k x some within read = omega (arith, areas_back xs k x some within read, fewer_areas (k - 1) xs)
 
@@ -107,7 +107,7 @@ pub areas_have_rows : (xs : List (List (List Point))) → length xs ≤ area_nod
 areas_have_rows [] = omega arith
 areas_have_rows (x ∷ xs) = omega (arith, areas_have_rows xs)
 
--- how many rows and points members have from a place on
+-- the numbers of rows and points of members from a place on
 pub nodes_back : (xs : List Tree) (k : ℕ) (x : Tree) → 0 < k → k ≤ length xs → x ≡ get_or xs (k - 1) x → nodes_all (trees (drop (k - 1) xs)) ≡ nodes x + nodes_all (trees (drop k xs))
 nodes_back xs k x some within read = ap (λ ys. nodes_all (trees ys)) (from_before xs k x some within read)
 
@@ -131,7 +131,7 @@ fewer_flat zero xs = omega arith
 fewer_flat (suc k) [] = omega arith
 fewer_flat (suc k) (x ∷ xs) = omega (arith, fewer_flat k xs, length-append (flat x) (flat_all (trees xs)))
 
--- its own row has no more points than the geometry
+-- a geometry's own row has at most as many points as the geometry
 pub own_within : (id : Option ℤ) (g : Tree) → length (own_row id 0 g).points ≤ length (flat g)
 own_within id (simple p (point o)) = omega arith
 own_within id (simple p (line ps)) = omega arith
@@ -141,31 +141,31 @@ own_within id (simple p (multi_line ids lines)) = omega arith
 own_within id (simple p (multi_polygon ids areas)) = omega arith
 own_within id (collection p ids gs) = omega arith
 
--- a geometry by its shape
+-- a geometry with a known shape
 pub by_shape : (p : ℤ) (shape told : Shape) (g : Tree) → tree_of p shape ≡ g → shape ≡ told → tree_of p told ≡ g
 by_shape p shape told g whole is = ap (tree_of p) (sym is) ∙ whole
 
--- ---- rows of parts
+-- ---- the rows of parts
 
 level_end : {A : Type 0} (d : ℕ) (f : Option ℤ → A → List Row) (w : Option ℤ → A → Level → Level) (g : A → List Point) → IsPart Full d f w g → (ids : Ids) (xs : List A)
     → with_each w ids xs blank ≡ level Full d (rows_of_each f ids xs)
 level_end d f w g part ids xs = sym (level_each Full d f w g part ids xs [] tt) ∙ ap (level Full d) (append-nil (rows_of_each f ids xs))
 
--- parts of one row each
+-- the totals of parts of one row each
 pub parts_are : {A : Type 0} (kind : Kind) (own : A → List Point) (ids : Ids) (xs : List A) (k : ℕ) (l : Level) → k ≤ 0 → l ≡ with_each (with_row_of kind own) (ids_from k ids) (drop k xs) blank
     → l ≡ level Full 0 (rows_of_each (λ id part. plain_row 0 kind id (own part) ∷ []) ids xs)
 parts_are kind own ids xs k l start is =
     each_all (with_row_of kind own) ids xs k l start is ∙ level_end 0 (λ id part. plain_row 0 kind id (own part) ∷ []) (with_row_of kind own) own (one_part Full 0 kind own) ids xs
 
--- polygons
+-- the totals of polygons
 pub areas_are : (ids : Ids) (xs : List (List (List Point))) (k : ℕ) (l : Level) → k ≤ 0 → l ≡ with_each with_polygon (ids_from k ids) (drop k xs) blank → l ≡ level Full 0 (rows_of_each (polygon_rows 0) ids xs)
 areas_are ids xs k l start is = each_all with_polygon ids xs k l start is ∙ level_end 0 (polygon_rows 0) with_polygon flatten (polygon_part Full 0) ids xs
 
--- the rings of one polygon
+-- the totals of the rings of one polygon
 pub rings_are : (rings : List (List Point)) (l : Level) → l ≡ level Full 0 (ring_rows 0 rings) → l ≡ rings_level rings
 rings_are rings l is = is ∙ ap (level Full 0) (sym (append-nil (ring_rows 0 rings))) ∙ level_rings Full 0 rings [] tt
 
--- members of a collection
+-- the totals of the members of a collection
 pub members_are : (ids : Ids) (xs : List Tree) (k : ℕ) (l : Level) → AreTrees (trees xs) → k ≤ 0 → l ≡ with_each (with_tree Full) (ids_from k ids) (drop k xs) blank → l ≡ level Full 0 (member_rows 0 ids (trees xs))
 members_are ids xs k l fits start is =
     each_all (with_tree Full) ids xs k l start is
@@ -173,23 +173,23 @@ members_are ids xs k l fits start is =
     ∙ sym (level_members Full 0 ids (trees xs) [] fits (record { above = tt; no_part = refl }))
     ∙ ap (level Full 0) (append-nil (member_rows 0 ids (trees xs)))
 
--- how many parts were counted
+-- at most as many parts are counted as there are
 pub counted_from : {A : Type 0} (w : Option ℤ → A → Level → Level) → IsCounted w → (ids : Ids) (k : ℕ) (xs : List A) (l : Level) → l ≡ with_each w (ids_from k ids) (drop k xs) blank → l.members ≤ length xs
 counted_from w counted ids k xs l is = omega (arith, ap (λ (m : Level). m.members) is, members_each w counted (ids_from k ids) (drop k xs), fewer k xs)
 
--- ---- with one more before them
+-- ---- totals with one more part before the others
 
--- with a part of one row
+-- the totals with one more part of one row
 pub part_more : {A : Type 0} (kind : Kind) (own : A → List Point) (ids : Ids) (j : ℕ) (x : A) (ps : List Point) (id : Option ℤ) (below l new : Level)
     → ps ≡ own x → id ≡ first_id (ids_from j ids) → below ≡ blank → new ≡ with_part kind (length ps) id below l → new ≡ with_row_of kind own (first_id (ids_from j ids)) x l
 part_more kind own ids j x ps id below l new ep ei eb is = is ∙ (λ i. with_part kind (length (ep i)) (ei i) (eb i) l)
 
--- with a polygon
+-- the totals with one more polygon
 pub polygon_more : (ids : Ids) (j : ℕ) (x : List (List Point)) (id : Option ℤ) (below l new : Level)
     → id ≡ first_id (ids_from j ids) → below ≡ level Full 0 (ring_rows 0 x) → new ≡ with_part kinds.Polygon 0 id below l → new ≡ with_polygon (first_id (ids_from j ids)) x l
 polygon_more ids j x id below l new ei eb is = is ∙ (λ i. with_part kinds.Polygon 0 (ei i) (rings_are x below eb i) l)
 
--- with a geometry of this row of its own, these rows below it and these points
+-- the totals with one more geometry, by its own row, the rows below it and its points
 pub geometry_more : (g : Tree) (id : Option ℤ) (kind : Kind) (ps : List Point) (p : ℤ) (below : Level) (t : Tail) (e : Entry) (l new : Level)
     → own_row id 0 g ≡ whole_row 0 kind id (precision_of g) ps → p ≡ precision_of g → below ≡ level_under g → t ≡ tail_of (way_of g)
     → e ≡ entry_for Full kind p (length ps) below t → new ≡ with_geometry Full e.size p id below t l → new ≡ tree_level id g l
@@ -201,7 +201,7 @@ geometry_more g id kind ps p below t e l new er ep eb et ee is =
 
 -- ---- geometries
 
--- rows with a geometry before them
+-- the totals of rows with a geometry before them
 pub tree_level_is : (id : Option ℤ) (g : Tree) (l : Level) → IsTree g → tree_level id g l ≡ with_tree Full id g l
 tree_level_is id (simple p s) l fits =
     let own = own_row id 0 (simple p s) in
@@ -216,7 +216,7 @@ tree_level_is id (collection p ids gs) l fits =
     ap (level Full 0) (sym (append-nil (member_rows 0 ids gs))) ∙ level_members Full 0 ids gs [] fits.2 (record { above = tt; no_part = refl }) in
     row_is Full (collection p ids gs) own (level Full 0 (member_rows 0 ids gs)) l (trees_level Full ids gs) l [] [] below refl refl (collection_measured Full p ids gs (ids_fit ids gs fits.1)) (ap (agreed (One p)) (trees_precisions Full ids gs))
 
--- with a member
+-- the totals with one more member
 pub member_more : (ids : Ids) (j : ℕ) (g : Tree) (id : Option ℤ) (l new : Level) → IsTree g → id ≡ first_id (ids_from j ids) → new ≡ tree_level id g l → new ≡ with_tree Full (first_id (ids_from j ids)) g l
 member_more ids j g id l new fits ei is = is ∙ tree_level_is id g l fits ∙ ap (λ o. with_tree Full o g l) ei
 

@@ -1,16 +1,17 @@
--- No row is a member of two others, so a walk over the members of each row reads each row once at most.
+-- No row is a member of two others, so walking over the members of each row reads each row at
+-- most once.
 use Rattle.std.proofs.Common.{◌≡◌, inl, inr, ℕ, zero, suc, ◌+◌, ◌-◌, ◌*◌, ◌<◌, ◌≤◌, List, [], ◌∷◌, length, refl, ap, arith}
 use Rattle.std.proofs.lemmas.Bool.{cases_lt}
 use Rattle.twkb_tree.specs.Rows.{Row}
 use Rattle.twkb_writer.specs.Bytes.{members_below}
 use Rattle.twkb_writer.proofs.BelowLemmas.{members-one, members-over, members-past}
 
--- each row, and its members once more
+-- the number of rows, and their members counted once more
 abbrev pub walks : List Row → ℕ
 walks [] = 0
 walks (r ∷ rs) = 1 + length (members_below r.depth rs) + walks rs
 
--- the rows that have no row before them as their parent, at the levels below n
+-- the number of rows whose parent is not among these rows, at the levels below n
 abbrev opens : ℕ → List Row → ℕ
 opens zero rs = 0
 opens (suc n) rs = opens n rs + length (members_below n rs)

@@ -14,13 +14,13 @@ use Rattle.twkb_writer.specs.Bytes.{entries_in, rows_bytes}
 use Rattle.twkb_writer.specs.Sizes.{AreSizes, sizes_of, sizes_of_all}
 use Rattle.twkb_writer.proofs.TreeBytes.{rows_spell}
 
--- ---- as many entries as rows that are geometries
+-- ---- there are as many entries as rows that are geometries
 
 entries-append : (xs ys : List Row) → entries_in (xs ++ ys) ≡ entries_in xs + entries_in ys
 entries-append [] ys = omega arith
 entries-append (x ∷ xs) ys = let more = entries-append xs ys in omega (arith, more)
 
--- parts have none
+-- parts have no entries
 entries-each : {A : Type 0} (f : Option ℤ → A → List Row) → ((id : Option ℤ) (x : A) → entries_in (f id x) ≡ 0) → (ids : Ids) (xs : List A) → entries_in (rows_of_each f ids xs) ≡ 0
 entries-each f none ids [] = refl
 entries-each f none ids (x ∷ xs) =
@@ -53,16 +53,16 @@ mutual
       let both = entries-append (rows_with (first_id ids) d g) (member_rows d (other_ids ids) gs) in
       omega (arith, one, all, both, length-append (sizes_of style g) (sizes_of_all style gs))
 
--- the sizes of rows are as many as their entries
+-- there are as many sizes as the rows have entries
 pub sizes_suffice : (style : Style) (rs : List Row) (es : List Entry) → AreSizes style rs es → entries_in rs ≤ length es
 sizes_suffice style [] es sizes = omega arith
 sizes_suffice style (r ∷ rs) es sizes =
     let count = entries-tree style None 0 sizes.0 in
     omega (arith, count, ap entries_in sizes.2, ap length sizes.3)
 
--- ---- their bytes
+-- ---- the bytes of the rows
 
--- a geometry has a row
+-- a geometry has at least one row
 pub some_row : (g : Tree) → rows 0 g ≡ [] → ⊥
 some_row (simple p s) e = cc e
 some_row (collection p ids gs) e = cc e
@@ -83,7 +83,7 @@ pub took_blob : {S : Type 0} (took : S → List ℕ → S → Type 0) (a b : S) 
     → (g : Tree) → IsTree g → rows 0 g ≡ rs → took a (canonical_blob style g) b
 took_blob took a b style rs es sizes taken g t e = subst (λ (l : List ℕ). took a l b) (rows_written style rs es sizes g t e) taken
 
--- one that took a front of them took a front of the blob
+-- a sink that took a prefix of these bytes took a prefix of the blob
 pub took_front : {S F : Type 0} (refused : S → List ℕ → F → S → Type 0) (a b : S) (fault : F) (style : Style) (rs : List Row) (es : List Entry) → AreSizes style rs es
     → TookFront refused a (rows_bytes style origin es rs) fault b → (g : Tree) → IsTree g → rows 0 g ≡ rs → TookFront refused a (canonical_blob style g) fault b
 took_front refused a b fault style rs es sizes front g t e = subst (λ (l : List ℕ). TookFront refused a l fault b) (rows_written style rs es sizes g t e) front

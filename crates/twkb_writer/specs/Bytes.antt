@@ -1,4 +1,4 @@
--- The bytes that rows in preorder stand for, with what was measured of their geometries.
+-- The bytes that rows in preorder stand for, given what was measured of their geometries.
 use Rattle.std.specs.Prelude.{ℕ, zero, suc, ◌+◌, Bool, true, false, if◌then◌else◌, nat_le, nat_eq, not, ◌&&◌, is_some, List, [], ◌∷◌, ◌++◌, length, drop, flat_map, ℤ, Option, None, Some}
 use Rattle.twkb_num.specs.Zigzag.{zigzag_of}
 use Rattle.twkb_num.specs.Varint.{varint_of}
@@ -17,7 +17,7 @@ use Rattle.twkb_writer.specs.declared.sizes.Entry.{Entry}
 
 -- ---- numbers
 
--- a whole number: the shortest varint of its zigzag form (TWKB, zigzag)
+-- a signed number: the shortest varint of its zigzag form (TWKB, zigzag)
 abbrev pub signed : ℤ → List ℕ
 signed n = varint_of (zigzag_of n)
 
@@ -25,23 +25,24 @@ signed n = varint_of (zigzag_of n)
 abbrev pub step_bytes : ℤ × ℤ → List ℕ
 step_bytes d = signed d.0 ++ signed d.1
 
--- the way from a place through some points (TWKB, point arrays)
+-- the differences from a place through some points (TWKB, point arrays)
 abbrev pub way_bytes : Point → List Point → List ℕ
 way_bytes at ps = flat_map step_bytes (differences_from at ps)
 
--- where the way ends
+-- the last of the points, or the place if there are none
 abbrev pub way_end : Point → List Point → Point
 way_end at [] = at
 way_end at (p ∷ ps) = way_end p ps
 
 -- ---- members
 
--- of the rows after a row at this depth its members: the rows one deeper, up to the first row that is no deeper than it
+-- the members of a row among the rows after it: the rows one level deeper, up to the first row
+-- that is no deeper than it
 abbrev pub members_below : ℕ → List Row → List Row
 members_below d [] = []
 members_below d (r ∷ rs) = if nat_le r.depth d then [] else if nat_eq r.depth (suc d) then r ∷ members_below d rs else members_below d rs
 
--- an id, where there is one
+-- an id, if there is one
 abbrev pub id_bytes : Option ℤ → List ℕ
 id_bytes None = []
 id_bytes (Some n) = signed n
@@ -50,8 +51,8 @@ id_bytes (Some n) = signed n
 abbrev pub ids_bytes : List Row → List ℕ
 ids_bytes rs = flat_map (λ (r : Row). id_bytes r.id) rs
 
--- what stands before the points of a row: npoints of a linestring or ring, the count and the ids of members (TWKB,
--- description of types)
+-- what comes before the points of a row: npoints of a linestring or ring, or the count and the
+-- ids of members (TWKB, description of types)
 abbrev pub counts_bytes : Kind → ℕ → ℕ → List ℕ → List ℕ
 counts_bytes kind.Point own members ids = []
 counts_bytes kind.Linestring own members ids = varint_of own
@@ -69,16 +70,17 @@ abbrev pub is_zero : ℕ → Bool
 is_zero zero = true
 is_zero (suc n) = false
 
--- a geometry with so many points of its own has no body (profile)
+-- a geometry with this many points in its own row has no body (profile)
 abbrev pub is_bare : ℕ → Entry → Bool
 is_bare own e = is_zero own && is_zero e.members
 
--- there are sizes and boxes in a style
+-- whether blobs of a style have sizes and boxes
 abbrev pub is_full : Style → Bool
 is_full Full = true
 is_full Plain = false
 
--- what the metadata byte says in a style: ids are there only with a body, size and box only in a full blob (TWKB, metadata header; profile)
+-- the flags of the metadata byte in a style: ids only with a body, size and box only in a full
+-- blob (TWKB, metadata header; profile)
 abbrev pub flags_of : Style → ℕ → Entry → MetadataFlags
 flags_of style own e = record {
   has_box = is_full style && is_some e.bounds;
@@ -107,40 +109,41 @@ header style k p own e = type_byte k p ∷ metadata_of style own e ∷ (size_byt
 
 -- ---- rows
 
--- what stands before the points of a row of this kind and depth, with so many points of its own and these rows after it:
--- where it is a geometry of its own
+-- what comes before the points of a row that is a geometry itself, with its kind and depth, the
+-- number of its points and the rows after it
 abbrev pub geometry_lead : Style → ℤ → Entry → Kind → ℕ → ℕ → List Row → List ℕ
 geometry_lead style p e k d own rs =
     header style k p own e ++ (if is_bare own e then [] else counts_bytes k own e.members (if e.named then ids_bytes (members_below d rs) else []))
 
--- and where it is a part of a geometry: a ring, or a member of a multi type
+-- what comes before the points of a part of a geometry: a ring, or a member of a multi type
 abbrev pub part_lead : Kind → ℕ → ℕ → List Row → List ℕ
 part_lead k d own rs = counts_bytes k own (length (members_below d rs)) []
 
--- of any row, which is a geometry of its own where it has a precision
+-- what comes before the points of any row; it is a geometry itself if it has a precision
 abbrev pub lead : Style → Option ℤ → List Entry → Kind → ℕ → ℕ → List Row → List ℕ
 lead style None es k d own rs = part_lead k d own rs
 lead style (Some p) [] k d own rs = []
 lead style (Some p) (e ∷ es) k d own rs = geometry_lead style p e k d own rs
 
--- the way goes on through the parts of a geometry, and begins at the origin in a geometry of its own (profile)
+-- the place from which the points of a row count: the origin for a geometry itself, and for a
+-- part the point before it (profile)
 abbrev pub way_start : Option ℤ → Point → Point
 way_start None at = at
 way_start (Some p) at = origin
 
--- how many entries a row has
+-- the number of entries of a row
 abbrev pub entry_count : Option ℤ → ℕ
 entry_count None = 0
 entry_count (Some p) = 1
 
--- the bytes of rows with their entries, where the way stands at a place
+-- the bytes of rows with their entries, after a given point
 abbrev pub rows_bytes : Style → Point → List Entry → List Row → List ℕ
 rows_bytes style at es [] = []
 rows_bytes style at es (r ∷ rs) =
     (lead style r.precision es r.kind r.depth (length r.points) rs ++ way_bytes (way_start r.precision at) r.points)
     ++ rows_bytes style (way_end (way_start r.precision at) r.points) (drop (entry_count r.precision) es) rs
 
--- how many entries the rows have
+-- the number of entries of the rows
 abbrev pub entries_in : List Row → ℕ
 entries_in [] = 0
 entries_in (r ∷ rs) = entry_count r.precision + entries_in rs

@@ -1,9 +1,9 @@
--- What the rows at each depth come to.
+-- The totals of the rows at each depth.
 use Rattle.std.specs.Prelude.{ℕ, ◌≡◌, ◌<◌, ◌≤◌, List, length, slice_index_or}
 use Rattle.twkb_writer.specs.declared.levels.Level.{Level}
 use Rattle.twkb_writer.specs.Levels.{blank}
 
--- one level for each of 36 depths, and no rows from a depth on
+-- there is one level for each of 36 depths, and from a depth on there are no rows
 pub record IsBlankFrom (used : ℕ) (levels : List Level) : Type 0 where
   pub size : length levels ≡ 36
   pub within : used ≤ 36

@@ -1,10 +1,10 @@
--- What a refused geometry leaves in a sink.
+-- The bytes that a refused geometry leaves in a sink.
 use Rattle.std.specs.Prelude.{◌≡◌, ℕ, List}
 use Rattle.twkb_io.specs.Sinks.{TookFront}
 use Rattle.twkb_writer.specs.declared.encoding.EncodeFault.{EncodeFault}
 use Rattle.twkb_writer.specs.declared.encoding.EncodeFault.TheVariants.{Memory, Sink}
 
--- nothing of the bytes where memory was refused, else a front of them
+-- no bytes if memory was refused, otherwise a prefix of them
 abbrev pub Stopped : {T F : Type 0} → (T → List ℕ → F → T → Type 0) → T → List ℕ → EncodeFault F → T → Type 0
 Stopped refused old bytes Memory new = new ≡ old
 Stopped refused old bytes (Sink fault) new = TookFront refused old bytes fault new

@@ -1,4 +1,5 @@
--- What the rows at one depth come to, with all rows below them, and the entry of the geometry above them.
+-- The totals of the rows at one depth with all rows below them, and the entry of the geometry
+-- above them.
 use Rattle.std.specs.Prelude.{ℕ, ◌+◌, ◌≤◌, ◌^◌, ℤ, ◌-ℤ◌, Bool, true, false, not, ◌&&◌, ◌||◌, if◌then◌else◌, nat_eq, is_some, Option, None, Some}
 use Rattle.twkb_points.specs.Extent.{Extent, joined_options}
 use Rattle.twkb_tree.specs.declared.kind.Kind.{Kind}
@@ -12,21 +13,21 @@ use Rattle.twkb_writer.specs.declared.tails.Tail.{Tail}
 use Rattle.twkb_writer.specs.Precisions.{all_are, agreed}
 use Rattle.twkb_writer.specs.Tails.{number_len, signed_len, from_origin}
 
--- no rows
+-- the totals of no rows
 abbrev pub blank : Level
 blank = record { members = 0; ids = 0; named = false; bytes = 0; bounds = None; precisions = Absent }
 
--- the bytes of an id
+-- the number of bytes of an id, 0 if there is none
 abbrev pub id_len : Option ℤ → ℕ
 id_len None = 0
 id_len (Some n) = signed_len n
 
--- the bytes of the four numbers of a box (TWKB, bounding box)
+-- the number of bytes of the four numbers of a box (TWKB, bounding box)
 abbrev pub box_len : Option Extent → ℕ
 box_len None = 0
 box_len (Some e) = signed_len e.least.x + signed_len (e.greatest.x -ℤ e.least.x) + signed_len e.least.y + signed_len (e.greatest.y -ℤ e.least.y)
 
--- the bytes of a count, and of the ids where members are counted (TWKB, description of types)
+-- the number of bytes of a count, and of the ids if members are counted (TWKB, description of types)
 abbrev pub lead_len : Kind → ℕ → Level → ℕ
 lead_len kind.Point own below = 0
 lead_len kind.Linestring own below = number_len own
@@ -37,11 +38,11 @@ lead_len kind.MultiLinestring own below = number_len below.members + below.ids
 lead_len kind.MultiPolygon own below = number_len below.members + below.ids
 lead_len kind.Collection own below = number_len below.members + below.ids
 
--- no points of its own, no members and no parts
+-- the row has no points, no members and no parts
 abbrev pub is_bare : ℕ → Level → Bool
 is_bare own below = nat_eq own 0 && nat_eq below.members 0
 
--- the bytes of a geometry's body: none where it is bare
+-- the number of bytes of a geometry's body: none if it is bare
 abbrev pub body_len : Kind → ℕ → Level → Tail → ℕ
 body_len k own below t = if is_bare own below then 0 else lead_len k own below + below.bytes + from_origin t
 
@@ -54,12 +55,13 @@ abbrev pub is_point : Kind → Bool
 is_point kind.Point = true
 is_point _ = false
 
--- the extent for its box, where it has one
+-- the extent for the geometry's box, if it has one
 abbrev pub box_for : Style → Kind → ℤ → Level → Tail → Option Extent
 box_for Full k p below t = if not (is_point k) && all_are p below.precisions then all_bounds below t else None
 box_for Plain k p below t = None
 
--- the entry of a geometry with so many points of its own, these rows below it, and these points up to its end
+-- the entry of a geometry with this many points in its row, these rows below it, and these points
+-- up to its end
 abbrev pub entry_for : Style → Kind → ℤ → ℕ → Level → Tail → Entry
 entry_for style k p own below t = record {
   size = box_len (box_for style k p below t) + body_len k own below t;
@@ -68,7 +70,8 @@ entry_for style k p own below t = record {
   named = below.named;
 }
 
--- the bytes of a blob with so many bytes of box and body: two bytes, and the size where it has one (TWKB, structure)
+-- the length of a blob with this many bytes of box and body: two bytes more, and the size if it
+-- has one (TWKB, structure)
 abbrev pub blob_len : Style → ℕ → ℕ
 blob_len Full size = 2 + number_len size + size
 blob_len Plain size = 2 + size
@@ -84,7 +87,7 @@ with_part k own id below l = record {
   precisions = l.precisions;
 }
 
--- the rows at a depth with a geometry before them whose box and body have so many bytes
+-- the rows at a depth with a geometry before them whose box and body have this many bytes
 abbrev pub with_geometry : Style → ℕ → ℤ → Option ℤ → Level → Tail → Level → Level
 with_geometry style size p id below t l = record {
   members = l.members + 1;
@@ -95,7 +98,7 @@ with_geometry style size p id below t l = record {
   precisions = agreed (agreed (One p) below.precisions) l.precisions;
 }
 
--- far below the greatest numbers
+-- all totals are far below the greatest numbers
 pub record IsSmall (l : Level) : Type 0 where
   pub members : l.members ≤ 2 ^ 20
   pub ids : l.ids ≤ 2 ^ 40

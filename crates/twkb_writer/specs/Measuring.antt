@@ -1,4 +1,4 @@
--- What rows come to from a place on, as a pass from the last row to the first finds it.
+-- The totals of rows from a place on, as a pass from the last row to the first finds them.
 use Rattle.std.specs.Prelude.{◌≡◌, ℕ, suc, ◌+◌, ◌≤◌, ℤ, nat_lt, nat_eq, if◌then◌else◌, List, [], ◌∷◌, ◌++◌, length, slice_index_or, slice_set, Option, None, Some}
 use Rattle.twkb_points.specs.Point.{Point}
 use Rattle.twkb_tree.specs.declared.kind.Kind.{Kind}
@@ -23,22 +23,23 @@ abbrev pub points_ahead : List Row → List Point
 points_ahead [] = []
 points_ahead (r ∷ rs) = ahead_of r.precision (r.points ++ points_ahead rs)
 
--- the rows at a depth with a row before them that has so many points of its own, these rows below it and these points up
--- to the end of its geometry
+-- the rows at a depth with one more row before them, with this many points, these rows below it
+-- and these points up to the end of its geometry
 abbrev pub row_level : Style → Kind → ℕ → Option ℤ → Option ℤ → Level → Tail → Level → Level
 row_level style k own id None below t l = with_part k own id below l
 row_level style k own id (Some p) below t l = with_geometry style (entry_for style k p own below t).size p id below t l
 
--- the entry of such a row, where it is a geometry of its own
+-- the entry of such a row, if it is a geometry itself
 abbrev pub row_entry : Style → Kind → ℕ → Option ℤ → Level → Tail → Option Entry
 row_entry style k own None below t = None
 row_entry style k own (Some p) below t = Some (entry_for style k p own below t)
 
--- of a row at depth d and the rows after it, at depth k: nothing where the row is above, itself, or the others where it is deeper
+-- for a row at depth d and the rows after it, at depth k: nothing if the row is above, the row
+-- with the others if it is at k, the others if it is deeper
 abbrev pub chosen : ℕ → ℕ → Level → Level → Level
 chosen d k own others = if nat_lt d k then blank else if nat_eq d k then own else others
 
--- what the rows at a depth come to, up to the first row above it
+-- the totals of the rows at a depth, up to the first row above it
 abbrev pub level : Style → ℕ → List Row → Level
 level style k [] = blank
 level style k (r ∷ rs) =
@@ -46,16 +47,18 @@ level style k (r ∷ rs) =
     (row_level style r.kind (length r.points) r.id r.precision (level style (suc k) rs) (tail_of (r.points ++ points_ahead rs)) (level style k rs))
     (level style k rs)
 
--- the points up to the end of their geometry before such a row: none before a geometry of its own
+-- the points up to the end of their geometry, as the row before sees them: none if this row
+-- begins a geometry
 abbrev pub tail_after : Option ℤ → Tail → Tail
 tail_after None t = t
 tail_after (Some p) t = tail_of []
 
--- the bytes of rows and of their ids
+-- the number of bytes of rows and of their ids
 abbrev pub load : Level → ℕ
 load l = l.ids + l.bytes
 
--- at most how many bytes such a row adds to those of the rows below it and after it, with so many of points up to its end
+-- the most bytes that such a row adds to those of the rows below and after it, with this many
+-- bytes of points up to its end
 abbrev pub cost_of : Option ℤ → ℕ → ℕ
 cost_of None points = 100
 cost_of (Some p) points = 100 + points
@@ -77,7 +80,8 @@ abbrev pub points_at : List Row → List Point
 points_at [] = []
 points_at (r ∷ rs) = r.points
 
--- The array of what the rows at each depth come to, after a row was taken in with the points up to the end of its geometry, and its entry.
+-- The totals at each depth after a row was added, with the points up to the end of its geometry,
+-- and the row's entry.
 pub record TakenRow (style : Style) (node : Node) (points : Tail) (old new : List Level) (entry : Option Entry) : Type 0 where
   pub own : Level
   pub own_is : own ≡ row_level style node.row.kind node.points node.row.id node.row.precision
@@ -86,7 +90,7 @@ pub record TakenRow (style : Style) (node : Node) (points : Tail) (old new : Lis
   pub set_both : new ≡ slice_set (slice_set old (node.row.depth + 1) blank) node.row.depth own
   pub entry_is : entry ≡ row_entry style node.row.kind node.points node.row.precision (slice_index_or old (node.row.depth + 1) blank) points
 
--- so many points, nodes and entries were measured, each point and each node read just once
+-- these points, nodes and entries were measured, and each point and node was read exactly once
 pub record Counted (old : Work) (points nodes entries : ℕ) (new : Work) : Type 0 where
   pub more_points : new.points ≡ saturated (old.points + points)
   pub more_nodes : new.nodes ≡ saturated (old.nodes + nodes)

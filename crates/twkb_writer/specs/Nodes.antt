@@ -1,4 +1,4 @@
--- What stands before the points of a node among the rows of a flat form.
+-- What comes before the points of a node among the rows of a flat form.
 use Rattle.std.specs.Prelude.{ℕ, ◌+◌, Bool, if◌then◌else◌, List, [], ◌++◌, take, drop, ℤ}
 use Rattle.twkb_num.specs.Varint.{varint_of}
 use Rattle.twkb_points.specs.Point.{Point, origin}
@@ -15,27 +15,27 @@ use Rattle.twkb_writer.specs.Bytes.{members_below, ids_bytes, counts_bytes, is_b
 abbrev pub rows_after : List Row → Placed → List Row
 rows_after rows at = drop (at.id.0 + 1) rows
 
--- its members
+-- the members of the node
 abbrev pub members_of : List Row → Placed → List Row
 members_of rows at = members_below at.node.row.depth (rows_after rows at)
 
--- their ids, where these are written
+-- the ids of its members, if they are written
 abbrev pub ids_of : Bool → List Row → Placed → List ℕ
 ids_of named rows at = if named then ids_bytes (members_of rows at) else []
 
--- the count of its members, and their ids where these are written
+-- the count of its members, and their ids if they are written
 abbrev pub listed_of : MemberIds → List Row → Placed → List ℕ
 listed_of members rows at = varint_of members.count ++ ids_of members.named rows at
 
--- its counts, and the ids of its members where these are written
+-- its counts, and the ids of its members if they are written
 abbrev pub counts_of : MemberIds → List Row → Placed → List ℕ
 counts_of members rows at = counts_bytes at.node.row.kind at.node.points members.count (ids_of members.named rows at)
 
--- the header of a node that is a geometry of its own
+-- the header of a node that is a geometry itself
 abbrev pub header_of : Style → ℤ → Entry → Node → List ℕ
 header_of style p e node = header style node.row.kind p node.points e
 
--- what stands behind the header of a node that is a geometry of its own: nothing where it has no body
+-- what comes after the header of a node that is a geometry itself: nothing if it has no body
 abbrev pub own_of : Entry → List Row → Placed → List ℕ
 own_of e rows at = if is_bare at.node.points e then [] else counts_of (record { count = e.members; named = e.named }) rows at
 
@@ -43,7 +43,7 @@ own_of e rows at = if is_bare at.node.points e then [] else counts_of (record { 
 abbrev pub part_of : List Row → Placed → List ℕ
 part_of rows at = part_lead at.node.row.kind at.node.row.depth at.node.points (rows_after rows at)
 
--- what stands before its points, by the entries from this one on
+-- what comes before the node's points, given the entries from this index on
 abbrev pub lead_of : Job → ℕ → Placed → List ℕ
 lead_of job entry at =
     lead job.style at.node.row.precision (drop entry job.sizes.now) at.node.row.kind at.node.row.depth at.node.points (rows_after job.flat.now at)

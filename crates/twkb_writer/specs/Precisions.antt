@@ -1,16 +1,16 @@
--- What is known of the precisions of some geometries.
+-- The precisions of some geometries, as far as a box needs them.
 use Rattle.std.specs.Prelude.{ℤ, Bool, true, false, if◌then◌else◌}
 use Rattle.twkb_tree.specs.Uniform.{int_eq}
 use Rattle.twkb_writer.specs.declared.precisions.Precisions.{Precisions}
 use Rattle.twkb_writer.specs.declared.precisions.Precisions.TheVariants.{Absent, One, Several}
 
--- all are this one
+-- all geometries have this precision
 abbrev pub all_are : ℤ → Precisions → Bool
 all_are p Absent = true
 all_are p (One q) = int_eq p q
 all_are p Several = false
 
--- what is known of both
+-- the precisions of both groups of geometries
 abbrev pub agreed : Precisions → Precisions → Precisions
 agreed Absent b = b
 agreed (One p) Absent = One p

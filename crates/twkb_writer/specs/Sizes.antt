@@ -1,4 +1,4 @@
--- What is measured of a geometry before its canonical blob is written.
+-- The numbers of a geometry that are measured before its canonical blob is written.
 use Rattle.std.specs.Prelude.{◌≡◌, ℕ, if◌then◌else◌, is_some, List, [], ◌∷◌, ◌++◌, length, Option, None}
 use Rattle.twkb_points.specs.Extent.{Extent, extent}
 use Rattle.twkb_tree.specs.Tree.{Simple, point, line, polygon, multi_point, multi_line, multi_polygon, Tree, simple, collection, Trees, end, ◌▷◌, Ids, IsTree, count, flat}
@@ -11,25 +11,25 @@ use Rattle.twkb_grammar.specs.declared.style.Style.TheVariants.{Full, Plain}
 use Rattle.twkb_writer.specs.declared.sizes.Entry.{Entry}
 use Rattle.twkb_writer.specs.Bytes.{box_bytes}
 
--- the body of a geometry's canonical blob, where it has one (TWKB, description of types)
+-- the body of a geometry's canonical blob, if it has one (TWKB, description of types)
 abbrev pub body_of : Style → Tree → List ℕ
 body_of style (simple p s) = varints (fields s)
 body_of style (collection p ids gs) = varints ((Count (Geometries 0), count gs) ∷ id_fields ids) ++ canonical_members style gs
 
--- the body, and nothing where bit 4 says that there is none (TWKB, metadata header)
+-- the body, or nothing if bit 4 says that there is none (TWKB, metadata header)
 abbrev pub own_body : Style → Tree → List ℕ
 own_body style g = if is_empty (flags_of_tree g) then [] else body_of style g
 
--- the extent of all points, where the blob has a box: never in a plain one
+-- the extent of all points if the blob has a box; a plain blob has none
 abbrev pub bounds_of : Style → Tree → Option Extent
 bounds_of Full g = if boxed g then extent (flat g) else None
 bounds_of Plain g = None
 
--- what stands behind the metadata byte, but for the size: box and body
+-- what comes after the metadata byte except the size: box and body
 abbrev pub content_of : Style → Tree → List ℕ
 content_of style g = box_bytes (bounds_of style g) ++ own_body style g
 
--- how many rings or members there are
+-- the number of rings or members of a simple shape
 abbrev pub parts_in : Simple → ℕ
 parts_in (point o) = 0
 parts_in (line ps) = 0
@@ -38,7 +38,7 @@ parts_in (multi_point ids ps) = length ps
 parts_in (multi_line ids lines) = length lines
 parts_in (multi_polygon ids areas) = length areas
 
--- the same of any geometry
+-- the number of rings or members of any geometry
 abbrev pub part_count : Tree → ℕ
 part_count (simple p s) = parts_in s
 part_count (collection p ids gs) = count gs
@@ -57,8 +57,8 @@ abbrev pub ids_of : Tree → Ids
 ids_of (simple p s) = ids_in s
 ids_of (collection p ids gs) = ids
 
--- what is measured of one geometry in a style: the length of its content, the extent for its box, how many rings or
--- members it has, and whether these have ids
+-- the entry of one geometry in a style: the length of its content, the extent for its box, the
+-- number of its rings or members, and whether these have ids
 abbrev pub entry_of : Style → Tree → Entry
 entry_of style g = record { size = length (content_of style g); bounds = bounds_of style g; members = part_count g; named = is_some (ids_of g) }
 
@@ -72,7 +72,8 @@ abbrev mutual
   sizes_of_all style end = []
   sizes_of_all style (g ▷ gs) = sizes_of style g ++ sizes_of_all style gs
 
--- these are the sizes of the rows: none where there is no row, else those of the geometry whose rows they are
+-- these are the sizes of the rows: none if there is no row, otherwise those of the geometry whose
+-- rows they are
 abbrev pub AreSizes : Style → List Row → List Entry → Type 0
 AreSizes style [] es = es ≡ []
 AreSizes style (r ∷ rs) es = (g : Tree) × IsTree g × (rows 0 g ≡ r ∷ rs) × (es ≡ sizes_of style g)

@@ -1,4 +1,4 @@
--- The bytes of the points from a place on up to the end of their geometry.
+-- The number of bytes of the points from a place up to the end of their geometry.
 use Rattle.std.specs.Prelude.{ℕ, ◌+◌, ℤ, ◌-ℤ◌, List, [], ◌∷◌, length, Option, None, Some}
 use Rattle.twkb_num.specs.Zigzag.{zigzag_of}
 use Rattle.twkb_num.specs.Varint.{varint_of}
@@ -7,24 +7,24 @@ use Rattle.twkb_points.specs.Extent.{extent}
 use Rattle.twkb_writer.specs.declared.tails.NonEmptyTail.{NonEmptyTail}
 use Rattle.twkb_writer.specs.declared.tails.Tail.{Tail}
 
--- how many bytes a number has
+-- the number of bytes of a number
 unfoldable pub number_len : ℕ → ℕ
 number_len n = length (varint_of n)
 
--- how many bytes a whole number has (TWKB, zigzag)
+-- the number of bytes of a signed number (TWKB, zigzag)
 abbrev pub signed_len : ℤ → ℕ
 signed_len n = number_len (zigzag_of n)
 
--- how many the way from one point to the next has (TWKB, point arrays)
+-- the number of bytes of the difference from one point to the next (TWKB, point arrays)
 abbrev pub step_len : Point → Point → ℕ
 step_len a b = signed_len (b.x -ℤ a.x) + signed_len (b.y -ℤ a.y)
 
--- how many the way from a place through some points has
+-- the number of bytes of the differences from a place through some points
 abbrev pub way_len : Point → List Point → ℕ
 way_len at [] = 0
 way_len at (p ∷ ps) = step_len at p + way_len p ps
 
--- the same from the first point on
+-- the number of bytes of the differences from the first point on
 abbrev pub inner_len : List Point → ℕ
 inner_len [] = 0
 inner_len (p ∷ ps) = way_len p ps
@@ -34,14 +34,14 @@ abbrev pub first_of : List Point → Option Point
 first_of [] = None
 first_of (p ∷ ps) = Some p
 
--- what some points come to, where they are the last of their geometry
+-- the totals of some points, if they are the last of their geometry
 abbrev pub tail_of : List Point → Tail
 tail_of ps = record { first = first_of ps; bytes = inner_len ps; bounds = extent ps }
 
--- the bytes of the whole way from the origin
+-- the number of bytes of all differences, the first of them from the origin
 abbrev pub from_origin : Tail → ℕ
 from_origin t = elim t.first [ None ↦ 0 | Some p ↦ step_len origin p + t.bytes ]
 
--- some points of which there is one at least, as any
+-- the totals of at least one point as those of any number
 abbrev pub tail_from : NonEmptyTail → Tail
 tail_from t = record { first = Some t.first; bytes = t.bytes; bounds = Some t.bounds }

@@ -1,4 +1,4 @@
--- What a geometry comes to, measured on its tree.
+-- The totals of a geometry, measured on its tree.
 use Rattle.std.specs.Prelude.{ℕ, ◌+◌, ◌*◌, ◌≤◌, ◌^◌, ℤ, List, [], length, Option, Some}
 use Rattle.twkb_points.specs.Point.{Point}
 use Rattle.twkb_tree.specs.Tree.{Tree, simple, collection, points_in, precision_of}
@@ -8,12 +8,12 @@ use Rattle.twkb_writer.specs.declared.levels.Level.{Level}
 use Rattle.twkb_writer.specs.Measuring.{level, row_level}
 use Rattle.twkb_writer.specs.Tails.{tail_of}
 
--- the points of the geometry itself, those of its parts included: a collection has none but those of its members
+-- the points of the geometry itself, those of its parts included; a collection has none
 abbrev pub way_of : Tree → List Point
 way_of (simple p s) = points_in s
 way_of (collection p ids gs) = []
 
--- what the rows below its own come to
+-- the totals of the rows below its own
 abbrev pub level_under : Tree → Level
 level_under g = level Full 0 (rows_under 0 g)
 
@@ -22,11 +22,11 @@ abbrev pub tree_level : Option ℤ → Tree → Level → Level
 tree_level id g others =
     row_level Full (own_row id 0 g).kind (length (own_row id 0 g).points) id (Some (precision_of g)) (level_under g) (tail_of (way_of g)) others
 
--- at most so many bytes for so many rows and points
+-- the most bytes for this many rows and points
 abbrev pub most_of : ℕ → ℕ → ℕ
 most_of rows points = 100 * rows + 20 * points
 
--- no more rows and points than the caps
+-- the rows and points are within the caps
 pub record IsWithinCaps (rows points : ℕ) : Type 0 where
   pub few_rows : rows ≤ 2 ^ 20
   pub few_points : points ≤ 2 ^ 24

@@ -1,4 +1,4 @@
-//! The sizes of a flat form of one row, which needs no levels.
+//! The sizes of a flat form of one row, measured without levels.
 ghost use Rattle.std.specs.Prelude.{◌≡◌, ◌≤◌, ◌^◌, ◌↔◌, ◌∷◌, [], ℤ, length, Some, IsTrue, OnOk};
 ghost use Rattle.twkb_tree.specs.Limits.{largest_limits};
 ghost use Rattle.twkb_tree.specs.Rows.{row_points};
@@ -22,7 +22,7 @@ use twkb_grammar::Style;
 use twkb_points::{Cursor, Pt};
 use twkb_tree::Kind;
 
-// What is measured of a point: it has no box.
+// Measures a point, which has no box.
 fn point_entry(point: Pt) -> Entry
     ensures { (style : InStyle) (precision : ℤ) → result ≡ entry_for style PointKind precision 1 blank (tail_of (point ∷ [])) }
 {
@@ -35,14 +35,14 @@ fn point_entry(point: Pt) -> Entry
     }
 }
 
-// Whether the node is a point, and not an empty one.
+// Whether the node is a point that is not empty.
 fn is_one_point(node: &Node) -> bool
     ensures { IsTrue result ↔ ((node.now.row.kind ≡ PointKind) × (node.now.points ≡ 1)) }
 {
     matches!(node.row.kind, Kind::Point) && node.points == 1
 }
 
-// The entry of the only row, in general.
+// Measures the only row, of any kind.
 fn row_entry(flat: &Flat, style: Style, node: &Node, precision: i8, work: &mut Work) -> Entry
     requires few { length (row_points flat.now) ≤ 2 ^ 24 }
     requires one { length flat.now ≡ 1 }
@@ -56,7 +56,7 @@ fn row_entry(flat: &Flat, style: Style, node: &Node, precision: i8, work: &mut W
     Level::blank().entry_for(style, node.row.kind, precision, node.points, &points)
 }
 
-// Keeps one entry in place of all: where the last one stood, if it stood alone.
+// Replaces all entries by this one; if there is just one, it is overwritten in place.
 #[inline(always)]
 fn keep_alone(entries: &mut Vec<Entry>, entry: Entry) -> Result<(), AllocError>
     ensures { OnOk result (entries.new.items ≡ entry ∷ []) }
@@ -69,7 +69,7 @@ fn keep_alone(entries: &mut Vec<Entry>, entry: Entry) -> Result<(), AllocError>
     keep(entries, Some(entry), 1)
 }
 
-// Makes entries those of a flat form of one row.
+// Measures a flat form of one row and replaces the entries.
 #[inline(always)]
 pub(crate) fn measure_one(
     flat: &Flat,
@@ -81,7 +81,7 @@ pub(crate) fn measure_one(
     ensures sizes { OnOk result (AreSizes style flat.now entries.new.items) }
     ensures reads { ReadsExactly work.old 1 (length (row_points flat.now)) work.new }
 {
-    // learnt: the rows are valid
+    // gives proofs the fact that the rows are valid
     let _learnt = flat.node_count();
     look_at_reads(work);
     let node = flat.node(NodeId(0), work);

@@ -1,18 +1,19 @@
-//! What the rows at each depth come to, kept from one flat form to the next.
+//! The totals of the rows at each depth, reused from one flat form to the next.
 ghost use Rattle.std.specs.Prelude.{◌≡◌, ◌<◌, ◌+◌, slice_index_or, slice_set};
 ghost use Rattle.twkb_writer.specs.Levels.{blank};
 
 use crate::levels::Level;
 use std::marker::Model;
 
-// How many depths a row may have, and one below them.
+// The number of depths that rows may have, and one more below them.
 const DEPTHS: usize = 36;
 
-/// What the rows at each depth come to, with room to measure one flat form after another. A contract sees the list of it.
+/// The totals of the rows at each depth, reused to measure one flat form after another. A
+/// contract sees the list of these totals.
 #[derive(Drop)]
 pub struct Depths {
     levels: [Level; DEPTHS],
-    // From here on there are no rows.
+    // From this depth on there are no rows.
     used: usize,
 }
 
@@ -31,7 +32,7 @@ impl Model for Depths {
 impl Depths {
     ghost use Rattle.twkb_writer.specs.Depths.{IsBlankFrom};
 
-    /// No rows at any depth. Takes no memory.
+    /// Makes totals with no rows at any depth. Takes no memory.
     pub fn new() -> Depths
         ensures { IsBlankFrom 0 result }
     {
@@ -41,7 +42,7 @@ impl Depths {
         }
     }
 
-    // Forgets the rows of all depths.
+    // Drops the rows of all depths.
     pub(crate) fn clear(&mut self)
         ensures { IsBlankFrom 0 self.new }
     {
@@ -52,7 +53,7 @@ impl Depths {
         }
     }
 
-    // What the rows at a depth come to.
+    // The totals of the rows at a depth.
     #[inline(always)]
     pub(crate) fn at(&self, depth: usize) -> &Level
         requires { depth < 36 }
@@ -61,7 +62,7 @@ impl Depths {
         &self.levels[depth]
     }
 
-    // Leaves no rows at a depth, where there are any.
+    // Drops the rows at a depth, if there are any.
     #[inline(always)]
     fn blank_at(&mut self, depth: usize)
         requires { depth < 36 }
@@ -72,7 +73,7 @@ impl Depths {
         }
     }
 
-    // Sets what the rows at a depth come to, and leaves none below.
+    // Sets the totals of the rows at a depth, and drops the rows below it.
     #[inline(always)]
     pub(crate) fn put(&mut self, depth: usize, own: Level)
         requires { depth < 35 }

@@ -1,4 +1,4 @@
-//! Geometries as canonical blobs.
+//! Encoding geometries as canonical blobs.
 ghost use Rattle.std.specs.Prelude.{OnOk, IfErr};
 ghost use Rattle.twkb_tree.specs.Limits.{largest_limits, IsValid};
 ghost use Rattle.twkb_grammar.specs.Written.{canonical_blob};
@@ -25,9 +25,9 @@ pub enum EncodeFault<F> {
     Sink(F),
 }
 
-/// Writes the canonical blob of a geometry within `Limits::largest()` in a style: exactly these bytes where it answers
-/// `Ok`, else a front of them, and nothing where memory was refused. Takes memory, for a copy of the rows and the points and
-/// for the sizes.
+/// Writes the canonical blob of a geometry within `Limits::largest()` in a style. If it returns
+/// `Ok` the sink got exactly these bytes; otherwise it got a prefix of them, and nothing if
+/// memory was refused. Takes memory for a copy of the rows and the points, and for the sizes.
 pub fn encode_styled<S: Sink>(
     alloc: Global,
     geometry: &Geometry,
@@ -51,7 +51,8 @@ pub fn encode_styled<S: Sink>(
     }
 }
 
-/// `encode_styled` with sizes, and with boxes where they may be.
+/// Writes the canonical blob with sizes, and with boxes if they are allowed, like `encode_styled`
+/// in full style.
 pub fn encode<S: Sink>(
     alloc: Global,
     geometry: &Geometry,

@@ -1,4 +1,4 @@
-//! Bytes that are put to a sink through a piece.
+//! Bytes on their way to a sink, gathered in a piece.
 ghost use Rattle.std.specs.Prelude.{◌≡◌, ◌≤◌, ◌+◌, ◌++◌, ◌-ℤ◌, length, flat_map, [], ◌∷◌};
 ghost use Rattle.twkb_num.specs.Zigzag.{zigzag_of};
 ghost use Rattle.twkb_num.specs.Varint.{varint_of};
@@ -13,7 +13,8 @@ use twkb_points::{Cursor, Pt};
 // The most bytes of the four numbers of two points.
 const STEP: usize = 40;
 
-// A sink, the piece in which bytes are gathered on their way to it, and the fault by which it refused some: what is put then is lost.
+// A sink, the piece in which bytes are gathered on their way to it, and the fault with which it
+// refused some. After a fault, bytes that are put are lost.
 #[derive(Drop)]
 pub(crate) struct Gatherer<'a, 'b, 'c, S, F> {
     pub(crate) sink: &'a mut S,
@@ -21,7 +22,7 @@ pub(crate) struct Gatherer<'a, 'b, 'c, S, F> {
     pub(crate) fault: &'c mut Option<F>,
 }
 
-// The zigzag forms of the difference to a point, where the cursor moves.
+// Moves the cursor to a point, and returns the zigzag forms of the difference.
 fn step_to(cursor: &mut Cursor, to: Pt) -> (u64, u64)
     ensures x { result.0 ≡ zigzag_of (to.x -ℤ cursor.old.x) }
     ensures y { result.1 ≡ zigzag_of (to.y -ℤ cursor.old.y) }
@@ -34,7 +35,7 @@ fn step_to(cursor: &mut Cursor, to: Pt) -> (u64, u64)
 impl<'a, 'b, 'c, S: Sink> Gatherer<'a, 'b, 'c, S, S::Fault> {
     ghost use Rattle.twkb_writer.specs.Putting.{Put};
 
-    // Puts what the piece holds where no put was refused before, and empties it.
+    // Sends the bytes of the piece to the sink, unless it refused some before, and empties the piece.
     #[inline(always)]
     pub(crate) fn flush(&mut self)
         ensures put { Put S.took S.refused self.old [] self.new }
@@ -52,7 +53,7 @@ impl<'a, 'b, 'c, S: Sink> Gatherer<'a, 'b, 'c, S, S::Fault> {
         }
     }
 
-    // Puts what the piece holds where it has no room for two points.
+    // Sends the bytes of the piece if it has no room for two points.
     #[inline(always)]
     fn make_room(&mut self)
         ensures put { Put S.took S.refused self.old [] self.new }
@@ -64,7 +65,7 @@ impl<'a, 'b, 'c, S: Sink> Gatherer<'a, 'b, 'c, S, S::Fault> {
         self.empty();
     }
 
-    // Puts what the piece holds, and empties it, as happens once a piece.
+    // Sends the bytes of the piece and empties it. Out of line: it is needed once for each full piece.
     #[inline(never)]
     fn empty(&mut self)
         ensures put { Put S.took S.refused self.old [] self.new }
@@ -83,7 +84,7 @@ impl<'a, 'b, 'c, S: Sink> Gatherer<'a, 'b, 'c, S, S::Fault> {
         self.piece.push(second);
     }
 
-    // Puts a number, by its shortest varint.
+    // Puts a number by its shortest varint.
     #[inline(always)]
     pub(crate) fn put_number(&mut self, number: u64)
         ensures { Put S.took S.refused self.old (varint_of number) self.new }
@@ -92,7 +93,7 @@ impl<'a, 'b, 'c, S: Sink> Gatherer<'a, 'b, 'c, S, S::Fault> {
         self.piece.push_varint(number);
     }
 
-    // Puts a whole number, by its zigzag form.
+    // Puts a signed number by its zigzag form.
     #[inline(always)]
     fn put_signed(&mut self, number: i64)
         ensures { Put S.took S.refused self.old (signed number) self.new }
@@ -100,7 +101,7 @@ impl<'a, 'b, 'c, S: Sink> Gatherer<'a, 'b, 'c, S, S::Fault> {
         self.put_number(zigzag(number));
     }
 
-    // Puts an id, where there is one.
+    // Puts an id, if there is one.
     #[inline(always)]
     pub(crate) fn put_id(&mut self, id: Option<i64>)
         ensures { Put S.took S.refused self.old (id_bytes id) self.new }
@@ -111,7 +112,7 @@ impl<'a, 'b, 'c, S: Sink> Gatherer<'a, 'b, 'c, S, S::Fault> {
         }
     }
 
-    // Puts whole numbers.
+    // Puts signed numbers by their zigzag forms.
     pub(crate) fn put_all(&mut self, numbers: &[i64])
         ensures { Put S.took S.refused self.old (flat_map signed numbers.now) self.new }
     {
@@ -120,7 +121,7 @@ impl<'a, 'b, 'c, S: Sink> Gatherer<'a, 'b, 'c, S, S::Fault> {
         }
     }
 
-    // Puts the difference to a point, where the cursor moves.
+    // Puts the difference to a point, and moves the cursor there.
     #[inline(always)]
     pub(crate) fn put_step(&mut self, cursor: &mut Cursor, to: Pt)
         ensures put { Put S.took S.refused self.old (step_bytes (to.x -ℤ cursor.old.x, to.y -ℤ cursor.old.y)) self.new }
@@ -132,7 +133,7 @@ impl<'a, 'b, 'c, S: Sink> Gatherer<'a, 'b, 'c, S, S::Fault> {
         self.piece.push_varint(y);
     }
 
-    // Puts the differences to two points, one after the other, where the cursor moves.
+    // Puts the differences to two points, one after the other, and moves the cursor there.
     #[inline(always)]
     pub(crate) fn put_steps(&mut self, cursor: &mut Cursor, first: Pt, second: Pt)
         ensures put { Put S.took S.refused self.old (step_bytes (first.x -ℤ cursor.old.x, first.y -ℤ cursor.old.y) ++ step_bytes (second.x -ℤ first.x, second.y -ℤ first.y)) self.new }

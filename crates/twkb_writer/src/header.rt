@@ -10,14 +10,14 @@ use twkb_flat::Node;
 use twkb_grammar::{Metadata, MetadataFlags, Style, TypeByte};
 use twkb_io::Sink;
 
-// Whether a geometry with so many points of its own has no body.
+// Whether a geometry with this many points in its own row has no body.
 pub(crate) fn has_no_body(points: u32, entry: &Entry) -> bool
     ensures { result ≡ is_bare points entry.now }
 {
     points == 0 && entry.members == 0
 }
 
-// The metadata byte of a style.
+// The metadata byte of a geometry in a style.
 fn metadata(style: Style, points: u32, entry: &Entry) -> Metadata
     ensures { result ≡ metadata_of style points entry.now }
 {
@@ -30,7 +30,7 @@ fn metadata(style: Style, points: u32, entry: &Entry) -> Metadata
     })
 }
 
-// Puts the size, where the style has one.
+// Puts the size, if the style has one.
 fn put_size<S: Sink>(style: Style, entry: &Entry, gatherer: &mut Gatherer<'_, '_, '_, S, S::Fault>)
     ensures { Put S.took S.refused gatherer.old (size_bytes style entry.now) gatherer.new }
 {
@@ -40,7 +40,7 @@ fn put_size<S: Sink>(style: Style, entry: &Entry, gatherer: &mut Gatherer<'_, '_
     }
 }
 
-// Puts the box, where there is one.
+// Puts the box, if there is one.
 fn put_box<S: Sink>(entry: &Entry, gatherer: &mut Gatherer<'_, '_, '_, S, S::Fault>)
     ensures { Put S.took S.refused gatherer.old (box_bytes entry.now.bounds) gatherer.new }
 {
@@ -50,7 +50,7 @@ fn put_box<S: Sink>(entry: &Entry, gatherer: &mut Gatherer<'_, '_, '_, S, S::Fau
     }
 }
 
-// Puts type byte, metadata byte, size and box of a node that is a geometry of its own.
+// Puts type byte, metadata byte, size and box of a node that is a geometry itself.
 pub(crate) fn put_header<S: Sink>(
     style: Style,
     node: &Node,

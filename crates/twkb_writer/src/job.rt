@@ -1,4 +1,4 @@
-//! What is to be written, and a node of it.
+//! The input of the writer: a flat form with its sizes, and a node of it.
 use crate::sizes::Sizes;
 use twkb_flat::{Flat, Node, NodeId};
 use twkb_grammar::Style;

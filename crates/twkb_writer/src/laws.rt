@@ -1,4 +1,4 @@
-//! Laws of sizes, each the contract of a function that does nothing.
+//! Laws of sizes, each stated as the contract of an empty function.
 ghost use Rattle.std.specs.Prelude.{◌≡◌, List, length};
 ghost use Rattle.twkb_tree.specs.Tree.{Tree, IsTree};
 ghost use Rattle.twkb_tree.specs.Rows.{Row, rows};
@@ -7,8 +7,8 @@ ghost use Rattle.twkb_grammar.specs.declared.style.Style.{Style};
 ghost use Rattle.twkb_writer.specs.declared.sizes.Entry.{Entry};
 ghost use Rattle.twkb_writer.specs.Sizes.{AreSizes};
 
-/// The sizes of a geometry's rows are as many as its TWKB geometries: itself, and the members of
-/// each collection in it.
+/// A geometry has one size for each of its TWKB geometries: itself, and the members of each
+/// collection in it.
 pub fn one_size_each()
     ensures { (style : Style) (g : Tree) (flat : List Row) (sizes : List Entry) → IsTree g → rows 0 g ≡ flat → AreSizes style flat sizes → length sizes ≡ geometries g }
 {}

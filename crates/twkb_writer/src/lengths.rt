@@ -1,10 +1,10 @@
-//! How many bytes numbers have, before they are written.
+//! The lengths of numbers, known before they are written.
 ghost use Rattle.std.specs.Prelude.{◌≡◌, ◌≤◌};
 ghost use Rattle.twkb_writer.specs.Tails.{number_len, signed_len};
 
 use twkb_num::{varint_len, zigzag};
 
-// The bytes of a number.
+// The number of bytes of a number's shortest varint.
 #[tactic(auto, unfolding(crate::specs::Tails::number_len))]
 #[inline(always)]
 pub(crate) fn number_len(number: u64) -> u64
@@ -14,7 +14,7 @@ pub(crate) fn number_len(number: u64) -> u64
     varint_len(number) as u64
 }
 
-// The bytes of a whole number.
+// The number of bytes of a signed number's zigzag varint.
 #[inline(always)]
 pub(crate) fn signed_len(number: i64) -> u64
     ensures value { result ≡ signed_len number }

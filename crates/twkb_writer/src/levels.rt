@@ -1,4 +1,4 @@
-//! What the rows at one depth come to, and the entry of a geometry whose members and parts are known.
+//! The totals of the rows at one depth, and the entry of a geometry whose members and parts are known.
 ghost use Rattle.std.specs.Prelude.{◌≡◌, ◌+◌, ◌≤◌, ◌^◌};
 ghost use Rattle.twkb_writer.specs.Levels.{blank, lead_len, body_len, all_bounds, box_for, box_len, id_len, is_point, entry_for, blob_len, with_part, with_geometry};
 ghost use Rattle.twkb_grammar.specs.declared.style.Style.TheVariants.{Full};
@@ -11,24 +11,25 @@ use twkb_grammar::Style;
 use twkb_points::{Bounds, merged};
 use twkb_tree::Kind;
 
-// What the rows at one depth come to, from a place on up to the next row above them, with all rows below them.
+// The totals of the rows at one depth and all rows below them, from a place up to the next row
+// above them.
 #[derive(Clone, Copy)]
 pub(crate) struct Level {
-    // How many rows there are at this depth.
+    // The number of rows at this depth.
     pub(crate) members: u32,
-    // The bytes of their ids.
+    // The number of bytes of their ids.
     pub(crate) ids: u64,
-    // Whether one has an id.
+    // Whether one of them has an id.
     pub(crate) named: bool,
-    // The bytes of whole geometries, and of the counts of parts.
+    // The number of bytes of geometries, and of the counts of parts.
     pub(crate) bytes: u64,
-    // The bounds of the points of whole geometries.
+    // The bounds of the points of geometries.
     pub(crate) bounds: Option<Bounds>,
-    // The precisions of whole geometries.
+    // The precisions of geometries.
     pub(crate) precisions: Precisions,
 }
 
-// The bytes of an id.
+// The number of bytes of an id, 0 if there is none.
 fn id_len(id: Option<i64>) -> u64
     ensures value { result ≡ id_len id }
     ensures most { result ≤ 10 }
@@ -39,7 +40,7 @@ fn id_len(id: Option<i64>) -> u64
     }
 }
 
-// The bytes of a box.
+// The number of bytes of a box, 0 if there is none.
 fn box_len(bounds: &Option<Bounds>) -> u64
     ensures value { result ≡ box_len bounds.now }
     ensures most { result ≤ 40 }
@@ -60,7 +61,7 @@ fn is_point(kind: Kind) -> bool
     matches!(kind, Kind::Point)
 }
 
-// The bytes of a whole blob with so many bytes of box and body.
+// The length of a blob with this many bytes of box and body.
 fn blob_len(style: Style, size: u64) -> u64
     requires room { size ≤ 2 ^ 50 }
     ensures value { result ≡ blob_len style size }
@@ -73,7 +74,7 @@ fn blob_len(style: Style, size: u64) -> u64
 }
 
 impl Level {
-    // No rows.
+    // Makes the totals of no rows.
     pub(crate) fn blank() -> Level
         ensures { result ≡ blank }
     {
@@ -87,7 +88,8 @@ impl Level {
         }
     }
 
-    // The bytes of a count, and of ids where members are counted: of a row with so many points of its own and these rows below it.
+    // The number of bytes of a count, and of the ids if members are counted, for a row with `own`
+    // points and these rows below it.
     fn lead_len(&self, kind: Kind, own: u32) -> u64
         requires room { self.now.ids ≤ 2 ^ 40 }
         ensures value { result ≡ lead_len kind own self.now }
@@ -100,7 +102,7 @@ impl Level {
         }
     }
 
-    // The bytes of a geometry's body.
+    // The number of bytes of a geometry's body.
     fn body_len(&self, kind: Kind, own: u32, tail: &Tail) -> u64
         requires ids { self.now.ids ≤ 2 ^ 40 }
         requires bytes { self.now.bytes ≤ 2 ^ 40 }
@@ -121,7 +123,7 @@ impl Level {
         merged(tail.bounds, self.bounds)
     }
 
-    // The bounds for a geometry's box, where it has one.
+    // The bounds for a geometry's box, if it has one in this style.
     fn box_for(&self, style: Style, kind: Kind, precision: i8, tail: &Tail) -> Option<Bounds>
         ensures { result ≡ box_for style kind precision self.now tail.now }
     {
@@ -131,7 +133,7 @@ impl Level {
         }
     }
 
-    // The same in a full blob.
+    // The bounds for a geometry's box in a full blob, if it has one.
     fn full_box(&self, kind: Kind, precision: i8, tail: &Tail) -> Option<Bounds>
         ensures { result ≡ box_for Full kind precision self.now tail.now }
     {
@@ -141,7 +143,8 @@ impl Level {
         self.all_bounds(tail)
     }
 
-    // What is measured of a geometry with so many points of its own, these rows below it, and these points up to its end.
+    // Measures a geometry with `own` points in its row, these rows below it, and these points up
+    // to its end.
     pub(crate) fn entry_for(
         &self,
         style: Style,
@@ -166,7 +169,7 @@ impl Level {
         }
     }
 
-    // These rows with a part of a geometry before them, with so many points of its own and rows below it.
+    // Adds a part of a geometry before these rows, with `own` points in its row and rows below it.
     #[inline(always)]
     pub(crate) fn with_part(self, kind: Kind, own: u32, id: Option<i64>, below: &Level) -> Level
         requires members { self.members ≤ 2 ^ 20 }
@@ -187,8 +190,8 @@ impl Level {
         }
     }
 
-    // These rows with a geometry before them, whose box and body have so many bytes, with these rows below it and these
-    // points up to its end.
+    // Adds a geometry before these rows, with the number of bytes of its box and body, these rows
+    // below it and these points up to its end.
     pub(crate) fn with_geometry(
         self,
         style: Style,

@@ -1,4 +1,4 @@
-//! The sizes of a flat form, in one pass over its rows from the last to the first.
+//! The sizes of a flat form, measured in one pass over its rows from the last to the first.
 ghost use Rattle.std.specs.Prelude.{◌≡◌, ◌+◌, ◌++◌, ◌*◌, ◌<◌, ◌≤◌, ◌^◌, ℕ, List, length, drop, slice_index_or, IfOk, OnOk};
 ghost use Rattle.twkb_points.specs.Point.{Point};
 ghost use Rattle.twkb_tree.specs.Rows.{row_points};
@@ -20,17 +20,18 @@ use std::alloc::{AllocError, Global};
 use twkb_flat::{Flat, Node, NodeId, PointId, Work};
 use twkb_grammar::Style;
 
-// Tells a proof that counts of reads fit 64 bits. It changes nothing.
+// Gives a proof the fact that counts of reads fit 64 bits. Changes nothing.
 pub(crate) fn look_at_reads(work: &Work)
     ensures nodes { work.now.node_reads < 2 ^ 64 }
     ensures points { work.now.point_reads < 2 ^ 64 }
 {
-    // learnt: both fit
+    // gives proofs the fact that both counts fit
     let _learnt = work.node_reads;
     let _learnt = work.point_reads;
 }
 
-// The points of a row before those up to the end of its geometry, each read once, two at a time from the last on.
+// Adds the points of a row before those up to the end of its geometry. Each point is read once,
+// two at a time from the last on.
 #[inline(always)]
 pub(crate) fn take_points(flat: &Flat, id: NodeId, node: &Node, tail: Tail, work: &mut Work) -> Tail
     requires node { IsNode flat.now id.0 node.now }
@@ -60,7 +61,7 @@ pub(crate) fn take_points(flat: &Flat, id: NodeId, node: &Node, tail: Tail, work
     points.tail().behind(first)
 }
 
-// Takes in a row that is a geometry of its own, and gives its entry.
+// Adds a row that is a geometry itself, and returns its entry.
 fn take_geometry(
     style: Style,
     node: &Node,
@@ -83,7 +84,7 @@ fn take_geometry(
     entry
 }
 
-// Takes in a row that is a part of a geometry.
+// Adds a row that is a part of a geometry.
 #[inline(always)]
 fn take_part(node: &Node, levels: &mut Depths)
     requires deep { node.now.row.depth < 35 }
@@ -98,8 +99,8 @@ fn take_part(node: &Node, levels: &mut Depths)
     levels.put(depth, own);
 }
 
-// Takes a row in: sets what the rows at its depth come to, with this row before them, and leaves none below. Gives its
-// entry, where it is a geometry of its own.
+// Adds a row: sets the totals at its depth, with this row before the others, and drops the rows
+// below. Returns its entry if it is a geometry itself.
 #[inline(always)]
 fn take_row(style: Style, node: &Node, points: &Tail, levels: &mut Depths) -> Option<Entry>
     requires deep { node.now.row.depth < 35 }
@@ -116,7 +117,8 @@ fn take_row(style: Style, node: &Node, points: &Tail, levels: &mut Depths) -> Op
     }
 }
 
-// Keeps an entry, where there is one; the first makes room for `most`, the only growth.
+// Appends an entry, if there is one. The first entry makes room for `most`, so the vector grows
+// only once.
 pub(crate) fn keep(
     entries: &mut Vec<Entry>,
     entry: Option<Entry>,
@@ -133,7 +135,8 @@ pub(crate) fn keep(
     entries.extend_from_slice(&[entry])
 }
 
-// The points up to the end of their geometry before a row whose points these are, with those after it.
+// The points up to the end of their geometry, as the row before them sees them: none if this row
+// begins a geometry.
 fn before_row(node: &Node, points: Tail) -> Tail
     ensures { result ≡ tail_after node.now.row.precision points }
 {
@@ -143,7 +146,7 @@ fn before_row(node: &Node, points: Tail) -> Tail
     }
 }
 
-// Makes entries those of a flat form, row by row from the last to the first.
+// Measures the rows of a flat form one by one, from the last to the first, and replaces the entries.
 fn measure_rows(
     flat: &Flat,
     style: Style,
@@ -171,7 +174,7 @@ fn measure_rows(
     Ok(())
 }
 
-// Makes entries those of a flat form.
+// Measures a flat form and replaces the entries.
 #[inline(always)]
 fn measure_entries(
     flat: &Flat,
@@ -189,7 +192,7 @@ fn measure_entries(
     measure_rows(flat, style, depths, entries, work)
 }
 
-// Counts so many points, nodes and entries as measured.
+// Counts these points, nodes and entries as measured.
 #[inline(always)]
 fn count_measured(points: u32, nodes: u32, entries: usize, work: &mut Work)
     ensures { (before : Before) → ReadsExactly before nodes points work.old → Counted before points nodes entries work.new }
@@ -199,9 +202,10 @@ fn count_measured(points: u32, nodes: u32, entries: usize, work: &mut Work)
     work.entries = work.entries.saturating_add(entries as u64);
 }
 
-/// Makes sizes those of a flat form in a style, in place of what they were: one entry for each TWKB geometry in preorder,
-/// and none where there is no node. Reads each node and each point once, in one pass at any nesting; counts them and the
-/// entries. Takes memory for the entries, where their room does not suffice.
+/// Measures a flat form in a style and replaces the sizes: one entry for each TWKB geometry in
+/// preorder, none if there is no node. Reads each node and each point once, in one pass at any
+/// nesting, and counts them and the entries. Takes memory for the entries if they have too little
+/// room.
 pub fn measure_into(
     flat: &Flat,
     style: Style,
@@ -222,9 +226,9 @@ pub fn measure_into(
     Ok(())
 }
 
-/// The sizes of a flat form in a style, one entry for each TWKB geometry in preorder, and none where there is no node.
-/// Reads each node and each point once, in one pass at any nesting; counts them and the entries. Takes memory, for the
-/// entries alone.
+/// Measures a flat form in a style: one entry for each TWKB geometry in preorder, none if there
+/// is no node. Reads each node and each point once, in one pass at any nesting, and counts them
+/// and the entries. Takes memory for the entries alone.
 pub fn measure_flat(
     alloc: Global,
     flat: &Flat,

@@ -1,4 +1,4 @@
-//! The members of a node: the nodes one deeper, from the one after it to the end of its subtree.
+//! The members of a node: the nodes one level deeper, up to the end of its subtree.
 ghost use Rattle.std.specs.Prelude.{◌≡◌, length};
 ghost use Rattle.twkb_flat.specs.Rows.{IsNode};
 ghost use Rattle.twkb_writer.specs.Bytes.{ids_bytes};
@@ -11,7 +11,7 @@ use crate::job::Placed;
 use twkb_flat::{Flat, NodeId, Work};
 use twkb_io::Sink;
 
-// What is written of a node's members: how many they are, and their ids where these are written.
+// How many members a node has, and whether their ids are written.
 #[derive(Clone, Copy)]
 pub(crate) struct MemberIds {
     pub(crate) count: u32,
@@ -38,7 +38,7 @@ pub(crate) fn put_ids<S: Sink>(
     }
 }
 
-// How many members a node has. Reads each once.
+// Counts the members of a node. Reads each once.
 pub(crate) fn count_members(flat: &Flat, at: &Placed, work: &mut Work) -> u32
     requires { IsNode flat.now at.now.id.0 at.now.node }
     ensures count { result ≡ length (members_of flat.now at.now) }

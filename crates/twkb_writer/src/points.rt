@@ -1,4 +1,4 @@
-//! The points of a row, as a way from point to point.
+//! The points of a row, written as differences.
 ghost use Rattle.std.specs.Prelude.{◌≡◌, ◌+◌, ◌≤◌, ◌<◌, ◌^◌, length};
 ghost use Rattle.twkb_tree.specs.Rows.{row_points};
 ghost use Rattle.twkb_writer.specs.Bytes.{way_bytes, way_end};
@@ -11,7 +11,7 @@ use twkb_flat::{Flat, Node, PointId, Work};
 use twkb_io::Sink;
 use twkb_points::Cursor;
 
-// Puts the way of a cursor through a node's own points, two at a time. Reads each once.
+// Puts the differences through a node's own points, two points at a time. Reads each point once.
 #[inline(always)]
 pub(crate) fn put_points<S: Sink>(
     flat: &Flat,

@@ -1,20 +1,20 @@
-//! Whether geometries have one precision.
+//! The precisions of several geometries, and whether they are equal.
 ghost use Rattle.std.specs.Prelude.{◌≡◌};
 ghost use Rattle.twkb_writer.specs.Precisions.{agreed, all_are};
 
-// What is known of the precisions of some geometries.
+// The precisions of some geometries, as far as a box needs them.
 #[derive(Clone, Copy)]
 pub(crate) enum Precisions {
     // There is no geometry.
     Absent,
-    // All have this one.
+    // All geometries have this one.
     One(i8),
-    // Two differ.
+    // Two geometries differ.
     Several,
 }
 
 impl Precisions {
-    // Whether all are this one.
+    // Whether all geometries have this precision.
     pub(crate) fn all_are(self, precision: i8) -> bool
         ensures { result ≡ all_are precision self }
     {
@@ -25,7 +25,7 @@ impl Precisions {
         }
     }
 
-    // What is known of these and of others.
+    // The precisions of these geometries and of others.
     pub(crate) fn and(self, others: Precisions) -> Precisions
         ensures { result ≡ agreed self others }
     {

@@ -1,4 +1,4 @@
-//! The rows of a flat form, one after another.
+//! The rows of a flat form, written one after another.
 ghost use Rattle.std.specs.Prelude.{◌≡◌, ◌+◌, ◌*◌, ◌≤◌, ◌<◌, ◌^◌, length, if◌then◌else◌};
 ghost use Rattle.twkb_tree.specs.Rows.{row_points};
 ghost use Rattle.twkb_flat.specs.Rows.{IsNode};
@@ -18,7 +18,7 @@ use twkb_io::Sink;
 use twkb_points::Cursor;
 use twkb_tree::Kind;
 
-// Puts a count of members, and their ids where these are written.
+// Puts the count of a node's members, and their ids if they are written.
 fn put_members<S: Sink>(
     flat: &Flat,
     at: &Placed,
@@ -37,7 +37,7 @@ fn put_members<S: Sink>(
     put_ids(flat, at, gatherer, work);
 }
 
-// Puts what stands before a node's points, behind its header.
+// Puts the counts and ids before a node's points, after its header.
 #[inline(always)]
 fn put_counts<S: Sink>(
     flat: &Flat,
@@ -61,7 +61,7 @@ fn put_counts<S: Sink>(
     }
 }
 
-// Puts what stands between the header of a geometry and the points of its row.
+// Puts what comes between the header of a geometry and the points of its row.
 #[inline(always)]
 fn put_own<S: Sink>(
     flat: &Flat,
@@ -84,7 +84,7 @@ fn put_own<S: Sink>(
     put_counts(flat, at, members, gatherer, work);
 }
 
-// Puts what stands before the points of a part of a geometry.
+// Puts what comes before the points of a part of a geometry.
 #[inline(always)]
 fn put_part<S: Sink>(
     flat: &Flat,
@@ -104,14 +104,14 @@ fn put_part<S: Sink>(
     put_counts(flat, at, members, gatherer, work);
 }
 
-// Where the way stands, and the entry of the next geometry.
+// The cursor's place, and the index of the next geometry's entry.
 #[derive(Clone, Copy)]
 struct Place {
     cursor: Cursor,
     entry: usize,
 }
 
-// Where the points of a row of this precision begin, and the entry of the next geometry behind it.
+// The place where the points of a row with this precision begin, and the index of the entry after it.
 #[inline(always)]
 fn place_of_points(precision: Option<i8>, place: Place) -> Place
     requires { place.entry + entry_count precision < 2 ^ 64 }
@@ -127,7 +127,7 @@ fn place_of_points(precision: Option<i8>, place: Place) -> Place
     }
 }
 
-// Puts what stands before the points of a row.
+// Puts what comes before the points of a row.
 #[inline(always)]
 fn put_lead<S: Sink>(
     job: &Job<'_>,
@@ -162,7 +162,7 @@ pub(crate) fn put_rows<S: Sink>(
     ensures put { Put S.took S.refused gatherer.old (bytes_of job.now) gatherer.new }
     ensures reads { Reads work.old (2 * length job.now.flat.now) (length (row_points job.now.flat.now)) work.new }
 {
-    // learnt: the entries are fewer than 2^64
+    // gives proofs the fact that there are fewer than 2^64 entries
     let _learnt = job.sizes.len();
     let flat = job.flat;
     let mut place = Place {

@@ -5,20 +5,21 @@ use std::alloc::Global;
 use std::marker::Model;
 use twkb_points::Bounds;
 
-// What is measured of a TWKB geometry before its header can be written.
+// The numbers of a TWKB geometry that are needed before its header can be written.
 #[derive(Clone, Copy)]
 pub(crate) struct Entry {
-    // The bytes behind the size up to the geometry's end: box and body.
+    // The number of bytes after the size up to the geometry's end: box and body.
     pub(crate) size: u64,
-    // The bounds of all its points, where it has a box.
+    // The bounds of all its points, if it has a box.
     pub(crate) bounds: Option<Bounds>,
-    // How many members or rings it has.
+    // The number of its members or rings.
     pub(crate) members: u32,
     // Whether its members have ids.
     pub(crate) named: bool,
 }
 
-/// The sizes of a flat form in a style, one entry for each TWKB geometry, in preorder. A contract sees the list of these.
+/// The sizes of a flat form in a style: one entry for each TWKB geometry, in preorder. A contract
+/// sees the list of these entries.
 #[derive(Drop)]
 pub struct Sizes {
     pub(crate) entries: Vec<Entry>,
@@ -34,7 +35,7 @@ impl Model for Sizes {
 }
 
 impl Sizes {
-    /// No entries. Takes no memory.
+    /// Makes sizes without entries. Takes no memory.
     pub fn new(alloc: Global) -> Sizes
         ensures { result ≡ [] }
     {
@@ -43,7 +44,7 @@ impl Sizes {
         }
     }
 
-    /// How many TWKB geometries were measured. Takes no memory.
+    /// The number of TWKB geometries that were measured. Takes no memory.
     pub fn len(&self) -> usize
         ensures { result ≡ length self.now }
     {

@@ -1,4 +1,4 @@
-//! The points from a place on up to the end of their geometry, taken in from the last to the first.
+//! The points from a place up to the end of their geometry, added from the last to the first.
 ghost use Rattle.std.specs.Prelude.{◌≡◌, ◌+◌, ◌≤◌, ◌^◌, [], ◌∷◌, List};
 ghost use Rattle.twkb_points.specs.Point.{Point};
 ghost use Rattle.twkb_writer.specs.Tails.{step_len, from_origin, tail_from, tail_of};
@@ -7,18 +7,19 @@ use crate::lengths::signed_len;
 use twkb_num::{VarintLens, zigzag};
 use twkb_points::{Bounds, Cursor, Pt, merged};
 
-// What the points from a place on up to the end of their geometry come to.
+// The totals of the points from a place up to the end of their geometry.
 #[derive(Clone, Copy)]
 pub(crate) struct Tail {
-    // The first of them.
+    // The first of the points.
     pub(crate) first: Option<Pt>,
-    // The bytes of the differences of all but the first, each from the point before it.
+    // The number of bytes of the differences of all points but the first, each from the point
+    // before it.
     pub(crate) bytes: u64,
-    // Their bounds.
+    // The bounds of the points.
     pub(crate) bounds: Option<Bounds>,
 }
 
-// The same of one point at least.
+// The totals of at least one point.
 #[derive(Drop)]
 pub(crate) struct NonEmptyTail {
     pub(crate) first: Pt,
@@ -26,7 +27,7 @@ pub(crate) struct NonEmptyTail {
     pub(crate) bounds: Bounds,
 }
 
-// The bytes of the way from one point to the next.
+// The number of bytes of the difference from one point to the next.
 fn step_len(from: Pt, to: Pt) -> u64
     ensures value { result ≡ step_len from to }
     ensures most { result ≤ 20 }
@@ -37,7 +38,7 @@ fn step_len(from: Pt, to: Pt) -> u64
     signed_len(x) + signed_len(y)
 }
 
-// Counts the bytes of the way from one point by another to a third.
+// Counts the bytes of the differences from one point by another to a third.
 #[tactic(auto, unfolding(crate::specs::Tails::number_len))]
 #[inline(always)]
 fn add_two_steps(bytes: &mut VarintLens, from: Pt, by: Pt, to: Pt)
@@ -53,7 +54,7 @@ fn add_two_steps(bytes: &mut VarintLens, from: Pt, by: Pt, to: Pt)
 }
 
 impl Tail {
-    // No points.
+    // Makes the totals of no points.
     pub(crate) fn none() -> Tail
         ensures { result ≡ tail_of [] }
     {
@@ -64,7 +65,7 @@ impl Tail {
         }
     }
 
-    // The same with a point before them.
+    // Adds a point before these points.
     pub(crate) fn behind(self, point: Pt) -> Tail
         requires room { self.bytes ≤ 2 ^ 40 }
         ensures value { (ps : List Point) → self ≡ tail_of ps → result ≡ tail_of (point ∷ ps) }
@@ -81,7 +82,7 @@ impl Tail {
         }
     }
 
-    // The same with a point before them, so that there is one.
+    // Adds a point before these points, so that there is at least one.
     #[inline(always)]
     pub(crate) fn begun(self, point: Pt) -> NonEmptyTail
         requires room { self.bytes ≤ 2 ^ 40 }
@@ -103,7 +104,7 @@ impl Tail {
         }
     }
 
-    // The bytes of all their differences, where the first counts from (0, 0).
+    // The number of bytes of all differences, the first of them from (0, 0).
     pub(crate) fn from_origin(&self) -> u64
         requires room { self.now.bytes ≤ 2 ^ 40 }
         ensures value { result ≡ from_origin self.now }
@@ -120,7 +121,7 @@ impl Tail {
 }
 
 impl NonEmptyTail {
-    // The same with two points before them.
+    // Adds two points before these points.
     #[inline(always)]
     pub(crate) fn behind_two(self, point: Pt, next: Pt) -> NonEmptyTail
         requires room { self.bytes ≤ 2 ^ 31 }
@@ -140,7 +141,7 @@ impl NonEmptyTail {
         }
     }
 
-    // The same as any tail.
+    // Turns the totals of at least one point into those of any number.
     #[inline(always)]
     pub(crate) fn tail(self) -> Tail
         requires { self.bytes ≤ 2 ^ 31 }

@@ -1,4 +1,4 @@
-//! The length of a geometry's canonical blob, measured on the geometry itself.
+//! The length of a geometry's canonical blob, measured on the geometry itself, without a flat form.
 ghost use Rattle.std.specs.Prelude.{◌≡◌, ◌+◌, ◌++◌, ◌∷◌, [], ◌*◌, ◌≤◌, ◌^◌, List, length, flat_map};
 ghost use Rattle.twkb_points.specs.Point.{Point};
 ghost use Rattle.twkb_tree.specs.Limits.{largest_limits, IsValid};
@@ -17,19 +17,19 @@ use twkb_grammar::Style;
 use twkb_points::Pt;
 use twkb_tree::{Geometry, Ids, Item, Kind, Lines, Members, Pts, Shape, id_at, own_parts};
 
-// A part of a geometry that is no geometry of its own: a point, line, ring or polygon.
+// A part of a geometry that is not a geometry itself: a point, line, ring or polygon.
 trait Part: Item {
-    // The points of its own row.
+    // The points of the part's own row.
     ghost own: { Self → List Point };
 
-    // All its points, in order.
+    // All points of the part, in order.
     ghost all: { Self → List Point };
 
-    // The points of its own row. Takes no memory.
+    // The points of the part's own row. Takes no memory.
     fn own_points(&self) -> &[Pt]
         ensures { result.now ≡ own self.now };
 
-    // Its points before those up to the end of the geometry.
+    // Adds the part's points before those up to the end of the geometry.
     fn in_front_of(&self, tail: Tail) -> Tail
         requires room { tail.bytes + 20 * length (all self.now) ≤ 2 ^ 40 }
         ensures value { (ahead : List Point) → tail ≡ tail_of ahead → result ≡ tail_of (all self.now ++ ahead) }
@@ -78,7 +78,7 @@ impl Part for Lines {
     }
 }
 
-// The points of parts before those up to the end of the geometry.
+// Adds the points of parts before those up to the end of the geometry.
 fn tail_before<T: Part>(parts: &[T], tail: Tail) -> Tail
     requires room { tail.bytes + 20 * length (flat_map T.all parts.now) ≤ 2 ^ 40 }
     ensures value { (ahead : List Point) → tail ≡ tail_of ahead → result ≡ tail_of (flat_map T.all parts.now ++ ahead) }
@@ -91,7 +91,7 @@ fn tail_before<T: Part>(parts: &[T], tail: Tail) -> Tail
     tail
 }
 
-// What rings, or members that are points or linestrings, come to.
+// The totals of rings, or of members that are points or linestrings.
 fn parts_level<T: Part>(kind: Kind, parts: &[T], ids: &Ids) -> Level
     requires few { length parts.now ≤ 2 ^ 20 }
     requires few_points { length (flat_map T.own parts.now) ≤ 2 ^ 24 }
@@ -106,7 +106,7 @@ fn parts_level<T: Part>(kind: Kind, parts: &[T], ids: &Ids) -> Level
     level
 }
 
-// What members that are polygons come to.
+// The totals of members that are polygons.
 fn areas_level(areas: &[Lines], ids: &Ids) -> Level
     requires few { area_nodes areas.now ≤ 2 ^ 20 }
     requires few_points { length (flat_map flatten areas.now) ≤ 2 ^ 24 }
@@ -136,7 +136,7 @@ fn own_tail(geometry: &Geometry) -> Tail
     }
 }
 
-// What the members of a collection come to, with these ids.
+// The totals of the members of a collection, with these ids.
 #[cycle(measuring)]
 #[tactic(auto, using(twkb_tree::specs::Size::member_smaller))]
 fn members_level(members: &Members, ids: &Ids) -> Level
@@ -152,7 +152,7 @@ fn members_level(members: &Members, ids: &Ids) -> Level
     level
 }
 
-// What the rows below a geometry's own come to.
+// The totals of the rows below a geometry's own row.
 #[cycle(measuring)]
 fn below(geometry: &Geometry) -> Level
     requires { IsWithinCaps (nodes geometry.now) (length (flat geometry.now)) }
@@ -169,7 +169,7 @@ fn below(geometry: &Geometry) -> Level
     }
 }
 
-// The rows at a depth with a geometry before them, which has this id.
+// Adds a geometry with this id before the rows at its depth.
 #[cycle(measuring)]
 fn with_member(geometry: &Geometry, id: Option<i64>, others: Level) -> Level
     requires caps { IsWithinCaps (nodes geometry.now) (length (flat geometry.now)) }
@@ -188,8 +188,8 @@ fn with_member(geometry: &Geometry, id: Option<i64>, others: Level) -> Level
     others.with_geometry(Style::Full, entry.size, precision, id, &level, &tail)
 }
 
-/// The length of the full canonical blob of a geometry within `Limits::largest()`, as `encode` writes it. Reads each
-/// point once, whatever the nesting. Takes no memory.
+/// The length of the full canonical blob of a geometry within `Limits::largest()`, as `encode`
+/// writes it. Reads each point once, whatever the nesting. Takes no memory.
 pub fn measure(geometry: &Geometry) -> u64
     requires { IsValid largest_limits geometry.now }
     ensures { result ≡ length (canonical_blob Full geometry.now) }

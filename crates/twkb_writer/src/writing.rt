@@ -1,4 +1,4 @@
-//! Flat forms as canonical blobs.
+//! Writing flat forms as canonical blobs.
 ghost use Rattle.std.specs.Prelude.{◌≡◌, ◌*◌, [], length, OnOk, IfErr, IsOk};
 ghost use Rattle.twkb_tree.specs.Tree.{Tree, IsTree};
 ghost use Rattle.twkb_tree.specs.Rows.{rows, row_points};
@@ -16,10 +16,11 @@ use twkb_flat::{Flat, Work};
 use twkb_grammar::Style;
 use twkb_io::Sink;
 
-/// Writes the canonical blob of a flat form in a style, with its sizes in that style: exactly these bytes where it answers
-/// `Ok`, else a front of them. Writes nothing for a flat form without rows. Reads each point once at most and each node
-/// twice at most, at any nesting, and adds nothing else to the counted work. The bytes go through the piece, whatever it
-/// holds. Takes no memory.
+/// Writes the canonical blob of a flat form in a style, given its sizes in that style. If it
+/// returns `Ok` the sink got exactly these bytes, otherwise a prefix of them; for a flat form
+/// without rows it got nothing. Reads each point at most once and each node at most twice, at any
+/// nesting, and counts nothing else as work. The bytes go through the piece, whatever it holds.
+/// Takes no memory.
 pub fn write_through<S: Sink>(
     flat: &Flat,
     style: Style,
@@ -30,12 +31,12 @@ pub fn write_through<S: Sink>(
 ) -> Result<(), S::Fault>
     requires { AreSizes style flat.now sizes.now }
 
-    // the blob, or a front of it
+    // the blob, or a prefix of it
     ensures ok { OnOk result ((g : Tree) → IsTree g → rows 0 g ≡ flat.now → S.took sink.old (canonical_blob style g) sink.new) }
     ensures err { IfErr result (λ fault. (g : Tree) → IsTree g → rows 0 g ≡ flat.now → TookFront S.refused sink.old (canonical_blob style g) fault sink.new) }
     ensures nothing { flat.now ≡ [] → (IsOk result) × (sink.new ≡ sink.old) }
 
-    // the work
+    // the work that is counted
     ensures reads { OnOk result (Reads work.old (2 * length flat.now) (length (row_points flat.now)) work.new) }
 {
     if flat.is_empty() {
@@ -57,9 +58,10 @@ pub fn write_through<S: Sink>(
     }
 }
 
-/// Writes the canonical blob of a flat form in a style, with its sizes in that style: exactly these bytes where it answers
-/// `Ok`, else a front of them. Writes nothing for a flat form without rows. Reads each point once at most and each node
-/// twice at most, at any nesting, and adds nothing else to the counted work. Takes no memory.
+/// Writes the canonical blob of a flat form in a style, given its sizes in that style. If it
+/// returns `Ok` the sink got exactly these bytes, otherwise a prefix of them; for a flat form
+/// without rows it got nothing. Reads each point at most once and each node at most twice, at any
+/// nesting, and counts nothing else as work. Takes no memory.
 pub fn write_flat<S: Sink>(
     flat: &Flat,
     style: Style,
@@ -69,12 +71,12 @@ pub fn write_flat<S: Sink>(
 ) -> Result<(), S::Fault>
     requires { AreSizes style flat.now sizes.now }
 
-    // the blob, or a front of it
+    // the blob, or a prefix of it
     ensures ok { OnOk result ((g : Tree) → IsTree g → rows 0 g ≡ flat.now → S.took sink.old (canonical_blob style g) sink.new) }
     ensures err { IfErr result (λ fault. (g : Tree) → IsTree g → rows 0 g ≡ flat.now → TookFront S.refused sink.old (canonical_blob style g) fault sink.new) }
     ensures nothing { flat.now ≡ [] → (IsOk result) × (sink.new ≡ sink.old) }
 
-    // the work
+    // the work that is counted
     ensures reads { OnOk result (Reads work.old (2 * length flat.now) (length (row_points flat.now)) work.new) }
 {
     write_through(flat, style, sizes, &mut Piece::new(), sink, work)

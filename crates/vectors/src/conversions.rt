@@ -1,4 +1,4 @@
-//! What the conversions make of blobs and tables, as lines of text.
+//! The results of the conversions of blobs and tables, as lines of text.
 use super::text::{put_counts, put_hex, put_lines, put_stop};
 use std::alloc::Global;
 use twkb_convert::{ConvertFault, Report, Style, pack_styled, show, unpack};
@@ -41,7 +41,7 @@ fn word_of(what: Conversion) -> &'static [u8] {
     }
 }
 
-// How many geometries were converted and how many bytes written.
+// The numbers of geometries converted and of bytes written.
 fn counts_of(answer: Result<Report, ConvertFault>) -> [u64; 2] {
     match answer {
         Ok(report) => [report.geometries, report.bytes],
@@ -49,7 +49,8 @@ fn counts_of(answer: Result<Report, ConvertFault>) -> [u64; 2] {
     }
 }
 
-/// Prints the numbers of a conversion, the lines or bytes that it wrote, and why it stopped; and gives what it wrote.
+/// Prints the numbers of a conversion, the lines or bytes that it wrote, and why it stopped;
+/// returns what it wrote.
 pub fn put_conversion(
     alloc: Global,
     what: Conversion,
@@ -69,7 +70,8 @@ pub fn put_conversion(
     written
 }
 
-/// Prints what each conversion makes of a blob: its headers, its table, and that table's blobs in both styles.
+/// Prints the result of each conversion of a blob: its headers, its table, and that table's blobs
+/// in both styles.
 pub fn put_all(alloc: Global, limits: Limits, blob: &[u8], text: &mut Vec<u8>) {
     put_conversion(alloc, Conversion::Show, limits, blob, text);
     let table = put_conversion(alloc, Conversion::Unpack, limits, blob, text);

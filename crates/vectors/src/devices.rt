@@ -4,7 +4,8 @@ use std::alloc::Global;
 use std::io::{Read, Write};
 use twkb_io::{Fuse, FuseEnd, InFault, Input, OutFault, Output, Sink, Tap};
 
-// A device that passes as much as words say, and what stands behind these words: at most how many bytes a call, how many in all, and how it ends.
+// Makes a device as words describe it, and returns the rest of the words: the most bytes a call,
+// the most in all, and how it ends.
 fn cut_device<D: Drop>(device: D, words: &str) -> (Tap<Fuse<D>>, &str) {
     let (step, rest) = cut_word(words);
     let (left, rest) = cut_word(rest);
@@ -28,7 +29,7 @@ fn put_next(alloc: Global, answer: Result<Option<u8>, InFault>, text: &mut Vec<u
     }
 }
 
-// Prints what calls for a byte answer; then the bytes given, and the failures.
+// Prints the answers to calls for a byte, then the number of bytes given and of failures.
 fn put_calls<R: Read>(alloc: Global, tap: &mut Tap<R>, calls: u32, text: &mut Vec<u8>) {
     let mut input = Input::new(tap);
     for _ in 0..calls {
@@ -37,7 +38,8 @@ fn put_calls<R: Read>(alloc: Global, tap: &mut Tap<R>, calls: u32, text: &mut Ve
     put_counts(alloc, text, b";", &[input.offset(), input.failures()]);
 }
 
-/// Prints what an input over a device of nine bytes answers; the bytes given, the failures, and the calls of the device.
+/// Prints the answers of an input over a device of nine bytes, the numbers of bytes given and of
+/// failures, and the calls of the device.
 pub fn put_input(alloc: Global, words: &str, text: &mut Vec<u8>) {
     let (mut tap, calls) = cut_device([1, 2, 3, 4, 5, 6, 7, 8, 9].as_slice(), words);
     put(text, b"\n  input");
@@ -53,7 +55,7 @@ fn put_done(alloc: Global, answer: Result<(), OutFault>, text: &mut Vec<u8>) {
     }
 }
 
-// Prints what three puts and two flushes answer; then the bytes sent, and the failures.
+// Prints the answers to three puts and two flushes, then the numbers of bytes sent and of failures.
 fn put_puts<W: Write>(alloc: Global, tap: &mut Tap<W>, text: &mut Vec<u8>) {
     let mut output = Output::new(tap);
     put_done(alloc, output.put(&[]), text);
@@ -64,7 +66,8 @@ fn put_puts<W: Write>(alloc: Global, tap: &mut Tap<W>, text: &mut Vec<u8>) {
     put_counts(alloc, text, b";", &[output.sent(), output.failures()]);
 }
 
-/// Prints what an output over a device answers; the bytes sent, the failures, the calls of the device, and what it took.
+/// Prints the answers of an output over a device, the numbers of bytes sent and of failures, the
+/// calls of the device, and what it took.
 pub fn put_output(alloc: Global, words: &str, text: &mut Vec<u8>) {
     let (mut tap, _) = cut_device(Vec::new(alloc), words);
     put(text, b"\n  output");

@@ -5,7 +5,8 @@ use twkb_table::{
     parse_depth, parse_id, parse_kind, parse_optional_id, parse_optional_precision, parse_precision,
 };
 
-/// Prints what a field spells as each of the four that are no polyline, two of which may be left out.
+/// Prints what a field spells as each of the four fields that are no polyline, two of which may
+/// be empty.
 pub fn put_field(alloc: Global, field: &[u8], text: &mut Vec<u8>) {
     let depth = parse_depth(field);
     let ids = (parse_id(field), parse_optional_id(field));

@@ -5,7 +5,8 @@ use twkb_geom::{Flat, Geometry, Limits, NodeId, PointId, Work};
 use twkb_io::Tap;
 use twkb_table::TableReader;
 
-// The form of the first geometry of these rows, under the largest limits; without rows where there is none.
+// The form of the first geometry of these rows, within the largest limits; without rows if there
+// is none.
 fn form_of(alloc: Global, rows: &[u8]) -> Flat {
     let mut flat = Flat::new(alloc);
     let table = table_of(alloc, rows);
@@ -22,14 +23,14 @@ fn put_nodes(alloc: Global, flat: &Flat, work: &mut Work, text: &mut Vec<u8>) {
     }
 }
 
-// The same of the points.
+// Prints the points, and counts them as read.
 fn put_points(alloc: Global, flat: &Flat, work: &mut Work, text: &mut Vec<u8>) {
     for id in 0..flat.point_count() {
         put_named(alloc, text, b"\n  ", &flat.point(PointId(id), work));
     }
 }
 
-/// Prints the nodes and points of these rows, and how many of both were read.
+/// Prints the nodes and points of these rows, and how many of each were read.
 pub fn put_form(alloc: Global, rows: &[u8], text: &mut Vec<u8>) {
     let flat = form_of(alloc, rows);
     let mut work = Work::new();
@@ -43,7 +44,8 @@ pub fn put_form(alloc: Global, rows: &[u8], text: &mut Vec<u8>) {
     );
 }
 
-// Prints rows, points, whether the geometry is within limits and has one precision, and its box, if it has one.
+// Prints the numbers of rows and points, whether the geometry is within limits and has one
+// precision, and its box, if it has one.
 fn put_geometry(alloc: Global, limits: Limits, geometry: &Geometry, text: &mut Vec<u8>) {
     put_counts(alloc, text, b"", &[geometry.nodes(), geometry.points()]);
     put_shown(alloc, text, b" ", &geometry.within(&limits));
@@ -53,7 +55,7 @@ fn put_geometry(alloc: Global, limits: Limits, geometry: &Geometry, text: &mut V
     }
 }
 
-// The same of the geometry of a form, if it has rows.
+// Prints the same of the geometry built from a form, if it has rows.
 fn put_built(alloc: Global, limits: Limits, flat: &Flat, text: &mut Vec<u8>) {
     if flat.is_empty() {
         return;
@@ -67,7 +69,8 @@ fn put_built(alloc: Global, limits: Limits, flat: &Flat, text: &mut Vec<u8>) {
     }
 }
 
-/// Prints what the geometry of these rows tells, if there is one, which is read under the largest limits.
+/// Prints these facts about the geometry of these rows, if there is one. It is read within the
+/// largest limits.
 pub fn put_tree(alloc: Global, limits: Limits, rows: &[u8], text: &mut Vec<u8>) {
     put(text, b"\n  geometry");
     put_built(alloc, limits, &form_of(alloc, rows), text);

@@ -13,18 +13,18 @@ use std::alloc::Global;
 use twkb_geom::Limits;
 use twkb_num::{Five, Leb128};
 
-/// What a word says of the line behind it.
+/// The meaning of a word for the line after it.
 #[derive(Clone, Copy)]
 enum Word {
     /// The limits of the lines that follow.
     Limits,
-    /// Rows of a table, or a whole one, a slash for the end of each line.
+    /// Rows of a table, or a whole table, with a slash for each line end.
     Geometry,
     Form,
     Full,
     Plain,
     Table,
-    /// Digits of bytes.
+    /// Digits of bytes, in hexadecimal.
     Blob,
     Read,
     Show,
@@ -42,7 +42,7 @@ enum Word {
     Output,
     Run,
     Words,
-    /// Nothing: the line is printed alone.
+    /// A comment: the line is only printed.
     Comment,
 }
 
@@ -71,7 +71,7 @@ const WORDS: [(&str, Word); 22] = [
     ("words", Word::Words),
 ];
 
-// What a word says.
+// The meaning of a word.
 fn meaning_of(word: &str) -> Word {
     for (name, meaning) in &WORDS {
         if *name == word {
@@ -81,7 +81,8 @@ fn meaning_of(word: &str) -> Word {
     Word::Comment
 }
 
-// The limits of three numbers: nesting, nodes and points; those of the standard where there are none such.
+// The limits with three numbers: nesting, nodes and points; the standard ones if the numbers are
+// no limits.
 fn limits_of(numbers: &str) -> Limits {
     let (nest, rest) = cut_word(numbers);
     let (nodes, points) = cut_word(rest);
@@ -89,7 +90,7 @@ fn limits_of(numbers: &str) -> Limits {
     limits.unwrap_or(Limits::standard())
 }
 
-// Answers of tables, whose header is left out but for a whole one.
+// Prints the answers for tables, whose header is left out except in a whole table.
 fn answer_lines(alloc: Global, limits: Limits, what: Word, lines: &[u8], text: &mut Vec<u8>) {
     match what {
         Word::Geometry => put_tree(alloc, limits, lines, text),
@@ -101,7 +102,7 @@ fn answer_lines(alloc: Global, limits: Limits, what: Word, lines: &[u8], text: &
     }
 }
 
-// Prints what `show` writes, and the spans.
+// Prints the lines of `show`, and the spans.
 fn put_shown_stream(alloc: Global, limits: Limits, bytes: &[u8], text: &mut Vec<u8>) {
     put_conversion(alloc, Conversion::Show, limits, bytes, text);
     put_located(alloc, limits, bytes, text);
@@ -112,7 +113,7 @@ fn put_unpacked(alloc: Global, limits: Limits, bytes: &[u8], text: &mut Vec<u8>)
     put_conversion(alloc, Conversion::Unpack, limits, bytes, text);
 }
 
-// Answers of bytes.
+// Prints the answers for bytes.
 fn answer_bytes(alloc: Global, limits: Limits, what: Word, bytes: &[u8], text: &mut Vec<u8>) {
     match what {
         Word::Blob => put_all(alloc, limits, bytes, text),
@@ -126,7 +127,7 @@ fn answer_bytes(alloc: Global, limits: Limits, what: Word, bytes: &[u8], text: &
     }
 }
 
-// Answers of words.
+// Prints the answers for words.
 fn answer_words(alloc: Global, what: Word, rest: &str, text: &mut Vec<u8>) {
     match what {
         Word::Number => put_number(alloc, rest, text),
@@ -142,7 +143,7 @@ fn answer_words(alloc: Global, what: Word, rest: &str, text: &mut Vec<u8>) {
     }
 }
 
-/// Prints what is made of a line under these limits, and gives the limits of the lines behind it.
+/// Prints the answers for a line under these limits, and returns the limits for the lines after it.
 pub fn answer(alloc: Global, limits: Limits, line: &str, text: &mut Vec<u8>) -> Limits {
     let (word, rest) = cut_word(line);
     let what = meaning_of(word);

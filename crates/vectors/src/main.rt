@@ -1,4 +1,4 @@
-//! Reads lines, prints each, and behind it what is made of it.
+//! Reads lines, and prints each with its answers after it.
 #![tactic(auto)]
 
 mod conversions;

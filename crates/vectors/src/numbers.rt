@@ -3,7 +3,7 @@ use super::text::{number_of, put, put_hex, put_shown};
 use std::alloc::Global;
 use twkb_num::{Five, Groups, Leb128, NumBuf, Partial, Step, unzigzag, varint_len, zigzag};
 
-// Prints what a reader answers to a unit: a dot where it goes on.
+// Prints the answer of a reader to a unit: a dot if the spelling goes on.
 fn put_step(alloc: Global, step: Step, text: &mut Vec<u8>) {
     match step {
         Step::More => put(text, b"."),
@@ -18,7 +18,7 @@ fn put_step(alloc: Global, step: Step, text: &mut Vec<u8>) {
     }
 }
 
-/// Prints what one reader answers to these units, and how many it holds at the end.
+/// Prints the answers of one reader to these units, and the number of units it holds at the end.
 pub fn put_units<G: Groups>(alloc: Global, units: &[u8], text: &mut Vec<u8>) {
     let mut partial = Partial::<G>::new();
     put(text, b"\n  units");
@@ -37,7 +37,7 @@ pub fn put_number(alloc: Global, word: &str, text: &mut Vec<u8>) {
     put(text, NumBuf::put::<Five>(number).as_slice());
 }
 
-/// Prints the zigzag form of a number, and the number of that form.
+/// Prints the zigzag form of a number, and the number with that form.
 pub fn put_zigzag(alloc: Global, word: &str, text: &mut Vec<u8>) {
     let form = zigzag(word.parse::<i64>().unwrap_or(0));
     put_shown(alloc, text, b"\n  zigzag ", &form);

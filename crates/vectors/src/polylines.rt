@@ -12,7 +12,7 @@ fn is_written_so(alloc: Global, points: &[Pt], polyline: &[u8]) -> bool {
     }
 }
 
-// Prints points, and whether their polyline is another one.
+// Prints points, and whether their polyline is a different one.
 fn put_list(alloc: Global, points: &Vec<Pt>, polyline: &[u8], text: &mut Vec<u8>) {
     put_named(alloc, text, b"\n  points ", points);
     if !is_written_so(alloc, points, polyline) {
@@ -20,7 +20,7 @@ fn put_list(alloc: Global, points: &Vec<Pt>, polyline: &[u8], text: &mut Vec<u8>
     }
 }
 
-/// Prints the points of a polyline, at most so many, or where and why it is refused.
+/// Prints the points of a polyline, at most `most`, or where and why it is refused.
 pub fn put_polyline(alloc: Global, most: u32, polyline: &[u8], text: &mut Vec<u8>) {
     match decode(alloc, polyline, most) {
         Ok(points) => put_list(alloc, &points, polyline, text),
@@ -28,13 +28,14 @@ pub fn put_polyline(alloc: Global, most: u32, polyline: &[u8], text: &mut Vec<u8
     }
 }
 
-/// The same of the number of points and the characters of a line.
+/// Prints the points of the polyline that a line's words give: the most points, and the characters.
 pub fn put_polyline_of_text(alloc: Global, rest: &str, text: &mut Vec<u8>) {
     let (most, polyline) = cut_word(rest);
     put_polyline(alloc, count_of(most), polyline.as_bytes(), text);
 }
 
-/// The same of the digits of bytes.
+/// Prints the points of the polyline that a line's words give: the most points, and the digits of
+/// its bytes.
 pub fn put_polyline_of_bytes(alloc: Global, rest: &str, text: &mut Vec<u8>) {
     let (most, digits) = cut_word(rest);
     put_polyline(alloc, count_of(most), &bytes_of(alloc, digits), text);

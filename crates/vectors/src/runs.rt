@@ -17,7 +17,8 @@ fn words_of(alloc: Global, line: &str) -> Vec<String> {
     words
 }
 
-// Prints a word, and behind it the digits of an output that begins with a control character, and else lines.
+// Prints a word and the output after it: as digits if it begins with a control character,
+// otherwise as lines.
 fn put_output(alloc: Global, word: &[u8], output: &[u8], text: &mut Vec<u8>) {
     put(text, word);
     match output.first() {
@@ -26,7 +27,7 @@ fn put_output(alloc: Global, word: &[u8], output: &[u8], text: &mut Vec<u8>) {
     }
 }
 
-// The input that digits give, or rows, or a whole text.
+// The input that the words give: digits, rows, or a whole text.
 fn input_of(alloc: Global, given: &str) -> Vec<u8> {
     let (word, rest) = cut_word(given);
     match word {
@@ -36,7 +37,7 @@ fn input_of(alloc: Global, given: &str) -> Vec<u8> {
     }
 }
 
-/// Prints what comes of a run with the words of a line, over the input that stands behind them and a `<`.
+/// Prints the result of a run with the words of a line, over the input that follows them after a `<`.
 pub fn put_run(alloc: Global, rest: &str, text: &mut Vec<u8>) {
     let (line, given) = rest.split_once(" < ").unwrap_or((rest, ""));
     put_run_over(alloc, line, &input_of(alloc, given), text);
@@ -54,7 +55,7 @@ fn put_run_over(alloc: Global, line: &str, input: &[u8], text: &mut Vec<u8>) {
     put_output(alloc, b"\n  errors", &errors.into_inner(), text);
 }
 
-/// Prints what the words of a line ask for: a conversion, three limits and a style.
+/// Prints the request that the words of a line make: a conversion, three limits and a style.
 pub fn put_request(alloc: Global, line: &str, text: &mut Vec<u8>) {
     let request = read_words(alloc, &words_of(alloc, line)).ok();
     put_named(alloc, text, b"\n  asks for ", &request);

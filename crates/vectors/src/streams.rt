@@ -1,4 +1,4 @@
-//! Each way to read a stream: what its geometries are as full blobs, or their spans, and the fault behind them.
+//! Each way to read a stream: its geometries as full blobs, or their spans, and the fault after them.
 use super::text::{put, put_hex, put_named, put_stop};
 use std::alloc::Global;
 use std::io::Read;
@@ -6,7 +6,7 @@ use twkb_blob::{BlobFault, Reader, Session, Span, Style, encode, measure_flat, w
 use twkb_geom::{Flat, Geometry, Limits, Work};
 use twkb_io::{Bytes, Input, Tap};
 
-/// What a stream is read as.
+/// How a stream is read.
 #[derive(Clone, Copy)]
 enum Way {
     Trees,
@@ -23,7 +23,7 @@ fn put_blob(alloc: Global, geometry: &Geometry, blobs: &mut Vec<u8>) {
     }
 }
 
-// The same of a geometry that is given by its rows.
+// Appends the full blob of a geometry given by its rows.
 fn put_flat_blob(alloc: Global, flat: &Flat, blobs: &mut Vec<u8>) {
     let mut work = Work::new();
     let mut sink = Bytes::new(alloc);
@@ -40,7 +40,7 @@ fn put_spans(alloc: Global, spans: &[Span], lines: &mut Vec<u8>) {
     }
 }
 
-// Reads a tree, appends its full blob, and answers whether there is one.
+// Reads a tree, appends its full blob, and returns whether there was one.
 fn read_tree<R: Read>(
     alloc: Global,
     reader: &mut Reader<'_, R>,
@@ -57,7 +57,7 @@ fn read_tree<R: Read>(
     }
 }
 
-// The same of its spans.
+// Reads a tree with its spans, appends the spans, and returns whether there was one.
 fn read_located<R: Read>(
     alloc: Global,
     reader: &mut Reader<'_, R>,
@@ -74,7 +74,7 @@ fn read_located<R: Read>(
     }
 }
 
-// The same of its rows.
+// Reads rows, appends the full blob, and returns whether there were any.
 fn read_rows<R: Read>(
     alloc: Global,
     reader: &mut Reader<'_, R>,
@@ -86,7 +86,7 @@ fn read_rows<R: Read>(
     read
 }
 
-// Reads the next geometry, appends what it is read as, and answers whether there is one.
+// Reads the next geometry in this way, appends the result, and returns whether there was one.
 fn read_next<R: Read>(
     alloc: Global,
     way: Way,
@@ -101,7 +101,7 @@ fn read_next<R: Read>(
     }
 }
 
-// Reads a device to its end or the fault.
+// Reads a device to its end or to the fault.
 fn read_device<R: Read>(
     alloc: Global,
     way: Way,
@@ -121,7 +121,7 @@ fn read_device<R: Read>(
     answer.err()
 }
 
-// The same of bytes.
+// Reads bytes to their end or to the fault.
 fn read_by(
     alloc: Global,
     way: Way,
@@ -133,7 +133,7 @@ fn read_by(
     read_device(alloc, way, limits, &mut Tap::new(bytes), most, found)
 }
 
-// Feeds a piece, appends the full blob of a tree that it ends, and answers how many bytes were used.
+// Feeds a piece, appends the full blob of a tree that it ends, and returns the number of bytes used.
 fn feed_tree(
     alloc: Global,
     session: &mut Session,
@@ -151,7 +151,7 @@ fn feed_tree(
     }
 }
 
-// The same of rows.
+// Feeds a piece, appends the full blob of rows that it ends, and returns the number of bytes used.
 fn feed_rows(
     alloc: Global,
     session: &mut Session,
@@ -165,7 +165,7 @@ fn feed_rows(
     Ok(used)
 }
 
-// Feeds a piece.
+// Feeds a piece in this way.
 fn feed(
     alloc: Global,
     way: Way,
@@ -179,7 +179,7 @@ fn feed(
     }
 }
 
-// Feeds pieces of so many bytes.
+// Feeds pieces of this many bytes.
 fn feed_all(
     alloc: Global,
     way: Way,
@@ -199,7 +199,7 @@ fn feed_all(
     session.finish().err()
 }
 
-// The same of a session.
+// Feeds a new session pieces of this many bytes.
 fn feed_by(
     alloc: Global,
     way: Way,
@@ -212,7 +212,7 @@ fn feed_by(
     feed_all(alloc, way, &mut session, length, bytes, found)
 }
 
-// Whether pieces of so many bytes give these blobs and this fault, by trees and by rows.
+// Whether pieces of this many bytes give these blobs and this fault, by trees and by rows.
 fn pieces_give(
     alloc: Global,
     limits: Limits,
@@ -228,7 +228,7 @@ fn pieces_give(
     are_trees & are_rows & (trees.as_slice() == blobs) & (rows.as_slice() == blobs)
 }
 
-// Whether rows, and pieces of each length, give these.
+// Whether rows, and pieces of each length, give these blobs and this fault.
 fn each_way_gives(
     alloc: Global,
     limits: Limits,
@@ -245,7 +245,8 @@ fn each_way_gives(
     is_given
 }
 
-/// Prints the full blobs of a stream's geometries and the fault behind them, and whether a way to read it differs.
+/// Prints the full blobs of a stream's geometries and the fault after them, and whether some way
+/// to read it differs.
 pub fn put_read(alloc: Global, limits: Limits, bytes: &[u8], text: &mut Vec<u8>) {
     let mut blobs = Vec::new(alloc);
     let fault = read_by(alloc, Way::Trees, limits, bytes, &mut blobs);
@@ -257,7 +258,8 @@ pub fn put_read(alloc: Global, limits: Limits, bytes: &[u8], text: &mut Vec<u8>)
     }
 }
 
-/// Prints the spans of a stream's geometries, as they come with these, and the fault behind them.
+/// Prints the spans of a stream's geometries, as they come with the geometries, and the fault
+/// after them.
 pub fn put_located(alloc: Global, limits: Limits, bytes: &[u8], text: &mut Vec<u8>) {
     put(text, b"\n  located");
     let fault = read_by(alloc, Way::Located, limits, bytes, text);

@@ -1,4 +1,4 @@
-//! Each way to read a table: the rows of its geometries, and the fault behind them.
+//! Each way to read a table: the rows of its geometries, and the fault after them.
 use super::conversions::{Conversion, put_conversion};
 use super::text::{put, put_lines, put_stop, table_of};
 use std::alloc::Global;
@@ -21,7 +21,7 @@ fn put_tree(geometry: &Geometry, rows: &mut Vec<u8>) {
     }
 }
 
-// Reads a tree, appends its rows, and answers whether there is one.
+// Reads a tree, appends its rows, and returns whether there was one.
 fn read_tree<R: Read>(
     reader: &mut TableReader<'_, R>,
     rows: &mut Vec<u8>,
@@ -37,7 +37,7 @@ fn read_tree<R: Read>(
     }
 }
 
-// The same of a flat form.
+// Reads a flat form, appends its rows, and returns whether there was one.
 fn read_form<R: Read>(
     reader: &mut TableReader<'_, R>,
     form: &mut Rows,
@@ -73,7 +73,7 @@ fn read_by(
     answer.err()
 }
 
-// Whether the forms of a table have these rows and this fault, and its blobs the rows.
+// Whether the forms of a table have these rows and this fault, and its blobs have the rows.
 fn is_one(
     alloc: Global,
     limits: Limits,
@@ -90,7 +90,8 @@ fn is_one(
     has_rows & (found_fault == fault) & (found.as_slice() == rows)
 }
 
-/// Prints the blobs of a table in a style and its rows, as they are read, and whether a way to read it differs.
+/// Prints the blobs of a table in a style and its rows as read, and whether some way to read it
+/// differs.
 pub fn put_table(
     alloc: Global,
     what: Conversion,
@@ -109,7 +110,7 @@ pub fn put_table(
     }
 }
 
-/// The same of the table of rows.
+/// Prints the blobs and rows of the table with these rows.
 pub fn put_rows_table(
     alloc: Global,
     what: Conversion,

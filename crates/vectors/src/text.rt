@@ -1,4 +1,5 @@
-//! What is printed, and what words of a line stand for. Text that finds no memory misses words, and then differs.
+//! The printed text, and the meaning of a line's words. If memory is refused, words are missing
+//! from the text, which then differs.
 use std::alloc::Global;
 use std::fmt::{Debug, Display};
 use twkb_table::header_text;
@@ -8,7 +9,7 @@ pub fn put(text: &mut Vec<u8>, bytes: &[u8]) {
     let _is_put = text.extend_from_slice(bytes).is_ok();
 }
 
-/// Appends a word, and what a value is printed as.
+/// Appends a word and a value's text.
 pub fn put_shown<D: Display>(alloc: Global, text: &mut Vec<u8>, word: &[u8], shown: &D) {
     put(text, word);
     if let Ok(words) = format!(in alloc; "{shown}") {
@@ -16,7 +17,7 @@ pub fn put_shown<D: Display>(alloc: Global, text: &mut Vec<u8>, word: &[u8], sho
     }
 }
 
-/// Appends a word, and a value with the names of its parts.
+/// Appends a word and a value with the names of its parts.
 pub fn put_named<D: Debug>(alloc: Global, text: &mut Vec<u8>, word: &[u8], named: &D) {
     put(text, word);
     if let Ok(words) = format!(in alloc; "{named:?}") {
@@ -24,7 +25,7 @@ pub fn put_named<D: Debug>(alloc: Global, text: &mut Vec<u8>, word: &[u8], named
     }
 }
 
-/// Appends a word, and counts, each behind a space.
+/// Appends a word and counts, each after a space.
 pub fn put_counts(alloc: Global, text: &mut Vec<u8>, word: &[u8], counts: &[u64]) {
     put(text, word);
     for count in counts {
@@ -39,7 +40,7 @@ pub fn put_stop<D: Display + Copy>(alloc: Global, text: &mut Vec<u8>, stop: Opti
     }
 }
 
-/// Appends the hexadecimal digits of bytes, if there are any, behind a space.
+/// Appends the hexadecimal digits of bytes, if there are any, after a space.
 pub fn put_hex(alloc: Global, text: &mut Vec<u8>, bytes: &[u8]) {
     if bytes.is_empty() {
         return;
@@ -50,14 +51,14 @@ pub fn put_hex(alloc: Global, text: &mut Vec<u8>, bytes: &[u8]) {
     }
 }
 
-// Appends bytes, one of them in place of another.
+// Appends bytes, with one byte replaced by another.
 fn put_replaced(text: &mut Vec<u8>, bytes: &[u8], old: u8, new: u8) {
     for byte in bytes {
         put(text, &[if *byte == old { new } else { *byte }]);
     }
 }
 
-/// Appends lines, if there are any, each ended by a slash, behind a space.
+/// Appends lines, if there are any, each ended by a slash, after a space.
 pub fn put_lines(text: &mut Vec<u8>, lines: &[u8]) {
     if !lines.is_empty() {
         put(text, b" ");
@@ -82,22 +83,22 @@ pub fn table_of(alloc: Global, rows: &[u8]) -> Vec<u8> {
     table
 }
 
-/// The bytes of hexadecimal digits; none where they are not.
+/// The bytes of hexadecimal digits; none if the word has others.
 pub fn bytes_of(alloc: Global, digits: &str) -> Vec<u8> {
     hex::decode(alloc, digits).unwrap_or(Vec::new(alloc))
 }
 
-/// The first word, and what follows it.
+/// The first word, and the rest after it.
 pub fn cut_word(line: &str) -> (&str, &str) {
     line.split_once(' ').unwrap_or((line, ""))
 }
 
-/// A number of 64 bits; 0 where it is none.
+/// The number of 64 bits that a word spells; 0 if it spells none.
 pub fn number_of(word: &str) -> u64 {
     word.parse::<u64>().unwrap_or(0)
 }
 
-/// A number of 32 bits; 0 where it is none.
+/// The number of 32 bits that a word spells; 0 if it spells none.
 pub fn count_of(word: &str) -> u32 {
     word.parse::<u32>().unwrap_or(0)
 }

@@ -10,7 +10,8 @@ use twkb_io::{Fuse, FuseEnd, InFault, Tap};
 // A line of two points.
 const TWO: &[u8] = b"\x02\x00\x02\x02\x02\x08\x08";
 
-// Whether a reader of a line that is cut after so many bytes, in reads of this length, answers a failed read, and is then spent.
+// Whether a reader returns a failed read, and is then spent, for a line that is cut after `bytes`
+// bytes and read `length` bytes at a time.
 fn tells_failure(alloc: Global, way: Way, line: &[u8], length: usize, bytes: u64) -> bool
     requires { 0 < length }
 {
@@ -19,7 +20,7 @@ fn tells_failure(alloc: Global, way: Way, line: &[u8], length: usize, bytes: u64
     (first == Err(BlobFault::Device(InFault::Read))) & (second == Err(BlobFault::Spent))
 }
 
-// Whether that is so wherever the line is cut.
+// Whether a failed read is returned wherever the line is cut.
 fn tells_each(alloc: Global, way: Way, line: &[u8], length: usize) -> bool
     requires { 0 < length }
 {
@@ -30,7 +31,8 @@ fn tells_each(alloc: Global, way: Way, line: &[u8], length: usize) -> bool
     are_told
 }
 
-// Whether that is so of a line that comes byte by byte, and of one of near points in pieces of thirty bytes.
+// Whether a failed read is returned for a line that comes byte by byte, and for one of near
+// points in pieces of thirty bytes.
 fn tells_both(alloc: Global, way: Way) -> bool {
     tells_each(alloc, way, TWO, 1) & tells_each(alloc, way, NEAR, 30)
 }

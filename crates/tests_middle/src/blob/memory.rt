@@ -1,12 +1,13 @@
-//! Want of memory. Run with each allocation refused in turn (`rt try --test --fail-alloc N`): an answer is then the right one
-//! or want of memory, for good.
+//! Want of memory. Run with each allocation refused in turn (`rt try --test --fail-alloc N`): an
+//! answer is then the right one or want of memory, and that is final.
 use super::ways::{Way, fault_of, read_twice};
 use std::alloc::Global;
 use twkb_blob::{BlobFault, Session};
 use twkb_geom::Limits;
 use twkb_io::Tap;
 
-// A collection with ids: a multipolygon with an id, and a multilinestring of two lines. Seven rows, three spans.
+// A collection with ids: a multipolygon with an id, and a multilinestring of two lines. It has
+// seven rows and three spans.
 const NAMED: &[u8] =
     b"\x07\x04\x02\x02\x04\x06\x04\x01\x02\x01\x03\x02\x02\x02\x02\x02\x02\x05\x00\x02\x01\x02\x02\x01\x02\x02";
 
@@ -14,34 +15,39 @@ const NAMED: &[u8] =
 const DEEP: &[u8] =
     b"\x07\x00\x01\x07\x00\x01\x07\x00\x01\x07\x00\x01\x07\x00\x01\x07\x00\x01\x01\x10";
 
-/// A line of twenty points, each near the one before it, so that they are taken two at a time where they come in one piece. One row, one span.
+// A multipoint of six points with ids, all but the first and the last taken at once. Seven rows, one span.
+const SIX: &[u8] =
+    b"\x04\x04\x06\x02\x02\x02\x02\x02\x02\x02\x02\x02\x02\x02\x02\x02\x02\x02\x02\x02\x02";
+
+/// A line of twenty points, each near the one before it, so that they are taken two at a time if
+/// they come in one piece. One row, one span.
 pub const NEAR: &[u8] =
     b"\x02\x00\x14\x02\x02\x02\x02\x02\x02\x02\x02\x02\x02\x02\x02\x02\x02\x02\x02\x02\x02\x02\x02\x02\x02\x02\x02\x02\x02\x02\x02\x02\x02\x02\x02\x02\x02\x02\x02\x02\x02\x02\x02";
 
-// Whether so many rows or spans were given, or memory lacked and the reader was spent.
+// Whether `count` rows or spans were given, or memory lacked and the reader was spent.
 fn are_given_or_lack(answers: [Result<u64, BlobFault>; 2], count: u64) -> bool {
     let [first, second] = answers;
     let is_lack = (first == Err(BlobFault::Memory)) & (second == Err(BlobFault::Spent));
     is_lack | (first == Ok(count))
 }
 
-// Whether that is so of a reader of this blob.
+// Whether a reader of this blob gives that many, or lacks memory.
 fn gives_or_lacks(alloc: Global, way: Way, blob: &[u8], count: u64) -> bool {
     are_given_or_lack(read_twice(alloc, way, &mut Tap::new(blob)), count)
 }
 
-// Whether that is so of all blobs.
-fn all_give_or_lack(alloc: Global, way: Way, named: u64, deep: u64) -> bool {
-    let are_named = gives_or_lacks(alloc, way, NAMED, named);
+// Whether readers of all blobs give their numbers, or lack memory.
+fn all_give_or_lack(alloc: Global, way: Way, named: u64, deep: u64, six: u64) -> bool {
+    let are_named = gives_or_lacks(alloc, way, NAMED, named) & gives_or_lacks(alloc, way, SIX, six);
     are_named & gives_or_lacks(alloc, way, DEEP, deep) & gives_or_lacks(alloc, way, NEAR, 1)
 }
 
 #[test]
 fn each_growth_of_a_reader_may_be_refused(rt: HostRuntime) {
-    let trees = all_give_or_lack(rt.alloc(), Way::Tree, 7, 7);
-    let rows = all_give_or_lack(rt.alloc(), Way::Rows, 7, 7);
-    let spans = all_give_or_lack(rt.alloc(), Way::Spans, 3, 7);
-    assert!(rt; trees & rows & spans & all_give_or_lack(rt.alloc(), Way::Located, 3, 7));
+    let trees = all_give_or_lack(rt.alloc(), Way::Tree, 7, 7, 7);
+    let rows = all_give_or_lack(rt.alloc(), Way::Rows, 7, 7, 7);
+    let spans = all_give_or_lack(rt.alloc(), Way::Spans, 3, 7, 1);
+    assert!(rt; trees & rows & spans & all_give_or_lack(rt.alloc(), Way::Located, 3, 7, 1));
 }
 
 // Whether this is want of memory, and the session is spent.
@@ -61,7 +67,7 @@ fn feeds_or_lacks(session: &mut Session, piece: &[u8]) -> bool {
     }
 }
 
-// Whether a session lends so many rows for the whole piece, or lacks memory and is spent.
+// Whether a session gives this many rows for the whole piece, or lacks memory and is spent.
 fn lends_or_lacks(session: &mut Session, piece: &[u8], rows: u32) -> bool {
     match session.feed_flat(piece) {
         Ok(answer) => (answer == (piece.len(), true)) & (session.flat().node_count() == rows),
@@ -69,7 +75,8 @@ fn lends_or_lacks(session: &mut Session, piece: &[u8], rows: u32) -> bool {
     }
 }
 
-// Whether a session takes the bytes one by one and then has no geometry begun, or lacks memory and is spent.
+// Whether a session takes the bytes one by one and then has no open geometry, or lacks memory and
+// is spent.
 fn takes_or_lacks(session: &mut Session, bytes: &[u8]) -> bool {
     for byte in bytes {
         if let Some(fault) = fault_of(session, &[*byte]) {
@@ -79,7 +86,8 @@ fn takes_or_lacks(session: &mut Session, bytes: &[u8]) -> bool {
     session.frames() == 0
 }
 
-// Whether a session that is fed the blob in this way, a tree at once, bytes or rows, gives its geometry, or lacks memory.
+// Whether a session that is fed the blob in this way (as one tree, as bytes or as rows) gives its
+// geometry, or lacks memory.
 fn is_fed_or_lacks(alloc: Global, way: Way, bytes: &[u8], rows: u32) -> bool {
     let mut session = Session::new(alloc, Limits::standard());
     let is_fed = match way {
@@ -91,10 +99,10 @@ fn is_fed_or_lacks(alloc: Global, way: Way, bytes: &[u8], rows: u32) -> bool {
     is_fed
 }
 
-// Whether that is so of all blobs.
+// Whether sessions give the geometries of all blobs, or lack memory.
 fn all_are_fed_or_lack(alloc: Global, way: Way) -> bool {
     let are_deep = is_fed_or_lacks(alloc, way, NAMED, 7) & is_fed_or_lacks(alloc, way, DEEP, 7);
-    are_deep & is_fed_or_lacks(alloc, way, NEAR, 1)
+    are_deep & is_fed_or_lacks(alloc, way, SIX, 7) & is_fed_or_lacks(alloc, way, NEAR, 1)
 }
 
 #[test]
@@ -104,12 +112,13 @@ fn each_growth_of_a_session_may_be_refused(rt: HostRuntime) {
     assert!(rt; trees & bytes & all_are_fed_or_lack(rt.alloc(), Way::Rows));
 }
 
-// A collection with ids, of a multipoint of two points with ids, and of a collection with an id of a multipoint of one with an id. Seven
-// rows.
+// A collection with ids, of a multipoint of two points with ids, and of a collection with an id
+// of a multipoint of one with an id. Seven rows.
 const ALL_NAMED: &[u8] =
     b"\x07\x04\x02\x02\x04\x04\x04\x02\x02\x04\x02\x02\x02\x02\x07\x04\x01\x06\x04\x04\x01\x08\x02\x02";
 
-// Whether a session that was fed the blob takes it again, in one piece and byte by byte, without a growth.
+// Whether a session that was fed the blob takes it again, in one piece and byte by byte, without
+// asking for memory.
 fn grows_no_more(alloc: Global, blob: &[u8], rows: u32) -> bool {
     let mut session = Session::new(alloc, Limits::standard());
     match session.feed_flat(blob) {
@@ -118,7 +127,8 @@ fn grows_no_more(alloc: Global, blob: &[u8], rows: u32) -> bool {
     }
 }
 
-// Whether a session that was fed the bytes one by one takes the blob in one piece without a growth.
+// Whether a session that was fed the bytes one by one takes the blob in one piece without asking
+// for memory.
 fn grows_no_more_behind_bytes(alloc: Global, blob: &[u8], rows: u32) -> bool {
     let mut session = Session::new(alloc, Limits::standard());
     for byte in blob {
@@ -129,13 +139,13 @@ fn grows_no_more_behind_bytes(alloc: Global, blob: &[u8], rows: u32) -> bool {
     lends(&mut session, blob, rows)
 }
 
-// Whether a session lends so many rows for the whole piece.
+// Whether a session gives this many rows for the whole piece.
 fn lends(session: &mut Session, piece: &[u8], rows: u32) -> bool {
     let is_whole = session.feed_flat(piece) == Ok((piece.len(), true));
     is_whole & (session.flat().node_count() == rows)
 }
 
-// Whether it does where it is fed the bytes one by one.
+// Whether a session gives this many rows if it is fed the bytes one by one.
 fn lends_bytewise(session: &mut Session, bytes: &[u8], rows: u32) -> bool {
     for byte in bytes {
         if session.feed_flat(&[*byte]).is_err() {

@@ -1,4 +1,4 @@
-//! Trees and rows by turns from one reader.
+//! Trees and rows in turn from one reader.
 use std::alloc::Global;
 use std::io::Read;
 use twkb_blob::Reader;

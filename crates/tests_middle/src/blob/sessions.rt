@@ -1,4 +1,4 @@
-//! Sessions: what is begun, and what is held of a number.
+//! Sessions: the open geometries, and the held bytes of a number.
 use super::ways::fault_of;
 use twkb_blob::{Session, laws};
 use twkb_geom::Limits;

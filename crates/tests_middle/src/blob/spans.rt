@@ -1,9 +1,9 @@
-//! Lists of spans that are made of a vector and handed out.
+//! Lists of spans that are made from a vector and turned back into one.
 use std::alloc::Global;
 use twkb_blob::{Span, Spans};
 use twkb_geom::Kind;
 
-// The span of the empty linestring of a collection, by the specification's bytes.
+// The span of the empty linestring of a collection, from the specification's bytes.
 const SPAN: Span = Span {
     level: 1,
     offset: 15,
@@ -14,7 +14,7 @@ const SPAN: Span = Span {
     points: 0,
 };
 
-// Whether a list of it shows it and hands it out.
+// Whether a list of this span shows it and gives it back.
 fn keeps_it(alloc: Global) -> bool {
     match Vec::from_slice(alloc, &[SPAN]) {
         Ok(items) => {

@@ -1,4 +1,4 @@
-//! Blobs of an input, read through a session that is lent.
+//! Blobs of an input, read through a session that is borrowed.
 use super::ways::fault_of;
 use std::alloc::Global;
 use std::io::Read;
@@ -6,7 +6,7 @@ use twkb_blob::{BlobFault, BlobReason, Reader, Session, Spans};
 use twkb_geom::{Limits, NodeId, Work};
 use twkb_io::{Fuse, FuseEnd, InFault, Input, Tap};
 
-// Whether the next geometry has so many rows and points, and its last row this id.
+// Whether the next geometry has this many rows and points, and its last row this id.
 fn gives<R: Read>(
     reader: &mut Reader<'_, R>,
     session: &mut Session,
@@ -23,7 +23,7 @@ fn gives<R: Read>(
     (answer == Ok(true)) & (flat.point_count() == points) & (row.id == last)
 }
 
-// Whether a call answers this, and then no row is left and the session takes no further byte.
+// Whether a call gives this answer, and then no row is left and the session takes no further byte.
 fn stops<R: Read>(
     reader: &mut Reader<'_, R>,
     session: &mut Session,
@@ -38,7 +38,7 @@ fn stops<R: Read>(
 const KINDS: &[u8] =
     b"\x04\x04\x02\x02\x04\x00\x00\x02\x02\x07\x04\x02\x0E\x01\x01\x00\x02\x02\x02\x10\x01\x00\x04\x02";
 
-// Whether a session gives the three, and then the end for good.
+// Whether a session gives the three geometries, and then the end for good.
 fn gives_all<R: Read>(alloc: Global, tap: &mut Tap<R>) -> bool {
     let mut reader = Reader::new(Input::new(tap), Limits::standard());
     let mut session = Session::new(alloc, Limits::standard());
@@ -55,7 +55,7 @@ fn blobs_of_an_input_come_through_one_session(rt: HostRuntime) {
     assert!(rt; gives_all(rt.alloc(), &mut Tap::new(KINDS)));
 }
 
-// Whether the next geometry comes with so many spans, of which the last begins here.
+// Whether the next geometry comes with this many spans, and the last of them begins here.
 fn gives_spans<R: Read>(
     reader: &mut Reader<'_, R>,
     session: &mut Session,
@@ -71,7 +71,8 @@ fn gives_spans<R: Read>(
     (answer == Ok(true)) & (told[count - 1].offset == offset)
 }
 
-// Whether the spans of the first two come, in one list, the third without, and at the end none.
+// Whether the spans of the first two come in one list, the third comes without spans, and nothing
+// comes at the end.
 fn tells_spans<R: Read>(alloc: Global, tap: &mut Tap<R>) -> bool {
     let mut reader = Reader::new(Input::new(tap), Limits::standard());
     let mut session = Session::new(alloc, Limits::standard());
@@ -94,7 +95,8 @@ fn spans_come_through_the_same_session_whatever_the_reads(rt: HostRuntime) {
 // The input ends inside the second blob, at its byte 12.
 const CUT: &[u8] = b"\x04\x04\x02\x02\x04\x00\x00\x02\x02\x01\x00\x04";
 
-// Whether a session that was fed a point of four bytes before goes on with the input, and tells its fault from its own start.
+// Whether a session that was fed a point of four bytes before goes on with the input, and counts
+// its fault's offset from its own start.
 fn goes_on_from<R: Read>(alloc: Global, tap: &mut Tap<R>) -> bool {
     let mut reader = Reader::new(Input::new(tap), Limits::standard());
     let mut session = Session::new(alloc, Limits::standard());
@@ -115,7 +117,7 @@ fn a_session_that_was_fed_goes_on_with_an_input(rt: HostRuntime) {
     assert!(rt; goes_on_from(rt.alloc(), &mut Tap::new(CUT)));
 }
 
-// Whether a failed read is told, and leaves no row.
+// Whether a failed read is reported, and leaves no row.
 fn tells_failure<R: Read>(alloc: Global, tap: &mut Tap<R>) -> bool {
     let mut reader = Reader::new(Input::new(tap), Limits::standard());
     let mut session = Session::new(alloc, Limits::standard());

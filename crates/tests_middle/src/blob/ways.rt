@@ -1,11 +1,11 @@
-//! The ways to read a geometry, and to feed a piece.
+//! The ways to read a geometry and to feed a piece.
 use std::alloc::Global;
 use std::io::Read;
 use twkb_blob::{BlobFault, Located, Reader, Session, Spans};
 use twkb_geom::{Flat, Limits};
 use twkb_io::{Input, Tap};
 
-/// As a tree, as a tree with its spans, as rows, or as rows with their spans.
+/// A way to read: as a tree, as a tree with its spans, as rows, or as rows with their spans.
 #[derive(Clone, Copy)]
 pub enum Way {
     Tree,
@@ -14,7 +14,7 @@ pub enum Way {
     Spans,
 }
 
-// How many rows there are in a form that was read.
+// The number of rows in a form that was read.
 fn rows_in(flat: &Flat, answer: Result<bool, BlobFault>) -> Result<u64, BlobFault> {
     match answer {
         Ok(_) => Ok(u64::from(flat.node_count())),
@@ -22,7 +22,7 @@ fn rows_in(flat: &Flat, answer: Result<bool, BlobFault>) -> Result<u64, BlobFaul
     }
 }
 
-// How many rows the next tree has.
+// Reads the next tree, and counts its rows.
 fn read_tree<R: Read>(alloc: Global, reader: &mut Reader<'_, R>) -> Result<u64, BlobFault> {
     match reader.next(alloc) {
         Ok(Some(geometry)) => {
@@ -35,7 +35,7 @@ fn read_tree<R: Read>(alloc: Global, reader: &mut Reader<'_, R>) -> Result<u64, 
     }
 }
 
-// How many spans come with the next tree.
+// Reads the next tree with its spans, and counts the spans.
 fn read_spans<R: Read>(alloc: Global, reader: &mut Reader<'_, R>) -> Result<u64, BlobFault> {
     match reader.next_located(alloc) {
         Ok(Some(located)) => {
@@ -48,7 +48,7 @@ fn read_spans<R: Read>(alloc: Global, reader: &mut Reader<'_, R>) -> Result<u64,
     }
 }
 
-// How many rows are read.
+// Reads rows, and counts them.
 fn read_rows<R: Read>(
     alloc: Global,
     reader: &mut Reader<'_, R>,
@@ -58,7 +58,7 @@ fn read_rows<R: Read>(
     rows_in(flat, answer)
 }
 
-// How many spans come with the next rows, 0 where there are no rows.
+// Reads the next rows with their spans, and counts the spans; 0 if there are no rows.
 fn read_spanned_rows<R: Read>(
     alloc: Global,
     reader: &mut Reader<'_, R>,
@@ -74,7 +74,8 @@ fn read_spanned_rows<R: Read>(
     }
 }
 
-// Reads a geometry: how many rows it has, or spans where it comes with them, 0 where there is none; or the fault.
+// Reads a geometry, and counts its rows, or its spans if it comes with them; 0 if there is none,
+// or the fault.
 fn read<R: Read>(
     alloc: Global,
     way: Way,
@@ -89,7 +90,7 @@ fn read<R: Read>(
     }
 }
 
-/// What two calls of a reader over a device answer.
+/// The answers to two calls of a reader over a device.
 pub fn read_twice<R: Read>(
     alloc: Global,
     way: Way,

@@ -1,4 +1,4 @@
-//! Geometries that are made of lists, and shapes that are handed back.
+//! Geometries made from lists, and refused shapes that are returned.
 use crate::fixtures::{THREE_PRECISIONS, geometry};
 use std::alloc::Global;
 use twkb_polyline::decode;
@@ -11,7 +11,7 @@ fn multipoint(alloc: Global, ids: &[i64]) -> Option<Shape> {
     Some(Shape::MultiPoint(Pts::from_vec(points), Some(IdList::from_vec(ids))))
 }
 
-// Whether it is such a multipoint, which has no points in its own row.
+// Whether it is such a multipoint, with no points in its own row.
 fn is_multipoint(shape: &Shape, numbers: &[i64]) -> bool {
     let (kind, own) = own_parts(shape);
     match shape {
@@ -23,7 +23,7 @@ fn is_multipoint(shape: &Shape, numbers: &[i64]) -> bool {
     }
 }
 
-// Whether a geometry is made of the shape, or it comes back for this reason.
+// Whether a geometry is made of the shape, or the shape is returned for this reason.
 fn is_answered(precision: i8, shape: Shape, ids: &[i64], reason: Option<GeomFault>) -> bool {
     match Geometry::try_new(precision, shape) {
         Ok(made) => {
@@ -40,7 +40,7 @@ fn is_answered(precision: i8, shape: Shape, ids: &[i64], reason: Option<GeomFaul
     }
 }
 
-// The same of two points with these ids.
+// Whether a geometry is made of two points with these ids, or the shape is returned for this reason.
 fn answers(alloc: Global, precision: i8, ids: &[i64], reason: Option<GeomFault>) -> bool {
     match multipoint(alloc, ids) {
         Some(shape) => is_answered(precision, shape, ids, reason),
@@ -59,7 +59,7 @@ fn shapes_of_a_bad_precision_or_bad_ids_come_back(rt: HostRuntime) {
     assert!(rt; are_made & are_bad & have_bad_ids);
 }
 
-// Whether lists of the last member and of its precision as an id show and hand out what they hold.
+// Whether a list of this member shows it and gives it back.
 fn keep_items(alloc: Global, member: Geometry) -> bool {
     let mut items = Vec::new(alloc);
     let is_pushed = items.push(member).is_ok();
@@ -68,7 +68,7 @@ fn keep_items(alloc: Global, member: Geometry) -> bool {
     is_pushed & is_shown & (members.into_vec().len() == 1)
 }
 
-// The same of a geometry that is read.
+// Whether such a list shows and gives back a geometry that is read.
 fn keep_a_geometry(alloc: Global) -> bool {
     match geometry(alloc, THREE_PRECISIONS) {
         Some(member) => keep_items(alloc, member),

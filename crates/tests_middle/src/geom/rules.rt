@@ -1,10 +1,11 @@
-//! What a row may be where it stands, each rule once for each answer; and limits. Rows behind others are rows of the program `vectors`.
+//! What a row's place allows, each rule once for each answer; and limits. Rows after others are
+//! rows of the program `vectors`.
 use twkb_tree::row_rules::{
     count_fits, has_place, has_points, has_same_ids, id_allowed, is_whole, may_have, nest_kept,
 };
 use twkb_tree::{Kind, Limits, OpenRow, Standing};
 
-// An open row of this kind, whose first child has an id, if there is one.
+// An open row of this kind, and whether its first child has an id, if it has a child.
 fn under(kind: Kind, child_ids: Option<bool>) -> Option<OpenRow> {
     Some(OpenRow { kind, child_ids })
 }

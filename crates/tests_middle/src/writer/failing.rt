@@ -5,7 +5,8 @@ use twkb_geom::{Flat, Work};
 use twkb_io::{Fuse, FuseEnd, Output, Tap};
 use twkb_writer::{Style, measure_flat, write_flat};
 
-// Whether a device with room for so many bytes takes that front of the form's blob, and only the whole blob is told as written.
+// Whether a device with room for this many bytes takes that prefix of the form's blob, and only
+// the whole blob is reported as written.
 pub(super) fn keeps_a_front(
     alloc: Global,
     flat: &Flat,
@@ -25,7 +26,7 @@ pub(super) fn keeps_a_front(
     blob.starts_with(&front) & (front.len() == room.min(blob.len())) & (is_written == is_whole)
 }
 
-// Whether that is so in each room from this one up to the blob's length.
+// Whether a prefix is kept in each room from this size up to the blob's length.
 fn keeps_each_front(alloc: Global, style: Style, blob: &[u8], least: usize) -> bool {
     let flat = form(alloc, blob);
     for room in least..blob.len().saturating_add(1) {
@@ -46,8 +47,8 @@ fn put(blob: &mut Vec<u8>, bytes: &[u8]) {
     let _is_put = blob.extend_from_slice(bytes).is_ok();
 }
 
-// The plain blob of a line of 1100 points, of 4404 bytes, which is more than the writer gathers: type, metadata and count, and
-// each step the same, 100 to the right and 100 down.
+// The plain blob of a line of 1100 points, of 4404 bytes, which is more than the writer gathers:
+// type, metadata and count, and equal differences, each 100 to the right and 100 down.
 fn long_blob(alloc: Global) -> Vec<u8> {
     let mut blob = Vec::new(alloc);
     put(&mut blob, b"\x02\x00\xCC\x08");
@@ -57,7 +58,8 @@ fn long_blob(alloc: Global) -> Vec<u8> {
     blob
 }
 
-// In the first piece of 4096 bytes, between two pieces, in the last piece, at its last byte, and nowhere.
+// The device fails in the first piece of 4096 bytes, between two pieces, in the last piece, at
+// its last byte, and nowhere.
 #[test]
 fn a_front_of_a_long_blob_is_written_wherever_the_device_fails(rt: HostRuntime) {
     assert!(rt; keeps_each_front(rt.alloc(), Style::Plain, &long_blob(rt.alloc()), 4090));

@@ -1,4 +1,5 @@
-//! The line and the status of causes, as docs/FORMATS.md has them. Those of other records and items are rows of the program `vectors`.
+//! The line and the status of causes, as docs/FORMATS.md has them. Those of other records and
+//! items are rows of the program `vectors`.
 use std::alloc::Global;
 use twkb_command::{print_line, status};
 use twkb_convert::{BlobReason, Cause};
@@ -35,7 +36,8 @@ const READ: Told = Told {
     line: b"polytwkb: read failed\n",
 };
 
-// The last record and the last byte, and a reason that no row of the program `vectors` has; then what is no reason.
+// The last record and the last byte, and a reason that no row of the program `vectors` has; then
+// causes that have no reason.
 const CAUSES: [Told; 8] = [
     Told {
         cause: RECORD,

@@ -1,5 +1,6 @@
-//! Runs over devices that fail: the status, the output before that, and the line. That each call that fails is told is shown of
-//! the conversions (`convert`), which a run carries out.
+//! Runs over devices that fail: the status, the output before the failure, and the line. That
+//! each failed call is reported is shown for the conversions (`convert`), which a run carries
+//! out.
 use super::{
     COLLECTION_BLOB, COLLECTION_LINES, COLLECTION_TABLE, Ended, POINT_BLOBS, POINT_TABLE, run_over,
 };
@@ -7,8 +8,9 @@ use crate::devices::{AMPLE, Failing};
 use std::alloc::Global;
 use twkb_io::FuseEnd;
 
-// A run: its words and its input; behind how many bytes a read fails, behind how many the writer ends so, whether its flush
-// fails, and how many bytes standard error takes; its status, its output, and what is told.
+// A run: its words and its input; after how many bytes a read fails, after how many the writer
+// ends and how, whether its flush fails, and how many bytes standard error takes; its status, its
+// output, and the line reported.
 #[derive(Clone, Copy)]
 struct Run {
     line: &'static str,
@@ -37,7 +39,7 @@ const PACKING: Run = Run {
     errors: b"polytwkb: write failed\n",
 };
 
-// A collection, likewise.
+// A collection, unpacked by a run whose writer fails.
 const UNPACKING: Run = Run {
     line: "polytwkb unpack",
     input: COLLECTION_BLOB,
@@ -51,7 +53,7 @@ const SHOWING: Run = Run {
     ..UNPACKING
 };
 
-// Blobs of two points, of which a read fails behind the first.
+// Blobs of two points, where a read fails after the first.
 const STREAM: Run = Run {
     line: "polytwkb unpack",
     input: POINT_BLOBS,
@@ -61,9 +63,10 @@ const STREAM: Run = Run {
     ..PACKING
 };
 
-// Writers that fail, that take no more, and that can't be flushed, also behind a refused row. Readers that fail: of a stream
-// behind its whole blobs, of a table before a row, in it, and behind the last. Last, standard error takes three bytes, or
-// standard output three of help: no status is another.
+// Writers that fail, that take no more, and that can't be flushed, also after a refused row.
+// Readers that fail: for a stream after its complete blobs, for a table before a row, in it, and
+// after the last. In the last runs standard error takes three bytes, or standard output three
+// bytes of help; the status does not change.
 const RUNS: [Run; 24] = [
     Run {
         taken: 0,
@@ -200,14 +203,14 @@ const RUNS: [Run; 24] = [
     },
 ];
 
-// Whether a run came to what it should.
+// Whether the result of a run is the expected one.
 fn is_due(run: &Run, ended: &Ended) -> bool {
     ended.status == Some(run.status)
         && ended.output.as_slice() == run.output
         && ended.errors.as_slice() == run.errors
 }
 
-// Whether it ends so.
+// Whether a run has its expected result.
 fn ends(alloc: Global, run: &Run) -> bool {
     let failing = Failing {
         given: run.given,

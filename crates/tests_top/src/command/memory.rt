@@ -3,7 +3,7 @@ use super::{COLLECTION_BLOB, COLLECTION_LINES, COLLECTION_TABLE, Ended, run_over
 use crate::devices::{AMPLE, SOUND};
 use std::alloc::Global;
 
-// A run, its status and its output where there is ample memory.
+// A run, and its status and output if there is enough memory.
 #[derive(Clone, Copy)]
 struct Run {
     line: &'static str,
@@ -59,9 +59,10 @@ const RUNS: [Run; 7] = [
     },
 ];
 
-// Whether this may come of a run. Whichever growth is refused, the status is that of the run with
-// ample memory, of want of memory or, where a writer in memory cannot grow, of a failed write; and a
-// front of the output was written. Where the words found no memory nothing was run.
+// Whether this may be the result of a run. Whichever growth is refused, the status is that of the
+// run with enough memory, that of want of memory or, if a writer in memory can't grow, that of a
+// failed write; and a prefix of the output was written. If there was no memory for the words,
+// nothing was run.
 fn may_end_so(run: &Run, ended: &Ended) -> bool {
     match ended.status {
         Some(3 | 4) => run.output.starts_with(&ended.output),
@@ -70,7 +71,7 @@ fn may_end_so(run: &Run, ended: &Ended) -> bool {
     }
 }
 
-// Whether a run ends as it may.
+// Whether a run has one of its allowed results.
 fn ends_short(alloc: Global, run: &Run) -> bool {
     may_end_so(run, &run_over(alloc, run.line, run.input, SOUND, AMPLE))
 }

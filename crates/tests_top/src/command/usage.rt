@@ -1,4 +1,4 @@
-//! Words that are refused, and words that no memory is found for.
+//! Words that are refused, and words for which memory is refused.
 use super::{Ended, POINT_TABLE, run_over};
 use crate::devices::{AMPLE, SOUND};
 use std::alloc::Global;
@@ -6,7 +6,7 @@ use std::io::ErrorKind;
 use twkb_command::lack_words;
 use twkb_io::Tap;
 
-// Whether a run ended with 2, with a text on standard error alone, which has this in it.
+// Whether a run ended with status 2 and a text on standard error alone, which contains this word.
 fn names(ended: &Ended, named: &str) -> bool {
     let is_named = match str::from_utf8(&ended.errors) {
         Ok(text) => text.starts_with("error: ") && text.contains(named),
@@ -15,12 +15,12 @@ fn names(ended: &Ended, named: &str) -> bool {
     ended.status == Some(2) && ended.output.is_empty() && is_named
 }
 
-// Whether a line is refused so.
+// Whether a line is refused with a text that contains this word.
 fn is_refused(alloc: Global, line: &str, named: &str) -> bool {
     names(&run_over(alloc, line, POINT_TABLE, SOUND, AMPLE), named)
 }
 
-// Whether a row, a line and behind it what its text names, is refused so.
+// Whether a row, a line followed by the word that its text contains, is refused.
 fn is_row_refused(alloc: Global, row: &str) -> bool {
     match row.split_once(" > ") {
         Some((line, named)) => is_refused(alloc, line, named),
@@ -28,8 +28,9 @@ fn is_row_refused(alloc: Global, row: &str) -> bool {
     }
 }
 
-// Lines, and the word that their text names: nestings and styles that are none, no words at all, and words that are
-// unknown. They are one text, since a row of a table costs the proof of the test more.
+// Lines, and the word that their text contains: nestings and styles that do not exist, no words
+// at all, and unknown words. They are one text, since a row of a table makes the proof of the
+// test more expensive.
 const REFUSED: &str = "polytwkb pack --max-nest 33 > '33'
 polytwkb unpack --max-nest 33 > '33'
 polytwkb show --max-nest 33 > '33'
@@ -60,8 +61,8 @@ fn words_that_are_refused_end_with_2(rt: HostRuntime) {
     }
 }
 
-// Whether words that can't be had for this reason have this status and this line; where no memory was found `lack_memory`
-// says it.
+// Whether words that can't be read for this reason have this status and this line. If memory was
+// refused, `lack_memory` reports it.
 fn lacks(alloc: Global, kind: ErrorKind, status: u8, line: &[u8]) -> bool {
     let mut errors = Tap::new(Vec::new(alloc));
     let found = lack_words(&mut errors, kind);

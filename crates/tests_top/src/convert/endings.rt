@@ -1,4 +1,4 @@
-//! A reader that fails behind its end, and one over it that remembers the end.
+//! A reader that fails after its end, and one over it that remembers the end.
 use super::runs::carry_out;
 use examples::Account;
 use std::alloc::Global;
@@ -7,7 +7,7 @@ use std::io::{ErrorKind, Read};
 use twkb_convert::{Cause, Conversion, Style};
 use twkb_io::{Ending, Tap};
 
-// Gives a text, then tells its end once, and then fails.
+// Gives a text, then reports its end once, and then fails.
 #[derive(Drop)]
 struct FailsBehindItsEnd<'a> {
     text: &'a [u8],
@@ -24,7 +24,7 @@ impl<'a> Read for FailsBehindItsEnd<'a> {
     }
 }
 
-// What a conversion of a reader does, where its output is let go.
+// The account of a conversion whose output is dropped.
 fn account<R: Read>(alloc: Global, what: Conversion, reader: &mut Tap<R>) -> Account {
     carry_out(alloc, what, reader, &mut Tap::new(Vec::new(alloc)))
 }
@@ -54,7 +54,7 @@ const SHOWN: Input = Input {
     sent: 38,
 };
 
-// The second table has no last end of a line.
+// The second table has no line end after its last row.
 const INPUTS: [Input; 6] = [
     PACKED,
     Input {
@@ -81,7 +81,8 @@ const INPUTS: [Input; 6] = [
     },
 ];
 
-// Whether all is converted where the end is remembered: so the device is asked for it once.
+// Whether everything is converted if the end is remembered, so that the device is asked for it
+// only once.
 fn ends_once(alloc: Global, input: &Input) -> bool {
     let mut reader = Tap::new(Ending::new(FailsBehindItsEnd {
         text: input.text,

@@ -1,5 +1,6 @@
-//! Worked tables and streams between devices of which each read, each write and the flush fail in turn; and while memory
-//! is short (`rt try --test --fail-alloc N`). The flush comes once, as the last call, and behind no refused write.
+//! Worked tables and streams between devices, with each read, each write and the flush failing in
+//! turn; and with little memory (`rt try --test --fail-alloc N`). The flush comes once, as the
+//! last call, and not after a refused write.
 use super::runs::{Ended, carried};
 use super::worked::{WORKED, Worked};
 use crate::devices::{Failing, SOUND};
@@ -8,7 +9,7 @@ use std::alloc::Global;
 use twkb_convert::{Cause, Conversion, Style};
 use twkb_io::FuseEnd;
 
-// How many geometries are done where so many bytes of the output are written.
+// The number of geometries done if this many bytes of the output are written.
 fn done_with(worked: &Worked, sent: usize) -> u64 {
     if sent < worked.first {
         0
@@ -19,7 +20,8 @@ fn done_with(worked: &Worked, sent: usize) -> u64 {
     }
 }
 
-// Whether a conversion wrote so many bytes of its output, stopped so behind them, and asked the writer once more.
+// Whether a conversion wrote this many bytes of its output, then stopped for this cause, and
+// called the writer once more.
 fn is_told(worked: &Worked, found: &Ended, sent: usize, stopped: Option<Cause>) -> bool {
     let due = Account {
         done: done_with(worked, sent),
@@ -36,7 +38,8 @@ fn run(alloc: Global, worked: &Worked, failing: Failing) -> Ended {
     carried(alloc, worked.what, worked.input, failing, Vec::new(alloc))
 }
 
-// Whether a writer that takes so many bytes and then ends so is told, and asked no more.
+// Whether the end of a writer that takes this many bytes is reported, and the writer is not
+// called again.
 fn write_is_told(alloc: Global, worked: &Worked, taken: usize, end: FuseEnd) -> bool {
     let failing = Failing {
         taken: taken as u64,
@@ -47,7 +50,7 @@ fn write_is_told(alloc: Global, worked: &Worked, taken: usize, end: FuseEnd) -> 
     is_told(worked, &found, taken, Some(Cause::WriteDevice))
 }
 
-// Whether each write is told where it is the first that ends so.
+// Whether the end of the writer is reported at each write.
 fn writes_are_told(alloc: Global, worked: &Worked) -> bool {
     let mut are_told = true;
     for taken in 0..worked.output.len() {
@@ -66,8 +69,8 @@ fn each_write_that_fails_or_takes_nothing_is_told_behind_the_bytes_before_it(rt:
     }
 }
 
-// How many bytes are written where a read fails behind so many: of a table a front of the blobs, of a stream what stands
-// in front of its first blob, and all once that is whole.
+// The number of bytes written if a read fails after this many: for a table a prefix of the blobs;
+// for a stream the text before its first blob, and everything once that blob is complete.
 fn sent_before(worked: &Worked, given: usize, written: usize) -> usize {
     if worked.what == Conversion::Pack(Style::Full) {
         written
@@ -78,7 +81,7 @@ fn sent_before(worked: &Worked, given: usize, written: usize) -> usize {
     }
 }
 
-// Whether a read that fails behind so many bytes is told, and the writer flushed.
+// Whether a read that fails after this many bytes is reported, and the writer is flushed.
 fn read_is_told(alloc: Global, worked: &Worked, given: usize) -> bool {
     let failing = Failing {
         given: given as u64,
@@ -89,7 +92,7 @@ fn read_is_told(alloc: Global, worked: &Worked, given: usize) -> bool {
     is_told(worked, &found, sent, Some(Cause::ReadDevice))
 }
 
-// Whether each read is told where it fails.
+// Whether a failed read is reported at each read.
 fn reads_are_told(alloc: Global, worked: &Worked) -> bool {
     let mut are_told = true;
     for given in 0..worked.reads {
@@ -106,13 +109,13 @@ fn each_read_that_fails_is_told_behind_the_whole_blobs(rt: HostRuntime) {
     }
 }
 
-// Whether all is written and flushed last.
+// Whether all output is written and flushed last.
 fn is_whole(alloc: Global, worked: &Worked) -> bool {
     let found = run(alloc, worked, SOUND);
     is_told(worked, &found, worked.output.len(), worked.stopped) && !found.has_unflushed
 }
 
-// Whether a flush that fails is told behind so many bytes, where a read fails behind so many.
+// Whether a failed flush is reported after this many bytes, if a read fails after so many.
 fn flush_is_told(alloc: Global, worked: &Worked, given: u64, sent: usize) -> bool {
     let failing = Failing {
         given,
@@ -123,7 +126,7 @@ fn flush_is_told(alloc: Global, worked: &Worked, given: u64, sent: usize) -> boo
     is_told(worked, &found, sent, Some(Cause::WriteDevice))
 }
 
-// Whether a flush that fails is told, also before a refused input and before a failed read.
+// Whether a failed flush is reported, also before a refused input and before a failed read.
 fn flushes_are_told(alloc: Global, worked: &Worked) -> bool {
     is_whole(alloc, worked)
         && flush_is_told(alloc, worked, SOUND.given, worked.output.len())
@@ -140,15 +143,16 @@ fn a_conversion_flushes_once_and_last_and_a_flush_that_fails_comes_before_other_
     }
 }
 
-// Whether want of memory may be told behind so many bytes: of a stream, in front of the blob or behind all output.
+// Whether want of memory is possible after this many bytes: for a stream, before the blob or
+// after all output.
 fn may_want(worked: &Worked, sent: usize) -> bool {
     worked.what == Conversion::Pack(Style::Full)
         || sent == worked.output.len()
         || sent == worked.before
 }
 
-// Whether a conversion is whole, or is told behind a front of the output to want memory, or, where the writer in memory
-// may have to grow, a failed write.
+// Whether a conversion is complete, or reports want of memory after a prefix of the output, or a
+// failed write if the writer in memory may have to grow.
 fn is_whole_or_stops(worked: &Worked, found: &Ended, may_grow: bool) -> bool {
     let sent = found.written.len();
     (sent == worked.output.len() && is_told(worked, found, sent, worked.stopped))
@@ -156,7 +160,8 @@ fn is_whole_or_stops(worked: &Worked, found: &Ended, may_grow: bool) -> bool {
         || (may_grow && is_told(worked, found, sent, Some(Cause::WriteDevice)))
 }
 
-// The same of a writer that grows, and of one that has room for the whole output.
+// Whether every refused growth is reported, for a writer that grows and for one that has room for
+// the whole output.
 fn growths_are_told(alloc: Global, worked: &Worked) -> bool {
     let is_told = is_whole_or_stops(worked, &run(alloc, worked, SOUND), true);
     match Vec::with_capacity(alloc, worked.output.len()) {

@@ -4,7 +4,7 @@ use crate::devices::{Failing, SOUND};
 use std::alloc::Global;
 use twkb_convert::{Cause, Conversion, Style};
 
-// A conversion, how many bytes are written of it, and how many are read for them.
+// A conversion, the number of bytes written, and the number of bytes read for them.
 #[derive(Clone, Copy)]
 struct Asked {
     what: Conversion,
@@ -13,7 +13,7 @@ struct Asked {
     read: u64,
 }
 
-// Two points, and a blob that is none.
+// Two points, and bytes that are no blob.
 const UNPACKED: Asked = Asked {
     what: Conversion::Unpack,
     input: b"\x01\x02\x02\x04\x02\x01\x02\x02\x02\x02\x08",
@@ -21,7 +21,7 @@ const UNPACKED: Asked = Asked {
     read: 0,
 };
 
-// Three points, and a row that is none.
+// Three points, and a line that is no row.
 const PACKED: Asked = Asked {
     what: Conversion::Pack(Style::Full),
     input: b"depth,kind,id,precision,polyline\n0,point,,0,AC\n0,point,,0,AA\n0,point,,0,AC\n0,pont,,0,\n",
@@ -29,7 +29,7 @@ const PACKED: Asked = Asked {
     read: 61,
 };
 
-// The text of a blob is written before the next is read, and a geometry before the row behind the next root is.
+// The text of a blob is written before the next is read, and a geometry before the row after the next root is.
 const ASKED: [Asked; 9] = [
     UNPACKED,
     Asked {
@@ -67,7 +67,8 @@ const ASKED: [Asked; 9] = [
     },
 ];
 
-// Whether a conversion whose writer fails behind its bytes read so many, of a reader that gives a byte a read.
+// Whether a conversion read this many bytes, from a reader that gives one byte a read, if its
+// writer fails after its bytes.
 fn reads_no_more(alloc: Global, asked: &Asked) -> bool {
     let failing = Failing {
         taken: asked.taken,

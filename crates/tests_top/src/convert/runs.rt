@@ -1,4 +1,4 @@
-//! Conversions over devices that tell how they were asked.
+//! Conversions over devices that report how they were called.
 use crate::devices::{Failing, cut_reader, cut_writer};
 use examples::Account;
 use std::alloc::Global;
@@ -7,7 +7,7 @@ use twkb_convert::{Conversion, ConvertFault, Report, convert};
 use twkb_geom::Limits;
 use twkb_io::Tap;
 
-// An answer, as an account of it.
+// The account of an answer.
 fn account_of(answer: Result<Report, ConvertFault>) -> Account {
     match answer {
         Ok(report) => Account {
@@ -34,8 +34,8 @@ pub fn carry_out<R: Read, W: Write>(
     account_of(convert(alloc, what, reader, writer, limits))
 }
 
-/// What a conversion did, what was written, how many bytes it read, how many writes and flushes it asked for, and
-/// whether bytes were written behind the last flush.
+/// The result of a conversion, the bytes written, the numbers of bytes read, of writes and of
+/// flushes, and whether bytes were written after the last flush.
 #[derive(Drop)]
 pub struct Ended {
     pub account: Account,
@@ -45,7 +45,8 @@ pub struct Ended {
     pub has_unflushed: bool,
 }
 
-/// Carries a conversion out over devices that pass a byte a call and fail so; the writer fills a room that is empty.
+/// Carries a conversion out over devices that pass one byte a call and fail in this way; the
+/// writer fills an empty room.
 pub fn carried(
     alloc: Global,
     what: Conversion,

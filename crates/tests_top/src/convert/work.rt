@@ -4,7 +4,8 @@ use twkb_convert::{Style, Work, pack_counted};
 use twkb_geom::Limits;
 use twkb_io::Tap;
 
-// A table; its points, its nodes and its geometries with headers of their own; and how often points and nodes are read at most.
+// A table; its points, its nodes and its geometries with their own headers; and the most reads of
+// points and nodes.
 #[derive(Clone, Copy)]
 struct Counted {
     name: &'static str,
@@ -53,7 +54,7 @@ fn is_so(row: &Counted, work: &Work) -> bool {
     are_counted & (work.entries == row.entries) & is_bounded
 }
 
-// Whether that is so of a table that is packed.
+// Whether the work of packing a table is counted so.
 fn is_counted(alloc: Global, row: &Counted) -> bool {
     let mut reader = Tap::new(row.table);
     let mut writer = Tap::new(Vec::new(alloc));

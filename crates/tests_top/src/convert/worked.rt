@@ -1,24 +1,25 @@
-//! Conversions worked by hand.
+//! Conversions worked out by hand.
 use twkb_convert::{BlobReason, Cause, Conversion, RowReason, Style};
 
-/// A conversion, its input and the whole of its output, which is that of no geometry, of one, or for a table of two.
+/// A conversion, its input and its whole output: that of no geometry, of one or, for a table, of two.
 #[derive(Clone, Copy)]
 pub struct Worked {
     pub name: &'static str,
     pub what: Conversion,
     pub input: &'static [u8],
     pub output: &'static [u8],
-    /// How many bytes of the output stand before the first geometry, and where that ends.
+    /// The number of bytes of the output before the first geometry, and the place where that
+    /// geometry ends.
     pub before: usize,
     pub first: usize,
-    /// Behind how many bytes of a stream all is written; how many reads there are.
+    /// The number of bytes of a stream after which all is written; the number of reads.
     pub whole: usize,
     pub reads: usize,
-    /// Why the conversion stops behind its output, if it does.
+    /// Why the conversion stops after its output, if it does.
     pub stopped: Option<Cause>,
 }
 
-// More bytes than any of them has.
+// More bytes than any of the inputs has.
 const NEVER: usize = 999;
 
 const HEADER: &[u8] = b"depth,kind,id,precision,polyline\n";
@@ -37,12 +38,13 @@ const MEMBERS_BLOB: &[u8] =
 const MEMBERS_LINES: &[u8] =
     b"0 0 collection 0 07 18 1\n1 10 point 0 02 5 1\n1 15 linestring 0 12 3 0\n";
 
-// A line of fourteen points, each 2^20 units along x and as many and one down along y from the one before: with numbers of four bytes
-// and of five characters, which fill the first piece of the row's polyline and more.
+// A line of fourteen points, each 2^20 units further along x and one more down along y than the
+// one before: with numbers of four bytes and of five characters, which fill the first piece of
+// the row's polyline and more.
 const LONG_LINE: &[u8] =
     b"\x02\x00\x0E\x80\x80\x80\x01\x81\x80\x80\x01\x80\x80\x80\x01\x81\x80\x80\x01\x80\x80\x80\x01\x81\x80\x80\x01\x80\x80\x80\x01\x81\x80\x80\x01\x80\x80\x80\x01\x81\x80\x80\x01\x80\x80\x80\x01\x81\x80\x80\x01\x80\x80\x80\x01\x81\x80\x80\x01\x80\x80\x80\x01\x81\x80\x80\x01\x80\x80\x80\x01\x81\x80\x80\x01\x80\x80\x80\x01\x81\x80\x80\x01\x80\x80\x80\x01\x81\x80\x80\x01\x80\x80\x80\x01\x81\x80\x80\x01\x80\x80\x80\x01\x81\x80\x80\x01\x80\x80\x80\x01\x81\x80\x80\x01";
 
-// A blob before one that is cut, and the reason; and no type.
+// A blob before one that is cut, and the reason; and bytes that name no type.
 const CUT: &[u8] = b"\x01\x00\x04\x02\x01\x00\x04";
 
 const CUT_BLOB: Cause = Cause::Blob {
@@ -91,7 +93,7 @@ const SHOWN: Worked = Worked {
     stopped: None,
 };
 
-/// A table is read to its end, but for one that is refused: that is not read behind its last row.
+/// A table is read to its end, except a refused one: that is not read after its last row.
 pub const WORKED: [Worked; 18] = [
     PACKED,
     Worked {

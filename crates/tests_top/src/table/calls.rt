@@ -1,11 +1,12 @@
-//! Readers of tables over devices that fail, and while memory is short.
+//! Readers of tables over devices that fail, and with little memory.
 use crate::devices::{AMPLE, cut_reader};
 use std::alloc::Global;
 use std::io::Read;
 use twkb_geom::{Geometry, Limits};
 use twkb_table::{TableFault, TableReader, rows_text};
 
-// A table, where the rows of none, one, two and all of its geometries end, and how many geometries it has.
+// A table, the ends of the rows of none, one, two and all of its geometries, and the number of
+// its geometries.
 #[derive(Clone, Copy)]
 struct Table {
     text: &'static [u8],
@@ -19,14 +20,15 @@ const MANY_KINDS: Table = Table {
     count: 3,
 };
 
-// A line in sixteen collections, and a point after it in one: seventeen rows are open, one more than take no memory.
+// A line in sixteen collections, and a point after it in one: seventeen rows are open, one more
+// than fit without taking memory.
 const DEEP: Table = Table {
     text: b"depth,kind,id,precision,polyline\n0,collection,,0,\n1,collection,,0,\n2,collection,,0,\n3,collection,,0,\n4,collection,,0,\n5,collection,,0,\n6,collection,,0,\n7,collection,,0,\n8,collection,,0,\n9,collection,,0,\n10,collection,,0,\n11,collection,,0,\n12,collection,,0,\n13,collection,,0,\n14,collection,,0,\n15,collection,,0,\n16,linestring,,0,AAGG\n1,point,,-8,AC\n",
     ends: [33, 348, 348, 348],
     count: 1,
 };
 
-// What came of a table: the rows of its geometries, how many there were, and why it was not read on.
+// The result of reading a table: the rows of its geometries, their number, and why reading stopped.
 #[derive(Drop)]
 struct Outcome {
     rows: Vec<u8>,
@@ -45,7 +47,7 @@ fn put(alloc: Global, geometry: &Geometry, rows: &mut Vec<u8>) -> Result<bool, T
     }
 }
 
-// Appends the rows of a geometry, if there is one, and tells whether there was.
+// Appends the rows of a geometry, if there is one, and returns whether there was.
 fn put_found(
     alloc: Global,
     found: Option<Geometry>,
@@ -66,7 +68,7 @@ fn put_next<R: Read>(
     put_found(alloc, reader.next()?, rows)
 }
 
-// Appends the rows of few geometries, and tells how many there were and why the table was not read on.
+// Appends the rows of few geometries, and returns their number and why reading stopped.
 fn put_all<R: Read>(
     alloc: Global,
     reader: &mut TableReader<'_, R>,
@@ -82,7 +84,7 @@ fn put_all<R: Read>(
     (64, None)
 }
 
-// Reads a table, a byte a read, over a reader that fails behind so many bytes.
+// Reads a table, one byte a read, over a reader that fails after this many bytes.
 fn read_all(alloc: Global, text: &[u8], given: u64) -> Outcome {
     let mut tap = cut_reader(text, given);
     let mut rows = Vec::new(alloc);
@@ -91,7 +93,7 @@ fn read_all(alloc: Global, text: &[u8], given: u64) -> Outcome {
     Outcome { rows, count, fault }
 }
 
-// Whether the rows are those of the first geometries of a table, as many as are told.
+// Whether the rows are those of the first geometries of a table, as many as the result states.
 fn is_front(table: &Table, outcome: &Outcome) -> bool {
     match table.ends.get(outcome.count) {
         Some(end) => table.text.get(33..*end) == Some(outcome.rows.as_slice()),
@@ -99,7 +101,7 @@ fn is_front(table: &Table, outcome: &Outcome) -> bool {
     }
 }
 
-// Whether a read that fails behind so many bytes is told behind the geometries before it.
+// Whether a read that fails after this many bytes is reported after the geometries before it.
 fn tells_failure(alloc: Global, given: u64) -> bool {
     let outcome = read_all(alloc, MANY_KINDS.text, given);
     outcome.fault == Some(TableFault::Source)
@@ -116,7 +118,7 @@ fn a_failed_read_is_told_after_the_geometries_before_it(rt: HostRuntime) {
     }
 }
 
-// Whether a table was read whole, or no memory was found before its last geometry.
+// Whether a table was read whole, or memory was refused before its last geometry.
 fn is_read(alloc: Global, table: &Table) -> bool {
     let outcome = read_all(alloc, table.text, AMPLE);
     let is_told = match outcome.fault {
@@ -127,7 +129,8 @@ fn is_read(alloc: Global, table: &Table) -> bool {
     is_told && is_front(table, &outcome)
 }
 
-// Run with `rt try --test --fail-alloc N`: whichever growth is refused, it is told, and the geometries before it are given.
+// Run with `rt try --test --fail-alloc N`: whichever growth is refused, it is reported, and the
+// geometries before it are given.
 #[test]
 fn a_refused_growth_is_told(rt: HostRuntime) {
     assert!(rt; is_read(rt.alloc(), &MANY_KINDS));

@@ -1,4 +1,4 @@
-//! Trees and rows by turns from one reader of a table.
+//! Trees and rows in turn from one reader of a table.
 use std::alloc::Global;
 use std::io::Read;
 use twkb_geom::{Flat, Limits, PointId, Work};
@@ -7,7 +7,7 @@ use twkb_points::Pt;
 use twkb_table::TableReader;
 use twkb_tree::own_parts;
 
-// Two points: (2, 1) and (1, 1), each latitude before its longitude.
+// Two points: (2, 1) and (1, 1), each with its latitude before its longitude.
 const TWO: &[u8] = b"depth,kind,id,precision,polyline\n0,point,,0,AC\n0,point,,0,AA\n";
 
 // Whether these are a point at this place.

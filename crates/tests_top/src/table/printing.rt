@@ -1,11 +1,13 @@
-//! The two printers of rows, that of geometries by the writer of `csv` and that of flat forms, on one table.
+//! The two printers of rows, one for geometries by the writer of `csv` and one for flat forms, on
+//! one table.
 use std::alloc::{AllocError, Global};
 use std::io::Read;
 use twkb_geom::{Flat, Geometry, Limits, Rows, Work};
 use twkb_io::Tap;
 use twkb_table::{TableReader, header_text, put_flat_rows, rows_text};
 
-// A table of all kinds, with empty ones, ids and precisions at both ends of their ranges, and collections in a collection.
+// A table of all kinds, with empty ones, ids and precisions at both ends of their ranges, and
+// nested collections.
 const TABLE: &[u8] =
     b"depth,kind,id,precision,polyline\n0,point,,0,AC\n0,point,,-8,\n0,linestring,,7,AAGG\n0,polygon,,0,\n1,ring,,,???GGF\n1,ring,,,\n0,multipoint,,0,\n1,point,-9223372036854775808,,AA\n1,point,9223372036854775807,,AC\n0,multilinestring,,0,\n1,linestring,0,,AAGG\n1,linestring,-1,,\n0,multipolygon,,0,\n1,polygon,3,,\n2,ring,,,AA\n2,ring,,,\n1,polygon,44,,\n0,collection,,0,\n1,collection,12,1,\n2,point,7,2,AA\n2,multipoint,-3,3,\n3,point,,,AC\n2,collection,8,4,\n1,linestring,10,0,AAGG\n";
 
@@ -39,7 +41,8 @@ fn put_both(
     are_written & put_form(Flat::from_geometry(alloc, geometry), direct)
 }
 
-// The same of the geometries of a short table. Tells whether its end was met, with nothing refused.
+// Appends the rows of the geometries of a short table by both printers. Returns whether its end
+// was reached with nothing refused.
 fn put_all<R: Read>(
     alloc: Global,
     reader: &mut TableReader<'_, R>,
@@ -60,7 +63,7 @@ fn put_all<R: Read>(
     false
 }
 
-// Whether both print the rows of the table; nothing where memory was refused.
+// Whether both print the rows of the table; nothing if memory was refused.
 fn prints_alike(alloc: Global) -> Option<bool> {
     let mut tap = Tap::new(TABLE);
     let mut reader = TableReader::new(alloc, &mut tap, Limits::standard());
@@ -78,7 +81,7 @@ fn the_writer_of_csv_and_the_direct_printer_give_the_same_rows(rt: HostRuntime) 
     assert!(rt; prints_alike(rt.alloc()) == Some(true));
 }
 
-// Run with `rt try --test --fail-alloc N`: whichever growth is refused, no other rows are given.
+// Run with `rt try --test --fail-alloc N`: whichever growth is refused, no wrong rows are given.
 #[test]
 fn a_printer_that_is_refused_a_growth_says_so(rt: HostRuntime) {
     assert!(rt; prints_alike(rt.alloc()) != Some(false));

@@ -15,7 +15,7 @@ fn has(record: &ByteRecord, place: usize, field: &[u8]) -> bool {
     }
 }
 
-// Whether both records come, and then none for good.
+// Whether both records come, and after them none, for good.
 fn gives_both<R: Read>(source: &mut RecordSource<'_, R>) -> bool {
     let is_first = (source.read() == Ok(true))
         & has(source.record(), 0, b"a")

@@ -1,4 +1,5 @@
-//! A worked row, field by field, and printed numbers. What fields spell is in the rows of the program `vectors`.
+//! A worked row, field by field, and printed numbers. What fields spell is in the rows of the
+//! program `vectors`.
 use csv::ByteRecord;
 use std::alloc::Global;
 use twkb_geom::{Kind, Limits, Row};
@@ -22,7 +23,7 @@ const PARENT: OpenRow = OpenRow {
     child_ids: Some(true),
 };
 
-// Appends these, where memory is found.
+// Appends the worked fields, unless memory is refused.
 fn put_fields(record: &mut ByteRecord) -> bool {
     let mut are_put = true;
     for field in &FIELDS {
@@ -39,7 +40,7 @@ fn are_worked(points: &[Pt]) -> bool {
     }
 }
 
-// Whether the record is the worked row.
+// Whether the verdict on the record is the worked row.
 fn is_judged_so(record: &ByteRecord, points: &mut Vec<Pt>) -> bool {
     match judge(&Limits::standard(), &[PARENT], 2, 1, record, points) {
         Ok(row) => row == ROW && are_worked(points.as_slice()),
@@ -60,7 +61,7 @@ fn a_row_is_its_fields(rt: HostRuntime) {
     assert!(rt; is_row(rt.alloc()));
 }
 
-// Whether two numbers are printed so, one behind the other.
+// Whether two numbers are printed as expected, one after the other.
 fn prints(alloc: Global) -> bool {
     let mut text = Vec::new(alloc);
     push_decimal(&mut text, -1).is_ok()

@@ -13,6 +13,6 @@ invariant-loop-count g l =
       limits : session_limits l.session ≡ standard_limits;
     }
 
--- the bytes that a session may still take
+-- the number of bytes that a session may still take
 abbrev pub decreases-loop-count : goal.decreases-loop-count
 decreases-loop-count g l = 2 ^ 62 - l.arrived.bytes

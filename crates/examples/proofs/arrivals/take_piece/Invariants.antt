@@ -3,7 +3,7 @@ use Rattle.twkb_blob.specs.Sessions.{session_limits}
 use Rattle.examples.proofs.ArrivalsLemmas.{Takes}
 use Rattle.examples.proofs.arrivals.take_piece.Given as goal
 
--- the front of the piece was taken
+-- the start of the piece was taken
 abbrev pub invariant-loop-used : goal.invariant-loop-used
 invariant-loop-used l =
     record {
@@ -13,6 +13,6 @@ invariant-loop-used l =
       limits : session_limits l.session ≡ session_limits l.fn.session;
     }
 
--- the bytes that are left
+-- the number of bytes left
 abbrev pub decreases-loop-used : goal.decreases-loop-used
 decreases-loop-used l = length l.fn.piece - l.at

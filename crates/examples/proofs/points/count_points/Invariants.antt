@@ -10,6 +10,6 @@ use Rattle.examples.proofs.points.count_points.Given as goal
 abbrev pub invariant-loop-geometry : goal.invariant-loop-geometry
 invariant-loop-geometry g l = GavePoints standard_limits (g.R.Read.remaining (device_of l.fn.device)) l.blobs l.count
 
--- the bytes that may still be given out
+-- the number of bytes that may still be given out
 abbrev pub decreases-loop-geometry : goal.decreases-loop-geometry
 decreases-loop-geometry g l = 2 ^ 62 - given (reader_input l.blobs)

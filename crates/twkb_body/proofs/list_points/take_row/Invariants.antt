@@ -12,6 +12,6 @@ invariant-loop-left l = record {
   room : length (row_points l.flat) + l.left ≤ 2 ^ 24;
 }
 
--- a look for blocks takes no point where there are none, and is not made again before `next_look`
+-- a look for blocks takes no point if there are none, and is not made again before `next_look`
 abbrev pub decreases-loop-left : goal.decreases-loop-left
 decreases-loop-left l = l.left + (length l.bytes - l.next_look)

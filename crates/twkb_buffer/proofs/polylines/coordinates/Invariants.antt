@@ -1,4 +1,4 @@
--- The coordinates so far, and those of the points that are left, are the coordinates of all.
+-- The coordinates so far, and those of the points left, are the coordinates of all points.
 use Rattle.std.proofs.Common.{◌≡◌, ◌++◌, drop}
 use Rattle.twkb_buffer.specs.Polylines.{coordinates_of}
 use Rattle.twkb_buffer.proofs.polylines.coordinates.Given as goal

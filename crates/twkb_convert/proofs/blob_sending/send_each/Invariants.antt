@@ -18,6 +18,6 @@ invariant-loop-done g l =
       output : Outputs.is_spent l.output ≡ false;
     }
 
--- the bytes that may still be given out
+-- the number of bytes that may still be given out
 abbrev pub decreases-loop-done : goal.decreases-loop-done
 decreases-loop-done g l = 2 ^ 62 - given l.reader

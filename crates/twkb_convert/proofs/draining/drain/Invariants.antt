@@ -2,7 +2,7 @@ use Rattle.std.proofs.Common.{◌≡◌, ◌≤◌}
 use Rattle.twkb_io.specs.Taps.{bytes_given, failures_of}
 use Rattle.twkb_convert.proofs.draining.drain.Given as goal
 
--- each turn gave a byte, and none failed
+-- each turn gave at least one byte, and no read failed
 abbrev pub invariant-loop-turn : goal.invariant-loop-turn
 invariant-loop-turn g l =
     record {

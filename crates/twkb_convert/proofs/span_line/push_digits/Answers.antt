@@ -2,11 +2,11 @@ use Rattle.std.proofs.Common.{◌≡◌, ◌∙◌, List, [], ◌∷◌, ◌++�
 use Rattle.std.proofs.lemmas.Fmt.{decimal_step}
 use Rattle.twkb_convert.proofs.span_line.push_digits.Goals as goal
 
--- the tens and then the ones
+-- a number of two digits is the tens and then the ones
 two_digits : (n tens : ℕ) → decimal (n / 10) ≡ tens ∷ [] → 10 ≤ n → n < 2 ^ 64 → decimal n ≡ tens ∷ (48 + n % 10) ∷ []
 two_digits n tens first some fits = decimal_step n some fits ∙ ap (λ (t : List ℕ). t ++ (48 + n % 10) ∷ []) first
 
--- one pushed behind the other
+-- both digits were pushed, one after the other
 both_pushed : (old first both : List ℕ) (tens ones : ℕ) → first ≡ old ++ tens ∷ [] → both ≡ first ++ ones ∷ [] → both ≡ old ++ tens ∷ ones ∷ []
 both_pushed old first both tens ones e f = f ∙ ap (λ (t : List ℕ). t ++ ones ∷ []) e ∙ append_assoc old (tens ∷ []) (ones ∷ [])
 

@@ -1,4 +1,4 @@
--- The parts so far were taken, and the others stand at the place.
+-- The parts so far were taken, and the others are at the place.
 use Rattle.std.proofs.Common.{List, length, drop}
 use Rattle.twkb_tree.specs.declared.kind.Kind.{Kind}
 use Rattle.twkb_tree.specs.Tree.{Ids}

@@ -1,4 +1,4 @@
--- An open row stands at the place, at the depth or below it.
+-- There is an open row at the place, at the depth or below it.
 use Rattle.twkb_flat.proofs.ClosingLemmas.{Rising}
 use Rattle.twkb_flat.proofs.entries.open_at.Given as goal
 

@@ -1,4 +1,4 @@
--- The rows of the members so far stand behind the old ones.
+-- The rows of the members so far come after the old ones.
 use Rattle.twkb_tree.specs.Rows.{rows_with}
 use Rattle.twkb_flat.proofs.FillLemmas.{HasRows}
 use Rattle.twkb_flat.proofs.filling.+filling.Given as goal

@@ -1,4 +1,4 @@
--- The rows of the parts so far stand behind the old ones.
+-- The rows of the parts so far come after the old ones.
 use Rattle.twkb_flat.specs.Parts.{part_rows}
 use Rattle.twkb_flat.proofs.FillLemmas.{HasRows}
 use Rattle.twkb_flat.proofs.filling.push_each.Given as goal

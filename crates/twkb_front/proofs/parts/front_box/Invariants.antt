@@ -2,7 +2,7 @@ use Rattle.std.proofs.Common.{◌-◌, ◌≤◌}
 use Rattle.twkb_front.specs.Parts.{SidesInFront}
 use Rattle.twkb_front.proofs.parts.front_box.Given as goal
 
--- so many sides stand in front
+-- so many sides are complete
 abbrev pub invariant-loop-count : goal.invariant-loop-count
 invariant-loop-count l = record { few : l.count ≤ 4; sides : SidesInFront l.count l.bytes l.used }
 

@@ -1,7 +1,29 @@
-use Rattle.std.proofs.Common.{◌+◌}
+use Rattle.std.proofs.Common.{◌+◌, rules, arith}
 use Rattle.twkb_num.proofs.BlockLemmas.{ends_after, ends_behind, ends_in_slice}
+use Rattle.twkb_points.specs.Point.{IsInner}
+use Rattle.twkb_points.proofs.NearLemmas.{near_further, near_inner}
 use Rattle.twkb_front.proofs.EightInFront.{eight_found}
 use Rattle.twkb_front.proofs.points.front_eight.Goals as goal
+
+pub front_two_by-requires-clause-near : goal.front_two_by-requires-clause-near
+front_two_by-requires-clause-near c =
+    let inner : IsInner c.args.from = search rules in
+    near_further 0 6 c.args.from (omega arith) (near_inner c.args.from inner)
+
+pub front_two_by-requires-2-clause-near : goal.front_two_by-requires-2-clause-near
+front_two_by-requires-2-clause-near c =
+    let inner : IsInner c.args.from = search rules in
+    near_further 2 6 c.in_ok-a.b (omega arith) (c.in_ok-a.ensures.onward 0 (near_inner c.args.from inner))
+
+pub front_two_by-requires-3-clause-near : goal.front_two_by-requires-3-clause-near
+front_two_by-requires-3-clause-near c =
+    let inner : IsInner c.args.from = search rules in
+    near_further 4 6 c.in_ok-c.d (omega arith) (c.in_ok-c.ensures.onward 2 (c.in_ok-a.ensures.onward 0 (near_inner c.args.from inner)))
+
+pub front_two_by-requires-4-clause-near : goal.front_two_by-requires-4-clause-near
+front_two_by-requires-4-clause-near c =
+    let inner : IsInner c.args.from = search rules in
+    c.in_ok-e.ensures.onward 4 (c.in_ok-c.ensures.onward 2 (c.in_ok-a.ensures.onward 0 (near_inner c.args.from inner)))
 
 pub front_two_by-requires-3-clause-ends : goal.front_two_by-requires-3-clause-ends
 front_two_by-requires-3-clause-ends c =

@@ -3,7 +3,7 @@ use Rattle.twkb_io.specs.Inputs.{given, input_failures, is_spent}
 use Rattle.twkb_io.specs.Copies.{Copied}
 use Rattle.twkb_io.proofs.copying.copy.Given as goal
 
--- some bytes were copied, and no read failed or was refused
+-- the bytes so far were copied, and no read failed and no put was refused
 abbrev pub invariant-loop : goal.invariant-loop
 invariant-loop g l =
     record {

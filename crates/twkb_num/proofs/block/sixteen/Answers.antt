@@ -10,11 +10,11 @@ pub returns : goal.returns
 returns c =
     let bytes = drop c.args.at c.args.bytes.now in
     let enough : 16 ≤ length bytes = omega (arith, length-drop c.args.at c.args.bytes.now, c.requires) in
-    let units = zip2 wrapped_sub (take 16 bytes) (replicate 16 c.args.base) in
-    let long = length-lanes c.args.base bytes enough in
-    let are = lanes_are c.args.base bytes enough in
+    let units = zip2 wrapped_sub (take 16 bytes) (replicate 16 c.args.alphabet.base) in
+    let long = length-lanes c.args.alphabet.base bytes enough in
+    let are = lanes_are c.args.alphabet.base bytes enough in
     record {
-      ends = bitmask_splat w8 ltb units 16 c.args.radix long (omega arith) ∙ ap (λ us. mask_l (map (λ u. ltb u c.args.radix) us)) are;
+      ends = bitmask_splat w8 ltb units 16 c.args.alphabet.radix long (omega arith) ∙ ap (λ us. mask_l (map (λ u. ltb u c.args.alphabet.radix) us)) are;
       zeros = bitmask_splat w8 eqb units 16 0 long (omega arith) ∙ ap (λ us. mask_l (map (λ u. eqb u 0) us)) are;
-      bad = above_is units c.args.most long ∙ ap (λ us. mask_l (map (λ u. ltb c.args.most u) us)) are;
+      bad = above_is units c.args.alphabet.most long ∙ ap (λ us. mask_l (map (λ u. ltb c.args.alphabet.most u) us)) are;
     }

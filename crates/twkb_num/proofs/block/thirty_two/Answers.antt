@@ -11,9 +11,9 @@ overflow_mul-result c =
     let enough : 32 ≤ length bytes = omega (arith, length-drop c.args.at c.args.bytes.now, c.requires) in
     let rest : 16 ≤ length (drop 16 bytes) = omega (arith, length-drop 16 bytes, enough) in
     let low = c.sixteen-low.ensures in
-    let high = subst (λ bs. AreMarks c.args.radix c.args.most (units_in c.args.base (take 16 bs)) c.sixteen-high.result) (sym (drop-drop 16 c.args.at c.args.bytes.now)) c.sixteen-high.ensures in
-    let low_small = marks_small (λ u. nat_lt u c.args.radix) c.args.base 16 bytes (omega (arith, enough)) in
-    let high_small = marks_small (λ u. nat_lt u c.args.radix) c.args.base 16 (drop 16 bytes) rest in
+    let high = subst (λ bs. AreMarks c.args.alphabet.radix c.args.alphabet.most (units_in c.args.alphabet.base (take 16 bs)) c.sixteen-high.result) (sym (drop-drop 16 c.args.at c.args.bytes.now)) c.sixteen-high.ensures in
+    let low_small = marks_small (λ u. nat_lt u c.args.alphabet.radix) c.args.alphabet.base 16 bytes (omega (arith, enough)) in
+    let high_small = marks_small (λ u. nat_lt u c.args.alphabet.radix) c.args.alphabet.base 16 (drop 16 bytes) rest in
     record { fits = omega (arith, high.ends, high_small) }
 
 pub overflow_add-result : goal.overflow_add-result
@@ -22,9 +22,9 @@ overflow_add-result c =
     let enough : 32 ≤ length bytes = omega (arith, length-drop c.args.at c.args.bytes.now, c.requires) in
     let rest : 16 ≤ length (drop 16 bytes) = omega (arith, length-drop 16 bytes, enough) in
     let low = c.sixteen-low.ensures in
-    let high = subst (λ bs. AreMarks c.args.radix c.args.most (units_in c.args.base (take 16 bs)) c.sixteen-high.result) (sym (drop-drop 16 c.args.at c.args.bytes.now)) c.sixteen-high.ensures in
-    let low_small = marks_small (λ u. nat_lt u c.args.radix) c.args.base 16 bytes (omega (arith, enough)) in
-    let high_small = marks_small (λ u. nat_lt u c.args.radix) c.args.base 16 (drop 16 bytes) rest in
+    let high = subst (λ bs. AreMarks c.args.alphabet.radix c.args.alphabet.most (units_in c.args.alphabet.base (take 16 bs)) c.sixteen-high.result) (sym (drop-drop 16 c.args.at c.args.bytes.now)) c.sixteen-high.ensures in
+    let low_small = marks_small (λ u. nat_lt u c.args.alphabet.radix) c.args.alphabet.base 16 bytes (omega (arith, enough)) in
+    let high_small = marks_small (λ u. nat_lt u c.args.alphabet.radix) c.args.alphabet.base 16 (drop 16 bytes) rest in
     record { fits = omega (arith, low.ends, high.ends, low_small, high_small) }
 
 pub overflow_mul-result-2 : goal.overflow_mul-result-2
@@ -33,9 +33,9 @@ overflow_mul-result-2 c =
     let enough : 32 ≤ length bytes = omega (arith, length-drop c.args.at c.args.bytes.now, c.requires) in
     let rest : 16 ≤ length (drop 16 bytes) = omega (arith, length-drop 16 bytes, enough) in
     let low = c.sixteen-low.ensures in
-    let high = subst (λ bs. AreMarks c.args.radix c.args.most (units_in c.args.base (take 16 bs)) c.sixteen-high.result) (sym (drop-drop 16 c.args.at c.args.bytes.now)) c.sixteen-high.ensures in
-    let low_small = marks_small (λ u. nat_eq u 0) c.args.base 16 bytes (omega (arith, enough)) in
-    let high_small = marks_small (λ u. nat_eq u 0) c.args.base 16 (drop 16 bytes) rest in
+    let high = subst (λ bs. AreMarks c.args.alphabet.radix c.args.alphabet.most (units_in c.args.alphabet.base (take 16 bs)) c.sixteen-high.result) (sym (drop-drop 16 c.args.at c.args.bytes.now)) c.sixteen-high.ensures in
+    let low_small = marks_small (λ u. nat_eq u 0) c.args.alphabet.base 16 bytes (omega (arith, enough)) in
+    let high_small = marks_small (λ u. nat_eq u 0) c.args.alphabet.base 16 (drop 16 bytes) rest in
     record { fits = omega (arith, high.zeros, high_small) }
 
 pub overflow_add-result-2 : goal.overflow_add-result-2
@@ -44,9 +44,9 @@ overflow_add-result-2 c =
     let enough : 32 ≤ length bytes = omega (arith, length-drop c.args.at c.args.bytes.now, c.requires) in
     let rest : 16 ≤ length (drop 16 bytes) = omega (arith, length-drop 16 bytes, enough) in
     let low = c.sixteen-low.ensures in
-    let high = subst (λ bs. AreMarks c.args.radix c.args.most (units_in c.args.base (take 16 bs)) c.sixteen-high.result) (sym (drop-drop 16 c.args.at c.args.bytes.now)) c.sixteen-high.ensures in
-    let low_small = marks_small (λ u. nat_eq u 0) c.args.base 16 bytes (omega (arith, enough)) in
-    let high_small = marks_small (λ u. nat_eq u 0) c.args.base 16 (drop 16 bytes) rest in
+    let high = subst (λ bs. AreMarks c.args.alphabet.radix c.args.alphabet.most (units_in c.args.alphabet.base (take 16 bs)) c.sixteen-high.result) (sym (drop-drop 16 c.args.at c.args.bytes.now)) c.sixteen-high.ensures in
+    let low_small = marks_small (λ u. nat_eq u 0) c.args.alphabet.base 16 bytes (omega (arith, enough)) in
+    let high_small = marks_small (λ u. nat_eq u 0) c.args.alphabet.base 16 (drop 16 bytes) rest in
     record { fits = omega (arith, low.zeros, high.zeros, low_small, high_small) }
 
 pub overflow_mul-result-3 : goal.overflow_mul-result-3
@@ -55,9 +55,9 @@ overflow_mul-result-3 c =
     let enough : 32 ≤ length bytes = omega (arith, length-drop c.args.at c.args.bytes.now, c.requires) in
     let rest : 16 ≤ length (drop 16 bytes) = omega (arith, length-drop 16 bytes, enough) in
     let low = c.sixteen-low.ensures in
-    let high = subst (λ bs. AreMarks c.args.radix c.args.most (units_in c.args.base (take 16 bs)) c.sixteen-high.result) (sym (drop-drop 16 c.args.at c.args.bytes.now)) c.sixteen-high.ensures in
-    let low_small = marks_small (λ u. nat_lt c.args.most u) c.args.base 16 bytes (omega (arith, enough)) in
-    let high_small = marks_small (λ u. nat_lt c.args.most u) c.args.base 16 (drop 16 bytes) rest in
+    let high = subst (λ bs. AreMarks c.args.alphabet.radix c.args.alphabet.most (units_in c.args.alphabet.base (take 16 bs)) c.sixteen-high.result) (sym (drop-drop 16 c.args.at c.args.bytes.now)) c.sixteen-high.ensures in
+    let low_small = marks_small (λ u. nat_lt c.args.alphabet.most u) c.args.alphabet.base 16 bytes (omega (arith, enough)) in
+    let high_small = marks_small (λ u. nat_lt c.args.alphabet.most u) c.args.alphabet.base 16 (drop 16 bytes) rest in
     record { fits = omega (arith, high.bad, high_small) }
 
 pub overflow_add-result-3 : goal.overflow_add-result-3
@@ -66,9 +66,9 @@ overflow_add-result-3 c =
     let enough : 32 ≤ length bytes = omega (arith, length-drop c.args.at c.args.bytes.now, c.requires) in
     let rest : 16 ≤ length (drop 16 bytes) = omega (arith, length-drop 16 bytes, enough) in
     let low = c.sixteen-low.ensures in
-    let high = subst (λ bs. AreMarks c.args.radix c.args.most (units_in c.args.base (take 16 bs)) c.sixteen-high.result) (sym (drop-drop 16 c.args.at c.args.bytes.now)) c.sixteen-high.ensures in
-    let low_small = marks_small (λ u. nat_lt c.args.most u) c.args.base 16 bytes (omega (arith, enough)) in
-    let high_small = marks_small (λ u. nat_lt c.args.most u) c.args.base 16 (drop 16 bytes) rest in
+    let high = subst (λ bs. AreMarks c.args.alphabet.radix c.args.alphabet.most (units_in c.args.alphabet.base (take 16 bs)) c.sixteen-high.result) (sym (drop-drop 16 c.args.at c.args.bytes.now)) c.sixteen-high.ensures in
+    let low_small = marks_small (λ u. nat_lt c.args.alphabet.most u) c.args.alphabet.base 16 bytes (omega (arith, enough)) in
+    let high_small = marks_small (λ u. nat_lt c.args.alphabet.most u) c.args.alphabet.base 16 (drop 16 bytes) rest in
     record { fits = omega (arith, low.bad, high.bad, low_small, high_small) }
 
 pub returns : goal.returns
@@ -77,9 +77,9 @@ returns c =
     let enough : 32 ≤ length bytes = omega (arith, length-drop c.args.at c.args.bytes.now, c.requires) in
     let rest : 16 ≤ length (drop 16 bytes) = omega (arith, length-drop 16 bytes, enough) in
     let low = c.sixteen-low.ensures in
-    let high = subst (λ bs. AreMarks c.args.radix c.args.most (units_in c.args.base (take 16 bs)) c.sixteen-high.result) (sym (drop-drop 16 c.args.at c.args.bytes.now)) c.sixteen-high.ensures in
+    let high = subst (λ bs. AreMarks c.args.alphabet.radix c.args.alphabet.most (units_in c.args.alphabet.base (take 16 bs)) c.sixteen-high.result) (sym (drop-drop 16 c.args.at c.args.bytes.now)) c.sixteen-high.ensures in
     record {
-      ends = let joined = marks_joined (λ u. nat_lt u c.args.radix) c.args.base 16 16 bytes (omega (arith, enough)) in omega (arith, joined, low.ends, high.ends);
-      zeros = let joined = marks_joined (λ u. nat_eq u 0) c.args.base 16 16 bytes (omega (arith, enough)) in omega (arith, joined, low.zeros, high.zeros);
-      bad = let joined = marks_joined (λ u. nat_lt c.args.most u) c.args.base 16 16 bytes (omega (arith, enough)) in omega (arith, joined, low.bad, high.bad);
+      ends = let joined = marks_joined (λ u. nat_lt u c.args.alphabet.radix) c.args.alphabet.base 16 16 bytes (omega (arith, enough)) in omega (arith, joined, low.ends, high.ends);
+      zeros = let joined = marks_joined (λ u. nat_eq u 0) c.args.alphabet.base 16 16 bytes (omega (arith, enough)) in omega (arith, joined, low.zeros, high.zeros);
+      bad = let joined = marks_joined (λ u. nat_lt c.args.alphabet.most u) c.args.alphabet.base 16 16 bytes (omega (arith, enough)) in omega (arith, joined, low.bad, high.bad);
     }

@@ -2,7 +2,7 @@ use Rattle.std.proofs.Common.{◌≡◌, ◌++◌, length, take, drop}
 use Rattle.twkb_points.specs.Differences.{differences_from, differences}
 use Rattle.twkb_points.proofs.differences.to_differences.Given as goal
 
--- what is written, and what the points that are left will add, are the differences of all
+-- the differences written, and those that the points left will give, are the differences of all points
 abbrev pub invariant-loop-i : goal.invariant-loop-i
 invariant-loop-i l = record {
   written : take l.i l.deltas ++ differences_from l.cursor (drop l.i l.points) ≡ differences l.points;

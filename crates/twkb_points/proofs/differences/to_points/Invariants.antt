@@ -2,7 +2,8 @@ use Rattle.std.proofs.Common.{◌≡◌, ◌++◌, length, take, drop}
 use Rattle.twkb_points.specs.Differences.{points_from, points_of}
 use Rattle.twkb_points.proofs.differences.to_points.Given as goal
 
--- what is written, and the points to which the differences that are left lead, are the points of all; the rest is as it was
+-- the points written, and those that the differences left lead to, are the points of all
+-- differences; the places after them are unchanged
 abbrev pub invariant-loop-i : goal.invariant-loop-i
 invariant-loop-i l = record {
   written : take l.i l.points ++ points_from l.cursor (drop l.i l.deltas) ≡ points_of l.deltas;

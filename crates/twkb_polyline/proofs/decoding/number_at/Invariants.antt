@@ -1,4 +1,4 @@
--- The reader holds the characters from the start on, which all go on.
+-- The reader holds the characters from `start` on, which all go on.
 use Rattle.std.proofs.Common.{◌≡◌, ◌+◌, ◌<◌, ◌++◌, length, drop}
 use Rattle.std.specs.List.{AllByRecursion}
 use Rattle.twkb_polyline.specs.Fault.{GoesOn}

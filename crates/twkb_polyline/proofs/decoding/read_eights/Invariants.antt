@@ -1,4 +1,5 @@
--- The points so far were put behind the others, the cursor stands at the last of them, and the ends are those of the text that is left.
+-- The points so far were appended to the others, the cursor is at the last of them, and the ends
+-- are those of the text left.
 use Rattle.std.proofs.Common.{length, drop, ◌-◌, ◌≤◌}
 use Rattle.twkb_num.specs.Block.{AreEnds}
 use Rattle.twkb_polyline.specs.Reading.{HasPutOn}

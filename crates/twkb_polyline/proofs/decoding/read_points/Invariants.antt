@@ -1,4 +1,4 @@
--- The points so far were put behind the others, and the cursor stands at the last of them.
+-- The points so far were appended to the others, and the cursor is at the last of them.
 use Rattle.std.proofs.Common.{length, ◌+◌, ◌-◌, ◌≡◌}
 use Rattle.twkb_polyline.proofs.DecodeLemmas.{HasRead}
 use Rattle.twkb_polyline.proofs.decoding.read_points.Given as goal
@@ -10,6 +10,6 @@ invariant-loop-at g l =
       held : l.held ≡ length (g.L.PointTail.held l.fn.points);
     }
 
--- a look for blocks reads nothing where there are none, and is not made again before `next_look`
+-- a search for blocks reads nothing if there are none, and is not repeated before `next_look`
 abbrev pub decreases-loop-at : goal.decreases-loop-at
 decreases-loop-at g l = length l.text - l.at + (length l.text - l.next_look)

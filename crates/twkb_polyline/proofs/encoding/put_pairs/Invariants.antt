@@ -1,4 +1,5 @@
--- The pairs so far were put behind the text, some of them in the piece, and the cursor stands at the last of them.
+-- The pairs so far were appended to the text, some of them in the piece, and the cursor is at the
+-- last of them.
 use Rattle.std.proofs.Common.{◌≡◌, ℕ, List, ◌++◌, drop}
 use Rattle.twkb_polyline.specs.Spelling.{points_of}
 use Rattle.twkb_polyline.proofs.EncodeLemmas.{HasPut}

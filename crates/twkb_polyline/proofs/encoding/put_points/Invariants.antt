@@ -1,4 +1,4 @@
--- The points so far were put behind the text, and the cursor stands at the last of them.
+-- The points so far were appended to the text, and the cursor is at the last of them.
 use Rattle.std.proofs.Common.{drop}
 use Rattle.twkb_points.specs.Point.{origin}
 use Rattle.twkb_polyline.proofs.EncodeLemmas.{HasPut}

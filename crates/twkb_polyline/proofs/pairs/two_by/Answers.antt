@@ -1,10 +1,11 @@
 use Rattle.std.proofs.Common.{◌≡◌, ◌+◌, arith, rules, subst, sym, FitsSigned, w64}
-use Rattle.std.specs.Prelude.{◌+ℤ◌}
 use Rattle.std.proofs.lemmas.Int.{to_z-of_z}
-use Rattle.twkb_points.specs.Point.{Point, IsCoordinate, IsInner, IsInRange, moved_by}
+use Rattle.twkb_num.proofs.ZigzagLemmas.{short_form}
+use Rattle.twkb_points.specs.Point.{moved_by}
+use Rattle.twkb_points.specs.Near.{IsNear}
+use Rattle.twkb_points.proofs.NearLemmas.{near_further, near_in_range, near_moved}
 use Rattle.twkb_polyline.specs.Reading.{IsPairAt}
 use Rattle.twkb_polyline.proofs.PairLemmas.{pair_read}
-use Rattle.twkb_polyline.proofs.PointLists.{inner_once, inner_twice}
 use Rattle.twkb_polyline.proofs.pairs.two_by.Goals as goal
 
 pub step-one-requires-clause-x_in_range : goal.step-one-requires-clause-x_in_range
@@ -14,9 +15,9 @@ step-one-requires-clause-x_in_range c =
     let b_fits : FitsSigned w64 four.second = search rules in
     let c_fits : FitsSigned w64 four.third = search rules in
     let d_fits : FitsSigned w64 four.fourth = search rules in
-    let inner : IsInner c.args.from = search rules in
     let small = c.in_ok-four.ensures.four in
-    simp to_z-of_z (inner_once c.args.from.x four.second inner.0 small.second_small)
+    let one = near_moved 6 c.args.from four.second four.first c.requires.near (short_form four.second small.second_small) (short_form four.first small.first_small) in
+    simp to_z-of_z (near_in_range 7 _ (omega arith) one).0
 
 pub step-one-requires-clause-y_in_range : goal.step-one-requires-clause-y_in_range
 step-one-requires-clause-y_in_range c =
@@ -25,9 +26,9 @@ step-one-requires-clause-y_in_range c =
     let b_fits : FitsSigned w64 four.second = search rules in
     let c_fits : FitsSigned w64 four.third = search rules in
     let d_fits : FitsSigned w64 four.fourth = search rules in
-    let inner : IsInner c.args.from = search rules in
     let small = c.in_ok-four.ensures.four in
-    simp to_z-of_z (inner_once c.args.from.y four.first inner.1 small.first_small)
+    let one = near_moved 6 c.args.from four.second four.first c.requires.near (short_form four.second small.second_small) (short_form four.first small.first_small) in
+    simp to_z-of_z (near_in_range 7 _ (omega arith) one).1
 
 pub step-two-requires-clause-x_in_range : goal.step-two-requires-clause-x_in_range
 step-two-requires-clause-x_in_range c =
@@ -36,10 +37,11 @@ step-two-requires-clause-x_in_range c =
     let b_fits : FitsSigned w64 four.second = search rules in
     let c_fits : FitsSigned w64 four.third = search rules in
     let d_fits : FitsSigned w64 four.fourth = search rules in
-    let inner : IsInner c.args.from = search rules in
     let small = c.in_ok-four.ensures.four in
     let first : c.step-one.result ≡ moved_by c.args.from four.second four.first = simp to_z-of_z at c.step-one.ensures in
-    simp to_z-of_z (subst (λ (p : Point). IsCoordinate (p.x +ℤ four.fourth)) (sym first) (inner_twice c.args.from.x four.second four.fourth inner.0 small.second_small small.fourth_small))
+    let one = near_moved 6 c.args.from four.second four.first c.requires.near (short_form four.second small.second_small) (short_form four.first small.first_small) in
+    let two = near_moved 7 c.step-one.result four.fourth four.third (subst (IsNear 7) (sym first) one) (short_form four.fourth small.fourth_small) (short_form four.third small.third_small) in
+    simp to_z-of_z (near_in_range 8 _ (omega arith) two).0
 
 pub step-two-requires-clause-y_in_range : goal.step-two-requires-clause-y_in_range
 step-two-requires-clause-y_in_range c =
@@ -48,10 +50,11 @@ step-two-requires-clause-y_in_range c =
     let b_fits : FitsSigned w64 four.second = search rules in
     let c_fits : FitsSigned w64 four.third = search rules in
     let d_fits : FitsSigned w64 four.fourth = search rules in
-    let inner : IsInner c.args.from = search rules in
     let small = c.in_ok-four.ensures.four in
     let first : c.step-one.result ≡ moved_by c.args.from four.second four.first = simp to_z-of_z at c.step-one.ensures in
-    simp to_z-of_z (subst (λ (p : Point). IsCoordinate (p.y +ℤ four.third)) (sym first) (inner_twice c.args.from.y four.first four.third inner.1 small.first_small small.third_small))
+    let one = near_moved 6 c.args.from four.second four.first c.requires.near (short_form four.second small.second_small) (short_form four.first small.first_small) in
+    let two = near_moved 7 c.step-one.result four.fourth four.third (subst (IsNear 7) (sym first) one) (short_form four.fourth small.fourth_small) (short_form four.third small.third_small) in
+    simp to_z-of_z (near_in_range 8 _ (omega arith) two).1
 
 pub returns-clause-read : goal.returns-clause-read
 returns-clause-read c =
@@ -60,7 +63,6 @@ returns-clause-read c =
     let b_fits : FitsSigned w64 four.second = search rules in
     let c_fits : FitsSigned w64 four.third = search rules in
     let d_fits : FitsSigned w64 four.fourth = search rules in
-    let inner : IsInner c.args.from = search rules in
     let small = c.in_ok-four.ensures.four in
     let first : c.step-one.result ≡ moved_by c.args.from four.second four.first = simp to_z-of_z at c.step-one.ensures in
     let second : c.step-two.result ≡ moved_by c.step-one.result four.fourth four.third = simp to_z-of_z at c.step-two.ensures in
@@ -75,14 +77,23 @@ returns-clause-in_range c =
     let b_fits : FitsSigned w64 four.second = search rules in
     let c_fits : FitsSigned w64 four.third = search rules in
     let d_fits : FitsSigned w64 four.fourth = search rules in
-    let inner : IsInner c.args.from = search rules in
     let small = c.in_ok-four.ensures.four in
     let first : c.step-one.result ≡ moved_by c.args.from four.second four.first = simp to_z-of_z at c.step-one.ensures in
     let second : c.step-two.result ≡ moved_by c.step-one.result four.fourth four.third = simp to_z-of_z at c.step-two.ensures in
-    let one_in : IsInRange c.step-one.result = subst IsInRange (sym first)
-    (inner_once c.args.from.x four.second inner.0 small.second_small, inner_once c.args.from.y four.first inner.1 small.first_small) in
-    let two_in : IsInRange c.step-two.result = subst IsInRange (sym second) (
-      subst (λ (p : Point). IsCoordinate (p.x +ℤ four.fourth)) (sym first) (inner_twice c.args.from.x four.second four.fourth inner.0 small.second_small small.fourth_small),
-      subst (λ (p : Point). IsCoordinate (p.y +ℤ four.third)) (sym first) (inner_twice c.args.from.y four.first four.third inner.1 small.first_small small.third_small),
-    ) in
-    (one_in, two_in)
+    let one = near_moved 6 c.args.from four.second four.first c.requires.near (short_form four.second small.second_small) (short_form four.first small.first_small) in
+    let two = near_moved 7 c.step-one.result four.fourth four.third (subst (IsNear 7) (sym first) one) (short_form four.fourth small.fourth_small) (short_form four.third small.third_small) in
+    (near_in_range 7 _ (omega arith) (subst (IsNear 7) (sym first) one), near_in_range 8 _ (omega arith) (subst (IsNear 8) (sym second) two))
+
+pub returns-clause-onward : goal.returns-clause-onward
+returns-clause-onward c = λ n near.
+    let four = c.in_ok-four.four in
+    let a_fits : FitsSigned w64 four.first = search rules in
+    let b_fits : FitsSigned w64 four.second = search rules in
+    let c_fits : FitsSigned w64 four.third = search rules in
+    let d_fits : FitsSigned w64 four.fourth = search rules in
+    let small = c.in_ok-four.ensures.four in
+    let first : c.step-one.result ≡ moved_by c.args.from four.second four.first = simp to_z-of_z at c.step-one.ensures in
+    let second : c.step-two.result ≡ moved_by c.step-one.result four.fourth four.third = simp to_z-of_z at c.step-two.ensures in
+    let one = near_moved n c.args.from four.second four.first near (short_form four.second small.second_small) (short_form four.first small.first_small) in
+    let two = near_moved (n + 1) c.step-one.result four.fourth four.third (subst (IsNear (n + 1)) (sym first) one) (short_form four.fourth small.fourth_small) (short_form four.third small.third_small) in
+    near_further (n + 1 + 1) (n + 2) c.step-two.result (omega arith) (subst (IsNear (n + 1 + 1)) (sym second) two)

@@ -1,4 +1,4 @@
--- The lines of the rows so far were put behind the text.
+-- The lines of the rows so far were appended to the text.
 use Rattle.twkb_table.proofs.LineLemmas.{RowsPut}
 use Rattle.twkb_table.proofs.flat_text.put_flat_rows.Given as goal
 

@@ -1,4 +1,4 @@
--- What the pass knows of the rows behind its place.
+-- What the pass knows about the rows after its place.
 use Rattle.std.proofs.Common.{◌-◌, length, drop}
 use Rattle.twkb_tree.specs.Rows.{row_points}
 use Rattle.twkb_writer.specs.Reads.{ReadsExactly}

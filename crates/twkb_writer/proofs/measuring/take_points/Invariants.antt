@@ -1,4 +1,4 @@
--- The last points of the node stand before those up to the end of its geometry.
+-- The last points of the node come before those up to the end of its geometry.
 use Rattle.std.proofs.Common.{◌≡◌, ◌≤◌, ◌+◌, ◌*◌, ◌-◌, ◌++◌, List, drop}
 use Rattle.twkb_points.specs.Point.{Point}
 use Rattle.twkb_writer.specs.Measuring.{points_at}

@@ -1,4 +1,4 @@
--- What the members from the place on come to.
+-- The totals of the members from the place on.
 use Rattle.std.proofs.Common.{◌≡◌, ◌≤◌, length, drop}
 use Rattle.twkb_tree.specs.Rows.{ids_from}
 use Rattle.twkb_tree.specs.Tree.{trees, nodes_all, flat_all}

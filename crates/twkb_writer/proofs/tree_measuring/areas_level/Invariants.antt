@@ -1,4 +1,4 @@
--- What the polygons from the place on come to.
+-- The totals of the polygons from the place on.
 use Rattle.std.proofs.Common.{◌≡◌, ◌*◌, ◌≤◌, drop}
 use Rattle.twkb_tree.specs.Rows.{ids_from}
 use Rattle.twkb_tree.specs.Tree.{area_nodes}

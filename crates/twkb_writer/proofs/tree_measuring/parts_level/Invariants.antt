@@ -1,4 +1,4 @@
--- What the parts from the place on come to.
+-- The totals of the parts from the place on.
 use Rattle.std.proofs.Common.{◌≡◌, ◌*◌, ◌≤◌, length, drop}
 use Rattle.twkb_tree.specs.Rows.{ids_from}
 use Rattle.twkb_writer.specs.Levels.{blank}

@@ -1,4 +1,4 @@
--- The points of the parts from the place on stand before those up to the end of the geometry.
+-- The points of the parts from the place on come before those up to the end of the geometry.
 use Rattle.std.proofs.Common.{◌≡◌, ◌+◌, ◌++◌, ◌*◌, ◌≤◌, List, length, drop}
 use Rattle.std.specs.Prelude.{flat_map}
 use Rattle.twkb_points.specs.Point.{Point}

@@ -1,4 +1,4 @@
-use Rattle.std.proofs.Common.{◌≡◌, ◌∙◌, ℕ, sym, ap, subst, arith, true, Ok}
+use Rattle.std.proofs.Common.{◌≡◌, ◌∙◌, sym, ap, subst, arith, Ok}
 use Rattle.twkb_engine.specs.Standing.{FedBy, IsAlive}
 use Rattle.twkb_engine.proofs.engine.Engine.feed.Goals.{then-is_between+in_ok-used+else-used-gt0, else-is_between}
 use Rattle.twkb_engine.proofs.engine.Engine.feed.Goals as goal

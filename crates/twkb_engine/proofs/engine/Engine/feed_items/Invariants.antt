@@ -1,4 +1,4 @@
-use Rattle.std.proofs.Common.{◌≡◌, ℕ, ◌-◌, ◌≤◌, length, Ok, false}
+use Rattle.std.proofs.Common.{◌≡◌, ◌-◌, ◌≤◌, length, Ok, false}
 use Rattle.twkb_engine.specs.Standing.{FedBy}
 use Rattle.twkb_engine.proofs.engine.Engine.feed_items.Given as goal
 

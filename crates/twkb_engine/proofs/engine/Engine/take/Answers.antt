@@ -1,6 +1,3 @@
-use Rattle.std.proofs.Common.{◌≡◌, ◌+◌, ◌<◌, sym, ap, subst, arith, ℕ}
-use Rattle.twkb_engine.specs.Fits.{IsByte}
-use Rattle.twkb_engine.specs.Taking.{Takes}
 use Rattle.twkb_engine.proofs.Steps.{x_noted}
 use Rattle.twkb_engine.proofs.engine.Engine.take.Goals as goal
 

@@ -4,7 +4,7 @@ use Rattle.twkb_num.proofs.VarintLemmas.{varint_is, open_varint_is, too_long_is}
 use Rattle.twkb_grammar.specs.Reading.{Gives}
 use Rattle.twkb_engine.specs.Fits.{IsByte}
 use Rattle.twkb_engine.specs.Standing.{held_in}
-use Rattle.twkb_engine.proofs.Steps.{next_role, byte_written, all_whole, SameItem, stands_else}
+use Rattle.twkb_engine.proofs.Steps.{next_role, byte_written, all_whole, stands_else}
 use Rattle.twkb_engine.proofs.Feeds.{item_fed, number_fed, more_fed, byte_alone, long_refused, not_both}
 use Rattle.twkb_engine.proofs.engine.Engine.take_byte.Goals as goal
 
@@ -21,9 +21,12 @@ returns-then-is_byte-clause-fed g c = λ bs s.
     1 c.take.result (omega arith) (c.take.ensures.taken r.0 r.1) (c.take.ensures.noted r.0 r.1) (c.take.ensures.placed s.placed)
 
 pub take-requires-in-Done-clause-alive : goal.take-requires-in-Done-clause-alive
-take-requires-in-Done-clause-alive g c = ∥∥₁_map c.requires.alive (λ s. (s.1.front, (stands_else s.0 s.1.front c.args.flat.now c.args.self.now _
-    (record { limits = refl; start = refl; bytes = refl; position = refl; nodes = refl; points = refl; collections = refl; head = refl; ids = refl; members_left = refl; rings_left = refl; points_left = refl; next = refl })
-    s.1 (sym (ap (λ l. s.1.front ++ l) c.in-Done.ensures.held ∙ append-nil s.1.front)) (inr c.in-Done.ensures.held)).0))
+take-requires-in-Done-clause-alive g c = ∥∥₁_map c.requires.alive (λ s. (
+  s.1.front,
+  (stands_else s.0 s.1.front c.args.flat.now c.args.self.now _
+      (record { limits = refl; start = refl; bytes = refl; position = refl; nodes = refl; points = refl; collections = refl; head = refl; ids = refl; members_left = refl; rings_left = refl; points_left = refl; next = refl })
+      s.1 (sym (ap (λ l. s.1.front ++ l) c.in-Done.ensures.held ∙ append-nil s.1.front)) (inr c.in-Done.ensures.held)).0,
+))
 
 pub returns-in-Done-clause-fed : goal.returns-in-Done-clause-fed
 returns-in-Done-clause-fed g c = λ bs s.

@@ -1,8 +1,8 @@
-use Rattle.std.proofs.Common.{◌≡◌, ◌∙◌, sym, subst, arith, [], Ok, Err}
+use Rattle.std.proofs.Common.{◌≡◌, arith, [], Ok, Err}
 use Rattle.std.proofs.lemmas.List.{nil_from_length}
 use Rattle.std.proofs.lemmas.Result.{err_from_is_err_and}
 use Rattle.twkb_engine.specs.State.{allowance_of}
-use Rattle.twkb_engine.specs.Standing.{IsFed, notes_at, held_in}
+use Rattle.twkb_engine.specs.Standing.{notes_at, held_in}
 use Rattle.twkb_engine.proofs.Feeds.{front_fed, first_fed}
 use Rattle.twkb_engine.proofs.engine.Engine.take_item.Goals as goal
 

@@ -1,4 +1,4 @@
-use Rattle.std.proofs.Common.{rules, ◌+◌, ◌≡◌, ◌<◌, ◌/◌, ◌∷◌, [], None, get_or, take, refl, sym, ap, ◌∙◌, subst, arith}
+use Rattle.std.proofs.Common.{rules, ◌+◌, ◌≡◌, ◌<◌, ◌/◌, ◌∷◌, [], None, get_or, take, sym, ap, subst, arith}
 use Rattle.twkb_num.specs.Zigzag.{unzigzag_of}
 use Rattle.twkb_tree.specs.Rows.{whole_row}
 use Rattle.twkb_tree.specs.declared.kind.Kind.TheVariants as kind

@@ -22,11 +22,11 @@ returns-then-taken-gt0-clause-fed g c =
     let old = c.args.spans.now in
     let rest = c.args.rest.now in
     let fed : FedBy g.S.SpanNotes.holds d rs old rest (Ok c.match-self.taken) c.match-self.self c.match-self.flat c.match-self.spans × (c.match-self.self.limits ≡ d.limits) = elim c.match-self.branch [
-      | in-TypeByte+in_ok-take_header-in-TypeByte w' ↦ moved_fed g.S.SpanNotes.holds rs d old rest c.match-self.taken _ c.match-self.self _ c.match-self.flat _ c.match-self.spans _ w'.self-is w'.flat-is w'.spans-is w'.taken-is (led_fed g.S.SpanNotes.holds rs rs d _ old _ rest _ w'.in_ok-take_header-in-TypeByte.ensures.within w'.take_header.ensures.start (w'.in_ok-take_header-in-TypeByte.ensures.led rs)) w'.take_header.ensures.kept.limits
-      | in-Id+in_ok-take_ids-in-Id w' ↦ moved_fed g.S.SpanNotes.holds rs d old rest c.match-self.taken _ c.match-self.self _ c.match-self.flat _ c.match-self.spans _ w'.self-is w'.flat-is w'.spans-is w'.taken-is (quiet_fed g.S.SpanNotes.holds rs rs d _ old rest _ w'.in_ok-take_ids-in-Id.ensures.within w'.take_ids.ensures.start (w'.in_ok-take_ids-in-Id.ensures.led rs)) w'.take_ids.ensures.kept.limits
+      | in-TypeByte+in_ok-take_header-in-TypeByte w' ↦ moved_fed g.S.SpanNotes.holds rs d old rest c.match-self.taken _ c.match-self.self _ c.match-self.flat _ c.match-self.spans _ w'.self-is w'.flat-is w'.spans-is w'.taken-is (led_fed g.S.SpanNotes.holds rs rs d _ old _ rest _ w'.in_ok-take_header-in-TypeByte.ensures.within w'.take_header.ensures.stays.start (w'.in_ok-take_header-in-TypeByte.ensures.led rs)) w'.take_header.ensures.stays.limits
+      | in-Id+in_ok-take_ids-in-Id w' ↦ moved_fed g.S.SpanNotes.holds rs d old rest c.match-self.taken _ c.match-self.self _ c.match-self.flat _ c.match-self.spans _ w'.self-is w'.flat-is w'.spans-is w'.taken-is (quiet_fed g.S.SpanNotes.holds rs rs d _ old rest _ w'.in_ok-take_ids-in-Id.ensures.within w'.take_ids.ensures.stays.start (w'.in_ok-take_ids-in-Id.ensures.led rs)) w'.take_ids.ensures.stays.limits
       | in-X+in_ok-taken-in-X w' ↦ moved_fed g.S.SpanNotes.holds rs d old rest c.match-self.taken _ c.match-self.self _ c.match-self.flat _ c.match-self.spans _ w'.self-is w'.flat-is w'.spans-is w'.taken-is w'.in_ok-taken-in-X.ensures.fed w'.take_points.ensures.limits
       | in_default w' ↦ moved_fed g.S.SpanNotes.holds rs d old rest c.match-self.taken (0, false) c.match-self.self d c.match-self.flat rs c.match-self.spans old w'.self-is w'.flat-is w'.spans-is w'.taken-is (λ bs s. none_fed g.S.SpanNotes.holds bs rest rs d old s) refl
-      ] in
+    ] in
     fed.0
 
 pub take_item-requires-clause-room : goal.take_item-requires-clause-room
@@ -37,11 +37,11 @@ take_item-requires-clause-room g c =
     let rest = c.args.rest.now in
     let same : FedBy g.S.SpanNotes.holds d rs old rest (Ok (0, false)) c.if-len-eq0.self c.if-len-eq0.flat c.if-len-eq0.spans × (c.if-len-eq0.self.limits ≡ d.limits) = elim c.if-len-eq0.branch [
       | then-len-eq0+else-taken-gt0 w ↦ (let fed : FedBy g.S.SpanNotes.holds d rs old rest (Ok w.match-self.taken) w.match-self.self w.match-self.flat w.match-self.spans × (w.match-self.self.limits ≡ d.limits) = elim w.match-self.branch [
-          | in-TypeByte+in_ok-take_header-in-TypeByte w' ↦ moved_fed g.S.SpanNotes.holds rs d old rest w.match-self.taken _ w.match-self.self _ w.match-self.flat _ w.match-self.spans _ w'.self-is w'.flat-is w'.spans-is w'.taken-is (led_fed g.S.SpanNotes.holds rs rs d _ old _ rest _ w'.in_ok-take_header-in-TypeByte.ensures.within w'.take_header.ensures.start (w'.in_ok-take_header-in-TypeByte.ensures.led rs)) w'.take_header.ensures.kept.limits
-          | in-Id+in_ok-take_ids-in-Id w' ↦ moved_fed g.S.SpanNotes.holds rs d old rest w.match-self.taken _ w.match-self.self _ w.match-self.flat _ w.match-self.spans _ w'.self-is w'.flat-is w'.spans-is w'.taken-is (quiet_fed g.S.SpanNotes.holds rs rs d _ old rest _ w'.in_ok-take_ids-in-Id.ensures.within w'.take_ids.ensures.start (w'.in_ok-take_ids-in-Id.ensures.led rs)) w'.take_ids.ensures.kept.limits
-          | in-X+in_ok-taken-in-X w' ↦ moved_fed g.S.SpanNotes.holds rs d old rest w.match-self.taken _ w.match-self.self _ w.match-self.flat _ w.match-self.spans _ w'.self-is w'.flat-is w'.spans-is w'.taken-is w'.in_ok-taken-in-X.ensures.fed w'.take_points.ensures.limits
-          | in_default w' ↦ moved_fed g.S.SpanNotes.holds rs d old rest w.match-self.taken (0, false) w.match-self.self d w.match-self.flat rs w.match-self.spans old w'.self-is w'.flat-is w'.spans-is w'.taken-is (λ bs s. none_fed g.S.SpanNotes.holds bs rest rs d old s) refl
-          ] in
+        | in-TypeByte+in_ok-take_header-in-TypeByte w' ↦ moved_fed g.S.SpanNotes.holds rs d old rest w.match-self.taken _ w.match-self.self _ w.match-self.flat _ w.match-self.spans _ w'.self-is w'.flat-is w'.spans-is w'.taken-is (led_fed g.S.SpanNotes.holds rs rs d _ old _ rest _ w'.in_ok-take_header-in-TypeByte.ensures.within w'.take_header.ensures.stays.start (w'.in_ok-take_header-in-TypeByte.ensures.led rs)) w'.take_header.ensures.stays.limits
+        | in-Id+in_ok-take_ids-in-Id w' ↦ moved_fed g.S.SpanNotes.holds rs d old rest w.match-self.taken _ w.match-self.self _ w.match-self.flat _ w.match-self.spans _ w'.self-is w'.flat-is w'.spans-is w'.taken-is (quiet_fed g.S.SpanNotes.holds rs rs d _ old rest _ w'.in_ok-take_ids-in-Id.ensures.within w'.take_ids.ensures.stays.start (w'.in_ok-take_ids-in-Id.ensures.led rs)) w'.take_ids.ensures.stays.limits
+        | in-X+in_ok-taken-in-X w' ↦ moved_fed g.S.SpanNotes.holds rs d old rest w.match-self.taken _ w.match-self.self _ w.match-self.flat _ w.match-self.spans _ w'.self-is w'.flat-is w'.spans-is w'.taken-is w'.in_ok-taken-in-X.ensures.fed w'.take_points.ensures.limits
+        | in_default w' ↦ moved_fed g.S.SpanNotes.holds rs d old rest w.match-self.taken (0, false) w.match-self.self d w.match-self.flat rs w.match-self.spans old w'.self-is w'.flat-is w'.spans-is w'.taken-is (λ bs s. none_fed g.S.SpanNotes.holds bs rest rs d old s) refl
+      ] in
           let zero : w.match-self.taken.0 ≡ 0 = omega (arith, w.if-taken-gt0.false) in
           moved_fed g.S.SpanNotes.holds rs d old rest (0, false) (0, false) c.if-len-eq0.self _ c.if-len-eq0.flat _ c.if-len-eq0.spans _ w.self-is w.flat-is w.spans-is refl (zero_fed g.S.SpanNotes.holds rs _ d _ old _ rest w.match-self.taken zero fed.0) fed.1)
       | else-len-eq0 w ↦ moved_fed g.S.SpanNotes.holds rs d old rest (0, false) (0, false) c.if-len-eq0.self d c.if-len-eq0.flat rs c.if-len-eq0.spans old w.self-is w.flat-is w.spans-is refl (λ bs s. none_fed g.S.SpanNotes.holds bs rest rs d old s) refl
@@ -56,11 +56,11 @@ take_item-requires-clause-alive g c =
     let rest = c.args.rest.now in
     let same : FedBy g.S.SpanNotes.holds d rs old rest (Ok (0, false)) c.if-len-eq0.self c.if-len-eq0.flat c.if-len-eq0.spans × (c.if-len-eq0.self.limits ≡ d.limits) = elim c.if-len-eq0.branch [
       | then-len-eq0+else-taken-gt0 w ↦ (let fed : FedBy g.S.SpanNotes.holds d rs old rest (Ok w.match-self.taken) w.match-self.self w.match-self.flat w.match-self.spans × (w.match-self.self.limits ≡ d.limits) = elim w.match-self.branch [
-          | in-TypeByte+in_ok-take_header-in-TypeByte w' ↦ moved_fed g.S.SpanNotes.holds rs d old rest w.match-self.taken _ w.match-self.self _ w.match-self.flat _ w.match-self.spans _ w'.self-is w'.flat-is w'.spans-is w'.taken-is (led_fed g.S.SpanNotes.holds rs rs d _ old _ rest _ w'.in_ok-take_header-in-TypeByte.ensures.within w'.take_header.ensures.start (w'.in_ok-take_header-in-TypeByte.ensures.led rs)) w'.take_header.ensures.kept.limits
-          | in-Id+in_ok-take_ids-in-Id w' ↦ moved_fed g.S.SpanNotes.holds rs d old rest w.match-self.taken _ w.match-self.self _ w.match-self.flat _ w.match-self.spans _ w'.self-is w'.flat-is w'.spans-is w'.taken-is (quiet_fed g.S.SpanNotes.holds rs rs d _ old rest _ w'.in_ok-take_ids-in-Id.ensures.within w'.take_ids.ensures.start (w'.in_ok-take_ids-in-Id.ensures.led rs)) w'.take_ids.ensures.kept.limits
-          | in-X+in_ok-taken-in-X w' ↦ moved_fed g.S.SpanNotes.holds rs d old rest w.match-self.taken _ w.match-self.self _ w.match-self.flat _ w.match-self.spans _ w'.self-is w'.flat-is w'.spans-is w'.taken-is w'.in_ok-taken-in-X.ensures.fed w'.take_points.ensures.limits
-          | in_default w' ↦ moved_fed g.S.SpanNotes.holds rs d old rest w.match-self.taken (0, false) w.match-self.self d w.match-self.flat rs w.match-self.spans old w'.self-is w'.flat-is w'.spans-is w'.taken-is (λ bs s. none_fed g.S.SpanNotes.holds bs rest rs d old s) refl
-          ] in
+        | in-TypeByte+in_ok-take_header-in-TypeByte w' ↦ moved_fed g.S.SpanNotes.holds rs d old rest w.match-self.taken _ w.match-self.self _ w.match-self.flat _ w.match-self.spans _ w'.self-is w'.flat-is w'.spans-is w'.taken-is (led_fed g.S.SpanNotes.holds rs rs d _ old _ rest _ w'.in_ok-take_header-in-TypeByte.ensures.within w'.take_header.ensures.stays.start (w'.in_ok-take_header-in-TypeByte.ensures.led rs)) w'.take_header.ensures.stays.limits
+        | in-Id+in_ok-take_ids-in-Id w' ↦ moved_fed g.S.SpanNotes.holds rs d old rest w.match-self.taken _ w.match-self.self _ w.match-self.flat _ w.match-self.spans _ w'.self-is w'.flat-is w'.spans-is w'.taken-is (quiet_fed g.S.SpanNotes.holds rs rs d _ old rest _ w'.in_ok-take_ids-in-Id.ensures.within w'.take_ids.ensures.stays.start (w'.in_ok-take_ids-in-Id.ensures.led rs)) w'.take_ids.ensures.stays.limits
+        | in-X+in_ok-taken-in-X w' ↦ moved_fed g.S.SpanNotes.holds rs d old rest w.match-self.taken _ w.match-self.self _ w.match-self.flat _ w.match-self.spans _ w'.self-is w'.flat-is w'.spans-is w'.taken-is w'.in_ok-taken-in-X.ensures.fed w'.take_points.ensures.limits
+        | in_default w' ↦ moved_fed g.S.SpanNotes.holds rs d old rest w.match-self.taken (0, false) w.match-self.self d w.match-self.flat rs w.match-self.spans old w'.self-is w'.flat-is w'.spans-is w'.taken-is (λ bs s. none_fed g.S.SpanNotes.holds bs rest rs d old s) refl
+      ] in
           let zero : w.match-self.taken.0 ≡ 0 = omega (arith, w.if-taken-gt0.false) in
           moved_fed g.S.SpanNotes.holds rs d old rest (0, false) (0, false) c.if-len-eq0.self _ c.if-len-eq0.flat _ c.if-len-eq0.spans _ w.self-is w.flat-is w.spans-is refl (zero_fed g.S.SpanNotes.holds rs _ d _ old _ rest w.match-self.taken zero fed.0) fed.1)
       | else-len-eq0 w ↦ moved_fed g.S.SpanNotes.holds rs d old rest (0, false) (0, false) c.if-len-eq0.self d c.if-len-eq0.flat rs c.if-len-eq0.spans old w.self-is w.flat-is w.spans-is refl (λ bs s. none_fed g.S.SpanNotes.holds bs rest rs d old s) refl
@@ -75,11 +75,11 @@ returns-clause-fed g c =
     let rest = c.args.rest.now in
     let same : FedBy g.S.SpanNotes.holds d rs old rest (Ok (0, false)) c.if-len-eq0.self c.if-len-eq0.flat c.if-len-eq0.spans × (c.if-len-eq0.self.limits ≡ d.limits) = elim c.if-len-eq0.branch [
       | then-len-eq0+else-taken-gt0 w ↦ (let fed : FedBy g.S.SpanNotes.holds d rs old rest (Ok w.match-self.taken) w.match-self.self w.match-self.flat w.match-self.spans × (w.match-self.self.limits ≡ d.limits) = elim w.match-self.branch [
-          | in-TypeByte+in_ok-take_header-in-TypeByte w' ↦ moved_fed g.S.SpanNotes.holds rs d old rest w.match-self.taken _ w.match-self.self _ w.match-self.flat _ w.match-self.spans _ w'.self-is w'.flat-is w'.spans-is w'.taken-is (led_fed g.S.SpanNotes.holds rs rs d _ old _ rest _ w'.in_ok-take_header-in-TypeByte.ensures.within w'.take_header.ensures.start (w'.in_ok-take_header-in-TypeByte.ensures.led rs)) w'.take_header.ensures.kept.limits
-          | in-Id+in_ok-take_ids-in-Id w' ↦ moved_fed g.S.SpanNotes.holds rs d old rest w.match-self.taken _ w.match-self.self _ w.match-self.flat _ w.match-self.spans _ w'.self-is w'.flat-is w'.spans-is w'.taken-is (quiet_fed g.S.SpanNotes.holds rs rs d _ old rest _ w'.in_ok-take_ids-in-Id.ensures.within w'.take_ids.ensures.start (w'.in_ok-take_ids-in-Id.ensures.led rs)) w'.take_ids.ensures.kept.limits
-          | in-X+in_ok-taken-in-X w' ↦ moved_fed g.S.SpanNotes.holds rs d old rest w.match-self.taken _ w.match-self.self _ w.match-self.flat _ w.match-self.spans _ w'.self-is w'.flat-is w'.spans-is w'.taken-is w'.in_ok-taken-in-X.ensures.fed w'.take_points.ensures.limits
-          | in_default w' ↦ moved_fed g.S.SpanNotes.holds rs d old rest w.match-self.taken (0, false) w.match-self.self d w.match-self.flat rs w.match-self.spans old w'.self-is w'.flat-is w'.spans-is w'.taken-is (λ bs s. none_fed g.S.SpanNotes.holds bs rest rs d old s) refl
-          ] in
+        | in-TypeByte+in_ok-take_header-in-TypeByte w' ↦ moved_fed g.S.SpanNotes.holds rs d old rest w.match-self.taken _ w.match-self.self _ w.match-self.flat _ w.match-self.spans _ w'.self-is w'.flat-is w'.spans-is w'.taken-is (led_fed g.S.SpanNotes.holds rs rs d _ old _ rest _ w'.in_ok-take_header-in-TypeByte.ensures.within w'.take_header.ensures.stays.start (w'.in_ok-take_header-in-TypeByte.ensures.led rs)) w'.take_header.ensures.stays.limits
+        | in-Id+in_ok-take_ids-in-Id w' ↦ moved_fed g.S.SpanNotes.holds rs d old rest w.match-self.taken _ w.match-self.self _ w.match-self.flat _ w.match-self.spans _ w'.self-is w'.flat-is w'.spans-is w'.taken-is (quiet_fed g.S.SpanNotes.holds rs rs d _ old rest _ w'.in_ok-take_ids-in-Id.ensures.within w'.take_ids.ensures.stays.start (w'.in_ok-take_ids-in-Id.ensures.led rs)) w'.take_ids.ensures.stays.limits
+        | in-X+in_ok-taken-in-X w' ↦ moved_fed g.S.SpanNotes.holds rs d old rest w.match-self.taken _ w.match-self.self _ w.match-self.flat _ w.match-self.spans _ w'.self-is w'.flat-is w'.spans-is w'.taken-is w'.in_ok-taken-in-X.ensures.fed w'.take_points.ensures.limits
+        | in_default w' ↦ moved_fed g.S.SpanNotes.holds rs d old rest w.match-self.taken (0, false) w.match-self.self d w.match-self.flat rs w.match-self.spans old w'.self-is w'.flat-is w'.spans-is w'.taken-is (λ bs s. none_fed g.S.SpanNotes.holds bs rest rs d old s) refl
+      ] in
           let zero : w.match-self.taken.0 ≡ 0 = omega (arith, w.if-taken-gt0.false) in
           moved_fed g.S.SpanNotes.holds rs d old rest (0, false) (0, false) c.if-len-eq0.self _ c.if-len-eq0.flat _ c.if-len-eq0.spans _ w.self-is w.flat-is w.spans-is refl (zero_fed g.S.SpanNotes.holds rs _ d _ old _ rest w.match-self.taken zero fed.0) fed.1)
       | else-len-eq0 w ↦ moved_fed g.S.SpanNotes.holds rs d old rest (0, false) (0, false) c.if-len-eq0.self d c.if-len-eq0.flat rs c.if-len-eq0.spans old w.self-is w.flat-is w.spans-is refl (λ bs s. none_fed g.S.SpanNotes.holds bs rest rs d old s) refl

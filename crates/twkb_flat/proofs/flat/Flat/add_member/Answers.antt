@@ -15,7 +15,7 @@ pushed c =
     member_pushed c.self.inside.entries.items c.deref_mut.result.now c.link.new.entries c.self.inside.points.items c.put_point.new.points.items c.args.point c.index.result.now (c.len-next.result - 1) c.len.result c.len-next.result c.args.depth c.args.id _ c.self.invariant c.self.view_is c.requires.member
     (omega (arith, some.0, count)) (sym count) (sym (c.len.ensures ∙ c.self.inside.points.ok.0)) c.index.ensures (c.deref_mut.ensures.value ∙ c.in_default.ensures.node) c.in_default.ensures.point c.link.ensures.spans c.link.ensures.links
 
--- as many as before it was linked
+-- there are as many entries as before the link was set
 same : (c : goal.After-self-1) → length c.link.new.entries ≡ c.put_point.new.entries.len
 same c = same_count _ _ c.link.ensures.spans ∙ (ap length c.deref_mut.ensures.value ∙ sym c.put_point.new.entries.ok.0)
 

@@ -4,7 +4,7 @@ use Rattle.twkb_flat.proofs.CountedPoints.{StandFor, vec_counted, one_more, can_
 use Rattle.twkb_flat.proofs.flat.Flat.add_point.Goals.{After-count_point}
 use Rattle.twkb_flat.proofs.flat.Flat.add_point.Goals as goal
 
--- behind the point
+-- after the point
 behind : (c : After-count_point) → StandFor (point_added c.args.point c.args.self.now) (with_items c.self.inside.entries c.count_point.new.entries).items c.push.new.self.items
 behind c =
     let before : StandFor c.args.self.now c.self.inside.entries.items c.self.inside.points.items = record { flat = c.self.invariant; view = c.self.view_is; line = c.requires.line } in

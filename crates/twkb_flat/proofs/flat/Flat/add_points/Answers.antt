@@ -1,7 +1,7 @@
 use Rattle.std.proofs.Common.{List, ◌++◌, length, ap, ◌∙◌}
 use Rattle.std.specs.Vec.{with_items}
 use Rattle.twkb_points.specs.Point.{Point}
-use Rattle.twkb_flat.specs.Adding.{points_added}
+use Rattle.twkb_tree.specs.RowGrowth.{points_added}
 use Rattle.twkb_flat.proofs.CountedPoints.{StandFor}
 use Rattle.twkb_flat.proofs.CountedMore.{points_more, can_count_more, vec_counted_by}
 use Rattle.twkb_flat.proofs.flat.Flat.add_points.Goals.{After-self, After-count_points}
@@ -11,7 +11,7 @@ use Rattle.twkb_flat.proofs.flat.Flat.add_points.Goals as goal
 before : (c : After-self) → StandFor c.args.self.now c.self.inside.entries.items c.self.inside.points.items
 before c = record { flat = c.self.invariant; view = c.self.view_is; line = c.requires.line }
 
--- behind the points
+-- after the points
 behind : (c : After-count_points) → StandFor (points_added c.args.points.now c.args.self.now) (with_items c.self.inside.entries c.count_points.new.entries).items c.put_reserved.new.points.items
 behind c =
     let counted = vec_counted_by (length c.args.points.now) c.self.inside.entries c.deref_mut.result.now c.count_points.new.entries c.deref_mut.ensures.value c.count_points.ensures.spans c.count_points.ensures.links in

@@ -14,11 +14,11 @@ before c = record { flat = c.self.invariant; view = c.self.view_is; line = c.req
 appended : (c : After-push_reserved) → c.push_reserved.new.self.items ≡ c.self.inside.points.items ++ c.args.first ∷ []
 appended c = c.push_reserved.ensures.items ∙ ap (λ (ps : List Point). ps ++ c.args.first ∷ []) c.in_ok-make_room.ensures.same
 
--- and counted
+-- the first point is counted
 counted : (c : After-count_point) → HasCounted c.self.inside.entries.items (with_items c.self.inside.entries c.count_point.new.entries).items
 counted c = vec_counted c.self.inside.entries c.deref_mut.result.now c.count_point.new.entries c.deref_mut.ensures.value c.count_point.ensures.spans c.count_point.ensures.links
 
--- behind both points
+-- after both points
 both : (c : goal.After-self-2-1) → StandFor (point_added c.args.second (point_added c.args.first c.args.self.now)) (with_items (with_items c.self.inside.entries c.count_point.new.entries) c.count_point-2.new.entries).items c.push_reserved-2.new.self.items
 both c =
     let at = goal.at.invariant_of-self-2 c in

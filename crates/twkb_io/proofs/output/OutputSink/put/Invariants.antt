@@ -2,7 +2,7 @@ use Rattle.std.proofs.Common.{◌≡◌, ◌+◌, ◌≤◌, ◌^◌, ◌++◌, 
 use Rattle.twkb_io.specs.Outputs.{Took, is_spent, sent_of}
 use Rattle.twkb_io.proofs.output.OutputSink.put.Given as goal
 
--- the writer took a front of the bytes, and the rest still fits
+-- the writer took a prefix of the bytes, and the rest still fits
 abbrev pub invariant-loop-rest : goal.invariant-loop-rest
 invariant-loop-rest g l =
     record {

@@ -6,7 +6,7 @@ use Rattle.twkb_table.specs.RowReading.{Keeps}
 use Rattle.twkb_table.specs.TableReading.{Extends, IsReading, is_spent}
 use Rattle.twkb_table.proofs.table_reader.TableReader.read_rows.Given as goal
 
--- each record so far was a row more of the geometry
+-- each record so far was one more row of the geometry
 abbrev pub invariant-loop : goal.invariant-loop
 invariant-loop g l =
     record {

@@ -1,4 +1,4 @@
--- There are no rows from here on.
+-- From this depth on there are no rows.
 use Rattle.twkb_writer.specs.Depths.{IsBlankFrom}
 use Rattle.twkb_writer.proofs.depths.Depths.clear.Given as goal
 

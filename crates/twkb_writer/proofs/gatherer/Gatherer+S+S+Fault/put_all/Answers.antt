@@ -7,7 +7,7 @@ use Rattle.twkb_writer.specs.Bytes.{signed}
 use Rattle.twkb_writer.proofs.PutLemmas.{begun, step, finished}
 use Rattle.twkb_writer.proofs.gatherer.Gatherer+S+S+Fault.put_all.Goals as goal
 
--- the next number, and the others
+-- the next number, and the numbers after it
 next_number : (ns : List ℤ) (i : ℕ) → i < length ns → flat_map signed (drop i ns) ≡ signed (get_or ns i (pos 0)) ++ flat_map signed (drop (i + 1) ns)
 next_number ns i h = ap (flat_map signed) (drop_more ns i (pos 0) h)
 
