@@ -1,6 +1,6 @@
 -- What every call of a reader says, by whether the reader is ready.
 use Rattle.std.proofs.Common.{◌≡◌, refl, sym, ap, ◌∙◌, subst, Bool, Result, Ok, Err, true, false}
-use Rattle.std.specs.Prelude.{◌↔◌, is_err}
+use Rattle.std.specs.Prelude.{is_err}
 use Rattle.std.specs.declared.io.traits.Read.{Ghosts}
 use Rattle.twkb_io.specs.Taps.{count_failure}
 use Rattle.twkb_io.specs.Inputs.{input_failures, input_tap}
@@ -101,7 +101,3 @@ module _ {R : Type 0} {read : Ghosts R} where
     -- and so does a want of memory
     pub lacked : answer ≡ Err fault.Memory → A
     lacked is = going_on (λ e. absurd (cc (e, is))) (λ e. absurd (cc (e, is)))
-
-  -- the same, told by its public clauses
-  pub came_by : {A : Type 0} (old new : Reader R read) (answer : Result Bool BlobFault) → (answer ≡ Err fault.Spent) ↔ (is_spent old ≡ true) → (has_ended old ≡ true → (answer ≡ Ok false) × (new ≡ old)) → IfGoingOn old A → answer ≡ Ok true → A
-  came_by old new answer spent ended fact is = fact (is_false (is_spent old) (λ e. let other = spent.1 e in absurd (cc (other, is)))) (is_false (has_ended old) (λ e. let other = (ended e).0 in absurd (cc (other, is))))

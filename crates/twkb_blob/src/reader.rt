@@ -1,11 +1,9 @@
 //! The blobs of an input, one after another.
-ghost use Rattle.std.specs.Prelude.{◌≡◌, ◌<◌, ◌↔◌, ◌⊎◌, ℕ, List, [], length, true, false, Ok, Err, None, IfOk, IfErr, OnOk, OnErr, IfSome, is_err};
+ghost use Rattle.std.specs.Prelude.{◌≡◌, ◌<◌, ◌↔◌, ◌⊎◌, ℕ, List, [], length, true, false, Ok, Err, None, IfOk, IfErr, OnOk, OnErr, is_err};
 ghost use Rattle.twkb_tree.specs.Tree.{Tree};
 ghost use Rattle.twkb_tree.specs.Rows.{rows};
 ghost use Rattle.twkb_tree.specs.Limits.{IsValid, largest_limits};
 ghost use Rattle.twkb_grammar.specs.Noting.{no_notes};
-ghost use Rattle.twkb_io.specs.Taps.{count_failure};
-ghost use Rattle.twkb_io.specs.Inputs.{input_failures, input_tap};
 
 use crate::fault::BlobFault;
 use crate::input_blobs::read_blob;
@@ -35,7 +33,7 @@ pub struct Reader<'a, R: Read> {
 }
 
 impl<'a, R: Read> Reader<'a, R> {
-    ghost use Rattle.twkb_blob.specs.Readers.{reader_input, reader_limits, is_spent, has_ended, ready_at, IsNext, IsNextFlat, PartAhead, ReadsNext, failed_by_read};
+    ghost use Rattle.twkb_blob.specs.Readers.{reader_input, reader_limits, is_spent, has_ended, ready_at, IsNext, IsNextFlat, PartAhead, ReadsNext};
     ghost use Rattle.twkb_blob.specs.Located.{IsLocated, IsSpanned, ReadsInto};
     ghost use Rattle.twkb_blob.specs.Sessions.{Stands, is_spent as is_finished, session_limits, session_rows};
     ghost use Rattle.twkb_blob.specs.Through.{IfGoingOn, IsAbreast, IsThrough, ReadsThrough};
@@ -58,18 +56,10 @@ impl<'a, R: Read> Reader<'a, R> {
     /// call answers `Spent`, and after the end each call answers `None`; neither reads. It takes memory for what it keeps and for the
     /// geometry, and none for a count that it reads.
     pub fn next(&mut self, alloc: Global) -> Result<Option<Geometry>, BlobFault>
-        ensures same_tap { (input_tap (reader_input self.new)).ghost_name ≡ (input_tap (reader_input self.old)).ghost_name }
-        ensures limits { reader_limits self.new ≡ reader_limits self.old }
+        ensures shared { ReadsNext None self.old self.new result }
         ensures next { is_spent self.old ≡ false → has_ended self.old ≡ false → IsNext (reader_limits self.old) (reader_input self.old) (reader_input self.new) result }
         ensures memory { result ≡ Err BlobFault.Memory → PartAhead (reader_limits self.old) [] (reader_input self.old) }
-        ensures failures { input_failures (reader_input self.new) ≡ count_failure (failed_by_read result) (input_failures (reader_input self.old)) }
-
         ensures spent { (result ≡ Err BlobFault.Spent) ↔ (is_spent self.old ≡ true) }
-        ensures stays { is_spent self.new ≡ is_err result }
-        ensures unchanged { is_spent self.old ≡ true → self.new ≡ self.old }
-        ensures end { result ≡ Ok None → has_ended self.new ≡ true }
-        ensures going_on { IfOk result (λ found. IfSome found (λ geometry. has_ended self.new ≡ false)) }
-        ensures for_good { has_ended self.old ≡ true → (result ≡ Ok None) × (self.new ≡ self.old) }
     {
         let mut flat = Flat::new(alloc);
         if !self.next_flat(alloc, &mut flat)? {
@@ -83,20 +73,12 @@ impl<'a, R: Read> Reader<'a, R> {
     /// false and after an `Err` the form has no rows. Calls of it and of the others may be mixed. It takes memory for rows and points past
     /// the room of the form, and for nested collections, and none for a further geometry once there is room for it.
     pub fn next_flat(&mut self, alloc: Global, flat: &mut Flat) -> Result<bool, BlobFault>
-        ensures same_tap { (input_tap (reader_input self.new)).ghost_name ≡ (input_tap (reader_input self.old)).ghost_name }
-        ensures limits { reader_limits self.new ≡ reader_limits self.old }
+        ensures shared { ReadsNext false self.old self.new result }
         ensures next { is_spent self.old ≡ false → has_ended self.old ≡ false → IsNextFlat (reader_limits self.old) (reader_input self.old) (reader_input self.new) result flat.new }
         ensures memory { result ≡ Err BlobFault.Memory → PartAhead (reader_limits self.old) [] (reader_input self.old) }
-        ensures failures { input_failures (reader_input self.new) ≡ count_failure (failed_by_read result) (input_failures (reader_input self.old)) }
         ensures cleared { (result ≡ Ok true) ⊎ (flat.new ≡ []) }
         ensures some { result ≡ Ok true → 0 < length flat.new }
-
         ensures spent { (result ≡ Err BlobFault.Spent) ↔ (is_spent self.old ≡ true) }
-        ensures stays { is_spent self.new ≡ is_err result }
-        ensures unchanged { is_spent self.old ≡ true → self.new ≡ self.old }
-        ensures end { result ≡ Ok false → has_ended self.new ≡ true }
-        ensures going_on { result ≡ Ok true → has_ended self.new ≡ false }
-        ensures for_good { has_ended self.old ≡ true → (result ≡ Ok false) × (self.new ≡ self.old) }
     {
         flat.clear();
         self.read_into(alloc, flat, &mut NoSpans)
@@ -107,11 +89,9 @@ impl<'a, R: Read> Reader<'a, R> {
     /// start: a new session of the reader's limits, at a new input, has those of `next_flat`. At the input's end the session is finished, and
     /// after a false and after an `Err` it has no rows and takes no further byte. Takes memory as `Session::feed_flat` does.
     pub fn next_through(&mut self, session: &mut Session) -> Result<bool, BlobFault>
-        ensures same_tap { (input_tap (reader_input self.new)).ghost_name ≡ (input_tap (reader_input self.old)).ghost_name }
-        ensures limits { reader_limits self.new ≡ reader_limits self.old }
+        ensures shared { ReadsNext false self.old self.new result }
         ensures next { IsAbreast (reader_limits self.old) (reader_input self.old) session.old → IfGoingOn self.old (IsNextFlat (reader_limits self.old) (reader_input self.old) (reader_input self.new) result (session_rows session.new)) }
         ensures memory { IsAbreast (reader_limits self.old) (reader_input self.old) session.old → result ≡ Err BlobFault.Memory → PartAhead (reader_limits self.old) [] (reader_input self.old) }
-        ensures failures { input_failures (reader_input self.new) ≡ count_failure (failed_by_read result) (input_failures (reader_input self.old)) }
         ensures cleared { (result ≡ Ok true) ⊎ (session_rows session.new ≡ []) }
         ensures some { IsAbreast (reader_limits self.old) (reader_input self.old) session.old → result ≡ Ok true → 0 < length (session_rows session.new) }
 
@@ -119,13 +99,6 @@ impl<'a, R: Read> Reader<'a, R> {
         ensures abreast { IsAbreast (reader_limits self.old) (reader_input self.old) session.old → result ≡ Ok true → IsAbreast (reader_limits self.old) (reader_input self.new) session.new }
         ensures session_limits { session_limits session.new ≡ session_limits session.old }
         ensures finished { (result ≡ Ok true) ⊎ (is_finished session.new ≡ true) }
-
-        ensures spent { is_spent self.old ≡ true → result ≡ Err BlobFault.Spent }
-        ensures stays { is_spent self.new ≡ is_err result }
-        ensures unchanged { is_spent self.old ≡ true → self.new ≡ self.old }
-        ensures end { result ≡ Ok false → has_ended self.new ≡ true }
-        ensures going_on { result ≡ Ok true → has_ended self.new ≡ false }
-        ensures for_good { has_ended self.old ≡ true → (result ≡ Ok false) × (self.new ≡ self.old) }
     {
         self.read_through(session, &mut NoSpans)
     }
@@ -139,20 +112,12 @@ impl<'a, R: Read> Reader<'a, R> {
         flat: &mut Flat,
         spans: &mut Spans,
     ) -> Result<bool, BlobFault>
-        ensures same_tap { (input_tap (reader_input self.new)).ghost_name ≡ (input_tap (reader_input self.old)).ghost_name }
-        ensures limits { reader_limits self.new ≡ reader_limits self.old }
+        ensures shared { ReadsNext false self.old self.new result }
         ensures next { is_spent self.old ≡ false → has_ended self.old ≡ false → IsSpanned (reader_limits self.old) (reader_input self.old) (reader_input self.new) result flat.new spans.new }
         ensures memory { result ≡ Err BlobFault.Memory → PartAhead (reader_limits self.old) [] (reader_input self.old) }
-        ensures failures { input_failures (reader_input self.new) ≡ count_failure (failed_by_read result) (input_failures (reader_input self.old)) }
         ensures cleared { (result ≡ Ok true) ⊎ ((flat.new ≡ []) × (spans.new ≡ [])) }
         ensures some { result ≡ Ok true → 0 < length flat.new }
-
         ensures spent { (result ≡ Err BlobFault.Spent) ↔ (is_spent self.old ≡ true) }
-        ensures stays { is_spent self.new ≡ is_err result }
-        ensures unchanged { is_spent self.old ≡ true → self.new ≡ self.old }
-        ensures end { result ≡ Ok false → has_ended self.new ≡ true }
-        ensures going_on { result ≡ Ok true → has_ended self.new ≡ false }
-        ensures for_good { has_ended self.old ≡ true → (result ≡ Ok false) × (self.new ≡ self.old) }
     {
         flat.clear();
         spans.notes.restart();
@@ -169,11 +134,9 @@ impl<'a, R: Read> Reader<'a, R> {
         session: &mut Session,
         spans: &mut Spans,
     ) -> Result<bool, BlobFault>
-        ensures same_tap { (input_tap (reader_input self.new)).ghost_name ≡ (input_tap (reader_input self.old)).ghost_name }
-        ensures limits { reader_limits self.new ≡ reader_limits self.old }
+        ensures shared { ReadsNext false self.old self.new result }
         ensures next { IsAbreast (reader_limits self.old) (reader_input self.old) session.old → IfGoingOn self.old (IsSpanned (reader_limits self.old) (reader_input self.old) (reader_input self.new) result (session_rows session.new) spans.new) }
         ensures memory { IsAbreast (reader_limits self.old) (reader_input self.old) session.old → result ≡ Err BlobFault.Memory → PartAhead (reader_limits self.old) [] (reader_input self.old) }
-        ensures failures { input_failures (reader_input self.new) ≡ count_failure (failed_by_read result) (input_failures (reader_input self.old)) }
         ensures cleared { (result ≡ Ok true) ⊎ ((session_rows session.new ≡ []) × (spans.new ≡ [])) }
         ensures some { IsAbreast (reader_limits self.old) (reader_input self.old) session.old → result ≡ Ok true → 0 < length (session_rows session.new) }
 
@@ -181,13 +144,6 @@ impl<'a, R: Read> Reader<'a, R> {
         ensures abreast { IsAbreast (reader_limits self.old) (reader_input self.old) session.old → result ≡ Ok true → IsAbreast (reader_limits self.old) (reader_input self.new) session.new }
         ensures session_limits { session_limits session.new ≡ session_limits session.old }
         ensures finished { (result ≡ Ok true) ⊎ (is_finished session.new ≡ true) }
-
-        ensures spent { is_spent self.old ≡ true → result ≡ Err BlobFault.Spent }
-        ensures stays { is_spent self.new ≡ is_err result }
-        ensures unchanged { is_spent self.old ≡ true → self.new ≡ self.old }
-        ensures end { result ≡ Ok false → has_ended self.new ≡ true }
-        ensures going_on { result ≡ Ok true → has_ended self.new ≡ false }
-        ensures for_good { has_ended self.old ≡ true → (result ≡ Ok false) × (self.new ≡ self.old) }
     {
         spans.notes.restart();
         let found = self.read_through(session, &mut spans.notes);
@@ -197,18 +153,10 @@ impl<'a, R: Read> Reader<'a, R> {
     /// The next geometry, as `next` gives it, with the spans of its headers, whose offsets count from where the input began. It takes memory
     /// for a span a header besides.
     pub fn next_located(&mut self, alloc: Global) -> Result<Option<Located>, BlobFault>
-        ensures same_tap { (input_tap (reader_input self.new)).ghost_name ≡ (input_tap (reader_input self.old)).ghost_name }
-        ensures limits { reader_limits self.new ≡ reader_limits self.old }
+        ensures shared { ReadsNext None self.old self.new result }
         ensures next { is_spent self.old ≡ false → has_ended self.old ≡ false → IsLocated (reader_limits self.old) (reader_input self.old) (reader_input self.new) result }
         ensures memory { result ≡ Err BlobFault.Memory → PartAhead (reader_limits self.old) [] (reader_input self.old) }
-        ensures failures { input_failures (reader_input self.new) ≡ count_failure (failed_by_read result) (input_failures (reader_input self.old)) }
-
         ensures spent { (result ≡ Err BlobFault.Spent) ↔ (is_spent self.old ≡ true) }
-        ensures stays { is_spent self.new ≡ is_err result }
-        ensures unchanged { is_spent self.old ≡ true → self.new ≡ self.old }
-        ensures end { result ≡ Ok None → has_ended self.new ≡ true }
-        ensures going_on { IfOk result (λ found. IfSome found (λ located. has_ended self.new ≡ false)) }
-        ensures for_good { has_ended self.old ≡ true → (result ≡ Ok None) × (self.new ≡ self.old) }
     {
         let mut flat = Flat::new(alloc);
         let mut spans = Spans::new(alloc);

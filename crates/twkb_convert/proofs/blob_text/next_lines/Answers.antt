@@ -28,7 +28,7 @@ returns-in-Err g c = record {
   end = tt;
   follows = tt;
   err = text_stopped c.args.reader.now c.next_spans_through.new.self c.in-Err.fault (c.in-Err.ensures.next c.requires.session c.requires.reader c.requires.going_on) c.requires.input;
-  stops = follows_stop c.args.reader.now c.next_spans_through.new.self Bool c.in-Err.fault c.next_spans_through.ensures.same_tap c.next_spans_through.ensures.limits c.in-Err.ensures.failures c.next_spans_through.new.self.input.within;
+  stops = follows_stop c.args.reader.now c.next_spans_through.new.self Bool c.in-Err.fault c.next_spans_through.ensures.shared.same_tap c.next_spans_through.ensures.shared.limits c.in-Err.ensures.shared.failures c.next_spans_through.new.self.input.within;
 }
 
 pub returns-then-is_err : goal.returns-then-is_err

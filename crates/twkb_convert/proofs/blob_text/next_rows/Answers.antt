@@ -12,7 +12,7 @@ pub returns-in-Err-clause-err : goal.returns-in-Err-clause-err
 returns-in-Err-clause-err g c = text_stopped c.args.reader.now c.next_through.new.self c.in-Err.fault (c.in-Err.ensures.next c.requires.session c.requires.reader c.requires.going_on) c.requires.input
 
 pub returns-in-Err-clause-stops : goal.returns-in-Err-clause-stops
-returns-in-Err-clause-stops g c = follows_stop c.args.reader.now c.next_through.new.self Bool c.in-Err.fault c.next_through.ensures.same_tap c.next_through.ensures.limits c.in-Err.ensures.failures c.next_through.new.self.input.within
+returns-in-Err-clause-stops g c = follows_stop c.args.reader.now c.next_through.new.self Bool c.in-Err.fault c.next_through.ensures.shared.same_tap c.next_through.ensures.shared.limits c.in-Err.ensures.shared.failures c.next_through.new.self.input.within
 
 pub returns-in-Ok-false-clause-end : goal.returns-in-Ok-false-clause-end
 returns-in-Ok-false-clause-end g c = λ none.

@@ -3,7 +3,7 @@ use Rattle.twkb_tree.proofs.RootLaws.{one_geometry}
 use Rattle.twkb_blob.specs.Readers.{Makes, reader_input, reader_limits}
 use Rattle.twkb_blob.specs.Located.{HasSpans, IsSpanned}
 use Rattle.twkb_blob.proofs.Answering.{flat_spanned, made_ahead, tree_next, tree_spans}
-use Rattle.twkb_blob.proofs.Calls.{came_by}
+use Rattle.twkb_blob.proofs.Calls.{came}
 use Rattle.twkb_blob.proofs.reader.Reader.next_located.Goals as goal
 
 pub returns-in_err-geometry-clause-memory : goal.returns-in_err-geometry-clause-memory
@@ -11,7 +11,7 @@ returns-in_err-geometry-clause-memory g c = λ is.
     let old = c.args.self.now in
     let read = c.next_spans in
     let found : read.result ≡ Ok true = search rules in
-    let next = came_by old read.new.self read.result read.ensures.spent read.ensures.for_good read.ensures.next found in
+    let next = came old read.new.self read.result read.ensures.shared read.ensures.next found in
     made_ahead (reader_limits old) (reader_input old) (reader_input read.new.self) read.new.flat (flat_spanned (reader_limits old) (reader_input old) (reader_input read.new.self) (Ok true) read.new.flat read.new.spans
     (subst (λ r. IsSpanned (reader_limits old) (reader_input old) (reader_input read.new.self) r read.new.flat read.new.spans) found next))
 
