@@ -1,4 +1,4 @@
-//! The length of a varint, before it is written.
+//! The length of a varint, before it is written, and the bounds of each length.
 ghost use Rattle.std.specs.Prelude.{◌≡◌, ◌≤◌, length};
 ghost use Rattle.twkb_num.specs.Varint.{varint_of};
 
@@ -7,6 +7,18 @@ const BITS: u32 = 7;
 
 // The place of the highest bit of a number of 64 bits.
 const TOP: u32 = 63;
+
+// A number below this has one byte (TWKB specification; LEB128).
+pub(crate) const TWO_BYTES: u64 = 1 << 7;
+
+// A number below this has two bytes at most.
+pub(crate) const THREE_BYTES: u64 = 1 << 14;
+
+// A number below this has three bytes at most.
+pub(crate) const FOUR_BYTES: u64 = 1 << 21;
+
+// A number below this has four bytes at most.
+pub(crate) const FIVE_BYTES: u64 = 1 << 28;
 
 /// How many bytes the shortest varint of a number has (TWKB specification; LEB128). Takes no memory.
 #[inline(always)]

@@ -4,16 +4,8 @@ ghost use Rattle.twkb_num.specs.Varint.{varint_of};
 
 use crate::groups::GOES_ON;
 use crate::piece::Piece;
+use crate::varint::{FIVE_BYTES, THREE_BYTES, TWO_BYTES};
 use std::simd::u64x2;
-
-// A number below this has one byte (TWKB specification; LEB128).
-const TWO_BYTES: u64 = 1 << 7;
-
-// A number below this has two bytes at most.
-const THREE_BYTES: u64 = 1 << 14;
-
-// A number below this has four bytes at most.
-const FIVE_BYTES: u64 = 1 << 28;
 
 // The bytes of a number that has two at most.
 #[tactic(auto, using(crate::proofs::VarintLemmas::varint_lengths))]
