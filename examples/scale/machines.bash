@@ -127,3 +127,14 @@ check_all_refused() {
     for file in refused/*.twkb; do check_refused unpack "$file"; done
     echo "refused as in one run: $(ls refused | wc -l) inputs"
 }
+
+# check_all START MEGABYTES: all of these, over two workers that START starts, and two new ones when one was lost.
+check_all() {
+    "$1" 2
+    make_tables "$2"
+    check_same
+    check_all_refused
+    check_lost pack table.csv whole.twkb table
+    "$1" 2
+    check_lost unpack whole.twkb table.csv stream
+}
