@@ -4,10 +4,10 @@
     scripts/pages.py            says what is wrong; status 1 if anything is
     scripts/pages.py --counts   the words of each page beside its limit
 
-A word is what is between blanks and has a letter or a digit in it, in text, tables, code and pictures alike.
-Not counted are what a script puts between marks (`<!-- NAME: begin -->` and `<!-- NAME: end -->`), other comments,
-and a proved caller in a crate's README, which is a file of crates/examples word for word. A page without a limit
-is not counted.
+Words are counted as `wc -w` does: what is between blanks, in text, tables, code, pictures and comments alike. A page
+without a limit is not counted. Not counted are
+- the tables of promises in docs/PROOFS.md, which scripts/promises.py puts between its marks;
+- a proved caller in a crate's README, which is a file of crates/examples word for word.
 
 A link is looked at if it leads to a file of this repository: the file is there, and so is the heading after '#'.
 """
@@ -31,13 +31,12 @@ LIMITS = {
 }
 # What programs and people outside call; the READMEs of all other crates are those of inner rooms.
 DOORS = [
-    "polytwkb", "twkb_blob", "twkb_buffer", "twkb_c", "twkb_convert", "twkb_geom", "twkb_io", "twkb_num",
+    "polytwkb", "twkb_blob", "twkb_buffer", "twkb_c", "twkb_command", "twkb_convert", "twkb_geom", "twkb_io", "twkb_num",
     "twkb_points", "twkb_polyline", "twkb_table",
 ]
 DOOR, ROOM = 500, 250
 
-GENERATED = re.compile(r"<!-- ([\w ]+): begin -->.*?<!-- \1: end -->", re.S)
-COMMENT = re.compile(r"<!--.*?-->", re.S)
+PROMISES = re.compile(r"<!-- promises: begin -->.*?<!-- promises: end -->", re.S)
 CALLER = re.compile(r"(\(\.\./examples/src/[a-z_]+\.rt\):\n\n)```rust\n.*?\n```", re.S)
 FENCED = re.compile(r"^\s*```.*?^\s*```", re.S | re.M)
 LINK = re.compile(r"\[[^\]]*\]\(([^)\s]+)\)")
@@ -65,9 +64,8 @@ def limit_of(page):
 
 
 def words_of(page):
-    """How many words a page has."""
-    text = COMMENT.sub(" ", GENERATED.sub(" ", CALLER.sub(r"\1", text_of(page))))
-    return sum(1 for word in text.split() if re.search(r"\w", word))
+    """How many words of a page are counted."""
+    return len(PROMISES.sub(" ", CALLER.sub(r"\1", text_of(page))).split())
 
 
 def long_pages():
