@@ -31,8 +31,8 @@ LIMITS = {
 }
 # What programs and people outside call; the READMEs of all other crates are those of inner rooms.
 DOORS = [
-    "polytwkb", "twkb_blob", "twkb_buffer", "twkb_c", "twkb_command", "twkb_convert", "twkb_geom", "twkb_io", "twkb_num",
-    "twkb_points", "twkb_polyline", "twkb_table",
+    "polytwkb", "twkb_blob", "twkb_buffer", "twkb_c", "twkb_command", "twkb_convert", "twkb_geom", "twkb_io",
+    "twkb_num", "twkb_points", "twkb_polyline", "twkb_table",
 ]
 DOOR, ROOM = 500, 250
 

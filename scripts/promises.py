@@ -28,7 +28,8 @@ BLOCK = re.compile(r"(pub )?(?:unsafe )?(trait|impl)\b(.*)")
 FUNCTION = re.compile(r'\s*(pub(?:\([a-z]+\))? |)(?:const |unsafe |extern "C" )*fn (\w+)')
 CLAUSE = re.compile(r"\s*(?:ensures|requires)\*?\s+(?:(\w+)\s+)?\{")
 GHOST = re.compile(r"    ghost (\w+):")
-DEFINITION = re.compile(r"^\s*(?:(?:abbrev|unfoldable|record|data|inline|mutual)\s+)*pub\s+(?:(?:abbrev|record|data)\s+)*([A-Za-z_][\w-]*)", re.M)
+KIND = r"(?:(?:abbrev|unfoldable|record|data|inline|mutual)\s+)*"
+DEFINITION = re.compile(rf"^\s*{KIND}pub\s+{KIND}([A-Za-z_][\w-]*)", re.M)
 
 
 def crates():
