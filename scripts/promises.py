@@ -46,7 +46,7 @@ def texts_of(crate, folder, ending):
 
 
 def clauses_in(text):
-    """The public functions of a source file that have clauses, the labels of these, and ghost members of public traits."""
+    """Public functions of a source file that have clauses, the labels of these, ghost members of public traits."""
     found, opens, function = set(), False, None
     for line in text.split("\n"):
         block, called, clause, ghost = (form.match(line) for form in (BLOCK, FUNCTION, CLAUSE, GHOST))
