@@ -146,6 +146,11 @@ HEAD = (
     "|---|---|---|---|---|---|---|---|---|"
 )
 
+PAGE_HEAD = (
+    "| Table | pack MB/s | over plain | unpack MB/s | over plain | show MB/s | over plain | peak kB | plain |\n"
+    "|---|---|---|---|---|---|---|---|---|"
+)
+
 PICTURE = "![Time of polytwkb over that of the plain program, for each table and command](benchmark.svg)"
 
 
@@ -154,6 +159,21 @@ def line_of(row):
     cells = [row["case"], row["command"], f"{speed['polytwkb']:.0f}", f"{speed['plain']:.0f}", f"{row['ratio']:.2f}"]
     cells += [str(peak["polytwkb"]), str(peak["plain"]), f"{growth['polytwkb']:.2f}", f"{growth['plain']:.2f}"]
     return "| " + " | ".join(cells) + " |"
+
+
+def page_lines(rows):
+    """The lines of the page's table: one for each table, the greatest peak of its commands in the last two columns."""
+    for case in dict.fromkeys(row["case"] for row in rows):
+        own = [row for row in rows if row["case"] == case]
+        cells = [cell for row in own for cell in (f"{row['speed']['polytwkb']:.0f}", f"{row['ratio']:.2f}")]
+        peaks = [str(max(row["peak"][name] for row in own)) for name in PROGRAMS]
+        yield "| " + " | ".join([case, *cells, *peaks]) + " |"
+
+
+def growth_line(rows):
+    """The least and the greatest growth of both programs, in one line."""
+    least, greatest = ([pick(row["growth"][name] for row in rows) for name in PROGRAMS] for pick in (min, max))
+    return f"Growth {least[0]:.2f} to {greatest[0]:.2f}, plain {least[1]:.2f} to {greatest[1]:.2f}."
 
 
 def put_into(path, begin, end, text):
@@ -191,7 +211,7 @@ def main():
     with open(f"{options.folder}/users.svg", "w", encoding="utf-8") as file:
         file.write(picture(rows))
     if options.docs:
-        lines = [line, "", HEAD] + [line_of(row) for row in rows] + ["", PICTURE]
+        lines = [f"{line} {growth_line(rows)}", "", PAGE_HEAD, *page_lines(rows), "", PICTURE]
         put_into("docs/PERF.md", "<!-- make bench: begin -->", "<!-- make bench: end -->", "\n".join(lines) + "\n")
         with open("docs/benchmark.svg", "w", encoding="utf-8") as file:
             file.write(picture(rows))

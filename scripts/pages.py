@@ -5,10 +5,10 @@ merge left.
     scripts/pages.py            reports faults; status 1 if there are any
     scripts/pages.py --counts   the number of words of each page, and its limit
 
-A word is anything between blanks with a letter or a digit in it, in text, tables, code and pictures alike. Not
-counted are texts that a script puts between marks (`<!-- NAME: begin -->` and `<!-- NAME: end -->`), other
-comments, and a proved caller in a crate's README, which is a file of crates/examples word for word. A page
-without a limit is not counted.
+Words are counted as `wc -w` does: what is between blanks, in text, tables, code, pictures and comments alike. A page
+without a limit is not counted. Not counted are
+- the tables of promises in docs/PROOFS.md, which scripts/promises.py puts between its marks;
+- a proved caller in a crate's README, which is a file of crates/examples word for word.
 
 A link to a file of this repository is checked: the file must exist, and so must the heading after '#'.
 """
@@ -32,13 +32,12 @@ LIMITS = {
 }
 # The crates that programs and people outside call; all other crates are internal.
 DOORS = [
-    "polytwkb", "twkb_blob", "twkb_buffer", "twkb_c", "twkb_convert", "twkb_geom", "twkb_io", "twkb_num",
-    "twkb_points", "twkb_polyline", "twkb_table",
+    "polytwkb", "twkb_blob", "twkb_buffer", "twkb_c", "twkb_command", "twkb_convert", "twkb_geom", "twkb_io",
+    "twkb_num", "twkb_points", "twkb_polyline", "twkb_table",
 ]
 DOOR, ROOM = 500, 250
 
-GENERATED = re.compile(r"<!-- ([\w ]+): begin -->.*?<!-- \1: end -->", re.S)
-COMMENT = re.compile(r"<!--.*?-->", re.S)
+PROMISES = re.compile(r"<!-- promises: begin -->.*?<!-- promises: end -->", re.S)
 CALLER = re.compile(r"(\(\.\./examples/src/[a-z_]+\.rt\):\n\n)```rust\n.*?\n```", re.S)
 FENCED = re.compile(r"^\s*```.*?^\s*```", re.S | re.M)
 LINK = re.compile(r"\[[^\]]*\]\(([^)\s]+)\)")
@@ -66,9 +65,8 @@ def limit_of(page):
 
 
 def words_of(page):
-    """The number of words of a page."""
-    text = COMMENT.sub(" ", GENERATED.sub(" ", CALLER.sub(r"\1", text_of(page))))
-    return sum(1 for word in text.split() if re.search(r"\w", word))
+    """How many words of a page are counted."""
+    return len(PROMISES.sub(" ", CALLER.sub(r"\1", text_of(page))).split())
 
 
 def long_pages():

@@ -6,8 +6,10 @@
 
 A table of promises in a README has the heads Promise, Clause and Edits; a crate without edits has no third column.
 
-- The names in a cell of Clause are in backticks. Each is a function, a type or the label of a clause in the crate's
-  src/, or a definition in specs/ of this crate or another.
+- The names in a cell of Clause are in backticks. Each is, of the crate itself,
+  - a public function that has a clause, or a function of a public trait or of an implementation of one;
+  - the label of a clause of such a function, or a ghost member of a public trait;
+  - a `pub` definition of specs/, or a field of one.
 - The names in a cell of Edits are those of files must-fail/NAME.edit of this crate; one of another crate is
   `CRATE/NAME`.
 - Each edit of a crate is beside a promise of its README.
@@ -22,8 +24,12 @@ DOCUMENT = os.path.join(REPO, "docs", "PROOFS.md")
 BEGIN, END = "<!-- promises: begin -->", "<!-- promises: end -->"
 HEAD = ["Promise", "Clause", "Edits"]
 
-IN_SOURCES = re.compile(r"\b(?:fn|struct|enum|trait|mod|ghost|ensures|requires)\s+([A-Za-z_]\w*)")
-IN_SPECS = re.compile(r"^\s*(?:(?:abbrev|unfoldable|record|data|pub|inline|ruleset)\s+)*([A-Za-z_][\w-]*)", re.M)
+BLOCK = re.compile(r"(pub )?(?:unsafe )?(trait|impl)\b(.*)")
+FUNCTION = re.compile(r'\s*(pub(?:\([a-z]+\))? |)(?:const |unsafe |extern "C" )*fn (\w+)')
+CLAUSE = re.compile(r"\s*(?:ensures|requires)\*?\s+(?:(\w+)\s+)?\{")
+GHOST = re.compile(r"    ghost (\w+):")
+KIND = r"(?:(?:abbrev|unfoldable|record|data|inline|mutual)\s+)*"
+DEFINITION = re.compile(rf"^\s*{KIND}pub\s+{KIND}([A-Za-z_][\w-]*)", re.M)
 
 
 def crates():
@@ -32,13 +38,35 @@ def crates():
         return [line.split(":")[0].split()[0] for line in file if ":" in line and not line.startswith("#")]
 
 
-def names_in(crate, folder, ending, pattern):
-    """The names that a pattern finds in the files of a folder of a crate."""
-    found = set()
+def texts_of(crate, folder, ending):
+    """The texts of the files of a folder of a crate."""
     for path in glob.glob(os.path.join(REPO, "crates", crate, folder, "**", "*" + ending), recursive=True):
         with open(path, encoding="utf-8") as file:
-            found.update(pattern.findall(file.read()))
+            yield file.read()
+
+
+def clauses_in(text):
+    """Public functions of a source file that have clauses, the labels of these, ghost members of public traits."""
+    found, opens, function = set(), False, None
+    for line in text.split("\n"):
+        block, called, clause, ghost = (form.match(line) for form in (BLOCK, FUNCTION, CLAUSE, GHOST))
+        if block:
+            opens = " for " in block.group(3) or (block.group(2) == "trait" and block.group(1) is not None)
+        elif line == "}":
+            opens = False
+        elif called:
+            function = called.group(2) if called.group(1) == "pub " or (opens and not called.group(1)) else None
+        elif clause and function:
+            found |= {function, clause.group(1) or function}
+        elif ghost and opens:
+            found.add(ghost.group(1))
     return found
+
+
+def citable(crate):
+    """What a row of a crate may cite."""
+    written = set().union(*map(clauses_in, texts_of(crate, "src", ".rt")))
+    return written.union(*map(DEFINITION.findall, texts_of(crate, "specs", ".antt")))
 
 
 def edits_of(crate):
@@ -72,17 +100,16 @@ def backticked(cell):
     return [name.split("::")[-1] for name in re.findall(r"`([^`]+)`", cell)]
 
 
-def faults_of(crate, rows, defined):
-    """The faults in the rows of a crate, one a line."""
+def faults_of(crate, rows):
+    """What is wrong with the rows of a crate, a line each."""
     here = f"crates/{crate}/README.md"
-    written = names_in(crate, "src", ".rt", IN_SOURCES)
-    shown, edits = set(), edits_of(crate)
+    names, shown, edits = citable(crate), set(), edits_of(crate)
     for number, promise, clause, cell in rows:
         if not backticked(clause):
             yield f"{here}:{number}: no clause beside '{promise}'"
         for name in backticked(clause):
-            if name not in written and name not in defined:
-                yield f"{here}:{number}: nothing is called `{name}`"
+            if name not in names:
+                yield f"{here}:{number}: no public clause or definition is called `{name}`"
         for name in backticked(cell):
             other, _, edit = name.rpartition("/")
             shown.add(name)
@@ -105,8 +132,7 @@ def tables(rows):
 
 def main(words):
     rows = {crate: rows_of(crate) for crate in crates()}
-    defined = set().union(*(names_in(crate, "specs", ".antt", IN_SPECS) for crate in rows))
-    wrong = [fault for crate, own in rows.items() for fault in faults_of(crate, own, defined)]
+    wrong = [fault for crate, own in rows.items() for fault in faults_of(crate, own)]
     with open(DOCUMENT, encoding="utf-8") as file:
         text = file.read()
     before, rest = text.split(BEGIN)

@@ -1,15 +1,7 @@
 #!/usr/bin/env bash
 # Converts a generated table whole and in parts, and compares: bytes, and of tables that are refused status and text.
 # check.sh [GEOMETRIES [JOBS]]
-set -euo pipefail
-here=$(cd "$(dirname "$0")" && pwd)
-PATH=$here/../../bin:$PATH
-for tool in polytwkb parallel python3; do
-    command -v "$tool" > /dev/null || { echo "skipped: needs $tool"; exit 0; }
-done
-folder=$(mktemp -d)
-trap 'rm -rf "$folder"' EXIT
-cd "$folder"
+source "$(dirname "$0")/scratch.bash" polytwkb parallel python3
 jobs=${2:-2}
 
 # The line that docs/USING.md shows, for a pipe: it packs table.csv into all.twkb.

@@ -4,10 +4,4 @@
 # that are refused. check_dask.sh [MEGABYTES]
 source "$(dirname "$0")/machines.bash"
 source "$here/dask.bash"
-start_dask 2
-make_tables "${1:-200}"
-check_same
-check_all_refused
-check_lost pack table.csv whole.twkb table
-start_dask 2
-check_lost unpack whole.twkb table.csv stream
+check_all start_dask "${1:-200}"

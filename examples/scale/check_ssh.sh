@@ -4,10 +4,4 @@
 # that are refused. check_ssh.sh [MEGABYTES]
 source "$(dirname "$0")/machines.bash"
 source "$here/ssh.bash"
-start_hosts 2
-make_tables "${1:-200}"
-check_same
-check_all_refused
-check_lost pack table.csv whole.twkb table
-start_hosts 2
-check_lost unpack whole.twkb table.csv stream
+check_all start_hosts "${1:-200}"

@@ -1,18 +1,11 @@
 # What the checks and the times on many machines share, all on the loopback: tables, inputs that are
 # refused, a worker that is lost. Sourced by scripts that then say how `in_parts COMMAND INPUT OUTPUT
 # BYTES` converts, and how many `conversions` of parts there were.
-set -euo pipefail
-here=$(cd "$(dirname "${BASH_SOURCE[0]}")" && pwd)
-PATH=$here/../../bin:$PATH:/usr/sbin
+source "$(dirname "${BASH_SOURCE[0]}")/scratch.bash" polytwkb python3 pgrep
+PATH=$PATH:/usr/sbin
 export PYTHONDONTWRITEBYTECODE=1
 workers=() count=0
 
-need() {
-    local tool
-    for tool in "$@"; do
-        command -v "$tool" > /dev/null || { echo "skipped: needs $tool"; exit 0; }
-    done
-}
 fail() { echo "$*"; exit 1; }
 
 # lose PROCESS: ends it at once with all that it started, as if its machine were gone.
@@ -27,10 +20,7 @@ finish() {
     local process shell=$BASHPID
     for process in $(pgrep -P "$shell"); do lose "$process"; done
 }
-need polytwkb python3 pgrep
-folder=$(mktemp -d)
 trap 'finish; rm -rf "$folder"' EXIT
-cd "$folder"
 
 # begin COMMAND..: runs it until `finish`; `begun` is its process, of which this is number `count`.
 begin() {
@@ -126,4 +116,15 @@ check_all_refused() {
     for file in refused/*.csv; do check_refused pack "$file"; done
     for file in refused/*.twkb; do check_refused unpack "$file"; done
     echo "refused as in one run: $(ls refused | wc -l) inputs"
+}
+
+# check_all START MEGABYTES: all of these, over two workers that START starts, and two new ones when one was lost.
+check_all() {
+    "$1" 2
+    make_tables "$2"
+    check_same
+    check_all_refused
+    check_lost pack table.csv whole.twkb table
+    "$1" 2
+    check_lost unpack whole.twkb table.csv stream
 }

@@ -18,7 +18,7 @@ own=()
 while [ $# -gt 0 ] && [ "$1" != -- ]; do own+=("$1"); shift; done
 [ $# -eq 0 ] || shift
 table=${own[0]:?a table} stream=${own[1]:?a stream} jobs=${own[2]:-100%} bytes=${own[3]:-10M}
-command -v parallel > /dev/null || { echo "pack_in_parts.sh: needs GNU parallel" >&2; exit 127; }
+source "$here/parts.bash"
 trap 'rm -f "$stream.part"' EXIT
 
 # Packs a part: the table, start and length are given, and options. Only the first has the header's line.
@@ -30,15 +30,7 @@ pack_part() {
 }
 export -f pack_part
 
-pack_parts() {
-    local name
-    name=$(printf '%q' "$(realpath "$table")")
-    "$here/cuts.py" table "$table" "$(numfmt --from=iec "${bytes^^}")" |
-        SHELL=$BASH parallel --no-notice -j "$jobs" -k --halt now,fail=1 \
-            ${HOSTS:+--sshlogin "$HOSTS" --retries 3 --env pack_part} \
-            --colsep ' ' pack_part "$name" '{1}' '{2}' "$@" > "$stream.part"
-}
-
 # If a part is refused, one run over the whole names the record.
-pack_parts "$@" 2> /dev/null || polytwkb pack "$@" < "$table" > "$stream.part"
+each_part table "$table" "$jobs" "$bytes" pack_part "$@" 2> /dev/null > "$stream.part" ||
+    polytwkb pack "$@" < "$table" > "$stream.part"
 mv "$stream.part" "$stream"

@@ -1,15 +1,7 @@
 #!/usr/bin/env bash
 # Times conversions in parts on 1, 2 and 4 cores, best of three, beside one run. times.sh [GEOMETRIES]
 # Prints lines of the table in docs/PERF.md. Wants a quiet machine; 2,000,000 geometries are a table of some 280 MB.
-set -euo pipefail
-here=$(cd "$(dirname "$0")" && pwd)
-PATH=$here/../../bin:$PATH
-for tool in polytwkb parallel python3; do
-    command -v "$tool" > /dev/null || { echo "skipped: needs $tool"; exit 0; }
-done
-folder=$(mktemp -d)
-trap 'rm -rf "$folder"' EXIT
-cd "$folder"
+source "$(dirname "$0")/scratch.bash" polytwkb parallel python3
 TIMEFORMAT=%R
 
 # The least of three wall times of a command, in seconds.

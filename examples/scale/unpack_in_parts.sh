@@ -11,7 +11,7 @@
 set -euo pipefail
 here=$(cd "$(dirname "$0")" && pwd)
 stream=${1:?a stream} table=${2:?a table} jobs=${3:-100%} bytes=${4:-10M}
-command -v parallel > /dev/null || { echo "unpack_in_parts.sh: needs GNU parallel" >&2; exit 127; }
+source "$here/parts.bash"
 trap 'rm -f "$table.part"' EXIT
 
 # Unpacks a part: the stream, start and length are given. Only the first keeps the header's line.
@@ -22,15 +22,7 @@ unpack_part() {
 }
 export -f unpack_part
 
-unpack_parts() {
-    local name
-    name=$(printf '%q' "$(realpath "$stream")")
-    "$here/cuts.py" stream "$stream" "$(numfmt --from=iec "${bytes^^}")" |
-        SHELL=$BASH parallel --no-notice -j "$jobs" -k --halt now,fail=1 \
-            ${HOSTS:+--sshlogin "$HOSTS" --retries 3 --env unpack_part} \
-            --colsep ' ' unpack_part "$name" '{1}' '{2}' > "$table.part"
-}
-
 # If a part is refused, one run over the whole names the byte.
-unpack_parts 2> /dev/null || polytwkb unpack < "$stream" > "$table.part"
+each_part stream "$stream" "$jobs" "$bytes" unpack_part 2> /dev/null > "$table.part" ||
+    polytwkb unpack < "$stream" > "$table.part"
 mv "$table.part" "$table"

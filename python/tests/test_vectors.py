@@ -56,43 +56,40 @@ class Runs(unittest.TestCase):
         self.assertEqual(refused.done, len(polytwkb.split(refused.output)))
 
 
+def rows_within(name, *words):
+    """Of a file's rows those that begin with one of the words: the word, what is given, the limits, how many geometries are done, and what
+    a call returns, with the line of a refusal."""
+    limits = polytwkb.Limits()
+    for line, printed in vectors.rows_of(name):
+        word, _, given = line.partition(" ")
+        if word == "limits":
+            limits = polytwkb.Limits(*map(int, given.split()))
+        if word in words:
+            done, output, refusal = re.fullmatch(rf"{word} (\d+) \d+ ?([^;]*)(?:; (.*))?", printed[0]).groups()
+            yield word, given, limits, int(done), (output, refusal or "")
+
+
 class Tables(unittest.TestCase):
     """Tables and their blobs, both ways, and what is refused within limits."""
 
     def test_tables(self):
-        count = 0
-        limits = polytwkb.Limits()
-        for line, printed in vectors.rows_of("tables"):
-            word, _, given = line.partition(" ")
-            if word == "limits":
-                limits = polytwkb.Limits(*map(int, given.split()))
-            if word not in ("full", "plain"):
-                continue
-            with self.subTest(line=line, limits=limits):
-                done = re.fullmatch(r"(?:full|plain) (\d+) (\d+) ?([0-9a-f]*)(?:; (.*))?", printed[0])
-                output, refusal = outcome(polytwkb.pack, vectors.table_of(given), word, limits)
-                self.assertEqual((output.hex(), refusal), (done.group(3), done.group(4) or ""))
+        rows = list(rows_within("tables", "full", "plain"))
+        self.assertGreater(len(rows), 60)
+        for style, given, limits, done, expected in rows:
+            with self.subTest(style=style, given=given, limits=limits):
+                output, refusal = outcome(polytwkb.pack, vectors.table_of(given), style, limits)
+                self.assertEqual((output.hex(), refusal), expected)
                 if not refusal:
                     self.assertEqual(polytwkb.unpack(output, limits), vectors.table_of(given))
-                    self.assertEqual(len(polytwkb.split(output, limits)), int(done.group(1)))
-                count += 1
-        self.assertGreater(count, 60)
+                    self.assertEqual(len(polytwkb.split(output, limits)), done)
 
     def test_streams(self):
-        count = 0
-        limits = polytwkb.Limits()
-        for line, printed in vectors.rows_of("streams"):
-            word, _, given = line.partition(" ")
-            if word == "limits":
-                limits = polytwkb.Limits(*map(int, given.split()))
-            if word != "unpack":
-                continue
-            with self.subTest(line=line, limits=limits):
-                done = re.fullmatch(r"unpack (\d+) (\d+) ?([^;]*)(?:; (.*))?", printed[0])
+        rows = list(rows_within("streams", "unpack"))
+        self.assertGreater(len(rows), 60)
+        for _, given, limits, _, expected in rows:
+            with self.subTest(given=given, limits=limits):
                 output, refusal = outcome(polytwkb.unpack, bytes.fromhex(given), limits)
-                self.assertEqual((output.replace("\n", "/"), refusal), (done.group(3), done.group(4) or ""))
-                count += 1
-        self.assertGreater(count, 60)
+                self.assertEqual((output.replace("\n", "/"), refusal), expected)
 
 
 class Postgis(unittest.TestCase):

@@ -3,8 +3,7 @@ use Rattle.std.proofs.Common.{◌≡◌, ℕ, suc, ◌+◌, ◌-◌, ◌<◌, �
 use Rattle.std.proofs.lemmas.List.{drop-drop, length-drop, take_rest}
 use Rattle.twkb_points.specs.Point.{Point}
 use Rattle.twkb_tree.specs.Rows.{Row, row_points}
-use Rattle.twkb_tree.specs.RowGrowth.{point_added, EndsInLine}
-use Rattle.twkb_flat.specs.Adding.{points_added}
+use Rattle.twkb_tree.specs.RowGrowth.{point_added, EndsInLine, points_added}
 use Rattle.twkb_front.specs.Front.{PointInFront, PointsInFront, last_of}
 use Rattle.twkb_outline.proofs.Pieces.{one_within}
 use Rattle.twkb_body.specs.declared.list_points.Taken.{Taken}

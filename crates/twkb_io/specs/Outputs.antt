@@ -12,6 +12,7 @@ use Rattle.twkb_io.specs.Taps.{count_failure, device_of, failures_of}
 abbrev pub output_tap : {W : Type 0} → Output W → MutBor (Tap W)
 output_tap output = output.tap
 
+-- how many calls of its writer failed, as the tap counts them
 abbrev pub output_failures : {W : Type 0} → Output W → ℕ
 output_failures output = failures_of output.tap.now
 

@@ -1,4 +1,4 @@
-//! The length of a varint, known before it is written.
+//! The length of a varint, known before it is written, and the bounds of each length.
 ghost use Rattle.std.specs.Prelude.{◌≡◌, ◌≤◌, length};
 ghost use Rattle.twkb_num.specs.Varint.{varint_of};
 
@@ -7,6 +7,18 @@ const BITS: u32 = 7;
 
 // The place of the highest bit in a number of 64 bits.
 const TOP: u32 = 63;
+
+// The least number of two bytes (TWKB specification; LEB128).
+pub(crate) const TWO_BYTES: u64 = 1 << 7;
+
+// The least number of three bytes.
+pub(crate) const THREE_BYTES: u64 = 1 << 14;
+
+// The least number of four bytes.
+pub(crate) const FOUR_BYTES: u64 = 1 << 21;
+
+// The least number of five bytes.
+pub(crate) const FIVE_BYTES: u64 = 1 << 28;
 
 /// The number of bytes in the shortest varint of a number, 1 to 10 (TWKB specification; LEB128).
 /// Takes no memory.

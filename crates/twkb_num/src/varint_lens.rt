@@ -2,19 +2,9 @@
 ghost use Rattle.std.specs.Prelude.{◌≡◌, ◌≤◌, ◌<◌, ◌+◌, ◌^◌, [], ◌∷◌, length};
 ghost use Rattle.twkb_num.specs.Lens.{four_lens, more_bytes};
 
-use crate::varint::varint_len;
+use crate::varint::{FIVE_BYTES, FOUR_BYTES, THREE_BYTES, TWO_BYTES, varint_len};
 use std::marker::Model;
 use std::simd::{u32x4, u64x2};
-
-// Numbers from here up have five bytes or more (TWKB specification; LEB128).
-const FIVE_BYTES: u64 = 1 << 28;
-
-// The least numbers of four bytes, of three and of two.
-const FOUR_BYTES: u32 = 1 << 21;
-
-const THREE_BYTES: u32 = 1 << 14;
-
-const TWO_BYTES: u32 = 1 << 7;
 
 /// Adds up the lengths of varints. Short numbers are counted in lanes, which are added up at the
 /// end. A contract sees the sum.
@@ -47,9 +37,9 @@ fn more_lens(first: u32, second: u32, third: u32, fourth: u32) -> u32x4
     let numbers = u32x4::from_array([first, second, third, fourth]);
     let none = u32x4::splat(0);
     let one = u32x4::splat(1);
-    numbers.simd_ge(u32x4::splat(TWO_BYTES)).select(one, none)
-        + numbers.simd_ge(u32x4::splat(THREE_BYTES)).select(one, none)
-        + numbers.simd_ge(u32x4::splat(FOUR_BYTES)).select(one, none)
+    numbers.simd_ge(u32x4::splat(TWO_BYTES as u32)).select(one, none)
+        + numbers.simd_ge(u32x4::splat(THREE_BYTES as u32)).select(one, none)
+        + numbers.simd_ge(u32x4::splat(FOUR_BYTES as u32)).select(one, none)
 }
 
 impl VarintLens {

@@ -4,16 +4,8 @@ ghost use Rattle.twkb_num.specs.Varint.{varint_of};
 
 use crate::groups::GOES_ON;
 use crate::piece::Piece;
+use crate::varint::{FIVE_BYTES, THREE_BYTES, TWO_BYTES};
 use std::simd::u64x2;
-
-// The least number of two bytes (TWKB specification; LEB128).
-const TWO_BYTES: u64 = 1 << 7;
-
-// The least number of three bytes.
-const THREE_BYTES: u64 = 1 << 14;
-
-// The least number of five bytes.
-const FIVE_BYTES: u64 = 1 << 28;
 
 // The length of a number that has at most two bytes.
 #[tactic(auto, using(crate::proofs::VarintLemmas::varint_lengths))]
