@@ -36,8 +36,8 @@ IsSpanned limits old new (Ok true) rs spans = (g : Tree) × HasSpans limits old 
 IsSpanned limits old new (Ok false) rs spans = IsNext limits old new (Ok None)
 IsSpanned limits old new (Err why) rs spans = IsNext limits old new (Err why)
 
--- What is answered to who reads a blob of an input into a form, and its spans: a geometry whose blob left the input, with its rows and its spans; or there is none,
--- and then the form has no rows.
+-- The answer to a call that reads a blob of an input into a form, and its spans: a geometry whose blob left the input,
+-- with its rows and its spans; or an answer without a geometry.
 abbrev pub ReadsInto : {S : Type 0} → (S → Notes → Type 0) → {R : Type 0} {read : Ghosts R} → Allowance → Input R read → Input R read → Result Bool BlobFault → List Row → S → Type 0
 ReadsInto holds limits old new (Ok true) rs spans = (g : Tree) × (made : Makes limits [] old new g) × HoldsSpans holds spans (given old) made.blob × (rs ≡ rows 0 g)
 ReadsInto holds limits old new (Ok false) rs spans = IsNext limits old new (Ok None)

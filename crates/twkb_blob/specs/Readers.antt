@@ -140,7 +140,8 @@ ready_at state.Ready = Ok true
 ready_at state.Ended = Ok false
 ready_at state.Spent = Err fault.Spent
 
--- What every call of a reader says: it keeps its limits and the name of its tap, counts a failed read, and after an error or the end stays as it is.
+-- What every call of a reader says: its limits and the name of its tap stay; a failed read is counted; after an error it
+-- answers `Spent`, after the end it answers the end, and then it stays as it is.
 pub record ReadsNext {A : Type 0} (none : A) {R : Type 0} {read : Ghosts R} (old new : Reader R read) (answer : Result A BlobFault) : Type 0 where
   pub same_tap : (input_tap (reader_input new)).ghost_name ≡ (input_tap (reader_input old)).ghost_name
   pub limits : reader_limits new ≡ reader_limits old

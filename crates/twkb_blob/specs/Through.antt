@@ -71,7 +71,8 @@ IsThrough limits bytes gs old new (Err (fault.Device why)) s = Halts limits byte
 IsThrough limits bytes gs old new (Err fault.Spent) s = ⊥
 IsThrough limits bytes gs old new (Err (fault.At offset reason)) s = IfSome (rest_of old) (λ rest. StreamFault limits (bytes ++ rest) gs offset (reason_of reason))
 
--- What is answered to who reads a blob of an input through a session, and its spans: a geometry; or there is none, and then the session has no rows and is finished.
+-- The answer to a call that reads a blob of an input through a session, and its spans; without a geometry the session
+-- has no rows and is finished.
 pub record ReadsThrough {S : Type 0} (holds : S → Notes → Type 0) {R : Type 0} {read : Ghosts R} (old new : Reader R read) (s t : Session) (answer : Result Bool BlobFault) (w v : S) : Type 0 where
   pub through : (bytes : List ℕ) (gs : List Tree) → Stands bytes gs s → IfGoingOn old (IsThrough (session_limits s) bytes gs (reader_input old) (reader_input new) answer t)
   pub noted : answer ≡ Ok true → NotesEnd holds (reader_input old) (reader_input new) s t w v
