@@ -87,12 +87,23 @@ fn read_points<L: PointTail>(text: &[u8], max: u32, points: &mut L) -> Result<()
             at = pair.end;
             continue;
         }
-        if read == max as usize {
-            return Err(PolyReason::TooMany.at(at));
-        }
+        one_more(read, max, at)?;
         let (point, end) = next_point(text, at, &mut cursor)?;
         points.put(point)?;
         at = end;
+    }
+    Ok(())
+}
+
+// Refuses a point after the most that there may be.
+#[inline(always)]
+fn one_more(read: usize, max: u32, at: usize) -> Result<(), PolyFault>
+    requires { read ≤ max }
+    ensures few { IfOk result (λ _. read < max) }
+    ensures full { IfErr result (λ fault. (read ≡ max) × (fault ≡ PolyFault.At at PolyReason.TooMany)) }
+{
+    if read == max as usize {
+        return Err(PolyReason::TooMany.at(at));
     }
     Ok(())
 }

@@ -14,7 +14,7 @@ loop-at-preserved g c =
     let held = g.L.PointTail.held c.loop-at.points in
     let read = c.loop-at.invariant.read in
     let room : length read.ps < c.args.max =
-    omega (arith, c.count.ensures, c.if-read-max.false, read_count c.args.text.now c.args.max c.loop-at.at c.loop-at.cursor old held read) in
+    omega (arith, c.count.ensures, c.in_ok-one_more.ensures.few, read_count c.args.text.now c.args.max c.loop-at.at c.loop-at.cursor old held read) in
     let point = rw c.in_default.ensures.unmoved at c.in_ok-point.ensures.read in
     rw (c.in_ok-put-3.ensures.appended, c.in_ok-point.ensures.moved) (record {
       read = has_read_more c.args.text.now c.args.max c.loop-at.at c.loop-at.cursor old held read c.in_ok-point.point c.in_ok-point.end _ point c.in_ok-point.ensures.in_range room refl;
@@ -101,7 +101,7 @@ returns-in_err-point-clause-refuses g c =
     let held = g.L.PointTail.held c.loop-at.points in
     let read = c.loop-at.invariant.read in
     let room : length read.ps < c.args.max =
-    omega (arith, c.count.ensures, c.if-read-max.false, read_count c.args.text.now c.args.max c.loop-at.at c.loop-at.cursor old held read) in
+    omega (arith, c.count.ensures, c.in_ok-one_more.ensures.few, read_count c.args.text.now c.args.max c.loop-at.at c.loop-at.cursor old held read) in
     rw (p.1, p.2) (text_refused c.args.text.now c.args.max c.loop-at.at c.loop-at.cursor old held read c.in_err-point.field-0.0 c.loop-at-test.true room (rw c.in_default.ensures.unmoved at c.in_err-point.ensures.refused))
 
 pub returns-in_err-put-3-clause-refuses : goal.returns-in_err-put-3-clause-refuses
@@ -111,20 +111,21 @@ returns-in_err-put-3-clause-refuses g c =
     let held = g.L.PointTail.held c.loop-at.points in
     let read = c.loop-at.invariant.read in
     let room : length read.ps < c.args.max =
-    omega (arith, c.count.ensures, c.if-read-max.false, read_count c.args.text.now c.args.max c.loop-at.at c.loop-at.cursor old held read) in
+    omega (arith, c.count.ensures, c.in_ok-one_more.ensures.few, read_count c.args.text.now c.args.max c.loop-at.at c.loop-at.cursor old held read) in
     rw (p.1, p.2) (no_memory c.args.text.now c.args.max c.loop-at.at c.loop-at.cursor old held read c.in_ok-point.point c.in_ok-point.end (rw c.in_default.ensures.unmoved at c.in_ok-point.ensures.read) c.in_ok-point.ensures.in_range room)
 
-pub returns-then-read-max-clause-refuses : goal.returns-then-read-max-clause-refuses
-returns-then-read-max-clause-refuses g c =
+pub returns-in_err-one_more-clause-refuses : goal.returns-in_err-one_more-clause-refuses
+returns-in_err-one_more-clause-refuses g c =
+    let p = err_from_is_err_and c.from_residual-in_err-one_more.result c.from_residual-in_err-one_more.ensures.1 in
     let old = g.L.PointTail.held c.args.points.now in
     let held = g.L.PointTail.held c.loop-at.points in
     let read = c.loop-at.invariant.read in
     let full : length read.ps ≡ c.args.max =
-    omega (arith, c.count.ensures, c.if-read-max.true, c.loop-at.invariant.held, read_count c.args.text.now c.args.max c.loop-at.at c.loop-at.cursor old held read) in
-    rw c.at.ensures (one_too_many c.args.text.now c.args.max c.loop-at.at c.loop-at.cursor old held read c.loop-at-test.true full)
+    omega (arith, c.count.ensures, c.in_err-one_more.ensures.full.0, c.loop-at.invariant.held, read_count c.args.text.now c.args.max c.loop-at.at c.loop-at.cursor old held read) in
+    rw (p.1, p.2, c.in_err-one_more.ensures.full.1) (one_too_many c.args.text.now c.args.max c.loop-at.at c.loop-at.cursor old held read c.loop-at-test.true full)
 
-pub returns-then-read-max-clause-grown : goal.returns-then-read-max-clause-grown
-returns-then-read-max-clause-grown g c = (c.loop-at.invariant.read.ps, c.loop-at.invariant.read.held_is)
+pub returns-in_err-one_more-clause-grown : goal.returns-in_err-one_more-clause-grown
+returns-in_err-one_more-clause-grown g c = (c.loop-at.invariant.read.ps, c.loop-at.invariant.read.held_is)
 
 pub returns-in_err-point-clause-grown : goal.returns-in_err-point-clause-grown
 returns-in_err-point-clause-grown g c = (c.loop-at.invariant.read.ps, c.loop-at.invariant.read.held_is)
