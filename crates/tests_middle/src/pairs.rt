@@ -3,7 +3,7 @@
 use crate::fixtures::form;
 use crate::num::STEPS;
 use std::alloc::Global;
-use twkb_front::{Eight, front_eight, front_two};
+use twkb_body::{Eight, front_eight, front_two};
 use twkb_geom::{Flat, PointId, Work};
 use twkb_num::varint_ends;
 use twkb_points::Pt;

@@ -17,7 +17,7 @@ use Rattle.twkb_io.specs.declared.input.Input.{Input}
 use Rattle.twkb_io.specs.declared.input.InFault.{InFault}
 use Rattle.twkb_io.specs.declared.input.InFault.TheVariants.{Read, TooLong, Spent}
 use Rattle.twkb_io.specs.Inputs.{given, rest_of}
-use Rattle.twkb_outline.specs.Parts.{PartIn}
+use Rattle.twkb_body.specs.JudgedParts.{PartIn}
 use Rattle.twkb_engine.specs.Standing.{HoldsSpans, StandsAt}
 use Rattle.twkb_engine.specs.Stops.{reason_of}
 use Rattle.twkb_blob.specs.Readers.{AreCutOff, IsNextFlat, Left, Makes, PartAhead, RefusedKnown}

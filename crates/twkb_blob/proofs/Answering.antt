@@ -13,7 +13,7 @@ use Rattle.twkb_grammar.specs.Fault.{FirstFault, Reason, Truncated}
 use Rattle.twkb_grammar.specs.Noting.{Notes, no_notes}
 use Rattle.twkb_grammar.specs.declared.span.Span.{Span}
 use Rattle.twkb_grammar.proofs.Streams.{blob_long}
-use Rattle.twkb_outline.specs.Parts.{IsJudged, PartIn}
+use Rattle.twkb_body.specs.JudgedParts.{IsJudged, PartIn}
 use Rattle.twkb_io.specs.declared.input.Input.{Input}
 use Rattle.twkb_io.specs.declared.input.InFault.{InFault}
 use Rattle.twkb_io.specs.declared.input.InFault.TheVariants.{Read, TooLong, Spent}

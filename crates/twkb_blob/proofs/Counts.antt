@@ -19,14 +19,14 @@ use Rattle.twkb_grammar.proofs.TwoFronts.{Compared, longer, shorter, same, two_f
 use Rattle.twkb_grammar.proofs.Streams.{first_item, no_stream, one_stream_fault}
 use Rattle.twkb_grammar.proofs.Frames.{reached_frames}
 use Rattle.twkb_grammar.proofs.Standing.{none_longer}
-use Rattle.twkb_outline.specs.Reading.{open_count}
-use Rattle.twkb_outline.proofs.Notings.{same_count}
+use Rattle.twkb_body.specs.Reading.{open_count}
+use Rattle.twkb_body.proofs.Notings.{same_count}
 use Rattle.twkb_engine.specs.State.{allowance_of, sums_of}
 use Rattle.twkb_engine.specs.Notes.{open_in}
 use Rattle.twkb_engine.specs.Standing.{StandsAt, IsEnd, held_in, offset_in}
 use Rattle.twkb_engine.proofs.Steps.{next_role, next_no_end, next_number}
-use Rattle.twkb_outline.specs.Outline.{outline_role}
-use Rattle.twkb_outline.proofs.Outlined.{same_role}
+use Rattle.twkb_body.specs.Outline.{outline_role}
+use Rattle.twkb_body.proofs.Outlined.{same_role}
 use Rattle.twkb_engine.proofs.Feeds.{count_is}
 use Rattle.twkb_engine.specs.declared.engine.Engine.{Engine}
 use Rattle.twkb_blob.specs.Sessions.{Stands, HeldOf, FramesOf, AreOpen, begun_by, ended_by, begun_rows, session_limits}

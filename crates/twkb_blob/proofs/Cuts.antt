@@ -8,7 +8,7 @@ use Rattle.twkb_tree.specs.Limits.{Allowance}
 use Rattle.twkb_grammar.specs.Blob.{Blob}
 use Rattle.twkb_grammar.specs.Fault.{FirstFault, Reason}
 use Rattle.twkb_grammar.specs.Noting.{Notes}
-use Rattle.twkb_outline.specs.Parts.{PartIn, IsJudged}
+use Rattle.twkb_body.specs.JudgedParts.{PartIn, IsJudged}
 use Rattle.twkb_engine.specs.State.{allowance_of}
 use Rattle.twkb_engine.specs.Standing.{StandsAt, IsFed, FedBy, TakesAll, HoldsSpans, RefusedIn, notes_at, count_of, offset_in}
 use Rattle.twkb_engine.specs.Stops.{reason_of}

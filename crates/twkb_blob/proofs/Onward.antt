@@ -7,7 +7,7 @@ use Rattle.twkb_tree.specs.Limits.{Allowance}
 use Rattle.twkb_grammar.specs.Blob.{Stream}
 use Rattle.twkb_grammar.specs.Fault.{FirstFault, Reason, StreamFault}
 use Rattle.twkb_grammar.specs.Noting.{Notes}
-use Rattle.twkb_outline.specs.Parts.{PartIn}
+use Rattle.twkb_body.specs.JudgedParts.{PartIn}
 use Rattle.twkb_io.specs.declared.input.Input.{Input}
 use Rattle.twkb_io.specs.Inputs.{rest_of}
 use Rattle.twkb_engine.specs.State.{allowance_of}

@@ -14,7 +14,7 @@ use Rattle.twkb_engine.specs.Stops.{reason_of}
 use Rattle.twkb_engine.specs.declared.stop.Stop.{Stop}
 use Rattle.twkb_engine.specs.declared.stop.Stop.TheVariants.{Memory, Refused}
 use Rattle.twkb_grammar.specs.Noting.{Notes}
-use Rattle.twkb_outline.specs.Parts.{PartIn, IsJudged}
+use Rattle.twkb_body.specs.JudgedParts.{PartIn, IsJudged}
 use Rattle.twkb_engine.specs.Standing.{StandsAt, FedBy, IsFed, IsEnd, notes_at, MadeIn, RefusedIn, count_of, offset_in, place_in}
 use Rattle.twkb_engine.proofs.Feeds.{count_is}
 use Rattle.twkb_engine.proofs.RootPoints.{blob_judged}

@@ -13,7 +13,7 @@ use Rattle.twkb_io.specs.declared.input.InFault.TheVariants as stopped
 use Rattle.twkb_io.specs.declared.input.InFault.{InFault}
 use Rattle.twkb_io.specs.Inputs.{given, input_failures, input_tap, rest_of, is_spent as input_spent}
 use Rattle.twkb_engine.specs.Stops.{reason_of}
-use Rattle.twkb_outline.specs.Parts.{PartIn}
+use Rattle.twkb_body.specs.JudgedParts.{PartIn}
 use Rattle.twkb_blob.specs.declared.fault.BlobFault.{BlobFault}
 use Rattle.twkb_blob.specs.declared.fault.BlobFault.TheVariants as fault
 use Rattle.twkb_blob.specs.declared.reader.Reader.{Reader}

@@ -11,7 +11,7 @@ use Rattle.twkb_engine.specs.Notes.{open_in}
 use Rattle.twkb_engine.specs.Standing.{StandsAt, IsEnd, held_in, offset_in}
 use Rattle.twkb_engine.specs.declared.engine.Engine.{Engine}
 use Rattle.twkb_engine.specs.Stops.{reason_of}
-use Rattle.twkb_outline.specs.Parts.{PartIn}
+use Rattle.twkb_body.specs.JudgedParts.{PartIn}
 use Rattle.twkb_io.specs.declared.input.InFault.TheVariants.{TooLong}
 use Rattle.twkb_blob.specs.Faults.{RefusedAt}
 use Rattle.twkb_blob.specs.declared.session.Session.{Session}

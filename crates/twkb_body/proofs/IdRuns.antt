@@ -4,11 +4,11 @@ use Rattle.std.specs.Prelude.{ℤ}
 use Rattle.twkb_num.specs.Zigzag.{unzigzag_of}
 use Rattle.twkb_grammar.specs.Roles.{Item, Id}
 use Rattle.twkb_grammar.specs.Machine.{Sums, added}
-use Rattle.twkb_outline.specs.Outline.{OnId}
-use Rattle.twkb_outline.specs.Reading.{sums_past}
-use Rattle.twkb_outline.specs.Noting.{NotedOutline}
-use Rattle.twkb_outline.proofs.Outlined.{noted_item}
-use Rattle.twkb_front.specs.Front.{NumberInFront}
+use Rattle.twkb_body.specs.Outline.{OnId}
+use Rattle.twkb_body.specs.Reading.{sums_past}
+use Rattle.twkb_body.specs.Noting.{NotedOutline}
+use Rattle.twkb_body.proofs.Outlined.{noted_item}
+use Rattle.twkb_body.specs.Front.{NumberInFront}
 use Rattle.twkb_body.specs.Head.{head_of}
 use Rattle.twkb_body.specs.Running.{IdsRun, IdsStop}
 use Rattle.twkb_body.proofs.PointRuns.{step_none, step_more, step_judged, step_stops}

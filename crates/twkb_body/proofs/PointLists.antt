@@ -4,8 +4,8 @@ use Rattle.std.proofs.lemmas.List.{drop-drop, length-drop, take_rest}
 use Rattle.twkb_points.specs.Point.{Point}
 use Rattle.twkb_tree.specs.Rows.{Row, row_points}
 use Rattle.twkb_tree.specs.RowGrowth.{point_added, EndsInLine, points_added}
-use Rattle.twkb_front.specs.Front.{PointInFront, PointsInFront, last_of}
-use Rattle.twkb_outline.proofs.Pieces.{one_within}
+use Rattle.twkb_body.specs.Front.{PointInFront, PointsInFront, last_of}
+use Rattle.twkb_body.proofs.Pieces.{one_within}
 use Rattle.twkb_body.specs.declared.list_points.Taken.{Taken}
 use Rattle.twkb_body.specs.Running.{ListLeads, ListStops, in_list}
 use Rattle.twkb_body.proofs.PointRuns.{line_longer, list_more, list_stops, step_more, step_stops}

@@ -8,17 +8,17 @@ use Rattle.twkb_tree.specs.Tree.{Ids}
 use Rattle.twkb_tree.specs.Rows.{Row, plain_row, row_points, first_id, other_ids}
 use Rattle.twkb_tree.specs.RowGrowth.{EndsInLine, point_added}
 use Rattle.twkb_grammar.specs.Machine.{Form, PointForm, LineForm, PolygonForm, MultiPointForm, MultiLineForm, MultiPolygonForm}
-use Rattle.twkb_outline.specs.Outline.{Group, Step, OnBody, Wanted, shut, next_ids}
-use Rattle.twkb_outline.specs.Growing.{applied, NewPoint, point_change, id_in}
-use Rattle.twkb_outline.specs.Reading.{Pair, sums_past}
-use Rattle.twkb_outline.specs.Noting.{NotedOutline}
-use Rattle.twkb_outline.specs.Parts.{IsPastEnds}
-use Rattle.twkb_outline.proofs.NotedPairs.{noted_point}
-use Rattle.twkb_outline.proofs.NotedJoins.{noted_still, noted_join}
-use Rattle.twkb_outline.proofs.Judging.{outlined_judged, part_further}
-use Rattle.twkb_outline.proofs.LinePoints.{ends_again, one_point_more}
-use Rattle.twkb_outline.proofs.Pieces.{used_join, one_within}
-use Rattle.twkb_front.specs.Front.{PointInFront, TwoInFront}
+use Rattle.twkb_body.specs.Outline.{Group, Step, OnBody, Wanted, shut, next_ids}
+use Rattle.twkb_body.specs.Growing.{applied, NewPoint, point_change, id_in}
+use Rattle.twkb_body.specs.Reading.{Pair, sums_past}
+use Rattle.twkb_body.specs.Noting.{NotedOutline}
+use Rattle.twkb_body.specs.JudgedParts.{IsPastEnds}
+use Rattle.twkb_body.proofs.NotedPairs.{noted_point}
+use Rattle.twkb_body.proofs.NotedJoins.{noted_still, noted_join}
+use Rattle.twkb_body.proofs.Judging.{outlined_judged, part_further}
+use Rattle.twkb_body.proofs.LinePoints.{ends_again, one_point_more}
+use Rattle.twkb_body.proofs.Pieces.{used_join, one_within}
+use Rattle.twkb_body.specs.Front.{PointInFront, TwoInFront}
 use Rattle.twkb_body.specs.Head.{head_of, IsHeadAt}
 use Rattle.twkb_body.specs.Running.{HasLists, StepRuns, StepStops, ListLeads, ListStops, MembersLead, TakesRow, TakesMembers, in_list}
 use Rattle.twkb_body.specs.declared.head.Head.{Head}

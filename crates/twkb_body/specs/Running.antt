@@ -6,11 +6,11 @@ use Rattle.twkb_tree.specs.Limits.{Allowance}
 use Rattle.twkb_tree.specs.Rows.{Row}
 use Rattle.twkb_grammar.specs.Machine.{Form, PointForm, MultiPointForm, Many, Sums}
 use Rattle.twkb_grammar.specs.Noting.{Notes}
-use Rattle.twkb_outline.specs.Outline.{Group, Step, OnId, OnBody, Wanted, next_ids}
-use Rattle.twkb_outline.specs.Growing.{id_in}
-use Rattle.twkb_outline.specs.Reading.{sums_past}
-use Rattle.twkb_outline.specs.Noting.{NotedOutline}
-use Rattle.twkb_outline.specs.Parts.{PartIn}
+use Rattle.twkb_body.specs.Outline.{Group, Step, OnId, OnBody, Wanted, next_ids}
+use Rattle.twkb_body.specs.Growing.{id_in}
+use Rattle.twkb_body.specs.Reading.{sums_past}
+use Rattle.twkb_body.specs.Noting.{NotedOutline}
+use Rattle.twkb_body.specs.JudgedParts.{PartIn}
 use Rattle.twkb_body.specs.Head.{head_of, IsHeadAt}
 use Rattle.twkb_body.specs.declared.head.Head.{Head}
 use Rattle.twkb_body.specs.declared.list_points.Taken.{Taken}

@@ -7,9 +7,9 @@ ghost use Rattle.twkb_body.specs.Ids.{ids_of};
 ghost use Rattle.twkb_body.specs.Running.{TakesRow, TakesMembers};
 
 use crate::member_ids::MemberIds;
+use crate::points::{front_eight, front_point, front_two};
 use std::alloc::AllocError;
 use twkb_flat::Flat;
-use twkb_front::{front_eight, front_point, front_two};
 use twkb_num::{BLOCK, varint_ends};
 use twkb_points::Pt;
 

@@ -3,8 +3,8 @@ ghost use Rattle.std.specs.Prelude.{◌≡◌, ◌≤◌, ◌++◌, ◌∷◌, [
 ghost use Rattle.twkb_tree.specs.Rows.{first_id, other_ids};
 ghost use Rattle.twkb_body.specs.Running.{IdsTaken, IdsStop};
 
+use crate::numbers::front_number;
 use std::alloc::{AllocError, Global};
-use twkb_front::front_number;
 use twkb_num::unzigzag;
 
 /// The ids of the members, if they have any: while they are read, all so far; then those from the open member on.

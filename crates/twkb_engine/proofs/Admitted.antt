@@ -8,11 +8,11 @@ use Rattle.twkb_tree.specs.Rows.{Row}
 use Rattle.twkb_grammar.specs.Roles.{Role}
 use Rattle.twkb_grammar.specs.Fault.{moved}
 use Rattle.twkb_grammar.specs.Reading.{Gives}
-use Rattle.twkb_outline.specs.Outline.{OnOption, step_role}
-use Rattle.twkb_outline.specs.Growing.{id_in, change_of, header_change}
-use Rattle.twkb_outline.specs.Admitting.{Admits}
-use Rattle.twkb_outline.proofs.Admitting.{somewhere_admitted}
-use Rattle.twkb_outline.proofs.Outlined.{outlined_depth}
+use Rattle.twkb_body.specs.Outline.{OnOption, step_role}
+use Rattle.twkb_body.specs.Growing.{id_in, change_of, header_change}
+use Rattle.twkb_body.specs.Admitting.{Admits}
+use Rattle.twkb_body.proofs.Admitting.{somewhere_admitted}
+use Rattle.twkb_body.proofs.Outlined.{outlined_depth}
 use Rattle.twkb_body.specs.Head.{head_of, kind_of, IsHeadAt}
 use Rattle.twkb_body.specs.declared.head.Head as place
 use Rattle.twkb_engine.specs.State.{step_at, step_of, outline_in, sums_of, IsPlaced, IsNext}

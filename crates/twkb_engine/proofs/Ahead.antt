@@ -15,17 +15,17 @@ use Rattle.twkb_grammar.specs.Noting.{Notes, note_header, note_metadata, shown}
 use Rattle.twkb_grammar.specs.PlainReader.{objection, unless}
 use Rattle.twkb_grammar.specs.Machine as machine
 use Rattle.twkb_grammar.specs.Machine.{Sums, kind_at, kind_number}
-use Rattle.twkb_outline.specs.Outline.{Outline, Step, OnHeader, OnMetadata, begins}
-use Rattle.twkb_outline.specs.Growing.{id_in}
-use Rattle.twkb_outline.specs.Noting.{NotedOutline, notes_in}
-use Rattle.twkb_outline.specs.Parts.{IsJudged, PartIn}
-use Rattle.twkb_outline.proofs.Outlined.{noted_item}
-use Rattle.twkb_outline.proofs.Judging.{outlined_judged}
-use Rattle.twkb_outline.proofs.Pieces.{used_join}
-use Rattle.twkb_front.specs.Header.{HeaderInFront}
-use Rattle.twkb_front.specs.Parts.{PartsInFront, sized_head}
-use Rattle.twkb_front.specs.declared.header.FrontHeader.{FrontHeader}
-use Rattle.twkb_front.proofs.HeaderParts.{read_ahead}
+use Rattle.twkb_body.specs.Outline.{Outline, Step, OnHeader, OnMetadata, begins}
+use Rattle.twkb_body.specs.Growing.{id_in}
+use Rattle.twkb_body.specs.Noting.{NotedOutline, notes_in}
+use Rattle.twkb_body.specs.JudgedParts.{IsJudged, PartIn}
+use Rattle.twkb_body.proofs.Outlined.{noted_item}
+use Rattle.twkb_body.proofs.Judging.{outlined_judged}
+use Rattle.twkb_body.proofs.Pieces.{used_join}
+use Rattle.twkb_body.specs.Header.{HeaderInFront}
+use Rattle.twkb_body.specs.Parts.{PartsInFront, sized_head}
+use Rattle.twkb_body.specs.declared.header.FrontHeader.{FrontHeader}
+use Rattle.twkb_body.proofs.PartsInFront.{read_ahead}
 use Rattle.twkb_body.specs.Head.{kind_of, IsHeadAt}
 use Rattle.twkb_engine.specs.State.{step_at, outline_in, sums_of, IsPlaced}
 use Rattle.twkb_engine.specs.Collections.{groups_of}

@@ -5,8 +5,8 @@ use Rattle.std.proofs.lemmas.Grind.{common_steps}
 use Rattle.twkb_num.specs.Varint.{IsOpenVarint}
 use Rattle.twkb_tree.specs.Rows.{Row}
 use Rattle.twkb_grammar.specs.Fault.{FirstFault, Truncated}
-use Rattle.twkb_outline.proofs.Outlined.{outlined_bytes, outlined_cut, outlined_depth, outlined_missing}
-use Rattle.twkb_outline.specs.Reading.{open_count}
+use Rattle.twkb_body.proofs.Outlined.{outlined_bytes, outlined_cut, outlined_depth, outlined_missing}
+use Rattle.twkb_body.specs.Reading.{open_count}
 use Rattle.twkb_engine.specs.Fits.{IsByte}
 use Rattle.twkb_engine.specs.Collections.{groups_of}
 use Rattle.twkb_engine.specs.Notes.{open_in}

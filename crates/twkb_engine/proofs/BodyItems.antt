@@ -1,11 +1,11 @@
 -- The items of a body: what a number leads to, and what it brings.
 use Rattle.std.proofs.Common.{◌≡◌, ℕ, zero, suc, ◌+◌, ◌-◌, ◌<◌, ◌^◌, List, length, refl, sym, ap, ◌∙◌, subst, arith, Bool, true, if◌then◌else◌, Result, Ok, Err, None}
-use Rattle.std.specs.Prelude.{ℤ, ◌+ℤ◌, Option, not}
+use Rattle.std.specs.Prelude.{ℤ, ◌+ℤ◌, Option, not, Some}
 use Rattle.std.specs.Result.{IsErrAnd}
 use Rattle.std.proofs.lemmas.Result.{err_from_is_err_and}
 use Rattle.twkb_num.specs.Varint.{varint_of}
 use Rattle.twkb_num.proofs.VarintLemmas.{IsVarint-varint_of}
-use Rattle.twkb_points.specs.Point.{Point, point_at}
+use Rattle.twkb_points.specs.Point.{Point, point_at, IsCoordinate}
 use Rattle.twkb_tree.specs.Tree.{Ids}
 use Rattle.twkb_tree.specs.Rows.{Row, first_id}
 use Rattle.twkb_tree.specs.declared.kind.Kind.{Kind}
@@ -19,10 +19,10 @@ use Rattle.twkb_num.proofs.ZigzagLemmas.{unzigzag_of-zigzag_of}
 use Rattle.twkb_grammar.specs.Machine as machine
 use Rattle.twkb_grammar.specs.Machine.{Sums}
 use Rattle.twkb_grammar.proofs.RoleBytes.{number_gives}
-use Rattle.twkb_outline.specs.Outline.{Outline, Group, OnBody, Wanted, shut, step_role, outline_ends, outline_advanced}
-use Rattle.twkb_outline.specs.Growing.{Change, NewPoint, id_in, change_of, point_change}
-use Rattle.twkb_outline.specs.Admitting.{Admits}
-use Rattle.twkb_outline.specs.Parts.{Passes}
+use Rattle.twkb_body.specs.Outline.{Outline, Group, OnBody, Wanted, shut, step_role, outline_ends, outline_advanced}
+use Rattle.twkb_body.specs.Growing.{Change, NewPoint, id_in, change_of, point_change}
+use Rattle.twkb_body.specs.Admitting.{Admits}
+use Rattle.twkb_body.specs.JudgedParts.{Passes}
 use Rattle.twkb_body.specs.Head.{head_of, form_of, IsHeadAt}
 use Rattle.twkb_body.specs.Ids.{ids_of}
 use Rattle.twkb_engine.specs.Collections.{groups_of}
@@ -37,6 +37,7 @@ use Rattle.twkb_engine.specs.declared.next_item.NextItem.TheVariants as next
 use Rattle.twkb_engine.specs.declared.engine.Engine.{Engine}
 use Rattle.twkb_engine.proofs.Admitted.{admitted, alive_placed}
 use Rattle.twkb_engine.proofs.Parts.{add_zero}
+use Rattle.twkb_body.proofs.Ranges.{passes, coordinate}
 
 -- ---- an item of a body, and the ends that follow it
 
@@ -58,8 +59,16 @@ pub unzigzagged : (step : ℤ) (n : ℕ) → zigzag_of step ≡ n → step ≡ u
 unzigzagged step n is = sym (unzigzag_of-zigzag_of step) ∙ ap unzigzag_of is
 
 -- it is in range
-pub y_free : (d : Engine) (n : ℕ) (step : ℤ) → step ≡ unzigzag_of n → in_range (d.position.y +ℤ step) ≡ true → IsFree role.Y n d
-y_free d n step is kept = ap (λ (b : Bool). unless (not b) CoordinateRange None) (ap (λ (z : ℤ). in_range (d.position.y +ℤ z)) (sym is) ∙ kept)
+pub y_free : (d : Engine) (n : ℕ) (step : ℤ) → step ≡ unzigzag_of n → IsCoordinate (d.position.y +ℤ step) → IsFree role.Y n d
+y_free d n step is kept = ap (λ (b : Bool). unless (not b) CoordinateRange None) (ap (λ (z : ℤ). in_range (d.position.y +ℤ z)) (sym is) ∙ passes _ kept)
+
+-- a y that leads to no coordinate is refused
+pub y_refused : (d : Engine) (n : ℕ) (step : ℤ) → step ≡ unzigzag_of n → (IsCoordinate (d.position.y +ℤ step) → ⊥) → unless (not (in_range (d.position.y +ℤ unzigzag_of n))) CoordinateRange None ≡ Some CoordinateRange
+y_refused d n step is out = refused (in_range (d.position.y +ℤ unzigzag_of n)) (λ kept. out (coordinate _ (ap (λ (z : ℤ). in_range (d.position.y +ℤ z)) is ∙ kept)))
+  where
+    refused : (b : Bool) → (b ≡ true → ⊥) → unless (not b) CoordinateRange None ≡ Some CoordinateRange
+    refused true out = absurd (out refl)
+    refused false out = refl
 
 -- and leads there
 pub y_there : (d : Engine) (n : ℕ) (step : ℤ) (p : Point) → step ≡ unzigzag_of n → p ≡ point_at d.position.x (d.position.y +ℤ step) → p ≡ moved d.position role.Y n

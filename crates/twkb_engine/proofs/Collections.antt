@@ -10,9 +10,9 @@ use Rattle.twkb_tree.specs.Rows.{first_id, other_ids}
 use Rattle.twkb_grammar.specs.Machine as machine
 use Rattle.twkb_grammar.specs.Machine.{ManyGeometries}
 use Rattle.twkb_grammar.specs.PlainReader.{is_exact as exact}
-use Rattle.twkb_outline.specs.Outline as outline
-use Rattle.twkb_outline.specs.Outline.{OnHeader, members_open, outline_past_end}
-use Rattle.twkb_outline.specs.Growing.{id_in}
+use Rattle.twkb_body.specs.Outline as outline
+use Rattle.twkb_body.specs.Outline.{OnHeader, members_open, outline_past_end}
+use Rattle.twkb_body.specs.Growing.{id_in}
 use Rattle.twkb_body.specs.Ids.{ids_of}
 use Rattle.twkb_body.specs.Head.{head_of}
 use Rattle.twkb_engine.specs.Collections.{group_of, groups_from, groups_of}

@@ -11,9 +11,9 @@ use Rattle.twkb_grammar.specs.Roles as role
 use Rattle.twkb_grammar.specs.Fault.{Reason, moved}
 use Rattle.twkb_grammar.specs.Machine.{Sums, listed}
 use Rattle.twkb_grammar.proofs.RoleBytes.{number_gives}
-use Rattle.twkb_outline.specs.Outline.{Outline, Step, OnBody, Wanted, shut, listing, step_role, outline_ends, outline_advanced}
-use Rattle.twkb_outline.specs.Growing.{Change, NewRow, id_in, change_of, list_row}
-use Rattle.twkb_outline.specs.Admitting.{Admits}
+use Rattle.twkb_body.specs.Outline.{Outline, Step, OnBody, Wanted, shut, listing, step_role, outline_ends, outline_advanced}
+use Rattle.twkb_body.specs.Growing.{Change, NewRow, id_in, change_of, list_row}
+use Rattle.twkb_body.specs.Admitting.{Admits}
 use Rattle.twkb_body.specs.Head.{head_of, form_of, IsHeadAt}
 use Rattle.twkb_body.specs.Ids.{ids_of}
 use Rattle.twkb_engine.specs.Collections.{groups_of}

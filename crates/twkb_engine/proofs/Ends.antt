@@ -9,12 +9,12 @@ use Rattle.twkb_grammar.specs.Machine.{Form}
 use Rattle.twkb_grammar.specs.Fault.{Reason}
 use Rattle.twkb_grammar.specs.PlainReader.{is_exact}
 use Rattle.twkb_grammar.specs.Noting.{Notes, note_end, note_ends}
-use Rattle.twkb_outline.specs.Outline.{Group, Outline, outline_past_end, outline_ends, shut}
-use Rattle.twkb_outline.specs.Growing.{Change, Nothing, applied, own_of}
-use Rattle.twkb_outline.specs.Parts.{IsPastEnds, Passes}
+use Rattle.twkb_body.specs.Outline.{Group, Outline, outline_past_end, outline_ends, shut}
+use Rattle.twkb_body.specs.Growing.{Change, Nothing, applied, own_of}
+use Rattle.twkb_body.specs.JudgedParts.{IsPastEnds, Passes}
 use Rattle.twkb_body.specs.Head.{kind_of, head_of, form_of}
 use Rattle.twkb_body.specs.declared.head.Head.{Head}
-use Rattle.twkb_outline.specs.Reading.{open_count}
+use Rattle.twkb_body.specs.Reading.{open_count}
 use Rattle.twkb_engine.specs.Collections.{groups_of}
 use Rattle.twkb_engine.specs.State.{step_at, ids_in}
 use Rattle.twkb_engine.specs.Fits.{IsInside}

@@ -3,7 +3,7 @@ use Rattle.std.proofs.Common.{◌^◌, drop, get_or, append_assoc, length-append
 use Rattle.std.proofs.lemmas.List.{length-take-le, length-drop, take_rest}
 use Rattle.std.proofs.Math.Logic.{∥∥₁_elim, ∥∥₁_map}
 use Rattle.std.proofs.Props.{props}
-use Rattle.twkb_outline.proofs.Pieces.{one_front, one_within}
+use Rattle.twkb_body.proofs.Pieces.{one_front, one_within}
 use Rattle.std.proofs.Math.Seq.{take-suc}
 use Rattle.twkb_num.specs.Varint.{IsVarint, IsOpenVarint}
 use Rattle.twkb_tree.specs.Limits.{Allowance}
@@ -16,13 +16,13 @@ use Rattle.twkb_grammar.specs.Machine.{Sums, added}
 use Rattle.twkb_grammar.specs.Reading.{Gives}
 use Rattle.twkb_grammar.specs.Noting.{Notes, noted_by, note_ends_to}
 use Rattle.twkb_grammar.specs.Spans.{spans_of_blob}
-use Rattle.twkb_outline.specs.Outline.{Outline, OnFinished, outline_ends}
-use Rattle.twkb_outline.specs.Growing.{applied}
-use Rattle.twkb_outline.specs.Noting.{NotedOutline, notes_in}
-use Rattle.twkb_outline.specs.Parts.{IsJudged, PartIn}
-use Rattle.twkb_outline.proofs.Outlined.{outlined_bytes, outlined_long, outlined_ends, outlined_refused, noted_item}
-use Rattle.twkb_outline.proofs.Judging.{landed_judged, part_further}
-use Rattle.twkb_outline.specs.Reading.{Outlined, OutlineLanded, open_count, outline_after, change_after}
+use Rattle.twkb_body.specs.Outline.{Outline, OnFinished, outline_ends}
+use Rattle.twkb_body.specs.Growing.{applied}
+use Rattle.twkb_body.specs.Noting.{NotedOutline, notes_in}
+use Rattle.twkb_body.specs.JudgedParts.{IsJudged, PartIn}
+use Rattle.twkb_body.proofs.Outlined.{outlined_bytes, outlined_long, outlined_ends, outlined_refused, noted_item}
+use Rattle.twkb_body.proofs.Judging.{landed_judged, part_further}
+use Rattle.twkb_body.specs.Reading.{Outlined, OutlineLanded, open_count, outline_after, change_after}
 use Rattle.twkb_engine.specs.Fits.{IsByte}
 use Rattle.twkb_engine.specs.Notes.{NotesGo, notes_with, open_in}
 use Rattle.twkb_engine.specs.declared.next_item.NextItem.TheVariants as next

@@ -8,8 +8,8 @@ use Rattle.twkb_tree.specs.declared.kind.Kind.{Kind}
 use Rattle.twkb_tree.specs.declared.kind.Kind.TheVariants as kinds
 use Rattle.twkb_grammar.specs.Machine as machine
 use Rattle.twkb_grammar.specs.Fault.{Reason}
-use Rattle.twkb_outline.specs.Outline.{Outline, Group, shut, outline_ends}
-use Rattle.twkb_outline.specs.Growing.{id_in, point_change}
+use Rattle.twkb_body.specs.Outline.{Outline, Group, shut, outline_ends}
+use Rattle.twkb_body.specs.Growing.{id_in, point_change}
 use Rattle.twkb_body.specs.Head.{head_of, form_of, IsHeadAt}
 use Rattle.twkb_body.specs.Ids.{ids_of}
 use Rattle.twkb_engine.specs.Collections.{groups_of}

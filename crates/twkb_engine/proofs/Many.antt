@@ -8,11 +8,11 @@ use Rattle.twkb_tree.specs.declared.kind.Kind.TheVariants as kinds
 use Rattle.twkb_tree.specs.Tree.{Ids}
 use Rattle.twkb_tree.specs.Rows.{Row}
 use Rattle.twkb_grammar.specs.Noting.{Notes}
-use Rattle.twkb_outline.specs.Outline.{Outline, Step, OnId, OnBody, Wanted, next_ids}
-use Rattle.twkb_outline.specs.Growing.{id_in}
-use Rattle.twkb_outline.specs.Reading.{sums_past}
-use Rattle.twkb_outline.specs.Noting.{NotedOutline, notes_in}
-use Rattle.twkb_outline.specs.Parts.{PartIn}
+use Rattle.twkb_body.specs.Outline.{Outline, Step, OnId, OnBody, Wanted, next_ids}
+use Rattle.twkb_body.specs.Growing.{id_in}
+use Rattle.twkb_body.specs.Reading.{sums_past}
+use Rattle.twkb_body.specs.Noting.{NotedOutline, notes_in}
+use Rattle.twkb_body.specs.JudgedParts.{PartIn}
 use Rattle.twkb_body.specs.Head.{head_of, form_of, many_of, IsHeadAt}
 use Rattle.twkb_body.specs.Ids.{ids_of, ids_read}
 use Rattle.twkb_body.specs.Running.{HasLists, WantedIn, StepRuns, StepStops, ListRuns, ListStops, in_list, IdsTaken, IdsStop}

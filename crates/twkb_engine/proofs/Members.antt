@@ -14,10 +14,10 @@ use Rattle.twkb_grammar.specs.PlainReader.{objection, unless}
 use Rattle.twkb_grammar.specs.Machine as machine
 use Rattle.twkb_grammar.specs.Machine.{Sums, Many, ManyPoints, ManyLines, ManyPolygons, ManyGeometries, first_count}
 use Rattle.twkb_grammar.proofs.Objections.{deep_allowed}
-use Rattle.twkb_outline.specs.Outline.{Group, Outline, OnId, OnEnd, members_open, many_counted, outline_ends, outline_advanced}
-use Rattle.twkb_outline.specs.Growing.{Nothing, NewRow, id_in, change_of, step_change, own_of, kind_with}
-use Rattle.twkb_outline.specs.Parts.{Passes}
-use Rattle.twkb_outline.specs.Reading.{open_count}
+use Rattle.twkb_body.specs.Outline.{Group, Outline, OnId, OnEnd, members_open, many_counted, outline_ends, outline_advanced}
+use Rattle.twkb_body.specs.Growing.{Nothing, NewRow, id_in, change_of, step_change, own_of, kind_with}
+use Rattle.twkb_body.specs.JudgedParts.{Passes}
+use Rattle.twkb_body.specs.Reading.{open_count}
 use Rattle.twkb_body.specs.Head.{head_of, kind_of, many_of, IsHeadAt}
 use Rattle.twkb_body.specs.Ids.{ids_read}
 use Rattle.twkb_engine.specs.State.{step_at, outline_in}

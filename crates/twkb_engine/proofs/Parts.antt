@@ -12,11 +12,11 @@ use Rattle.twkb_grammar.specs.Machine.{asked, with_option}
 use Rattle.twkb_grammar.specs.Bits.{bit}
 use Rattle.twkb_grammar.specs.Noting.{Notes}
 use Rattle.twkb_grammar.specs.Machine as machine
-use Rattle.twkb_outline.specs.Outline as outline
-use Rattle.twkb_outline.specs.Outline.{Outline, OnOption, begins, options, outline_ends, outline_advanced}
-use Rattle.twkb_outline.specs.Growing.{Change, id_in, applied, change_of, header_change}
-use Rattle.twkb_outline.specs.Parts.{Passes}
-use Rattle.twkb_outline.specs.Reading.{open_count}
+use Rattle.twkb_body.specs.Outline as outline
+use Rattle.twkb_body.specs.Outline.{Outline, OnOption, begins, options, outline_ends, outline_advanced}
+use Rattle.twkb_body.specs.Growing.{Change, id_in, applied, change_of, header_change}
+use Rattle.twkb_body.specs.JudgedParts.{Passes}
+use Rattle.twkb_body.specs.Reading.{open_count}
 use Rattle.twkb_tree.specs.declared.kind.Kind.{Kind}
 use Rattle.twkb_tree.specs.declared.kind.Kind.TheVariants as kinds
 use Rattle.twkb_body.specs.Head.{head_of, kind_of, IsHeadAt}

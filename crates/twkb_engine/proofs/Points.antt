@@ -8,17 +8,17 @@ use Rattle.twkb_grammar.specs.Blob.{Blob}
 use Rattle.twkb_grammar.specs.Fault.{FirstFault}
 use Rattle.twkb_grammar.specs.Noting.{Notes, note_ends_to}
 use Rattle.twkb_grammar.specs.Spans.{spans_of_blob}
-use Rattle.twkb_outline.specs.Outline.{Outline, Step, OnBody, Wanted, OnFinished, shut}
-use Rattle.twkb_outline.specs.Growing.{Change, applied, id_in, point_change}
-use Rattle.twkb_outline.specs.Admitting.{Admits}
-use Rattle.twkb_outline.specs.Reading.{Outlined, OutlineLanded, open_count, sums_past}
-use Rattle.twkb_outline.specs.Noting.{NotedOutline, notes_in}
-use Rattle.twkb_outline.specs.Parts.{IsJudged}
-use Rattle.twkb_outline.proofs.Admitting.{admitted_by, point_admitted}
-use Rattle.twkb_outline.proofs.NotedPairs.{noted_point}
-use Rattle.twkb_outline.proofs.Outlined.{outlined_bytes, outlined_ends}
-use Rattle.twkb_outline.proofs.Judging.{landed_judged}
-use Rattle.twkb_front.specs.Front.{PointInFront}
+use Rattle.twkb_body.specs.Outline.{Outline, Step, OnBody, Wanted, OnFinished, shut}
+use Rattle.twkb_body.specs.Growing.{Change, applied, id_in, point_change}
+use Rattle.twkb_body.specs.Admitting.{Admits}
+use Rattle.twkb_body.specs.Reading.{Outlined, OutlineLanded, open_count, sums_past}
+use Rattle.twkb_body.specs.Noting.{NotedOutline, notes_in}
+use Rattle.twkb_body.specs.JudgedParts.{IsJudged}
+use Rattle.twkb_body.proofs.Admitting.{admitted_by, point_admitted}
+use Rattle.twkb_body.proofs.NotedPairs.{noted_point}
+use Rattle.twkb_body.proofs.Outlined.{outlined_bytes, outlined_ends}
+use Rattle.twkb_body.proofs.Judging.{landed_judged}
+use Rattle.twkb_body.specs.Front.{PointInFront}
 use Rattle.twkb_body.specs.Head.{head_of, form_of, IsHeadAt}
 use Rattle.twkb_body.specs.Ids.{ids_of}
 use Rattle.twkb_body.proofs.PointRuns.{same_change}

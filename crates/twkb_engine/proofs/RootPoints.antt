@@ -17,12 +17,12 @@ use Rattle.twkb_grammar.specs.Noting.{Notes, no_notes, noted}
 use Rattle.twkb_grammar.proofs.Streams.{first_item}
 use Rattle.twkb_grammar.proofs.PartBytes.{blob_is_part}
 use Rattle.twkb_grammar.proofs.OneFault.{no_fault}
-use Rattle.twkb_outline.specs.Outline.{Outline, OnHeader, OnEnd, outline_of, outline_past_end}
-use Rattle.twkb_outline.specs.Reading.{Outlined, OutlineLanded}
-use Rattle.twkb_outline.specs.Parts.{PartIn, IsJudged}
-use Rattle.twkb_outline.proofs.Outlined.{outlined_start, outlined_ends, outlined_whole, outlined_bytes}
-use Rattle.twkb_outline.proofs.PointHeaders.{HeaderRead, sums_behind, bare_header_read, sized_header_read, header_point_read}
-use Rattle.twkb_front.specs.Whole.{WholePoint, metadata_with, header_bytes}
+use Rattle.twkb_body.specs.Outline.{Outline, OnHeader, OnEnd, outline_of, outline_past_end}
+use Rattle.twkb_body.specs.Reading.{Outlined, OutlineLanded}
+use Rattle.twkb_body.specs.JudgedParts.{PartIn, IsJudged}
+use Rattle.twkb_body.proofs.Outlined.{outlined_start, outlined_ends, outlined_whole, outlined_bytes}
+use Rattle.twkb_body.proofs.PointHeaders.{HeaderRead, sums_behind, bare_header_read, sized_header_read, header_point_read}
+use Rattle.twkb_body.specs.Whole.{WholePoint, metadata_with, header_bytes}
 use Rattle.twkb_engine.specs.State.{sums_of, outline_in, step_at}
 use Rattle.twkb_engine.specs.Taking.{BeginsAt}
 use Rattle.twkb_engine.specs.Notes.{point_span}

@@ -23,16 +23,15 @@ use Rattle.twkb_grammar.proofs.NotedEnds.{all_open, ends_to}
 use Rattle.twkb_grammar.proofs.Frames.{reached_frames}
 use Rattle.twkb_grammar.proofs.Running.{ran_blob}
 use Rattle.twkb_grammar.proofs.TreesBack.{runs_are_items}
-use Rattle.twkb_outline.specs.Outline.{Outline, Group, group_of, Step, OnHeader, OnMetadata, OnOption, OnCount, OnId, OnBody, OnEnd, OnFinished, Wanted, WantedY, step_of, step_role, outline_ended, outline_past_end, outline_advanced, outline_ends}
-use Rattle.twkb_outline.specs.Reading.{Outlined, open_count}
-use Rattle.twkb_outline.specs.Growing.{rows_so_far}
-use Rattle.twkb_outline.specs.Noting.{NotedOutline, notes_in}
-use Rattle.twkb_outline.proofs.Outlined.{outlined_start, noted_item}
-use Rattle.twkb_outline.proofs.Notings.{same_count}
+use Rattle.twkb_body.specs.Outline.{Outline, Group, group_of, Step, OnHeader, OnMetadata, OnOption, OnCount, OnId, OnBody, OnEnd, OnFinished, Wanted, WantedY, step_of, step_role, outline_ended, outline_past_end, outline_advanced, outline_ends}
+use Rattle.twkb_body.specs.Reading.{Outlined, open_count}
+use Rattle.twkb_body.specs.Growing.{rows_so_far, id_in}
+use Rattle.twkb_body.specs.Noting.{NotedOutline, notes_in}
+use Rattle.twkb_body.proofs.Outlined.{outlined_start, noted_item}
+use Rattle.twkb_body.proofs.Notings.{same_count}
 use Rattle.twkb_body.specs.declared.head.Head as place
 use Rattle.twkb_body.specs.Head.{head_of, kind_of, form_of, many_of, IsHeadAt}
 use Rattle.twkb_body.specs.Ids.{ids_of, ids_read}
-use Rattle.twkb_outline.specs.Growing.{id_in}
 use Rattle.twkb_engine.specs.Collections.{groups_of}
 use Rattle.twkb_engine.specs.Fits.{IsByte, lists_of, line_lists_of, area_lists_of, has_members}
 use Rattle.twkb_engine.specs.State.{IsNext, IsPlaced, sums_of, outline_in, step_at, size_roles, box_roles, boxes}
@@ -67,7 +66,7 @@ x_goes i is bytes n d = subst (λ j. Goes (outline_ends bytes (outline_advanced 
 -- an x
 pub x_noted : {S : Type 0} (holds : S → Notes → Type 0) (r : Role) (n width : ℕ) (d e : Engine) (old : S) (answer : Result Bool Stop) → d.next ≡ next.X → IsNext r d → ((rs : List Row) → Takes role.X n width d rs answer e rs)
     → OnOk answer (open_in e ≡ open_in d) → IfOk answer (λ ends. NotesGo holds (notes_with r n width d e ends) d old old)
-x_noted holds r n width d e old (Ok false) is says takes same = quiet_noted holds r n width d e old (subst IsQuiet (sym (some_role role.X r (sym (ap (λ i. Rattle.twkb_outline.specs.Outline.step_role (length (outline_in d).0) d.bytes (step_at i d)) is) ∙ says))) tt) same
+x_noted holds r n width d e old (Ok false) is says takes same = quiet_noted holds r n width d e old (subst IsQuiet (sym (some_role role.X r (sym (ap (λ i. Rattle.twkb_body.specs.Outline.step_role (length (outline_in d).0) d.bytes (step_at i d)) is) ∙ says))) tt) same
 x_noted holds r n width d e old (Ok true) is says takes same = absurd (subst Goes ((takes []).1) (x_goes d.next is (d.bytes + width) n d))
 x_noted holds r n width d e old (Err stop) is says takes same = tt
 

@@ -1,6 +1,6 @@
 -- The open collections, as the outline has them.
 use Rattle.std.specs.Prelude.{List, [], ◌∷◌}
-use Rattle.twkb_outline.specs.Outline as outline
+use Rattle.twkb_body.specs.Outline as outline
 use Rattle.twkb_body.specs.Head.{head_of}
 use Rattle.twkb_body.specs.Ids.{ids_of}
 use Rattle.twkb_engine.specs.declared.open_collections.OpenCollection.{OpenCollection}

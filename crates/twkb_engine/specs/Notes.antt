@@ -6,7 +6,7 @@ use Rattle.twkb_grammar.specs.Roles.{Role}
 use Rattle.twkb_grammar.specs.Fault.{points_by}
 use Rattle.twkb_grammar.specs.Noting.{Notes, noted_by, note_ends_to}
 use Rattle.twkb_grammar.specs.declared.span.Span.{Span}
-use Rattle.twkb_outline.specs.Reading.{open_count}
+use Rattle.twkb_body.specs.Reading.{open_count}
 use Rattle.twkb_engine.specs.State.{outline_in, sums_of}
 use Rattle.twkb_engine.specs.declared.engine.Engine.{Engine}
 

@@ -9,11 +9,11 @@ use Rattle.twkb_grammar.specs.Blob.{Blob}
 use Rattle.twkb_grammar.specs.Fault.{FirstFault, Reason, Truncated}
 use Rattle.twkb_grammar.specs.Noting.{Notes}
 use Rattle.twkb_grammar.specs.Spans.{spans_of_blob}
-use Rattle.twkb_outline.specs.Reading.{Outlined}
-use Rattle.twkb_outline.specs.Noting.{notes_in}
+use Rattle.twkb_body.specs.Reading.{Outlined}
+use Rattle.twkb_body.specs.Noting.{notes_in}
 use Rattle.twkb_engine.specs.State.{IsPlaced, IsNext, allowance_of, sums_of, outline_in}
 use Rattle.twkb_engine.specs.Fits.{IsByte}
-use Rattle.twkb_outline.specs.Parts.{IsJudged, PartIn}
+use Rattle.twkb_body.specs.JudgedParts.{IsJudged, PartIn}
 use Rattle.twkb_engine.specs.Stops.{reason_of}
 use Rattle.twkb_engine.specs.declared.engine.Engine.{Engine}
 use Rattle.twkb_engine.specs.declared.stop.Stop.{Stop}

@@ -7,10 +7,10 @@ use Rattle.twkb_grammar.specs.Roles.{Role}
 use Rattle.twkb_grammar.specs.Fault.{Reason, moved, nodes_by, points_by}
 use Rattle.twkb_grammar.specs.Machine.{Sums}
 use Rattle.twkb_grammar.specs.PlainReader.{objection}
-use Rattle.twkb_outline.specs.Outline.{Outline, OnFinished, Step, OnEnd, options, shut, outline_advanced, outline_ends}
-use Rattle.twkb_outline.specs.Growing.{Change, NewRow, Nothing, change_of, applied, own_of, header_change, point_change}
-use Rattle.twkb_outline.specs.Admitting.{Admits}
-use Rattle.twkb_outline.specs.Parts.{Passes}
+use Rattle.twkb_body.specs.Outline.{Outline, OnFinished, Step, OnEnd, options, shut, outline_advanced, outline_ends}
+use Rattle.twkb_body.specs.Growing.{Change, NewRow, Nothing, change_of, applied, own_of, header_change, point_change}
+use Rattle.twkb_body.specs.Admitting.{Admits}
+use Rattle.twkb_body.specs.JudgedParts.{Passes}
 use Rattle.twkb_body.specs.Head.{head_of, kind_of, form_of}
 use Rattle.twkb_engine.specs.State.{sums_of, outline_in, ids_in}
 use Rattle.twkb_engine.specs.Collections.{groups_of}

@@ -4,8 +4,8 @@ ghost use Rattle.twkb_tree.specs.Rows.{Row as TableRow};
 ghost use Rattle.twkb_grammar.specs.Roles as role;
 ghost use Rattle.twkb_grammar.specs.Machine.{listed};
 ghost use Rattle.twkb_flat.specs.Rows.{row_with};
-ghost use Rattle.twkb_outline.specs.Growing.{NewRow, Nothing, id_in};
-ghost use Rattle.twkb_outline.specs.Admitting.{Admits};
+ghost use Rattle.twkb_body.specs.Growing.{NewRow, Nothing, id_in};
+ghost use Rattle.twkb_body.specs.Admitting.{Admits};
 ghost use Rattle.twkb_body.specs.Head.{IsHeadAt};
 ghost use Rattle.twkb_engine.specs.declared.next_item.NextItem.TheVariants as next;
 
@@ -16,7 +16,6 @@ use crate::span_notes::SpanNotes;
 use crate::stop::Stop;
 use twkb_body::{line_row, push_row, put_point, ring_list_row};
 use twkb_flat::{Flat, Row};
-use twkb_front::{moved_x, moved_y};
 use twkb_num::unzigzag;
 use twkb_points::Pt;
 
@@ -30,6 +29,7 @@ impl Engine {
 
     // Takes an x. Refused if it leads out of range.
     #[inline(always)]
+    #[tactic(auto, using(twkb_body::proofs::Ranges::ranges))]
     pub(crate) fn x(&mut self, number: u64, width: u64) -> Result<bool, Stop>
         requires next { self.old.next ≡ next.X }
         requires room { self.old.start + (self.old.bytes + width) ≤ 2 ^ 63 }
@@ -38,7 +38,7 @@ impl Engine {
         ensures placed { IsPlaced self.old.next self.old → OnOk result (IsPlaced self.new.next self.new) }
         ensures kept { Keeps self.old self.new }
     {
-        let Some(position) = moved_x(self.position, unzigzag(number)) else {
+        let Some(position) = self.position.moved_x(unzigzag(number)) else {
             return Err(Stop::Refused(BlobReason::CoordinateRange));
         };
         self.bytes += width;
@@ -64,7 +64,7 @@ impl Engine {
         ensures placed { IsPlaced self.old.next self.old → OnOk result (IsPlaced self.new.next self.new) }
         ensures kept { Keeps self.old self.new }
     {
-        let Some(position) = moved_y(self.position, unzigzag(number)) else {
+        let Some(position) = self.position.moved_y(unzigzag(number)) else {
             return Err(Stop::Refused(BlobReason::CoordinateRange));
         };
         self.bytes += width;

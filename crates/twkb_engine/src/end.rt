@@ -1,8 +1,8 @@
 //! The end of a geometry.
 ghost use Rattle.std.specs.Prelude.{◌≡◌, ◌-◌, true, IfOk, OnOk, List};
 ghost use Rattle.twkb_grammar.specs.PlainReader.{is_exact as exact};
-ghost use Rattle.twkb_outline.specs.Growing.{Nothing};
-ghost use Rattle.twkb_outline.specs.Admitting.{Admits};
+ghost use Rattle.twkb_body.specs.Growing.{Nothing};
+ghost use Rattle.twkb_body.specs.Admitting.{Admits};
 ghost use Rattle.twkb_tree.specs.Rows.{Row};
 
 use crate::blob_reason::BlobReason;

@@ -13,7 +13,6 @@ use crate::stop::Stop;
 use std::alloc::Global;
 use twkb_body::{Head, MemberIds};
 use twkb_flat::Flat;
-use twkb_front::origin;
 use twkb_num::{Leb128, Partial};
 use twkb_points::Pt;
 use twkb_tree::Limits;
@@ -68,7 +67,7 @@ impl Engine {
             limits,
             start,
             bytes: 0,
-            position: origin(),
+            position: Pt::origin(),
             nodes: 1,
             points: 0,
             collections: OpenCollections::new(alloc),
@@ -91,7 +90,7 @@ impl Engine {
     {
         self.start += self.bytes;
         self.bytes = 0;
-        self.position = origin();
+        self.position = Pt::origin();
         self.nodes = 1;
         self.points = 0;
         self.collections.clear();

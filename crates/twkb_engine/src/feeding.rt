@@ -8,9 +8,8 @@ use crate::next_item::NextItem;
 use crate::span_notes::SpanNotes;
 use crate::stop::Stop;
 use std::alloc::AllocError;
-use twkb_body::{take_members, take_row};
+use twkb_body::{front_number, front_point, take_members, take_row};
 use twkb_flat::Flat;
-use twkb_front::{front_number, front_point};
 use twkb_num::Step;
 use twkb_tree::Kind;
 

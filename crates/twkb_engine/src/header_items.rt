@@ -8,9 +8,9 @@ ghost use Rattle.twkb_grammar.specs.Machine.{kind_number, kind_at};
 ghost use Rattle.twkb_num.specs.Zigzag.{unzigzag_of};
 ghost use Rattle.twkb_points.specs.Point.{origin as origin_of};
 ghost use Rattle.twkb_grammar.specs.Noting.{Notes, note_header, note_metadata};
-ghost use Rattle.twkb_outline.specs.Outline.{OnMetadata, begins};
-ghost use Rattle.twkb_outline.specs.Growing.{id_in};
-ghost use Rattle.twkb_outline.specs.Admitting.{Admits};
+ghost use Rattle.twkb_body.specs.Outline.{OnMetadata, begins};
+ghost use Rattle.twkb_body.specs.Growing.{id_in};
+ghost use Rattle.twkb_body.specs.Admitting.{Admits};
 ghost use Rattle.twkb_body.specs.Head.{head_of, kind_of, IsHeadAt};
 ghost use Rattle.twkb_engine.specs.declared.next_item.NextItem.TheVariants as next;
 
@@ -20,9 +20,10 @@ use crate::next_item::NextItem;
 use crate::span_notes::SpanNotes;
 use crate::stop::Stop;
 use std::alloc::AllocError;
+use twkb_body::front_header;
 use twkb_flat::Flat;
-use twkb_front::{front_header, origin};
 use twkb_grammar::{Metadata, TypeByte};
+use twkb_points::Pt;
 use twkb_tree::Kind;
 
 // Numbers of a box after the first.
@@ -53,7 +54,7 @@ impl Engine {
     {
         self.head.kind = byte.kind();
         self.head.precision = byte.precision();
-        self.position = origin();
+        self.position = Pt::origin();
         spans.begin(self.offset(), self.points, byte)
     }
 

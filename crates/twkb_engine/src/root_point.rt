@@ -1,14 +1,14 @@
 //! A blob that is a single point, complete at the start of the bytes.
 ghost use Rattle.std.specs.Prelude.{◌≡◌, ◌+◌, ◌-◌, ◌≤◌, ◌^◌, [], true, Ok, length, IfOk, IfSome, OnErr, ◌<◌};
 ghost use Rattle.twkb_grammar.specs.PlainReader.{is_exact};
-ghost use Rattle.twkb_front.specs.Whole.{WholePoint};
+ghost use Rattle.twkb_body.specs.Whole.{WholePoint};
 ghost use Rattle.twkb_engine.specs.Notes.{point_span};
 
 use crate::engine::Engine;
 use crate::span_notes::SpanNotes;
 use std::alloc::AllocError;
+use twkb_body::{SIZED, Whole, whole_point};
 use twkb_flat::Flat;
-use twkb_front::{SIZED, Whole, whole_point};
 use twkb_grammar::{Span, TypeByte};
 use twkb_tree::Kind;
 

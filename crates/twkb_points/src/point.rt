@@ -1,6 +1,6 @@
 //! A point with coordinates in range.
 ghost use Rattle.std.specs.Prelude.{◌≡◌, ◌↔◌, ◌+ℤ◌, IsTrue, IsSome, IfSome};
-ghost use Rattle.twkb_points.specs.Point.{IsCoordinate, IsInRange, IsInnerCoordinate, IsInner, point_at, moved_by};
+ghost use Rattle.twkb_points.specs.Point.{IsCoordinate, IsInRange, IsInnerCoordinate, IsInner, point_at, origin, moved_by};
 
 use std::marker::Model;
 
@@ -50,6 +50,13 @@ impl Pt {
         }
     }
 
+    /// (0, 0), from which the first point of a geometry counts. Takes no memory.
+    pub fn origin() -> Pt
+        ensures { result ≡ origin }
+    {
+        Pt::at(0, 0)
+    }
+
     /// Whether both coordinates are from -2^61 to 2^61 - 1. Takes no memory.
     #[inline(always)]
     pub fn is_inner(&self) -> bool
@@ -84,6 +91,26 @@ impl Pt {
     {
         let Pt { x, y } = self;
         let x = moved_coordinate(x, dx)?;
+        let y = moved_coordinate(y, dy)?;
+        Some(Pt { x, y })
+    }
+
+    /// The point that lies `dx` from this one along x, or `None` if that is out of range. Takes no memory.
+    pub fn moved_x(self, dx: i64) -> Option<Pt>
+        ensures range { IsSome result ↔ IsCoordinate (self.x +ℤ dx) }
+        ensures moved { IfSome result (λ to. to ≡ point_at (self.x +ℤ dx) self.y) }
+    {
+        let Pt { x, y } = self;
+        let x = moved_coordinate(x, dx)?;
+        Some(Pt { x, y })
+    }
+
+    /// The point that lies `dy` from this one along y, or `None` if that is out of range. Takes no memory.
+    pub fn moved_y(self, dy: i64) -> Option<Pt>
+        ensures range { IsSome result ↔ IsCoordinate (self.y +ℤ dy) }
+        ensures moved { IfSome result (λ to. to ≡ point_at self.x (self.y +ℤ dy)) }
+    {
+        let Pt { x, y } = self;
         let y = moved_coordinate(y, dy)?;
         Some(Pt { x, y })
     }

@@ -1,7 +1,7 @@
 use Rattle.std.proofs.Common.{◌<◌, ◌≤◌, ◌^◌, arith, rules, ap, length, subst}
 use Rattle.std.proofs.lemmas.List.{length-drop, take_rest}
 use Rattle.twkb_num.proofs.BlockLemmas.{ends_after, no_ends}
-use Rattle.twkb_front.specs.Front.{PointsInFront}
+use Rattle.twkb_body.specs.Front.{PointsInFront}
 use Rattle.twkb_body.proofs.PointRuns.{list_none, row_err}
 use Rattle.twkb_body.proofs.PointLists.{line_longer_by, list_eight_more, list_points_stop, points_within}
 use Rattle.twkb_body.proofs.list_points.take_eights.Goals as goal

@@ -1,8 +1,8 @@
 use Rattle.std.proofs.Common.{◌≡◌, ◌-◌, ◌∙◌, [], suc, false, Some, None, sym, ap, arith, rules}
 use Rattle.std.specs.Prelude.{if◌then◌else◌}
 use Rattle.twkb_grammar.specs.Bits.{bit}
-use Rattle.twkb_outline.specs.Outline.{members_open}
-use Rattle.twkb_outline.specs.Growing.{Nothing, applied}
+use Rattle.twkb_body.specs.Outline.{members_open}
+use Rattle.twkb_body.specs.Growing.{Nothing, applied}
 use Rattle.twkb_body.specs.Head.{head_of, many_of}
 use Rattle.twkb_body.specs.Ids.{ids_of}
 use Rattle.twkb_engine.specs.Collections.{groups_of}

@@ -2,7 +2,7 @@ use Rattle.std.proofs.Common.{◌≡◌, [], refl, ap, arith}
 use Rattle.twkb_num.specs.Varint.{varint_of}
 use Rattle.twkb_num.proofs.VarintLemmas.{IsVarint-varint_of}
 use Rattle.twkb_grammar.specs.Roles as role
-use Rattle.twkb_outline.specs.Outline.{OnOption}
+use Rattle.twkb_body.specs.Outline.{OnOption}
 use Rattle.twkb_body.specs.Head.{head_of, kind_of}
 use Rattle.twkb_engine.specs.State.{boxes}
 use Rattle.twkb_engine.specs.declared.next_item.NextItem.TheVariants as next

@@ -1,7 +1,7 @@
 use Rattle.std.proofs.Common.{Result, sym, subst}
 use Rattle.twkb_grammar.specs.Fault.{Reason}
-use Rattle.twkb_outline.specs.Outline.{Outline}
-use Rattle.twkb_outline.specs.Growing.{Nothing}
+use Rattle.twkb_body.specs.Outline.{Outline}
+use Rattle.twkb_body.specs.Growing.{Nothing}
 use Rattle.twkb_engine.specs.Taking.{Lands}
 use Rattle.twkb_engine.proofs.Ends.{none_ended}
 use Rattle.twkb_engine.proofs.engine.Engine.end_value.Goals as goal

@@ -1,6 +1,6 @@
 use Rattle.std.proofs.Common.{rules, ◌∙◌, ◌+◌, ◌-◌, ◌≤◌, length, take, drop, refl, subst, arith, true, false, Ok, Err}
 use Rattle.std.proofs.lemmas.Result.{err_from_is_err_and}
-use Rattle.twkb_outline.proofs.Pieces.{one_within}
+use Rattle.twkb_body.proofs.Pieces.{one_within}
 use Rattle.twkb_engine.specs.State.{allowance_of}
 use Rattle.twkb_engine.specs.Standing.{FedBy, notes_at}
 use Rattle.twkb_engine.proofs.Feeds.{none_fed, joined, room_left, alive_left, used_within}

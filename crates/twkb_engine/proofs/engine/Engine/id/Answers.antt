@@ -1,13 +1,13 @@
 use Rattle.std.proofs.Common.{◌≡◌, suc, ◌<◌, ◌≤◌, ◌^◌, ◌∙◌, [], ◌∷◌, ◌++◌, length, true, Ok, Some, refl, sym, ap, subst, arith, rules, SFits, w64, to_z-of_z}
 use Rattle.std.proofs.lemmas.Result.{err_from_is_err_and}
-use Rattle.twkb_front.proofs.Steps.{unzigzag_back}
+use Rattle.twkb_body.proofs.Steps.{unzigzag_back}
 use Rattle.twkb_num.specs.Zigzag.{unzigzag_of}
 use Rattle.twkb_num.specs.Varint.{varint_of}
 use Rattle.twkb_num.proofs.VarintLemmas.{IsVarint-varint_of}
 use Rattle.twkb_grammar.specs.Roles as role
-use Rattle.twkb_outline.specs.Outline.{step_role, members_open}
-use Rattle.twkb_outline.specs.Growing.{applied}
-use Rattle.twkb_outline.specs.Admitting.{Admits}
+use Rattle.twkb_body.specs.Outline.{step_role, members_open}
+use Rattle.twkb_body.specs.Growing.{applied}
+use Rattle.twkb_body.specs.Admitting.{Admits}
 use Rattle.twkb_body.specs.Head.{head_of, many_of}
 use Rattle.twkb_body.specs.Ids.{ids_of, ids_read}
 use Rattle.twkb_engine.specs.State.{step_at}

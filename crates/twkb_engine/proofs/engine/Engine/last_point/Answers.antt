@@ -1,6 +1,6 @@
 use Rattle.std.proofs.Common.{sym, subst, ap, ◌∙◌}
-use Rattle.twkb_outline.specs.Growing.{Change, applied}
-use Rattle.twkb_outline.specs.Admitting.{Admits}
+use Rattle.twkb_body.specs.Growing.{Change, applied}
+use Rattle.twkb_body.specs.Admitting.{Admits}
 use Rattle.twkb_engine.specs.Fits.{lists_of}
 use Rattle.twkb_engine.specs.Taking.{past_value, point_row}
 use Rattle.twkb_engine.proofs.Ends.{past_lists, lands_passed, lands_brought, lands_stopped, lands_unkept}

@@ -5,9 +5,9 @@ use Rattle.twkb_num.specs.Varint.{varint_of}
 use Rattle.twkb_num.proofs.VarintLemmas.{IsVarint-varint_of}
 use Rattle.twkb_grammar.specs.Roles as role
 use Rattle.twkb_grammar.specs.Machine.{first_count}
-use Rattle.twkb_outline.specs.Outline.{step_role}
-use Rattle.twkb_outline.specs.Growing.{Nothing, applied}
-use Rattle.twkb_outline.specs.Admitting.{Admits}
+use Rattle.twkb_body.specs.Outline.{step_role}
+use Rattle.twkb_body.specs.Growing.{Nothing, applied}
+use Rattle.twkb_body.specs.Admitting.{Admits}
 use Rattle.twkb_body.specs.Head.{many_of}
 use Rattle.twkb_engine.specs.State.{step_at}
 use Rattle.twkb_engine.specs.Collections.{groups_of}

@@ -5,8 +5,8 @@ use Rattle.twkb_grammar.specs.Fault.{announces_point}
 use Rattle.twkb_grammar.specs.Machine.{kind_number}
 use Rattle.twkb_grammar.specs.PlainReader.{objection}
 use Rattle.twkb_grammar.specs.Roles as role
-use Rattle.twkb_outline.specs.Outline.{step_role}
-use Rattle.twkb_outline.specs.Admitting.{Admits}
+use Rattle.twkb_body.specs.Outline.{step_role}
+use Rattle.twkb_body.specs.Admitting.{Admits}
 use Rattle.twkb_body.specs.Head.{kind_of}
 use Rattle.twkb_engine.specs.State.{step_at, sums_of, size_roles}
 use Rattle.twkb_engine.specs.Collections.{groups_of}

@@ -1,5 +1,5 @@
 use Rattle.std.proofs.Common.{[]}
-use Rattle.twkb_outline.specs.Growing.{NewRow}
+use Rattle.twkb_body.specs.Growing.{NewRow}
 use Rattle.twkb_flat.specs.Rows.{row_with}
 use Rattle.twkb_engine.specs.Fits.{lists_of}
 use Rattle.twkb_engine.specs.Taking.{past_value}

@@ -2,7 +2,7 @@ use Rattle.std.proofs.Common.{◌∙◌, sym, ap, arith, refl, []}
 use Rattle.twkb_grammar.specs.Roles as role
 use Rattle.twkb_grammar.specs.Machine.{listed}
 use Rattle.twkb_flat.specs.Rows.{row_with}
-use Rattle.twkb_outline.specs.Growing.{Change, applied}
+use Rattle.twkb_body.specs.Growing.{Change, applied}
 use Rattle.twkb_engine.specs.Taking.{IsFree}
 use Rattle.twkb_engine.specs.State.{sums_of}
 use Rattle.twkb_engine.proofs.Parts.{takes_landed}

@@ -4,10 +4,10 @@ use Rattle.twkb_num.specs.Zigzag.{unzigzag_of}
 use Rattle.twkb_grammar.specs.Fault.{announces_point}
 use Rattle.twkb_grammar.specs.Machine as machine
 use Rattle.twkb_grammar.specs.Machine.{kind_at, kind_number}
-use Rattle.twkb_outline.specs.Outline.{Outline, begins}
-use Rattle.twkb_outline.specs.Growing.{id_in}
-use Rattle.twkb_outline.proofs.Judging.{on_err}
-use Rattle.twkb_front.specs.Parts.{sized_head}
+use Rattle.twkb_body.specs.Outline.{Outline, begins}
+use Rattle.twkb_body.specs.Growing.{id_in}
+use Rattle.twkb_body.proofs.Judging.{on_err}
+use Rattle.twkb_body.specs.Parts.{sized_head}
 use Rattle.twkb_body.specs.Head.{kind_of, IsHeadAt}
 use Rattle.twkb_body.specs.declared.head.Head as place
 use Rattle.twkb_engine.specs.State.{outline_in}

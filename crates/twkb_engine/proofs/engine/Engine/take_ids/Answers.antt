@@ -1,5 +1,5 @@
 use Rattle.std.proofs.Common.{refl, arith}
-use Rattle.twkb_outline.proofs.Judging.{on_err}
+use Rattle.twkb_body.proofs.Judging.{on_err}
 use Rattle.twkb_engine.proofs.Many.{stays_put, ids_stop, ids_led}
 use Rattle.twkb_engine.proofs.engine.Engine.take_ids.Goals as goal
 

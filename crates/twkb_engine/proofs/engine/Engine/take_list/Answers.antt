@@ -1,6 +1,6 @@
 use Rattle.std.proofs.Common.{refl, take}
 use Rattle.std.proofs.lemmas.List.{length-take-le}
-use Rattle.twkb_outline.proofs.Judging.{on_err}
+use Rattle.twkb_body.proofs.Judging.{on_err}
 use Rattle.twkb_engine.proofs.Many.{stays_put, list_stops, list_led}
 use Rattle.twkb_engine.proofs.engine.Engine.take_list.Goals as goal
 

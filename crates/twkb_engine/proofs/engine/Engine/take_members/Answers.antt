@@ -1,7 +1,7 @@
 use Rattle.std.proofs.Common.{rules, ◌≡◌, refl, take, arith}
 use Rattle.std.proofs.lemmas.List.{length-take-le}
 use Rattle.twkb_tree.specs.declared.kind.Kind.TheVariants as kinds
-use Rattle.twkb_outline.proofs.Judging.{on_err}
+use Rattle.twkb_body.proofs.Judging.{on_err}
 use Rattle.twkb_engine.proofs.Many.{stays_put, members_stop, members_led}
 use Rattle.twkb_engine.proofs.engine.Engine.take_members.Goals as goal
 

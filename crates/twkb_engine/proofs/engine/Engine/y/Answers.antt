@@ -1,13 +1,14 @@
-use Rattle.std.proofs.Common.{◌≡◌, ◌∙◌, sym, ap, arith, rules, refl, SFits, to_z, of_z, w64}
+use Rattle.std.proofs.Common.{◌≡◌, ◌∙◌, sym, ap, arith, rules, refl, SFits, to_z, of_z, w64, inl}
 use Rattle.std.proofs.lemmas.Int.{to_z-of_z}
 use Rattle.twkb_num.specs.Zigzag.{unzigzag_of}
 use Rattle.twkb_grammar.specs.Roles as role
 use Rattle.twkb_grammar.specs.Fault.{moved}
-use Rattle.twkb_outline.specs.Growing.{Change, applied}
+use Rattle.twkb_body.specs.Growing.{Change, applied}
 use Rattle.twkb_engine.specs.Taking.{IsFree, way_of}
 use Rattle.twkb_engine.specs.State.{sums_of}
-use Rattle.twkb_engine.proofs.BodyItems.{unzigzagged, y_free, y_there, item_unkept, body_passed, y_sums, y_last, y_goes_on, y_brings, y_admits, y_added, y_line_admits}
+use Rattle.twkb_engine.proofs.BodyItems.{unzigzagged, y_free, y_there, item_unkept, body_passed, y_sums, y_last, y_goes_on, y_brings, y_admits, y_added, y_line_admits, y_refused}
 use Rattle.twkb_engine.proofs.Parts.{takes_landed}
+use Rattle.std.proofs.lemmas.Bool.{false≢true}
 use Rattle.twkb_engine.proofs.engine.Engine.y.Goals as goal
 
 pub add_point-requires-clause-line : goal.add_point-requires-clause-line
@@ -71,3 +72,9 @@ returns-clause-taken g c =
     (y_last d c.args.number c.args.width c.requires.next (omega (arith, c.if-self-gt0.false)))
     (y_brings d c.args.number c.args.width c.requires.next c.in-Some.position c.args.flat.now there c.requires.alive)
     (y_sums (sums_of d) c.args.number c.args.width c.in-Some.position there) (record { limits = refl; start = refl }) c.last_point.ensures.shut
+
+pub returns-in_default-clause-taken : goal.returns-in_default-clause-taken
+returns-in_default-clause-taken g c =
+    let fits : SFits w64 c.unzigzag.result = search rules in
+    let step : to_z w64 (of_z w64 c.unzigzag.result) ≡ unzigzag_of c.args.number = to_z-of_z w64 c.unzigzag.result fits ∙ unzigzagged c.unzigzag.result c.args.number c.unzigzag.ensures in
+    inl (y_refused c.args.self.now c.args.number _ step (λ inside. false≢true (c.in_default.ensures.range.1 inside)), refl)

@@ -1,0 +1,58 @@
+-- The notes of spans are determined by the outline.
+use Rattle.std.proofs.Common.{◌≡◌, ℕ, zero, suc, ◌<◌, [], ◌∷◌, length, take, get_or, refl, sym, ap, arith}
+use Rattle.std.proofs.lemmas.List.{length-map}
+use Rattle.std.specs.Prelude.{List}
+use Rattle.twkb_grammar.specs.Noting.{Notes, note_byte, IsCalm}
+use Rattle.twkb_grammar.specs.Machine.{Frame, Phase, AtHeader, AtMetadata, AtOption, AtCount, AtId, AtBody, AtEnd, Finished, Want, WantY, Done}
+use Rattle.twkb_grammar.specs.Reading.{frame_count}
+use Rattle.twkb_body.specs.Outline.{Step, group_of, step_of, outline_of}
+use Rattle.twkb_body.specs.Reading.{open_count}
+use Rattle.twkb_body.specs.Noting.{note_step, note_first, IsCalmStep}
+
+pub same_note : (ph : Phase) (offset points byte : ℕ) (w : Notes) → note_byte ph offset points byte w ≡ note_step (step_of ph) offset points byte w
+same_note AtHeader offset points byte w = refl
+same_note (AtMetadata k p) offset points byte w = refl
+same_note (AtOption k h r rs) offset points byte w = refl
+same_note (AtCount m h) offset points byte w = refl
+same_note (AtId m h n ids left) offset points byte w = refl
+same_note (AtBody h f ids (Want d a)) offset points byte w = refl
+same_note (AtBody h f ids (WantY a)) offset points byte w = refl
+same_note (AtBody h f ids (Done v)) offset points byte w = refl
+same_note (AtEnd h g) offset points byte w = refl
+same_note (Finished g) offset points byte w = refl
+
+pub same_calm : (ph : Phase) → IsCalmStep (step_of ph) → IsCalm ph
+same_calm (AtOption k h r rs) c = c
+same_calm AtHeader c = tt
+same_calm (AtMetadata k p) c = tt
+same_calm (AtCount m h) c = tt
+same_calm (AtId m h n ids left) c = tt
+same_calm (AtBody h f ids b) c = tt
+same_calm (AtEnd h g) c = tt
+same_calm (Finished g) c = tt
+
+pub same_count : (fs : List Frame) (ph : Phase) → frame_count (fs, ph) ≡ open_count (outline_of (fs, ph))
+same_count fs AtHeader = sym (length-map fs group_of)
+same_count fs (Finished g) = sym (length-map fs group_of)
+same_count fs (AtMetadata k p) = ap suc (sym (length-map fs group_of))
+same_count fs (AtOption k h r rs) = ap suc (sym (length-map fs group_of))
+same_count fs (AtCount m h) = ap suc (sym (length-map fs group_of))
+same_count fs (AtId m h n ids left) = ap suc (sym (length-map fs group_of))
+same_count fs (AtBody h f ids (Want d a)) = ap suc (sym (length-map fs group_of))
+same_count fs (AtBody h f ids (WantY a)) = ap suc (sym (length-map fs group_of))
+same_count fs (AtBody h f ids (Done v)) = ap suc (sym (length-map fs group_of))
+same_count fs (AtEnd h g) = ap suc (sym (length-map fs group_of))
+
+-- ---- the first of some bytes
+
+module _ (t : Step) (offset points : ℕ) where
+  -- nothing is noted if no byte adds a note
+  pub silent : (bytes : List ℕ) (w : Notes) → ((byte : ℕ) → note_step t offset points byte w ≡ w) → note_first t offset points bytes w ≡ w
+  silent [] w h = refl
+  silent (byte ∷ bytes) w h = h byte
+
+  -- the first byte of a prefix
+  pub first_in_front : (count : ℕ) (rest : List ℕ) (w : Notes) → 0 < count → 0 < length rest → note_step t offset points (get_or rest 0 0) w ≡ note_first t offset points (take count rest) w
+  first_in_front zero rest w some more = absurd (omega (arith, some))
+  first_in_front (suc count) [] w some more = absurd (omega (arith, more))
+  first_in_front (suc count) (x ∷ xs) w some more = refl

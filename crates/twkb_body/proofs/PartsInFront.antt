@@ -1,0 +1,122 @@
+-- Optional parts of a header that are complete at the start of bytes.
+use Rattle.std.proofs.Common.{◌≡◌, ℕ, zero, suc, ◌+◌, ◌-◌, ◌<◌, ◌≤◌, List, [], ◌∷◌, ◌++◌, length, take, drop, true, false, ℤ, Option, Some, None, refl, sym, ◌∙◌, ap, subst, arith}
+use Rattle.std.proofs.Math.Seq.{take-suc}
+use Rattle.std.proofs.lemmas.List.{length-take-le, length-drop, take_rest}
+use Rattle.std.specs.Prelude.{get_or}
+use Rattle.twkb_grammar.specs.Bits.{bit}
+use Rattle.twkb_tree.specs.Limits.{Allowance}
+use Rattle.twkb_tree.specs.Rows.{Row}
+use Rattle.twkb_grammar.specs.Roles.{Role, Metadata, Extended, Size, Box, where_set}
+use Rattle.twkb_grammar.specs.Fault.{points_by}
+use Rattle.twkb_grammar.specs.PlainReader.{objection}
+use Rattle.twkb_grammar.specs.Noting.{Notes, note_metadata}
+use Rattle.twkb_grammar.specs.Machine.{Head, Kind, Sums, kind_number, asked}
+use Rattle.twkb_body.specs.Outline.{Group, Outline, Step, OnMetadata, begins}
+use Rattle.twkb_body.specs.Noting.{NotedOutline, note_first}
+use Rattle.twkb_body.proofs.Notings.{first_in_front}
+use Rattle.twkb_body.specs.HeaderParts.{bare_head, AreNumberParts}
+use Rattle.twkb_body.proofs.HeaderParts.{one_part, parts_join, sums_behind_header, header_read}
+use Rattle.twkb_body.proofs.Pieces.{used_join}
+use Rattle.twkb_body.specs.Front.{NumberInFront}
+use Rattle.twkb_body.specs.Parts.{sides, sized_head, SidesInFront, BoxInFront, SizeInFront, PartsInFront}
+
+-- ---- the sides of a box
+
+-- one more after some
+sides_push : (count : ℕ) → sides count ++ Box ∷ [] ≡ sides (suc count)
+sides_push zero = refl
+sides_push (suc count) = ap (λ rs. Box ∷ rs) (sides_push count)
+
+pub sides_none : (bytes : List ℕ) → SidesInFront 0 bytes 0
+sides_none bytes = record { within = omega arith; parts = λ h at. (refl, refl) }
+
+pub sides_more : (count : ℕ) (bytes : List ℕ) (used n width : ℕ) → SidesInFront count bytes used → NumberInFront (take (length bytes - used) (drop used bytes)) n width → SidesInFront (count + 1) bytes (used + width)
+sides_more count bytes used n width first number =
+    let left : List ℕ = take (length bytes - used) (drop used bytes) in
+    let more : sides count ++ Box ∷ [] ≡ sides (count + 1) = let one : suc count ≡ count + 1 = omega arith in sides_push count ∙ ap sides one in
+    record {
+      within = (let so_far = first.within in let few = number.within in omega (arith, so_far, subst (λ l. width ≤ length l) (take_rest bytes used) few, length-drop used bytes));
+      parts = λ h at.
+          subst (λ l. AreNumberParts h at (sides (count + 1)) l h) (sym (used_join bytes used width))
+          (subst (λ rs. AreNumberParts h at rs (take used bytes ++ take width left) h) more
+          (parts_join h h h at (sides count) (Box ∷ []) (take used bytes) (take width left) (first.parts h at) (one_part h (at + length (take used bytes)) n Box (take width left) tt number.spelled)));
+    }
+
+pub box_whole : (meta : ℕ) (bytes : List ℕ) (used : ℕ) → bit meta 0 ≡ true → SidesInFront 4 bytes used → BoxInFront meta bytes used
+box_whole meta bytes used has s = record { within = s.within; parts = λ h at. subst (λ b. AreNumberParts h at (where_set b (sides 4)) (take used bytes) h) (sym has) (s.parts h at) }
+
+pub no_box : (meta : ℕ) (bytes : List ℕ) → bit meta 0 ≡ false → BoxInFront meta bytes 0
+no_box meta bytes none = record { within = omega arith; parts = λ h at. subst (λ b. AreNumberParts h at (where_set b (sides 4)) [] h) (sym none) (refl, refl) }
+
+-- ---- the size
+
+pub size_whole : (meta : ℕ) (bytes : List ℕ) (n width : ℕ) → bit meta 1 ≡ true → NumberInFront bytes n width → SizeInFront meta bytes (Some n) width
+size_whole meta bytes n width has f = record {
+  within = f.within;
+  parts = λ precision at.
+      let long : length (take width bytes) ≡ width = length-take-le width bytes f.within in
+      let part = one_part (bare_head precision meta at) at n Size (take width bytes) tt f.spelled in
+      subst (λ b. AreNumberParts (bare_head precision meta at) at (where_set b (Size ∷ [])) (take width bytes) (sized_head precision meta (Some n) (at + width))) (sym has)
+      (subst (λ w. AreNumberParts (bare_head precision meta at) at (Size ∷ []) (take width bytes) (sized_head precision meta (Some n) (at + w))) long part);
+}
+
+pub no_size : (meta : ℕ) (bytes : List ℕ) → bit meta 1 ≡ false → SizeInFront meta bytes None 0
+no_size meta bytes none = record {
+  within = omega arith;
+  parts = λ precision at.
+      let here : at + 0 ≡ at = omega arith in
+      subst (λ b. AreNumberParts (bare_head precision meta at) at (where_set b (Size ∷ [])) [] (sized_head precision meta None (at + 0))) (sym none) (refl, ap (sized_head precision meta None) here);
+}
+
+-- ---- all parts
+
+pub parts_whole : (meta : ℕ) (bytes : List ℕ) (size : Option ℕ) (from used : ℕ) → bit meta 3 ≡ false → SizeInFront meta bytes size from → BoxInFront meta (take (length bytes - from) (drop from bytes)) used → PartsInFront meta bytes size from (from + used)
+parts_whole meta bytes size from used none first next =
+    let left : List ℕ = take (length bytes - from) (drop from bytes) in
+    record {
+      within = (let so_far = first.within in let few = next.within in omega (arith, so_far, subst (λ l. used ≤ length l) (take_rest bytes from) few, length-drop from bytes));
+      ordered = omega arith;
+      parts = λ precision at.
+          let h = bare_head precision meta at in
+          let to = sized_head precision meta size (at + from) in
+          let rest : List Role = where_set (bit meta 1) (Size ∷ []) ++ where_set (bit meta 0) (sides 4) in
+          let both = parts_join h to to at (where_set (bit meta 1) (Size ∷ [])) (where_set (bit meta 0) (sides 4)) (take from bytes) (take used left) (first.parts precision at) (next.parts to (at + length (take from bytes))) in
+          subst (λ l. AreNumberParts h at (asked meta) l to) (sym (used_join bytes from used))
+          (subst (λ b. AreNumberParts h at (where_set b (Extended ∷ []) ++ rest) (take from bytes ++ take used left) to) (sym none) both);
+    }
+
+-- ---- a reader after a metadata byte
+
+-- a metadata byte at the start, and all parts that it asks for
+pub read_ahead : (limits : Allowance) (front : List ℕ) (e : Sums) (gs : List Group) (k : Kind) (precision : ℤ) (rows : List Row) (told : ℕ → Notes) (rest : List ℕ) (size : Option ℕ) (from used points : ℕ) → (let meta : ℕ = get_or rest 0 0 in 0 < length rest → meta < 256 → bit meta 4 ≡ false
+    → objection limits e (Metadata (kind_number k)) meta ≡ None → points ≡ e.points + points_by (Metadata (kind_number k)) meta → PartsInFront meta (take (length rest - 1) (drop 1 rest)) size from used → NotedOutline limits front e (gs, OnMetadata k precision) rows told
+    → NotedOutline limits (front ++ take (1 + used) rest) (record { bytes = e.bytes + (1 + used); position = e.position; nodes = e.nodes; points = points }) (gs, begins k (sized_head precision meta size ((e.bytes + 1) + from))) rows (λ start. note_metadata meta (told start)))
+read_ahead limits front e gs k precision rows told rest size from used points some low full free announced p there =
+    let meta : ℕ = get_or rest 0 0 in
+    let left : List ℕ = take (length rest - 1) (drop 1 rest) in
+    let parts : List ℕ = take used left in
+    let whole : meta ∷ parts ≡ take (1 + used) rest = ap (λ l. l ++ parts) (sym (take-suc rest 0 0 some)) ∙ sym (used_join rest 1 used) in
+    let long : length parts ≡ used = length-take-le used left p.within in
+    let bytes : e.bytes + suc (length parts) ≡ e.bytes + (1 + used) = omega (arith, long) in
+    let sums : sums_behind_header e k meta parts ≡ record { bytes = e.bytes + (1 + used); position = e.position; nodes = e.nodes; points = points } = λ t. record { bytes = bytes t; position = e.position; nodes = e.nodes; points = sym announced t } in
+    let o : Outline = (gs, begins k (sized_head precision meta size ((e.bytes + 1) + from))) in
+    let noted : ℕ → Notes = λ start. note_metadata meta (told start) in
+    let read = header_read limits front e gs k precision rows told meta parts size ((e.bytes + 1) + from) low full free (p.parts precision (e.bytes + 1)) there in
+    subst (λ l. NotedOutline limits (front ++ l) (record { bytes = e.bytes + (1 + used); position = e.position; nodes = e.nodes; points = points }) o rows noted) whole
+    (subst (λ s. NotedOutline limits (front ++ meta ∷ parts) s o rows noted) sums read)
+
+-- a reader after a header, if the code keeps the byte and a header of its own
+pub header_ahead : (limits : Allowance) (front : List ℕ) (e : Sums) (gs : List Group) (k : Kind) (t : Step) (precision : ℤ) (rows : List Row) (told : ℕ → Notes) (rest : List ℕ) (meta : ℕ) (own : Head) (size : Option ℕ) (from used points : ℕ) → 0 < length rest → get_or rest 0 0 < 256 → meta ≡ get_or rest 0 0
+    → bit meta 4 ≡ false → objection limits e (Metadata (kind_number k)) meta ≡ None → points ≡ e.points + points_by (Metadata (kind_number k)) meta → PartsInFront meta (take (length rest - 1) (drop 1 rest)) size from used
+    → own ≡ bare_head precision meta (e.bytes + 1) → t ≡ OnMetadata k precision → NotedOutline limits front e (gs, t) rows told
+    → NotedOutline limits (front ++ take (1 + used) rest) (record { bytes = e.bytes + (1 + used); position = e.position; nodes = e.nodes; points = points }) (gs, begins k (sized_head own.precision own.meta size ((e.bytes + 1) + from))) rows (λ start. note_first t (start + e.bytes) e.points (take (1 + used) rest) (told start))
+header_ahead limits front e gs k t precision rows told rest meta own size from used points some low byte full free announced p head step there =
+    let bytes : List ℕ = take (1 + used) rest in
+    let summed : Sums = record { bytes = e.bytes + (1 + used); position = e.position; nodes = e.nodes; points = points } in
+    let first : ℕ = get_or rest 0 0 in
+    let at = subst (λ q. NotedOutline limits front e (gs, q) rows told) step there in
+    let read = read_ahead limits front e gs k precision rows told rest size from used points some low (rw byte at full) (rw byte at free) (rw byte at announced) (rw byte at p) at in
+    let same : sized_head precision first size ((e.bytes + 1) + from) ≡ sized_head own.precision own.meta size ((e.bytes + 1) + from) = λ i. sized_head (sym (ap (λ (h : Head). h.precision) head) i) ((sym byte ∙ sym (ap (λ (h : Head). h.meta) head)) i) size ((e.bytes + 1) + from) in
+    let goes = subst (λ h. NotedOutline limits (front ++ bytes) summed (gs, begins k h) rows (λ start. note_metadata first (told start))) same read in
+    let noted = λ (start : ℕ). first_in_front (OnMetadata k precision) (start + e.bytes) e.points (1 + used) rest (told start) (omega arith) some ∙ ap (λ q. note_first q (start + e.bytes) e.points bytes (told start)) (sym step) in
+    record { outlined = goes.outlined; notes = λ start. goes.notes start ∙ noted start }

@@ -1,0 +1,43 @@
+-- What is complete at the start of bytes.
+use Rattle.std.specs.Prelude.{◌≡◌, true, ◌+ℤ◌, ℕ, ◌+◌, ◌<◌, ◌≤◌, List, [], ◌∷◌, length, take, drop}
+use Rattle.twkb_num.specs.Varint.{IsVarint}
+use Rattle.twkb_num.specs.Zigzag.{unzigzag_of}
+use Rattle.twkb_points.specs.Point.{Point, point_at}
+use Rattle.twkb_grammar.specs.PlainReader.{in_range}
+use Rattle.twkb_body.specs.Reading.{Pair}
+
+-- so many of the bytes spell this number
+pub record NumberInFront (bytes : List ℕ) (n count : ℕ) : Type 0 where
+  pub some : 0 < count
+  pub within : count ≤ length bytes
+  pub spelled : IsVarint (take count bytes) n
+
+-- so many of the bytes are the two numbers of a point
+pub record PointInFront (from : Point) (bytes : List ℕ) (to : Point) (count : ℕ) : Type 0 where
+  pub some : 0 < count
+  pub within : count ≤ length bytes
+  pub pair : Pair from (take count bytes) to
+
+-- so many of the bytes are two points, the second by its steps from the first
+pub record TwoInFront (from : Point) (bytes : List ℕ) (first second : Point) (count : ℕ) : Type 0 where
+  pub first_count : ℕ
+  pub second_count : ℕ
+  pub all : count ≡ first_count + second_count
+  pub leads : PointInFront from bytes first first_count
+  pub goes_on : PointInFront first (drop first_count bytes) second second_count
+
+-- so many of the bytes are these points, each by its steps from the one before it
+abbrev pub PointsInFront : Point → List ℕ → List Point → ℕ → Type 0
+PointsInFront from bytes [] count = count ≡ 0
+PointsInFront from bytes (p ∷ ps) count = (first : ℕ) × (rest : ℕ) × (count ≡ first + rest) × PointInFront from bytes p first × PointsInFront p (drop first bytes) ps rest
+
+-- the last of these points, or if there are none the point before them
+abbrev pub last_of : Point → List Point → Point
+last_of from [] = from
+last_of from (p ∷ ps) = last_of p ps
+
+-- two numbers spell the steps from one point to another, both in range
+pub record StepsTo (from : Point) (x y : ℕ) (to : Point) : Type 0 where
+  pub x_kept : in_range (from.x +ℤ unzigzag_of x) ≡ true
+  pub y_kept : in_range (from.y +ℤ unzigzag_of y) ≡ true
+  pub leads : to ≡ point_at (from.x +ℤ unzigzag_of x) (from.y +ℤ unzigzag_of y)

@@ -1,0 +1,95 @@
+-- The state of a reader that keeps an outline and rows, and no part of the tree.
+use Rattle.std.specs.Prelude.{◌+ℤ◌, true, ◌≡◌, ℕ, suc, ◌+◌, ◌++◌, List, length, Option, Some, Result, Ok, Err, ⊤}
+use Rattle.twkb_num.specs.Varint.{IsVarint}
+use Rattle.twkb_num.specs.Zigzag.{unzigzag_of}
+use Rattle.twkb_points.specs.Point.{Point, point_at}
+use Rattle.twkb_tree.specs.Tree.{Ids}
+use Rattle.twkb_tree.specs.Limits.{Allowance}
+use Rattle.twkb_tree.specs.Rows.{Row, first_id}
+use Rattle.twkb_grammar.specs.Roles.{Role, Item}
+use Rattle.twkb_grammar.specs.Fault.{Reason, FirstFault, moved}
+use Rattle.twkb_grammar.specs.Machine.{Form, Head, depth_of, Sums, added, Stack}
+use Rattle.twkb_grammar.specs.PlainReader.{in_range, objection}
+use Rattle.twkb_grammar.specs.Reading.{Reached, IsGiven}
+use Rattle.twkb_body.specs.Outline.{Group, Spot, Wanted, WantedY, Full, Step, OnHeader, OnBody, OnFinished, Outline, outline_of, outline_role, outline_advanced, shut}
+use Rattle.twkb_body.specs.Growing.{rows_so_far, Change, change_of, applied, point_change, id_in}
+
+-- The bytes are complete items that the machine ran through within the limits; these are the sums
+-- after them, the outline of its stack, and the rows of the stack.
+pub record Outlined (limits : Allowance) (bytes : List ℕ) (e : Sums) (o : Outline) (rs : List Row) : Type 0 where
+  pub stack : Stack
+  pub reached : Reached limits bytes e stack
+  pub outline : outline_of stack ≡ o
+  pub rows : rows_so_far stack ≡ rs
+
+-- The outline after an item, before the ends that follow it.
+abbrev pub outline_after : Sums → Item → Outline → Outline
+outline_after e i o = outline_advanced (e.bytes + length i.bytes) i.number o
+
+-- The change of the item.
+abbrev pub change_after : Sums → Item → Outline → Change
+change_after e i o = change_of (moved e.position i.role i.number) i.number o
+
+-- The state of a reader after one more item.
+abbrev pub OutlinedBehind : Allowance → List ℕ → Sums → Outline → List Row → Item → Type 0
+OutlinedBehind limits bytes e o rs i = Outlined limits (bytes ++ i.bytes) (added e i) (outline_after e i o) (applied (change_after e i o) rs)
+
+-- An item with this role is expected next.
+abbrev pub Wants : Sums → Outline → Role → Type 0
+Wants e o role = outline_role e o ≡ Some role
+
+-- If this item is expected next, its bytes give its number, and this is the objection to it or
+-- there is none, then `Holds` is true.
+abbrev pub WithItem : Allowance → Sums → Outline → Item → Option Reason → Type 0 → Type 0
+WithItem limits e o i against Holds = Wants e o i.role → IsGiven i → objection limits e i.role i.number ≡ against → Holds
+
+-- The state of a reader after the ends, with the same rows; or the first fault, whatever bytes follow.
+abbrev pub OutlineLanded : Allowance → List ℕ → Sums → List Row → Result Outline Reason → Type 0
+OutlineLanded limits bytes e rs (Ok o) = Outlined limits bytes e o rs
+OutlineLanded limits bytes e rs (Err reason) = (rest : List ℕ) → FirstFault limits (bytes ++ rest) e.bytes reason
+
+-- The open lists, and the value expected in them, are those of the form.
+abbrev pub SpotFits : ℕ → Spot → Type 0
+SpotFits whole (Wanted d lefts) = d + length lefts ≡ whole
+SpotFits whole (WantedY lefts) = length lefts ≡ whole
+SpotFits whole Full = ⊤
+
+-- The open lists of a step, and the value expected in them, are those of its form.
+abbrev pub StepFits : Step → Type 0
+StepFits (OnBody h f ids s) = SpotFits (depth_of f) s
+StepFits _ = ⊤
+
+-- The number of open geometries.
+abbrev pub open_count : Outline → ℕ
+open_count (gs, OnHeader) = length gs
+open_count (gs, OnFinished) = length gs
+open_count (gs, _) = suc (length gs)
+
+-- Two numbers spell the difference from one point to another, both in range.
+pub record Pair (from : Point) (bytes : List ℕ) (to : Point) : Type 0 where
+  pub x : ℕ
+  pub y : ℕ
+  pub x_bytes : List ℕ
+  pub y_bytes : List ℕ
+  pub whole : bytes ≡ x_bytes ++ y_bytes
+  pub x_spelled : IsVarint x_bytes x
+  pub y_spelled : IsVarint y_bytes y
+  pub x_kept : in_range (from.x +ℤ unzigzag_of x) ≡ true
+  pub y_kept : in_range (from.y +ℤ unzigzag_of y) ≡ true
+  pub leads : to ≡ point_at (from.x +ℤ unzigzag_of x) (from.y +ℤ unzigzag_of y)
+
+-- The sums after bytes that announce nothing and lead to a point.
+abbrev pub sums_past : Sums → List ℕ → Point → Sums
+sums_past e bytes to = record { bytes = e.bytes + length bytes; position = to; nodes = e.nodes; points = e.points }
+
+-- The change of a point.
+abbrev pub point_after : Point → List Group → Head → Form → Ids → Change
+point_after to gs h f ids = point_change to (length gs) (id_in gs) h.precision f (first_id ids)
+
+-- If `Known` is true of a place where a point is expected, and its two numbers come next, then
+-- `Holds` is true of the place after them: of the bytes, the sums, the outline, the point's
+-- change and the rows.
+abbrev pub AtPoint : (List ℕ → Sums → Outline → List Row → Type 0) → (List ℕ → Sums → Outline → Change → List Row → Type 0) → Type 0
+AtPoint Known Holds = (front : List ℕ) (e : Sums) (gs : List Group) (h : Head) (f : Form) (ids : Ids) (lefts : List ℕ) (rs : List Row) (bytes : List ℕ) (to : Point)
+    → Known front e (gs, OnBody h f ids (Wanted 0 lefts)) rs → Pair e.position bytes to
+    → Holds (front ++ bytes) (sums_past e bytes to) (gs, shut h f ids 0 lefts) (point_after to gs h f ids) rs

@@ -1,0 +1,41 @@
+//! A header that is complete at the start of bytes.
+ghost use Rattle.std.specs.Prelude.{IfSome};
+ghost use Rattle.twkb_body.specs.Header.{HeaderInFront};
+
+use crate::parts::{Parts, front_parts};
+use twkb_grammar::{Metadata, TypeByte};
+
+// Bytes of a header without optional parts: a type byte and a metadata byte.
+const BARE: usize = 2;
+
+/// A header of a geometry with a body: its type byte, its metadata byte, its optional parts, after how many bytes of the geometry its size
+/// counts, and how many bytes it has.
+#[derive(Clone, Copy, Debug)]
+pub struct FrontHeader {
+    pub type_byte: TypeByte,
+    pub metadata: Metadata,
+    pub parts: Parts,
+    pub from: usize,
+    pub used: usize,
+}
+
+/// The header at the start of the bytes, from its type byte to its box; `None` if it is not complete, if its type byte names no type, and if
+/// it has the extended dimensions byte or no body. Takes no memory.
+#[inline(always)]
+pub fn front_header(bytes: &[u8]) -> Option<FrontHeader>
+    ensures { IfSome result (λ header. HeaderInFront bytes.now header) }
+{
+    let type_byte = TypeByte::from_byte(*bytes.first()?);
+    let metadata = Metadata::from_byte(*bytes.get(1)?);
+    if !type_byte.names_type() || metadata.is_empty() {
+        return None;
+    }
+    let parts = front_parts(metadata, &bytes[BARE..])?;
+    Some(FrontHeader {
+        type_byte,
+        metadata,
+        parts,
+        from: BARE + parts.from,
+        used: BARE + parts.used,
+    })
+}

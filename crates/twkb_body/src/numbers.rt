@@ -1,0 +1,76 @@
+//! Numbers that are complete at the start of bytes.
+ghost use Rattle.std.specs.Prelude.{◌<◌, ◌^◌, IfSome};
+ghost use Rattle.twkb_body.specs.Front.{NumberInFront};
+
+use twkb_num::{GOES_ON, Leb128, Partial, Step};
+
+// What the seven bits of a second byte weigh, a third, a fourth and a fifth one.
+const SECOND: u64 = 1 << 7;
+
+const THIRD: u64 = 1 << 14;
+
+const FOURTH: u64 = 1 << 21;
+
+const FIFTH: u64 = 1 << 28;
+
+// Reads a number of five bytes or fewer. Taken by nearly all numbers: coordinates of six decimals have five.
+#[inline(always)]
+pub(crate) fn short_number(bytes: &[u8]) -> Option<(u64, usize)>
+    ensures front { IfSome result (λ front. NumberInFront bytes.now front.0 front.1) }
+    ensures small { IfSome result (λ front. front.0 < 2 ^ 35) }
+{
+    let first = *bytes.first()?;
+    if first < GOES_ON {
+        return Some((u64::from(first), 1));
+    }
+    let low = u64::from(first - GOES_ON);
+    let second = *bytes.get(1)?;
+    if second < GOES_ON {
+        return Some((low + u64::from(second) * SECOND, 2));
+    }
+    let low = low + u64::from(second - GOES_ON) * SECOND;
+    let third = *bytes.get(2)?;
+    if third < GOES_ON {
+        return Some((low + u64::from(third) * THIRD, 3));
+    }
+    let low = low + u64::from(third - GOES_ON) * THIRD;
+    let fourth = *bytes.get(3)?;
+    if fourth < GOES_ON {
+        return Some((low + u64::from(fourth) * FOURTH, 4));
+    }
+    let low = low + u64::from(fourth - GOES_ON) * FOURTH;
+    let fifth = *bytes.get(4)?;
+    if fifth < GOES_ON {
+        return Some((low + u64::from(fifth) * FIFTH, 5));
+    }
+    None
+}
+
+// Reads a number of any length. Taken if it has six bytes or more, or is cut.
+#[cold]
+#[inline(never)]
+pub(crate) fn long_number(bytes: &[u8]) -> Option<(u64, usize)>
+    ensures { IfSome result (λ front. NumberInFront bytes.now front.0 front.1) }
+{
+    twkb_num::laws::varints();
+    let mut partial = Partial::<Leb128>::new();
+    for (index, byte) in bytes.iter().enumerate() {
+        match partial.step(*byte) {
+            Step::More => {}
+            Step::Done { value, .. } => return Some((value, index + 1)),
+            Step::TooLong | Step::BadUnit => return None,
+        }
+    }
+    None
+}
+
+/// The number at the start of the bytes, and how many bytes it has; `None` if its varint is not complete, or is none. Takes no memory.
+#[inline(always)]
+pub fn front_number(bytes: &[u8]) -> Option<(u64, usize)>
+    ensures { IfSome result (λ front. NumberInFront bytes.now front.0 front.1) }
+{
+    if let Some(front) = short_number(bytes) {
+        return Some(front);
+    }
+    long_number(bytes)
+}

@@ -1,0 +1,61 @@
+//! A point that is complete at the start of bytes, with its header.
+ghost use Rattle.std.specs.Prelude.{◌≤◌, IfSome};
+ghost use Rattle.twkb_body.specs.Whole.{HeaderInFront, WholePoint};
+
+use crate::points::front_point;
+use twkb_grammar::{Metadata, TypeByte};
+use twkb_num::GOES_ON;
+use twkb_points::Pt;
+
+// Bytes of a header without optional parts: a type byte and a metadata byte.
+const BARE: usize = 2;
+
+/// Bytes of a header with a size of one byte, and no other optional part.
+pub const SIZED: usize = 3;
+
+/// A point that is complete with its header: its position, how many bytes both have, and the size that is declared.
+#[derive(Clone, Copy, Debug)]
+pub struct Whole {
+    pub to: Pt,
+    pub used: usize,
+    pub size: Option<u64>,
+    ghost long: { 3 ≤ used },
+}
+
+// The size that a point's own header declares, if any, and how many bytes the header has; `None` if it is no point's, or asks for
+// more.
+#[inline(always)]
+fn front_header(bytes: &[u8]) -> Option<(Option<u64>, usize)>
+    ensures { IfSome result (λ front. HeaderInFront bytes.now front.0 front.1) }
+{
+    let first = TypeByte::from_byte(*bytes.first()?);
+    if !first.is_point() {
+        return None;
+    }
+    let metadata = Metadata::from_byte(*bytes.get(1)?);
+    if metadata == Metadata::plain() {
+        return Some((None, BARE));
+    }
+    if metadata != Metadata::sized() {
+        return None;
+    }
+    let size = *bytes.get(2)?;
+    if size >= GOES_ON {
+        return None;
+    }
+    Some((Some(u64::from(size)), SIZED))
+}
+
+/// The point that is complete at the start of the bytes after a header that asks for nothing, or for a size of one byte.
+#[inline(always)]
+pub fn whole_point(bytes: &[u8]) -> Option<Whole>
+    ensures { IfSome result (λ front. WholePoint bytes.now front.to front.used front.size) }
+{
+    let (size, header) = front_header(bytes)?;
+    let (to, steps) = front_point(Pt::origin(), &bytes[header..])?;
+    Some(Whole {
+        to,
+        used: header + steps,
+        size,
+    })
+}

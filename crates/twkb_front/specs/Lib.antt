@@ -1,4 +1,0 @@
-pub mod Front
-pub mod Parts
-pub mod Header
-pub mod Whole
