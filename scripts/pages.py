@@ -36,8 +36,6 @@ DOORS = [
     "twkb_num", "twkb_points", "twkb_polyline", "twkb_table",
 ]
 DOOR, ROOM = 500, 250
-# A room with the promises of three parts.
-LARGE = {"twkb_body": 750}
 
 PROMISES = re.compile(r"<!-- promises: begin -->.*?<!-- promises: end -->", re.S)
 CALLER = re.compile(r"(\(\.\./examples/src/[a-z_]+\.rt\):\n\n)```rust\n.*?\n```", re.S)
@@ -63,7 +61,7 @@ def limit_of(page):
     """How many words a page may have; None if it has no limit."""
     if page.startswith("crates/"):
         crate = page.split("/")[1]
-        return LARGE.get(crate, DOOR if crate in DOORS else ROOM)
+        return DOOR if crate in DOORS else ROOM
     return 0 if page.startswith("docs/") and page not in LIMITS else LIMITS.get(page)
 
 

@@ -83,7 +83,8 @@ const ALL_ENDS: u64 = (1 << 63) - 1;
 // The ends of twenty.
 const TWENTY: u64 = (1 << 20) - 1;
 
-// Whether a block of ones has all ends, and one byte fewer none; and one with a padded number after twenty has those twenty.
+// Whether a block of ones has all ends, and one byte fewer none; and one with a padded number after
+// twenty has those twenty.
 fn bytes_have_ends() -> bool {
     let mut padded = [1; 64];
     padded[20] = 0x81;

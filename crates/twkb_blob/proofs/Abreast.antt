@@ -32,7 +32,7 @@ use Rattle.twkb_blob.proofs.Answering.{none_noted, spanned_next}
 use Rattle.twkb_blob.proofs.Counts.{same_blobs}
 use Rattle.twkb_blob.proofs.Trees.{some_row}
 
--- behind a stream, a stream of no more geometries has no bytes
+-- after a stream, a stream of no further geometries has no bytes
 none_behind : (limits : Allowance) (bytes more : List ℕ) (gs : List Tree) → Stream limits bytes gs → Stream limits (bytes ++ more) gs → more ≡ []
 none_behind limits bytes more gs first whole =
     let behind = behind_stream limits bytes more gs gs first whole in
@@ -46,7 +46,7 @@ blob_behind limits bytes more gs g first whole =
     let one : front ≡ more = sym (is ∙ (ap (λ l. front ++ l) none ∙ append-nil front)) in
     subst (λ l. Blob limits l g) one blob
 
--- a fault behind a stream is one of the bytes behind it
+-- a fault after a stream is one of the bytes after it
 fault_behind : (limits : Allowance) (bytes more : List ℕ) (gs : List Tree) (before offset : ℕ) (reason : Reason) → Stream limits bytes gs → before ≡ length bytes → StreamFault limits (bytes ++ more) gs offset reason → RefusedKnown limits before more offset reason
 fault_behind limits bytes more gs before offset reason first as_many h =
     let one : bytes ≡ h.front = same_blobs limits gs bytes h.front more h.rest first h.blobs h.whole in
@@ -62,12 +62,12 @@ known_fault : (limits : Allowance) (known : Option (List ℕ)) (bytes : List ℕ
 known_fault limits None bytes gs before offset reason first as_many h = tt
 known_fault limits (Some rest) bytes gs before offset reason first as_many h = fault_behind limits bytes rest gs before offset reason first as_many h
 
--- bytes behind a stream that are whole blobs of it, or cut inside a further one, are none or cut
+-- bytes after a stream that are whole blobs of it, or cut inside a further one, are none or cut
 cut_behind : (limits : Allowance) (bytes more : List ℕ) (gs : List Tree) → Stream limits bytes gs → AreBegun limits (bytes ++ more) gs → AreCutOff limits more
 cut_behind limits bytes more gs first (inl whole) = inl (none_behind limits bytes more gs first whole)
 cut_behind limits bytes more gs first (inr (offset, cut)) = let k = fault_behind limits bytes more gs (length bytes) offset _ first refl cut in inr (k.within, k.first)
 
--- a part behind a stream
+-- a part after a stream
 part_behind : (limits : Allowance) (bytes : List ℕ) (gs : List Tree) (piece : List ℕ) → Stream limits bytes gs → PartAt limits bytes gs piece → PartIn limits [] piece
 part_behind limits bytes gs piece first h =
     let whole : bytes ++ [] ≡ h.front ++ h.rest = append-nil bytes ∙ h.whole in

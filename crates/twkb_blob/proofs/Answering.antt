@@ -42,7 +42,7 @@ pub are_cut_off : (limits own : Allowance) (bs : List ℕ) (offset : ℕ) (betwe
 are_cut_off limits own bs offset true same none = inl none
 are_cut_off limits own bs offset false same cut = inr (offset, subst (λ l. FirstFault l bs offset Truncated) same cut)
 
--- the first fault of what is known, told from where the input stood
+-- the first fault of what is known, counted from where the input stood
 refused_known : (limits own : Allowance) (known : Option (List ℕ)) (before start offset : ℕ) (reason : Reason) → own ≡ limits → start ≡ before
     → IfSome known (λ rest. (within : ℕ) × FirstFault own rest within reason × (offset ≡ start + within)) → IfSome known (λ rest. RefusedKnown limits before rest offset reason)
 refused_known limits own None before start offset reason same begun h = tt

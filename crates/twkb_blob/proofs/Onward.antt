@@ -45,7 +45,7 @@ module _ (bytes : List ℕ) (gs : List Tree) (old : Session) (s : Stands bytes g
   }
 
 module _ {S : Type 0} (holds : S → Notes → Type 0) {R : Type 0} {read : Ghosts R} (a c : Input R read) (w v : S) where
-  -- its answer, told by a test
+  -- its answer, by a test
   pub is_read : (d e : Engine) (rs more : List Row) (ends answer : Bool) → ends ≡ answer → ReadsBlob holds d rs w a c (Ok ends) e more v → ReadsBlob holds d rs w a c (Ok answer) e more v
   is_read d e rs more ends answer is run = subst (λ b. ReadsBlob holds d rs w a c (Ok b) e more v) is run
 

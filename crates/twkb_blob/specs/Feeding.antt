@@ -19,8 +19,9 @@ use Rattle.twkb_blob.specs.Readers.{Left, HasNone, Makes, PartAhead}
 use Rattle.twkb_blob.specs.declared.fault.BlobFault.{BlobFault}
 use Rattle.twkb_blob.specs.declared.fault.BlobFault.TheVariants as fault
 
--- What it answers to a piece: it used all of it, or up to the end of a blob; or there was no memory, or an item was refused; or the stream has no room for all of it, and it
--- took what there is room for.
+-- What it answers to a piece: it used all of it, or up to the end of a blob; or there was no
+-- memory, or an item was refused; or the stream has no room for all of it, and it took what there
+-- is room for.
 abbrev pub FedPiece : {S : Type 0} → (S → Notes → Type 0) → Engine → List Row → S → List ℕ → Result (ℕ × Bool) BlobFault → Engine → List Row → S → Type 0
 FedPiece holds d rs old piece (Ok fed) e more new = (bs : List ℕ) (s : StandsAt bs rs d) → IsFed holds (holds old (notes_at s)) (allowance_of d) d.start bs piece (Ok fed) more e new
 FedPiece holds d rs old piece (Err fault.Memory) e more new = (bs : List ℕ) → StandsAt bs rs d → PartIn (allowance_of d) bs piece
@@ -37,9 +38,10 @@ end_at offset (suc n) = Err (fault.At offset reason.Truncated)
 abbrev pub ends_at : Engine → Result ⊤ BlobFault
 ends_at d = end_at (place_in d) (count_of d)
 
--- What it answers that reads a blob from an input: a blob left the input, whose rows and spans it has; or the input ended between two blobs; or there was no memory, or the
--- known bytes have a first fault; or the input gave no byte, after some with which it stands; or the stream has no room for what it holds, since the engine took more than the
--- input gave out.
+-- What it answers that reads a blob from an input: a blob left the input, whose rows and spans it
+-- has; or the input ended between two blobs; or there was no memory, or the known bytes have a
+-- first fault; or the input gave no byte, after some with which it stands; or the stream has no
+-- room for what it holds, since the engine took more than the input gave out.
 abbrev pub ReadsBlob : {S : Type 0} → (S → Notes → Type 0) → {R : Type 0} {read : Ghosts R} → Engine → List Row → S → Input R read → Input R read → Result Bool BlobFault → Engine → List Row → S → Type 0
 ReadsBlob holds d rs told old new (Ok true) e more spans =
     (bs : List ℕ) (s : StandsAt bs rs d) → (g : Tree) × (made : Makes (allowance_of d) bs old new g) × (holds told (notes_at s) → HoldsSpans holds spans d.start made.blob) × (more ≡ rows 0 g) × StandsAt [] [] e × (e.start ≡ d.start + length (bs ++ made.bytes)) × (e.start ≤ 2 ^ 62)

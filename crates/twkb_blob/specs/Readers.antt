@@ -28,13 +28,13 @@ reader_input r = r.input
 abbrev pub reader_limits : {R : Type 0} {read : Ghosts R} → Reader R read → Allowance
 reader_limits r = r.limits
 
--- this state is that behind an error
+-- whether this is the state after an error
 abbrev pub spent_at : State → Bool
 spent_at state.Ready = false
 spent_at state.Ended = false
 spent_at state.Spent = true
 
--- this state is that behind the end
+-- whether this is the state after the end
 abbrev pub ended_at : State → Bool
 ended_at state.Ready = false
 ended_at state.Ended = true
@@ -53,7 +53,7 @@ pub record Left {R : Type 0} {read : Ghosts R} (old new : Input R read) (bytes :
   pub consumed : Consumes (rest_of old) (rest_of new) bytes
   pub counted : given new ≡ given old + length bytes
 
--- what the device under an input still tells
+-- what is known of the bytes that the device under an input still has
 abbrev pub told_by : {R : Type 0} {read : Ghosts R} → Input R read → Option (List ℕ)
 told_by {R} {read} input = read.remaining (device_of (input_tap input).now)
 
@@ -61,13 +61,15 @@ told_by {R} {read} input = read.remaining (device_of (input_tap input).now)
 abbrev pub IsFull : {R : Type 0} {read : Ghosts R} → Input R read → Input R read → Type 0
 IsFull old new = (given new ≡ 2 ^ 62) × IfSome (rest_of old) (λ rest. 2 ^ 62 < given old + length rest)
 
--- why an input gave no further byte: its reader failed and no byte was held; it has more than 2^62 bytes; or it was refused before
+-- why an input gave no further byte: its reader failed and no byte was held; it has more than 2^62
+-- bytes; or it was refused before
 abbrev pub HasNone : {R : Type 0} {read : Ghosts R} → InFault → Input R read → Input R read → Type 0
 HasNone stopped.Read old new = rest_of new ≡ told_by new
 HasNone stopped.TooLong old new = IsFull old new
 HasNone stopped.Spent old new = input_spent old ≡ true
 
--- Why an input gave no byte: its reader failed, which its tap counts, and no byte was held; it has more than 2^62 bytes; or it was refused before.
+-- Why an input gave no byte: its reader failed, which its tap counts, and no byte was held; it has
+-- more than 2^62 bytes; or it was refused before.
 abbrev pub Stops : {R : Type 0} {read : Ghosts R} → InFault → Input R read → Input R read → Type 0
 Stops stopped.Read old new = Left old new [] × (rest_of new ≡ told_by new)
 Stops stopped.TooLong old new = Left old new [] × IsFull old new
@@ -77,21 +79,21 @@ Stops stopped.Spent old new = input_spent old ≡ true
 abbrev pub AreCutOff : Allowance → List ℕ → Type 0
 AreCutOff limits bytes = (bytes ≡ []) ⊎ ((offset : ℕ) × FirstFault limits bytes offset Truncated)
 
--- The reader failed behind these bytes, of which no front is a blob, and no further byte was held.
+-- The reader failed after these bytes, no prefix of which is a blob, and no further byte was held.
 pub record FailsRead {R : Type 0} {read : Ghosts R} (limits : Allowance) (old new : Input R read) : Type 0 where
   pub bytes : List ℕ
   pub left : Left old new bytes
   pub cut_off : AreCutOff limits bytes
   pub none_held : rest_of new ≡ told_by new
 
--- The input gave out all that it may behind these bytes, of which no front is a blob, and has more.
+-- After these bytes, no prefix of which is a blob, the input had given out all that it may, and has more.
 pub record FailsLength {R : Type 0} {read : Ghosts R} (limits : Allowance) (old new : Input R read) : Type 0 where
   pub bytes : List ℕ
   pub left : Left old new bytes
   pub cut_off : AreCutOff limits bytes
   pub full : IsFull old new
 
--- why an input gave no byte behind some that are no blob
+-- why an input gave no byte after some that are no blob
 abbrev pub StopsWithin : {R : Type 0} {read : Ghosts R} → Allowance → InFault → Input R read → Input R read → Type 0
 StopsWithin limits stopped.Read old new = FailsRead limits old new
 StopsWithin limits stopped.TooLong old new = FailsLength limits old new
@@ -104,7 +106,7 @@ pub record Makes {R : Type 0} {read : Ghosts R} (limits : Allowance) (bs : List 
   pub blob : Blob limits (bs ++ bytes) g
   pub unspent : input_spent new ≡ false
 
--- Of the known bytes that an input has left a front, one byte at least, ends a part behind these.
+-- A prefix of the known bytes that an input has left, at least one byte long, ends a part that these bytes begin.
 abbrev pub PartAhead : {R : Type 0} {read : Ghosts R} → Allowance → List ℕ → Input R read → Type 0
 PartAhead limits bs input = IfSome (rest_of input) (λ rest. PartIn limits bs rest)
 
@@ -114,7 +116,8 @@ pub record RefusedKnown (limits : Allowance) (before : ℕ) (rest : List ℕ) (o
   pub first : FirstFault limits rest within reason
   pub place : offset ≡ before + within
 
--- A geometry whose blob left the input; none at the input's end; the first fault of what the input has left; or that the input gave no byte.
+-- A geometry whose blob left the input; none at the input's end; the first fault of what the input
+-- has left; or that the input gave no byte.
 abbrev pub IsNext : {R : Type 0} {read : Ghosts R} → Allowance → Input R read → Input R read → Result (Option Tree) BlobFault → Type 0
 IsNext limits old new (Ok (Some g)) = Makes limits [] old new g
 IsNext limits old new (Ok None) = IsAtEnd (rest_of old) × Left old new []
@@ -123,7 +126,8 @@ IsNext limits old new (Err (fault.Device why)) = StopsWithin limits why old new
 IsNext limits old new (Err fault.Spent) = ⊥
 IsNext limits old new (Err (fault.At offset reason)) = IfSome (rest_of old) (λ rest. RefusedKnown limits (given old) rest offset (reason_of reason))
 
--- The answer of a reader into a flat form: the rows of a geometry whose blob left the input; or an answer without a geometry.
+-- The answer of a reader into a flat form: the rows of a geometry whose blob left the input; or an
+-- answer without a geometry.
 abbrev pub IsNextFlat : {R : Type 0} {read : Ghosts R} → Allowance → Input R read → Input R read → Result Bool BlobFault → List Row → Type 0
 IsNextFlat limits old new (Ok true) rs = (g : Tree) × Makes limits [] old new g × (rs ≡ rows 0 g)
 IsNextFlat limits old new (Ok false) rs = IsNext limits old new (Ok None)
@@ -140,8 +144,9 @@ ready_at state.Ready = Ok true
 ready_at state.Ended = Ok false
 ready_at state.Spent = Err fault.Spent
 
--- What every call of a reader says: its limits and the name of its tap stay; a failed read is counted; after an error it
--- answers `Spent`, after the end it answers the end, and then it stays as it is.
+-- What every call of a reader says: its limits and the name of its tap stay; a failed read is
+-- counted; after an error it answers `Spent`, after the end it answers the end, and then it stays
+-- as it is.
 pub record ReadsNext {A : Type 0} (none : A) {R : Type 0} {read : Ghosts R} (old new : Reader R read) (answer : Result A BlobFault) : Type 0 where
   pub same_tap : (input_tap (reader_input new)).ghost_name ≡ (input_tap (reader_input old)).ghost_name
   pub limits : reader_limits new ≡ reader_limits old

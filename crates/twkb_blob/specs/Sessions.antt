@@ -42,7 +42,8 @@ session_rows s = s.rows.flat
 abbrev pub begun_rows : Session → List Row
 begun_rows s = if s.is_whole then [] else s.rows.flat
 
--- it is not spent, and the bytes, at most 2^62, are blobs of these geometries, and then a part and the bytes that it holds of a number
+-- it is not spent, and the bytes, at most 2^62, are blobs of these geometries, and then a part and
+-- the bytes that it holds of a number
 pub record Stands (bytes : List ℕ) (gs : List Tree) (s : Session) : Type 0 where
   pub front : List ℕ
   pub rest : List ℕ
@@ -57,7 +58,8 @@ pub record Stands (bytes : List ℕ) (gs : List Tree) (s : Session) : Type 0 whe
 abbrev pub AreBegun : Allowance → List ℕ → List Tree → Type 0
 AreBegun limits bytes gs = Stream limits bytes gs ⊎ ((offset : ℕ) × StreamFault limits bytes gs offset Truncated)
 
--- So many bytes are after the last complete item: none after complete blobs, and inside a blob those from the place on where the next item is missing.
+-- So many bytes are after the last complete item: none after complete blobs, and inside a blob
+-- those from the place on where the next item is missing.
 abbrev pub HeldOf : Allowance → List ℕ → List Tree → ℕ → Type 0
 HeldOf limits bytes gs n = (Stream limits bytes gs × (n ≡ 0)) ⊎ ((offset : ℕ) × StreamFault limits bytes gs offset Truncated × (offset + n ≡ length bytes))
 
@@ -71,11 +73,12 @@ abbrev pub ended_by : Role → ℕ
 ended_by (End declared came) = 1
 ended_by _ = 0
 
--- so many geometries begin among the items and do not end among them: the headers less the ends
+-- the number of geometries that begin among the items and do not end among them: the headers less the ends
 abbrev pub AreOpen : List Item → ℕ → Type 0
 AreOpen is n = n + sum_by (λ i. ended_by i.role) is ≡ sum_by (λ i. begun_by i.role) is
 
--- So many geometries are begun and not finished: none after complete blobs, and inside a blob those of its items before the place where the next is missing.
+-- So many geometries are begun and not finished: none after complete blobs, and inside a blob those
+-- of its items before the place where the next is missing.
 abbrev pub FramesOf : Allowance → List ℕ → List Tree → ℕ → Type 0
 FramesOf limits bytes gs n = (Stream limits bytes gs × (n ≡ 0)) ⊎ ((offset : ℕ) × (cut : StreamFault limits bytes gs offset Truncated) × AreOpen cut.first.fault.before n)
 
@@ -88,7 +91,8 @@ pub record IsTooLong (limits : Allowance) (bytes : List ℕ) (gs : List Tree) (p
   pub past : 2 ^ 62 < length bytes + length piece
   pub begun : AreBegun limits (bytes ++ take (2 ^ 62 - length bytes) piece) gs
 
--- The bytes are blobs of these geometries, and then some after which a prefix of the piece, one byte at least, ends a part.
+-- The bytes are blobs of these geometries, and then some after which a prefix of the piece, one
+-- byte at least, ends a part.
 pub record PartAt (limits : Allowance) (bytes : List ℕ) (gs : List Tree) (piece : List ℕ) : Type 0 where
   pub front : List ℕ
   pub rest : List ℕ
@@ -96,8 +100,9 @@ pub record PartAt (limits : Allowance) (bytes : List ℕ) (gs : List Tree) (piec
   pub blobs : Stream limits front gs
   pub part : PartIn limits rest piece
 
--- A feed uses the whole piece, or up to the end of a geometry, which is the next one of the stream; or an item ends in the
--- piece that may stand there, but for which there is no memory, or that is refused; or the piece goes past 2^62 bytes.
+-- A feed uses the whole piece, or up to the end of a geometry, which is the next one of the stream;
+-- or an item ends in the piece that may stand there, but for which there is no memory, or that is
+-- refused; or the piece goes past 2^62 bytes.
 abbrev pub FedSession : List ℕ → List Tree → List ℕ → Result (ℕ × Option Tree) BlobFault → Session → Type 0
 FedSession bytes gs piece (Ok (used, None)) s = (used ≡ length piece) × Stands (bytes ++ piece) gs s
 FedSession bytes gs piece (Ok (used, Some g)) s =
@@ -107,7 +112,7 @@ FedSession bytes gs piece (Err (fault.Device why)) s = (why ≡ TooLong) × IsTo
 FedSession bytes gs piece (Err fault.Spent) s = ⊥
 FedSession bytes gs piece (Err (fault.At offset reason)) s = RefusedAt (session_limits s) bytes gs piece offset (reason_of reason)
 
--- The same, with the rows of the geometry in the form.
+-- What a feed answers, with the rows of the geometry in the form.
 abbrev pub FedFlat : List ℕ → List Tree → List ℕ → Result (ℕ × Bool) BlobFault → Session → Type 0
 FedFlat bytes gs piece (Ok (used, false)) s = FedSession bytes gs piece (Ok (used, None)) s
 FedFlat bytes gs piece (Ok (used, true)) s = (g : Tree) × FedSession bytes gs piece (Ok (used, Some g)) s × (session_rows s ≡ rows 0 g)

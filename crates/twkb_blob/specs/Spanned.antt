@@ -10,7 +10,8 @@ use Rattle.twkb_blob.specs.Readers.{Makes}
 use Rattle.twkb_blob.specs.Sessions.{begun_rows, session_limits, session_rows}
 use Rattle.twkb_blob.specs.declared.session.Session.{Session}
 
--- Wherever a session stood inside a blob, bytes left the input that end it; and if the notes were those of its items, they are its spans.
+-- Wherever a session stood inside a blob, bytes left the input that end it; and if the notes were
+-- those of its items, they are its spans.
 abbrev pub NotesEnd : {S : Type 0} → (S → Notes → Type 0) → {R : Type 0} {read : Ghosts R} → (old new : Input R read) (s t : Session) (w v : S) → Type 0
 NotesEnd holds old new s t w v =
     (bs : List ℕ) (k : StandsAt bs (begun_rows s) s.engine)

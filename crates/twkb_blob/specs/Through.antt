@@ -1,4 +1,4 @@
--- What an input and a session are behind a blob of the input that was read through the session.
+-- What an input and a session are after a blob of the input was read through the session.
 use Rattle.std.specs.Prelude.{ℕ, ◌≡◌, ◌<◌, ◌⊎◌, List, [], ◌∷◌, ◌++◌, length, Bool, true, false, IfSome, Result, Ok, Err}
 use Rattle.std.specs.declared.io.traits.Read.{Ghosts}
 use Rattle.twkb_tree.specs.Tree.{Tree}
@@ -20,7 +20,7 @@ use Rattle.twkb_blob.specs.declared.reader.Reader.{Reader}
 use Rattle.twkb_grammar.specs.Noting.{Notes}
 use Rattle.twkb_blob.specs.declared.session.Session.{Session}
 
--- A session of these limits stands between two blobs, behind as many bytes as the input gave out.
+-- A session of these limits stands between two blobs, after as many bytes as the input gave out.
 pub record IsAbreast {R : Type 0} {read : Ghosts R} (limits : Allowance) (input : Input R read) (s : Session) : Type 0 where
   pub bytes : List ℕ
   pub gs : List Tree
@@ -29,11 +29,12 @@ pub record IsAbreast {R : Type 0} {read : Ghosts R} (limits : Allowance) (input 
   pub same_limits : session_limits s ≡ limits
   pub as_many : given input ≡ length bytes
 
--- this, where the reader answered neither an error nor the end
+-- this, if the reader answered neither an error nor the end
 abbrev pub IfGoingOn : {R : Type 0} {read : Ghosts R} → Reader R read → Type 0 → Type 0
 IfGoingOn r fact = is_spent r ≡ false → has_ended r ≡ false → fact
 
--- Bytes left the input, and with them the bytes before are a stream of one geometry more, for which the session stands, and whose rows it has.
+-- Bytes left the input, and with them the bytes before are a stream of one geometry more, for which
+-- the session stands, and whose rows it has.
 pub record GoesOn {R : Type 0} {read : Ghosts R} (limits : Allowance) (bytes : List ℕ) (gs : List Tree) (old new : Input R read) (s : Session) : Type 0 where
   pub geometry : Tree
   pub more : List ℕ
@@ -50,7 +51,7 @@ pub record EndsAll {R : Type 0} {read : Ghosts R} (limits : Allowance) (bytes : 
   pub all : IfSome (rest_of old) (λ rest. rest ≡ more)
   pub blobs : Stream limits (bytes ++ more) gs
 
--- The input gave no byte behind some, and with the bytes before these are whole blobs, or cut inside a further one.
+-- The input gave no byte after some bytes; with those before, these are whole blobs, or cut inside a further one.
 pub record HaltsWithin {R : Type 0} {read : Ghosts R} (limits : Allowance) (bytes : List ℕ) (gs : List Tree) (why : InFault) (old new : Input R read) : Type 0 where
   pub more : List ℕ
   pub left : Left old new more
@@ -61,8 +62,9 @@ pub record HaltsWithin {R : Type 0} {read : Ghosts R} (limits : Allowance) (byte
 abbrev pub Halts : {R : Type 0} {read : Ghosts R} → Allowance → List ℕ → List Tree → InFault → Input R read → Input R read → Type 0
 Halts limits bytes gs why old new = HaltsWithin limits bytes gs why old new ⊎ ((why ≡ stopped.TooLong) × (given old < length bytes))
 
--- A session that stood for these bytes and geometries read a further geometry; or all bytes are a stream; or there was no memory for a part
--- that ends in what is known of the rest; or the input gave no byte; or with the rest the bytes have a first fault.
+-- A session that stood for these bytes and geometries read a further geometry; or all bytes are a
+-- stream; or there was no memory for a part that ends in what is known of the rest; or the input
+-- gave no byte; or with the rest the bytes have a first fault.
 abbrev pub IsThrough : {R : Type 0} {read : Ghosts R} → Allowance → List ℕ → List Tree → Input R read → Input R read → Result Bool BlobFault → Session → Type 0
 IsThrough limits bytes gs old new (Ok true) s = GoesOn limits bytes gs old new s
 IsThrough limits bytes gs old new (Ok false) s = EndsAll limits bytes gs old new

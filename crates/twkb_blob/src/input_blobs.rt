@@ -14,7 +14,8 @@ use twkb_engine::{BlobReason, Engine, SpanNotes};
 use twkb_flat::Flat;
 use twkb_io::{InFault, Input, MAX_BYTES};
 
-// How many bytes of the piece a stream may have after so many: all, or those before the most that it may have; none is refused.
+// The number of bytes of the piece that a stream may have after `taken`: all, or those up to the
+// most that it may have. Refused if there may be none.
 #[inline(always)]
 fn room_in(taken: u64, piece: &[u8]) -> Result<usize, BlobFault>
     ensures fits { IfOk result (λ count. (taken + count ≤ 2 ^ 62) × (count ≤ length piece.now)) }
@@ -28,8 +29,8 @@ fn room_in(taken: u64, piece: &[u8]) -> Result<usize, BlobFault>
     Ok(room.min(piece.len() as u64) as usize)
 }
 
-// Feeds a piece to an engine, up to the end of a blob or to where a stream may have no further byte; returns how many bytes were taken, and
-// whether a blob ends with them.
+// Feeds a piece to an engine, up to the end of a blob or to where a stream may have no further
+// byte; returns how many bytes were taken, and whether a blob ends with them.
 #[inline(always)]
 pub(crate) fn feed_piece<S: SpanNotes>(
     engine: &mut Engine,

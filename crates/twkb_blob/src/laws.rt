@@ -1,4 +1,5 @@
-//! What holds of all blobs: the laws of the grammar that users of blobs ask for first, and what the bytes tell of a session.
+//! What holds of all blobs: the laws of the grammar that users of blobs ask for first, and what the
+//! bytes tell of a session.
 ghost use Rattle.std.specs.Prelude.{◌≡◌, ℕ, List};
 ghost use Rattle.twkb_tree.specs.Tree.{Tree};
 ghost use Rattle.twkb_tree.specs.Limits.{Allowance};

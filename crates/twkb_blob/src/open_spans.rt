@@ -33,7 +33,7 @@ fn set_metadata(spans: &mut Vec<Span>, index: usize, metadata: u8)
     }
 }
 
-// Sets length and points of the span at this place, if there is one, whose geometry ends at this offset, with so many
+// Sets length and points of the span at this place, if there is one, whose geometry ends at this offset, with this many
 // points so far.
 fn set_end(spans: &mut Vec<Span>, index: usize, offset: u64, points: u64)
     ensures { spans.new.items ≡ changed_at index (measured offset points) spans.old.items }

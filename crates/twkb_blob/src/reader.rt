@@ -52,9 +52,10 @@ impl<'a, R: Read> Reader<'a, R> {
         }
     }
 
-    /// The next geometry, whose blob leaves the input, and no further byte; `None` at the input's end. After an `Err` each
-    /// call answers `Spent`, and after the end each call answers `None`; neither reads. It takes memory for what it keeps and for the
-    /// geometry, and none for a count that it reads.
+    /// The next geometry, whose blob leaves the input, and no further byte; `None` at the input's
+    /// end. After an `Err` each call answers `Spent`, and after the end each call answers `None`;
+    /// neither reads. It takes memory for what it keeps and for the geometry, and none for a count
+    /// that it reads.
     pub fn next(&mut self, alloc: Global) -> Result<Option<Geometry>, BlobFault>
         ensures shared { ReadsNext None self.old self.new result }
         ensures next { is_spent self.old ≡ false → has_ended self.old ≡ false → IsNext (reader_limits self.old) (reader_input self.old) (reader_input self.new) result }
@@ -69,9 +70,11 @@ impl<'a, R: Read> Reader<'a, R> {
         Ok(Some(geometry))
     }
 
-    /// Reads the next geometry, as `next` does, into a flat form, in place of what that holds, and answers whether there was one; after a
-    /// false and after an `Err` the form has no rows. Calls of it and of the others may be mixed. It takes memory for rows and points past
-    /// the room of the form, and for nested collections, and none for a further geometry once there is room for it.
+    /// Reads the next geometry, as `next` does, into a flat form, in place of what that holds, and
+    /// answers whether there was one; after a false and after an `Err` the form has no rows. Calls
+    /// of it and of the others may be mixed. It takes memory for rows and points past the room of
+    /// the form, and for nested collections, and none for a further geometry once there is room for
+    /// it.
     pub fn next_flat(&mut self, alloc: Global, flat: &mut Flat) -> Result<bool, BlobFault>
         ensures shared { ReadsNext false self.old self.new result }
         ensures next { is_spent self.old ≡ false → has_ended self.old ≡ false → IsNextFlat (reader_limits self.old) (reader_input self.old) (reader_input self.new) result flat.new }
@@ -84,10 +87,12 @@ impl<'a, R: Read> Reader<'a, R> {
         self.read_into(alloc, flat, &mut NoSpans)
     }
 
-    /// Reads the next geometry, as `next_flat` does, through a session, which is fed what the input holds, keeps its room from blob to blob,
-    /// and lends the rows (`Session::flat`); it answers whether there was one. The limits are the session's, and an offset counts from its
-    /// start: a new session of the reader's limits, at a new input, has those of `next_flat`. At the input's end the session is finished, and
-    /// after a false and after an `Err` it has no rows and takes no further byte. Takes memory as `Session::feed_flat` does.
+    /// Reads the next geometry, as `next_flat` does, through a session, which is fed what the input
+    /// holds, keeps its room from blob to blob, and lends the rows (`Session::flat`); it answers
+    /// whether there was one. The limits are the session's, and an offset counts from its start: a
+    /// new session of the reader's limits, at a new input, has those of `next_flat`. At the input's
+    /// end the session is finished, and after a false and after an `Err` it has no rows and takes
+    /// no further byte. Takes memory as `Session::feed_flat` does.
     pub fn next_through(&mut self, session: &mut Session) -> Result<bool, BlobFault>
         ensures shared { ReadsNext false self.old self.new result }
         ensures next { IsAbreast (reader_limits self.old) (reader_input self.old) session.old → IfGoingOn self.old (IsNextFlat (reader_limits self.old) (reader_input self.old) (reader_input self.new) result (session_rows session.new)) }
@@ -103,8 +108,9 @@ impl<'a, R: Read> Reader<'a, R> {
         self.read_through(session, &mut NoSpans)
     }
 
-    /// Reads the next geometry, as `next_flat` does, into a flat form, and the spans of its headers, as `next_located` gives them, into a list,
-    /// in place of what these hold, and answers whether there was one; after a false and after an `Err` both are empty. It takes memory as
+    /// Reads the next geometry, as `next_flat` does, into a flat form, and the spans of its
+    /// headers, as `next_located` gives them, into a list, in place of what these hold, and answers
+    /// whether there was one; after a false and after an `Err` both are empty. It takes memory as
     /// `next_flat` does, and for spans past the room of the list.
     pub fn next_spans(
         &mut self,
@@ -125,10 +131,11 @@ impl<'a, R: Read> Reader<'a, R> {
         keep_spans(found, spans)
     }
 
-    /// Reads the next geometry through a session, as `next_through` does, and puts the spans of its headers, as `next_located` gives them,
-    /// into a list, in place of what that holds; after a false and after an `Err` both are empty. The spans are told where the session stood
-    /// between two geometries; where it stood inside a blob, nothing is said of them. It takes memory as `next_through` does, and for spans
-    /// past the room of the list.
+    /// Reads the next geometry through a session, as `next_through` does, and puts the spans of its
+    /// headers, as `next_located` gives them, into a list, in place of what that holds; after a
+    /// false and after an `Err` both are empty. The spans are promised only if the session was
+    /// between two geometries, and not inside a blob. It takes memory as `next_through` does, and
+    /// for spans past the room of the list.
     pub fn next_spans_through(
         &mut self,
         session: &mut Session,
@@ -150,8 +157,8 @@ impl<'a, R: Read> Reader<'a, R> {
         keep_spans(found, spans)
     }
 
-    /// The next geometry, as `next` gives it, with the spans of its headers, whose offsets count from where the input began. It takes memory
-    /// for a span a header besides.
+    /// The next geometry, as `next` gives it, with the spans of its headers, whose offsets count
+    /// from where the input began. It takes memory for a span a header besides.
     pub fn next_located(&mut self, alloc: Global) -> Result<Option<Located>, BlobFault>
         ensures shared { ReadsNext None self.old self.new result }
         ensures next { is_spent self.old ≡ false → has_ended self.old ≡ false → IsLocated (reader_limits self.old) (reader_input self.old) (reader_input self.new) result }
@@ -196,7 +203,8 @@ impl<'a, R: Read> Reader<'a, R> {
         found
     }
 
-    // Reads the next blob into a form without rows, and its spans. After a false and after an `Err` the form has no rows.
+    // Reads the next blob into a form without rows, and its spans. After a false and after an `Err`
+    // the form has no rows.
     #[inline(always)]
     fn read_into<S: SpanNotes>(
         &mut self,
@@ -263,7 +271,7 @@ impl<'a, R: Read> Reader<'a, R> {
     }
 }
 
-// Leaves rows in a form only if a geometry was read; returns the same.
+// Leaves rows in a form only if a geometry was read; returns the answer.
 #[inline(always)]
 fn keep_rows(found: Result<bool, BlobFault>, flat: &mut Flat) -> Result<bool, BlobFault>
     ensures same { result ≡ found }
@@ -277,7 +285,7 @@ fn keep_rows(found: Result<bool, BlobFault>, flat: &mut Flat) -> Result<bool, Bl
     found
 }
 
-// Leaves spans in a list only if a geometry was read; returns the same.
+// Leaves spans in a list only if a geometry was read; returns the answer.
 fn keep_spans(found: Result<bool, BlobFault>, spans: &mut Spans) -> Result<bool, BlobFault>
     ensures same { result ≡ found }
     ensures made { found ≡ Ok true → spans.new ≡ spans.old }

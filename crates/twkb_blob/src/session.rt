@@ -31,7 +31,7 @@ pub struct Session {
     ghost alive: { spent ≡ false → IsAlive (if is_whole then [] else rows.flat) engine },
 }
 
-// What a feed returns if no geometry ends with so many bytes. Made in a call of its own, it is written into its place
+// What a feed returns if no geometry ends with these bytes. Made in a call of its own, it is written into its place
 // with no copy.
 #[inline(always)]
 fn none_after(used: usize) -> Result<(usize, Option<Geometry>), BlobFault>
@@ -40,7 +40,7 @@ fn none_after(used: usize) -> Result<(usize, Option<Geometry>), BlobFault>
     Ok((used, None))
 }
 
-// The same of a fault.
+// What a feed returns if it is refused, made in a call of its own too.
 #[inline(always)]
 fn refused(fault: BlobFault) -> Result<(usize, Option<Geometry>), BlobFault>
     ensures { result ≡ Err fault }
@@ -71,9 +71,10 @@ impl Session {
         }
     }
 
-    /// Takes bytes of the piece up to the end of a geometry, else all of them, and returns how many. A stream has at most
-    /// 2^62 bytes: what ends or is refused before comes first, and only then `TooLong`. After an `Err` each call returns
-    /// `Spent`. It takes memory for what it keeps and for the geometry, and none for a count that it reads.
+    /// Takes bytes of the piece up to the end of a geometry, else all of them, and returns how
+    /// many. A stream has at most 2^62 bytes: what ends or is refused before comes first, and only
+    /// then `TooLong`. After an `Err` each call returns `Spent`. It takes memory for what it keeps
+    /// and for the geometry, and none for a count that it reads.
     pub fn feed(&mut self, piece: &[u8]) -> Result<(usize, Option<Geometry>), BlobFault>
         ensures fed { (bytes : List ℕ) (gs : List Tree) → Stands bytes gs self.old → FedSession bytes gs piece.now result self.new }
         ensures spent { (result ≡ Err BlobFault.Spent) ↔ (is_spent self.old ≡ true) }
@@ -88,7 +89,7 @@ impl Session {
         self.give_tree(used)
     }
 
-    // What a feed returns after so many bytes with which a geometry ended. In the frame of `feed`, but with places of
+    // What a feed returns after bytes with which a geometry ended. In the frame of `feed`, but with places of
     // its own for what it moves: those of `feed` would be cleared for each byte.
     #[inline(always)]
     fn give_tree(&mut self, used: usize) -> Result<(usize, Option<Geometry>), BlobFault>
@@ -134,9 +135,9 @@ impl Session {
         self.spent = true;
     }
 
-    /// Takes bytes as `feed` does, and returns how many, and whether a geometry ends with them, whose rows `flat` then
-    /// gives until the next call. Calls of it and of `feed` may be mixed. It takes memory for what it keeps, and none once
-    /// that has room.
+    /// Takes bytes as `feed` does, and returns how many, and whether a geometry ends with them,
+    /// whose rows `flat` then gives until the next call. Calls of it and of `feed` may be mixed. It
+    /// takes memory for what it keeps, and none once that has room.
     #[inline(always)]
     pub fn feed_flat(&mut self, piece: &[u8]) -> Result<(usize, bool), BlobFault>
         ensures fed { (bytes : List ℕ) (gs : List Tree) → Stands bytes gs self.old → FedFlat bytes gs piece.now result self.new }
@@ -287,8 +288,8 @@ impl Session {
         }
     }
 
-    /// The rows of the geometry that the last call gave; after any other call, those of the geometry that is read, as far
-    /// as they came. Takes no memory.
+    /// The rows of the geometry that the last call gave; after any other call, those of the
+    /// geometry that is read, as far as they came. Takes no memory.
     pub fn flat(&self) -> &Flat
         ensures { result.now ≡ session_rows self.now }
     {

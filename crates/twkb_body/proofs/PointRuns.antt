@@ -1,4 +1,5 @@
--- Points that are complete at the start of bytes lead a body on; and the bytes up to one for which there is no memory are a part.
+-- Points that are complete at the start of bytes lead a body on; and the bytes up to one for which
+-- there is no memory are a part.
 use Rattle.std.proofs.Common.{Result, Ok, Err, ◌≡◌, ℕ, suc, ◌+◌, ◌-◌, ◌<◌, ◌≤◌, List, [], ◌∷◌, ◌++◌, length, take, drop, refl, sym, ap, ◌∙◌, subst, arith}
 use Rattle.std.specs.Prelude.{Option, ℤ, IsErrAnd}
 use Rattle.std.proofs.lemmas.List.{drop-drop, take_rest}

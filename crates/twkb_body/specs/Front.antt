@@ -6,19 +6,19 @@ use Rattle.twkb_points.specs.Point.{Point, point_at}
 use Rattle.twkb_grammar.specs.PlainReader.{in_range}
 use Rattle.twkb_body.specs.Reading.{Pair}
 
--- so many of the bytes spell this number
+-- the first `count` bytes spell this number
 pub record NumberInFront (bytes : List ℕ) (n count : ℕ) : Type 0 where
   pub some : 0 < count
   pub within : count ≤ length bytes
   pub spelled : IsVarint (take count bytes) n
 
--- so many of the bytes are the two numbers of a point
+-- the first `count` bytes are the two numbers of a point
 pub record PointInFront (from : Point) (bytes : List ℕ) (to : Point) (count : ℕ) : Type 0 where
   pub some : 0 < count
   pub within : count ≤ length bytes
   pub pair : Pair from (take count bytes) to
 
--- so many of the bytes are two points, the second by its steps from the first
+-- the first `count` bytes are two points, the second by its steps from the first
 pub record TwoInFront (from : Point) (bytes : List ℕ) (first second : Point) (count : ℕ) : Type 0 where
   pub first_count : ℕ
   pub second_count : ℕ
@@ -26,7 +26,7 @@ pub record TwoInFront (from : Point) (bytes : List ℕ) (first second : Point) (
   pub leads : PointInFront from bytes first first_count
   pub goes_on : PointInFront first (drop first_count bytes) second second_count
 
--- so many of the bytes are these points, each by its steps from the one before it
+-- the first `count` bytes are these points, each by its steps from the one before it
 abbrev pub PointsInFront : Point → List ℕ → List Point → ℕ → Type 0
 PointsInFront from bytes [] count = count ≡ 0
 PointsInFront from bytes (p ∷ ps) count = (first : ℕ) × (rest : ℕ) × (count ≡ first + rest) × PointInFront from bytes p first × PointsInFront p (drop first bytes) ps rest

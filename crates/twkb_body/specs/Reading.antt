@@ -43,7 +43,7 @@ Wants e o role = outline_role e o ≡ Some role
 abbrev pub WithItem : Allowance → Sums → Outline → Item → Option Reason → Type 0 → Type 0
 WithItem limits e o i against Holds = Wants e o i.role → IsGiven i → objection limits e i.role i.number ≡ against → Holds
 
--- The state of a reader after the ends, with the same rows; or the first fault, whatever bytes follow.
+-- The state of a reader after the ends, with its rows; or the first fault, whatever bytes follow.
 abbrev pub OutlineLanded : Allowance → List ℕ → Sums → List Row → Result Outline Reason → Type 0
 OutlineLanded limits bytes e rs (Ok o) = Outlined limits bytes e o rs
 OutlineLanded limits bytes e rs (Err reason) = (rest : List ℕ) → FirstFault limits (bytes ++ rest) e.bytes reason

@@ -17,14 +17,14 @@ size_bytes (Some n) = n ∷ []
 abbrev pub header_bytes : (first : ℕ) → Option ℕ → List ℕ
 header_bytes first size = first ∷ metadata_with size ∷ size_bytes size
 
--- so many of the bytes are a point's own header, which asks for nothing, or for this size of one byte
+-- the first `count` bytes are a point's own header, which asks for nothing, or for this size of one byte
 pub record HeaderInFront (bytes : List ℕ) (size : Option ℕ) (count : ℕ) : Type 0 where
   pub within : count ≤ length bytes
   pub kind : get_or bytes 0 0 % 16 ≡ 1
   pub short : IfSome size (λ n. n < 128)
   pub whole : take count bytes ≡ header_bytes (get_or bytes 0 0) size
 
--- so many of the bytes are a point after such a header
+-- the first `count` bytes are a point after such a header
 pub record WholePoint (bytes : List ℕ) (to : Point) (count : ℕ) (size : Option ℕ) : Type 0 where
   pub some : 0 < count
   pub within : count ≤ length bytes

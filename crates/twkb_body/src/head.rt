@@ -4,8 +4,8 @@ ghost use Rattle.twkb_tree.specs.Tree.{IsPrecision};
 
 use twkb_tree::Kind;
 
-/// A header: what its type byte and metadata byte say, its size if it has one, and after how many bytes that counts; and the place of its
-/// geometry, how deep and with which id.
+/// A header: what its type byte and metadata byte say, its size if it has one, and after how many
+/// bytes that counts; and the place of its geometry, how deep and with which id.
 #[derive(Clone, Copy, Debug)]
 pub struct Head {
     /// The bytes that the geometry declares to have after its size.

@@ -1,5 +1,6 @@
-//! What a reader of one geometry keeps and reads at once: the outline of what is open, with its laws; what is complete at the start of
-//! bytes; a header, the ids of members, and rows in a flat form.
+//! What a reader of one geometry keeps and reads at once: the outline of what is open, with its
+//! laws; what is complete at the start of bytes; a header, the ids of members, and rows in a flat
+//! form.
 #![tactic(auto)]
 
 mod head;

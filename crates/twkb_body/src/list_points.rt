@@ -33,9 +33,9 @@ const NUMBERS: u32 = 16;
 // How many bytes after the last look blocks are looked for again.
 const APART: usize = 32;
 
-/// Takes points of a list to the last row as far as they are complete, at most `most`; and how many of these are left. Takes memory. Two at
-/// a time if that goes: the numbers of points that lie near one another are found four at once, and not looked for after a point that
-/// lies far.
+/// Takes points of a list to the last row as far as they are complete, at most `most`; and how many
+/// of these are left. Takes memory. Two at a time if that goes: the numbers of points that lie near
+/// one another are found four at once, and not looked for after a point that lies far.
 #[inline(always)]
 pub fn take_row(
     flat: &mut Flat,
@@ -47,6 +47,7 @@ pub fn take_row(
     requires room { length (row_points flat.old) + most ≤ 2 ^ 24 }
     ensures { TakesRow flat.old from bytes.now most result flat.new }
 {
+    // longer than other functions: each of its three ways in would have to give these values back
     let mut used = 0;
     let mut position = from;
     let mut left = most;
@@ -82,8 +83,8 @@ pub fn take_row(
     Ok((Taken { used, position }, left))
 }
 
-// Takes points of a list to the last row, eight at a time, as far as their numbers are found in blocks; at most `most`; and how
-// many of these are left. Takes memory.
+// Takes points of a list to the last row, eight at a time, as far as their numbers are found in
+// blocks; at most `most`; and how many of these are left. Takes memory.
 #[inline(never)]
 fn take_eights(
     flat: &mut Flat,
@@ -118,8 +119,8 @@ fn take_eights(
     Ok((Taken { used, position }, left))
 }
 
-/// Takes members of a multipoint, whose rows are at this depth and after a member's row, as far as they are complete, at most `most`; and how
-/// many of these are left. Takes memory.
+/// Takes members of a multipoint, whose rows are at this depth and after a member's row, as far as
+/// they are complete, at most `most`; and how many of these are left. Takes memory.
 pub fn take_members(
     flat: &mut Flat,
     ids: &mut MemberIds,

@@ -48,7 +48,8 @@ impl MemberIds {
         Ok(())
     }
 
-    /// Appends ids as far as they are complete, at most so many, and returns how many bytes they had. They take memory.
+    /// Appends ids as far as they are complete, at most `most`, and returns the number of their
+    /// bytes. They take memory.
     #[inline(always)]
     pub fn take(&mut self, bytes: &[u8], most: u64) -> Result<usize, AllocError>
         ensures within { IfOk result (λ used. used ≤ length bytes.now) }

@@ -64,7 +64,8 @@ pub(crate) fn long_number(bytes: &[u8]) -> Option<(u64, usize)>
     None
 }
 
-/// The number at the start of the bytes, and how many bytes it has; `None` if its varint is not complete, or is none. Takes no memory.
+/// The number at the start of the bytes, and how many bytes it has; `None` if its varint is not
+/// complete, or is none. Takes no memory.
 #[inline(always)]
 pub fn front_number(bytes: &[u8]) -> Option<(u64, usize)>
     ensures { IfSome result (λ front. NumberInFront bytes.now front.0 front.1) }

@@ -8,8 +8,8 @@ use twkb_grammar::Metadata;
 // Sides of a box (TWKB, bounding box).
 const SIDES: usize = 4;
 
-/// The optional parts of a header: the size that it declares, if any, after how many of their bytes that counts, and how many bytes they
-/// have.
+/// The optional parts of a header: the size that it declares, if any, after how many of their bytes
+/// that counts, and how many bytes they have.
 #[derive(Clone, Copy, Debug)]
 pub struct Parts {
     pub size: Option<u64>,

@@ -54,8 +54,8 @@ fn long_point(from: Pt, bytes: &[u8]) -> Option<(Pt, usize)>
     Some((to, width + height))
 }
 
-/// The point at the start of the bytes, and how many bytes its two numbers have; `None` if they are not complete, or lead out of range.
-/// Takes no memory.
+/// The point at the start of the bytes, and how many bytes its two numbers have; `None` if they are
+/// not complete, or lead out of range. Takes no memory.
 #[inline(always)]
 pub fn front_point(from: Pt, bytes: &[u8]) -> Option<(Pt, usize)>
     ensures { IfSome result (λ front. PointInFront from bytes.now front.0 front.1) }
@@ -70,8 +70,9 @@ pub fn front_point(from: Pt, bytes: &[u8]) -> Option<(Pt, usize)>
     Some((to, width + height))
 }
 
-/// Two points at the start of the bytes, the second by its steps from the first, and how many bytes both have. They are found if all four
-/// numbers are short and spelled no longer than they need be, in sixteen bytes or more. Takes no memory.
+/// Two points at the start of the bytes, the second by its steps from the first, and how many bytes
+/// both have. They are found if all four numbers are short and spelled no longer than they need be,
+/// in sixteen bytes or more. Takes no memory.
 #[inline(always)]
 pub fn front_two(from: Pt, bytes: &[u8]) -> Option<(Pt, Pt, usize)>
     ensures { IfSome result (λ front. TwoInFront from bytes.now front.0 front.1 front.2) }
@@ -82,8 +83,9 @@ pub fn front_two(from: Pt, bytes: &[u8]) -> Option<(Pt, Pt, usize)>
     Some((first, second, four.used))
 }
 
-// Two points by the ends of numbers that `varint_ends` found, moved to the start of these bytes, from a point so near the origin that
-// the range needs no test. After the two the ends moved by as many bits are those of the bytes after them.
+// Two points by the ends of numbers that `varint_ends` found, moved to the start of these bytes,
+// from a point so near the origin that the range needs no test. After the two the ends moved by as
+// many bits are those of the bytes after them.
 #[inline(always)]
 fn front_two_by(from: Pt, bytes: &[u8], ends: u64) -> Option<(Pt, Pt, usize)>
     requires near { IsNear 6 from }
@@ -112,8 +114,9 @@ pub struct Eight {
     pub ends: u64,
 }
 
-/// Eight points, each by its steps from the one before it, by the ends of numbers that `varint_ends` found, moved to the start of
-/// these bytes; only from an inner point, so that none of the eight can be out of range. `None` says nothing.
+/// Eight points, each by its steps from the one before it, by the ends of numbers that
+/// `varint_ends` found, moved to the start of these bytes; only from an inner point, so that none
+/// of the eight can be out of range. `None` says nothing.
 #[inline(always)]
 pub fn front_eight(from: Pt, bytes: &[u8], ends: u64) -> Option<Eight>
     requires { AreEnds 0 128 bytes.now ends }

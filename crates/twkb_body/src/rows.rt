@@ -35,8 +35,8 @@ pub fn push_point(flat: &mut Flat, row: Row, point: Pt) -> Result<(), AllocError
     flat.push(row, &[point])
 }
 
-/// Puts a point that was read: as a row of its own, or after the points of the last row. The rows take it. Takes memory; an `Err` changes
-/// nothing.
+/// Puts a point that was read: as a row of its own, or after the points of the last row. The rows
+/// take it. Takes memory; an `Err` changes nothing.
 #[inline(always)]
 pub fn put_point(
     flat: &mut Flat,

@@ -22,8 +22,8 @@ pub struct Whole {
     ghost long: { 3 ≤ used },
 }
 
-// The size that a point's own header declares, if any, and how many bytes the header has; `None` if it is no point's, or asks for
-// more.
+// The size that a point's own header declares, if any, and how many bytes the header has; `None` if
+// it is no point's, or asks for more.
 #[inline(always)]
 fn front_header(bytes: &[u8]) -> Option<(Option<u64>, usize)>
     ensures { IfSome result (λ front. HeaderInFront bytes.now front.0 front.1) }
@@ -46,7 +46,8 @@ fn front_header(bytes: &[u8]) -> Option<(Option<u64>, usize)>
     Some((Some(u64::from(size)), SIZED))
 }
 
-/// The point that is complete at the start of the bytes after a header that asks for nothing, or for a size of one byte.
+/// The point that is complete at the start of the bytes after a header that asks for nothing, or
+/// for a size of one byte.
 #[inline(always)]
 pub fn whole_point(bytes: &[u8]) -> Option<Whole>
     ensures { IfSome result (λ front. WholePoint bytes.now front.to front.used front.size) }

@@ -82,7 +82,8 @@ left_fit k p r m = (has_lines k || nat_eq p 0) && ((has_areas k || nat_eq r 0) &
 abbrev pub are_shut : (points rings members : ℕ) → Bool
 are_shut p r m = nat_eq p 0 && (nat_eq r 0 && nat_eq m 0)
 
--- lists that are not open have no values left: at a coordinate all of the kind may be, at a count those round its list, at an id that of members, and else none
+-- lists that are not open have no values left: at a coordinate all of the kind may be, at a count
+-- those round its list, at an id that of members, and else none
 abbrev pub lists_fit : NextItem → Kind → (points rings members : ℕ) → Bool
 lists_fit next.X k p r m = left_fit k p r m
 lists_fit next.Y k p r m = left_fit k p r m
@@ -98,7 +99,8 @@ header_item kinds.Linestring = next.PointCount
 header_item kinds.Polygon = next.RingCount
 header_item _ = next.MemberCount
 
--- the first item of a body of this kind, or of a member of a multi-geometry of this kind; of a collection's member, its type byte
+-- the first item of a body of this kind, or of a member of a multi-geometry of this kind; of a
+-- collection's member, its type byte
 abbrev pub first_item : Kind → NextItem
 first_item kinds.Point = next.X
 first_item kinds.MultiPoint = next.X

@@ -18,11 +18,13 @@ open_in d = open_count (outline_in d)
 abbrev pub AreOpen : Engine → Notes → Type 0
 AreOpen d w = length w.begun ≡ open_in d
 
--- what an item of this role and number notes, of so many bytes, and the ends after it: all, if the blob ends, else those of the geometries that are open no more
+-- what an item of this role, number and width notes, and the ends after it: all, if the blob ends,
+-- else those of the geometries that are open no more
 abbrev pub notes_with : Role → (n width : ℕ) → (d e : Engine) → (ends : Bool) → Notes → Notes
 notes_with r n width d e ends w = note_ends_to (if ends then 0 else open_in e) (d.start + (d.bytes + width)) (d.points + points_by r n) (noted_by d.start (sums_of d) r n w)
 
--- what the ends note that come after what an engine took: all, if the blob ends, else those of the geometries that are open no more
+-- what the ends note that come after what an engine took: all, if the blob ends, else those of the
+-- geometries that are open no more
 abbrev pub notes_past : (d e : Engine) → (ends : Bool) → Notes → Notes
 notes_past d e ends = note_ends_to (if ends then 0 else open_in e) (d.start + d.bytes) d.points
 

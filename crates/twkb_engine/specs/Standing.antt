@@ -39,7 +39,8 @@ points_in d = d.points
 abbrev pub place_in : Engine → ℕ
 place_in d = d.start + d.bytes
 
--- the bytes are a blob so far: complete items, which are a part with these rows, and after them the first bytes of a number
+-- the bytes are a blob so far: complete items, which are a part with these rows, and after them the
+-- first bytes of a number
 pub record StandsAt (bytes : List ℕ) (rs : List Row) (d : Engine) : Type 0 where
   pub front : List ℕ
   pub whole : bytes ≡ front ++ held_in d
@@ -55,7 +56,8 @@ IsAlive rs d = ∥ ((bytes : List ℕ) × StandsAt bytes rs d) ∥₁
 abbrev pub notes_at : {bytes : List ℕ} {rs : List Row} {d : Engine} → StandsAt bytes rs d → Notes
 notes_at {d = d} s = notes_in d.start s.outlined
 
--- Wherever the engine stands, with these notes held, these bytes lead it on within its blob, and the notes of their items are held.
+-- Wherever the engine stands, with these notes held, these bytes lead it on within its blob, and
+-- the notes of their items are held.
 abbrev pub LeadsOn : {S : Type 0} → (S → Notes → Type 0) → List Row → Engine → S → List ℕ → List Row → Engine → S → Type 0
 LeadsOn holds rs d old bytes more e new = (front : List ℕ) (s : StandsAt front rs d) → (t : StandsAt (front ++ bytes) more e) × (holds old (notes_at s) → holds new (notes_at t))
 
@@ -63,7 +65,7 @@ LeadsOn holds rs d old bytes more e new = (front : List ℕ) (s : StandsAt front
 abbrev pub LeadsQuietly : List Row → Engine → List ℕ → List Row → Engine → Type 0
 LeadsQuietly rs d bytes more e = (front : List ℕ) (s : StandsAt front rs d) → (t : StandsAt (front ++ bytes) more e) × (notes_at t ≡ notes_at s)
 
--- so many of the bytes say this number in the role of the next item
+-- this number of bytes says this number in the role of the next item
 pub record SaysNext (d : Engine) (bytes : List ℕ) (n count : ℕ) : Type 0 where
   pub some : 0 < count
   pub within : count ≤ length bytes
@@ -74,8 +76,8 @@ pub record SaysNext (d : Engine) (bytes : List ℕ) (n count : ℕ) : Type 0 whe
 abbrev pub StopsIn : List Row → Engine → List ℕ → Type 0
 StopsIn rs d bytes = (front : List ℕ) → StandsAt front rs d → PartIn (allowance_of d) front bytes
 
--- the bytes are a blob so far, or a blob with these rows and none of a further one, or a part that was judged, for whose last item there is no memory, or they
--- have a first fault, whatever follows
+-- the bytes are a blob so far, or a blob with these rows and none of a further one, or a part that
+-- was judged, for whose last item there is no memory, or they have a first fault, whatever follows
 abbrev pub IsStep : Allowance → List ℕ → Result Bool Stop → List Row → Engine → Type 0
 IsStep limits bytes (Ok false) rs d = StandsAt bytes rs d
 IsStep limits bytes (Ok true) rs d = (g : Tree) × Blob limits bytes g × (rs ≡ rows 0 g) × StandsAt [] [] d
@@ -101,8 +103,9 @@ pub record MadeIn (limits : Allowance) (bs piece : List ℕ) (used : ℕ) (rs : 
 abbrev pub HoldsSpans : {S : Type 0} → (S → Notes → Type 0) → S → (start : ℕ) → {limits : Allowance} {bytes : List ℕ} {g : Tree} → Blob limits bytes g → Type 0
 HoldsSpans holds new start b = (w : Notes) × holds new w × (w.spans ≡ spans_of_blob start b)
 
--- What an engine answers to a piece: bytes of it were used, after which it stands with their notes; or those up to the end of a blob, whose rows and spans it has; or
--- there was no memory for an item of it, or one was refused.
+-- What an engine answers to a piece: bytes of it were used, after which it stands with their notes;
+-- or those up to the end of a blob, whose rows and spans it has; or there was no memory for an item
+-- of it, or one was refused.
 abbrev pub IsFed : {S : Type 0} → (S → Notes → Type 0) → (told : Type 0) → Allowance → (start : ℕ) → List ℕ → List ℕ → Result (ℕ × Bool) Stop → List Row → Engine → S → Type 0
 IsFed holds told limits start bs piece (Ok (used, false)) rs d new = (used ≤ length piece) × (d.start ≡ start) × (s : StandsAt (bs ++ take used piece) rs d) × (told → holds new (notes_at s))
 IsFed holds told limits start bs piece (Ok (used, true)) rs d new = (m : MadeIn limits bs piece used rs) × (told → HoldsSpans holds new start m.blob) × StandsAt [] [] d × (d.start ≡ start + (length bs + used))
@@ -124,6 +127,7 @@ abbrev pub IsEnd : Allowance → List ℕ → ℕ → Bool → Type 0
 IsEnd limits bs offset true = bs ≡ []
 IsEnd limits bs offset false = FirstFault limits bs offset Truncated
 
--- wherever the engine stands, that is its answer to the bytes; of the notes it is said if they were those of its items before
+-- wherever the engine stands, that is its answer to the bytes; of the notes it is said if they were
+-- those of its items before
 abbrev pub FedBy : {S : Type 0} → (S → Notes → Type 0) → Engine → List Row → S → List ℕ → Result (ℕ × Bool) Stop → Engine → List Row → S → Type 0
 FedBy holds d rs old bytes answer e more new = (bs : List ℕ) (s : StandsAt bs rs d) → IsFed holds (holds old (notes_at s)) (allowance_of d) d.start bs bytes answer more e new

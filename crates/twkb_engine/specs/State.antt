@@ -18,7 +18,7 @@ use Rattle.twkb_engine.specs.declared.engine.Engine.{Engine}
 
 -- ---- the optional parts of a header
 
--- so many numbers of a box
+-- this number of numbers of a box
 abbrev pub boxes : ℕ → List Role
 boxes zero = []
 boxes (suc n) = role.Box ∷ boxes n

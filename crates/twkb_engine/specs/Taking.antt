@@ -20,7 +20,7 @@ use Rattle.twkb_engine.specs.declared.engine.Engine.{Engine}
 use Rattle.twkb_engine.specs.declared.stop.Stop.{Stop}
 use Rattle.twkb_engine.specs.declared.stop.Stop.TheVariants.{Memory, Refused}
 
--- the sums after an item of this role and number, of so many bytes
+-- the sums after an item of this role, number and width
 abbrev pub sums_with : Sums → Role → (n width : ℕ) → Sums
 sums_with e r n width = record { bytes = e.bytes + width; position = moved e.position r n; nodes = e.nodes + nodes_by r n; points = e.points + points_by r n }
 
@@ -80,8 +80,9 @@ pub record SameBut (d e : Engine) : Type 0 where
   pub rings_left : e.rings_left ≡ d.rings_left
   pub members_left : e.members_left ≡ d.members_left
 
--- What an engine answers to an item of this role and number, of so many bytes: it leads on past the ends after it; or the blob ends with it; or it was judged, and so
--- were the sizes that end with it, but there is no memory for what it brings; or the grammar's first reason refuses it, or a size at its end.
+-- What an engine answers to an item of this role, number and width: it leads on past the ends after
+-- it; or the blob ends with it; or it was judged, and so were the sizes that end with it, but there
+-- is no memory for what it brings; or the grammar's first reason refuses it, or a size at its end.
 abbrev pub Takes : Role → (n width : ℕ) → Engine → List Row → Result Bool Stop → Engine → List Row → Type 0
 Takes r n width d rs (Ok false) e more = IsFree r n d × (way_of n width d ≡ Ok (outline_in e)) × (sums_of e ≡ sums_with (sums_of d) r n width) × (more ≡ applied (brings r n d) rs) × SameBlob d e
 Takes r n width d rs (Ok true) e more = IsFree r n d × (way_of n width d ≡ Ok ([], OnFinished)) × (more ≡ applied (brings r n d) rs) × BeginsAt (d.start + (d.bytes + width)) e
@@ -89,20 +90,23 @@ Takes r n width d rs (Err Memory) e more = IsFree r n d × Passes (way_of n widt
 Takes r n width d rs (Err (Refused why)) e more =
     ((objection d.limits (sums_of d) r n ≡ Some (reason_of why)) × (e.bytes ≡ d.bytes)) ⊎ (IsFree r n d × (way_of n width d ≡ Err (reason_of why)) × (e.bytes ≡ d.bytes + width))
 
--- what an engine answers to an item with which no geometry ends, and which is not refused: whether there is memory for it
+-- what an engine answers to an item with which no geometry ends, and which is not refused: whether
+-- there is memory for it
 abbrev pub TakesOn : {E : Type 0} → Role → (n width : ℕ) → Engine → List Row → Result ⊤ E → Engine → List Row → Type 0
 TakesOn r n width d rs (Ok u) e more = Takes r n width d rs (Ok false) e more
 TakesOn r n width d rs (Err why) e more = Takes r n width d rs (Err Memory) e more
 
--- What an engine answers from which this way leads on, with this change of the rows: it is further on that way; or the blob ends; or there is no memory for the change,
--- though the sizes were judged; or one is wrong.
+-- What an engine answers from which this way leads on, with this change of the rows: it is further
+-- on that way; or the blob ends; or there is no memory for the change, though the sizes were
+-- judged; or one is wrong.
 abbrev pub Lands : Result Outline Reason → Change → Engine → List Row → Result Bool Stop → Engine → List Row → Type 0
 Lands way change d rs (Ok false) e more = (way ≡ Ok (outline_in e)) × (sums_of e ≡ sums_of d) × (more ≡ applied change rs) × SameBlob d e
 Lands way change d rs (Ok true) e more = (way ≡ Ok ([], OnFinished)) × (more ≡ applied change rs) × BeginsAt (d.start + d.bytes) e
 Lands way change d rs (Err Memory) e more = Passes way
 Lands way change d rs (Err (Refused why)) e more = (way ≡ Err (reason_of why)) × (e.bytes ≡ d.bytes)
 
--- An item of this role and number, of so many bytes, leads that way, with this change of the rows, and this engine is the one before the ends that follow the item.
+-- An item of this role, number and width leads that way, with this change of the rows, and this
+-- engine is the one before the ends that follow the item.
 pub record LeadsTo (r : Role) (n width : ℕ) (d : Engine) (way : Result Outline Reason) (change : Change) (m : Engine) : Type 0 where
   pub free : IsFree r n d
   pub way_is : way_of n width d ≡ way

@@ -78,8 +78,8 @@ impl Engine {
         self.last_point(flat, spans, position)
     }
 
-    // Puts the last point of a list, or a point that is in none, and goes past the lists that end with it. It takes memory once the sizes
-    // are judged.
+    // Puts the last point of a list, or a point that is in none, and goes past the lists that end
+    // with it. It takes memory once the sizes are judged.
     #[inline(never)]
     pub(crate) fn last_point<S: SpanNotes>(
         &mut self,
@@ -189,7 +189,8 @@ impl Engine {
         Ok(ends)
     }
 
-    // Goes past the end of a list of points, or of a point that is in none: to the next ring or member, or past the end of the geometry.
+    // Goes past the end of a list of points, or of a point that is in none: to the next ring or
+    // member, or past the end of the geometry.
     #[inline(always)]
     fn end_value<S: SpanNotes>(&mut self, spans: &mut S) -> Result<bool, Stop>
         requires last { self.old.points_left ≡ 0 }

@@ -14,7 +14,7 @@ use crate::stop::Stop;
 use twkb_body::{Head, own_row, push_row};
 use twkb_flat::Flat;
 
-// Whether a geometry that ends after so many bytes has the size that it declared, if any.
+// Whether a geometry that ends after this number of bytes has the size that it declared, if any.
 #[inline(always)]
 fn is_exact(head: &Head, bytes: u64) -> bool
     ensures { result ≡ exact head.now.size (bytes - head.now.from) }
@@ -31,8 +31,8 @@ impl Engine {
     ghost use Rattle.twkb_engine.specs.Taking.{Lands, Keeps, past_end, own_row};
     ghost use Rattle.twkb_engine.specs.Notes.{NotesGo, notes_past};
 
-    // Ends the geometry that is read, and each collection of which it is the last member, while their sizes are exact; returns whether the
-    // blob ends with it. Takes no memory.
+    // Ends the geometry that is read, and each collection of which it is the last member, while
+    // their sizes are exact; returns whether the blob ends with it. Takes no memory.
     pub(crate) fn end_geometry<S: SpanNotes>(&mut self, spans: &mut S) -> Result<bool, Stop>
         requires shut { are_shut self.old.points_left self.old.rings_left self.old.members_left ≡ true }
         requires inside { IsInside self.old.next }
@@ -62,7 +62,8 @@ impl Engine {
         }
     }
 
-    // Ends a geometry that has no body, or no members. Its row, which takes memory, is pushed once the sizes are judged.
+    // Ends a geometry that has no body, or no members. Its row, which takes memory, is pushed once
+    // the sizes are judged.
     pub(crate) fn end_empty<S: SpanNotes>(
         &mut self,
         flat: &mut Flat,

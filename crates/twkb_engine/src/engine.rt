@@ -17,8 +17,9 @@ use twkb_num::{Leb128, Partial};
 use twkb_points::Pt;
 use twkb_tree::Limits;
 
-/// A blob that is read byte by byte into a flat form, which is borrowed by each call: the item that comes next, what is open round it, the
-/// sums of the items so far, and the bytes of a number that is not complete.
+/// A blob that is read byte by byte into a flat form, which is borrowed by each call: the item that
+/// comes next, what is open round it, the sums of the items so far, and the bytes of a number that
+/// is not complete.
 #[derive(Drop)]
 pub struct Engine {
     pub(crate) limits: Limits,
@@ -31,7 +32,8 @@ pub struct Engine {
     pub(crate) nodes: u64,
     pub(crate) points: u64,
     pub(crate) collections: OpenCollections,
-    // The geometry that is read: its header, its members' ids, and the number of values after the open one in each of its lists.
+    // The geometry that is read: its header, its members' ids, and the number of values after the
+    // open one in each of its lists.
     pub(crate) head: Head,
     pub(crate) ids: MemberIds,
     pub(crate) members_left: u64,
@@ -97,8 +99,8 @@ impl Engine {
         self.next = NextItem::TypeByte;
     }
 
-    // Takes the next item, which is this number of so many bytes; returns whether the blob ends with it. A row, a point, an id, an open
-    // collection and a span take memory.
+    // Takes the next item, which is this number, of `width` bytes; returns whether the blob ends
+    // with it. A row, a point, an id, an open collection and a span take memory.
     #[inline(never)]
     pub(crate) fn take<S: SpanNotes>(
         &mut self,

@@ -1,5 +1,5 @@
-//! The three ways in: a held number that further bytes complete, an item that is complete at the start of the bytes, and points of a list
-//! many at once.
+//! The three ways in: a held number that further bytes complete, an item that is complete at the
+//! start of the bytes, and points of a list many at once.
 ghost use Rattle.std.specs.Prelude.{◌≡◌, ◌+◌, ◌<◌, ◌≤◌, ◌^◌, ◌∷◌, [], List, IfOk, IfSome, OnErr, take, length};
 
 use crate::blob_reason::BlobReason;
@@ -57,7 +57,8 @@ impl Engine {
         front_number(rest)
     }
 
-    // Takes the next item, or a byte of it if it is not complete; returns how many bytes were taken, and whether the blob ends with them.
+    // Takes the next item, or a byte of it if it is not complete; returns how many bytes were
+    // taken, and whether the blob ends with them.
     #[inline(always)]
     fn take_item<S: SpanNotes>(
         &mut self,
@@ -82,8 +83,8 @@ impl Engine {
         Ok((1, ends))
     }
 
-    // Takes points of a list, or members of a multipoint, many at once, but not the last; else one point; returns how many bytes were taken,
-    // or 0, and whether the blob ends with them.
+    // Takes points of a list, or members of a multipoint, many at once, but not the last; else one
+    // point; returns how many bytes were taken, or 0, and whether the blob ends with them.
     #[inline(always)]
     fn take_points<S: SpanNotes>(
         &mut self,
@@ -110,8 +111,8 @@ impl Engine {
         self.take_point(flat, spans, rest)
     }
 
-    // Takes a point that is the last of its list, or in none, if it is complete; returns how many bytes were taken, or 0, and whether the
-    // blob ends with them.
+    // Takes a point that is the last of its list, or in none, if it is complete; returns how many
+    // bytes were taken, or 0, and whether the blob ends with them.
     #[inline(always)]
     fn take_point<S: SpanNotes>(
         &mut self,
@@ -136,8 +137,8 @@ impl Engine {
         Ok((used, ends))
     }
 
-    // Takes points of the open list, but not its last, and returns how many bytes they had. They take memory. A frame of its own, for the sake
-    // of its callers' registers.
+    // Takes points of the open list, but not its last, and returns how many bytes they had. They
+    // take memory. A frame of its own, for the sake of its callers' registers.
     #[inline(never)]
     fn take_list(&mut self, flat: &mut Flat, rest: &[u8]) -> Result<usize, AllocError>
         requires next { self.old.next ≡ X }
@@ -159,8 +160,8 @@ impl Engine {
         Ok(taken.used)
     }
 
-    // Takes members of a multipoint after its first, but not its last, and returns how many bytes they had. They take memory. A frame of its
-    // own, as `take_list`.
+    // Takes members of a multipoint after its first, but not its last, and returns how many bytes
+    // they had. They take memory. A frame of its own, as `take_list`.
     #[inline(never)]
     fn take_members(&mut self, flat: &mut Flat, rest: &[u8]) -> Result<usize, AllocError>
         requires next { self.old.next ≡ X }
@@ -261,9 +262,10 @@ impl Engine {
         Ok((used, false))
     }
 
-    /// Takes bytes up to the end of a blob, else all of them; returns how many, and whether a blob ends with them. The form has no rows when
-    /// a blob begins, and then those that were read of it; the rows of a blob that ended stay in it, and the next call needs it cleared. A
-    /// row, a point, an id, an open collection and a span take memory.
+    /// Takes bytes up to the end of a blob, else all of them; returns how many, and whether a blob
+    /// ends with them. The form has no rows when a blob begins, and then those that were read of
+    /// it; the rows of a blob that ended stay in it, and the next call needs it cleared. A row, a
+    /// point, an id, an open collection and a span take memory.
     #[inline(always)]
     pub fn feed<S: SpanNotes>(
         &mut self,

@@ -58,7 +58,7 @@ impl Engine {
         spans.begin(self.offset(), self.points, byte)
     }
 
-    // What the metadata byte says of the geometry, after which come so many bytes of its header that no size counts.
+    // Keeps what the metadata byte says of the geometry: it has no size yet, and its bytes count from here.
     #[inline(always)]
     fn set_metadata<S: SpanNotes>(&mut self, spans: &mut S, metadata: Metadata)
         ensures head { head_of self.new.head ≡ record { precision = self.old.head.precision; meta = metadata; size = None; from = self.old.bytes } }
@@ -190,7 +190,7 @@ impl Engine {
         self.after_size(flat, spans, Metadata::from_byte(self.head.metadata))
     }
 
-    // Takes a number of a box, with so many after it.
+    // Takes a number of a box, with `left` more after it.
     #[inline(always)]
     pub(crate) fn box_number<S: SpanNotes>(
         &mut self,
@@ -305,8 +305,9 @@ impl Engine {
         self.next = NextItem::after_header(self.head.kind);
     }
 
-    // Takes a header that is complete, with a body after it; returns how many bytes it has, or 0, and then it changes nothing: a point that
-    // it announces may be one too many. A span takes memory.
+    // Takes a header that is complete, with a body after it; returns how many bytes it has, or 0,
+    // and then it changes nothing: a point that it announces may be one too many. A span takes
+    // memory.
     #[inline(always)]
     pub(crate) fn take_header<S: SpanNotes>(
         &mut self,

@@ -1,4 +1,5 @@
-//! The resumable reader of TWKB blobs: bytes in, rows of a flat form or the first fault out, in whatever pieces the bytes come.
+//! The resumable reader of TWKB blobs: bytes in, rows of a flat form or the first fault out, in
+//! whatever pieces the bytes come.
 #![tactic(auto)]
 
 mod blob_reason;

@@ -35,7 +35,7 @@ impl Engine {
     ghost use Rattle.twkb_engine.specs.Notes.{NotesGo, notes_with, notes_past, open_in};
     ghost use Rattle.twkb_engine.specs.Standing.{IsAlive};
 
-    // Why there may not be so many rows and points more.
+    // Why this number of further rows and points is not allowed, if it is not.
     #[inline(always)]
     pub(crate) fn too_many(&self, nodes: u64, points: u64) -> Option<BlobReason>
         ensures { objection_of result ≡ unless (nat_lt self.now.limits.nodes (self.now.nodes + nodes)) fault.TooManyNodes (unless (nat_lt self.now.limits.points (self.now.points + points)) fault.TooManyPoints None) }
@@ -49,7 +49,7 @@ impl Engine {
         None
     }
 
-    // The points that so many members announce.
+    // The number of points that this number of members announces.
     #[inline(always)]
     fn member_points(&self, count: u64) -> u64
         ensures { result ≡ points_of (first_count (many_of self.now.head.kind) (length (groups_of self.now.collections))) count }
@@ -60,7 +60,7 @@ impl Engine {
         0
     }
 
-    // Why there may not be so many members, with so many points.
+    // Why this number of members, with this number of points, is not allowed, if it is not.
     #[inline(always)]
     fn too_many_members(&self, count: u64, points: u64) -> Option<BlobReason>
         requires next { self.now.next ≡ next.MemberCount }
@@ -118,8 +118,8 @@ impl Engine {
         self.end_empty(flat, spans)
     }
 
-    // Goes to the members of a geometry that has so many: to the first id if they have ids, else to the first member. A row and an open
-    // collection take memory.
+    // Goes to the members of a geometry that has `count` of them: to the first id if they have ids,
+    // else to the first member. A row and an open collection take memory.
     #[inline(always)]
     fn begin_counted(&mut self, flat: &mut Flat, count: u64) -> Result<(), AllocError>
         requires next { self.old.next ≡ next.MemberCount }

@@ -15,7 +15,7 @@ pub(crate) enum NextItem {
     ExtendedByte,
     // The size.
     Size,
-    // A number of the box, with so many after it.
+    // A number of the box, with `left` more after it.
     BoxNumber { left: u8 },
     // The count of members of a multi-geometry or a collection.
     MemberCount,
@@ -56,7 +56,8 @@ impl NextItem {
         }
     }
 
-    // The first item of a body of this kind, or of a member of a multi-geometry of this kind; of a collection's member, its type byte.
+    // The first item of a body of this kind, or of a member of a multi-geometry of this kind; of a
+    // collection's member, its type byte.
     #[inline(always)]
     pub(crate) fn first_of(kind: Kind) -> NextItem
         ensures { result ≡ first_item kind }

@@ -20,7 +20,8 @@ const INLINE: usize = 1;
 // A growth adds this many places at least: room for four at first, and no more growths than of a `Vec`.
 const MORE: usize = 3;
 
-// A collection that is begun and not finished: its header, the ids from the open member on, and the number of members after that one.
+// A collection that is begun and not finished: its header, the ids from the open member on, and the
+// number of members after that one.
 #[derive(Drop)]
 pub(crate) struct OpenCollection {
     head: Head,
@@ -48,8 +49,8 @@ pub(crate) enum MemberEnd {
     Collection(Head),
 }
 
-// The open collections, the innermost last. A place is kept after its collection ends, for the next one as deep: nothing is dropped, and
-// no blank is written.
+// The open collections, the innermost last. A place is kept after its collection ends, for the next
+// one as deep: nothing is dropped, and no blank is written.
 #[derive(Drop)]
 pub(crate) struct OpenCollections {
     places: SmallVec<OpenCollection, INLINE>,
@@ -64,7 +65,8 @@ impl Model for OpenCollections {
     ghost invariant = { λ c. c.count ≤ length c.places.items };
 }
 
-// Adds a place. Out of line: it runs once for each depth. It makes the blank itself, so that no caller keeps a collection in memory for it.
+// Adds a place. Out of line: it runs once for each depth. It makes the blank itself, so that no
+// caller keeps a collection in memory for it.
 #[cold]
 #[inline(never)]
 fn make_place(places: &mut SmallVec<OpenCollection, INLINE>) -> Result<(), AllocError>
@@ -109,8 +111,8 @@ impl OpenCollections {
         self.places.as_slice()[self.count - 1].ids.first()
     }
 
-    // Opens a collection in those that are open, with the ids of its members, for which it gives other room. Takes memory if more are open
-    // than ever before; an `Err` changes nothing.
+    // Opens a collection in those that are open, with the ids of its members, for which it gives
+    // other room. Takes memory if more are open than ever before; an `Err` changes nothing.
     #[inline(always)]
     pub(crate) fn push(
         &mut self,
@@ -142,8 +144,8 @@ impl OpenCollections {
         self.count = 0;
     }
 
-    // Ends a member of the innermost collection: the next member begins, or the collection ends with it, and the room of its ids is given
-    // back.
+    // Ends a member of the innermost collection: the next member begins, or the collection ends
+    // with it, and the room of its ids is given back.
     #[inline(always)]
     pub(crate) fn end_member(&mut self, ids: &mut MemberIds) -> MemberEnd
         ensures blob { IfBlob result (self.old ≡ []) }

@@ -48,8 +48,9 @@ fn point_span(offset: u64, blob: &[u8]) -> Span
 impl Engine {
     ghost use Rattle.twkb_engine.specs.Standing.{FedBy, StopsIn, held_in};
 
-    // Takes a blob that is a single point, if all of it is complete, it has no optional part but a size of one byte, and that is exact; returns
-    // how many bytes it has, or 0, and then it changes nothing. The row and a span take memory. A frame of its own, for its callers' registers.
+    // Takes a blob that is a single point, if all of it is complete, it has no optional part but a
+    // size of one byte, and that is exact; returns how many bytes it has, or 0, and then it changes
+    // nothing. The row and a span take memory. A frame of its own, for its callers' registers.
     #[inline(never)]
     pub(crate) fn take_root_point<S: SpanNotes>(
         &mut self,

@@ -10,7 +10,7 @@ pub trait SpanNotes {
     // These notes are held; what notes nothing holds any.
     ghost holds: { Self → Notes → Type 0 };
 
-    /// A geometry begins with this type byte at this offset, after so many points. Takes memory.
+    /// A geometry begins with this type byte at this offset, after this number of points. Takes memory.
     fn begin(&mut self, offset: u64, points: u64, byte: TypeByte) -> Result<(), AllocError>
         ensures { OnOk result ((w : Notes) → length w.begun < 2 ^ 32 → holds self.old w → holds self.new (note_header offset points byte w)) };
 
@@ -18,7 +18,7 @@ pub trait SpanNotes {
     fn set_metadata(&mut self, byte: u8)
         ensures { (w : Notes) → holds self.old w → holds self.new (note_metadata byte w) };
 
-    /// The innermost geometry ends at this offset, with so many points up to there. Takes no memory.
+    /// The innermost geometry ends at this offset, with this number of points up to there. Takes no memory.
     fn end(&mut self, offset: u64, points: u64)
         ensures { (w : Notes) → holds self.old w → holds self.new (note_end offset points w) };
 

@@ -21,8 +21,8 @@ pub record AreEnds (base radix : ℕ) (bytes : List ℕ) (ends : ℕ) : Type 0 w
   pub units : List ℕ
   pub are : AreUnits base radix bytes units ends
 
--- no end is left out: if at most `most` first units are all in the alphabet and none of them pads a number, a bit is set for each of
--- them that ends a number
+-- no end is left out: if at most `most` first units are all in the alphabet and none of them pads a
+-- number, a bit is set for each of them that ends a number
 abbrev pub HasEndsOf : ℕ → ℕ → ℕ → List ℕ → ℕ → Type 0
 HasEndsOf most base radix bytes ends = (units : List ℕ) (marks : ℕ) → AreUnits base radix bytes units marks → length units ≤ most → ends % 2 ^ length units ≡ marks
 
@@ -36,7 +36,8 @@ pub record AreMarks (radix most : ℕ) (units : List ℕ) (m : Marks) : Type 0 w
 abbrev pub IsFault : ℕ → ℕ → List ℕ → ℕ → Type 0
 IsFault radix most units k = (most < get_or units k 0) ⊎ ((suc k < length units) × (get_or units (suc k) 0 ≡ 0) × (radix ≤ get_or units k 0))
 
--- the ends of the units before the first fault, or of the first 63; of these none is above `most` and none pads a number
+-- the ends of the units before the first fault, or of the first 63; of these none is above `most`
+-- and none pads a number
 pub record AreEndsBefore (radix most : ℕ) (units : List ℕ) (ends : ℕ) : Type 0 where
   pub count : ℕ
   pub marks : ends ≡ mask_l (map (λ u. nat_lt u radix) (take count units))

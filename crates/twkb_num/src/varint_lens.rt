@@ -37,9 +37,15 @@ fn more_lens(first: u32, second: u32, third: u32, fourth: u32) -> u32x4
     let numbers = u32x4::from_array([first, second, third, fourth]);
     let none = u32x4::splat(0);
     let one = u32x4::splat(1);
-    numbers.simd_ge(u32x4::splat(TWO_BYTES as u32)).select(one, none)
-        + numbers.simd_ge(u32x4::splat(THREE_BYTES as u32)).select(one, none)
-        + numbers.simd_ge(u32x4::splat(FOUR_BYTES as u32)).select(one, none)
+    numbers
+        .simd_ge(u32x4::splat(TWO_BYTES as u32))
+        .select(one, none)
+        + numbers
+            .simd_ge(u32x4::splat(THREE_BYTES as u32))
+            .select(one, none)
+        + numbers
+            .simd_ge(u32x4::splat(FOUR_BYTES as u32))
+            .select(one, none)
 }
 
 impl VarintLens {

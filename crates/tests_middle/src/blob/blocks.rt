@@ -1,4 +1,5 @@
-//! Lines whose points are read in blocks, eight at a time, and byte by byte: made ones, on both sides of each threshold.
+//! Lines whose points are read in blocks, eight at a time, and byte by byte: made ones, on both
+//! sides of each threshold.
 use std::alloc::{AllocError, Global};
 use twkb_blob::{BlobFault, Session};
 use twkb_geom::{Flat, Limits, PointId, Work};
@@ -9,8 +10,8 @@ fn put_step(bytes: &mut Vec<u8>, step: i64) -> Result<(), AllocError> {
     bytes.extend_from_slice(NumBuf::put::<Leb128>(zigzag(step)).as_slice())
 }
 
-// A line of so many points, below 128, as a blob: the first at this x and at 0, and each as far along x from the one before it, and
-// three times as far down.
+// A line of so many points, below 128, as a blob: the first at this x and at 0, and each as far
+// along x from the one before it, and three times as far down.
 fn made_line(alloc: Global, count: u8, start: i64, step: i64) -> Result<Vec<u8>, AllocError> {
     let mut bytes = Vec::new(alloc);
     bytes.extend_from_slice(&[2, 0, count])?;
@@ -56,7 +57,8 @@ enum Reading {
     Other,
 }
 
-// Whether the line is read so, in one piece and byte by byte, with the same fault if it is refused; or memory is refused.
+// Whether the line is read so, in one piece and byte by byte, with the same fault if it is refused;
+// or memory is refused.
 fn is_read(alloc: Global, count: u8, start: i64, step: i64, wanted: Reading) -> bool {
     let Ok(line) = made_line(alloc, count, start, step) else {
         return true;
@@ -77,7 +79,8 @@ fn is_read(alloc: Global, count: u8, start: i64, step: i64, wanted: Reading) -> 
     is_same & (reading == wanted)
 }
 
-// Whether lines of each count on both sides of what a block holds, eight points and their multiples, are read as they were made.
+// Whether lines of each count on both sides of what a block holds, eight points and their
+// multiples, are read as they were made.
 fn counts_are_read(alloc: Global, start: i64, step: i64) -> bool {
     let mut all = true;
     for count in 0..60 {
@@ -104,7 +107,8 @@ fn points_are_read_in_blocks_up_to_the_inner_points_border(rt: HostRuntime) {
     assert!(rt; up & counts_are_read(alloc, 1_000_000_000 - (1 << 61), -40_000_000));
 }
 
-// Whether a line to the edge of the range is refused from the point on that leaves it, after however many points that comes.
+// Whether a line to the edge of the range is refused from the point on that leaves it, after
+// however many points that comes.
 fn is_refused_past_the_range(alloc: Global, edge: i64, step: i64) -> bool {
     let mut all = true;
     for inside in 1..30 {

@@ -5,7 +5,8 @@ use Rattle.twkb_tree.specs.RowGrowth.{EndsInLine}
 use Rattle.twkb_body.specs.Running.{ListLeads}
 use Rattle.twkb_body.proofs.list_points.take_eights.Given as goal
 
--- the bytes so far are points that were taken, the row takes those that are left, and the ends are those of the bytes that are left
+-- the bytes so far are points that were taken, the row takes those that are left, and the ends are
+-- those of the bytes that are left
 abbrev pub invariant-loop-left : goal.invariant-loop-left
 invariant-loop-left l = record {
   leads : ListLeads l.initial.flat l.initial.position l.bytes l.initial.left (record { used = l.used; position = l.position }) l.left l.flat;
