@@ -1,6 +1,6 @@
 -- The points of blobs that a reader gave, counted.
 use Rattle.std.proofs.Common.{◌≡◌, ◌∙◌, ◌+◌, ℕ, List, [], ◌∷◌, ◌++◌, Option, length, arith, refl, sym, subst, length-append, false}
-use Rattle.std.specs.Prelude.{None, Some, Ok, IfSome}
+use Rattle.std.specs.Prelude.{None, Some, Ok}
 use Rattle.std.proofs.lemmas.List.{append-nil}
 use Rattle.std.proofs.KnownBytes.{Consumes-nil, Consumes-trans, Consumes-whole}
 use Rattle.std.specs.Io.KnownBytes.{Consumes}
@@ -48,7 +48,7 @@ module _ {R : Type 0} {read : Ghosts R} (limits : Allowance) (told : Option (Lis
   -- one more blob was counted
   pub gave_more : (old new : Reader R read) (count points total : ℕ) (found : Option Tree) (g : Tree) → GavePoints limits told old count
       → IsNext (reader_limits old) (reader_input old) (reader_input new) (Ok found) → found ≡ Some g → points ≡ saturated (length (flat g)) → total ≡ saturated (count + points)
-      → reader_limits new ≡ reader_limits old → is_spent new ≡ false → IfSome found (λ _. has_ended new ≡ false) → GavePoints limits told new total
+      → reader_limits new ≡ reader_limits old → is_spent new ≡ false → has_ended new ≡ false → GavePoints limits told new total
   gave_more old new count points total found g gave next is own sum same live going_on =
       let makes : Makes (reader_limits old) [] (reader_input old) (reader_input new) g = subst (λ f. IsNext (reader_limits old) (reader_input old) (reader_input new) (Ok f)) is next in
       let here : Makes limits [] (reader_input old) (reader_input new) g = subst (λ l. Makes l [] (reader_input old) (reader_input new) g) gave.limited makes in
@@ -60,7 +60,7 @@ module _ {R : Type 0} {read : Ghosts R} (limits : Allowance) (told : Option (Lis
         points = omega (arith, sum, own, gave.points, points_more gave.geometries g);
         limited = same ∙ gave.limited;
         live = live;
-        going_on = subst (λ f. IfSome f (λ _. has_ended new ≡ false)) is going_on;
+        going_on = going_on;
       }
 
   -- at the end all blobs were counted
