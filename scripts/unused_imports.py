@@ -63,7 +63,8 @@ def unused(text, ending, traits):
         if key not in known:
             known[key] = words(USE.sub("", code[line.end():].split("\n}")[0] if indent else code), kind)
         for name in () if public else imported(path, names):
-            if not (kind == "use" and name in traits or known[key].issuperset(filter(None, name.split("◌")))):
+            if not (kind == "use" and name in traits or name in known[key]
+                    or known[key].issuperset(filter(None, name.split("◌")))):
                 yield name
 
 

@@ -1,4 +1,4 @@
-use Rattle.std.proofs.Common.{sym, subst, Err}
+use Rattle.std.proofs.Common.{sym, subst, ◌≡◌, Err}
 use Rattle.std.specs.Prelude.{Result, ⊤}
 use Rattle.twkb_engine.specs.Standing.{place_in, count_of}
 use Rattle.twkb_engine.specs.declared.blob_reason.BlobReason.TheVariants as reason
