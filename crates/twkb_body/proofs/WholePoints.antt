@@ -4,10 +4,10 @@ use Rattle.std.proofs.Math.Seq.{take-add}
 use Rattle.std.proofs.lemmas.List.{length-drop, take_rest}
 use Rattle.twkb_points.specs.Point.{Point, origin}
 use Rattle.twkb_body.specs.Front.{PointInFront}
-use Rattle.twkb_body.specs.Whole.{HeaderInFront, WholePoint}
+use Rattle.twkb_body.specs.Whole.{PointHeader, WholePoint}
 
 -- a point after a header
-pub behind_header : (bytes : List ℕ) (size : Option ℕ) (header steps : ℕ) (from to : Point) → from ≡ origin → HeaderInFront bytes size header → PointInFront from (take (length bytes - header) (drop header bytes)) to steps
+pub behind_header : (bytes : List ℕ) (size : Option ℕ) (header steps : ℕ) (from to : Point) → from ≡ origin → PointHeader bytes size header → PointInFront from (take (length bytes - header) (drop header bytes)) to steps
     → WholePoint bytes to (header + steps) size
 behind_header bytes size header steps from to start h cut =
     let p : PointInFront origin (drop header bytes) to steps = subst (λ l. PointInFront origin l to steps) (take_rest bytes header) (subst (λ o. PointInFront o (take (length bytes - header) (drop header bytes)) to steps) start cut) in

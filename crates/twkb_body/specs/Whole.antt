@@ -18,7 +18,7 @@ abbrev pub header_bytes : (first : ℕ) → Option ℕ → List ℕ
 header_bytes first size = first ∷ metadata_with size ∷ size_bytes size
 
 -- the first `count` bytes are a point's own header, which asks for nothing, or for this size of one byte
-pub record HeaderInFront (bytes : List ℕ) (size : Option ℕ) (count : ℕ) : Type 0 where
+pub record PointHeader (bytes : List ℕ) (size : Option ℕ) (count : ℕ) : Type 0 where
   pub within : count ≤ length bytes
   pub kind : get_or bytes 0 0 % 16 ≡ 1
   pub short : IfSome size (λ n. n < 128)

@@ -6,7 +6,7 @@ use crate::parts::{Parts, front_parts};
 use twkb_grammar::{Metadata, TypeByte};
 
 // Bytes of a header without optional parts: a type byte and a metadata byte.
-const BARE: usize = 2;
+pub(crate) const BARE: usize = 2;
 
 /// A header of a geometry with a body: its type byte, its metadata byte, its optional parts, after
 /// how many bytes of the geometry its size counts, and how many bytes it has.

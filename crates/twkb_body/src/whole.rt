@@ -1,14 +1,12 @@
 //! A point that is complete at the start of bytes, with its header.
 ghost use Rattle.std.specs.Prelude.{◌≤◌, IfSome};
-ghost use Rattle.twkb_body.specs.Whole.{HeaderInFront, WholePoint};
+ghost use Rattle.twkb_body.specs.Whole.{PointHeader, WholePoint};
 
+use crate::header::BARE;
 use crate::points::front_point;
 use twkb_grammar::{Metadata, TypeByte};
 use twkb_num::GOES_ON;
 use twkb_points::Pt;
-
-// Bytes of a header without optional parts: a type byte and a metadata byte.
-const BARE: usize = 2;
 
 /// Bytes of a header with a size of one byte, and no other optional part.
 pub const SIZED: usize = 3;
@@ -25,8 +23,8 @@ pub struct Whole {
 // The size that a point's own header declares, if any, and how many bytes the header has; `None` if
 // it is no point's, or asks for more.
 #[inline(always)]
-fn front_header(bytes: &[u8]) -> Option<(Option<u64>, usize)>
-    ensures { IfSome result (λ front. HeaderInFront bytes.now front.0 front.1) }
+fn point_header(bytes: &[u8]) -> Option<(Option<u64>, usize)>
+    ensures { IfSome result (λ front. PointHeader bytes.now front.0 front.1) }
 {
     let first = TypeByte::from_byte(*bytes.first()?);
     if !first.is_point() {
@@ -52,7 +50,7 @@ fn front_header(bytes: &[u8]) -> Option<(Option<u64>, usize)>
 pub fn whole_point(bytes: &[u8]) -> Option<Whole>
     ensures { IfSome result (λ front. WholePoint bytes.now front.to front.used front.size) }
 {
-    let (size, header) = front_header(bytes)?;
+    let (size, header) = point_header(bytes)?;
     let (to, steps) = front_point(Pt::origin(), &bytes[header..])?;
     Some(Whole {
         to,
