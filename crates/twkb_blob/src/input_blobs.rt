@@ -61,7 +61,8 @@ pub(crate) fn feed_piece<S: SpanNotes>(
     }
 }
 
-// What the end of a stream is to an engine: no blob is open, or one is cut.
+// Judges the end of a stream: `Ok` if no blob is begun, else `Truncated` where the next item is
+// missing.
 pub(crate) fn at_end(engine: &Engine) -> Result<(), BlobFault>
     ensures answer { result ≡ ends_at engine.now }
     ensures end { (bs : List ℕ) (rs : List Row) → StandsAt bs rs engine.now → IsEnd (allowance_of engine.now) bs (offset_in engine.now) (is_ok result) }

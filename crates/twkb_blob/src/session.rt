@@ -24,15 +24,15 @@ pub struct Session {
     alloc: Global,
     engine: Engine,
     rows: Rows,
-    /// Whether the form still has the rows of the last geometry.
+    /// Whether `rows` still has the rows of the last geometry.
     is_whole: bool,
     spent: bool,
     ghost taken_few: { spent ≡ false → engine.start + count_of engine ≤ 2 ^ 62 },
     ghost alive: { spent ≡ false → IsAlive (if is_whole then [] else rows.flat) engine },
 }
 
-// What a feed returns if no geometry ends with these bytes. Made in a call of its own, it is written into its place
-// with no copy.
+// The result of a feed with which no geometry ends. A separate function, so that the result is
+// built in place and not copied.
 #[inline(always)]
 fn none_after(used: usize) -> Result<(usize, Option<Geometry>), BlobFault>
     ensures { result ≡ Ok (used, None) }
@@ -40,7 +40,7 @@ fn none_after(used: usize) -> Result<(usize, Option<Geometry>), BlobFault>
     Ok((used, None))
 }
 
-// What a feed returns if it is refused, made in a call of its own too.
+// The result of a feed that is refused. A separate function, as `none_after`.
 #[inline(always)]
 fn refused(fault: BlobFault) -> Result<(usize, Option<Geometry>), BlobFault>
     ensures { result ≡ Err fault }
@@ -71,10 +71,11 @@ impl Session {
         }
     }
 
-    /// Takes bytes of the piece up to the end of a geometry, else all of them, and returns how
-    /// many. A stream has at most 2^62 bytes: what ends or is refused before comes first, and only
-    /// then `TooLong`. After an `Err` each call returns `Spent`. It takes memory for what it keeps
-    /// and for the geometry, and none for a count that it reads.
+    /// Takes bytes of the piece up to the end of a geometry, else all of them; returns how many,
+    /// and the geometry if one ended. Past 2^62 bytes of the stream it is `TooLong`, unless a
+    /// geometry ends or a fault comes earlier. After an `Err` each feed and `finish` return
+    /// `Spent`. It takes memory for what it keeps and for the geometry, and none for a count that
+    /// it reads.
     pub fn feed(&mut self, piece: &[u8]) -> Result<(usize, Option<Geometry>), BlobFault>
         ensures fed { (bytes : List ℕ) (gs : List Tree) → Stands bytes gs self.old → FedSession bytes gs piece.now result self.new }
         ensures spent { (result ≡ Err BlobFault.Spent) ↔ (is_spent self.old ≡ true) }
@@ -89,8 +90,8 @@ impl Session {
         self.give_tree(used)
     }
 
-    // What a feed returns after bytes with which a geometry ended. In the frame of `feed`, but with places of
-    // its own for what it moves: those of `feed` would be cleared for each byte.
+    // The result of a feed with which a geometry ended. A separate function: the places of what it
+    // moves, in `feed` itself, would be cleared for each byte.
     #[inline(always)]
     fn give_tree(&mut self, used: usize) -> Result<(usize, Option<Geometry>), BlobFault>
         requires live { self.old.spent ≡ false }
@@ -107,7 +108,7 @@ impl Session {
         Ok((used, found))
     }
 
-    // The tree of the rows in the form, if there are any.
+    // The tree of the rows, if there are any.
     fn tree(&self) -> Result<Option<Geometry>, AllocError>
         ensures rows { IfOk result (λ found. IfSome found (λ g. rows 0 g ≡ session_rows self.now)) }
         ensures valid { IfOk result (λ found. IfSome found (λ g. IsValid largest_limits g)) }
@@ -122,7 +123,7 @@ impl Session {
         }
     }
 
-    // Has each further call return `Spent`, and clears the form.
+    // Has each further feed return `Spent`, and clears the rows.
     pub(crate) fn give_up(&mut self)
         ensures spent { self.new.spent ≡ true }
         ensures engine { self.new.engine ≡ self.old.engine }
@@ -273,7 +274,7 @@ impl Session {
         }
     }
 
-    // Clears the form if it still has the rows of the last geometry.
+    // Clears the rows if they are still those of the last geometry.
     #[inline(always)]
     fn begin(&mut self)
         ensures stands { (bytes : List ℕ) (gs : List Tree) → Stands bytes gs self.old → Stands bytes gs self.new }
@@ -288,8 +289,8 @@ impl Session {
         }
     }
 
-    /// The rows of the geometry that the last call gave; after any other call, those of the
-    /// geometry that is read, as far as they came. Takes no memory.
+    /// The rows of the geometry that the last feed completed, if it completed one; else the rows so
+    /// far of the geometry that is read. Takes no memory.
     pub fn flat(&self) -> &Flat
         ensures { result.now ≡ session_rows self.now }
     {
@@ -303,8 +304,8 @@ impl Session {
         &self.rows
     }
 
-    /// The stream ends here: `Ok` between two blobs, else `Truncated`. Afterwards each call returns `Spent`. Takes no
-    /// memory.
+    /// Ends the stream: `Ok` if no blob is begun, else `Truncated`; `Spent` after an `Err` or an
+    /// earlier end. Afterwards each feed and `finish` return `Spent`. Takes no memory.
     pub fn finish(&mut self) -> Result<(), BlobFault>
         ensures unread { failed_by_read result ≡ false }
         ensures limits { session_limits self.new ≡ session_limits self.old }
@@ -319,8 +320,7 @@ impl Session {
         at_end(&self.engine)
     }
 
-    /// Bytes that it holds of a number that is not complete, 0 to 9: those after the last complete item of the bytes so
-    /// far. Takes no memory.
+    /// The number of bytes held of a number whose last byte has not come, 0 to 9. Takes no memory.
     pub fn held(&self) -> usize
         ensures held { (bytes : List ℕ) (gs : List Tree) → Stands bytes gs self.now → HeldOf (session_limits self.now) bytes gs result }
         ensures state { result ≡ session_held self.now }
@@ -331,7 +331,7 @@ impl Session {
         self.engine.held()
     }
 
-    /// Geometries that are begun and not finished: the headers in the bytes so far, less the ends. Takes no memory.
+    /// The number of geometries whose header was begun and whose end did not come. Takes no memory.
     pub fn frames(&self) -> usize
         ensures open { (bytes : List ℕ) (gs : List Tree) → Stands bytes gs self.now → FramesOf (session_limits self.now) bytes gs result }
         ensures state { result ≡ session_open self.now }

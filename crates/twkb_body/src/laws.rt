@@ -18,12 +18,13 @@ ghost use Rattle.twkb_body.specs.Growing.{rows_so_far, change_of, applied, Takes
 ghost use Rattle.twkb_body.specs.Reading.{Outlined, OutlinedBehind, Wants, WithItem, OutlineLanded, StepFits, open_count, AtPoint, change_after};
 ghost use Rattle.twkb_body.specs.Admitting.{Admits};
 
-/// The role of the next item is determined by the outline alone.
+/// The role of the next item is determined by the outline and the sums of the items so far.
 pub fn role()
     ensures { (e : Sums) (st : Stack) → role_at e st ≡ outline_role e (outline_of st) }
 {}
 
-/// The outline after an item is determined by the outline before it and the item's number.
+/// The outline after an item is determined by the outline before it, the number of bytes so far
+/// and the item's number.
 pub fn steps()
     ensures item { (p : Point) (bytes n : ℕ) (st : Stack) → outline_of (advanced p bytes n st.0 st.1) ≡ outline_advanced bytes n (outline_of st) }
     ensures ends { (bytes : ℕ) (st : Stack) → outline_in (ends bytes st.0 st.1) ≡ outline_ends bytes (outline_of st) }
@@ -39,16 +40,16 @@ pub fn grows()
 {}
 
 /// Within the limits, the rows so far are always those of a valid geometry, or there are none.
-/// The point that an item adds goes into the row of a line.
+/// A point that is added to an existing row goes into that of a line or ring.
 pub fn valid()
     ensures rows { (limits : Allowance) (bytes : List ℕ) (e : Sums) (st : Stack) → Reached limits bytes e st → AreValidRowsOfOne limits (rows_so_far st) }
     ensures takes { (p : Point) (n : ℕ) (st : Stack) → Takes (change_of p n (outline_of st)) (rows_so_far st) }
 {}
 
-/// The state of a reader that keeps an outline and rows: at the start, after an item, after the
+/// What holds of a reader that keeps an outline and rows: at the start, after an item, after the
 /// ends of geometries, at a blob's end, and if bytes are missing or a number is too long. The
-/// bytes read are a part. A row that an item begins continues the rows before it, and a point
-/// that it adds goes into the row of a line.
+/// bytes read begin a blob. A row that an item begins continues the rows before it, and a point
+/// that is added to an existing row goes into that of a line or ring.
 pub fn reading()
     ensures starts { (limits : Allowance) → IsAllowance limits → Outlined limits [] nothing ([], OnHeader) [] }
     ensures item { (limits : Allowance) (bytes : List ℕ) (e : Sums) (o : Outline) (rs : List Row) (i : Item) → Outlined limits bytes e o rs
@@ -91,7 +92,8 @@ pub fn points()
         → AtPoint (λ bytes e o rs. NotedOutline limits bytes e o rs told) (λ bytes e o change rs. NotedOutline limits bytes e o (applied change rs) told) }
 {}
 
-/// The notes that a reader makes of spans are determined by the outline.
+/// The notes that a reader makes of spans, and the number of open geometries, are determined by
+/// the outline.
 pub fn noting()
     ensures note { (st : Stack) (offset points byte : ℕ) (w : Notes) → note_byte st.1 offset points byte w ≡ note_step (step_of st.1) offset points byte w }
     ensures calm { (st : Stack) → IsCalmStep (step_of st.1) → IsCalm st.1 }

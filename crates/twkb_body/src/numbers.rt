@@ -4,7 +4,7 @@ ghost use Rattle.twkb_body.specs.Front.{NumberInFront};
 
 use twkb_num::{GOES_ON, Leb128, Partial, Step};
 
-// What the seven bits of a second byte weigh, a third, a fourth and a fifth one.
+// The weights of the second to fifth bytes of a varint.
 const SECOND: u64 = 1 << 7;
 
 const THIRD: u64 = 1 << 14;
@@ -13,7 +13,8 @@ const FOURTH: u64 = 1 << 21;
 
 const FIFTH: u64 = 1 << 28;
 
-// Reads a number of five bytes or fewer. Taken by nearly all numbers: coordinates of six decimals have five.
+// Reads a number of five bytes or fewer: the path of nearly all numbers, since coordinates of six
+// decimals have at most five.
 #[inline(always)]
 pub(crate) fn short_number(bytes: &[u8]) -> Option<(u64, usize)>
     ensures front { IfSome result (λ front. NumberInFront bytes.now front.0 front.1) }
@@ -46,7 +47,7 @@ pub(crate) fn short_number(bytes: &[u8]) -> Option<(u64, usize)>
     None
 }
 
-// Reads a number of any length. Taken if it has six bytes or more, or is cut.
+// Reads a number of any length: the path if it has six bytes or more, or is cut.
 #[cold]
 #[inline(never)]
 pub(crate) fn long_number(bytes: &[u8]) -> Option<(u64, usize)>
@@ -65,7 +66,7 @@ pub(crate) fn long_number(bytes: &[u8]) -> Option<(u64, usize)>
 }
 
 /// The number at the start of the bytes, and how many bytes it has; `None` if its varint is not
-/// complete, or is none. Takes no memory.
+/// complete, or is longer than ten bytes or above 2^64 - 1. Takes no memory.
 #[inline(always)]
 pub fn front_number(bytes: &[u8]) -> Option<(u64, usize)>
     ensures { IfSome result (λ front. NumberInFront bytes.now front.0 front.1) }

@@ -20,7 +20,7 @@ fn short_step(number: u64) -> i64
     unzigzag(number)
 }
 
-// The point after two steps that a coordinate could be, or `None` if that is out of range.
+// The point after two steps, each in the range of a coordinate, or `None` if that is out of range.
 #[inline(always)]
 fn near_steps(from: Pt, dx: i64, dy: i64) -> Option<Pt>
     requires near_x { IsCoordinate dx }
@@ -41,7 +41,7 @@ fn near(from: Pt, x: u64, y: u64) -> Option<Pt>
     near_steps(from, short_step(x), short_step(y))
 }
 
-// Reads a point of any two numbers. Taken if one of them has six bytes or more, or is cut.
+// Reads a point of any two numbers: the path if one of them has six bytes or more, or is cut.
 #[cold]
 #[inline(never)]
 fn long_point(from: Pt, bytes: &[u8]) -> Option<(Pt, usize)>
@@ -54,8 +54,8 @@ fn long_point(from: Pt, bytes: &[u8]) -> Option<(Pt, usize)>
     Some((to, width + height))
 }
 
-/// The point at the start of the bytes, and how many bytes its two numbers have; `None` if they are
-/// not complete, or lead out of range. Takes no memory.
+/// The point at the start of the bytes, and how many bytes its two numbers have; `None` if one
+/// is not complete or too long, or if they lead out of range. Takes no memory.
 #[inline(always)]
 pub fn front_point(from: Pt, bytes: &[u8]) -> Option<(Pt, usize)>
     ensures { IfSome result (λ front. PointInFront from bytes.now front.0 front.1) }
@@ -71,8 +71,8 @@ pub fn front_point(from: Pt, bytes: &[u8]) -> Option<(Pt, usize)>
 }
 
 /// Two points at the start of the bytes, the second by its steps from the first, and how many bytes
-/// both have. They are found if all four numbers are short and spelled no longer than they need be,
-/// in sixteen bytes or more. Takes no memory.
+/// both have. `None` unless each number is a shortest varint of at most four bytes, both points are
+/// in range, and there are sixteen bytes or more. Takes no memory.
 #[inline(always)]
 pub fn front_two(from: Pt, bytes: &[u8]) -> Option<(Pt, Pt, usize)>
     ensures { IfSome result (λ front. TwoInFront from bytes.now front.0 front.1 front.2) }
@@ -84,8 +84,8 @@ pub fn front_two(from: Pt, bytes: &[u8]) -> Option<(Pt, Pt, usize)>
 }
 
 // Two points by the ends of numbers that `varint_ends` found, moved to the start of these bytes,
-// from a point so near the origin that the range needs no test. After the two the ends moved by as
-// many bits are those of the bytes after them.
+// from a point so near the origin that the range needs no test. The ends, shifted right by the number
+// of bytes used, are the ends of the bytes that remain.
 #[inline(always)]
 fn front_two_by(from: Pt, bytes: &[u8], ends: u64) -> Option<(Pt, Pt, usize)>
     requires near { IsNear 6 from }
@@ -116,7 +116,7 @@ pub struct Eight {
 
 /// Eight points, each by its steps from the one before it, by the ends of numbers that
 /// `varint_ends` found, moved to the start of these bytes; only from an inner point, so that none
-/// of the eight can be out of range. `None` says nothing.
+/// of the eight can be out of range. `None` says nothing of the bytes.
 #[inline(always)]
 pub fn front_eight(from: Pt, bytes: &[u8], ends: u64) -> Option<Eight>
     requires { AreEnds 0 128 bytes.now ends }

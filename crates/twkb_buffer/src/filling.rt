@@ -46,7 +46,8 @@ fn fill_front(
     run_into(alloc, what, input, &mut filler, limits)
 }
 
-// The report for a slice that was too small, with the length of the whole output if it is known.
+// Sets `needed` to the length of the whole output if that is known and more than the room, else
+// to 0.
 fn with_needed(report: BufferReport, whole: Option<u64>, room: usize) -> BufferReport
     ensures same { result ≡ record report { needed = result.needed } }
     ensures needed { result.needed ≢ 0 → (room < result.needed) × (whole ≡ Some result.needed) }

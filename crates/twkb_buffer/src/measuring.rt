@@ -64,7 +64,7 @@ pub(crate) fn output_length(
 }
 
 /// Reports what a conversion would write, without writing it: `needed` is the length of its whole
-/// output. Takes memory for one geometry.
+/// output, or 0 if that is not known. Takes memory for one geometry.
 pub fn measure(alloc: Global, what: Conversion, input: &[u8], limits: Limits) -> BufferReport
     ensures { MeasuresOutput what limits input.now result }
 {

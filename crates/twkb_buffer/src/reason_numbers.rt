@@ -7,7 +7,7 @@ use twkb_convert::{BlobReason, Cause, PolyReason, RowReason};
 // Everything was converted.
 pub(crate) const DONE: u32 = 0;
 
-// The input is refused, or too long.
+// The input is refused, or input or output is too long.
 pub(crate) const REFUSED: u32 = 1;
 
 // The input could not be read.
@@ -19,7 +19,7 @@ pub(crate) const MEMORY: u32 = 4;
 // The output is too small.
 pub(crate) const TOO_SMALL: u32 = 5;
 
-// The number of a fault in a text of points.
+// The code for C of the reason why a text of points is refused.
 pub(crate) fn point_text_number(reason: PolyReason) -> u32
     ensures { result ≡ point_text_number_of reason }
 {
@@ -100,7 +100,8 @@ pub(crate) fn status(cause: Cause) -> u32
     }
 }
 
-// The number of the refused record, or the offset of the refused item; 0 if nothing is refused.
+// The number of the refused record, or the offset of the refused item; 0 for any other
+// cause.
 pub(crate) fn place(cause: Cause) -> u64
     ensures { result ≡ place_of cause }
 {

@@ -19,12 +19,13 @@ pub struct BufferReport {
     pub place: u64,
     /// The offset at which a text of points is refused, in bytes from its start; otherwise 0.
     pub text_offset: u64,
-    /// The number of geometries whose output was written whole.
+    /// The number of geometries whose output was written, or by `measure` counted, whole.
     pub done: u64,
     /// The number of bytes written.
     pub sent: u64,
-    /// If the output is too small, the size needed for the whole output in bytes, or 0 if it is
-    /// not known; otherwise the number of bytes written.
+    /// From `measure`, the length of the whole output in bytes, or 0 if it is not known. From `fill`,
+    /// the number of bytes written; but if the output is too small, the size needed, or 0 if it is
+    /// not known.
     pub needed: u64,
 }
 

@@ -1,5 +1,5 @@
 -- The items of a body: what a number leads to, and what it brings.
-use Rattle.std.proofs.Common.{◌≡◌, ℕ, zero, suc, ◌+◌, ◌-◌, ◌<◌, ◌^◌, List, length, refl, sym, ap, ◌∙◌, subst, arith, Bool, true, if◌then◌else◌, Result, Ok, Err, None}
+use Rattle.std.proofs.Common.{◌≡◌, ℕ, zero, suc, ◌+◌, ◌-◌, ◌<◌, ◌^◌, List, length, refl, sym, ap, ◌∙◌, subst, arith, Bool, true, false, if◌then◌else◌, Result, Ok, Err, None}
 use Rattle.std.specs.Prelude.{ℤ, ◌+ℤ◌, Option, not, Some}
 use Rattle.std.specs.Result.{IsErrAnd}
 use Rattle.std.proofs.lemmas.Result.{err_from_is_err_and}

@@ -18,7 +18,7 @@ use twkb_points::Pt;
 use twkb_tree::Limits;
 
 /// A blob that is read byte by byte into a flat form, which is borrowed by each call: the item that
-/// comes next, what is open round it, the sums of the items so far, and the bytes of a number that
+/// comes next, the geometries it is in, the sums of the items so far, and the bytes of a number that
 /// is not complete.
 #[derive(Drop)]
 pub struct Engine {
@@ -57,7 +57,7 @@ impl Engine {
     ghost use Rattle.twkb_engine.specs.Notes.{NotesGo, notes_with, open_in};
     ghost use Rattle.twkb_engine.specs.Standing.{StandsAt, IsAlive, IsEnd, count_of, held_in, offset_in, place_in};
 
-    /// One that has read nothing, at this offset of a stream. Takes no memory.
+    /// Makes an engine that has read nothing, for a blob at this offset of a stream. Takes no memory.
     pub fn new(alloc: Global, limits: Limits, start: u64) -> Engine
         requires room { start ≤ 2 ^ 62 }
         ensures stands { StandsAt [] [] result }
@@ -132,7 +132,7 @@ impl Engine {
         }
     }
 
-    /// Whether no byte was taken since the last blob's end. Takes no memory.
+    /// Whether no byte was taken since the start or the last blob's end. Takes no memory.
     #[inline(always)]
     pub fn is_between(&self) -> bool
         ensures ended { (bs : List ℕ) (rs : List Row) → StandsAt bs rs self.now → IsEnd (allowance_of self.now) bs (offset_in self.now) result }
@@ -153,7 +153,7 @@ impl Engine {
         self.held.len()
     }
 
-    /// Where the blob begins that is read, in bytes from the stream's start. Takes no memory.
+    /// The offset of the blob that is read, in bytes from the stream's start. Takes no memory.
     #[inline(always)]
     pub fn start(&self) -> u64
         ensures { result ≡ self.now.start }
@@ -161,7 +161,7 @@ impl Engine {
         self.start
     }
 
-    /// Bytes of the blob that is read, up to where the next item begins. Takes no memory.
+    /// The number of bytes of the blob that is read before the next item. Takes no memory.
     #[inline(always)]
     pub fn bytes(&self) -> u64
         ensures { result ≡ offset_in self.now }

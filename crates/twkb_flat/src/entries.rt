@@ -149,7 +149,8 @@ pub(crate) fn open_at(entries: &[KeptNode], depth: u32) -> usize
     at
 }
 
-// Whether the first child of the node at this place has an id; `None` if the node is the last.
+// Whether the node after this place has an id; `None` if there is none. After an open node it is
+// that node's first child.
 pub(crate) fn child_ids(entries: &[KeptNode], at: usize) -> Option<bool>
     requires { at < length entries.now }
     ensures { (points : List Point) → result ≡ ids_by (slice_get (listed (map span_of entries.now) points) (at + 1)) }

@@ -2,7 +2,7 @@
 ghost use Rattle.std.specs.Prelude.{◌≡◌, ◌+◌, ◌≤◌};
 ghost use Rattle.twkb_tree.specs.Tree.{saturated};
 
-/// The amount measured and read, each number at most `u64::MAX`.
+/// Counts of what was measured and read; each stops at `u64::MAX`.
 #[derive(Clone, Copy, Debug, PartialEq, Eq)]
 pub struct Work {
     /// The points of the flat forms that were measured.
@@ -31,6 +31,7 @@ impl Work {
         }
     }
 
+    // Counts one read of a node.
     pub(crate) fn count_node(&mut self)
         ensures counted { self.new ≡ record self.old { node_reads = saturated (self.old.node_reads + 1) } }
         ensures no_fewer { self.old.node_reads ≤ self.new.node_reads }
@@ -38,6 +39,7 @@ impl Work {
         self.node_reads = self.node_reads.saturating_add(1);
     }
 
+    // Counts one read of a point.
     pub(crate) fn count_point(&mut self)
         ensures counted { self.new ≡ record self.old { point_reads = saturated (self.old.point_reads + 1) } }
         ensures no_fewer { self.old.point_reads ≤ self.new.point_reads }
@@ -45,6 +47,7 @@ impl Work {
         self.point_reads = self.point_reads.saturating_add(1);
     }
 
+    // Counts one read of a node and of this number of points.
     pub(crate) fn count_row(&mut self, points: u64)
         ensures { self.new ≡ record self.old { node_reads = saturated (self.old.node_reads + 1); point_reads = saturated (self.old.point_reads + points) } }
     {

@@ -37,14 +37,14 @@ pub fn some_byte()
 {}
 
 /// A stream has one reading and one cut into blobs: if a stream begins with another, its
-/// geometries begin with those of the other, and the rest is a stream.
+/// geometries begin with those of the other, and the rest is a stream. Two streams joined are one.
 pub fn one_stream()
     ensures one_reading { (limits : Allowance) (bytes : List ℕ) (gs hs : List Tree) → Stream limits bytes gs → Stream limits bytes hs → gs ≡ hs }
     ensures one_cut { (limits : Allowance) (bytes rest : List ℕ) (gs hs : List Tree) → Stream limits bytes gs → Stream limits (bytes ++ rest) hs → (ks : List Tree) × (hs ≡ gs ++ ks) × Stream limits rest ks }
     ensures joined { (limits : Allowance) (a b : List ℕ) (gs hs : List Tree) → Stream limits a gs → Stream limits b hs → Stream limits (a ++ b) (gs ++ hs) }
 {}
 
-/// Bytes that begin with a blob have no fault, and a stream has no fault where one of its blobs begins.
+/// There is no fault in bytes that begin with a blob, and none where a blob of a stream begins.
 pub fn blob_or_fault()
     ensures no_blob { (limits : Allowance) (bytes rest : List ℕ) (g : Tree) (offset : ℕ) (reason : Reason) → BlobInFront limits bytes g rest → Fault limits bytes offset reason → ⊥ }
     ensures no_stream { (limits : Allowance) (bytes rest : List ℕ) (gs hs : List Tree) (offset : ℕ) (reason : Reason) → Stream limits bytes gs → Fault limits rest offset reason → Stream limits (bytes ++ rest) hs → ⊥ }
@@ -65,7 +65,7 @@ pub fn stream_or_fault()
         → ((gs : List Tree) × Stream limits bytes gs) ⊎ ((gs : List Tree) × (offset : ℕ) × (reason : Reason) × StreamFault limits bytes gs offset reason) }
 {}
 
-/// The plain reader makes a geometry exactly if its blob is at the start of the bytes, refuses
+/// Of at least one byte the plain reader makes a geometry exactly if its blob is at the start of the bytes, refuses
 /// exactly the first fault, and always answers.
 pub fn plain_reader()
     ensures made { (limits : Allowance) (bytes rest : List ℕ) (g : Tree) → IsAllowance limits → AreBytes bytes → bytes ≢ [] → decode limits bytes ≡ Made g rest ↔ BlobInFront limits bytes g rest }
@@ -73,7 +73,7 @@ pub fn plain_reader()
     ensures answers { (limits : Allowance) (bytes : List ℕ) → IsAllowance limits → AreBytes bytes → bytes ≢ [] → decode limits bytes ≢ GoesOn }
 {}
 
-/// The machine runs through some items to a geometry exactly if they are the items of that geometry.
+/// The state machine runs through some items to a geometry exactly if they are the items of that geometry.
 pub fn machine()
     ensures { (g : Tree) (is : List Item) → (IsTree g × Items 0 g is) ↔ Runs nothing started is ([], Finished g) }
 {}
@@ -89,7 +89,7 @@ pub fn completions()
 {}
 
 /// Parts are exactly the items that the machine runs through within the limits, with exact sizes.
-/// The items that a reader has read are a part, and so is a blob. A fault of bytes that begin
+/// What a reader has read begins a blob, and so does a blob. A fault of bytes that begin
 /// with a part is at its end or after it.
 pub fn parts()
     ensures items { (limits : Allowance) (before : List Item) → Part limits before ↔ ((st : Stack) × Ran limits before st) }
@@ -98,7 +98,7 @@ pub fn parts()
     ensures behind { (limits : Allowance) (bytes more : List ℕ) (offset : ℕ) (reason : Reason) → IsPart limits bytes → Fault limits (bytes ++ more) offset reason → length bytes ≤ offset }
 {}
 
-/// If the machine waits for an item, and a reason holds first of the bytes that are left, then
+/// If the machine waits for an item, and a reason is the first that applies to the bytes that are left, then
 /// the bytes are refused there for that reason. Within the limits, with exact sizes, that is the
 /// first fault.
 pub fn refusals()
@@ -106,7 +106,7 @@ pub fn refusals()
     ensures first { (limits : Allowance) (before : List Item) (st : Stack) → Ran limits before st → RefusalsAre (FirstFault limits) limits before st }
 {}
 
-/// The state of a reader that takes items one by one: at the start, after an item, at a blob's
+/// What holds of a reader that takes items one by one: at the start, after an item, at a blob's
 /// end, and if bytes are missing or a number is too long.
 pub fn reading()
     ensures starts { (limits : Allowance) → IsAllowance limits → Reached limits [] nothing started }

@@ -39,7 +39,7 @@ pub fn plain()
     ensures named_points { canonical_blob Plain named_points ≡ 0x04 ∷ 0x04 ∷ 0x02 ∷ 0x02 ∷ 0x04 ∷ 0x00 ∷ 0x00 ∷ 0x02 ∷ 0x02 ∷ [] }
 {}
 
-/// Blobs that are not canonical.
+/// Blobs other than the canonical ones in full style.
 pub fn loose()
     ensures no_size { Blob standard (0x02 ∷ 0x00 ∷ 0x02 ∷ 0x02 ∷ 0x02 ∷ 0x08 ∷ 0x08 ∷ []) short_line }
     ensures padded_count { Blob standard (0x02 ∷ 0x00 ∷ 0x82 ∷ 0x00 ∷ 0x02 ∷ 0x02 ∷ 0x08 ∷ 0x08 ∷ []) short_line }
@@ -86,12 +86,13 @@ pub fn faults()
     ensures cut_after_thirty_four { FirstFault standard (take 34 three_points_blob) 32 Truncated }
 {}
 
-/// Each proper prefix of a blob, except the empty one, is refused at its end.
+/// Each proper prefix of this sample blob but the empty one is refused where it ends: each of its
+/// items has one byte.
 pub fn cut()
     ensures { AllByRecursion (λ k. FirstFault standard (take k named_members_blob) k Truncated) (1 ∷ 2 ∷ 3 ∷ 4 ∷ 5 ∷ 6 ∷ 7 ∷ 8 ∷ 9 ∷ 10 ∷ 11 ∷ 12 ∷ 13 ∷ 14 ∷ 15 ∷ 16 ∷ 17 ∷ []) }
 {}
 
-/// Streams: an empty one, and a point followed by a truncated one.
+/// An empty stream, and a stream that is cut inside its second point.
 pub fn streams()
     ensures nothing { Stream standard [] [] }
     ensures cut_point { StreamFault standard (0x01 ∷ 0x00 ∷ 0x04 ∷ 0x02 ∷ 0x01 ∷ 0x00 ∷ 0x04 ∷ []) (one_point ∷ []) 7 Truncated }

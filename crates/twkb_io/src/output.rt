@@ -72,7 +72,7 @@ impl<'a, W: Write> Output<'a, W> {
     ghost use Rattle.twkb_io.specs.Taps.{calls_of, has_unflushed, is_stuck, one_call};
     ghost use Rattle.twkb_io.specs.Outputs.{Refused, Took, is_device, is_of_stuck, is_spent, output_tap, sent_of};
 
-    /// Flushes the writer. After an `Err` each call returns `Spent`.
+    /// Flushes the writer. After an `Err` each later put or flush returns `Spent`.
     pub fn flush(&mut self) -> Result<(), OutFault>
         ensures ok { OnOk result (Took W.contents self.old [] self.new) }
         ensures err { IfErr result (λ fault. Refused W.contents self.old [] fault self.new) }
@@ -142,8 +142,8 @@ impl<'a, W: Write> Sink for Output<'a, W> {
 
     ghost adds_no_more = { cut_within W.contents };
 
-    /// Sends the bytes, with as many writes as the writer needs. After an `Err` each call returns
-    /// `Spent`.
+    /// Sends the bytes, with as many writes as the writer needs. After an `Err` each later put or
+    /// flush returns `Spent`.
     fn put(&mut self, bytes: &[u8]) -> Result<(), OutFault>
         ensures ok { OnOk result (Took W.contents self.old bytes.now self.new) }
         ensures err { IfErr result (λ fault. TookFront (Cut W.contents) self.old bytes.now fault self.new) }

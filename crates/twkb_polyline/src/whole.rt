@@ -13,8 +13,8 @@ const BITS: u32 = 5;
 // The shift of a thirteenth group, the last that a number may have.
 const LAST_SHIFT: u32 = 12 * BITS;
 
-// Reads the point whose latitude begins at `start`, and where the text goes on. `None` proves
-// nothing about the text.
+// Reads the point whose latitude begins at `start`, moves the cursor to it, and returns it and
+// where it ends. `None` proves nothing about the text, and the cursor stays.
 #[inline(always)]
 pub(crate) fn whole_point(text: &[u8], start: usize, cursor: &mut Cursor) -> Option<(Pt, usize)>
     ensures read { IfSome result (λ r. IsPointAt text.now start cursor.old r.0 r.1) }
@@ -28,7 +28,7 @@ pub(crate) fn whole_point(text: &[u8], start: usize, cursor: &mut Cursor) -> Opt
     Some((point, end))
 }
 
-// The group of a character that says that more follow.
+// The group of a character that says that more follow; `None` for any other.
 #[inline(always)]
 fn open_group(unit: u8) -> Option<u64>
     ensures { IfSome result (λ group. five_group unit ≡ Some (group, true)) }
@@ -39,7 +39,7 @@ fn open_group(unit: u8) -> Option<u64>
     }
 }
 
-// The group of a character that ends a number.
+// The group of a character that ends a number; `None` for any other.
 #[inline(always)]
 fn last_group(unit: u8) -> Option<u64>
     ensures { IfSome result (λ group. five_group unit ≡ Some (group, false)) }
@@ -50,8 +50,8 @@ fn last_group(unit: u8) -> Option<u64>
     }
 }
 
-// Reads the number that begins at `start`, and where the text goes on. `None` proves nothing
-// about the text.
+// Reads the number that begins at `start`, and returns it and where it ends. `None` proves
+// nothing about the text.
 #[inline(always)]
 fn whole_number(text: &[u8], start: usize) -> Option<(i64, usize)>
     ensures { IfSome result (λ r. IsNumberAt text.now start r.0 r.1) }

@@ -25,8 +25,8 @@ pub fn one_reading()
     ensures one { (g h : Tree) → IsTree g → IsTree h → rows 0 g ≡ rows 0 h → g ≡ h }
 {}
 
-/// If one geometry's rows begin with another's, they go on with a row below its root. If the next
-/// row is a root, or there is none, the rows so far are a complete geometry.
+/// If one geometry's rows begin with all rows of another and more follow, the next one is no root.
+/// If the next row is a root, or there is none, the rows so far are a complete geometry.
 pub fn ends()
     ensures below { (g h : Tree) (r : Row) (more : List Row) → IsTree g → IsTree h → rows 0 g ++ r ∷ more ≡ rows 0 h → 0 < r.depth }
     ensures whole { (g : Tree) (more : List Row) (hs : List Tree) → IsTree g → AreGeometries hs → IsAtRoot more → rows 0 g ++ more ≡ rows_of hs → (rest : List Tree) × (hs ≡ g ∷ rest) × (rows_of rest ≡ more) }
@@ -48,8 +48,8 @@ pub fn depths()
 // ---- when a row may come next
 
 /// After rows of geometries a row is admitted exactly if the rows with it are rows of geometries;
-/// after rows of one geometry, exactly if they are rows of one geometry, whose first row alone is
-/// a root.
+/// after rows of one geometry, it is admitted and is no second root exactly if they are rows of one
+/// geometry.
 pub fn admitted()
     ensures list { (rs : List Row) (r : Row) → AreRows rs → (admits rs r ≡ true) ↔ AreRows (rs ++ r ∷ []) }
     ensures one { (rs : List Row) (r : Row) → AreRowsOfOne rs → ((admits rs r ≡ true) × IsOneRoot rs r) ↔ AreRowsOfOne (rs ++ r ∷ []) }
@@ -73,7 +73,7 @@ pub fn continued()
 {}
 
 /// An accepted root begins a new geometry; any other accepted row is one more row of the last
-/// geometry. The other geometries stay as they are.
+/// geometry.
 pub fn grows()
     ensures root { (l : Allowance) (gs : List Tree) (r : Row) → Accepts l (reverse (rows_of gs)) r → r.depth ≡ 0 → (h : Tree) × IsValid l h × (rows 0 h ≡ r ∷ []) }
     ensures below { (l : Allowance) (gs : List Tree) (g : Tree) (r : Row) → AreValid l (gs ++ g ∷ []) → Accepts l (reverse (rows_of (gs ++ g ∷ []))) r → 0 < r.depth → (h : Tree) × IsValid l h × (rows 0 h ≡ rows 0 g ++ r ∷ []) }
@@ -92,8 +92,8 @@ pub fn refused()
     ensures dead { (l : Allowance) (rs : List Row) (r : Row) (more : List Row) → (¬ Accepts l (reverse rs) r) → ¬ AreValidRows l (rs ++ r ∷ more) }
 {}
 
-/// The open rows are kept up to date row by row, and with two counts they decide for what a row
-/// is refused.
+/// The open rows are kept up to date row by row, and with two counts they decide why a row is
+/// refused.
 pub fn open_rows()
     ensures none { AreOpen [] [] }
     ensures more { (before : List Row) (os : List OpenRow) (r : Row) → steps_to r.depth before ≡ true → AreOpen before os → AreOpen (r ∷ before) (opened r.depth os r) }

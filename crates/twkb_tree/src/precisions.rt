@@ -6,6 +6,7 @@ ghost use Rattle.twkb_tree.specs.Uniform.{has_precision, have_precision, uniform
 use crate::geometry::{Geometry, Members, Shape};
 
 impl Members {
+    // Whether each member has this precision, at any depth.
     #[cycle(uniform)]
     fn have_precision(&self, precision: i8) -> bool
         ensures { result ≡ have_precision precision (trees self.now) }

@@ -12,14 +12,14 @@ use twkb_points::{Bounds, merged};
 use twkb_tree::Kind;
 
 // The totals of the rows at one depth and all rows below them, from a place up to the next row
-// above them.
+// of smaller depth.
 #[derive(Clone, Copy)]
 pub(crate) struct Level {
     // The number of rows at this depth.
     pub(crate) members: u32,
-    // The number of bytes of their ids.
+    // The number of bytes of the ids of these rows.
     pub(crate) ids: u64,
-    // Whether one of them has an id.
+    // Whether one of these rows has an id.
     pub(crate) named: bool,
     // The number of bytes of geometries, and of the counts of parts.
     pub(crate) bytes: u64,
