@@ -47,7 +47,7 @@ pub fn take_row(
     requires room { length (row_points flat.old) + most ≤ 2 ^ 24 }
     ensures { TakesRow flat.old from bytes.now most result flat.new }
 {
-    // longer than other functions: each of its three ways in would have to give these values back
+    // one function of three ways: split in two others, `read` took 0.3 to 0.5 in 100 more instructions
     let mut used = 0;
     let mut position = from;
     let mut left = most;
