@@ -1,11 +1,10 @@
 -- What every call of a reader says, by whether the reader is ready.
-use Rattle.std.proofs.Common.{◌≡◌, refl, sym, ap, ◌∙◌, subst, Bool, Result, Ok, Err, true, false}
+use Rattle.std.proofs.Common.{◌≡◌, refl, ap, ◌∙◌, Bool, Result, Ok, Err, true, false}
 use Rattle.std.specs.Prelude.{is_err}
 use Rattle.std.specs.declared.io.traits.Read.{Ghosts}
 use Rattle.twkb_io.specs.Taps.{count_failure}
 use Rattle.twkb_io.specs.Inputs.{input_failures, input_tap}
 use Rattle.twkb_io.specs.declared.input.Input.{Input}
-use Rattle.twkb_io.specs.declared.input.InFault.TheVariants as stopped
 use Rattle.twkb_blob.specs.Readers.{ReadsNext, ended_at, failed_by_read, has_ended, is_spent, ready_at, spent_at}
 use Rattle.twkb_blob.specs.Through.{IfGoingOn}
 use Rattle.twkb_blob.specs.declared.fault.BlobFault.{BlobFault}
@@ -13,15 +12,6 @@ use Rattle.twkb_blob.specs.declared.fault.BlobFault.TheVariants as fault
 use Rattle.twkb_blob.specs.declared.reader.Reader.{Reader}
 use Rattle.twkb_blob.specs.declared.reader.State.{State}
 use Rattle.twkb_blob.specs.declared.reader.State.TheVariants as state
-
--- a failed read is one whatever was to be read
-pub same_failure : (A B : Type 0) (why : BlobFault) → failed_by_read {A = A} (Err why) ≡ failed_by_read {A = B} (Err why)
-same_failure A B fault.Memory = refl
-same_failure A B (fault.Device stopped.Read) = refl
-same_failure A B (fault.Device stopped.TooLong) = refl
-same_failure A B (fault.Device stopped.Spent) = refl
-same_failure A B fault.Spent = refl
-same_failure A B (fault.At offset reason) = refl
 
 -- a reader is ready that answered neither an error nor the end
 pub is_ready : (s : State) → spent_at s ≡ false → ended_at s ≡ false → ready_at s ≡ Ok true
@@ -45,19 +35,6 @@ is_false true not = absurd (not refl)
 is_false false not = refl
 
 module _ {R : Type 0} {read : Ghosts R} where
-  -- one that is not ready stays as it is
-  at_rest : (r : Reader R read) (s : State) → r.state ≡ s → ¬ (ready_at s ≡ Ok true) → ReadsNext false r r (ready_at s)
-  at_rest r state.Ready at other = absurd (other refl)
-  at_rest r state.Ended at other = record {
-    same_tap = refl;
-    limits = refl;
-    failures = refl;
-    spent = λ is. absurd (let live = ap spent_at at in cc (is, live));
-    stays = ap spent_at at;
-    unchanged = λ is. refl;
-    end = λ is. ap ended_at at;
-    going_on = λ not. absurd (not refl);
-    for_good = λ is. (refl, refl);
   }
   at_rest r state.Spent at other = record {
     same_tap = refl;
@@ -70,9 +47,6 @@ module _ {R : Type 0} {read : Ghosts R} where
     going_on = λ not. ap ended_at at;
     for_good = λ is. absurd (let going = ap ended_at at in cc (is, going));
   }
-
-  pub rests : (r : Reader R read) (answer : Result Bool BlobFault) → ready_at r.state ≡ answer → ¬ (answer ≡ Ok true) → ReadsNext false r r answer
-  rests r answer is other = subst (ReadsNext false r r) is (at_rest r r.state refl (λ e. other (sym is ∙ e)))
 
   -- one that is ready reads
   pub reads : (old new : Reader R read) (c : Input R read) (answer : Result Bool BlobFault) → ready_at old.state ≡ Ok true → new.input ≡ c → (input_tap c).ghost_name ≡ (input_tap old.input).ghost_name

@@ -20,7 +20,6 @@ pub mod Ranges
 pub mod Steps
 pub mod InFront
 pub mod TwoInFront
-pub mod OpenNumbers
 pub mod WholePoints
 pub mod PartsInFront
 pub mod PointRuns

@@ -1,5 +1,5 @@
 -- The notes of spans are determined by the outline.
-use Rattle.std.proofs.Common.{◌≡◌, ℕ, zero, suc, ◌<◌, [], ◌∷◌, length, take, get_or, refl, sym, ap, arith}
+use Rattle.std.proofs.Common.{◌≡◌, ℕ, suc, [], ◌∷◌, refl, sym, ap}
 use Rattle.std.proofs.lemmas.List.{length-map}
 use Rattle.std.specs.Prelude.{List}
 use Rattle.twkb_grammar.specs.Noting.{Notes, note_byte, IsCalm}
@@ -50,9 +50,3 @@ module _ (t : Step) (offset points : ℕ) where
   pub silent : (bytes : List ℕ) (w : Notes) → ((byte : ℕ) → note_step t offset points byte w ≡ w) → note_first t offset points bytes w ≡ w
   silent [] w h = refl
   silent (byte ∷ bytes) w h = h byte
-
-  -- the first byte of a prefix
-  pub first_in_front : (count : ℕ) (rest : List ℕ) (w : Notes) → 0 < count → 0 < length rest → note_step t offset points (get_or rest 0 0) w ≡ note_first t offset points (take count rest) w
-  first_in_front zero rest w some more = absurd (omega (arith, some))
-  first_in_front (suc count) [] w some more = absurd (omega (arith, more))
-  first_in_front (suc count) (x ∷ xs) w some more = refl

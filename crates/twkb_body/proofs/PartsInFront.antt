@@ -1,5 +1,5 @@
 -- Optional parts of a header that are complete at the start of bytes.
-use Rattle.std.proofs.Common.{◌≡◌, ℕ, zero, suc, ◌+◌, ◌-◌, ◌<◌, ◌≤◌, List, [], ◌∷◌, ◌++◌, length, take, drop, true, false, ℤ, Option, Some, None, refl, sym, ◌∙◌, ap, subst, arith}
+use Rattle.std.proofs.Common.{◌≡◌, ℕ, zero, suc, ◌+◌, ◌-◌, ◌<◌, ◌≤◌, List, [], ◌∷◌, ◌++◌, length, take, drop, true, false, ℤ, Option, None, refl, sym, ◌∙◌, ap, subst, arith}
 use Rattle.std.proofs.Math.Seq.{take-suc}
 use Rattle.std.proofs.lemmas.List.{length-take-le, length-drop, take_rest}
 use Rattle.std.specs.Prelude.{get_or}
@@ -10,10 +10,9 @@ use Rattle.twkb_grammar.specs.Roles.{Role, Metadata, Extended, Size, Box, where_
 use Rattle.twkb_grammar.specs.Fault.{points_by}
 use Rattle.twkb_grammar.specs.PlainReader.{objection}
 use Rattle.twkb_grammar.specs.Noting.{Notes, note_metadata}
-use Rattle.twkb_grammar.specs.Machine.{Head, Kind, Sums, kind_number, asked}
-use Rattle.twkb_body.specs.Outline.{Group, Outline, Step, OnMetadata, begins}
-use Rattle.twkb_body.specs.Noting.{NotedOutline, note_first}
-use Rattle.twkb_body.proofs.Notings.{first_in_front}
+use Rattle.twkb_grammar.specs.Machine.{Kind, Sums, kind_number, asked}
+use Rattle.twkb_body.specs.Outline.{Group, Outline, OnMetadata, begins}
+use Rattle.twkb_body.specs.Noting.{NotedOutline}
 use Rattle.twkb_body.specs.HeaderParts.{bare_head, AreNumberParts}
 use Rattle.twkb_body.proofs.HeaderParts.{one_part, parts_join, sums_behind_header, header_read}
 use Rattle.twkb_body.proofs.Pieces.{used_join}
@@ -50,14 +49,6 @@ no_box meta bytes none = record { within = omega arith; parts = λ h at. subst (
 
 -- ---- the size
 
-pub size_whole : (meta : ℕ) (bytes : List ℕ) (n width : ℕ) → bit meta 1 ≡ true → NumberInFront bytes n width → SizeInFront meta bytes (Some n) width
-size_whole meta bytes n width has f = record {
-  within = f.within;
-  parts = λ precision at.
-      let long : length (take width bytes) ≡ width = length-take-le width bytes f.within in
-      let part = one_part (bare_head precision meta at) at n Size (take width bytes) tt f.spelled in
-      subst (λ b. AreNumberParts (bare_head precision meta at) at (where_set b (Size ∷ [])) (take width bytes) (sized_head precision meta (Some n) (at + width))) (sym has)
-      (subst (λ w. AreNumberParts (bare_head precision meta at) at (Size ∷ []) (take width bytes) (sized_head precision meta (Some n) (at + w))) long part);
 }
 
 pub no_size : (meta : ℕ) (bytes : List ℕ) → bit meta 1 ≡ false → SizeInFront meta bytes None 0
@@ -104,19 +95,3 @@ read_ahead limits front e gs k precision rows told rest size from used points so
     let read = header_read limits front e gs k precision rows told meta parts size ((e.bytes + 1) + from) low full free (p.parts precision (e.bytes + 1)) there in
     subst (λ l. NotedOutline limits (front ++ l) (record { bytes = e.bytes + (1 + used); position = e.position; nodes = e.nodes; points = points }) o rows noted) whole
     (subst (λ s. NotedOutline limits (front ++ meta ∷ parts) s o rows noted) sums read)
-
--- a reader after a header, if the code keeps the byte and a header of its own
-pub header_ahead : (limits : Allowance) (front : List ℕ) (e : Sums) (gs : List Group) (k : Kind) (t : Step) (precision : ℤ) (rows : List Row) (told : ℕ → Notes) (rest : List ℕ) (meta : ℕ) (own : Head) (size : Option ℕ) (from used points : ℕ) → 0 < length rest → get_or rest 0 0 < 256 → meta ≡ get_or rest 0 0
-    → bit meta 4 ≡ false → objection limits e (Metadata (kind_number k)) meta ≡ None → points ≡ e.points + points_by (Metadata (kind_number k)) meta → PartsInFront meta (take (length rest - 1) (drop 1 rest)) size from used
-    → own ≡ bare_head precision meta (e.bytes + 1) → t ≡ OnMetadata k precision → NotedOutline limits front e (gs, t) rows told
-    → NotedOutline limits (front ++ take (1 + used) rest) (record { bytes = e.bytes + (1 + used); position = e.position; nodes = e.nodes; points = points }) (gs, begins k (sized_head own.precision own.meta size ((e.bytes + 1) + from))) rows (λ start. note_first t (start + e.bytes) e.points (take (1 + used) rest) (told start))
-header_ahead limits front e gs k t precision rows told rest meta own size from used points some low byte full free announced p head step there =
-    let bytes : List ℕ = take (1 + used) rest in
-    let summed : Sums = record { bytes = e.bytes + (1 + used); position = e.position; nodes = e.nodes; points = points } in
-    let first : ℕ = get_or rest 0 0 in
-    let at = subst (λ q. NotedOutline limits front e (gs, q) rows told) step there in
-    let read = read_ahead limits front e gs k precision rows told rest size from used points some low (rw byte at full) (rw byte at free) (rw byte at announced) (rw byte at p) at in
-    let same : sized_head precision first size ((e.bytes + 1) + from) ≡ sized_head own.precision own.meta size ((e.bytes + 1) + from) = λ i. sized_head (sym (ap (λ (h : Head). h.precision) head) i) ((sym byte ∙ sym (ap (λ (h : Head). h.meta) head)) i) size ((e.bytes + 1) + from) in
-    let goes = subst (λ h. NotedOutline limits (front ++ bytes) summed (gs, begins k h) rows (λ start. note_metadata first (told start))) same read in
-    let noted = λ (start : ℕ). first_in_front (OnMetadata k precision) (start + e.bytes) e.points (1 + used) rest (told start) (omega arith) some ∙ ap (λ q. note_first q (start + e.bytes) e.points bytes (told start)) (sym step) in
-    record { outlined = goes.outlined; notes = λ start. goes.notes start ∙ noted start }

@@ -1,5 +1,5 @@
 -- The parts of a header, and what comes after it.
-use Rattle.std.proofs.Common.{◌≡◌, ℕ, ◌+◌, ◌-◌, ◌<◌, ◌≤◌, ◌^◌, List, [], ◌∷◌, ◌++◌, length, Bool, true, false, ◌&&◌, nat_le, inr, refl, sym, ap, subst, ◌∙◌, OnOk, Result, Ok, Err, Some, None, arith}
+use Rattle.std.proofs.Common.{◌≡◌, ℕ, ◌+◌, ◌-◌, ◌<◌, ◌≤◌, ◌^◌, List, [], ◌∷◌, ◌++◌, length, Bool, true, false, ◌&&◌, nat_le, inr, refl, sym, ap, subst, ◌∙◌, OnOk, Result, Ok, Err, None, arith}
 use Rattle.std.specs.Prelude.{ℤ, Option, if◌then◌else◌}
 use Rattle.std.proofs.lemmas.Bool.Decides.{nat_tests}
 use Rattle.twkb_points.specs.Point.{Point}
@@ -70,16 +70,6 @@ header_begins_as d kinds.Ring is t = absurd cc
 pub header_begins : (d : Engine) → d.next ≡ header_item d.head.kind → is_typed d.head.kind ≡ true → outline_in d ≡ (groups_of d.collections, begins (kind_of d.head.kind) (head_of d.head))
 header_begins d is t = ap (λ n. (groups_of d.collections, step_at n d)) is ∙ ap (λ s. (groups_of d.collections, s)) (header_begins_as d d.head.kind refl t)
 
--- nothing ends there
-pub begins_past : (bytes : ℕ) (gs : List outline.Group) (k : machine.Kind) (h : machine.Head) → outline_ends bytes (gs, begins k h) ≡ Ok (gs, begins k h)
-begins_past bytes gs (machine.SimpleKind machine.PointForm) h = refl
-begins_past bytes gs (machine.SimpleKind machine.LineForm) h = refl
-begins_past bytes gs (machine.SimpleKind machine.PolygonForm) h = refl
-begins_past bytes gs (machine.SimpleKind machine.MultiPointForm) h = refl
-begins_past bytes gs (machine.SimpleKind machine.MultiLineForm) h = refl
-begins_past bytes gs (machine.SimpleKind machine.MultiPolygonForm) h = refl
-begins_past bytes gs machine.CollectionKind h = refl
-
 -- ---- notes
 
 -- before a type byte few geometries are open
@@ -145,12 +135,6 @@ pub point_allowed : (b : Bool) (most points x : ℕ) → x ≡ (if b then 1 else
 point_allowed true most points x is few fits =
     let less : nat_le most points ≡ false = grind (arith, nat_tests) in rw less refl
 point_allowed false most points x is few fits = refl
-
--- or not
-pub point_refused : (b : Bool) (most points x : ℕ) → x ≡ (if b then 1 else 0) → points ≤ most → most - points < x → unless (b && nat_le most points) TooManyPoints None ≡ Some TooManyPoints
-point_refused true most points x is few fits =
-    let more : nat_le most points ≡ true = grind (arith, nat_tests) in rw more refl
-point_refused false most points x is few fits = absurd (omega (arith, is, fits))
 
 -- without an extended byte the size comes next
 asked_sizes : (n : ℕ) → bit n 3 ≡ false → asked n ≡ size_roles n

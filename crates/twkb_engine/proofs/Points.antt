@@ -23,7 +23,7 @@ use Rattle.twkb_body.specs.Head.{head_of, form_of, IsHeadAt}
 use Rattle.twkb_body.specs.Ids.{ids_of}
 use Rattle.twkb_body.proofs.PointRuns.{same_change}
 use Rattle.twkb_engine.specs.Collections.{groups_of}
-use Rattle.twkb_engine.specs.Fits.{lists_of, left_fit, lists_fit, item_fits, is_bodied, has_members, IsInside}
+use Rattle.twkb_engine.specs.Fits.{lists_of, left_fit, lists_fit, has_members}
 use Rattle.twkb_engine.specs.State.{IsPlaced, sums_of, outline_in, allowance_of, step_at, ids_in}
 use Rattle.twkb_engine.specs.Taking.{Lands, past, past_value, point_row}
 use Rattle.twkb_engine.specs.Notes.{NotesGo, AreOpen, notes_past, open_in}
@@ -104,12 +104,6 @@ module _ (rs : List Row) (d : Engine) (is : d.next ≡ next.X) (last : d.points_
 
   pub point_fits : left_fit d.head.kind 0 d.rings_left d.members_left ≡ true
   point_fits = subst (λ p. left_fit d.head.kind p d.rings_left d.members_left ≡ true) last (subst (λ i. lists_fit i d.head.kind d.points_left d.rings_left d.members_left ≡ true) is d.lists_fit)
-
-  pub point_bodied : is_bodied d.head.kind ≡ true
-  point_bodied = subst (λ i. item_fits i d.head.kind ≡ true) is d.item_fits
-
-  pub point_inside : IsInside d.next
-  point_inside = subst IsInside (sym is) tt
 
   module _ (rest : List ℕ) (to : Point) (used : ℕ) (cut : PointInFront d.position rest to used) where
     -- the rows take it

@@ -232,10 +232,6 @@ stands_begun offset d b none = record {
 pub all_whole : (bytes : List ℕ) (rs : List Row) (d : Engine) → held_in d ≡ [] → (s : StandsAt bytes rs d) → bytes ≡ s.front
 all_whole bytes rs d none s = s.whole ∙ (ap (λ l. s.front ++ l) none ∙ append-nil s.front)
 
--- as many geometries are begun in its notes as stand open
-pub notes_open : (bytes : List ℕ) (rs : List Row) (d : Engine) (s : StandsAt bytes rs d) → length (notes_at s).begun ≡ open_in d
-notes_open bytes rs d s = open_noted d.limits s.front (sums_of d) (outline_in d) rs s.outlined d.start
-
 -- ---- two engines that differ in the bytes of a number alone
 
 pub record SameItem (d e : Engine) : Type 0 where
