@@ -35,19 +35,6 @@ is_false true not = absurd (not refl)
 is_false false not = refl
 
 module _ {R : Type 0} {read : Ghosts R} where
-  }
-  at_rest r state.Spent at other = record {
-    same_tap = refl;
-    limits = refl;
-    failures = refl;
-    spent = λ is. refl;
-    stays = ap spent_at at;
-    unchanged = λ is. refl;
-    end = λ is. absurd cc;
-    going_on = λ not. ap ended_at at;
-    for_good = λ is. absurd (let going = ap ended_at at in cc (is, going));
-  }
-
   -- one that is ready reads
   pub reads : (old new : Reader R read) (c : Input R read) (answer : Result Bool BlobFault) → ready_at old.state ≡ Ok true → new.input ≡ c → (input_tap c).ghost_name ≡ (input_tap old.input).ghost_name
       → input_failures c ≡ count_failure (failed_by_read answer) (input_failures old.input) → new.limits ≡ old.limits → is_spent new ≡ is_err answer → (answer ≡ Ok false → has_ended new ≡ true) → (¬ (answer ≡ Ok false) → has_ended new ≡ false)

@@ -104,6 +104,7 @@ impl<'a, R: Read> Reader<'a, R> {
         ensures abreast { IsAbreast (reader_limits self.old) (reader_input self.old) session.old → result ≡ Ok true → IsAbreast (reader_limits self.old) (reader_input self.new) session.new }
         ensures session_limits { session_limits session.new ≡ session_limits session.old }
         ensures finished { (result ≡ Ok true) ⊎ (is_finished session.new ≡ true) }
+        ensures spent_session { IfGoingOn self.old (is_finished session.old ≡ true → result ≡ Err BlobFault.Spent) }
     {
         self.read_through(session, &mut NoSpans)
     }
@@ -151,6 +152,7 @@ impl<'a, R: Read> Reader<'a, R> {
         ensures abreast { IsAbreast (reader_limits self.old) (reader_input self.old) session.old → result ≡ Ok true → IsAbreast (reader_limits self.old) (reader_input self.new) session.new }
         ensures session_limits { session_limits session.new ≡ session_limits session.old }
         ensures finished { (result ≡ Ok true) ⊎ (is_finished session.new ≡ true) }
+        ensures spent_session { IfGoingOn self.old (is_finished session.old ≡ true → result ≡ Err BlobFault.Spent) }
     {
         spans.notes.restart();
         let found = self.read_through(session, &mut spans.notes);
@@ -238,6 +240,7 @@ impl<'a, R: Read> Reader<'a, R> {
         spans: &mut S,
     ) -> Result<bool, BlobFault>
         ensures shared { ReadsNext false self.old self.new result }
+        ensures spent_session { IfGoingOn self.old (is_finished session.old ≡ true → result ≡ Err BlobFault.Spent) }
         ensures read { ReadsThrough S.holds self.old self.new session.old session.new result spans.old spans.new }
     {
         match self.is_ready() {

@@ -248,6 +248,7 @@ impl Session {
         ensures through { (bytes : List ℕ) (gs : List Tree) → Stands bytes gs self.old → IsThrough (session_limits self.old) bytes gs input.old input.new result self.new }
         ensures cleared { (result ≡ Ok true) ⊎ (session_rows self.new ≡ []) }
         ensures finished { (result ≡ Ok true) ⊎ (is_spent self.new ≡ true) }
+        ensures spent { is_spent self.old ≡ true → result ≡ Err BlobFault.Spent }
         ensures noted { result ≡ Ok true → NotesEnd S.holds input.old input.new self.old self.new spans.old spans.new }
     {
         if self.spent {

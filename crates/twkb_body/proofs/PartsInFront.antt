@@ -49,8 +49,6 @@ no_box meta bytes none = record { within = omega arith; parts = λ h at. subst (
 
 -- ---- the size
 
-}
-
 pub no_size : (meta : ℕ) (bytes : List ℕ) → bit meta 1 ≡ false → SizeInFront meta bytes None 0
 no_size meta bytes none = record {
   within = omega arith;

@@ -34,7 +34,7 @@ const NUMBERS: u32 = 16;
 const APART: usize = 32;
 
 /// Takes points of a list to the last row as far as they are complete, at most `most`; and how many
-/// of these are left. Takes memory. Two at a time if that goes: the numbers of points that lie near
+/// of these are left. Takes memory. Eight or two at a time if that goes: the numbers of points that lie near
 /// one another are found four at once, and not looked for after a point that lies far.
 #[inline(always)]
 pub fn take_row(

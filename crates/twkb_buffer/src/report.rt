@@ -9,8 +9,8 @@ use twkb_convert::{ConvertFault, Report};
 #[repr(C)]
 #[derive(Clone, Copy, Debug, PartialEq, Eq)]
 pub struct BufferReport {
-    /// 0: everything was converted. 1: the input is refused. 2: the limits or the style are
-    /// refused. 3: the input could not be read. 4: no memory. 5: the output is too small.
+    /// 0: everything was converted. 1: the input is refused. 2: limits, style or conversion
+    /// are refused. 3: the input could not be read. 4: no memory. 5: the output is too small.
     pub status: u32,
     /// The number of the reason for which the input is refused; 0 if it is not.
     pub reason: u32,

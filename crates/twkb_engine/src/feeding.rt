@@ -1,4 +1,4 @@
-//! The three ways in: a held number that further bytes complete, an item that is complete at the
+//! The ways in: a held number that further bytes complete, an item that is complete at the
 //! start of the bytes, and points of a list many at once.
 ghost use Rattle.std.specs.Prelude.{◌≡◌, ◌+◌, ◌<◌, ◌≤◌, ◌^◌, ◌∷◌, [], List, IfOk, IfSome, OnErr, take, length};
 
