@@ -38,7 +38,7 @@ extern "C" {
 #define POLYTWKB_DONE 0u      /* all was converted */
 #define POLYTWKB_REFUSED 1u   /* the input is refused: reason and place say why and where */
 #define POLYTWKB_ARGUMENTS 2u /* a limit, the style or the conversion is out of range; nothing was done */
-#define POLYTWKB_DEVICE 3u    /* the input could not be read; no buffer gives that */
+#define POLYTWKB_DEVICE 3u    /* the input could not be read; no buffer was seen to give that */
 #define POLYTWKB_MEMORY 4u    /* memory was refused */
 #define POLYTWKB_TOO_SMALL 5u /* the output is too small: needed is the size needed */
 
