@@ -56,13 +56,26 @@ fn are_ones(eight: Eight) -> bool {
     are_there
 }
 
-// Whether they are found from (0, 0), by the ends of the bytes, and not from a point that is no inner one.
+// Whether eight points are found from here, by the ends of the bytes, and are those from (0, 0).
+fn finds_ones(from: Pt) -> bool {
+    match front_eight(from, &ONES, varint_ends(&ONES)) {
+        Some(eight) => are_ones(eight),
+        None => false,
+    }
+}
+
+// Whether no eight points are found from here.
+fn finds_none(from: Pt) -> bool {
+    match front_eight(from, &ONES, varint_ends(&ONES)) {
+        Some(_) => false,
+        None => true,
+    }
+}
+
+// Whether they are found from (0, 0), and not from a point that is no inner one.
 fn are_eight() -> bool {
     match (Pt::try_new(0, 0), Pt::try_new(0, 1 << 61)) {
-        (Some(origin), Some(outer)) => {
-            let found = front_eight(origin, &ONES, varint_ends(&ONES));
-            found.is_some_and(are_ones) & front_eight(outer, &ONES, varint_ends(&ONES)).is_none()
-        }
+        (Some(origin), Some(outer)) => finds_ones(origin) & finds_none(outer),
         _ => false,
     }
 }
