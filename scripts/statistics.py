@@ -3,7 +3,7 @@
 
     scripts/statistics.py            the table of docs/DECISIONS.md, and public items and `use` lines
     scripts/statistics.py --docs     writes it there, between its marks
-    scripts/statistics.py --list     each clause, definition, function, test and file that is too long, with its place
+    scripts/statistics.py --list     each clause, definition, function, test, file and line that is too long, with its place
 
 - A clause is the text after `requires` or `ensures` in a source file, with that word, its label and its braces;
   several lines are joined by one space.
@@ -25,7 +25,7 @@ import sys
 REPO = os.path.abspath(os.path.join(os.path.dirname(__file__), ".."))
 DOCUMENT = os.path.join(REPO, "docs", "DECISIONS.md")
 BEGIN, END = "<!-- statistics: begin -->", "<!-- statistics: end -->"
-CLAUSE_MOST, DEFINITION_MOST, FILE_MOST, FUNCTION_MOST, ARGUMENTS_MOST, TEST_MOST, WORST = 240, 12, 400, 40, 6, 40, 10
+CLAUSE_MOST, DEFINITION_MOST, FILE_MOST, FUNCTION_MOST, ARGUMENTS_MOST, TEST_MOST, WIDTH_MOST, WORST = 240, 12, 350, 40, 6, 40, 120, 10
 
 CLAUSE = re.compile(r"\s*(requires|ensures)\b")
 FUNCTION = re.compile(r"\s*(pub(\([a-z]+\))? )?(const )?(unsafe )?fn ")
@@ -194,6 +194,7 @@ class Counts:
         self.arguments = collected(arguments_of, "src", ".rt")
         self.tests = collected(tests_of, "src", ".rt")
         self.files = [Found(path, 1, "", len(lines_of(path))) for path in sources + specs + proofs]
+        self.widths = [Found(path, place + 1, "", len(line)) for path in sources + specs + proofs for place, line in enumerate(lines_of(path))]
         self.uses = [Found(path, 1, "", sum(1 for line in lines_of(path) if USE.match(line))) for path in sources + specs + proofs]
         self.public = {crate: sum(1 for path in sources if path.startswith(f"crates/{crate}/") for line in lines_of(path) if PUBLIC.match(line))
                        for crate in crates()}
@@ -208,6 +209,7 @@ class Counts:
             ("Functions", self.arguments, ARGUMENTS_MOST, "arguments"),
             ("Bodies of tests", self.tests, TEST_MOST, "lines"),
             ("Files", self.files, FILE_MOST, "lines"),
+            ("Lines", self.widths, WIDTH_MOST, "columns"),
         ]
 
 
