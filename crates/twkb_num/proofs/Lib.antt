@@ -22,4 +22,5 @@ pub mod TwoLemmas
 pub mod UnzigzagLemmas
 pub mod VarintLemmas
 pub mod VarintOutLemmas
+pub mod WordLemmas
 pub mod ZigzagLemmas
