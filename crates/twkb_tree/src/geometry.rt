@@ -21,7 +21,8 @@ pub struct Members {
     pub(crate) items: Vec<Geometry>,
 }
 
-/// One of the seven shapes (TWKB, the geometry types), with the ids of its members if they have any.
+/// One of the seven shapes (TWKB, the geometry types), with the ids of its members if they have
+/// any.
 #[cycle(geometry)]
 #[derive(Debug, Drop)]
 pub enum Shape {
