@@ -131,7 +131,7 @@ impl Flat {
             first: self.points.len() as u32,
             points: 1,
         };
-        // the last node ends here, and the member stands under its parent
+        // the subtree of the last node ends here, and the new member has the same parent
         let node = KeptNode {
             span,
             next: self.entries[last as usize].next,

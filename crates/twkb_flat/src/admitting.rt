@@ -40,7 +40,8 @@ fn id_fits(parent: Option<OpenRow>, kind: Kind, id: Option<i64>) -> bool
     row_rules::id_allowed(parent, kind, has_id) && row_rules::has_same_ids(parent, has_id)
 }
 
-// Whether a row under this parent has a precision in range if it is a geometry itself, and none if not.
+// Whether a row under this parent has a precision in range if it is a geometry itself, and none if
+// not.
 fn precision_fits(parent: Option<OpenRow>, precision: Option<i8>) -> bool
     ensures { result ≡ (precision_in_range precision && precision_fits (row_of parent) precision) }
 {

@@ -69,16 +69,6 @@ pub length-varints : (fs : List Field) → AllFit fs → length (varints fs) ≤
 length-varints [] fit = omega arith
 length-varints (f ∷ fs) fit = omega (arith, length-append (varint_of f.1) (varints fs), length-varint_of f.1 fit.0.1, length-varints fs fit.1)
 
--- joined fields fit if both lists do
-pub AllFit-append : (fs gs : List Field) → AllFit fs → AllFit gs → AllFit (fs ++ gs)
-AllFit-append [] gs h k = k
-AllFit-append (f ∷ fs) gs h k = (h.0, AllFit-append fs gs h.1 k)
-
--- the varints of joined fields
-pub varints-append : (fs gs : List Field) → varints (fs ++ gs) ≡ varints fs ++ varints gs
-varints-append [] gs = refl
-varints-append (f ∷ fs) gs = ap (λ bs. varint_of f.1 ++ bs) (varints-append fs gs) ∙ sym (append_assoc (varint_of f.1) (varints fs) (varints gs))
-
 -- joined items are exact if both lists are
 pub AreExact-append : (is js : List Item) → AreExact is → AreExact js → AreExact (is ++ js)
 AreExact-append [] js h k = k

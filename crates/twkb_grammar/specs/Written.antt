@@ -81,7 +81,8 @@ abbrev pub framed : Style → Tree → List ℕ → List ℕ
 framed Full g body = sized (box_of g ++ body)
 framed Plain g body = body
 
--- A blob: type byte, metadata byte and the rest, with this body unless bit 4 says that there is none.
+-- A blob: type byte, metadata byte and the rest, with this body unless bit 4 says that there is
+-- none.
 abbrev pub written : Style → Tree → List ℕ → List ℕ
 written style g body =
     header_byte (kind_of_tree g) (precision_of g) ∷ metadata_byte style g ∷ framed style g (if is_empty (flags_of_tree g) then [] else body)

@@ -1,3 +1,4 @@
+-- Lemmas of the crate, by their topic.
 pub mod AnswerLemmas
 pub mod BlockLemmas
 pub mod BufferLemmas
