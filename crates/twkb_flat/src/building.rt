@@ -20,7 +20,7 @@ impl Flat {
         ensures rows { IfOk result (λ g. rows 0 g ≡ self.now) }
         ensures valid { IfOk result (λ g. IsValid largest_limits g) }
     {
-        // gives proofs the fact that the rows are those of one geometry
+        // lets proofs know that the rows are those of one geometry
         let _learnt = self.is_empty();
         let (geometry, _next) = take_geometry(self, alloc, 0)?;
         Ok(geometry)

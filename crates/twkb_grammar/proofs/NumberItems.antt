@@ -1,4 +1,4 @@
--- Fields as items, each number by its shortest varint.
+-- Fields as items, each number as its shortest varint.
 use Rattle.std.proofs.Common.{◌≡◌, ℕ, ◌*◌, ◌<◌, ◌≤◌, ◌^◌, List, [], ◌∷◌, ◌++◌, length, refl, ap, sym, ◌∙◌, append_assoc, length-append, arith}
 use Rattle.std.specs.List.{AllByRecursion}
 use Rattle.twkb_num.specs.Varint.{varint_of}

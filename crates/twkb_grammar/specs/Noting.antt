@@ -87,7 +87,7 @@ abbrev pub noted : (start : ℕ) → Sums → Notes → List Item → Notes
 noted start e w [] = w
 noted start e w (i ∷ is) = noted start (added e i) (noted_by start e i.role i.number w) is
 
--- The notes after the next byte, if it is a header by itself; otherwise the notes as they are.
+-- The notes after the next byte, which is noted at once if it is a type byte or a metadata byte.
 abbrev pub note_byte : Phase → (offset points byte : ℕ) → Notes → Notes
 note_byte AtHeader offset points byte w = note_header offset points byte w
 note_byte (AtMetadata k p) offset points byte w = note_metadata byte w
@@ -111,18 +111,19 @@ IsCalm _ = ⊤
 abbrev pub notes_of : {limits : Allowance} {bytes held : List ℕ} {gs : List Tree} {e : Sums} {st : Stack} → (start : ℕ) → Stands limits bytes gs e st held → Notes
 notes_of start s = noted start nothing no_notes s.reached.items
 
--- The notes in this state after this byte, if the byte is a header by itself.
+-- The notes in this state after this byte, which is noted at once if it is a type byte or a
+-- metadata byte.
 abbrev pub notes_with : {limits : Allowance} {bytes held : List ℕ} {gs : List Tree} {e : Sums} {st : Stack} → (start byte : ℕ) → Stands limits bytes gs e st held → Notes
 notes_with {e = e} {st = st} start byte s = note_byte st.1 (start + e.bytes) e.points byte (notes_of start s)
 
--- A byte after which the blob goes on adds its own note, if it is a header by itself, and the ends
--- after it.
+-- After a byte with which the blob goes on, the notes are those of the byte and of the ends that
+-- come with it.
 abbrev pub NotesGoOn : {limits : Allowance} {bytes held : List ℕ} {e : Sums} {st : Stack} → Stands limits bytes [] e st held → Type 0
 NotesGoOn {limits} {bytes} {st = st} s = (start byte : ℕ) (f : Sums) (su : Stack) (kept : List ℕ) (t : Stands limits (bytes ++ byte ∷ []) [] f su kept)
     → IsCalm st.1 → notes_of start t ≡ note_ends_to (frame_count su) (start + f.bytes) f.points (notes_with start byte s)
 
--- A byte that ends the blob adds its own note, if it is a header by itself, and the ends of all
--- open geometries. The notes are then the spans of the blob.
+-- After the last byte of the blob, the notes are those of the byte and of the ends of all open
+-- geometries, and they are the spans of the blob.
 abbrev pub NotesEnd : {limits : Allowance} {bytes held : List ℕ} {e : Sums} {st : Stack} → Stands limits bytes [] e st held → Type 0
 NotesEnd {limits} {bytes} {st = st} s = (start byte : ℕ) (g : Tree) (b : Blob limits (bytes ++ byte ∷ []) g)
     → IsCalm st.1 → spans_of_blob start b ≡ (note_ends_to 0 (start + length (bytes ++ byte ∷ [])) (length (flat g)) (notes_with start byte s)).spans

@@ -62,7 +62,7 @@ abbrev pub metadata_byte : Style → Tree → ℕ
 metadata_byte Full g = flag_bits (flags_of_tree g) + ((if boxed g then 1 else 0) + 2)
 metadata_byte Plain g = flag_bits (flags_of_tree g)
 
--- The numbers of the fields, each by its shortest varint (profile).
+-- The numbers of the fields, each as its shortest varint (profile).
 abbrev pub varints : List Field → List ℕ
 varints fs = flat_map (λ f. varint_of f.1) fs
 

@@ -8,7 +8,7 @@ use Rattle.twkb_num.specs.declared.block.Marks.{Marks}
 abbrev pub units_in : ℕ → List ℕ → List ℕ
 units_in base bytes = map (λ b. (b + (2 ^ 8 - base)) % 2 ^ 8) bytes
 
--- `units` are the first bytes minus the base: all are in the alphabet, none pads a number, and
+-- `units` are the first bytes minus the base: all are in the alphabet and none pads a number;
 -- `ends` has a bit for each of them that ends a number
 pub record AreUnits (base radix : ℕ) (bytes units : List ℕ) (ends : ℕ) : Type 0 where
   pub within : length units ≤ length bytes
@@ -18,7 +18,7 @@ pub record AreUnits (base radix : ℕ) (bytes units : List ℕ) (ends : ℕ) : T
   pub marks : ends ≡ mask_l (map (λ u. nat_lt u radix) units)
 
 -- `ends` has a bit for each unit that ends a number, among some first units that are all in the
--- alphabet and of which none pads a number
+-- alphabet and pad no number
 pub record AreEnds (base radix : ℕ) (bytes : List ℕ) (ends : ℕ) : Type 0 where
   pub units : List ℕ
   pub are : AreUnits base radix bytes units ends

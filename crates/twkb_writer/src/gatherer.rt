@@ -86,7 +86,7 @@ impl<'a, 'b, 'c, S: Sink> Gatherer<'a, 'b, 'c, S, S::Fault> {
         self.piece.push(second);
     }
 
-    // Puts a number by its shortest varint.
+    // Puts a number as its shortest varint.
     #[inline(always)]
     pub(crate) fn put_number(&mut self, number: u64)
         ensures { Put S.took S.refused self.old (varint_of number) self.new }
@@ -95,7 +95,7 @@ impl<'a, 'b, 'c, S: Sink> Gatherer<'a, 'b, 'c, S, S::Fault> {
         self.piece.push_varint(number);
     }
 
-    // Puts a signed number by its zigzag form.
+    // Puts a signed number in its zigzag form.
     #[inline(always)]
     fn put_signed(&mut self, number: i64)
         ensures { Put S.took S.refused self.old (signed number) self.new }
@@ -114,7 +114,7 @@ impl<'a, 'b, 'c, S: Sink> Gatherer<'a, 'b, 'c, S, S::Fault> {
         }
     }
 
-    // Puts signed numbers by their zigzag forms.
+    // Puts signed numbers in their zigzag forms.
     pub(crate) fn put_all(&mut self, numbers: &[i64])
         ensures { Put S.took S.refused self.old (flat_map signed numbers.now) self.new }
     {

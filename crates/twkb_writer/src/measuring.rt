@@ -20,12 +20,12 @@ use std::alloc::{AllocError, Global};
 use twkb_flat::{Flat, Node, NodeId, PointId, Work};
 use twkb_grammar::Style;
 
-// Gives a proof the fact that counts of reads fit 64 bits. Changes nothing.
+// Lets a proof know that counts of reads fit 64 bits. Changes nothing.
 pub(crate) fn look_at_reads(work: &Work)
     ensures nodes { work.now.node_reads < 2 ^ 64 }
     ensures points { work.now.point_reads < 2 ^ 64 }
 {
-    // gives proofs the fact that both counts fit
+    // lets proofs know that both counts fit
     let _learnt = work.node_reads;
     let _learnt = work.point_reads;
 }

@@ -162,7 +162,7 @@ pub(crate) fn put_rows<S: Sink>(
     ensures put { Put S.took S.refused gatherer.old (bytes_of job.now) gatherer.new }
     ensures reads { Reads work.old (2 * length job.now.flat.now) (length (row_points job.now.flat.now)) work.new }
 {
-    // gives proofs the fact that there are fewer than 2^64 entries
+    // lets proofs know that there are fewer than 2^64 entries
     let _learnt = job.sizes.len();
     let flat = job.flat;
     let mut place = Place {
