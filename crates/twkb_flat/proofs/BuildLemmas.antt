@@ -1,4 +1,4 @@
--- A geometry by its own row and the rows below it.
+-- A geometry, given by its own row and the rows below it.
 use Rattle.std.proofs.Common.{◌≡◌, ℕ, suc, ◌+◌, List, [], ◌∷◌, ◌++◌, length, drop, Option, None, Some, refl, sym, ◌∙◌, ap, subst, add-one, append-nil}
 use Rattle.std.specs.Prelude.{ℤ, slice_get}
 use Rattle.std.specs.List.{AllByRecursion}

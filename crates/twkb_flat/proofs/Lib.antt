@@ -1,3 +1,4 @@
+-- Lemmas of the crate, by their topic.
 pub mod AdmitLemmas
 pub mod ClosingLemmas
 pub mod CountedMore

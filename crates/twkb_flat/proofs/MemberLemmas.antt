@@ -1,4 +1,4 @@
--- One more member of a multipoint, after another.
+-- A member of a multipoint is added after another member.
 use Rattle.std.proofs.Common.{◌≡◌, ℕ, zero, suc, ◌+◌, ◌-◌, ◌<◌, ◌≤◌, ◌^◌, ℤ, Bool, true, List, [], ◌∷◌, ◌++◌, map, length, set, get_or, Option, Some, None, refl, sym, ap, ◌∙◌, subst, arith}
 use Rattle.std.specs.Prelude.{reverse, is_some, is_none, nat_le}
 use Rattle.std.proofs.lemmas.List.{length-append, length_push, map_push, reverse-append}

@@ -1,4 +1,4 @@
--- What a node says about the rows.
+-- What a node returned by a flat form says about the rows.
 use Rattle.std.proofs.Common.{◌≡◌, ℕ, ◌+◌, ◌<◌, ◌≤◌, ◌⊎◌, inl, inr, List, map, length, get_or, sym, ap, ◌∙◌, subst, arith}
 use Rattle.std.proofs.lemmas.List.{length-map, get_or-map}
 use Rattle.twkb_points.specs.Point.{Point}

@@ -22,7 +22,7 @@ next_of e = e.next.0
 abbrev pub new_node : PlacedRow → KeptNode
 new_node s = record { span = s; next = record { 0 = 0 } }
 
--- one node of a row was appended, and its own points come after those of the others
+-- one node was appended for this row, and its own points after all other points
 pub record IsPut (row : Row) (own : List Point) (es more : List KeptNode) (ps all : List Point) : Type 0 where
   pub node : more ≡ es ++ new_node (record { row = row; first = length ps; points = length own }) ∷ []
   pub points : all ≡ ps ++ own
@@ -39,14 +39,14 @@ depths_in es = map span_depth (map span_of es)
 abbrev pub links_in : List KeptNode → List ℕ
 links_in es = map next_of es
 
--- The entry at `at` is the last, and its row may come after the rows before it; the links of
--- those are still as they were without it.
+-- The entry at `at` is the last, and its row may come after the rows before it. Their links do not
+-- count it yet.
 pub record IsUnlinked (es : List KeptNode) (at : ℕ) : Type 0 where
   pub last : length es ≡ at + 1
   pub linked : Linked (take at (depths_in es)) (take at (links_in es))
   pub place : MayFollow (take at (depths_in es)) (slice_index (depths_in es) at)
 
--- the rows, each with its part of the points
+-- the rows of the spans, each with its own points
 abbrev pub listed : List PlacedRow → List Point → List TableRow
 listed [] ps = []
 listed (s ∷ ss) ps = row_with s.row (take s.points ps) ∷ listed ss (drop s.points ps)

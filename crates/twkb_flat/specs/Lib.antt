@@ -1,3 +1,4 @@
+-- The definitions of the crate, by their topic.
 pub mod Admitting
 pub mod Entries
 pub mod Lasts

@@ -25,8 +25,8 @@ pub record OpenPlace (ds : List ℕ) (d i : ℕ) : Type 0 where
   pub depth : slice_index ds i ≡ d
   pub is_open : IsOpen ds i
 
--- `up` is the place of the parent of the open row i; for a root it is only known that `up` is not
--- after the root
+-- `up` is the place of the parent of the open row i; if i is a root, `up` is only known to be at
+-- most i
 pub record IsUp (ds : List ℕ) (i up : ℕ) : Type 0 where
   pub before : up ≤ i
   pub parent : (d : ℕ) → slice_index ds i ≡ d + 1 → OpenPlace ds d up
@@ -43,7 +43,8 @@ pub record AreClosed (ds nexts after : List ℕ) (d next : ℕ) : Type 0 where
   pub shut : (i : ℕ) → i < length ds → IsOpen ds i → d ≤ slice_index ds i → slice_index after i ≡ next
   pub kept : (i : ℕ) → i < length ds → (IsOpen ds i → slice_index ds i < d) → slice_index after i ≡ slice_index nexts i
 
--- one more row at this depth may come after these: under an open row, or as the first row and a root
+-- one more row at this depth may come after these: under an open row, or as the first row and a
+-- root
 pub record MayFollow (ds : List ℕ) (d : ℕ) : Type 0 where
   pub step : d ≤ levels ds
   pub below : 0 < length ds → 0 < d

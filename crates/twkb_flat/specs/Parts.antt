@@ -1,5 +1,5 @@
--- The rows of a part that is not a geometry itself (a point, line, ring or polygon), and
--- geometries that have no geometries below them.
+-- The rows of a part of a geometry (a point, line, ring or polygon), and geometries that are not
+-- collections.
 use Rattle.std.specs.Prelude.{ℕ, suc, ℤ, List, ◌∷◌, Option, ⊤}
 use Rattle.twkb_points.specs.Point.{Point}
 use Rattle.twkb_tree.specs.declared.kind.Kind.{Kind}

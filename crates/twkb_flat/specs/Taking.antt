@@ -15,15 +15,15 @@ abbrev pub IsAt : ℕ → List Row → Type 0
 IsAt d [] = ⊥
 IsAt d (r ∷ rs) = r.depth ≡ d
 
--- the rows from a place on are those of one sound item at a depth with an id, and then others
--- that are not below it
+-- the rows from a place on begin with those of one sound item at a depth, with an id, and the rest
+-- are not below it
 pub record ItemAt {A : Type 0} (sound : A → Type 0) (f : Option ℤ → A → List Row) (rows : List Row) (at d : ℕ) (id : Option ℤ) (item : A) (rest : List Row) : Type 0 where
   pub is_sound : sound item
   pub behind : IsAbove (suc d) rest
   pub here : drop at rows ≡ f id item ++ rest
 
--- the rows from a place on are those of sound items at a depth with these ids, and then others
--- that are above them
+-- the rows from a place on begin with those of sound items at a depth, with these ids, and the rest
+-- are above them
 pub record EachAt {A : Type 0} (sound : A → Type 0) (f : Option ℤ → A → List Row) (rows : List Row) (at d : ℕ) (ids : Ids) (items : List A) (rest : List Row) : Type 0 where
   pub are_sound : AllByRecursion sound items
   pub ids_fit : HasIds ids (length items)

@@ -46,7 +46,7 @@ impl Flat {
         ensures added { OnOk result (self.new ≡ point_added point self.old) }
         ensures same { OnErr result (self.new ≡ self.old) }
     {
-        // gives proofs the fact that the point is in range
+        // lets proofs know that the point is in range
         let _learnt = point.x();
         if let Err(refused) = self.points.push(point) {
             return Err(refused.into());
@@ -65,7 +65,7 @@ impl Flat {
         ensures added { OnOk result (self.new ≡ point_added second (point_added first self.old)) }
         ensures same { OnErr result (self.new ≡ self.old) }
     {
-        // gives proofs the fact that the points are in range
+        // lets proofs know that the points are in range
         let _learnt = first.x();
         let _learnt = second.x();
         make_room(&mut self.points, 2)?;
@@ -116,7 +116,7 @@ impl Flat {
         ensures same { OnErr result (self.new ≡ self.old) }
     {
         look_at_id(id);
-        // gives proofs the fact that the point is in range
+        // lets proofs know that the point is in range
         let _learnt = point.x();
         let next = self.entries.len() as u32;
         let last = next - 1;
@@ -131,7 +131,7 @@ impl Flat {
             first: self.points.len() as u32,
             points: 1,
         };
-        // the last node ends here, and the member stands under its parent
+        // the subtree of the last node ends here, and the new member has the same parent
         let node = KeptNode {
             span,
             next: self.entries[last as usize].next,

@@ -21,12 +21,12 @@ const MOST_NODES: u64 = NODES_CAP as u64;
 // The most points of the largest geometry.
 pub(crate) const MOST_POINTS: u64 = POINTS_CAP as u64;
 
-// Gives a proof the fact that an id is in range. Changes nothing.
+// Lets a proof know that an id is in range. Changes nothing.
 pub(crate) fn look_at_id(id: Option<i64>)
     ensures { id_in_range id ≡ true }
 {
     if let Some(number) = id {
-        // gives proofs the fact that the number fits 64 bits
+        // lets proofs know that the number fits 64 bits
         let _learnt = number;
     }
 }
@@ -40,7 +40,8 @@ fn id_fits(parent: Option<OpenRow>, kind: Kind, id: Option<i64>) -> bool
     row_rules::id_allowed(parent, kind, has_id) && row_rules::has_same_ids(parent, has_id)
 }
 
-// Whether a row under this parent has a precision in range if it is a geometry itself, and none if not.
+// Whether a row under this parent has a precision in range if it is a geometry itself, and none if
+// not.
 fn precision_fits(parent: Option<OpenRow>, precision: Option<i8>) -> bool
     ensures { result ≡ (precision_in_range precision && precision_fits (row_of parent) precision) }
 {
@@ -93,12 +94,12 @@ pub(crate) fn is_next(levels: u32, depth: u32) -> bool
     if levels == 0 { depth == 0 } else { depth > 0 }
 }
 
-// Gives a proof the fact that the points are in range. Changes nothing.
+// Lets a proof know that the points are in range. Changes nothing.
 pub(crate) fn look(points: &[Pt])
     ensures { AreInRange points.now }
 {
     for point in points {
-        // gives proofs the fact that the point is in range
+        // lets proofs know that the point is in range
         let _learnt = point.x();
     }
 }

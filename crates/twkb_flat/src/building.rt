@@ -20,7 +20,7 @@ impl Flat {
         ensures rows { IfOk result (λ g. rows 0 g ≡ self.now) }
         ensures valid { IfOk result (λ g. IsValid largest_limits g) }
     {
-        // gives proofs the fact that the rows are those of one geometry
+        // lets proofs know that the rows are those of one geometry
         let _learnt = self.is_empty();
         let (geometry, _next) = take_geometry(self, alloc, 0)?;
         Ok(geometry)
@@ -105,8 +105,8 @@ fn take_simple(flat: &Flat, alloc: Global, at: usize) -> Result<(Shape, usize), 
     }
 }
 
-// Builds the geometries whose rows begin at a place, as many as follow at this depth, and returns
-// their ids and the place after them.
+// Builds all geometries that follow each other at this depth from a place on, and returns their ids
+// and the place after them.
 #[cycle(building)]
 fn take_members(
     flat: &Flat,
@@ -129,8 +129,8 @@ fn take_members(
     Ok((Members::from_vec(members), found_ids(ids), at))
 }
 
-// Builds the parts whose rows begin at a place, as many as follow at this depth, and returns
-// their ids and the place after them.
+// Builds all parts that follow each other at this depth from a place on, and returns their ids and
+// the place after them.
 pub(crate) fn take_each<T: Part>(
     flat: &Flat,
     alloc: Global,
@@ -162,7 +162,7 @@ fn push_id(ids: &mut Vec<i64>, id: Option<i64>) -> Result<(), AllocError>
     Ok(())
 }
 
-// Turns the ids found into the ids of a shape: none if there are none.
+// Makes the ids of a shape from a list, or `None` if the list is empty.
 fn found_ids(ids: Vec<i64>) -> Ids
     ensures { result ≡ ids_in ids.items }
 {

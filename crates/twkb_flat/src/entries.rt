@@ -12,7 +12,7 @@ use std::alloc::AllocError;
 use twkb_points::{PointTail, Pt};
 use twkb_tree::Kind;
 
-// A row and the place of its own points.
+// A row, and the place and number of its own points.
 #[derive(Clone, Copy)]
 pub(crate) struct PlacedRow {
     pub(crate) row: Row,
@@ -20,9 +20,9 @@ pub(crate) struct PlacedRow {
     pub(crate) points: u32,
 }
 
-// A span and a link. The link is the node after the span's subtree; but as long as all rows after
-// it are below it, the node is open, and the link is the place of its parent, or 0 for the root.
-// So the link of an open node is at most its own place.
+// A row with the place of its points, and a link. The link is the place after the node's subtree.
+// As long as all nodes after it are below it, the node is open, and the link is the place of its
+// parent, or 0 for the root. So the link of an open node is at most its own place.
 #[derive(Clone, Copy)]
 pub(crate) struct KeptNode {
     pub(crate) span: PlacedRow,
@@ -149,17 +149,17 @@ pub(crate) fn open_at(entries: &[KeptNode], depth: u32) -> usize
     at
 }
 
-// Whether the node after this place has an id; `None` if there is none. After an open node it is
-// that node's first child.
+// Whether the node after this place has an id; `None` if there is no such node. The node after an
+// open one is its first child.
 pub(crate) fn child_ids(entries: &[KeptNode], at: usize) -> Option<bool>
     requires { at < length entries.now }
     ensures { (points : List Point) → result ≡ ids_by (slice_get (listed (map span_of entries.now) points) (at + 1)) }
 {
-    let behind = at + 1;
-    if behind == entries.len() {
+    let next = at + 1;
+    if next == entries.len() {
         return None;
     }
-    Some(entries[behind].span.row.id.is_some())
+    Some(entries[next].span.row.id.is_some())
 }
 
 // Counts one more point of the last node.

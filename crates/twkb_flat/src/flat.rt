@@ -139,7 +139,7 @@ impl Flat {
         ensures begun { OnOk result (self.new ≡ whole_row 0 Kind.Point None precision (point ∷ []) ∷ []) }
         ensures none { OnErr result (self.new ≡ []) }
     {
-        // gives proofs the fact that the point is in range
+        // lets proofs know that the point is in range
         let _learnt = point.x();
         self.clear();
         let root = Row {

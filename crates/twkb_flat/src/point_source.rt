@@ -16,8 +16,8 @@ pub trait PointSource {
     // It may answer with this fault.
     ghost refuses: { Self → Self.Fault → Type 0 };
 
-    /// Appends the points of the row to a borrowed tail, whatever list that is the end of; an
-    /// `Err` changes nothing.
+    /// Appends the points of the row to a list, through its borrowed tail. An `Err` changes
+    /// nothing.
     fn append_to<L: PointTail>(&self, points: &mut L) -> Result<(), Self::Fault>
         ensures given { OnOk result ((own : List Point) × (L.held points.new ≡ L.held points.old ++ own) × gives self.now own) }
         ensures refused { IfErr result (refuses self.now) }

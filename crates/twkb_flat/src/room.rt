@@ -4,7 +4,7 @@ ghost use Rattle.std.specs.Prelude.{◌≡◌, ◌+◌, ◌≤◌, ◌++◌, OnO
 use std::alloc::AllocError;
 use twkb_points::Pt;
 
-// The least room after two points did not fit, so that a short list asks for memory once.
+// The least room after the first growth, so that a short list asks for memory once.
 const ROOM: usize = 16;
 
 // Makes room for `count` more points if there is less. Takes memory only if they do not fit.
@@ -19,8 +19,7 @@ pub(crate) fn make_room(points: &mut Vec<Pt>, count: usize) -> Result<(), AllocE
     grow(points, count)
 }
 
-// Makes room for `count` more points: up to sixteen in all if there are few, and otherwise for
-// twice as many. Takes memory.
+// Asks for memory for `count` more points, and for at least sixteen points in all.
 #[inline(never)]
 fn grow(points: &mut Vec<Pt>, count: usize) -> Result<(), AllocError>
     ensures same { points.new.items ≡ points.old.items }

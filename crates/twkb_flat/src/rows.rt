@@ -8,8 +8,8 @@ use crate::node::{NodeId, Row};
 use crate::work::Work;
 use twkb_points::Pt;
 
-/// A form whose rows give their points as slices, each counted once however often it is read. It
-/// owns the form, so it can't be made from a `&Flat`.
+/// A form that gives the points of a row as a slice, and counts each point once however often the
+/// caller reads it. It owns the form, so it can't be made from a `&Flat`.
 #[derive(Drop)]
 pub struct Rows {
     /// The form.

@@ -133,7 +133,7 @@ wanting_done k (r ∷ rs) h fs =
     λ e. fill e (fs, AtOption k h r rs) (fs, wanting k (with_option h r (filler_number r) (e.bytes + length (filler_bytes r))) rs) r refl refl
     (wanting_done k rs (with_option h r (filler_number r) (e.bytes + length (filler_bytes r))) fs (added e (filler r)))
 
--- a stack that waits for an item, or is finished
+-- a stack that expects an item, or is finished
 abbrev pub IsProper : Stack → Type 0
 IsProper (fs, AtBody h f ids (Done v)) = ⊥
 IsProper (fs, Finished g) = fs ≡ []
@@ -213,7 +213,7 @@ proper_after fs (AtBody h f ids (Done v)) e i r = cc
 proper_after fs (AtEnd h g) e i r = ended_proper fs g
 proper_after fs (Finished g) e i r = cc
 
--- the machine runs from a stack that waits, or is finished, to another such stack
+-- the machine runs from a stack that expects an item, or is finished, to another such stack
 pub proper_run : (is : List Item) (e : Sums) (st last : Stack) → IsProper st → Runs e st is last → IsProper last
 proper_run [] e st last p r = subst (λ s. IsProper s) r p
 proper_run (i ∷ is) e st last p r = proper_run is (added e i) (stack_after e i st) last (proper_after st.0 st.1 e i r.0) r.2

@@ -1,4 +1,5 @@
--- If the machine waits and a reason holds, no item can go on to a valid geometry.
+-- If the machine expects an item and there is a reason to refuse it, no item leads on to a valid
+-- geometry.
 use Rattle.std.proofs.Common.{true, ◌≡◌, ℕ, zero, suc, ◌+◌, ◌*◌, ◌%◌, ◌<◌, ◌≤◌, List, [], ◌∷◌, ◌++◌, length, ap, sym, ◌∙◌, subst, arith, inl, inr}
 use Rattle.std.specs.Prelude.{⊤, ◌≢◌, ◌⊎◌, ◌+ℤ◌}
 use Rattle.twkb_num.specs.Zigzag.{unzigzag_of}

@@ -1,4 +1,4 @@
--- At most as many collections are open as may be around a member.
+-- The limit on collections around a member bounds the number of open collections.
 use Rattle.std.proofs.Common.{Bool, true, false, ◌≡◌, ℕ, zero, suc, ◌+◌, ◌<◌, ◌≤◌, List, [], ◌∷◌, ◌++◌, length, refl, subst, Some, None, arith, inl, inr}
 use Rattle.std.proofs.lemmas.Bool.{cases_lt}
 use Rattle.twkb_tree.specs.Tree.{Tree, Ids}

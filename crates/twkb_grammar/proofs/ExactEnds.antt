@@ -1,4 +1,4 @@
--- If no end comes next, no size is found to be wrong after the bytes.
+-- A size is found to be wrong only at an end, so none is if no end comes next.
 use Rattle.std.proofs.Common.{◌≡◌, ℕ, ◌<◌, List, [], ◌∷◌, ◌++◌, length, length-append, refl, sym, ap, ◌∙◌, subst, inl, inr, arith}
 use Rattle.std.specs.Prelude.{Option, Some}
 use Rattle.twkb_num.specs.Varint.{HasMarks}

@@ -1,3 +1,4 @@
+-- Lemmas of the crate, by their topic.
 pub mod Places
 pub mod Small
 pub mod Bodies
@@ -7,6 +8,7 @@ pub mod One
 pub mod BodiesBack
 pub mod ShapesBack
 pub mod OptionsBack
+pub mod HeadersBack
 pub mod TreesBack
 pub mod Parts
 pub mod Completing

@@ -7,7 +7,7 @@ use Rattle.twkb_num.specs.Varint.{IsVarint}
 use Rattle.twkb_grammar.specs.Fault.{points_by}
 use Rattle.twkb_grammar.specs.Machine.{Sums, added, sums_after, Stack, stack_after, Runs}
 use Rattle.twkb_grammar.specs.Reading.{open_by, open_after}
-use Rattle.twkb_grammar.specs.Noting.{Notes, behind_first, note_end, noted_by, noted, note_ends, note_ends_to}
+use Rattle.twkb_grammar.specs.Noting.{Notes, without_first, note_end, noted_by, noted, note_ends, note_ends_to}
 use Rattle.twkb_grammar.specs.declared.span.Span.{Span}
 
 -- all items are ends
@@ -56,7 +56,7 @@ end_adds e i d came is item =
     let sp : Spells (End d came) i.number i.bytes = subst (λ x. Spells x i.number i.bytes) is item in
     (let z : length i.bytes ≡ 0 = ap length sp.1 in omega (arith, z), let z : points_by i.role i.number ≡ 0 = ap (λ x. points_by x i.number) is in omega (arith, z))
 
--- an end before other ends gives the same as an end after them
+-- an end noted before other ends gives the same notes as an end noted after them
 ends_swap : (n offset points : ℕ) (w : Notes) → note_ends n offset points (note_end offset points w) ≡ note_end offset points (note_ends n offset points w)
 ends_swap zero offset points w = refl
 ends_swap (suc n) offset points w = ap (λ v. note_end offset points v) (ends_swap n offset points w)
@@ -106,7 +106,7 @@ ends_left : (n offset points : ℕ) (w : Notes) → length (note_ends n offset p
 ends_left zero offset points w = omega arith
 ends_left (suc n) offset points w = one (note_ends n offset points w).begun (ends_left n offset points w)
   where
-    one : (b : List ℕ) → length b ≡ length w.begun - n → length (behind_first b) ≡ length w.begun - suc n
+    one : (b : List ℕ) → length b ≡ length w.begun - n → length (without_first b) ≡ length w.begun - suc n
     one [] e = omega (arith, e)
     one (x ∷ b) e = omega (arith, e)
 

@@ -1,4 +1,4 @@
--- Fields as items, each number by its shortest varint.
+-- Fields as items, each number as its shortest varint.
 use Rattle.std.proofs.Common.{◌≡◌, ℕ, ◌*◌, ◌<◌, ◌≤◌, ◌^◌, List, [], ◌∷◌, ◌++◌, length, refl, ap, sym, ◌∙◌, append_assoc, length-append, arith}
 use Rattle.std.specs.List.{AllByRecursion}
 use Rattle.twkb_num.specs.Varint.{varint_of}
@@ -68,16 +68,6 @@ join-number_items (f ∷ fs) = ap (λ bs. varint_of f.1 ++ bs) (join-number_item
 pub length-varints : (fs : List Field) → AllFit fs → length (varints fs) ≤ 10 * length fs
 length-varints [] fit = omega arith
 length-varints (f ∷ fs) fit = omega (arith, length-append (varint_of f.1) (varints fs), length-varint_of f.1 fit.0.1, length-varints fs fit.1)
-
--- joined fields fit if both lists do
-pub AllFit-append : (fs gs : List Field) → AllFit fs → AllFit gs → AllFit (fs ++ gs)
-AllFit-append [] gs h k = k
-AllFit-append (f ∷ fs) gs h k = (h.0, AllFit-append fs gs h.1 k)
-
--- the varints of joined fields
-pub varints-append : (fs gs : List Field) → varints (fs ++ gs) ≡ varints fs ++ varints gs
-varints-append [] gs = refl
-varints-append (f ∷ fs) gs = ap (λ bs. varint_of f.1 ++ bs) (varints-append fs gs) ∙ sym (append_assoc (varint_of f.1) (varints fs) (varints gs))
 
 -- joined items are exact if both lists are
 pub AreExact-append : (is js : List Item) → AreExact is → AreExact js → AreExact (is ++ js)

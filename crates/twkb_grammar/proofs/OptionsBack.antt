@@ -1,4 +1,5 @@
--- The items that the machine ran through begin with the optional parts that a metadata byte asks for.
+-- The items that the machine ran through begin with the optional parts that a metadata byte asks
+-- for.
 use Rattle.std.proofs.Common.{Bool, true, false, ◌≡◌, ℕ, zero, suc, ◌+◌, ◌<◌, List, [], ◌∷◌, ◌++◌, length, refl, ap, sym, subst, None, arith}
 use Rattle.std.specs.Prelude.{ℤ}
 use Rattle.twkb_tree.specs.Tree.{Tree}
@@ -8,7 +9,7 @@ use Rattle.twkb_grammar.specs.Machine.{Kind, kind_number, kind_at, Head, Frame, 
 use Rattle.twkb_grammar.proofs.Headers.{sums_after, head}
 use Rattle.twkb_grammar.proofs.BodiesBack.{some_role}
 
--- the number of the kind that has a number is that number
+-- a kind found by its number has that number
 pub kind_number_at : (n : ℕ) → 0 < n → n < 8 → kind_number (kind_at n) ≡ n
 kind_number_at zero a b = absurd (omega arith)
 kind_number_at (suc zero) a b = refl

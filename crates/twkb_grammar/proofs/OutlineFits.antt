@@ -1,4 +1,5 @@
--- The numbers of a body can be spelled, and how many of them there are.
+-- The numbers of a body can be spelled, and the numbers of rows and points bound how many there
+-- are.
 use Rattle.std.proofs.Common.{◌≡◌, ℕ, ◌+◌, ◌*◌, ◌<◌, ◌≤◌, ◌^◌, List, [], ◌∷◌, ◌++◌, map, length, refl, sym, subst, Some, None, length-append, arith}
 use Rattle.std.specs.Prelude.{ℤ, flat_map}
 use Rattle.std.specs.List.{AllByRecursion}

@@ -17,7 +17,7 @@ use Rattle.twkb_grammar.proofs.Parts.{runs_split, runs_same, next_role, run_is_f
 use Rattle.twkb_grammar.proofs.Dead.{Allowed, no_reason}
 use Rattle.twkb_grammar.proofs.Totals.{total, total_is, total-append, tree_total}
 
--- what is allowed for an item of a valid geometry, as to depth and range (nodes and points are below)
+-- what depth and range allow for an item of a valid geometry (nodes and points are below)
 abbrev pub AllowedElse : Allowance → List Item → Role → ℕ → Type 0
 AllowedElse limits before (Count c) n = IsDeep c limits.nest → n ≡ 0
 AllowedElse limits before X n = IsCoordinate ((position before).x +ℤ unzigzag_of n)

@@ -1,4 +1,5 @@
--- The items that the machine ran through were the body of a shape.
+-- Items that the machine ran through while it expected the body of a form are the body of a shape
+-- of that form.
 use Rattle.std.proofs.Common.{Bool, true, false, ◌≡◌, ℕ, zero, suc, ◌<◌, ◌^◌, List, [], ◌∷◌, ◌++◌, map, length, refl, ap, sym, ◌∙◌, subst, append_assoc, Some, None, arith}
 use Rattle.std.specs.Prelude.{ℤ, flat_map}
 use Rattle.std.specs.List.{AllByRecursion}

@@ -162,7 +162,7 @@ stands_whole limits bytes gs e st held s none =
     nil [] h = refl
     nil (x ∷ l) h = absurd (omega (arith, h))
 
--- elsewhere than at a blob's end the bytes are truncated
+-- if no blob ends there, the bytes are truncated
 pub stands_cut : (limits : Allowance) (bytes : List ℕ) (gs : List Tree) (e : Sums) (st : Stack) (held : List ℕ) (s : Stands limits bytes gs e st held) → 0 < e.bytes → StreamFault limits bytes gs (length s.front + e.bytes) Truncated
 stands_cut limits bytes gs e st held s some =
     record { front = s.front; rest = s.middle ++ held; within = e.bytes; whole = s.whole; blobs = s.blobs; first = go s.number; place = refl }

@@ -1,4 +1,4 @@
--- A measure that each item lowers: how many items may still come.
+-- A measure that each item lowers, which bounds the number of items still to come.
 use Rattle.std.proofs.Common.{true, false, Bool, ◌≡◌, ℕ, zero, suc, ◌+◌, ◌*◌, ◌<◌, ◌≤◌, List, [], ◌∷◌, ◌++◌, length, refl, subst, Some, arith, ap}
 use Rattle.std.specs.Prelude.{if◌then◌else◌}
 use Rattle.twkb_num.specs.Varint.{HasMarks, IsVarint}

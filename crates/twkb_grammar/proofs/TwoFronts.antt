@@ -1,5 +1,5 @@
--- Two lists of items that the machine runs through over the same bytes: one goes on beyond the
--- other, or they are equal.
+-- Of two lists of items that the machine runs through at the start of the same bytes, one begins
+-- with the other.
 use Rattle.std.proofs.Common.{◌≡◌, ℕ, List, [], ◌∷◌, ◌++◌, refl, sym, ap, ◌∙◌, subst, append_assoc, append-nil, Some, None}
 use Rattle.twkb_tree.specs.Tree.{Tree}
 use Rattle.twkb_tree.specs.Limits.{Allowance}

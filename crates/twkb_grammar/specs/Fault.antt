@@ -16,8 +16,8 @@ use Rattle.twkb_grammar.specs.Blob.{AreExact, IsExact, Stream}
 pub data Reason : Type 0 where
   Truncated BadType ExtraDimensions BadVarint TooDeep TooManyNodes TooManyPoints CoordinateRange SizeMismatch : Reason
 
--- A part: a prefix of the items of a valid geometry, in which each size is exact whose geometry
--- ends in the prefix.
+-- A part: a prefix of the items of a valid geometry. Each geometry that ends in the prefix has an
+-- exact size, if it has one.
 pub record Part (limits : Allowance) (is : List Item) : Type 0 where
   pub tree : Tree
   pub more : List Item
@@ -120,7 +120,8 @@ pub record IsTooLong (rest : List ℕ) : Type 0 where
   pub go_on : GoOn nine
   pub above : 1 < tenth
 
--- The count is that of a collection that is already inside as many collections as allowed (profile).
+-- The count is that of a collection that is already inside as many collections as allowed
+-- (profile).
 abbrev pub IsDeep : Counted → ℕ → Type 0
 IsDeep (Geometries level) nest = nest ≤ level
 IsDeep Vertices nest = ⊥
@@ -128,11 +129,12 @@ IsDeep Rings nest = ⊥
 IsDeep Points nest = ⊥
 IsDeep Parts nest = ⊥
 
--- r is this reason if P holds; otherwise it is as the others say.
+-- r is this reason if P holds; if not, the other reasons decide.
 abbrev pub When : Reason → Type 0 → Reason → Type 0 → Type 0
 When r P reason Others = (P × (r ≡ reason)) ⊎ ((P → ⊥) × Others)
 
--- The reasons of any number come before the others: the bytes end inside it, or it is too long.
+-- The reasons of any number come first: the bytes end inside it, or it is too long. If neither
+-- holds, the other reasons decide.
 abbrev pub NumberFirst : Reason → List ℕ → Type 0 → Type 0
 NumberFirst r rest Others = When r (IsCut rest) Truncated (When r (IsTooLong rest) BadVarint Others)
 
@@ -178,10 +180,10 @@ Refused limits before rest (End declared came) r = When r (IsExact (End declared
 pub record Fault (limits : Allowance) (bytes : List ℕ) (offset : ℕ) (reason : Reason) : Type 0 where
   pub before : List Item
   pub rest : List ℕ
-  -- Place: the items before spell the bytes before the offset.
+  -- Place: the items `before` spell the bytes before the offset.
   pub split : bytes ≡ join before ++ rest
   pub place : offset ≡ length (join before)
-  -- Dead: no item that the rest begins with can continue to a valid geometry.
+  -- Dead: no item at the start of the rest continues these items to a part of a valid geometry.
   pub dead : (i : Item) (more : List ℕ) → rest ≡ i.bytes ++ more → Part limits (before ++ i ∷ []) → ⊥
   -- Fact: some geometry, valid or not, begins with these items; the next item of every such
   -- geometry has one role; the reason is the first that holds there.
@@ -190,8 +192,8 @@ pub record Fault (limits : Allowance) (bytes : List ℕ) (offset : ℕ) (reason 
   pub next : (g : Tree) (more : List Item) → IsTree g → Items 0 g (before ++ more) → (i : Item) × (after : List Item) × (more ≡ i ∷ after) × (i.role ≡ role)
   pub refused : Refused limits before rest role reason
 
--- The first fault: besides, the items before it continue to a valid geometry, so no earlier item
--- could have been refused.
+-- The first fault: the items before it are also a part of a valid geometry, so no earlier item
+-- could be refused.
 pub record FirstFault (limits : Allowance) (bytes : List ℕ) (offset : ℕ) (reason : Reason) : Type 0 where
   pub fault : Fault limits bytes offset reason
   pub alive : Part limits fault.before

@@ -106,7 +106,8 @@ flags_all ids end = MayBeEmpty
 flags_all None (g ▷ gs) = HasMembers false
 flags_all (Some ids) (g ▷ gs) = HasMembers true
 
--- The metadata byte says that (TWKB, metadata header; profile: bits 5 to 7 are free).
+-- The metadata byte says what the flags require (TWKB, metadata header; profile: bits 5 to 7 are
+-- free).
 abbrev pub Agrees : Flags → ℕ → Type 0
 Agrees MustBeEmpty meta = bit meta 4 ≡ true
 Agrees MayBeEmpty meta = ⊤

@@ -1,3 +1,4 @@
+-- The definitions of the crate, by their topic.
 pub mod Bits
 pub mod Roles
 pub mod Items

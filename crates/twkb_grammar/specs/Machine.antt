@@ -1,7 +1,7 @@
--- The item machine: for any prefix of items, which geometries are open and which item comes next.
--- It knows no limits and judges no sizes. It is our way to walk through the items of a geometry,
--- and no part of the format: the laws `machine` and `fronts` state that it runs through the items
--- of geometries and their prefixes, and through nothing else.
+-- The item machine: after any prefix of items it knows which geometries are open and which item
+-- comes next. It has no limits and checks no sizes. It is our way to walk through the items of a
+-- geometry, and no part of the format: the laws `machine` and `fronts` state that it accepts the
+-- items of geometries and their prefixes, and nothing else.
 use Rattle.std.specs.Prelude.{◌≡◌, ℕ, zero, suc, ◌+◌, ◌-◌, ◌/◌, ◌%◌, if◌then◌else◌, List, [], ◌∷◌, ◌++◌, length, ℤ, Option, Some, None}
 use Rattle.twkb_num.specs.Zigzag.{unzigzag_of}
 use Rattle.twkb_points.specs.Point.{Point, origin}
@@ -28,13 +28,14 @@ pub data Body (whole : ℕ) : Type 0 where
   WantY : Around whole 0 → Body whole
   Done : Nested whole → Body whole
 
--- A value is complete: the next one of its list is expected, or the list is complete too.
+-- The body after a complete value: the next one of its list is expected, or the list is complete
+-- too.
 abbrev pub closed : {whole d : ℕ} → Around whole d → Nested d → Body whole
 closed top v = Done v
 closed (within done zero a) v = closed a (done ++ v ∷ [])
 closed (within {d = d} done (suc left) a) v = Want d (within (done ++ v ∷ []) left a)
 
--- A list of n values begins.
+-- The body at the start of a list of n values.
 abbrev pub opened : {whole : ℕ} (d n : ℕ) → Around whole (suc d) → Body whole
 opened d zero a = closed a []
 opened d (suc n) a = Want d (within [] n a)
@@ -111,7 +112,8 @@ pub record Head : Type 0 where
   pub size : Option ℕ
   pub from : ℕ
 
--- An open collection: its header and ids, its members so far, and how many are left after the open one.
+-- An open collection: its header and ids, its members so far, and how many are left after the open
+-- one.
 pub record Frame : Type 0 where
   pub head : Head
   pub ids : Ids
@@ -200,13 +202,14 @@ phase_role level bytes (Finished g) = None
 abbrev pub role_at : Sums → Stack → Option Role
 role_at e st = phase_role (length st.0) e.bytes st.1
 
--- A body that is complete is a geometry at its end.
+-- The phase with this body: at the geometry's end if the body is complete, otherwise inside the
+-- body.
 abbrev pub settled : Head → (f : Form) → Ids → Body (depth_of f) → Phase
 settled h f ids (Want d a) = AtBody h f ids (Want d a)
 settled h f ids (WantY a) = AtBody h f ids (WantY a)
 settled h f ids (Done v) = AtEnd h (simple h.precision (shape_of f ids v))
 
--- The body begins: a count or an x is expected.
+-- The phase at the start of a body, in which a count or an x is expected.
 abbrev pub begun : Kind → Head → Phase
 begun (SimpleKind PointForm) h = AtBody h PointForm None (Want 0 top)
 begun (SimpleKind LineForm) h = AtBody h LineForm None (Want 1 top)
@@ -216,7 +219,7 @@ begun (SimpleKind MultiLineForm) h = AtCount ManyLines h
 begun (SimpleKind MultiPolygonForm) h = AtCount ManyPolygons h
 begun CollectionKind h = AtCount ManyGeometries h
 
--- The next optional part is expected; after the last one the body begins, unless bit 4 says that
+-- The phase before these optional parts. If none is left the body begins, unless bit 4 says that
 -- there is none.
 abbrev pub wanting : Kind → Head → List Role → Phase
 wanting k h (r ∷ rs) = AtOption k h r rs
@@ -237,7 +240,7 @@ abbrev pub snoc : Trees → Tree → Trees
 snoc end g = g ▷ end
 snoc (h ▷ gs) g = h ▷ snoc gs g
 
--- The n members begin, after their ids.
+-- The stack before the first of n members, whose ids were read.
 abbrev pub members_begin : Many → Head → List Frame → Ids → ℕ → Stack
 members_begin ManyPoints h fs ids n = (fs, settled h MultiPointForm ids (opened 0 n top))
 members_begin ManyLines h fs ids n = (fs, settled h MultiLineForm ids (opened 1 n top))
@@ -245,12 +248,14 @@ members_begin ManyPolygons h fs ids n = (fs, settled h MultiPolygonForm ids (ope
 members_begin ManyGeometries h fs ids zero = (fs, AtEnd h (collection h.precision None end))
 members_begin ManyGeometries h fs ids (suc n) = (record { head = h; ids = ids; done = end; left = n } ∷ fs, AtHeader)
 
--- A count of n members was read: their ids come next if bit 2 asks for them, otherwise the members.
+-- The stack after the count of n members: their ids come next if bit 2 asks for them, otherwise the
+-- members.
 abbrev pub counted : Many → Head → List Frame → ℕ → Stack
 counted m h fs zero = members_begin m h fs None 0
 counted m h fs (suc n) = if bit h.meta 2 then (fs, AtId m h (suc n) [] n) else members_begin m h fs None (suc n)
 
--- A geometry is complete: it is the next member of the innermost open collection, or the whole.
+-- The stack after a complete geometry, which is the next member of the innermost open collection,
+-- or the whole.
 abbrev pub ended : List Frame → Tree → Stack
 ended [] g = ([], Finished g)
 ended (f ∷ fs) g = elim f.left [

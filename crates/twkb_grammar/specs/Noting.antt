@@ -1,5 +1,5 @@
--- A reader that notes the spans of a blob as its items come. The code of such a reader is proved
--- against it; it is no part of the format. The law `noting` relates it to the spans of blobs.
+-- A reader that notes the spans of a blob while it takes its items. It is no part of the format:
+-- code is proved against it, and the law `noting` relates it to the spans of blobs.
 use Rattle.std.specs.Prelude.{◌≡◌, ⊤, ℕ, zero, suc, ◌+◌, ◌-◌, ◌/◌, ◌%◌, List, [], ◌∷◌, ◌++◌, length}
 use Rattle.twkb_num.specs.Zigzag.{unzigzag_of}
 use Rattle.twkb_tree.specs.declared.kind.Kind.{Kind}
@@ -24,9 +24,9 @@ shown (SimpleKind MultiLineForm) = kind.MultiLinestring
 shown (SimpleKind MultiPolygonForm) = kind.MultiPolygon
 shown CollectionKind = kind.Collection
 
--- The notes so far: the spans in the order of the headers, and the places in that list of the
--- open geometries, innermost first. Until a geometry ends, its span has the number of points
--- before it in place of its own, and no length.
+-- The notes so far: the spans in the order of the headers, and the places in that list of the open
+-- geometries, innermost first. Until a geometry ends, its span has no length, and counts the points
+-- before the geometry in place of those in it.
 pub record Notes : Type 0 where
   pub spans : List Span
   pub begun : List ℕ
@@ -41,39 +41,41 @@ changed_at n f [] = []
 changed_at zero f (x ∷ xs) = f x ∷ xs
 changed_at (suc n) f (x ∷ xs) = x ∷ changed_at n f xs
 
--- A geometry begins with this type byte at this offset, after `points` points.
+-- The notes after a type byte at this offset, which begins a geometry after `points` points.
 abbrev pub note_header : (offset points number : ℕ) → Notes → Notes
 note_header offset points number w = record {
   spans = w.spans ++ record { level = length w.begun; offset = offset; kind = shown (kind_at (number % 16)); precision = unzigzag_of (number / 16); metadata = 0; length = 0; points = points } ∷ [];
   begun = length w.spans ∷ w.begun;
 }
 
--- The span of the innermost geometry is changed.
+-- The spans with that of the innermost geometry changed.
 abbrev pub change_inner : (Span → Span) → List Span → List ℕ → List Span
 change_inner f ss [] = ss
 change_inner f ss (i ∷ is) = changed_at i f ss
 
--- The metadata byte of the innermost geometry is noted.
+-- The notes after the metadata byte of the innermost geometry.
 abbrev pub note_metadata : ℕ → Notes → Notes
 note_metadata number w = record { spans = change_inner (λ s. record s { metadata = number }) w.spans w.begun; begun = w.begun }
 
 -- The list without its first item.
-abbrev pub behind_first : List ℕ → List ℕ
-behind_first [] = []
-behind_first (i ∷ is) = is
+abbrev pub without_first : List ℕ → List ℕ
+without_first [] = []
+without_first (i ∷ is) = is
 
--- The innermost geometry ends at this offset, after `points` points in all.
+-- The notes after the end of the innermost geometry, at this offset and after `points` points in
+-- all.
 abbrev pub note_end : (offset points : ℕ) → Notes → Notes
-note_end offset points w = record { spans = change_inner (λ s. record s { length = offset - s.offset; points = points - s.points }) w.spans w.begun; begun = behind_first w.begun }
+note_end offset points w = record { spans = change_inner (λ s. record s { length = offset - s.offset; points = points - s.points }) w.spans w.begun; begun = without_first w.begun }
 
--- Roles whose items are not noted.
+-- The items of this role are not noted.
 abbrev pub IsQuiet : Role → Type 0
 IsQuiet Header = ⊥
 IsQuiet (Metadata kind) = ⊥
 IsQuiet (End declared came) = ⊥
 IsQuiet _ = ⊤
 
--- The effect of one item of a blob that begins at offset `start`, after items with these sums.
+-- The notes after one more item of a blob that begins at offset `start`; the earlier items have
+-- these sums.
 abbrev pub noted_by : (start : ℕ) → Sums → Role → ℕ → Notes → Notes
 noted_by start e Header n w = note_header (start + e.bytes) e.points n w
 noted_by start e (Metadata kind) n w = note_metadata n w
@@ -85,22 +87,22 @@ abbrev pub noted : (start : ℕ) → Sums → Notes → List Item → Notes
 noted start e w [] = w
 noted start e w (i ∷ is) = noted start (added e i) (noted_by start e i.role i.number w) is
 
--- What the next byte adds at once, if it belongs to a header.
+-- The notes after the next byte, which is noted at once if it is a type byte or a metadata byte.
 abbrev pub note_byte : Phase → (offset points byte : ℕ) → Notes → Notes
 note_byte AtHeader offset points byte w = note_header offset points byte w
 note_byte (AtMetadata k p) offset points byte w = note_metadata byte w
 note_byte _ offset points byte w = w
 
--- This many geometries end at one place.
+-- The notes after the ends of this many geometries at one place.
 abbrev pub note_ends : ℕ → (offset points : ℕ) → Notes → Notes
 note_ends zero offset points w = w
 note_ends (suc n) offset points w = note_end offset points (note_ends n offset points w)
 
--- Geometries end until `left` are open.
+-- The notes after ends of geometries that leave `left` of them open.
 abbrev pub note_ends_to : (left offset points : ℕ) → Notes → Notes
 note_ends_to left offset points w = note_ends (length w.begun - left) offset points w
 
--- A part that a metadata byte asks for is neither a header nor an end.
+-- The optional part expected next, if one is, is neither a header nor an end.
 abbrev pub IsCalm : Phase → Type 0
 IsCalm (AtOption k h r rs) = IsQuiet r
 IsCalm _ = ⊤
@@ -109,17 +111,19 @@ IsCalm _ = ⊤
 abbrev pub notes_of : {limits : Allowance} {bytes held : List ℕ} {gs : List Tree} {e : Sums} {st : Stack} → (start : ℕ) → Stands limits bytes gs e st held → Notes
 notes_of start s = noted start nothing no_notes s.reached.items
 
--- The notes in this state with those that this byte adds at once if it belongs to a header.
+-- The notes in this state after this byte, which is noted at once if it is a type byte or a
+-- metadata byte.
 abbrev pub notes_with : {limits : Allowance} {bytes held : List ℕ} {gs : List Tree} {e : Sums} {st : Stack} → (start byte : ℕ) → Stands limits bytes gs e st held → Notes
 notes_with {e = e} {st = st} start byte s = note_byte st.1 (start + e.bytes) e.points byte (notes_of start s)
 
--- One more byte, with which the blob goes on, notes what it adds at once and the ends after it.
+-- After a byte with which the blob goes on, the notes are those of the byte and of the ends that
+-- come with it.
 abbrev pub NotesGoOn : {limits : Allowance} {bytes held : List ℕ} {e : Sums} {st : Stack} → Stands limits bytes [] e st held → Type 0
 NotesGoOn {limits} {bytes} {st = st} s = (start byte : ℕ) (f : Sums) (su : Stack) (kept : List ℕ) (t : Stands limits (bytes ++ byte ∷ []) [] f su kept)
     → IsCalm st.1 → notes_of start t ≡ note_ends_to (frame_count su) (start + f.bytes) f.points (notes_with start byte s)
 
--- One more byte, which ends the blob, notes what it adds at once and the ends of all open
--- geometries; the notes are then the blob's spans.
+-- After the last byte of the blob, the notes are those of the byte and of the ends of all open
+-- geometries, and they are the spans of the blob.
 abbrev pub NotesEnd : {limits : Allowance} {bytes held : List ℕ} {e : Sums} {st : Stack} → Stands limits bytes [] e st held → Type 0
 NotesEnd {limits} {bytes} {st = st} s = (start byte : ℕ) (g : Tree) (b : Blob limits (bytes ++ byte ∷ []) g)
     → IsCalm st.1 → spans_of_blob start b ≡ (note_ends_to 0 (start + length (bytes ++ byte ∷ [])) (length (flat g)) (notes_with start byte s)).spans

@@ -1,6 +1,6 @@
--- The plain reader: items are cut from bytes one by one, and the machine takes or refuses each.
--- It is slow, but it computes. It does not define the format: the law `plain_reader` states that
--- it answers as blobs and first faults require.
+-- The plain reader, which cuts items from bytes one by one and gives each to the machine. It is
+-- slow, but it computes. It does not define the format: the law `plain_reader` states that it
+-- answers as blobs and first faults require.
 use Rattle.std.specs.Prelude.{ℕ, zero, suc, ◌+◌, ◌-◌, ◌*◌, ◌%◌, ◌^◌, Bool, true, false, not, ◌&&◌, ◌||◌, nat_lt, nat_le, nat_eq, if◌then◌else◌, List, [], ◌∷◌, length, ℤ, pos, negsuc, ◌+ℤ◌, Option, Some, None, Result, Ok, Err}
 use Rattle.twkb_num.specs.Zigzag.{unzigzag_of}
 use Rattle.twkb_tree.specs.Tree.{Tree}
@@ -53,7 +53,7 @@ abbrev pub is_exact : Option ℕ → ℕ → Bool
 is_exact None came = true
 is_exact (Some n) came = nat_eq n came
 
--- This reason if the test holds; otherwise what the others say.
+-- This reason if the test holds; otherwise the other answer.
 abbrev pub unless : Bool → Reason → Option Reason → Option Reason
 unless true reason others = Some reason
 unless false reason others = others
@@ -94,7 +94,7 @@ abbrev pub made : Phase → List ℕ → Answer
 made (Finished g) rest = Made g rest
 made _ rest = GoesOn
 
--- At most this many more items are read.
+-- The answer after at most this many more items.
 abbrev pub decode_from : ℕ → Allowance → Sums → Stack → List ℕ → Answer
 decode_from zero limits e st bytes = GoesOn
 decode_from (suc turns) limits e st bytes =

@@ -1,6 +1,5 @@
--- A reader that takes items one by one: its state, and the effect of a number. The code of a
--- reader is proved against it; it is no part of the format. The law `reading` relates it to blobs
--- and first faults.
+-- A reader that takes items one by one: its state, and the effect of a number. It is no part of the
+-- format: code is proved against it, and the law `reading` relates it to blobs and first faults.
 use Rattle.std.specs.Prelude.{⊤, ◌+ℤ◌, ◌≡◌, ℕ, zero, suc, ◌-◌, ◌<◌, ◌≤◌, ◌⊎◌, Bool, true, false, List, [], ◌∷◌, ◌++◌, length, Option, Some, None, Result, Ok, Err}
 use Rattle.twkb_num.specs.Zigzag.{unzigzag_of}
 use Rattle.twkb_num.specs.Varint.{IsVarint}
@@ -83,17 +82,18 @@ FaultAt limits bytes e i reason = (more : List ℕ) → FirstFault limits (bytes
 abbrev pub AtNumber : Type 0 → Option Role → (List ℕ → Type 0) → Type 0
 AtNumber Known next Holds = (rest : List ℕ) (role : Role) → Known → next ≡ Some role → IsNumber role → Holds rest
 
--- If this stack waits for an item after these items, each refusal is a fault of this sort at their end.
+-- If this stack expects an item after these items, each refusal of it is a fault of this sort,
+-- right after them.
 abbrev pub RefusalsAre : (List ℕ → ℕ → Reason → Type 0) → Allowance → List Item → Stack → Type 0
 RefusalsAre IsFault limits before st = (rest : List ℕ) (role : Role) (reason : Reason) → role_at (sums_after nothing before) st ≡ Some role
     → Refused limits before rest role reason → IsFault (join before ++ rest) (length (join before)) reason
 
--- The reader's state after the ends, or the first fault, whatever bytes follow.
+-- What the ends lead to: the reader's next state, or the first fault, whatever bytes follow.
 abbrev pub Landed : Allowance → List ℕ → Sums → Result Stack Reason → Type 0
 Landed limits bytes e (Ok st) = Reached limits bytes e st
 Landed limits bytes e (Err reason) = (rest : List ℕ) → FirstFault limits (bytes ++ rest) e.bytes reason
 
--- The effect of an item, with or without an objection to it: the next state, or the first fault,
+-- What an item leads to, with or without an objection to it: the next state, or the first fault,
 -- whatever bytes follow.
 abbrev pub Leads : Allowance → List ℕ → Sums → Stack → Item → Option Reason → Type 0
 Leads limits bytes e st i (Some reason) = FaultAt limits bytes e i reason

@@ -2,7 +2,8 @@
 use Rattle.std.specs.Prelude.{◌≡◌, ℕ, ◌<◌, ◌%◌, Bool, if◌then◌else◌, List, [], ◌∷◌, Option, flat_map, ⊤}
 use Rattle.twkb_num.specs.Varint.{IsVarint}
 
--- What a count counts (TWKB, description of types: npoints, nrings, and the counts of multi types and collections).
+-- What a count counts (TWKB, description of types: npoints, nrings, and the counts of multi types
+-- and collections).
 pub data Counted : Type 0 where
   Vertices : Counted  -- the points of a linestring or ring
   Rings : Counted  -- the rings of a polygon
@@ -22,7 +23,7 @@ pub data Role : Type 0 where
   X : Role
   Y : Role
   -- the end of a geometry, which has no bytes: the declared size, if there is one, and the number
-  -- of bytes that came (profile: so that a size is judged at a place of its own)
+  -- of bytes that came (profile: an item at which the size is checked)
   End : (declared : Option ℕ) → (came : ℕ) → Role
 
 -- One item: its role, its number and its bytes.

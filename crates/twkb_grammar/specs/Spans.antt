@@ -42,7 +42,7 @@ span_of level offset g meta is = record {
 abbrev pub before_body : {kind : ℕ} {precision : ℤ} {own : Flags} {Body : List Item → Type 0} {is : List Item} → Framed kind precision own Body is → List Item
 before_body {kind} {precision} f = item Header (header_byte kind precision) ∷ item (Metadata kind) f.meta ∷ f.extended ++ (f.size ++ f.box)
 
--- The spans of members whose items come after others in a body, if there is a body.
+-- The spans of members that come last in a body, if there is a body.
 abbrev pub behind : (First Second : List Item → Type 0) → ℕ → ((offset : ℕ) (is : List Item) → Second is → List Span) → (bare : Bool) (body : List Item) → BodyAt bare (Follow First Second) body → List Span
 behind First Second offset spans true body b = []
 behind First Second offset spans false body b = spans (offset + length (join b.front)) b.rest b.second

@@ -62,7 +62,7 @@ abbrev pub metadata_byte : Style → Tree → ℕ
 metadata_byte Full g = flag_bits (flags_of_tree g) + ((if boxed g then 1 else 0) + 2)
 metadata_byte Plain g = flag_bits (flags_of_tree g)
 
--- The numbers of the fields, each by its shortest varint (profile).
+-- The numbers of the fields, each as its shortest varint (profile).
 abbrev pub varints : List Field → List ℕ
 varints fs = flat_map (λ f. varint_of f.1) fs
 
@@ -81,7 +81,8 @@ abbrev pub framed : Style → Tree → List ℕ → List ℕ
 framed Full g body = sized (box_of g ++ body)
 framed Plain g body = body
 
--- A blob: type byte, metadata byte and the rest, with this body unless bit 4 says that there is none.
+-- A blob: type byte, metadata byte and the rest, with this body unless bit 4 says that there is
+-- none.
 abbrev pub written : Style → Tree → List ℕ → List ℕ
 written style g body =
     header_byte (kind_of_tree g) (precision_of g) ∷ metadata_byte style g ∷ framed style g (if is_empty (flags_of_tree g) then [] else body)

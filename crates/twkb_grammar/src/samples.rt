@@ -86,8 +86,8 @@ pub fn faults()
     ensures cut_after_thirty_four { FirstFault standard (take 34 three_points_blob) 32 Truncated }
 {}
 
-/// Each proper prefix of this sample blob but the empty one is refused where it ends: each of its
-/// items has one byte.
+/// Each proper prefix of this sample blob, except the empty one, is refused at its end, because
+/// each item of the blob has one byte.
 pub fn cut()
     ensures { AllByRecursion (λ k. FirstFault standard (take k named_members_blob) k Truncated) (1 ∷ 2 ∷ 3 ∷ 4 ∷ 5 ∷ 6 ∷ 7 ∷ 8 ∷ 9 ∷ 10 ∷ 11 ∷ 12 ∷ 13 ∷ 14 ∷ 15 ∷ 16 ∷ 17 ∷ []) }
 {}

@@ -1,4 +1,5 @@
-//! The type byte: the type in the lower half, the precision in the upper (TWKB, type and precision).
+//! The type byte: the type in the lower half, the precision in the upper (TWKB, type and
+//! precision).
 ghost use Rattle.std.specs.Prelude.{◌≡◌, ◌≢◌, ◌<◌, ◌/◌, ◌%◌, nat_eq};
 ghost use Rattle.twkb_num.specs.Zigzag.{unzigzag_of};
 ghost use Rattle.twkb_tree.specs.Tree.{IsPrecision};

@@ -1,4 +1,4 @@
--- Copies of pieces, one after the other, are a copy of their join.
+-- Copies of pieces, one after the other, are a copy of the joined pieces.
 use Rattle.std.proofs.Common.{◌≡◌, ◌+◌, ◌<◌, ℕ, List, ◌++◌, drop, length, Option, Some, None, arith, ap, sym, ◌∙◌, subst, append_assoc, length-append}
 use Rattle.std.proofs.KnownBytes.{Consumes-kept, Consumes-trans, Consumes-whole}
 use Rattle.std.proofs.lemmas.List.{take-append-drop}

@@ -1,12 +1,11 @@
 -- The held bytes of an array: its unused part from `at` to `filled`, as far as there is room.
-use Rattle.std.proofs.Common.{◌≡◌, ◌≢◌, ◌≤◌, ◌<◌, ◌+◌, ◌-◌, min, ℕ, List, [], ◌∷◌, ◌++◌, take, drop, length, Option, Some, None, arith, ap, sym, ◌∙◌, refl, inl, inr, Bool, true, false, append_assoc, length-append, length-drop}
+use Rattle.std.proofs.Common.{◌≡◌, ◌≢◌, ◌≤◌, ◌<◌, ◌+◌, ◌-◌, min, ℕ, List, [], ◌∷◌, ◌++◌, take, drop, length, Option, Some, None, arith, ap, sym, ◌∙◌, inl, inr, Bool, true, false, append_assoc, length-append, length-drop}
 use Rattle.std.proofs.KnownBytes.{Keeps-refl, prepend_known-end}
 use Rattle.std.proofs.Math.Nat.{eq-or-lt_of_le}
 use Rattle.std.proofs.Math.Seq.{take-nil}
-use Rattle.std.proofs.lemmas.List.{length-take, nil_from_length, take-take, drop-take, drop-drop, take-append-drop, take_at}
+use Rattle.std.proofs.lemmas.List.{length-take, nil_from_length, take-take, drop-take, drop-drop, take-append-drop}
 use Rattle.twkb_io.proofs.FaultLemmas.{not_both}
 use Rattle.std.specs.Prelude.{IfSome, slice_get, slice_range}
-use Rattle.std.specs.Io.{StartsWith}
 use Rattle.std.specs.Io.KnownBytes.{Consumes, IsAtEnd, Keeps, prepend_known}
 
 -- after n more bytes, the unused part has lost its first n
@@ -28,13 +27,6 @@ consumed_front unused None n room fits = tt
 consumed_front unused (Some more) n room fits =
     ap (λ l. l ++ more) (sym (take-append-drop n unused)) ∙ append_assoc (take n unused) (drop n unused) more
     ∙ ap (λ l. l ++ (drop n unused ++ more)) (sym (take-take n room unused fits))
-
-pub shown_front : (unused : List ℕ) (known : Option (List ℕ)) (room : ℕ) → IfSome (prepend_known unused known) (λ rest. StartsWith rest (take room unused))
-shown_front unused None room = tt
-shown_front unused (Some more) room =
-    ap (λ l. take (length (take room unused)) (l ++ more)) (sym (take-append-drop room unused))
-    ∙ ap (take (length (take room unused))) (append_assoc (take room unused) (drop room unused) more)
-    ∙ take_at (take room unused) (drop room unused ++ more) (length (take room unused)) refl
 
 -- an array is used up only at the end
 pub not_used_up : (at filled : ℕ) (ended : Bool) → at ≤ filled → (at ≡ filled → ended ≡ true) → ended ≡ false → at < filled

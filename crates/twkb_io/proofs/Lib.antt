@@ -1,7 +1,6 @@
 -- Lemmas of the crate, by their topic.
 pub mod CopyLemmas
 pub mod FaultLemmas
-pub mod FrontLemmas
 pub mod HeldLemmas
 pub mod OutputLemmas
 pub mod PassingLemmas

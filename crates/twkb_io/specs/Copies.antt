@@ -1,4 +1,4 @@
--- What moves from an input to a sink.
+-- Copies from an input to a sink: the bytes that move, and what stops a copy.
 use Rattle.std.specs.Prelude.{ℕ, ◌≡◌, ◌+◌, ◌<◌, ◌^◌, ◌↔◌, List, ◌++◌, length, Option, IfSome, Bool, true, false, Result, Ok, Err, IfOk, OnOk, IfErr, OnErr}
 use Rattle.std.specs.Io.KnownBytes.{Consumes, IsAtEnd, Keeps}
 use Rattle.std.specs.declared.io.traits.Read.{Ghosts}
@@ -22,13 +22,14 @@ pub record Copied {R S : Type 0} {read : Ghosts R} (took : S → List ℕ → S 
 abbrev pub BeginsWith : Option (List ℕ) → List ℕ → Type 0
 BeginsWith rest front = IfSome rest (λ bytes. (left : List ℕ) × (bytes ≡ front ++ left))
 
--- a prefix of the rest left the input and was taken; or a prefix of the rest was taken, and the
--- put was refused
+-- what a copy did before it stopped: if the input failed, the sink took the bytes that left the
+-- input; if the sink refused a put, a prefix of the rest was handed to it
 abbrev pub StopsCopy : {S F : Type 0} → (S → List ℕ → S → Type 0) → (S → List ℕ → F → S → Type 0) → Option (List ℕ) → S → CopyFault F → Option (List ℕ) → S → Type 0
 StopsCopy took refused rest from (stop.Source why) left to = (front : List ℕ) × Consumes rest left front × took from front to
 StopsCopy took refused rest from (stop.Sink why) left to = (front : List ℕ) × BeginsWith rest front × refused from front why to
 
--- a copy stops within one piece: no byte of it leaves the input, and the sink took a prefix of it
+-- what a copy of one piece did before it stopped: if the input failed, the sink is unchanged; if
+-- the sink refused the put, a prefix of the rest was handed to it
 abbrev pub StopsPiece : {S F : Type 0} → (S → List ℕ → F → S → Type 0) → Option (List ℕ) → S → CopyFault F → S → Type 0
 StopsPiece refused rest from (stop.Source why) to = to ≡ from
 StopsPiece refused rest from (stop.Sink why) to = (front : List ℕ) × BeginsWith rest front × refused from front why to
@@ -49,7 +50,7 @@ is_write_stop (Ok done) = false
 is_write_stop (Err (stop.Source why)) = false
 is_write_stop (Err (stop.Sink why)) = is_device why
 
--- the step of one piece: all held bytes go to the sink, or the input is at its end, or the copy stops
+-- one step of a copy: all held bytes go to the sink, or the input is at its end, or the copy stops
 pub record CopiesPiece {R S F : Type 0} {read : Ghosts R} (took : S → List ℕ → S → Type 0) (refused : S → List ℕ → F → S → Type 0)
     (old : Input R read) (from : S) (result : Result Bool (CopyFault F)) (new : Input R read) (to : S) : Type 0 where
   pub ok : OnOk result ((bytes : List ℕ) × Copied took old from bytes new to)

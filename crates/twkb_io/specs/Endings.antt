@@ -1,4 +1,4 @@
--- What a clause sees of a reader that remembers its end.
+-- A reader that remembers its end, as contracts see it.
 use Rattle.std.specs.Prelude.{ℕ, List, Bool, true, false, ◌≡◌, ◌==◌, ◌&&◌, not, length, Result, Ok, Err}
 use Rattle.std.specs.declared.io.traits.Read.{Ghosts}
 use Rattle.twkb_io.specs.declared.ending.Ending.{Ending}

@@ -41,7 +41,8 @@ held_of input = take (2 ^ 62 - given input) (unused input)
 abbrev pub rest_of : {R : Type 0} {read : Ghosts R} → Input R read → Option (List ℕ)
 rest_of {R} {read} input = prepend_known (unused input) (read.remaining (device_of input.tap.now))
 
--- One call gives the first byte of the rest, gives none only if the rest is empty, and loses no byte.
+-- One call gives the first byte of the rest, gives none only if the rest is empty, and loses no
+-- byte.
 abbrev pub GivesNext : Option (List ℕ) → Result (Option ℕ) InFault → Option (List ℕ) → Type 0
 GivesNext old (Ok (Some byte)) new = Consumes old new (byte ∷ [])
 GivesNext old (Ok None) new = IsAtEnd old × Keeps old new

@@ -1,4 +1,5 @@
--- Two sends are the send of their join, and a send that was cut is cut within the whole.
+-- Two sends, one after the other, are one send of the joined bytes, also if the second is cut
+-- short.
 use Rattle.std.specs.Prelude.{ℕ, ◌≡◌, ◌≤◌, ◌+◌, List, [], ◌∷◌, ◌++◌, length, Option, Some, None}
 use Rattle.std.proofs.Common.{sym, ap, ◌∙◌, refl, add-zero, arith, append_assoc, length-append}
 use Rattle.std.proofs.lemmas.List.{append-nil}
@@ -73,7 +74,7 @@ first_none : (xs ys : List ℕ) → xs ++ ys ≡ [] → xs ≡ []
 first_none [] ys none = refl
 first_none (x ∷ xs) ys none = cc none
 
--- bytes are cut if a prefix of them was handed over and cut
+-- if a prefix of some bytes was handed over and cut short, all of these bytes were cut short
 pub cut_front : {W : Type 0} (contents : W → Option (List ℕ)) (a b : Output W) (xs : List ℕ) (e : OutFault)
     → TookFront (Cut contents) a xs e b → Cut contents a xs e b
 cut_front contents a b xs e (handed, unhanded, parts, cut) = record {

@@ -1,4 +1,4 @@
--- What is true of any sink.
+-- A refused put of any sink.
 use Rattle.std.specs.Prelude.{ℕ, ◌≡◌, List, ◌++◌}
 
 -- a prefix of these bytes was handed over, and its last put was refused with this fault

@@ -1,4 +1,4 @@
--- What a clause sees of a tap, and how its counts change.
+-- A tap as contracts see it, and how its counts change.
 use Rattle.std.specs.Prelude.{ℕ, ◌+◌, ◌-◌, ◌^◌, min, List, Bool, true, false, if◌then◌else◌, Result, Ok, Err, length, ◌&&◌, ◌==◌, not}
 use Rattle.twkb_io.specs.declared.tap.Tap.{Tap}
 

@@ -21,8 +21,8 @@ ghost use Rattle.twkb_io.specs.Taps.{count_failure};
 ghost use Rattle.twkb_io.specs.Inputs.{given, has_ended, input_failures, input_tap, is_spent, rest_of};
 ghost use Rattle.twkb_io.specs.Copies.{Copied, CopiesPiece, StopsCopy, is_read_stop};
 
-/// Copies the rest of an input to a sink, one put for the bytes that the input holds at a time.
-/// The bytes of a refused put stay in the input. Takes no memory but the sink's.
+/// Copies the rest of an input to a sink, with one put for each array of held bytes. The bytes of a
+/// refused put stay in the input. Takes no memory but the sink's.
 pub fn copy<R: Read, S: Sink>(
     input: &mut Input<'_, R>,
     sink: &mut S,

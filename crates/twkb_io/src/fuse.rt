@@ -44,8 +44,8 @@ pub struct Fuse<D> {
 impl<D> Fuse<D> {
     ghost use Rattle.twkb_io.specs.Fuses.{end_of, fails_flush, fuse_device, left_of, step_of};
 
-    /// Makes a fuse that passes the first `bytes` bytes, at most `step` of them in one call. A flush
-    /// fails if `flush_fails` is set; if not, it is passed on.
+    /// Makes a fuse that passes the first `bytes` bytes, at most `step` of them in one call. A
+    /// flush fails if `flush_fails` is set; if not, it is passed on.
     pub fn new(device: D, bytes: u64, step: usize, end: FuseEnd, flush_fails: bool) -> Fuse<D>
         requires { 0 < step }
         ensures device { fuse_device result ≡ device }

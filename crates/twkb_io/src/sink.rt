@@ -2,7 +2,8 @@
 ghost use Rattle.std.specs.Prelude.{◌≡◌, ◌≤◌, ◌+◌, ◌++◌, ℕ, List, [], length, OnOk, IfErr};
 ghost use Rattle.twkb_io.specs.Sinks.{TookFront};
 
-/// Takes bytes in order. A put is taken complete, or a prefix of it is taken and the put is refused.
+/// Takes bytes in order. A put is taken complete, or a prefix of it is taken and the put is
+/// refused.
 pub trait Sink {
     /// Why a put was refused.
     type Fault;
@@ -10,7 +11,8 @@ pub trait Sink {
     // From the first state to the second every put was accepted, and these are the bytes.
     ghost took: { Self → List ℕ → Self → Type 0 };
 
-    // From the first state to the second these bytes were handed over, and the last put was refused.
+    // From the first state to the second these bytes were handed over, and the last put was
+    // refused.
     ghost refused: { Self → List ℕ → Self.Fault → Self → Type 0 };
 
     // The number of bytes taken.

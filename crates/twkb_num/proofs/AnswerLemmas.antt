@@ -1,5 +1,5 @@
--- The answers of a reader: one answer fits, open units can be completed to a spelling, refused
--- ones can't.
+-- The answers of a reader: one answer fits, open units can become a spelling, and refused ones
+-- can't.
 use Rattle.std.proofs.Common.{◌≡◌, ℕ, ◌+◌, ◌<◌, ◌≤◌, ◌^◌, Bool, true, false, ◌⊎◌, inl, inr, Option, Some, None, List, [], ◌∷◌, ◌++◌, length, refl, sym, ◌∙◌, ap, arith, append_assoc, length-append}
 use Rattle.std.specs.Prelude.{IsTrue, ◌↔◌}
 use Rattle.std.proofs.lemmas.Bool.{false≢true}
@@ -17,14 +17,14 @@ use Rattle.twkb_num.proofs.LawLemmas.{same_digits, spelling_one}
 use Rattle.twkb_num.proofs.PartialLemmas.{power_fits}
 use Rattle.twkb_num.proofs.SpellingLemmas.{length-units_of, units_of-push}
 
--- no unit both has more after it and has none
+-- no unit says both that more follow and that none do
 pub marks_apart : (g : Option (ℕ × Bool)) (d e : ℕ) → g ≡ Some (d, true) → g ≡ Some (e, false) → ⊥
 marks_apart g d e p q =
     let both : Some (d, true) ≡ Some (e, false) = sym p ∙ q in
     let pair : (d, true) ≡ (e, false) = cc in
     false≢true (sym (ap (λ (z : ℕ × Bool). z.1) pair))
 
--- no byte both is a unit and is none
+-- no byte is both in the alphabet and outside it
 none_apart : (g : Option (ℕ × Bool)) (z : ℕ × Bool) → g ≡ None → g ≡ Some z → ⊥
 none_apart g z p q = cc
 

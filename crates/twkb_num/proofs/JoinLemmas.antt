@@ -1,10 +1,10 @@
--- The groups of sixteen bytes joined to four numbers, first two by two.
+-- The groups of sixteen bytes joined into four numbers, first two by two.
 use Rattle.std.proofs.Common.{◌≡◌, ℕ, zero, suc, ◌+◌, ◌*◌, ◌/◌, ◌%◌, ◌<◌, ◌^◌, ◌⊎◌, inl, inr, List, [], ◌∷◌, length, map, refl, sym, ◌∙◌, ap, arith, Fits, w8}
 use lib.Lanes.{number_l, digits_l, Each1}
 use Rattle.std.proofs.Math.Nat.{pow-suc, pow-zero}
 use Rattle.std.proofs.lemmas.Nat.{div_below}
 use Rattle.twkb_num.specs.Four.{joined_groups}
-use Rattle.twkb_num.proofs.PlaceLemmas.{digits-number, word_of, groups_are, four_same}
+use Rattle.twkb_num.proofs.WordLemmas.{digits-number, word_of, groups_are, four_same}
 
 -- ---- the sums as lanes compute them
 

@@ -10,7 +10,7 @@ use Rattle.std.proofs.lemmas.Nat.{div_below, mod_below}
 use Rattle.twkb_num.specs.Four.{unit_over}
 use Rattle.twkb_num.specs.Shuffles.{units_within, lane_units, groups_after}
 use Rattle.twkb_num.specs.Spelling.{shortest}
-use Rattle.twkb_num.proofs.PlaceLemmas.{digits-number, four_words, word_of}
+use Rattle.twkb_num.proofs.WordLemmas.{digits-number, four_words, word_of}
 use Rattle.twkb_num.proofs.SpellingLemmas.{shortest_one, shortest_more}
 
 -- a number without its lowest group has one group fewer

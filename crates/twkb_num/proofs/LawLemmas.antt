@@ -1,4 +1,5 @@
--- Laws of spellings in any alphabet: each spells one number, and each number has one shortest spelling.
+-- Laws of spellings in any alphabet: each spells one number, and each number has one shortest
+-- spelling.
 use Rattle.std.proofs.Common.{◌≡◌, ℕ, suc, ◌-◌, ◌<◌, ◌≤◌, ◌^◌, Bool, true, false, Option, Some, List, [], ◌∷◌, ◌++◌, length, refl, sym, ◌∙◌, ap, arith}
 use Rattle.std.specs.Int.Digits.{AllBelowBase}
 use Rattle.twkb_num.specs.Alphabet.{AlphabetLaws}

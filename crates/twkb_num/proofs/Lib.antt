@@ -1,3 +1,4 @@
+-- Lemmas of the crate, by their topic.
 pub mod AnswerLemmas
 pub mod BlockLemmas
 pub mod BufferLemmas
@@ -22,4 +23,5 @@ pub mod TwoLemmas
 pub mod UnzigzagLemmas
 pub mod VarintLemmas
 pub mod VarintOutLemmas
+pub mod WordLemmas
 pub mod ZigzagLemmas

@@ -1,5 +1,6 @@
--- The places from which units are loaded into words, and the numbers that these words hold.
-use Rattle.std.proofs.Common.{◌≡◌, ℕ, zero, suc, ◌+◌, ◌*◌, ◌/◌, ◌%◌, ◌<◌, ◌≤◌, ◌⊎◌, Bool, true, false, inl, inr, List, [], ◌∷◌, ◌++◌, length, drop, get_or, refl, sym, subst, ◌∙◌, ap, arith}
+-- The places from which the units of numbers are loaded into words, and the numbers that these
+-- words hold.
+use Rattle.std.proofs.Common.{◌≡◌, ℕ, zero, suc, ◌+◌, ◌*◌, ◌%◌, ◌<◌, ◌≤◌, ◌⊎◌, Bool, true, false, inl, inr, List, [], ◌∷◌, ◌++◌, length, drop, get_or, refl, sym, subst, ◌∙◌, ap, arith}
 use lib.Dec.{T, leb, ltb}
 use lib.Lanes.{number_l, digits_l, Each1}
 use mathlib.Core.Bool.{cond, ◌||◌}
@@ -9,47 +10,11 @@ use Rattle.std.proofs.lemmas.Bool.{cases_lt, lt-ltb, le-leb, lt-leb}
 use Rattle.std.proofs.lemmas.List.{drop_more}
 use Rattle.std.proofs.lemmas.Simd.{swz_l, SwzOk, SwzOk-from_Each1}
 use Rattle.twkb_num.specs.Four.{number_in_front, place_in, places_in, joined_groups}
-use Rattle.twkb_num.proofs.DigitLemmas.{low_digit, high_digits}
-
--- ---- words and their bytes
-
--- digits below the base are those of their number
-pub digits-number : (p n : ℕ) (xs : List ℕ) → length xs ≡ n → Each1 (λ x. x < p) xs → digits_l p n (number_l p xs) ≡ xs
-digits-number p zero [] long below = refl
-digits-number p (suc n) [] long below = absurd (omega arith)
-digits-number p zero (x ∷ xs) long below = absurd (omega arith)
-digits-number p (suc n) (x ∷ xs) long below =
-    rw (low_digit p x (number_l p xs) below.0, high_digits p x (number_l p xs) below.0) (ap (λ ys. x ∷ ys) (digits-number p n xs (omega arith) below.1))
-
--- lists of four that agree at each place are equal
-pub four_same : (a b c d e f g h : ℕ) → a ≡ e → b ≡ f → c ≡ g → d ≡ h → a ∷ b ∷ c ∷ d ∷ [] ≡ e ∷ f ∷ g ∷ h ∷ []
-four_same a b c d e f g h i j k l = cc
-
--- the word of four bytes
-abbrev pub word_of : ℕ → ℕ → ℕ → ℕ → ℕ
-word_of a b c d = number_l 256 (a ∷ b ∷ c ∷ d ∷ [])
-
--- the number of four bytes and others after them
-front_word : (a b c d : ℕ) (xs : List ℕ) → number_l 256 (a ∷ b ∷ c ∷ d ∷ xs) ≡ word_of a b c d + 4294967296 * number_l 256 xs
-front_word a b c d xs = omega arith
-
--- sixteen bytes as four words
-pub four_words : (a b c d e f g h i j k l m n o p : ℕ)
-    → number_l 256 (a ∷ b ∷ c ∷ d ∷ e ∷ f ∷ g ∷ h ∷ i ∷ j ∷ k ∷ l ∷ m ∷ n ∷ o ∷ p ∷ [])
-    ≡ number_l 4294967296 (word_of a b c d ∷ word_of e f g h ∷ word_of i j k l ∷ word_of m n o p ∷ [])
-four_words a b c d e f g h i j k l m n o p =
-    front_word a b c d (e ∷ f ∷ g ∷ h ∷ i ∷ j ∷ k ∷ l ∷ m ∷ n ∷ o ∷ p ∷ []) ∙ ap (λ x. word_of a b c d + 4294967296 * x)
-    (front_word e f g h (i ∷ j ∷ k ∷ l ∷ m ∷ n ∷ o ∷ p ∷ []) ∙ ap (λ x. word_of e f g h + 4294967296 * x)
-    (front_word i j k l (m ∷ n ∷ o ∷ p ∷ []) ∙ ap (λ x. word_of i j k l + 4294967296 * x)
-    (front_word m n o p [])))
-
--- a word has 32 bits
-word_below : (a b c d : ℕ) → a < 256 → b < 256 → c < 256 → d < 256 → word_of a b c d < 4294967296
-word_below a b c d p q r s = omega arith
+use Rattle.twkb_num.proofs.WordLemmas.{digits-number, word_of, front_word, four_words, word_below, groups_are}
 
 -- ---- places
 
--- a place is within the sixteen units, or read as no unit
+-- a place is one of the sixteen units, or is read as no unit
 place_is : (at more k : ℕ) → at + more ≤ 15 → ((k ≤ more) × (place_in at more k ≡ at + k)) ⊎ ((more < k) × (place_in at more k ≡ at + 128))
 place_is at more k within = elim (cases_lt more k) [
   | inl above ↦ inr (above, rw (lt-leb k more above) refl)
@@ -134,22 +99,6 @@ places_below a b i j f g =
 
 -- ---- numbers
 
--- the groups of seven bits in a word's bytes
-groups_128 : (a b c d : ℕ) → a < 256 → b < 256 → c < 256 → d < 256 → joined_groups 128 (word_of a b c d) ≡ a % 128 + 128 * (b % 128 + 128 * (c % 128 + 128 * (d % 128)))
-groups_128 a b c d p q r s =
-    let second : word_of a b c d / 256 ≡ b + 256 * (c + 256 * (d + 256 * 0)) = high_digits 256 a (b + 256 * (c + 256 * (d + 256 * 0))) p in
-    let third : (b + 256 * (c + 256 * (d + 256 * 0))) / 256 ≡ c + 256 * (d + 256 * 0) = high_digits 256 b (c + 256 * (d + 256 * 0)) q in
-    let fourth : (c + 256 * (d + 256 * 0)) / 256 ≡ d + 256 * 0 = high_digits 256 c (d + 256 * 0) r in
-    rw (second, third, fourth) (omega arith)
-
--- the groups of five bits in a word's bytes
-groups_32 : (a b c d : ℕ) → a < 256 → b < 256 → c < 256 → d < 256 → joined_groups 32 (word_of a b c d) ≡ a % 32 + 32 * (b % 32 + 32 * (c % 32 + 32 * (d % 32)))
-groups_32 a b c d p q r s =
-    let second : word_of a b c d / 256 ≡ b + 256 * (c + 256 * (d + 256 * 0)) = high_digits 256 a (b + 256 * (c + 256 * (d + 256 * 0))) p in
-    let third : (b + 256 * (c + 256 * (d + 256 * 0))) / 256 ≡ c + 256 * (d + 256 * 0) = high_digits 256 b (c + 256 * (d + 256 * 0)) q in
-    let fourth : (c + 256 * (d + 256 * 0)) / 256 ≡ d + 256 * 0 = high_digits 256 c (d + 256 * 0) r in
-    rw (second, third, fourth) (omega arith)
-
 -- the group of a number's last unit
 last_unit : (radix at : ℕ) (us : List ℕ) → at < length us → number_in_front radix 0 (drop at us) ≡ get_or us at 0 % radix
 last_unit radix at us h = rw (drop_more us at 0 h) refl
@@ -162,29 +111,21 @@ next_unit radix at more us h = rw (drop_more us at 0 h) refl
 abbrev pub word_at : List ℕ → ℕ → ℕ → ℕ
 word_at us at more = word_of (lane us (place_in at more 0)) (lane us (place_in at more 1)) (lane us (place_in at more 2)) (lane us (place_in at more 3))
 
--- the groups in a word's bytes, in either alphabet
-pub groups_are : (radix a b c d : ℕ) → (radix ≡ 128) ⊎ (radix ≡ 32) → a < 256 → b < 256 → c < 256 → d < 256
-    → joined_groups radix (word_of a b c d) ≡ a % radix + radix * (b % radix + radix * (c % radix + radix * (d % radix)))
-groups_are radix a b c d alphabet p q r s = elim alphabet [
-  | inl e ↦ rw e (groups_128 a b c d p q r s)
-  | inr e ↦ rw e (groups_32 a b c d p q r s)
-]
-
--- one unit and no more: the empty places add nothing
+-- a number of one unit: the empty places add nothing
 closes_one : (radix a : ℕ) → (radix ≡ 128) ⊎ (radix ≡ 32) → a % radix ≡ a % radix + radix * (0 % radix + radix * (0 % radix + radix * (0 % radix)))
 closes_one radix a alphabet = elim alphabet [
   | inl e ↦ rw e (omega arith)
   | inr e ↦ rw e (omega arith)
 ]
 
--- two units and no more: the empty places add nothing
+-- a number of two units: the empty places add nothing
 closes_two : (radix a b : ℕ) → (radix ≡ 128) ⊎ (radix ≡ 32) → a % radix + radix * (b % radix) ≡ a % radix + radix * (b % radix + radix * (0 % radix + radix * (0 % radix)))
 closes_two radix a b alphabet = elim alphabet [
   | inl e ↦ rw e (omega arith)
   | inr e ↦ rw e (omega arith)
 ]
 
--- three units and no more: the empty places add nothing
+-- a number of three units: the empty places add nothing
 closes_three : (radix a b c : ℕ) → (radix ≡ 128) ⊎ (radix ≡ 32)
     → a % radix + radix * (b % radix + radix * (c % radix)) ≡ a % radix + radix * (b % radix + radix * (c % radix + radix * (0 % radix)))
 closes_three radix a b c alphabet = elim alphabet [
@@ -244,6 +185,10 @@ sixteen_places a b c d i j k l =
     ∷ place_in c k 0 ∷ place_in c k 1 ∷ place_in c k 2 ∷ place_in c k 3
     ∷ place_in d l 0 ∷ place_in d l 1 ∷ place_in d l 2 ∷ place_in d l 3 ∷ []
 
+-- a fact about each place of a number's units, and about each place after them, is one about all
+each_place : (P : ℕ → Type 0) (at more : ℕ) (places : List ℕ) → ((k : ℕ) → P (place_in at more k)) → Each1 P places → Each1 P (places_in at more ++ places)
+each_place P at more places each others = (each 0, (each 1, (each 2, (each 3, others))))
+
 -- the sixteen places in two words of eight bytes
 pub places_of_two : (p q a b c d i j k l : ℕ) → p ≡ number_l 256 (places_in a i ++ places_in b j) → q ≡ number_l 256 (places_in c k ++ places_in d l)
     → number_l 18446744073709551616 (p ∷ q ∷ []) ≡ number_l 256 (sixteen_places a b c d i j k l)
@@ -264,86 +209,22 @@ places_are : (n a b c d i j k l : ℕ) → a + i ≤ 15 → b + j ≤ 15 → c +
     → n ≡ number_l 256 (sixteen_places a b c d i j k l) → digits_l 256 16 n ≡ sixteen_places a b c d i j k l
 places_are n a b c d i j k l f g h m is =
     ap (digits_l 256 16) is
-    ∙ digits-number 256 16 (sixteen_places a b c d i j k l) refl (
-      place_below a i 0 f,
-      (
-        place_below a i 1 f,
-        (
-          place_below a i 2 f,
-          (
-            place_below a i 3 f,
-            (
-              place_below b j 0 g,
-              (
-                place_below b j 1 g,
-                (
-                  place_below b j 2 g,
-                  (
-                    place_below b j 3 g,
-                    (
-                      place_below c k 0 h,
-                      (
-                        place_below c k 1 h,
-                        (
-                          place_below c k 2 h,
-                          (
-                            place_below c k 3 h,
-                            (place_below d l 0 m, (place_below d l 1 m, (place_below d l 2 m, (place_below d l 3 m, tt)))),
-                          ),
-                        ),
-                      ),
-                    ),
-                  ),
-                ),
-              ),
-            ),
-          ),
-        ),
-      ),
-    )
+    ∙ digits-number 256 16 (sixteen_places a b c d i j k l) refl
+    (each_place (λ x. x < 256) a i (places_in b j ++ (places_in c k ++ places_in d l)) (λ place. place_below a i place f)
+    (each_place (λ x. x < 256) b j (places_in c k ++ places_in d l) (λ place. place_below b j place g)
+    (each_place (λ x. x < 256) c k (places_in d l) (λ place. place_below c k place h)
+    (each_place (λ x. x < 256) d l [] (λ place. place_below d l place m) tt))))
 
 -- the sixteen places pass the test of `swizzle_dyn`
 pub places_ok : (n a b c d i j k l : ℕ) → a + i ≤ 15 → b + j ≤ 15 → c + k ≤ 15 → d + l ≤ 15
     → n ≡ number_l 256 (sixteen_places a b c d i j k l) → SwzOk w8 16 16 0 (digits_l 256 16 n)
 places_ok n a b c d i j k l f g h m is =
     subst (λ xs. SwzOk w8 16 16 0 xs) (sym (places_are n a b c d i j k l f g h m is))
-    (SwzOk-from_Each1 w8 16 1 16 0 (sixteen_places a b c d i j k l) (omega arith) (omega arith) (
-      place_ok a i 0 f,
-      (
-        place_ok a i 1 f,
-        (
-          place_ok a i 2 f,
-          (
-            place_ok a i 3 f,
-            (
-              place_ok b j 0 g,
-              (
-                place_ok b j 1 g,
-                (
-                  place_ok b j 2 g,
-                  (
-                    place_ok b j 3 g,
-                    (
-                      place_ok c k 0 h,
-                      (
-                        place_ok c k 1 h,
-                        (
-                          place_ok c k 2 h,
-                          (
-                            place_ok c k 3 h,
-                            (place_ok d l 0 m, (place_ok d l 1 m, (place_ok d l 2 m, (place_ok d l 3 m, tt)))),
-                          ),
-                        ),
-                      ),
-                    ),
-                  ),
-                ),
-              ),
-            ),
-          ),
-        ),
-      ),
-    ))
+    (SwzOk-from_Each1 w8 16 1 16 0 (sixteen_places a b c d i j k l) (omega arith) (omega arith)
+    (each_place (λ x. T (zeroes 16 w8 x || ltb x 16)) a i (places_in b j ++ (places_in c k ++ places_in d l)) (λ place. place_ok a i place f)
+    (each_place (λ x. T (zeroes 16 w8 x || ltb x 16)) b j (places_in c k ++ places_in d l) (λ place. place_ok b j place g)
+    (each_place (λ x. T (zeroes 16 w8 x || ltb x 16)) c k (places_in d l) (λ place. place_ok c k place h)
+    (each_place (λ x. T (zeroes 16 w8 x || ltb x 16)) d l [] (λ place. place_ok d l place m) tt)))))
 
 -- a word of units has 32 bits
 word_at_below : (us : List ℕ) (at more : ℕ) → ((k : ℕ) → get_or us k 0 < 256) → word_at us at more < 4294967296
@@ -365,7 +246,3 @@ words_are us n a b c d i j k l fit f g h m is =
     ∙ ap (digits_l 4294967296 4) joined
     ∙ digits-number 4294967296 4 (word_at us a i ∷ word_at us b j ∷ word_at us c k ∷ word_at us d l ∷ []) refl
     (word_at_below us a i fit, (word_at_below us b j fit, (word_at_below us c k fit, (word_at_below us d l fit, tt))))
-
--- a unit is a byte
-pub unit_fits : (radix u : ℕ) → (radix ≡ 128) ⊎ (radix ≡ 32) → u < 2 * radix → u < 256
-unit_fits radix u alphabet below = elim alphabet [ inl e ↦ omega arith | inr e ↦ omega arith ]

@@ -1,4 +1,4 @@
--- The ends of a block leave out none of the first 63 units in front of a fault.
+-- The ends of a block include those of all units before a fault, among the first 63.
 use Rattle.std.proofs.Common.{◌≡◌, ℕ, suc, ◌+◌, ◌-◌, ◌*◌, ◌%◌, ◌<◌, ◌≤◌, ◌^◌, false, inl, inr, List, [], ◌∷◌, ◌++◌, length, take, map, get_or, refl, sym, ◌∙◌, ap, arith, le-ltb}
 use lib.Lanes.{mask_l}
 use Rattle.std.specs.Prelude.{nat_lt}
@@ -9,7 +9,7 @@ use Rattle.twkb_num.specs.Block.{units_in, AreUnits, AreEndsBefore, HasEndsOf}
 use Rattle.twkb_num.proofs.MarkLemmas.{mask_l-take}
 use Rattle.twkb_num.proofs.TableLemmas.{mask_l-append}
 
--- units with the base of an alphabet are these units
+-- adding the base to units and subtracting it again gives the units
 units_back : (base bound : ℕ) (us : List ℕ) → bound + base ≤ 256 → ((k : ℕ) → get_or us k 0 < bound) → units_in base (map (λ u. u + base) us) ≡ us
 units_back base bound [] room below = refl
 units_back base bound (u ∷ us) room below =
@@ -17,7 +17,7 @@ units_back base bound (u ∷ us) room below =
     let same : ((u + base) + (2 ^ 8 - base)) % 2 ^ 8 ≡ u = omega arith in
     rw same (ap (λ vs. u ∷ vs) (units_back base bound us room (λ k. below (suc k))))
 
--- units in front of bytes are the first of a block's
+-- units that the bytes begin with are the first units of a block
 units_first : (base radix n ends : ℕ) (bytes us : List ℕ) → 2 * radix + base ≤ 256 → length us ≤ n → AreUnits base radix bytes us ends → us ≡ take (length us) (units_in base (take n bytes))
 units_first base radix n ends bytes us room few are =
     let count = length us in
@@ -27,7 +27,7 @@ units_first base radix n ends bytes us room few are =
     ∙ ap (units_in base) (sym (take-take count n bytes few))
     ∙ sym (take-map unit count (take n bytes))
 
--- a unit more, which goes on, is no end more
+-- a unit after which more follow adds no end
 no_end_more : (radix k : ℕ) (us : List ℕ) → k < length us → radix ≤ get_or us k 0 → mask_l (map (λ u. nat_lt u radix) (take k us)) ≡ mask_l (map (λ u. nat_lt u radix) (take (suc k) us))
 no_end_more radix k us within goes_on =
     let ends = λ (u : ℕ). nat_lt u radix in
@@ -36,7 +36,7 @@ no_end_more radix k us within goes_on =
     let split = ap (map ends) (take-suc us k 0 within) ∙ map-append ends (take k us) (get_or us k 0 ∷ []) ∙ ap (λ b. map ends (take k us) ++ (b ∷ [])) last in
     sym (ap mask_l split ∙ joined ∙ omega arith)
 
--- a block's ends are those of each list of units in front
+-- a block's ends are the ends of any units that the bytes begin with
 pub ends_reach : (base radix most n ends : ℕ) (bytes : List ℕ) → most + 1 ≡ 2 * radix → most + base < 256 → 63 < n → n ≤ length bytes → AreEndsBefore radix most (units_in base (take n bytes)) ends → HasEndsOf 63 base radix bytes ends
 ends_reach base radix most n ends bytes bound room long within before us marks are few =
     let count = length us in

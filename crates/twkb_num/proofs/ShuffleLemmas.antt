@@ -9,7 +9,7 @@ use Rattle.std.proofs.lemmas.Bool.{cases_lt, lt-ltb, le-leb, lt-leb}
 use Rattle.std.proofs.lemmas.Simd.{swz_l, SwzOk, SwzOk-from_Each1}
 use Rattle.twkb_num.specs.declared.shuffles.TheConstants.{SHUFFLES}
 use Rattle.twkb_num.specs.Shuffles.{marks_of_two, place_for, shuffle_of}
-use Rattle.twkb_num.proofs.PlaceLemmas.{digits-number}
+use Rattle.twkb_num.proofs.WordLemmas.{digits-number}
 
 -- a fact about each number up to 3 is proved in four cases
 pub four_cases : (P : ℕ → Type 0) → P 0 → P 1 → P 2 → P 3 → (i : ℕ) → i ≤ 3 → P i

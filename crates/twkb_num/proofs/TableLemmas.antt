@@ -9,15 +9,15 @@ use mathlib.Core.Bool.{cond}
 use lib.Lanes.{mask_l, number_l}
 use Rattle.twkb_num.specs.declared.places.TheConstants.{PLACES, USED}
 use Rattle.twkb_num.specs.Four.{places_in, run_of}
-use Rattle.twkb_num.specs.Places.{run_behind, AreTwo}
+use Rattle.twkb_num.specs.Places.{second_run, AreTwo}
 
 -- the first two set marks end numbers of at most four units
 abbrev is_two : List Bool → Bool
-is_two marks = nat_lt (run_of marks) 4 && (nat_lt (run_behind marks) 4 && nat_lt (suc (run_of marks + run_behind marks)) (length marks))
+is_two marks = nat_lt (run_of marks) 4 && (nat_lt (second_run marks) 4 && nat_lt (suc (run_of marks + second_run marks)) (length marks))
 
 -- the places of two numbers
 abbrev two_places : List Bool → ℕ
-two_places marks = number_l 256 (places_in 0 (run_of marks) ++ places_in (suc (run_of marks)) (run_behind marks))
+two_places marks = number_l 256 (places_in 0 (run_of marks) ++ places_in (suc (run_of marks)) (second_run marks))
 
 -- the word that the table needs for eight marks
 abbrev word_for : List Bool → ℕ
@@ -48,7 +48,7 @@ table_word marks long = eqb-true (get_or PLACES (mask_l marks) 0) (word_for mark
 
 -- the number of units that the table needs for eight marks
 abbrev units_for : List Bool → ℕ
-units_for marks = if is_two marks then suc (suc (run_of marks + run_behind marks)) else 0
+units_for marks = if is_two marks then suc (suc (run_of marks + second_run marks)) else 0
 
 -- the table of lengths has the right number for each eight marks
 used_table_is : passes 8 (λ marks. get_or USED (mask_l marks) 0 == units_for marks) ≡ true
@@ -76,8 +76,8 @@ run_of-append (true ∷ xs) ys within = refl
 run_of-append (false ∷ xs) ys within = ap suc (run_of-append xs ys (omega arith))
 
 -- the second set mark is found among the first marks, if two are set there
-run_behind-append : (xs ys : List Bool) → suc (run_of xs + run_behind xs) < length xs → run_behind (xs ++ ys) ≡ run_behind xs
-run_behind-append xs ys within =
+second_run-append : (xs ys : List Bool) → suc (run_of xs + second_run xs) < length xs → second_run (xs ++ ys) ≡ second_run xs
+second_run-append xs ys within =
     let first = run_of-append xs ys (omega arith) in
     let apart : drop (suc (run_of xs)) (xs ++ ys) ≡ drop (suc (run_of xs)) xs ++ ys = drop-append-le (suc (run_of xs)) xs ys (omega arith) in
     let long = length-drop (suc (run_of xs)) xs in
@@ -86,11 +86,11 @@ run_behind-append xs ys within =
 -- ---- two numbers
 
 -- what the test of two numbers says, as facts
-is_two-true : (marks : List Bool) → is_two marks ≡ true → (run_of marks < 4) × (run_behind marks < 4) × (suc (run_of marks + run_behind marks) < length marks)
+is_two-true : (marks : List Bool) → is_two marks ≡ true → (run_of marks < 4) × (second_run marks < 4) × (suc (run_of marks + second_run marks) < length marks)
 is_two-true marks is =
     let outer = and_parts _ _ is in
     let inner = and_parts _ _ outer.1 in
-    (ltb-true (run_of marks) 4 outer.0, ltb-true (run_behind marks) 4 inner.0, ltb-true (suc (run_of marks + run_behind marks)) (length marks) inner.1)
+    (ltb-true (run_of marks) 4 outer.0, ltb-true (second_run marks) 4 inner.0, ltb-true (suc (run_of marks + second_run marks)) (length marks) inner.1)
 
 -- an even word has the places of two numbers
 even_word : (marks : List Bool) (word : ℕ) → word ≡ word_for marks → word % 2 ≡ 0 → (is_two marks ≡ true) × (word ≡ two_places marks)
@@ -121,14 +121,14 @@ first_within (false ∷ marks) n within =
     (omega (arith, rest.0), ap suc rest.1)
 
 -- the second set mark is not one of the added marks
-second_within : (marks : List Bool) (n : ℕ) → suc (run_of (marks ++ replicate n false) + run_behind (marks ++ replicate n false)) < length marks + n
-    → (run_of (marks ++ replicate n false) ≡ run_of marks) × (run_behind (marks ++ replicate n false) ≡ run_behind marks) × (suc (run_of marks + run_behind marks) < length marks)
+second_within : (marks : List Bool) (n : ℕ) → suc (run_of (marks ++ replicate n false) + second_run (marks ++ replicate n false)) < length marks + n
+    → (run_of (marks ++ replicate n false) ≡ run_of marks) × (second_run (marks ++ replicate n false) ≡ second_run marks) × (suc (run_of marks + second_run marks) < length marks)
 second_within marks n within =
     let first = first_within marks n (omega arith) in
     let at = suc (run_of marks) in
     let apart : drop (suc (run_of (marks ++ replicate n false))) (marks ++ replicate n false) ≡ drop at marks ++ replicate n false =
     ap (λ k. drop (suc k) (marks ++ replicate n false)) first.1 ∙ drop-append-le at marks (replicate n false) (omega (arith, first.0)) in
-    let behind : run_behind (marks ++ replicate n false) ≡ run_of (drop at marks ++ replicate n false) = ap run_of apart in
+    let behind : second_run (marks ++ replicate n false) ≡ run_of (drop at marks ++ replicate n false) = ap run_of apart in
     let long = length-drop at marks in
     let second = first_within (drop at marks) n (omega (arith, first.0, first.1)) in
     (first.1, behind ∙ second.1, omega (arith, first.0, second.0))
@@ -151,14 +151,14 @@ two_found marks places used is used_is even =
     let count : used ≡ units_for front = used_is ∙ ap (λ i. get_or USED i 0) index ∙ table_units front eight in
     let facts = is_two-true front two.0 in
     let first : run_of all ≡ run_of front = ap run_of (sym whole) ∙ run_of-append front rest (omega arith) in
-    let second : run_behind all ≡ run_behind front = ap run_behind (sym whole) ∙ run_behind-append front rest facts.2 in
+    let second : second_run all ≡ second_run front = ap second_run (sym whole) ∙ second_run-append front rest facts.2 in
     let same = second_within marks 8 (omega arith) in
-    let units : units_for front ≡ suc (suc (run_of front + run_behind front)) = rw two.0 refl in
+    let units : units_for front ≡ suc (suc (run_of front + second_run front)) = rw two.0 refl in
     record {
       first_short = omega (arith, same.0);
       second_short = omega (arith, same.1);
       used_is = omega (arith, same.0, same.1);
       within = omega (arith, same.0, same.1, same.2);
-      places_are = two.1 ∙ ap (λ i. number_l 256 (places_in 0 i ++ places_in (suc i) (run_behind front))) (sym first ∙ same.0)
+      places_are = two.1 ∙ ap (λ i. number_l 256 (places_in 0 i ++ places_in (suc i) (second_run front))) (sym first ∙ same.0)
           ∙ ap (λ j. number_l 256 (places_in 0 (run_of marks) ++ places_in (suc (run_of marks)) j)) (sym second ∙ same.1);
     }

@@ -6,10 +6,11 @@ use Rattle.std.specs.Prelude.{nat_lt}
 use Rattle.std.proofs.lemmas.List.{drop-drop, get_or-drop, length-drop, length-map}
 use Rattle.std.proofs.lemmas.Simd.{swz_l, SwzOk}
 use Rattle.twkb_num.specs.Four.{number_in_front, places_in, joined_groups, run_of}
-use Rattle.twkb_num.specs.Places.{run_behind, AreTwo}
+use Rattle.twkb_num.specs.Places.{second_run, AreTwo}
 use Rattle.twkb_num.proofs.FourLemmas.{marks_of}
 use Rattle.twkb_num.proofs.MarkLemmas.{mask_l-drop}
-use Rattle.twkb_num.proofs.PlaceLemmas.{sixteen_places, places_moved, places_of_two, places_below, places_ok, words_are, word_found, four_same}
+use Rattle.twkb_num.proofs.PlaceLemmas.{sixteen_places, places_moved, places_of_two, places_below, places_ok, words_are, word_found}
+use Rattle.twkb_num.proofs.WordLemmas.{four_same}
 
 -- the first two numbers, and the two after them
 pub record AreTwice (marks : List Bool) (places used later_places later_used : ℕ) : Type 0 where
@@ -26,8 +27,9 @@ twice_found radix us ends places used later_places later_used is first later = r
   high = later (drop used (marks_of radix us)) (ap (λ n. n / 2 ^ used) is ∙ mask_l-drop used (marks_of radix us));
 }
 
--- four numbers by the marks of their last units: how many units each has after its first, at most
--- three, where all but the first begin, and how many units the four have
+-- four numbers by the marks of their last units: the number of units that each has after its first,
+-- at most three; the places of the second, third and fourth number; and the number of units of all
+-- four
 pub record AreFour (marks : List Bool) (i j k l second third fourth count : ℕ) : Type 0 where
   pub second_at : second ≡ suc i
   pub third_at : third ≡ second + suc j
@@ -45,7 +47,7 @@ pub record AreFour (marks : List Bool) (i j k l second third fourth count : ℕ)
 
 -- two numbers and two more are four
 pub twice_two : (marks : List Bool) (places used later_places later_used : ℕ) → AreTwice marks places used later_places later_used
-    → AreFour marks (run_of marks) (run_behind marks) (run_of (drop used marks)) (run_behind (drop used marks))
+    → AreFour marks (run_of marks) (second_run marks) (run_of (drop used marks)) (second_run (drop used marks))
     (suc (run_of marks)) used (used + suc (run_of (drop used marks))) (used + later_used)
 twice_two marks places used later_places later_used twice =
     let low = twice.low in
@@ -75,12 +77,12 @@ twice_two marks places used later_places later_used twice =
 
 -- the places of the last two numbers, moved by the units of the first two
 later_places_are : (marks : List Bool) (used moved later_places later_used : ℕ) → moved ≡ used → AreTwo marks later_places later_used
-    → later_places + moved * 72340172838076673 ≡ number_l 256 (places_in used (run_of marks) ++ places_in (used + suc (run_of marks)) (run_behind marks))
+    → later_places + moved * 72340172838076673 ≡ number_l 256 (places_in used (run_of marks) ++ places_in (used + suc (run_of marks)) (second_run marks))
 later_places_are marks used moved later_places later_used same high =
     let none : used + 0 ≡ used = omega arith in
     rw (same, high.places_are)
-    (places_moved used 0 (suc (run_of marks)) (run_of marks) (run_behind marks)
-    ∙ ap (λ at. number_l 256 (places_in at (run_of marks) ++ places_in (used + suc (run_of marks)) (run_behind marks))) none)
+    (places_moved used 0 (suc (run_of marks)) (run_of marks) (second_run marks)
+    ∙ ap (λ at. number_l 256 (places_in at (run_of marks) ++ places_in (used + suc (run_of marks)) (second_run marks))) none)
 
 -- the places of the last two numbers fit their bytes
 pub later_places_below : (marks : List Bool) (places used moved later_places later_used : ℕ) → moved ≡ used → AreTwice marks places used later_places later_used
@@ -88,7 +90,7 @@ pub later_places_below : (marks : List Bool) (places used moved later_places lat
 later_places_below marks places used moved later_places later_used same twice =
     let four = twice_two marks places used later_places later_used twice in
     let is = later_places_are (drop used marks) used moved later_places later_used same twice.high in
-    omega (arith, places_below used (used + suc (run_of (drop used marks))) (run_of (drop used marks)) (run_behind (drop used marks)) (omega arith) (omega arith))
+    omega (arith, places_below used (used + suc (run_of (drop used marks))) (run_of (drop used marks)) (second_run (drop used marks)) (omega arith) (omega arith))
 
 -- the number of all sixteen bytes
 abbrev pub both_places : ℕ → ℕ → ℕ → ℕ
@@ -97,10 +99,10 @@ both_places places moved later_places = number_l 18446744073709551616 (places �
 -- the two words hold the places of the four numbers
 four_places : (marks : List Bool) (places used moved later_places later_used : ℕ) → moved ≡ used → AreTwice marks places used later_places later_used
     → both_places places moved later_places
-    ≡ number_l 256 (sixteen_places 0 (suc (run_of marks)) used (used + suc (run_of (drop used marks))) (run_of marks) (run_behind marks) (run_of (drop used marks)) (run_behind (drop used marks)))
+    ≡ number_l 256 (sixteen_places 0 (suc (run_of marks)) used (used + suc (run_of (drop used marks))) (run_of marks) (second_run marks) (run_of (drop used marks)) (second_run (drop used marks)))
 four_places marks places used moved later_places later_used same twice =
     places_of_two places (later_places + moved * 72340172838076673)
-    0 (suc (run_of marks)) used (used + suc (run_of (drop used marks))) (run_of marks) (run_behind marks) (run_of (drop used marks)) (run_behind (drop used marks))
+    0 (suc (run_of marks)) used (used + suc (run_of (drop used marks))) (run_of marks) (second_run marks) (run_of (drop used marks)) (second_run (drop used marks))
     twice.low.places_are (later_places_are (drop used marks) used moved later_places later_used same twice.high)
 
 -- the sixteen places pass the test of `swizzle_dyn`
@@ -109,12 +111,12 @@ pub four_places_ok : (marks : List Bool) (places used moved later_places later_u
 four_places_ok marks places used moved later_places later_used same twice =
     let four = twice_two marks places used later_places later_used twice in
     places_ok (both_places places moved later_places)
-    0 (suc (run_of marks)) used (used + suc (run_of (drop used marks))) (run_of marks) (run_behind marks) (run_of (drop used marks)) (run_behind (drop used marks))
+    0 (suc (run_of marks)) used (used + suc (run_of (drop used marks))) (run_of marks) (second_run marks) (run_of (drop used marks)) (second_run (drop used marks))
     (omega arith) (omega arith) (omega arith) (omega arith) (four_places marks places used moved later_places later_used same twice)
 
 -- ---- lanes that hold units
 
--- a number is given by its own units alone
+-- a number depends on its own units alone
 front_same : (radix more : ℕ) (us vs : List ℕ) → more < length us → more < length vs → ((k : ℕ) → k ≤ more → get_or us k 0 ≡ get_or vs k 0)
     → number_in_front radix more us ≡ number_in_front radix more vs
 front_same radix more [] vs within fits same = absurd (omega arith)
@@ -145,9 +147,9 @@ pub numbers_found : (radix : ℕ) (lanes us : List ℕ) (places used moved later
     → (radix ≡ 128) ⊎ (radix ≡ 32) → AreLanes lanes us → moved ≡ used → AreTwice (marks_of radix us) places used later_places later_used
     → map (joined_groups radix) (digits_l 4294967296 4 (number_l 256 (swz_l w8 16 lanes 0 (digits_l 256 16 (both_places places moved later_places)))))
     ≡ number_in_front radix (run_of (marks_of radix us)) (drop 0 us)
-    ∷ number_in_front radix (run_behind (marks_of radix us)) (drop (suc (run_of (marks_of radix us))) us)
+    ∷ number_in_front radix (second_run (marks_of radix us)) (drop (suc (run_of (marks_of radix us))) us)
     ∷ number_in_front radix (run_of (drop used (marks_of radix us))) (drop used us)
-    ∷ number_in_front radix (run_behind (drop used (marks_of radix us))) (drop (used + suc (run_of (drop used (marks_of radix us)))) us) ∷ []
+    ∷ number_in_front radix (second_run (drop used (marks_of radix us))) (drop (used + suc (run_of (drop used (marks_of radix us)))) us) ∷ []
 numbers_found radix lanes us places used moved later_places later_used alphabet are same twice =
     let marks = marks_of radix us in
     let four = twice_two marks places used later_places later_used twice in
@@ -160,10 +162,10 @@ numbers_found radix lanes us places used moved later_places later_used alphabet 
     let number = λ (at more : ℕ) (inside : at + more ≤ 15) (fits : at + more < length us) (short : more ≤ 3).
     word_found radix at more lanes alphabet are.count are.fit inside short ∙ lanes_tell radix at more lanes us are inside fits in
     ap (map (joined_groups radix)) (words_are lanes (both_places places moved later_places)
-    0 second used fourth (run_of marks) (run_behind marks) (run_of (drop used marks)) (run_behind (drop used marks))
+    0 second used fourth (run_of marks) (second_run marks) (run_of (drop used marks)) (second_run (drop used marks))
     are.fit (omega arith) (omega arith) (omega arith) (omega arith) (four_places marks places used moved later_places later_used same twice))
-    ∙ four_same _ _ _ _ _ _ _ _ (number 0 (run_of marks) (omega arith) (omega arith) four.first_short) (number second (run_behind marks) (omega arith) (omega arith) four.second_short)
-    (number used (run_of (drop used marks)) (omega arith) (omega arith) four.third_short) (number fourth (run_behind (drop used marks)) (omega arith) (omega arith) four.fourth_short)
+    ∙ four_same _ _ _ _ _ _ _ _ (number 0 (run_of marks) (omega arith) (omega arith) four.first_short) (number second (second_run marks) (omega arith) (omega arith) four.second_short)
+    (number used (run_of (drop used marks)) (omega arith) (omega arith) four.third_short) (number fourth (second_run (drop used marks)) (omega arith) (omega arith) four.fourth_short)
 
 -- four numbers have at most sixteen units
 pub few_used : (marks : List Bool) (places used later_places later_used : ℕ) → AreTwice marks places used later_places later_used → (used + later_used ≤ 16) × (used + later_used ≤ length marks)

@@ -1,8 +1,8 @@
--- Alphabets: a unit stands for a group of bits and says whether more follow. The laws of an
--- alphabet, and our two alphabets.
+-- Alphabets of units, each of which stands for a group of bits and says whether more units follow:
+-- their laws, and our two alphabets.
 use Rattle.std.specs.Prelude.{◌≡◌, ℕ, ◌+◌, ◌-◌, ◌<◌, ◌≤◌, ◌^◌, Bool, true, false, Option, Some, None, if◌then◌else◌, nat_lt}
 
--- the laws that the numbers and functions of an alphabet keep
+-- the laws of an alphabet
 pub record AlphabetLaws (bits longest : ℕ) (unit : ℕ → Bool → ℕ) (group : ℕ → Option (ℕ × Bool)) : Type 0 where
   pub five : 5 ≤ bits
   pub seven : bits ≤ 7
@@ -10,7 +10,7 @@ pub record AlphabetLaws (bits longest : ℕ) (unit : ℕ → Bool → ℕ) (grou
   pub some : 1 ≤ longest
   pub enough : 2 ^ 64 ≤ (2 ^ bits) ^ longest
   pub needed : (2 ^ bits) ^ (longest - 1) < 2 ^ 64
-  -- each function undoes the other, over the digits and over the bytes
+  -- a unit is a byte, and `unit` and `group` undo each other
   pub is_byte : (d : ℕ) (more : Bool) → d < 2 ^ bits → unit d more < 256
   pub read_back : (d : ℕ) (more : Bool) → d < 2 ^ bits → group (unit d more) ≡ Some (d, more)
   pub below : (u d : ℕ) (more : Bool) → u < 256 → group u ≡ Some (d, more) → d < 2 ^ bits
@@ -28,8 +28,8 @@ leb_group u = if nat_lt u 128 then Some (u, false) else Some (u - 128, true)
 abbrev pub five_unit : ℕ → Bool → ℕ
 five_unit d more = (if more then d + 32 else d) + 63
 
--- the digit that a character stands for, and whether more follow: `?` to `^` are the last of
--- their spelling, `_` to `~` are not
+-- the digit that a character stands for, and whether more follow: `?` to `^` end a number, `_` to
+-- `~` do not
 abbrev pub five_group : ℕ → Option (ℕ × Bool)
 five_group u =
     if nat_lt u 63 then None else

@@ -1,5 +1,5 @@
--- Proofs that our two alphabets keep the laws. They stand among the definitions because the code
--- cites them when it states that a type is an alphabet, and code can't cite proofs/.
+-- Proofs that our two alphabets keep the laws. They are in specs/ because the code cites them, and
+-- code can't cite proofs/.
 use Rattle.std.proofs.Common.{◌≡◌, ℕ, ◌<◌, ◌^◌, Bool, true, false, arith, lit<, lit≤}
 use Rattle.std.proofs.lemmas.Grind.{common_steps}
 use Rattle.std.specs.Prelude.{Some}

@@ -1,4 +1,4 @@
--- The answer of a reader of spellings to one more unit.
+-- How a reader of spellings answers its next unit.
 use Rattle.std.specs.Prelude.{◌≡◌, ℕ, ◌+◌, ◌<◌, ◌≤◌, ◌^◌, ◌↔◌, ◌⊎◌, Bool, true, IsTrue, Option, Some, None, List, [], ◌∷◌, ◌++◌, length}
 use Rattle.std.specs.Int.Digits.{AllBelowBase}
 use Rattle.twkb_num.specs.Digits.{number_of}

@@ -1,8 +1,8 @@
 -- The digits of a number to a base, low first.
 use Rattle.std.specs.Prelude.{ℕ, zero, suc, ◌+◌, ◌*◌, ◌/◌, ◌%◌, true, false, List, [], ◌∷◌, nat_lt}
 
--- The digits by repeated division, at most `turns` and the last. The cases stand in an `elim`, so
--- that a computation ends with the last digit and not with the last turn.
+-- The digits of n by at most `turns` divisions; the last digit is the last quotient. The cases are
+-- in an `elim`, so that a computation stops at the last digit and not after the last turn.
 unfoldable pub digits_within : ℕ → ℕ → ℕ → List ℕ
 digits_within zero base n = n ∷ []
 digits_within (suc turns) base n =

@@ -18,7 +18,7 @@ pub record FourInFront (unit : ℕ → Bool → ℕ) (base : ℕ) (units : List 
 abbrev pub unit_over : ℕ → ℕ → ℕ → Bool → ℕ
 unit_over base radix d more = (if more then d + radix else d) + base
 
--- the number whose groups are those of the first unit and the `more` units after it, low first
+-- the number whose groups are those of the first unit and of `more` units after it, low group first
 abbrev pub number_in_front : ℕ → ℕ → List ℕ → ℕ
 number_in_front radix more [] = 0
 number_in_front radix zero (u ∷ us) = u % radix
@@ -38,11 +38,11 @@ abbrev pub joined_groups : ℕ → ℕ → ℕ
 joined_groups radix word =
     word % radix + radix * (word / 256 % radix + radix * (word / 256 / 256 % radix + radix * (word / 256 / 256 / 256 % radix)))
 
--- the 32 bits of the number whose zigzag form this is
+-- the number with this zigzag form, as 32 bits
 abbrev pub unzigzagged_bits : ℕ → ℕ
 unzigzagged_bits form = cast_unsigned w32 (unzigzag_of form)
 
--- how many marks come before the first that is set
+-- the number of marks before the first that is set
 abbrev pub run_of : List Bool → ℕ
 run_of [] = 0
 run_of (true ∷ marks) = 0

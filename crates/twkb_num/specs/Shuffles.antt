@@ -17,7 +17,7 @@ abbrev pub groups_after : ℕ → ℕ → ℕ → ℕ
 groups_after radix zero n = 0
 groups_after radix (suc most) n = if nat_le radix n then suc (groups_after radix most (n / radix)) else 0
 
--- the marks of two numbers, whose numbers of units that go on are `first` and `second`
+-- the marks of two numbers that have `first` and `second` units before the last one
 abbrev pub marks_of_two : ℕ → ℕ → ℕ
 marks_of_two first second = (2 ^ first - 1) + 16 * (2 ^ second - 1)
 

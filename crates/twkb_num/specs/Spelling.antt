@@ -1,5 +1,5 @@
--- How units spell a number: a unit for each digit, low first, and each unit but the last says that more follow (LEB128;
--- encoded polyline).
+-- How units spell a number: a unit for each digit, low first, and each unit but the last says that
+-- more follow (LEB128; encoded polyline).
 use Rattle.std.specs.Prelude.{◌≡◌, ℕ, ◌<◌, ◌≤◌, ◌^◌, Bool, true, false, List, [], ◌∷◌, length, map}
 use Rattle.std.specs.Int.Digits.{AllBelowBase}
 use Rattle.twkb_num.specs.Digits.{digits, number_of}

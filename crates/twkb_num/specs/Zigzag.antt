@@ -1,4 +1,5 @@
--- Signed numbers as unsigned ones, the small ones first (TWKB: zigzag; encoded polyline: the shift and the inversion).
+-- Signed numbers as unsigned ones, the small ones first (TWKB: zigzag; encoded polyline: the shift
+-- and the inversion).
 use Rattle.std.specs.Prelude.{ℕ, ◌+◌, ◌*◌, ◌/◌, ◌%◌, ℤ, pos, negsuc, nat_eq, if◌then◌else◌}
 
 -- the zigzag form: 2n if n is at least 0, and -2n - 1 if it is below (`negsuc n` is -n - 1)

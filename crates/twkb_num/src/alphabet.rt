@@ -1,4 +1,4 @@
-//! An alphabet as a value, for code that reads or writes several units at once in either.
+//! An alphabet as a value, for code that reads or writes several units at once.
 
 use crate::groups::GOES_ON;
 
@@ -7,9 +7,9 @@ use crate::groups::GOES_ON;
 pub(crate) struct Alphabet {
     // The unit of the group 0, if no unit follows.
     pub(crate) base: u8,
-    // How many groups there are; a unit after which more follow is greater by as much.
+    // The number of groups. A unit after which more follow is greater by this number.
     pub(crate) radix: u8,
-    // How far the greatest unit is above `base`.
+    // The difference between the greatest unit and `base`.
     pub(crate) most: u8,
 }
 

@@ -82,13 +82,14 @@ fn sixty_four(bytes: &[u8], alphabet: Alphabet) -> Marks
     }
 }
 
-// Keeps the ends before the first fault: a unit outside the alphabet, or a last group of 0 that
-// pads a number.
+// Keeps the ends before the first fault, which is a unit outside the alphabet or a last group of 0
+// that pads a number.
 #[inline(always)]
 fn before_fault(marks: Marks) -> u64
     ensures { (radix most : ℕ) (units : List ℕ) → AreMarks radix most units marks → AreEndsBefore radix most units result }
 {
-    // the last bit bounds the place of the first fault; the price is the last of the 64 units
+    // bit 63 is set so that there is always a first fault; the last of the 64 units is not looked
+    // at
     let faults = marks.bad | (marks.zeros / 2 & !marks.ends) | 1 << 63;
     marks.ends % (1 << faults.trailing_zeros())
 }

@@ -42,8 +42,9 @@ pub fn four_characters(text: &[u8]) -> Option<Four>
     four_in_front(text, POLYLINES)
 }
 
-/// Like `four_varints`, from the ends that `varint_ends` found, shifted to the start of these
-/// bytes. Shifted by `used` more, they are the ends of the bytes after the four numbers.
+/// Like `four_varints`, with the ends that `varint_ends` found, shifted so that bit 0 is for the
+/// first of these bytes. Shifted by `used` more, they are the ends of the bytes after the four
+/// numbers.
 #[inline(always)]
 pub fn four_varints_by(bytes: &[u8], ends: u64) -> Option<Four>
     requires long { 16 ≤ length bytes.now }
@@ -55,8 +56,9 @@ pub fn four_varints_by(bytes: &[u8], ends: u64) -> Option<Four>
     four_by(bytes, ends, VARINTS)
 }
 
-/// Like `four_characters`, from the ends that `character_ends` found, shifted to the start of
-/// this text. Shifted by `used` more, they are the ends of the text after the four numbers.
+/// Like `four_characters`, with the ends that `character_ends` found, shifted so that bit 0 is for
+/// the first of these characters. Shifted by `used` more, they are the ends of the text after the
+/// four numbers.
 #[inline(always)]
 pub fn four_characters_by(text: &[u8], ends: u64) -> Option<Four>
     requires long { 16 ≤ length text.now }
@@ -112,7 +114,7 @@ fn four_by(bytes: &[u8], ends: u64, alphabet: Alphabet) -> Option<Four>
     })
 }
 
-// Joins the groups of each four bytes to a number: first two by two, then the pairs.
+// Joins the groups of each four bytes into a number: first in pairs, then the pairs.
 #[inline(always)]
 fn joined(units: u8x16, radix: u8) -> u32x4
     requires alphabet { (radix ≡ 128) ⊎ (radix ≡ 32) }

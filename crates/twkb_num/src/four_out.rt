@@ -24,7 +24,7 @@ const EACH_BYTE: u32 = 0x0101_0101;
 // The number eight in each of eight bytes.
 const EIGHTS: u64 = 0x0808_0808_0808_0808;
 
-// Spells four numbers by their shortest varints.
+// Spells four numbers as their shortest varints.
 #[inline(always)]
 pub(crate) fn as_varints(first: u32, second: u32, third: u32, fourth: u32) -> FourUnits
     requires first_small { first < 2 ^ 28 }

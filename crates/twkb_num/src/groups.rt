@@ -27,7 +27,8 @@ pub trait Groups {
         requires { group < 2 ^ BITS }
         ensures { result ≡ unit_of group more };
 
-    /// Reads the group of a unit, and whether more follow; `None` if the byte is not in the alphabet.
+    /// Reads the group of a unit, and whether more follow; `None` if the byte is not in the
+    /// alphabet.
     fn from_unit(unit: u8) -> Option<(u8, bool)>
         ensures { result ≡ group_of unit };
 

@@ -48,8 +48,8 @@ impl<G: Groups> Partial<G> {
         self.len
     }
 
-    /// Takes the next unit, which may be any byte. After any answer but `More` the reader is as
-    /// new. Takes no memory.
+    /// Takes the next unit, which may be any byte. After any answer but `More` the reader holds no
+    /// unit. Takes no memory.
     pub fn step(&mut self, unit: u8) -> Step
         ensures answer { IsAnswer G.unit_of G.group_of (2 ^ G.BITS) G.MAX_LEN self.old unit result }
         ensures held { self.new ≡ held_after self.old unit result }
@@ -80,7 +80,7 @@ impl<G: Groups> Partial<G> {
         Step::Done { value, shortest }
     }
 
-    // Drops the units held, so that the reader is as new.
+    // Drops the units held.
     fn clear(&mut self)
         ensures { self.new ≡ [] }
     {

@@ -11,8 +11,8 @@ pub(crate) struct Two {
     pub(crate) used: u32,
 }
 
-// Finds the first two numbers by a bit for each unit that ends one. `None` if there are fewer
-// than two, or if one has more than four units.
+// Finds the units of the first two numbers, by a bit for each unit that ends a number. `None` if
+// there are fewer than two, or if one has more than four units.
 #[inline(always)]
 pub(crate) fn two_in_front(ends: u64) -> Option<Two>
     ensures { IfSome result (λ two. (marks : List Bool) → ends ≡ mask_l marks → AreTwo marks two.places two.used) }
@@ -29,8 +29,8 @@ pub(crate) fn two_in_front(ends: u64) -> Option<Two>
 }
 
 // Indexed by the end bits of eight units: the places of the units of the first two numbers, low
-// first. A byte of 0x80 or above, which `swizzle_dyn` reads as 0, stands for a unit that the
-// number does not have. The word is odd if two numbers of at most four units do not end there.
+// first. A byte of 0x80 or above, which `swizzle_dyn` reads as 0, stands for a unit that the number
+// does not have. The word is odd if the eight units do not end two numbers of at most four units.
 #[rattlefmt::skip]
 static PLACES: [u64; 256] = [
     0xffff_ffff_ffff_ffff, 0xffff_ffff_ffff_ffff, 0xffff_ffff_ffff_ffff, 0x8181_8101_8080_8000,
@@ -99,7 +99,8 @@ static PLACES: [u64; 256] = [
     0x8383_8303_8002_0100, 0x8181_0201_8080_8000, 0x8282_8202_8080_0100, 0x8181_8101_8080_8000,
 ];
 
-// Indexed by the same bits: how many units these two numbers have, or 0 if two do not end there.
+// Indexed by the end bits of eight units: the number of units of the first two numbers, or 0 if the
+// eight units do not end two numbers of at most four units.
 #[rattlefmt::skip]
 static USED: [u8; 256] = [
     0, 0, 0, 2, 0, 3, 3, 2, 0, 4, 4, 2, 4, 3, 3, 2,

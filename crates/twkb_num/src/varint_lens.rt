@@ -75,7 +75,8 @@ impl VarintLens {
         self.others += 4;
     }
 
-    /// Counts the bytes of the shortest varints of four numbers (TWKB specification; LEB128). Takes no memory.
+    /// Counts the bytes of the shortest varints of four numbers (TWKB specification; LEB128). Takes
+    /// no memory.
     #[inline(always)]
     #[tactic(auto, using(std::proofs::lemmas::Nat::le_or_l, std::proofs::lemmas::Nat::le_or_r))]
     pub fn add_four(&mut self, first: u64, second: u64, third: u64, fourth: u64)

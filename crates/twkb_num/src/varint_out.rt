@@ -70,7 +70,7 @@ impl<const ROOM: usize> Piece<ROOM> {
         self.push(rest as u8);
     }
 
-    /// Appends a number by its shortest varint, at most ten bytes (TWKB specification; LEB128).
+    /// Appends a number as its shortest varint, at most ten bytes (TWKB specification; LEB128).
     /// Takes no memory.
     #[inline(always)]
     pub fn push_varint(&mut self, number: u64)
@@ -87,8 +87,8 @@ impl<const ROOM: usize> Piece<ROOM> {
         }
     }
 
-    /// Appends four numbers by their shortest varints (TWKB specification; LEB128). If all have
-    /// at most four bytes, as in nearly all tracks, there is no branch on their lengths. Takes no
+    /// Appends four numbers as their shortest varints (TWKB specification; LEB128). If all have at
+    /// most four bytes, as in nearly all tracks, there is no branch on their lengths. Takes no
     /// memory.
     #[inline(always)]
     #[tactic(auto, using(std::proofs::lemmas::Nat::le_or_l, std::proofs::lemmas::Nat::le_or_r))]

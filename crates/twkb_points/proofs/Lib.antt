@@ -1,3 +1,4 @@
+-- Lemmas of the crate, by their topic.
 pub mod DifferenceLemmas
 pub mod PointLemmas
 pub mod NearLemmas

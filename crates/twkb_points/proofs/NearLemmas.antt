@@ -1,4 +1,4 @@
--- Short steps from an inner point.
+-- Short steps from an inner point stay near it and in range.
 use Rattle.std.proofs.Common.{ℕ, ◌+◌, ◌≤◌, arith}
 use Rattle.std.specs.Prelude.{ℤ, ◌+ℤ◌}
 use Rattle.std.proofs.lemmas.Int.{ints}
@@ -7,31 +7,31 @@ use Rattle.twkb_points.specs.Near.{IsShortStep, IsNearCoordinate, IsNear}
 
 -- ---- along an axis
 
--- no step leads past more steps
+-- a coordinate near by n steps is near by any larger number of steps
 further : (n m : ℕ) (x : ℤ) → n ≤ m → IsNearCoordinate n x → IsNearCoordinate m x
 further n m x more near = (omega (arith, ints, near.0, more), omega (arith, ints, near.1, more))
 
--- a step leads one step further
+-- one short step makes a coordinate near by one step more
 one_further : (n : ℕ) (x d : ℤ) → IsNearCoordinate n x → IsShortStep d → IsNearCoordinate (n + 1) (x +ℤ d)
 one_further n x d near short = (omega (arith, ints, near.0, short.0), omega (arith, ints, near.1, short.1))
 
--- eight steps stay in range
+-- a coordinate near by eight steps is in range
 in_range : (x : ℤ) → IsNearCoordinate 8 x → IsCoordinate x
 in_range x near = (omega (arith, ints, near.0), omega (arith, ints, near.1))
 
 -- ---- along both
 
--- an inner point is no step away
+-- an inner point is near by 0 steps
 pub near_inner : (p : Point) → IsInner p → IsNear 0 p
 near_inner p inner = inner
 
 pub near_further : (n m : ℕ) (p : Point) → n ≤ m → IsNear n p → IsNear m p
 near_further n m p more near = (further n m p.x more near.0, further n m p.y more near.1)
 
--- a point that is a short step away is near by one step more
+-- one short step makes a point near by one step more
 pub near_moved : (n : ℕ) (p : Point) (dx dy : ℤ) → IsNear n p → IsShortStep dx → IsShortStep dy → IsNear (n + 1) (moved_by p dx dy)
 near_moved n p dx dy near x_short y_short = (one_further n p.x dx near.0 x_short, one_further n p.y dy near.1 y_short)
 
--- and in range
+-- a point near by at most eight steps is in range
 pub near_in_range : (n : ℕ) (p : Point) → n ≤ 8 → IsNear n p → IsInRange p
 near_in_range n p few near = (in_range p.x (further n 8 p.x few near.0), in_range p.y (further n 8 p.y few near.1))

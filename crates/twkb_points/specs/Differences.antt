@@ -20,8 +20,8 @@ points_from p (d ∷ ds) = moved_by p d.0 d.1 ∷ points_from (moved_by p d.0 d.
 abbrev pub points_of : List (ℤ × ℤ) → List Point
 points_of ds = points_from origin ds
 
--- the differences, stated place by place: as many as points, first the first point, and then each
--- point less the one before it
+-- the differences, place by place: there is one for each point, the first is the first point, and
+-- each other is a point less the one before it
 pub record AreDifferences (ps : List Point) (ds : List (ℤ × ℤ)) : Type 0 where
   pub as_many : length ds ≡ length ps
   pub first : (p : Point) → slice_get ps 0 ≡ Some p → slice_get ds 0 ≡ Some (p.x, p.y)

@@ -1,3 +1,4 @@
+-- The definitions of the crate, by their topic.
 pub mod Differences
 pub mod Extent
 pub mod Near

@@ -11,7 +11,8 @@ pub record Point : Type 0 where
 abbrev pub point_at : ℤ → ℤ → Point
 point_at x y = record { x = x; y = y }
 
--- (0, 0), from which the first difference of a list counts (TWKB; Encoded Polyline Algorithm Format)
+-- (0, 0), from which the first difference of a list counts (TWKB; Encoded Polyline Algorithm
+-- Format)
 abbrev pub origin : Point
 origin = point_at (pos 0) (pos 0)
 
@@ -19,7 +20,8 @@ origin = point_at (pos 0) (pos 0)
 abbrev pub moved_by : Point → ℤ → ℤ → Point
 moved_by p dx dy = point_at (p.x +ℤ dx) (p.y +ℤ dy)
 
--- a coordinate is from -2 ^ 62 to 2 ^ 62 - 1, so that the difference of any two fits 64 bits (profile)
+-- a coordinate is from -2 ^ 62 to 2 ^ 62 - 1, so that the difference of any two fits 64 bits
+-- (profile)
 abbrev pub IsCoordinate : ℤ → Type 0
 IsCoordinate n = (negsuc (2 ^ 62 - 1) ≤ℤ n) × (n ≤ℤ pos (2 ^ 62 - 1))
 
@@ -27,8 +29,8 @@ IsCoordinate n = (negsuc (2 ^ 62 - 1) ≤ℤ n) × (n ≤ℤ pos (2 ^ 62 - 1))
 abbrev pub IsInRange : Point → Type 0
 IsInRange p = IsCoordinate p.x × IsCoordinate p.y
 
--- an inner coordinate is from -2 ^ 61 to 2 ^ 61 - 1, so that two short steps stay in the range of
--- a coordinate
+-- an inner coordinate is from -2 ^ 61 to 2 ^ 61 - 1, so that eight short steps from it stay in the
+-- range of a coordinate
 abbrev pub IsInnerCoordinate : ℤ → Type 0
 IsInnerCoordinate n = (negsuc (2 ^ 61 - 1) ≤ℤ n) × (n ≤ℤ pos (2 ^ 61 - 1))
 

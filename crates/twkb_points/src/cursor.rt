@@ -7,8 +7,8 @@ use std::marker::Model;
 
 /// A cursor that moves from point to point. A contract sees the point where it is.
 ///
-/// It turns points into differences (`delta`) and differences into points (`add`), as TWKB and the Encoded Polyline
-/// Algorithm Format chain them.
+/// It turns points into differences (`delta`) and differences into points (`add`), as TWKB and the
+/// Encoded Polyline Algorithm Format chain them.
 #[derive(Clone, Copy, Debug, PartialEq, Eq)]
 pub struct Cursor {
     at: Pt,
@@ -75,7 +75,7 @@ impl Cursor {
         Some(to)
     }
 
-    /// Like `add`, for steps that could be coordinates themselves: no sum passes 64 bits, so one
+    /// Like `add`, for `dx` and `dy` in the range of a coordinate: no sum passes 64 bits, so one
     /// test of the point is enough.
     #[inline(always)]
     pub fn add_near(&mut self, dx: i64, dy: i64) -> Option<Pt>

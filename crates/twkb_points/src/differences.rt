@@ -6,8 +6,8 @@ ghost use Rattle.twkb_points.specs.Differences.{differences, points_of};
 use crate::cursor::Cursor;
 use crate::point::Pt;
 
-/// Writes the first point, and then each point less the one before it, x before y, in the points' unit (TWKB; Encoded
-/// Polyline Algorithm Format). Takes no memory.
+/// Writes the first point, and then each point less the one before it, x before y, in the points'
+/// unit (TWKB; Encoded Polyline Algorithm Format). Takes no memory.
 pub fn to_differences(points: &[Pt], deltas: &mut [(i64, i64)])
     requires { length deltas.old ≡ length points.now }
     ensures { deltas.new ≡ differences points.now }

@@ -74,7 +74,8 @@ impl Pt {
         Pt { x, y }
     }
 
-    /// The point at `dx` and `dy` from this one, if both coordinates stay in range. Takes no memory.
+    /// The point at `dx` and `dy` from this one, if both coordinates stay in range. Takes no
+    /// memory.
     #[inline(always)]
     pub fn step(self, dx: i64, dy: i64) -> Pt
         requires x_in_range { IsCoordinate (self.x +ℤ dx) }
@@ -95,7 +96,8 @@ impl Pt {
         Some(Pt { x, y })
     }
 
-    /// The point that lies `dx` from this one along x, or `None` if that is out of range. Takes no memory.
+    /// The point that lies `dx` from this one along x, or `None` if that is out of range. Takes no
+    /// memory.
     pub fn moved_x(self, dx: i64) -> Option<Pt>
         ensures range { IsSome result ↔ IsCoordinate (self.x +ℤ dx) }
         ensures moved { IfSome result (λ to. to ≡ point_at (self.x +ℤ dx) self.y) }
@@ -105,7 +107,8 @@ impl Pt {
         Some(Pt { x, y })
     }
 
-    /// The point that lies `dy` from this one along y, or `None` if that is out of range. Takes no memory.
+    /// The point that lies `dy` from this one along y, or `None` if that is out of range. Takes no
+    /// memory.
     pub fn moved_y(self, dy: i64) -> Option<Pt>
         ensures range { IsSome result ↔ IsCoordinate (self.y +ℤ dy) }
         ensures moved { IfSome result (λ to. to ≡ point_at self.x (self.y +ℤ dy)) }

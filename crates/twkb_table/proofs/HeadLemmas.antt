@@ -1,4 +1,4 @@
--- The row of a head with the points that it gave.
+-- The row of a record whose points are read after its other fields.
 use Rattle.std.proofs.Common.{◌≡◌, ◌≢◌, ℕ, ◌-◌, ◌<◌, ◌≤◌, ◌==◌, List, [], ◌∷◌, ◌++◌, length, take, Bool, true, false, Option, Some, None, inl, inr, refl, sym, ◌∙◌, ap, subst, arith, length-append}
 use Rattle.std.specs.Prelude.{IfSome, reverse}
 use Rattle.std.proofs.lemmas.List.{take_at}

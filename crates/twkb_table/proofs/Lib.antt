@@ -1,3 +1,4 @@
+-- Lemmas of the crate, by their topic.
 pub mod AcceptedRecords
 pub mod AlikePlaces
 pub mod Complete

@@ -1,4 +1,4 @@
--- How a read of `csv` moves on in a text.
+-- What a read of `csv` says about the place in a text.
 use Rattle.std.proofs.Common.{◌≡◌, ◌∙◌, ℕ, List, [], ◌∷◌, ◌++◌, Option, Some, None, Result, Ok, Err, Bool, true, false, sym, refl, inl}
 use Rattle.std.specs.Prelude.{option_map, is_err, IfErr, IfOk, IfSome}
 use Rattle.std.specs.Borrow.{MutBor}

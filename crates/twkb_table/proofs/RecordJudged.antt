@@ -18,7 +18,7 @@ use Rattle.twkb_table.specs.declared.judging.JudgeFault.{JudgeFault}
 use Rattle.twkb_table.specs.declared.judging.JudgeFault.TheVariants.{Memory}
 use Rattle.twkb_table.specs.declared.judging.JudgeFault.TheVariants as Fault
 use Rattle.twkb_table.specs.declared.reason.RowReason.{RowReason}
-use Rattle.twkb_table.specs.declared.reason.RowReason.TheVariants.{FieldCount, BadDepth, BadKind, BadPlace}
+use Rattle.twkb_table.specs.declared.reason.RowReason.TheVariants.{BadKind, BadPlace}
 use Rattle.twkb_table.proofs.AlikePlaces.{judged_there, steps_missing}
 
 -- a place within the record has a field
@@ -29,15 +29,6 @@ field_there (f ∷ fs) zero o lt e = subst IsSome (sym e) refl
 field_there (f ∷ fs) (suc i) o lt e = field_there fs i o (omega arith) e
 
 -- ---- five fields
-
-pub other_count : (l : Allowance) (before : List Row) (fs : Record) → (length fs ≡ 5 → ⊥) → Judged l before fs (Refused FieldCount)
-other_count l before [] h = refl
-other_count l before (a ∷ []) h = refl
-other_count l before (a ∷ b ∷ []) h = refl
-other_count l before (a ∷ b ∷ c ∷ []) h = refl
-other_count l before (a ∷ b ∷ c ∷ e ∷ []) h = refl
-other_count l before (a ∷ b ∷ c ∷ e ∷ f ∷ []) h = absurd (h refl)
-other_count l before (a ∷ b ∷ c ∷ e ∷ f ∷ g ∷ more) h = refl
 
 -- The fields of a record that has five.
 pub record AreFields (fs : Record) (a b c e f : List ℕ) : Type 0 where
@@ -68,9 +59,6 @@ five_are (v ∷ w ∷ x ∷ y ∷ z ∷ []) a b c e f h =
     ap (λ q. q ∷ w ∷ x ∷ y ∷ z ∷ []) one ∙ ap (λ q. a ∷ q ∷ x ∷ y ∷ z ∷ []) two ∙ ap (λ q. a ∷ b ∷ q ∷ y ∷ z ∷ []) three ∙ ap (λ q. a ∷ b ∷ c ∷ q ∷ z ∷ []) four ∙ ap (λ q. a ∷ b ∷ c ∷ e ∷ q ∷ []) five
 
 -- ---- what each refusal means
-
-pub bad_depth : (l : Allowance) (before : List Row) (a b c e f : List ℕ) → ((d : ℕ) → IsDepthField a d → ⊥) → Judged l before (a ∷ b ∷ c ∷ e ∷ f ∷ []) (Refused BadDepth)
-bad_depth l before a b c e f none = inl (none, refl)
 
 pub bad_kind : (l : Allowance) (before : List Row) (a b c e f : List ℕ) (d : ℕ) → IsDepthField a d → ((k : Kind) → b ≡ word_of k → ⊥) → Judged l before (a ∷ b ∷ c ∷ e ∷ f ∷ []) (Refused BadKind)
 bad_kind l before a b c e f d depth none = inr (d, depth, inl (none, refl))

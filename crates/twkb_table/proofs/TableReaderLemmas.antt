@@ -1,4 +1,4 @@
--- What the calls of a reader of tables return, from what one record shows.
+-- What a reader of tables knows of the records read and the geometries returned.
 use Rattle.std.proofs.Common.{◌≡◌, ℕ, ◌<◌, List, [], ◌∷◌, ◌++◌, length, Option, Some, None, refl, sym, ◌∙◌, ap, subst, arith, append_assoc, append-nil}
 use Rattle.std.specs.Prelude.{reverse, IfSome}
 use Rattle.csv.specs.Reading.{strip_bom, Reached}
@@ -12,10 +12,8 @@ use Rattle.twkb_table.specs.Named.{Named}
 use Rattle.twkb_table.specs.Judged.{Verdict, Judged}
 use Rattle.twkb_table.specs.RowFault.{all_but_last}
 use Rattle.twkb_table.specs.CsvRecords.{BeginWith}
-use Rattle.twkb_table.specs.SourceStanding as Source
 use Rattle.twkb_table.specs.RowReading.{JudgedAfter}
 use Rattle.twkb_table.specs.TableReading.{NameSoFar, Extends, GivesNext, Explains, HasRead, is_ended}
-use Rattle.twkb_table.specs.declared.record_source.RecordSource.{RecordSource}
 use Rattle.twkb_table.specs.declared.table_fault.TableFault.{TableFault}
 use Rattle.twkb_table.specs.declared.table_fault.TableFault.TheVariants as fault
 use Rattle.twkb_table.specs.declared.table_reader.TableReader.{TableReader}
@@ -30,9 +28,6 @@ begins_none (Some text) = (st.StartRecord, strip_bom text, (refl, refl))
 
 pub text_begins : {R : Type 0} (remaining : R → Option (List ℕ)) (told : Option (List ℕ)) (records : List Record) (reader : TableReader R) → HasRead remaining told records reader → IfSome told (λ text. BeginWith text records)
 text_begins remaining told records reader s = standing_begins remaining told records (is_ended reader) reader.reader s
-
-pub source_begins : {R : Type 0} (remaining : R → Option (List ℕ)) (told : Option (List ℕ)) (records : List Record) (source : RecordSource R) → Source.StandsAfter remaining told records source → IfSome told (λ text. BeginWith text records)
-source_begins remaining told records source s = standing_begins remaining told records source.ended source.reader s.0
 
 -- ---- one call after another
 
@@ -66,10 +61,6 @@ pub gives_from : {R : Type 0} (l : Allowance) (remaining : R → Option (List �
 gives_from l remaining told records seen given flat reader x g = record { seen = g.seen; extends = extends_both records seen g.seen x g.extends; begins = g.begins; geometry = g.geometry; valid = g.valid; rows = g.rows; stands = g.stands }
 
 -- ---- records and the geometries that they name
-
-pub no_records : (records : List Record) → length records ≡ 0 → records ≡ []
-no_records [] e = refl
-no_records (r ∷ records) e = absurd (omega (arith, e))
 
 pub never_none : (records : List Record) (here : Record) → records ++ here ∷ [] ≡ [] → ⊥
 never_none [] here e = cc e

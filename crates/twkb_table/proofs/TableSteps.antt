@@ -10,10 +10,6 @@ use Rattle.twkb_table.specs.Record.{Record}
 use Rattle.twkb_table.specs.Named.{Named}
 use Rattle.twkb_table.specs.Judged.{Accepted, Refused, Judged}
 use Rattle.twkb_table.specs.RowFault.{AreComplete, all_but_last}
-use Rattle.std.specs.Borrow.{MutBor}
-use Rattle.csv.specs.Records as Csv
-use Rattle.csv.specs.declared.reader.Reader.{Reader}
-use Rattle.twkb_io.specs.declared.tap.Tap.{Tap}
 use Rattle.twkb_table.specs.CsvRecords.{AreRecordsOf, BeginWith, standing}
 use Rattle.twkb_table.specs.RowReading.{limits_of, waiting, BeginsFirst, JudgedAfter, GoesOn, EndsBefore}
 use Rattle.twkb_table.specs.TableReading.{HaveGiven, StandsAfter, GivesNext, MeetsEnd, IsRefusedAt, HasTooMany, IsReading, BeginsNext, HasRead, IsOver, is_ended, is_spent}
@@ -169,11 +165,6 @@ pub over_meets : {R : Type 0} (l : Allowance) (remaining : R → Option (List �
     → MeetsEnd l remaining told records given reader
 over_meets l remaining told records given reader s over =
     meets_end l remaining told records given reader reader s over.none over.begun s.source over.ended (subst (λ e. standing remaining told records e reader.reader) over.ended s.source) refl refl refl over.none
-
--- a reader whose parts are unchanged
-pub same_parts : {R : Type 0} (old : TableReader R) (reader : Reader (MutBor (Tap R))) (held : Csv.Row) (ended : Bool) (number : ℕ) → reader ≡ old.reader → held ≡ old.held → ended ≡ old.ended → number ≡ old.number
-    → ◌≡◌ {A = TableReader R} (record old { reader = reader; held = held; ended = ended; number = number }) old
-same_parts old reader held ended number a b c d = rw (a, b, c, d) refl
 
 -- a record came, so the end was not reached
 pub going_on : (ended found : Bool) → (ended ≡ true → ◌≡◌ {A = Result Bool TableFault} (Ok found) (Ok false)) → found ≡ true → ended ≡ false

@@ -38,21 +38,21 @@ HasGivenOf remaining (Some text) records reader =
 abbrev pub HasGiven : {R : Type 0} → (R → Option (List ℕ)) → Option (List ℕ) → List Record → Reader (MutBor (Tap R)) → Type 0
 HasGiven remaining told records reader = IsSetUp reader × HasGivenOf remaining told records reader
 
--- These records were given from the text known at the start, and they are all its records if the
+-- The reader gave these records of the text known at the start, and they are all its records if the
 -- end was reached.
 abbrev pub standing : {R : Type 0} → (R → Option (List ℕ)) → Option (List ℕ) → List Record → Bool → Reader (MutBor (Tap R)) → Type 0
 standing remaining told records false reader = HasGiven remaining told records reader
 standing remaining told records true reader = IfSome told (λ text. AreRecordsOf text records)
 
--- wherever the old reader is in a text, the new one is after this one more record, and the text
+-- if the old reader is at some place in a text, the new one is one record further, and the text
 -- begins with the records given
 abbrev pub Advances : {R : Type 0} → (R → Option (List ℕ)) → Bool → Reader (MutBor (Tap R)) → Record → Bool → Reader (MutBor (Tap R)) → Type 0
 Advances remaining ended old here over new =
     (told : Option (List ℕ)) (records : List Record) → standing remaining told records ended old
     → standing remaining told (records ++ here ∷ []) over new × IfSome told (λ text. BeginWith text (records ++ here ∷ []))
 
--- wherever the old reader is in a text, the new one is there too, and the records given are all
--- those of the text
+-- if the old reader is at some place in a text, the new one is there too, and the records given are
+-- all those of the text
 abbrev pub Finishes : {R : Type 0} → (R → Option (List ℕ)) → Bool → Reader (MutBor (Tap R)) → Bool → Reader (MutBor (Tap R)) → Type 0
 Finishes remaining ended old over new =
     (told : Option (List ℕ)) (records : List Record) → standing remaining told records ended old

@@ -21,17 +21,17 @@ pub data Verdict : Type 0 where
   Accepted : Row → Verdict
   Refused : RowReason → Verdict
 
--- the verdict is this reason if P holds; otherwise it is as the others say
+-- the verdict is this reason if P holds; if not, the other reasons decide
 abbrev pub When : Verdict → Type 0 → RowReason → Type 0 → Type 0
 When v P reason Others = (P × (v ≡ Refused reason)) ⊎ ((P → ⊥) × Others)
 
--- the verdict is this reason if no value has P; otherwise it is as the others say of the value
--- that has P
+-- the verdict is this reason if P holds of no value; if it holds of one, the other reasons decide,
+-- given that value
 abbrev pub Unless : {A : Type 0} → Verdict → (A → Type 0) → RowReason → (A → Type 0) → Type 0
 Unless {A} v P reason Others = (((a : A) → P a → ⊥) × (v ≡ Refused reason)) ⊎ ((a : A) × P a × Others a)
 
--- the verdict is the text's fault with its place; if it has none, it is as the others say of the
--- points that it decodes to
+-- the verdict is the fault of the text, with its offset; if the text has no fault, the other
+-- reasons decide, given the points that it decodes to
 abbrev pub UnlessFaulty : List ℕ → ℕ → Verdict → (List Point → Type 0) → Type 0
 UnlessFaulty text most v Others =
     ((offset : ℕ) × (why : PolyReason) × IsTextFault text most offset why × (v ≡ Refused (Polyline offset why)))
@@ -70,7 +70,8 @@ JudgedByPoints l here k id precision text v =
     When v (points_fit k (is_whole here.parent) ps ≡ false) PointCount
     (v ≡ Accepted (record { depth = here.depth; kind = k; id = id; precision = precision; points = ps }))))
 
--- the reasons BadPrecision, PrecisionMissing and PrecisionNotAllowed, followed by those of the points
+-- the reasons BadPrecision, PrecisionMissing and PrecisionNotAllowed, followed by those of the
+-- points
 abbrev pub JudgedByPrecision : Allowance → Place → Kind → Option ℤ → List ℕ → List ℕ → Verdict → Type 0
 JudgedByPrecision l here k id precision_field text v =
     Unless v (IsOptionalPrecision precision_field) BadPrecision (λ precision.

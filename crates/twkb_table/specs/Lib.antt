@@ -1,3 +1,4 @@
+-- The definitions of the crate, by their topic.
 pub mod CsvRecords
 pub mod Fields
 pub mod FiveFields

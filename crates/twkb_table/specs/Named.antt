@@ -15,6 +15,7 @@ pub record Named (l : Allowance) (records : List Record) (gs : List Tree) : Type
 abbrev pub NamesNone : Allowance → List Record → Type 0
 NamesNone l records = (gs : List Tree) → Named l records gs → ⊥
 
--- the records with this one name geometries, whose rows are those of the records and this row
+-- with one more record the records name geometries, whose rows are those of the earlier records and
+-- this row
 abbrev pub NameMore : Allowance → List Record → Record → List Tree → Row → Type 0
 NameMore l records here gs row = (hs : List Tree) × Named l (records ++ here ∷ []) hs × (rows_of hs ≡ rows_of gs ++ row ∷ [])

@@ -10,7 +10,7 @@ use Rattle.twkb_table.specs.declared.judging.JudgeFault.TheVariants.{Memory, Ref
 use Rattle.twkb_table.specs.declared.table_fault.TableFault.{TableFault}
 use Rattle.twkb_table.specs.declared.table_fault.TableFault.TheVariants as fault
 
--- wherever the reader is in a text, the text has one more record than it gave
+-- if the reader is at some place in a text, the text has one more record
 abbrev pub HasMore : {R : Type 0} → (R → Option (List ℕ)) → Bool → Reader (MutBor (Tap R)) → Type 0
 HasMore remaining ended reader =
     (told : Option (List ℕ)) (records : List Record) → standing remaining told records ended reader
@@ -21,7 +21,8 @@ abbrev pub MissesRecord : {R : Type 0} → (R → Option (List ℕ)) → Bool �
 MissesRecord remaining ended reader number f =
     (f ≡ fault.Source) ⊎ ((f ≡ fault.TooManyRecords) × (number + 1 ≡ 2 ^ 32) × HasMore remaining ended reader)
 
--- want of memory, or the reason with this number
+-- the fault of the record with this number: memory was refused, or the record was refused for a
+-- reason
 abbrev pub fault_of : ℕ → JudgeFault → TableFault
 fault_of number Memory = fault.Memory
 fault_of number (Refused reason) = fault.At number reason

@@ -24,22 +24,22 @@ is_ended source = source.ended
 abbrev pub is_spent : {R : Type 0} → RecordSource R → Bool
 is_spent source = source.spent
 
--- wherever the old source is in a text, the new one gave one more record, and the text begins
--- with the records given
+-- if the old source is at some place in a text, the new one gave one more record, and the text
+-- begins with the records given
 abbrev pub GivesRecord : {R : Type 0} → (R → Option (List ℕ)) → RecordSource R → RecordSource R → Type 0
 GivesRecord remaining old new =
     (told : Option (List ℕ)) (records : List Record) → StandsAfter remaining told records old
     → StandsAfter remaining told (records ++ fields_of (record_in new) ∷ []) new
     × IfSome told (λ text. BeginWith text (records ++ fields_of (record_in new) ∷ []))
 
--- wherever the old source is in a text, the new one is there too, and the records given are all
--- those of the text
+-- if the old source is at some place in a text, the new one is there too, and the records given are
+-- all those of the text
 abbrev pub Ends : {R : Type 0} → (R → Option (List ℕ)) → RecordSource R → RecordSource R → Type 0
 Ends remaining old new =
     (told : Option (List ℕ)) (records : List Record) → StandsAfter remaining told records old
     → StandsAfter remaining told records new × IfSome told (λ text. AreRecordsOf text records)
 
--- wherever the source is in a text, the fault is its reader's, and the text begins with the
+-- if the source is at some place in a text, the fault is its reader's, and the text begins with the
 -- records given
 abbrev pub Faults : {R : Type 0} → (R → Option (List ℕ)) → RecordSource R → SourceFault → Type 0
 Faults remaining old f =

@@ -27,7 +27,7 @@ pub record StandsAfter (before : List Row) (rows : List OpenRow) (nodes points :
   pub node_count : nodes ≡ length (since_root before)
   pub points_held : points ≡ point_count (since_root before)
 
--- a refusal is for a reason that holds; want of memory says nothing about the record
+-- a refusal is for a reason that holds; a lack of memory says nothing about the record
 abbrev pub IfRefused : (RowReason → Type 0) → JudgeFault → Type 0
 IfRefused Holds Memory = ⊤
 IfRefused Holds (Refused reason) = Holds reason

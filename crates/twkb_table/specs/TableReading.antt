@@ -108,7 +108,7 @@ pub record HasTooMany (l : Allowance) (told : Option (List ℕ)) (records : List
   pub named : Named l before geometries
   pub complete : given ≡ all_but_last geometries
 
--- what a fault says about a text of which these records were read and these geometries returned
+-- what a fault says about a text, given the records read of it and the geometries returned
 abbrev pub Explains : Allowance → Option (List ℕ) → List Record → List Tree → TableFault → Type 0
 Explains l told records given (fault.At number reason) = IsRefusedAt l told records given number reason
 Explains l told records given fault.TooManyRecords = HasTooMany l told records given
@@ -137,7 +137,7 @@ GivesGeometry remaining old geometry new = Wherever remaining old (λ l told rec
 abbrev pub Ends : {R : Type 0} → (R → Option (List ℕ)) → TableReader R → TableReader R → Type 0
 Ends remaining old new = Wherever remaining old (λ l told records given. MeetsEnd l remaining told records given new)
 
--- the text has what the fault says
+-- the fault is true of the text
 abbrev pub Faults : {R : Type 0} → (R → Option (List ℕ)) → TableReader R → TableFault → Type 0
 Faults remaining old f = Wherever remaining old (λ l told records given. Explains l told records given f)
 
@@ -207,7 +207,7 @@ WhereverReading remaining old so_far Holds =
 abbrev pub Completes : {R : Type 0} → (R → Option (List ℕ)) → TableReader R → List Row → List Row → TableReader R → Type 0
 Completes remaining old so_far flat new = WhereverReading remaining old so_far (λ l told records given. GivesNext l remaining told records given flat new)
 
--- the text has what the fault says about a geometry that was being read
+-- the fault is true of the text, if a geometry was being read
 abbrev pub FaultsIn : {R : Type 0} → (R → Option (List ℕ)) → TableReader R → List Row → TableFault → Type 0
 FaultsIn remaining old so_far f = WhereverReading remaining old so_far (λ l told records given. Explains l told records given f)
 

@@ -77,7 +77,8 @@ fn read_number(field: &[u8]) -> Option<i64>
     read_decimal(field)
 }
 
-// Reads an id from its canonical decimal, by std's reader and printer. Out of line: few fields need it.
+// Reads an id from its canonical decimal, by std's reader and printer. Out of line: few fields need
+// it.
 #[inline(never)]
 fn read_decimal(field: &[u8]) -> Option<i64>
     ensures reads { Reads (IsIdField field.now) result }

@@ -27,7 +27,7 @@ fn field(row: &ByteRecord, place: usize) -> &[u8]
     row.get(place).unwrap()
 }
 
-// The fields of a record of five.
+// The fields of a record that has five.
 #[inline(always)]
 pub(crate) fn five_fields(row: &ByteRecord) -> Fields<'_>
     requires { length (fields_of row.now) ≡ 5 }

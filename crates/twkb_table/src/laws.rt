@@ -1,4 +1,5 @@
-//! Laws of tables: which geometries records name, when they are refused, and how their text is read.
+//! Laws of tables: which geometries records name, when they are refused, and how their text is
+//! read.
 ghost use Rattle.std.specs.Prelude.{◌≡◌, ◌≢◌, ◌↔◌, ◌≤◌, ◌⊎◌, ◌++◌, ◌∷◌, [], ℕ, List, reverse};
 ghost use Rattle.csv.specs.Reading.{AreRecords, default_config, strip_bom};
 ghost use Rattle.csv.specs.declared.parser.State.TheVariants.{StartRecord};
@@ -65,7 +66,8 @@ pub fn faults()
     ensures one { (l : Allowance) (records : List Record) (m n : ℕ) (why reason : RowReason) → IsAllowance l → RowFault l records m why → RowFault l records n reason → (m ≡ n) × (why ≡ reason) }
 {}
 
-/// A fault leaves one list of geometries complete, and none if it is at one of the first two records.
+/// A fault leaves one list of geometries complete, and none if it is at one of the first two
+/// records.
 pub fn complete()
     ensures some { (l : Allowance) (records : List Record) (number : ℕ) (reason : RowReason) → RowFault l records number reason → (gs : List Tree) × AreComplete l records number reason gs }
     ensures one { (l : Allowance) (records : List Record) (m n : ℕ) (why reason : RowReason) (gs hs : List Tree) → IsAllowance l → AreComplete l records m why gs → AreComplete l records n reason hs → gs ≡ hs }

@@ -32,7 +32,8 @@ impl Model for OpenRows {
     ghost invariant = { λ rows. rows.levels ≤ length rows.places.items };
 }
 
-// Opens a row of this kind at this depth, and notes at its parent a child with an id or without.
+// Opens a row of this kind at this depth, and records at its parent that it has a child, with an id
+// or without.
 #[inline(always)]
 fn write(places: &mut [OpenRow], depth: usize, kind: Kind, has_id: bool)
     requires { depth < length places.old }
@@ -48,7 +49,7 @@ fn write(places: &mut [OpenRow], depth: usize, kind: Kind, has_id: bool)
     }
 }
 
-// Opens a row if there is no such place yet, or if the places are on the heap.
+// Opens a row if its depth has no place yet, or if the places are on the heap.
 #[cold]
 #[inline(never)]
 fn write_apart(
@@ -90,9 +91,9 @@ impl OpenRows {
         &self.places.as_slice()[..self.levels]
     }
 
-    // Opens a row that was read: the open rows at its depth and below are complete, its parent
-    // notes a child, and the row is the last one. Takes memory if more rows are open than ever
-    // before, and more than sixteen; an `Err` changes nothing.
+    // Opens a row that was read: rows at its depth and below are complete, its parent gets a child,
+    // and it becomes the last open row. Takes memory if more rows are open than ever before, and
+    // more than sixteen; an `Err` changes nothing.
     #[inline(always)]
     pub(crate) fn open_row(&mut self, row: &Row) -> Result<(), AllocError>
         requires { row.now.depth ≤ length self.old }

@@ -1,4 +1,4 @@
-//! What a row's place allows.
+//! The kind, the id and the precision that a row's place allows.
 ghost use Rattle.std.specs.Prelude.{OnOk, IfOk, IfErr};
 ghost use Rattle.twkb_table.specs.Places.{HasPlace, LacksPlace, HasId, LacksId, HasPrecision, LacksPrecision};
 ghost use Rattle.twkb_table.specs.Standing.{place_seen};
@@ -26,7 +26,7 @@ pub(crate) fn check_place(limits: &Limits, standing: &Standing, kind: Kind) -> R
     Ok(())
 }
 
-// Reads the id of a row of this kind at this place, or returns the reason why it may not have it.
+// Reads the id of a row of this kind at this place, or returns the reason to refuse it.
 #[inline(always)]
 pub(crate) fn read_id(
     standing: &Standing,
@@ -49,7 +49,7 @@ pub(crate) fn read_id(
     Ok(id)
 }
 
-// Reads the precision of a row at this place, or returns the reason why it may not have it.
+// Reads the precision of a row at this place, or returns the reason to refuse it.
 #[inline(always)]
 pub(crate) fn read_precision(standing: &Standing, field: &[u8]) -> Result<Option<i8>, RowReason>
     ensures read { IfOk result (λ precision. HasPrecision (place_seen standing.now) field.now precision) }

@@ -37,7 +37,8 @@ pub enum RowReason {
     PrecisionNotAllowed,
     /// A row of a kind without points has a polyline.
     PolylineNotAllowed,
-    /// The polyline is refused at this byte of it, counted from 0 (Encoded Polyline Algorithm Format).
+    /// The polyline is refused at this byte of it, counted from 0 (Encoded Polyline Algorithm
+    /// Format).
     #[error("polyline at {0}: {1}")]
     Polyline(usize, PolyReason),
     /// A point of a multipoint does not have exactly one point, or another point has more than one.

@@ -65,7 +65,7 @@ impl RecordWriter {
     }
 }
 
-// Writes one record. It can only fail for want of memory for the text, since each record has five
+// Writes one record. It fails only if memory for the text is refused, since each record has five
 // fields.
 fn write_record(writer: &mut Writer<Vec<u8>>, fields: &Fields<'_>) -> Result<(), AllocError>
     requires ready { IsReady writer.old }

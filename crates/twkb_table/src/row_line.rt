@@ -15,8 +15,8 @@ use twkb_points::Pt;
 use twkb_polyline::{encode_into, encode_point};
 
 // Appends the line of a row with its points, or a prefix of it if memory is refused. The fields
-// before the points are gathered first and appended together, with one test for memory; the line
-// of a row of one point is gathered whole.
+// before the points are gathered first and appended together, with one test for memory; so is the
+// complete line of a row of one point.
 pub(crate) fn put_row(row: &Row, points: &[Pt], text: &mut Vec<u8>) -> Result<(), AllocError>
     ensures appended { OnOk result (text.new.items ≡ text.old.items ++ row_lines (row_with row.now points.now ∷ [])) }
     ensures grown { Grows text.old.items text.new.items }

@@ -17,15 +17,16 @@ use twkb_flat::{Flat, PointSource, Row};
 use twkb_points::Pt;
 use twkb_tree::{Kind, Limits};
 
-// A root that waits. Each root is at depth 0 and has no id.
+// The root of the next geometry, kept until the geometry before it is returned. A root is at depth
+// 0 and has no id.
 #[derive(Clone, Copy)]
 pub(crate) struct Root {
     kind: Kind,
     precision: Option<i8>,
 }
 
-// The state of reading a table's rows: the open rows of the geometry that is read, and the root
-// of the next geometry while it waits, with its points in a buffer that all roots share.
+// The state of a reader of rows: the open rows of the geometry that it reads, and the root of the
+// next geometry while that waits, with its points in a buffer that all roots share.
 #[derive(Drop)]
 pub(crate) struct RowReader {
     limits: Limits,
@@ -66,7 +67,7 @@ impl RowReader {
         ensures limits { limits_of self.new ≡ limits_of self.old }
         ensures sound { IsAllowance (limits_of self.old) }
     {
-        // gives proofs the fact that the limits are allowed
+        // lets proofs know that the limits are allowed
         let _learnt = self.limits.nest();
         self.waiting = None;
         match judge(&self.limits, &[], 0, 0, here, &mut self.points) {
@@ -90,7 +91,7 @@ impl RowReader {
         ensures keeps { OnOk result (Keeps self.new flat.new) }
         ensures limits { limits_of self.new ≡ limits_of self.old }
     {
-        // gives proofs the fact that the limits are allowed
+        // lets proofs know that the limits are allowed
         let _learnt = self.limits.nest();
         let Some(root) = self.waiting else {
             unreachable!()
@@ -122,7 +123,7 @@ impl RowReader {
         ensures limits { limits_of self.new ≡ limits_of self.old }
         ensures sound { IsAllowance (limits_of self.old) }
     {
-        // gives proofs the fact that the limits are allowed
+        // lets proofs know that the limits are allowed
         let _learnt = self.limits.nest();
         self.waiting = None;
         let head = match self.judge_next(here, flat) {

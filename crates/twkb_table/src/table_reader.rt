@@ -265,7 +265,7 @@ impl<'a, R: Read> TableReader<'a, R> {
         ensures fresh { IfErr result (λ fault. fault ≢ TableFault.Spent) }
         ensures same { is_spent self.new ≡ is_spent self.old }
     {
-        // gives proofs the fact that the number is a u32
+        // lets proofs know that the number is a u32
         let _learnt = self.number;
         for _ in 0..RECORD_CAP {
             match self.read_row(flat) {

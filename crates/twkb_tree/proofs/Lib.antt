@@ -1,3 +1,4 @@
+-- Lemmas of the crate, by their topic.
 pub mod AllJoined
 pub mod Copied
 pub mod ExtentSteps

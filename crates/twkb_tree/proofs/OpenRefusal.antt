@@ -45,10 +45,6 @@ pub no_open_parent : (os : List OpenRow) → open_parent zero os ≡ None
 no_open_parent [] = refl
 no_open_parent (o ∷ os) = refl
 
--- a row made from an open row has its kind
-kind_by-row_of : (o : OpenRow) → kind_by (row_of (Some o)) ≡ Some o.kind
-kind_by-row_of o = refl
-
 -- a first child made from an open row has an id as recorded
 pub ids_by-child_by : (b : Option Bool) → ids_by (child_by b) ≡ b
 ids_by-child_by None = refl

@@ -23,8 +23,3 @@ nodes_kept l (r ∷ before) a = let few = a.0.nodes in omega (arith, few, nodes_
 pub points_kept : (l : Allowance) (before : List Row) → AreAccepted l before → point_count (since_root before) ≤ l.points
 points_kept l [] a = omega arith
 points_kept l (r ∷ before) a = let few = a.0.points in omega (arith, few, points_after r.depth r before refl)
-
--- the points so far are within the limits for a row at a depth; for a root there are none
-pub points_kept_at : (l : Allowance) (d : ℕ) (before : List Row) → AreAccepted l before → point_count (geometry_rows d before) ≤ l.points
-points_kept_at l zero before a = omega arith
-points_kept_at l (suc d) before a = points_kept l before a

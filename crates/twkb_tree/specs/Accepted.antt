@@ -41,7 +41,7 @@ pub record Accepts (l : Allowance) (before : List Row) (r : Row) : Type 0 where
   pub in_range : AreInRange r.points
   pub points : point_count (geometry_rows r.depth before) + length r.points ≤ l.points
 
--- each row, last one first, may come after those before it
+-- each row may come after those before it; the rows are given last one first
 abbrev pub AreAccepted : Allowance → List Row → Type 0
 AreAccepted l [] = ⊤
 AreAccepted l (r ∷ before) = Accepts l before r × AreAccepted l before

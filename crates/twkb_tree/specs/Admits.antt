@@ -12,12 +12,12 @@ abbrev pub last_at : ℕ → List Row → Option Row
 last_at d [] = None
 last_at d (r ∷ before) = if r.depth == d then Some r else last_at d before
 
--- the first of the two that is there
+-- the first option if it has a row, otherwise the second
 abbrev pub or_else : Option Row → Option Row → Option Row
 or_else None other = other
 or_else (Some r) other = Some r
 
--- the first row below the last row at a depth, one deeper
+-- the first row one level deeper after the last row at a depth
 abbrev pub first_below : ℕ → List Row → Option Row
 first_below d [] = None
 first_below d (r ∷ before) =
@@ -28,7 +28,7 @@ abbrev pub parent : ℕ → List Row → Option Row
 parent zero before = None
 parent (suc d) before = last_at d before
 
--- the first child of the same parent
+-- the first child of the parent of a row at this depth
 abbrev pub first_child : ℕ → List Row → Option Row
 first_child zero before = None
 first_child (suc d) before = first_below d before
@@ -100,7 +100,8 @@ abbrev pub id_allowed : Option Row → Kind → Option ℤ → Bool
 id_allowed None k id = is_none id
 id_allowed (Some p) k id = not (is_ring k) || is_none id
 
--- each child has an id or none has one, like the first child
+-- the row has an id exactly if the first child has one; if there is no first child, both are
+-- allowed
 abbrev pub has_same_ids : Option Row → Option ℤ → Bool
 has_same_ids None id = true
 has_same_ids (Some f) id = if is_some f.id then is_some id else is_none id
@@ -128,7 +129,7 @@ points_fit kind.Linestring whole (p ∷ ps) = true
 points_fit kind.Ring whole (p ∷ ps) = true
 points_fit k whole (p ∷ ps) = false
 
--- the row is what it must be under this parent, after this first child
+-- the row fits under this parent, whose first child is given if there is one
 abbrev pub fits : Option Row → Option Row → Row → Bool
 fits p f r =
     has_place p r.kind && id_in_range r.id && id_allowed p r.kind r.id && has_same_ids f r.id

@@ -1,3 +1,4 @@
+-- The definitions of the crate, by their topic.
 pub mod Accepted
 pub mod Admits
 pub mod Equal

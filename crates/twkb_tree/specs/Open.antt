@@ -1,4 +1,5 @@
--- The open rows: what a reader keeps of the rows so far, the root first, and the test of a row by them.
+-- The open rows: what a reader keeps of the rows so far, the root first, and the test of a row by
+-- them.
 use Rattle.std.specs.Prelude.{◌≡◌, ℕ, zero, suc, pos, List, [], ◌∷◌, length, Option, Some, None, Bool, true, false, ◌&&◌, ◌==◌, is_some, is_none, nat_le, nat_lt, ⊤}
 use Rattle.twkb_tree.specs.declared.kind.Kind.{Kind}
 use Rattle.twkb_tree.specs.declared.open_rows.OpenRow.{OpenRow}
@@ -12,7 +13,8 @@ abbrev pub ids_by : Option Row → Option Bool
 ids_by None = None
 ids_by (Some f) = Some (is_some f.id)
 
--- the open row keeps this of the last row at a depth: its kind, and whether its first child has an id
+-- the open row holds the kind of the last row at a depth, and whether that row's first child has an
+-- id
 abbrev pub IsOpenAt : ℕ → List Row → OpenRow → Type 0
 IsOpenAt d before o = (r : Row) × (last_at d before ≡ Some r) × (o.kind ≡ r.kind) × (o.child_ids ≡ ids_by (first_below d before))
 
@@ -31,7 +33,7 @@ pub record AreOpen (before : List Row) (os : List OpenRow) : Type 0 where
   pub each : AreOpenFrom 0 before os
   pub all : length os ≡ open_count before
 
--- the first answer is kept
+-- the first answer, if there is one; otherwise the new one
 abbrev pub first_answer : Option Bool → Bool → Option Bool
 first_answer None b = Some b
 first_answer (Some a) b = Some a
@@ -53,18 +55,18 @@ open_parent zero (o ∷ os) = None
 open_parent (suc zero) (o ∷ os) = Some o
 open_parent (suc (suc d)) (o ∷ os) = open_parent (suc d) os
 
--- a row of the open row's kind, standing for it in the tests
+-- a row of the open row's kind, for tests that look at nothing but its kind
 abbrev pub row_of : Option OpenRow → Option Row
 row_of None = None
 row_of (Some o) = Some (record { depth = 0; kind = o.kind; id = None; precision = None; points = [] })
 
--- a first child with an id or without, standing for it in the tests
+-- a row with an id or without, for tests that look at nothing but its id
 abbrev pub child_by : Option Bool → Option Row
 child_by None = None
 child_by (Some true) = Some (record { depth = 0; kind = Kind.Point; id = Some (pos 0); precision = None; points = [] })
 child_by (Some false) = Some (record { depth = 0; kind = Kind.Point; id = None; precision = None; points = [] })
 
--- a first child of an open row that may be missing
+-- the first child of an open row, if there is such a row
 abbrev pub child_of : Option OpenRow → Option Row
 child_of None = None
 child_of (Some o) = child_by o.child_ids

@@ -38,7 +38,7 @@ pub record Check : Type 0 where
 abbrev pub check : Bool → Refusal → Check
 check holds otherwise = record { holds = holds; otherwise = otherwise }
 
--- the tests of a row's id under this parent and beside this first child
+-- the tests of a row's id under this parent, given the parent's first child
 abbrev pub id_checks : Option Row → Option Row → Row → List Check
 id_checks p f r = check (id_in_range r.id) BadId ∷ check (id_allowed p r.kind r.id) IdNotAllowed ∷ check (has_same_ids f r.id) MixedIds ∷ []
 

@@ -1,4 +1,4 @@
--- The size that falls in a recursion over a geometry.
+-- A size of geometries that gets smaller with each step of a recursion.
 use Rattle.std.specs.Prelude.{◌≡◌, ℕ, zero, suc, ◌+◌, ◌*◌, ◌<◌, ◌≤◌, List, [], ◌∷◌, length, get_or}
 use Rattle.std.proofs.Common.{arith}
 use denote.Param.Weighed.{most}
@@ -8,7 +8,7 @@ use Rattle.twkb_tree.specs.Tree.{Tree, nodes, nodes_all, trees}
 abbrev pub size_of : Tree → ℕ
 size_of g = 2 * nodes g
 
--- the size of all members together
+-- the total size of some members
 abbrev pub size_of_members : List Tree → ℕ
 size_of_members gs = 2 * nodes_all (trees gs) + 1
 

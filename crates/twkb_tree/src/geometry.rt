@@ -21,7 +21,8 @@ pub struct Members {
     pub(crate) items: Vec<Geometry>,
 }
 
-/// One of the seven shapes (TWKB, the geometry types), with the ids of its members if they have any.
+/// One of the seven shapes (TWKB, the geometry types), with the ids of its members if they have
+/// any.
 #[cycle(geometry)]
 #[derive(Debug, Drop)]
 pub enum Shape {
@@ -105,7 +106,7 @@ impl Members {
         ensures { result ≡ items.items }
     {
         for member in &items {
-            // gives proofs the fact that the member is a tree with its points in range
+            // lets proofs know that the member is a tree with its points in range
             let _learnt = member.precision();
         }
         Members { items }
@@ -144,8 +145,8 @@ fn ids_fit(count: usize, ids: &Ids) -> bool
 impl Shape {
     ghost use Rattle.twkb_tree.specs.Shape.{HasFitIds, HasTrees, IsShapeInRange};
 
-    // Whether the ids of its members fit. On the way it gives proofs the facts about its members
-    // and points.
+    // Whether the ids of its members fit. On the way it lets proofs know the facts about its
+    // members and points.
     fn has_fit_ids(&self) -> bool
         ensures fit { IsTrue result ↔ HasFitIds self.now }
         ensures trees { HasTrees self.now }
@@ -154,17 +155,17 @@ impl Shape {
         match self {
             Shape::Point(None) => true,
             Shape::Point(Some(point)) => {
-                // gives proofs the fact that the point is in range
+                // lets proofs know that the point is in range
                 let _learnt = point.x();
                 true
             }
             Shape::Line(points) => {
-                // gives proofs the fact that its points are in range
+                // lets proofs know that its points are in range
                 let _learnt = points.as_slice();
                 true
             }
             Shape::Polygon(rings) => {
-                // gives proofs the fact that its points are in range
+                // lets proofs know that its points are in range
                 let _learnt = rings.as_slice();
                 true
             }

@@ -25,8 +25,9 @@ pub fn one_reading()
     ensures one { (g h : Tree) → IsTree g → IsTree h → rows 0 g ≡ rows 0 h → g ≡ h }
 {}
 
-/// If one geometry's rows begin with all rows of another and more follow, the next one is no root.
-/// If the next row is a root, or there is none, the rows so far are a complete geometry.
+/// A geometry's rows continue below its root: if the rows of one geometry begin with all rows of
+/// another, the next row is no root. If the next row is a root, or there is none, the rows so far
+/// are those of a complete geometry.
 pub fn ends()
     ensures below { (g h : Tree) (r : Row) (more : List Row) → IsTree g → IsTree h → rows 0 g ++ r ∷ more ≡ rows 0 h → 0 < r.depth }
     ensures whole { (g : Tree) (more : List Row) (hs : List Tree) → IsTree g → AreGeometries hs → IsAtRoot more → rows 0 g ++ more ≡ rows_of hs → (rest : List Tree) × (hs ≡ g ∷ rest) × (rows_of rest ≡ more) }
@@ -40,7 +41,8 @@ pub fn fronts()
     ensures one { (l : Allowance) (front more : List Row) → AreValidRowsOfOne l (front ++ more) → AreValidRowsOfOne l front }
 {}
 
-/// No row of a valid geometry is more than two levels below the deepest member that the limits allow.
+/// No row of a valid geometry is more than two levels below the deepest member that the limits
+/// allow.
 pub fn depths()
     ensures { (l : Allowance) (rs : List Row) → AreValidRows l rs → AreShallow (l.nest + 2) rs }
 {}

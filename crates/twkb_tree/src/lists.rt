@@ -17,7 +17,7 @@ pub trait Item: Drop {
     // The fact that is known of each item.
     ghost Fits: { Self → Type 0 };
 
-    /// Gives a proof the fact that the item fits. Does nothing at run time.
+    /// Lets a proof know that the item fits. Does nothing at run time.
     fn look(&self, look: Look)
         ensures { Fits self.now };
 
@@ -34,7 +34,7 @@ impl Item for Pt {
     ghost Fits = { IsInRange };
 
     fn look(&self, _look: Look) {
-        // gives proofs the fact that the point is in range
+        // lets proofs know that the point is in range
         let _learnt = self.x();
     }
 
@@ -51,7 +51,7 @@ impl Item for i64 {
     ghost Fits = { IsId };
 
     fn look(&self, _look: Look) {
-        // gives proofs the fact that the id is in range, by its type
+        // lets proofs know that the id is in range, by its type
         let _learnt = *self;
     }
 
@@ -87,7 +87,7 @@ impl<T: Item> Items<T> {
         ensures { result ≡ items.items }
     {
         for item in &items {
-            // gives proofs the fact that the item fits
+            // lets proofs know that the item fits
             let _learnt = item.look(Look);
         }
         Items { items }
@@ -113,7 +113,7 @@ impl<T: Item> Item for Items<T> {
     ghost Fits = { AllByRecursion T.Fits };
 
     fn look(&self, _look: Look) {
-        // gives proofs the fact that each of its items fits
+        // lets proofs know that each of its items fits
         let _learnt = self.as_slice();
     }
 

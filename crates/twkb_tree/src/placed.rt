@@ -7,7 +7,7 @@ ghost use Rattle.twkb_tree.specs.Tree.{flatten, saturated};
 use crate::lists::{Areas, Lines, Pts};
 use twkb_points::{Bounds, merged};
 
-// Has points, in an order.
+// A value that has points, in order.
 pub(crate) trait Placed {
     // Its points, in order.
     ghost points_of: { Self → List Point };

@@ -23,7 +23,8 @@ pub fn may_have(parent: Kind, child: Kind) -> bool
     }
 }
 
-/// Whether a row of this kind may come under this parent, which is `None` for a root. Takes no memory.
+/// Whether a row of this kind may come under this parent, which is `None` for a root. Takes no
+/// memory.
 pub fn has_place(parent: Option<OpenRow>, kind: Kind) -> bool
     ensures value { result ≡ has_place (row_of parent) kind }
 {
@@ -44,7 +45,8 @@ pub fn is_whole(parent: Option<OpenRow>) -> bool
     }
 }
 
-/// Whether a row at this depth is inside no more collections than the limits allow. Takes no memory.
+/// Whether a row at this depth is inside no more collections than the limits allow. Takes no
+/// memory.
 pub fn nest_kept(limits: &Limits, parent: Option<OpenRow>, depth: u32) -> bool
     ensures value { result ≡ nest_kept limits.now (row_of parent) depth }
 {

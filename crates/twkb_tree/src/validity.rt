@@ -37,7 +37,7 @@ impl Geometry {
     pub fn within(&self, limits: &Limits) -> bool
         ensures { IsTrue result ↔ IsValid limits.now self.now }
     {
-        // gives proofs the fact that it is a tree with its points in range
+        // lets proofs know that it is a tree with its points in range
         let _learnt = self.precision();
         if self.nest() > u64::from(limits.nest()) {
             return false;

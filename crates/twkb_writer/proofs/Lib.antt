@@ -1,3 +1,4 @@
+-- Lemmas of the crate, by their topic.
 pub mod BelowLemmas
 pub mod DepthLemmas
 pub mod HeaderLemmas

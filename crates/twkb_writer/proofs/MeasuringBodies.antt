@@ -32,7 +32,8 @@ places_len (OfCount c n ∷ ps) = number_len n + places_len ps
 places_len (OfId id ∷ ps) = signed_len id + places_len ps
 places_len (OfPoint p ∷ ps) = places_len ps
 
--- the bytes of places are those of their counts and ids, and of the differences through their points
+-- the bytes of places are those of their counts and ids, and of the differences through their
+-- points
 pub length-steps : (p : Point) (ps : List Place) → length (varints (steps p ps)) ≡ places_len ps + way_len p (places ps)
 length-steps p [] = refl
 length-steps p (OfCount c n ∷ ps) = omega (arith, length-append (varint_of n) (varints (steps p ps)), length-number n, length-steps p ps)

@@ -39,7 +39,7 @@ IsBounded style rs = (k : ℕ) → load (level style k rs) + costs (suc k) rs �
 pub bounded_none : (style : Style) → IsBounded style []
 bounded_none style k = omega arith
 
--- the bound with one more row in front, if it adds at most its cost
+-- the bound with one more row before the others, if the row adds at most its cost
 pub bounded_step : (style : Style) (r : Row) (rs : List Row) → IsBounded style rs
     → load (row_level style r.kind (length r.points) r.id r.precision (level style (suc r.depth) rs) (tail_of (r.points ++ points_ahead rs)) (level style r.depth rs))
     ≤ load (level style (suc r.depth) rs) + load (level style r.depth rs) + cost_of r.precision (20 * length (r.points ++ points_ahead rs))

@@ -74,8 +74,8 @@ blob_length Plain g =
 
 -- ---- the entry
 
--- a row of this kind, with this many points, these rows below it and these points up to its end,
--- is that of the geometry
+-- the row of a geometry: its kind, the number of its points, and the totals of the rows below it
+-- and of the points up to its end
 pub record IsMeasured (style : Style) (g : Tree) (k : Kind) (own : ℕ) (below : Level) (t : Tail) : Type 0 where
   pub point : is_point k ≡ is_point_tree g
   pub members : below.members ≡ part_count g

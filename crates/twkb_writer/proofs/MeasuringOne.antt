@@ -1,8 +1,8 @@
 -- The sizes of a flat form of one node, measured without a pass.
-use Rattle.std.proofs.Common.{◌≡◌, ℕ, ◌+◌, ◌<◌, ◌≤◌, ◌^◌, false, List, [], ◌∷◌, ◌++◌, length, drop, Option, None, Some, refl, sym, ◌∙◌, ap, subst, arith, append-nil}
+use Rattle.std.proofs.Common.{◌≡◌, ℕ, ◌+◌, ◌<◌, ◌≤◌, ◌^◌, List, [], ◌∷◌, ◌++◌, length, drop, Option, None, Some, refl, sym, ◌∙◌, ap, subst, arith, append-nil}
 use Rattle.std.specs.Prelude.{ℤ, slice_get}
 use Rattle.std.proofs.lemmas.List.{drop_all}
-use Rattle.twkb_points.specs.Point.{Point, origin}
+use Rattle.twkb_points.specs.Point.{Point}
 use Rattle.twkb_tree.specs.declared.kind.Kind.TheVariants as kind
 use Rattle.twkb_tree.specs.Limits.{largest_limits}
 use Rattle.twkb_tree.specs.Tree.{Tree, simple, collection, saturated}
@@ -12,7 +12,6 @@ use Rattle.twkb_flat.specs.declared.node.Node.{Node}
 use Rattle.twkb_flat.specs.declared.work.Work.{Work}
 use Rattle.twkb_flat.specs.Rows.{IsNode, row_with}
 use Rattle.twkb_grammar.specs.declared.style.Style.{Style}
-use Rattle.twkb_grammar.specs.declared.style.Style.TheVariants.{Full, Plain}
 use Rattle.twkb_writer.specs.declared.levels.Level.{Level}
 use Rattle.twkb_writer.specs.declared.sizes.Entry.{Entry}
 use Rattle.twkb_writer.specs.declared.tails.Tail.{Tail}
@@ -20,7 +19,7 @@ use Rattle.twkb_writer.specs.Levels.{blank, entry_for}
 use Rattle.twkb_writer.specs.Measuring.{measured, row_entry, points_at, option_list}
 use Rattle.twkb_writer.specs.Reads.{ReadsExactly}
 use Rattle.twkb_writer.specs.Sizes.{AreSizes}
-use Rattle.twkb_writer.specs.Tails.{step_len, tail_of}
+use Rattle.twkb_writer.specs.Tails.{tail_of}
 use Rattle.twkb_writer.proofs.MeasuringPass.{sizes_are}
 use Rattle.twkb_writer.proofs.MeasuringPoints.{own_at, read_back}
 use Rattle.twkb_writer.proofs.ReadLemmas.{exactly_none, exactly_node, exactly_point}
@@ -97,12 +96,6 @@ sizes_of_one style rs node p below points e valid one is whole no_rows points_ar
     (ap (λ (x : Entry). x ∷ []) entry
     ∙ ap (λ (q : Option ℤ). option_list (row_entry style node.row.kind node.points q blank (tail_of is.own))) (sym whole)
     ∙ sym (measured_one style rs node is one))
-
--- the entry of a point
-pub point_entry_is : (style : Style) (p : ℤ) (q : Point) (size : ℕ) → size ≡ step_len origin q
-    → record { size = size; bounds = None; members = 0; named = false } ≡ entry_for style kind.Point p 1 blank (tail_of (q ∷ []))
-point_entry_is Full p q size e = let whole : size ≡ 0 + (0 + 0 + (step_len origin q + 0)) = omega (arith, e) in ap (λ (n : ℕ). record { size = n; bounds = None; members = 0; named = false }) whole
-point_entry_is Plain p q size e = let whole : size ≡ 0 + (0 + 0 + (step_len origin q + 0)) = omega (arith, e) in ap (λ (n : ℕ). record { size = n; bounds = None; members = 0; named = false }) whole
 
 -- the entry of a point is all sizes if it is the only node
 pub sizes_of_point : (style : Style) (rs : List Row) (node : Node) (p : ℤ) (q : Point) (e : Entry) → AreValidRowsOfOne largest_limits rs → length rs ≡ 1 → IsNode rs 0 node

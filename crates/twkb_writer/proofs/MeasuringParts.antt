@@ -14,7 +14,7 @@ use Rattle.twkb_writer.specs.Measuring.{level, points_ahead, measured}
 use Rattle.twkb_writer.proofs.LevelLemmas.{level_at, level_none, level_past}
 use Rattle.twkb_writer.proofs.BelowLemmas.{deep-rings}
 
--- rows at a depth with each of these parts before them
+-- the totals after each of these parts is added before the rows
 abbrev pub with_each : {A : Type 0} → (Option ℤ → A → Level → Level) → Ids → List A → Level → Level
 with_each w ids [] l = l
 with_each w ids (x ∷ xs) l = w (first_id ids) x (with_each w (other_ids ids) xs l)

@@ -29,7 +29,7 @@ above_more : (j k : ℕ) (rs : List Row) → j ≤ k → IsAbove j rs → IsAbov
 above_more j k [] le h = tt
 above_more j k (r ∷ rs) le h = omega arith
 
--- the array after one more row in front
+-- the array after one more row before the others
 pub stands_step : (style : Style) (levels : List Level) (r : Row) (rs : List Row) (own : Level) → length levels ≡ 36 → r.depth < 35 → IsAbove (r.depth + 2) rs
     → own ≡ row_level style r.kind (length r.points) r.id r.precision (level style (suc r.depth) rs) (tail_of (r.points ++ points_ahead rs)) (level style r.depth rs)
     → Stands style levels rs → Stands style (set_row levels r.depth own) (r ∷ rs)
@@ -60,7 +60,7 @@ stands_step style levels r rs own whole deep child is stands k small =
           ]
     ]
 
--- the points up to the end of their geometry, after one more row in front
+-- the points up to the end of their geometry, after one more row before the others
 tail_by : (p : Option ℤ) (ps : List Point) → tail_after p (tail_of ps) ≡ tail_of (ahead_of p ps)
 tail_by None ps = refl
 tail_by (Some p) ps = refl
@@ -88,7 +88,7 @@ pub record Pass (style : Style) (rs : List Row) (levels : List Level) (tail : Ta
   pub tail_small : tail.bytes ≤ 20 * length (points_ahead rs)
   pub kept : es ≡ reverse (measured style rs)
 
--- what it adds with a row: the points, the rows at its depth, and its entry
+-- what a pass adds with one more row: its points, the totals at its depth, and its entry
 pub record TakesIn (style : Style) (r : Row) (n : ℕ) (rs : List Row) (levels : List Level) (tail points : Tail) (own : Level) (e : Option Entry) : Type 0 where
   pub deep : r.depth < 35
   pub child : IsAbove (r.depth + 2) rs
@@ -99,7 +99,7 @@ pub record TakesIn (style : Style) (r : Row) (n : ℕ) (rs : List Row) (levels :
   pub own_small : load own ≤ load (get_or levels (r.depth + 1) blank) + load (get_or levels r.depth blank) + cost_of r.precision points.bytes
   pub entry_is : e ≡ row_entry style r.kind n r.precision (get_or levels (r.depth + 1) blank) points
 
--- the pass after one more row in front
+-- the pass after one more row before the others
 pub pass_cons : (style : Style) (r : Row) (n : ℕ) (rs : List Row) (levels : List Level) (tail points : Tail) (own : Level) (e : Option Entry) (es : List Entry)
     → Pass style rs levels tail es → TakesIn style r n rs levels tail points own e
     → Pass style (r ∷ rs) (set_row levels r.depth own) (tail_after r.precision points) (es ++ option_list e)

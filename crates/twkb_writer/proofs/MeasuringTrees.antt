@@ -32,7 +32,7 @@ use Rattle.twkb_writer.proofs.MeasuringBodies.{length-number, length-fields, fro
 use Rattle.twkb_writer.proofs.MeasuringEntries.{IsMeasured, entry_is, blob_length}
 use Rattle.twkb_writer.proofs.PrecisionLemmas.{precisions_of, precisions_of_all, all_are-uniform}
 
--- rows at a depth with a geometry before them
+-- the totals after a geometry is added before the rows
 abbrev pub with_tree : Style → Option ℤ → Tree → Level → Level
 with_tree style id g l = record {
   members = l.members + 1;

@@ -1,4 +1,4 @@
--- The precisions of geometries, as far as a box needs them.
+-- The precisions of several geometries, which decide whether there is a box.
 use Rattle.std.proofs.Common.{◌≡◌, ℤ, pos, negsuc, Bool, true, false, refl, sym, ◌∙◌, ap}
 use Rattle.std.specs.Prelude.{◌&&◌, if◌then◌else◌}
 use Rattle.std.proofs.lemmas.Bool.{eqb-true, eq-eqb}

@@ -1,4 +1,4 @@
--- From one row to the next.
+-- One step of the writer, from one row to the next.
 use Rattle.std.proofs.Common.{◌≡◌, ◌∙◌, ℕ, ◌+◌, ◌≤◌, ◌<◌, ◌^◌, [], get_or, Some, None, Option, List, ◌∷◌, ◌++◌, length, take, drop, sym, ap, append_assoc, arith}
 use Rattle.std.specs.Prelude.{ℤ}
 use Rattle.std.proofs.lemmas.List.{length-append, take-append-drop, drop-drop, drop_at, take_at, drop_more}

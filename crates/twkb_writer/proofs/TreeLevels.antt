@@ -48,10 +48,6 @@ each_back w ids xs k x l new some within read behind is =
     ∙ ap (w (first_id (ids_from (k - 1) ids)) x) (behind ∙ ap (λ js. with_each w js (drop k xs) blank) (sym (other_before k ids some)))
     ∙ ap (λ ys. with_each w (ids_from (k - 1) ids) ys blank) (sym (from_before xs k x some within read))
 
--- from the end on there are no parts
-pub each_none : {A : Type 0} (w : Option ℤ → A → Level → Level) (ids : Ids) (xs : List A) (k : ℕ) (l : Level) → length xs ≤ k → l ≡ blank → l ≡ with_each w (ids_from k ids) (drop k xs) blank
-each_none w ids xs k l past none = none ∙ ap (λ ys. with_each w (ids_from k ids) ys blank) (sym (drop_all k xs past))
-
 -- from the start on there are all parts
 pub each_all : {A : Type 0} (w : Option ℤ → A → Level → Level) (ids : Ids) (xs : List A) (k : ℕ) (l : Level) → k ≤ 0 → l ≡ with_each w (ids_from k ids) (drop k xs) blank → l ≡ with_each w ids xs blank
 each_all w ids xs k l start is =

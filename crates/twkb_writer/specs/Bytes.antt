@@ -1,4 +1,4 @@
--- The bytes that rows in preorder stand for, given what was measured of their geometries.
+-- The bytes of rows in preorder, given the measured sizes of their geometries.
 use Rattle.std.specs.Prelude.{ℕ, zero, suc, ◌+◌, Bool, true, false, if◌then◌else◌, nat_le, nat_eq, not, ◌&&◌, is_some, List, [], ◌∷◌, ◌++◌, length, drop, flat_map, ℤ, Option, None, Some}
 use Rattle.twkb_num.specs.Zigzag.{zigzag_of}
 use Rattle.twkb_num.specs.Varint.{varint_of}
@@ -25,11 +25,11 @@ signed n = varint_of (zigzag_of n)
 abbrev pub step_bytes : ℤ × ℤ → List ℕ
 step_bytes d = signed d.0 ++ signed d.1
 
--- the differences from a place through some points (TWKB, point arrays)
+-- the bytes of the differences from a point through some others (TWKB, point arrays)
 abbrev pub way_bytes : Point → List Point → List ℕ
 way_bytes at ps = flat_map step_bytes (differences_from at ps)
 
--- the last of the points, or the place if there are none
+-- the last of the points, or the first point given if there are none
 abbrev pub way_end : Point → List Point → Point
 way_end at [] = at
 way_end at (p ∷ ps) = way_end p ps
@@ -42,17 +42,17 @@ abbrev pub members_below : ℕ → List Row → List Row
 members_below d [] = []
 members_below d (r ∷ rs) = if nat_le r.depth d then [] else if nat_eq r.depth (suc d) then r ∷ members_below d rs else members_below d rs
 
--- an id, if there is one
+-- the bytes of an id; none if there is no id
 abbrev pub id_bytes : Option ℤ → List ℕ
 id_bytes None = []
 id_bytes (Some n) = signed n
 
--- the ids of rows
+-- the bytes of the ids of rows
 abbrev pub ids_bytes : List Row → List ℕ
 ids_bytes rs = flat_map (λ (r : Row). id_bytes r.id) rs
 
--- what comes before the points of a row: npoints of a linestring or ring, or the count and the
--- ids of members (TWKB, description of types)
+-- the bytes of the counts before the points of a row: npoints of a linestring or ring, or the count
+-- and the ids of members (TWKB, description of types)
 abbrev pub counts_bytes : Kind → ℕ → ℕ → List ℕ → List ℕ
 counts_bytes kind.Point own members ids = []
 counts_bytes kind.Linestring own members ids = varint_of own
@@ -93,40 +93,40 @@ flags_of style own e = record {
 abbrev pub metadata_of : Style → ℕ → Entry → ℕ
 metadata_of style own e = metadata_number (flags_of style own e)
 
--- the size, which a full blob has
+-- the bytes of the size, which only a full blob has
 abbrev pub size_bytes : Style → Entry → List ℕ
 size_bytes Full e = varint_of e.size
 size_bytes Plain e = []
 
--- the four numbers of the box (TWKB, bounding box)
+-- the bytes of the four numbers of the box (TWKB, bounding box)
 abbrev pub box_bytes : Option Extent → List ℕ
 box_bytes None = []
 box_bytes (Some b) = flat_map signed (box_numbers b)
 
--- type byte, metadata byte, size and box
+-- the bytes of a geometry's header: type byte, metadata byte, size and box
 abbrev pub header : Style → Kind → ℤ → ℕ → Entry → List ℕ
 header style k p own e = type_byte k p ∷ metadata_of style own e ∷ (size_bytes style e ++ box_bytes e.bounds)
 
 -- ---- rows
 
--- what comes before the points of a row that is a geometry itself, with its kind and depth, the
+-- the bytes before the points of a row that is a geometry itself, given its kind, its depth, the
 -- number of its points and the rows after it
 abbrev pub geometry_lead : Style → ℤ → Entry → Kind → ℕ → ℕ → List Row → List ℕ
 geometry_lead style p e k d own rs =
     header style k p own e ++ (if is_bare own e then [] else counts_bytes k own e.members (if e.named then ids_bytes (members_below d rs) else []))
 
--- what comes before the points of a part of a geometry: a ring, or a member of a multi type
+-- the bytes before the points of a part of a geometry: a ring, or a member of a multi type
 abbrev pub part_lead : Kind → ℕ → ℕ → List Row → List ℕ
 part_lead k d own rs = counts_bytes k own (length (members_below d rs)) []
 
--- what comes before the points of any row; it is a geometry itself if it has a precision
+-- the bytes before the points of any row; a row with a precision is a geometry itself
 abbrev pub lead : Style → Option ℤ → List Entry → Kind → ℕ → ℕ → List Row → List ℕ
 lead style None es k d own rs = part_lead k d own rs
 lead style (Some p) [] k d own rs = []
 lead style (Some p) (e ∷ es) k d own rs = geometry_lead style p e k d own rs
 
--- the place from which the points of a row count: the origin for a geometry itself, and for a
--- part the point before it (profile)
+-- the point from which the first difference of a row counts: the origin for a geometry itself, the
+-- point before it for a part (profile)
 abbrev pub way_start : Option ℤ → Point → Point
 way_start None at = at
 way_start (Some p) at = origin

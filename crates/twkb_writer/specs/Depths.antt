@@ -3,7 +3,7 @@ use Rattle.std.specs.Prelude.{ℕ, ◌≡◌, ◌<◌, ◌≤◌, List, length, 
 use Rattle.twkb_writer.specs.declared.levels.Level.{Level}
 use Rattle.twkb_writer.specs.Levels.{blank}
 
--- there is one level for each of 36 depths, and from a depth on there are no rows
+-- there are levels for 36 depths, and those from depth `used` on have no rows
 pub record IsBlankFrom (used : ℕ) (levels : List Level) : Type 0 where
   pub size : length levels ≡ 36
   pub within : used ≤ 36

@@ -1,4 +1,4 @@
--- The bytes that a refused geometry leaves in a sink.
+-- The bytes that a sink took of a geometry that was not written to its end.
 use Rattle.std.specs.Prelude.{◌≡◌, ℕ, List}
 use Rattle.twkb_io.specs.Sinks.{TookFront}
 use Rattle.twkb_writer.specs.declared.encoding.EncodeFault.{EncodeFault}

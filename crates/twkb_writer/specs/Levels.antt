@@ -1,4 +1,4 @@
--- The totals of the rows at one depth with all rows below them, and the entry of the geometry
+-- The totals of the rows at one depth and of all rows below them, and what they add to the geometry
 -- above them.
 use Rattle.std.specs.Prelude.{ℕ, ◌+◌, ◌≤◌, ◌^◌, ℤ, ◌-ℤ◌, Bool, true, false, not, ◌&&◌, ◌||◌, if◌then◌else◌, nat_eq, is_some, Option, None, Some}
 use Rattle.twkb_points.specs.Extent.{Extent, joined_options}
@@ -27,7 +27,8 @@ abbrev pub box_len : Option Extent → ℕ
 box_len None = 0
 box_len (Some e) = signed_len e.least.x + signed_len (e.greatest.x -ℤ e.least.x) + signed_len e.least.y + signed_len (e.greatest.y -ℤ e.least.y)
 
--- the number of bytes of a count, and of the ids if members are counted (TWKB, description of types)
+-- the number of bytes of a row's count, and of the ids if it counts members (TWKB, description of
+-- types)
 abbrev pub lead_len : Kind → ℕ → Level → ℕ
 lead_len kind.Point own below = 0
 lead_len kind.Linestring own below = number_len own
@@ -55,13 +56,13 @@ abbrev pub is_point : Kind → Bool
 is_point kind.Point = true
 is_point _ = false
 
--- the extent for the geometry's box, if it has one
+-- the extent of the geometry's box, if it has one
 abbrev pub box_for : Style → Kind → ℤ → Level → Tail → Option Extent
 box_for Full k p below t = if not (is_point k) && all_are p below.precisions then all_bounds below t else None
 box_for Plain k p below t = None
 
--- the entry of a geometry with this many points in its row, these rows below it, and these points
--- up to its end
+-- the entry of a geometry: its own row has `own` points, `below` totals the rows under it, and `t`
+-- totals its points, except those of collection members
 abbrev pub entry_for : Style → Kind → ℤ → ℕ → Level → Tail → Entry
 entry_for style k p own below t = record {
   size = box_len (box_for style k p below t) + body_len k own below t;
@@ -70,13 +71,13 @@ entry_for style k p own below t = record {
   named = below.named;
 }
 
--- the length of a blob with this many bytes of box and body: two bytes more, and the size if it
--- has one (TWKB, structure)
+-- the length of a blob whose box and body have this many bytes: two bytes more, and the size if
+-- there is one (TWKB, structure)
 abbrev pub blob_len : Style → ℕ → ℕ
 blob_len Full size = 2 + number_len size + size
 blob_len Plain size = 2 + size
 
--- the rows at a depth with a part of a geometry before them
+-- the totals after a part of a geometry is added before the rows
 abbrev pub with_part : Kind → ℕ → Option ℤ → Level → Level → Level
 with_part k own id below l = record {
   members = l.members + 1;
@@ -87,7 +88,7 @@ with_part k own id below l = record {
   precisions = l.precisions;
 }
 
--- the rows at a depth with a geometry before them whose box and body have this many bytes
+-- the totals after a geometry is added before the rows; its box and body have this many bytes
 abbrev pub with_geometry : Style → ℕ → ℤ → Option ℤ → Level → Tail → Level → Level
 with_geometry style size p id below t l = record {
   members = l.members + 1;
@@ -98,7 +99,7 @@ with_geometry style size p id below t l = record {
   precisions = agreed (agreed (One p) below.precisions) l.precisions;
 }
 
--- all totals are far below the greatest numbers
+-- all totals are so small that their sums fit 64 bits
 pub record IsSmall (l : Level) : Type 0 where
   pub members : l.members ≤ 2 ^ 20
   pub ids : l.ids ≤ 2 ^ 40

@@ -1,3 +1,4 @@
+-- The definitions of the crate, by their topic.
 pub mod Bytes
 pub mod Depths
 pub mod Encoding

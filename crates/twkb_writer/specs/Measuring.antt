@@ -1,4 +1,4 @@
--- The totals of rows from a place on, as a pass from the last row to the first finds them.
+-- The totals of rows, found in one pass from the last row to the first.
 use Rattle.std.specs.Prelude.{◌≡◌, ℕ, suc, ◌+◌, ◌≤◌, ℤ, nat_lt, nat_eq, if◌then◌else◌, List, [], ◌∷◌, ◌++◌, length, slice_index_or, slice_set, Option, None, Some}
 use Rattle.twkb_points.specs.Point.{Point}
 use Rattle.twkb_tree.specs.declared.kind.Kind.{Kind}
@@ -13,7 +13,7 @@ use Rattle.twkb_writer.specs.declared.tails.Tail.{Tail}
 use Rattle.twkb_writer.specs.Levels.{blank, entry_for, with_part, with_geometry}
 use Rattle.twkb_writer.specs.Tails.{tail_of}
 
--- the points of a row and of those after it, up to the next geometry
+-- the points up to the next geometry, if the row is a part; none if it is a geometry itself
 abbrev pub ahead_of : Option ℤ → List Point → List Point
 ahead_of None ps = ps
 ahead_of (Some p) ps = []
@@ -23,19 +23,19 @@ abbrev pub points_ahead : List Row → List Point
 points_ahead [] = []
 points_ahead (r ∷ rs) = ahead_of r.precision (r.points ++ points_ahead rs)
 
--- the rows at a depth with one more row before them, with this many points, these rows below it
--- and these points up to the end of its geometry
+-- the totals after one more row is added before the rows: it has `own` points, `below` totals the
+-- rows under it, and `t` totals the points up to the end of its geometry
 abbrev pub row_level : Style → Kind → ℕ → Option ℤ → Option ℤ → Level → Tail → Level → Level
 row_level style k own id None below t l = with_part k own id below l
 row_level style k own id (Some p) below t l = with_geometry style (entry_for style k p own below t).size p id below t l
 
--- the entry of such a row, if it is a geometry itself
+-- the entry of the row, if it is a geometry itself
 abbrev pub row_entry : Style → Kind → ℕ → Option ℤ → Level → Tail → Option Entry
 row_entry style k own None below t = None
 row_entry style k own (Some p) below t = Some (entry_for style k p own below t)
 
--- for a row at depth d and the rows after it, at depth k: nothing if the row is above, the row
--- with the others if it is at k, the others if it is deeper
+-- the totals at depth k of a row at depth d and the rows after it: none if the row is above k,
+-- `own` if it is at k, those of the rows after it if it is below k
 abbrev pub chosen : ℕ → ℕ → Level → Level → Level
 chosen d k own others = if nat_lt d k then blank else if nat_eq d k then own else others
 
@@ -47,8 +47,7 @@ level style k (r ∷ rs) =
     (row_level style r.kind (length r.points) r.id r.precision (level style (suc k) rs) (tail_of (r.points ++ points_ahead rs)) (level style k rs))
     (level style k rs)
 
--- the points up to the end of their geometry, as the row before sees them: none if this row
--- begins a geometry
+-- the totals of points that the row before this one adds to: none if this row begins a geometry
 abbrev pub tail_after : Option ℤ → Tail → Tail
 tail_after None t = t
 tail_after (Some p) t = tail_of []
@@ -57,8 +56,8 @@ tail_after (Some p) t = tail_of []
 abbrev pub load : Level → ℕ
 load l = l.ids + l.bytes
 
--- the most bytes that such a row adds to those of the rows below and after it, with this many
--- bytes of points up to its end
+-- the most bytes that a row adds to those of the rows below and after it, if the points up to the
+-- end of its geometry have this many bytes
 abbrev pub cost_of : Option ℤ → ℕ → ℕ
 cost_of None points = 100
 cost_of (Some p) points = 100 + points
@@ -80,8 +79,8 @@ abbrev pub points_at : List Row → List Point
 points_at [] = []
 points_at (r ∷ rs) = r.points
 
--- The totals at each depth after a row was added, with the points up to the end of its geometry,
--- and the row's entry.
+-- One row is added: the totals at each depth after it, and its entry, given the points up to the
+-- end of its geometry.
 pub record TakenRow (style : Style) (node : Node) (points : Tail) (old new : List Level) (entry : Option Entry) : Type 0 where
   pub own : Level
   pub own_is : own ≡ row_level style node.row.kind node.points node.row.id node.row.precision

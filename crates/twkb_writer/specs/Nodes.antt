@@ -1,4 +1,4 @@
--- What comes before the points of a node among the rows of a flat form.
+-- The bytes before the points of a node of a flat form.
 use Rattle.std.specs.Prelude.{ℕ, ◌+◌, Bool, if◌then◌else◌, List, [], ◌++◌, take, drop, ℤ}
 use Rattle.twkb_num.specs.Varint.{varint_of}
 use Rattle.twkb_points.specs.Point.{Point, origin}
@@ -35,7 +35,7 @@ counts_of members rows at = counts_bytes at.node.row.kind at.node.points members
 abbrev pub header_of : Style → ℤ → Entry → Node → List ℕ
 header_of style p e node = header style node.row.kind p node.points e
 
--- what comes after the header of a node that is a geometry itself: nothing if it has no body
+-- the bytes between the header of a geometry and its points: none if it has no body
 abbrev pub own_of : Entry → List Row → Placed → List ℕ
 own_of e rows at = if is_bare at.node.points e then [] else counts_of (record { count = e.members; named = e.named }) rows at
 
@@ -43,7 +43,7 @@ own_of e rows at = if is_bare at.node.points e then [] else counts_of (record { 
 abbrev pub part_of : List Row → Placed → List ℕ
 part_of rows at = part_lead at.node.row.kind at.node.row.depth at.node.points (rows_after rows at)
 
--- what comes before the node's points, given the entries from this index on
+-- the bytes before the node's points, given the entries from this index on
 abbrev pub lead_of : Job → ℕ → Placed → List ℕ
 lead_of job entry at =
     lead job.style at.node.row.precision (drop entry job.sizes.now) at.node.row.kind at.node.row.depth at.node.points (rows_after job.flat.now at)

@@ -1,4 +1,4 @@
--- The numbers of a geometry that are measured before its canonical blob is written.
+-- The numbers of a geometry that its canonical blob needs before its body.
 use Rattle.std.specs.Prelude.{◌≡◌, ℕ, if◌then◌else◌, is_some, List, [], ◌∷◌, ◌++◌, length, Option, None}
 use Rattle.twkb_points.specs.Extent.{Extent, extent}
 use Rattle.twkb_tree.specs.Tree.{Simple, point, line, polygon, multi_point, multi_line, multi_polygon, Tree, simple, collection, Trees, end, ◌▷◌, Ids, IsTree, count, flat}

@@ -19,7 +19,7 @@ signed_len n = number_len (zigzag_of n)
 abbrev pub step_len : Point → Point → ℕ
 step_len a b = signed_len (b.x -ℤ a.x) + signed_len (b.y -ℤ a.y)
 
--- the number of bytes of the differences from a place through some points
+-- the number of bytes of the differences from a point through some others
 abbrev pub way_len : Point → List Point → ℕ
 way_len at [] = 0
 way_len at (p ∷ ps) = step_len at p + way_len p ps
@@ -34,7 +34,7 @@ abbrev pub first_of : List Point → Option Point
 first_of [] = None
 first_of (p ∷ ps) = Some p
 
--- the totals of some points, if they are the last of their geometry
+-- the totals of the last points of a geometry
 abbrev pub tail_of : List Point → Tail
 tail_of ps = record { first = first_of ps; bytes = inner_len ps; bounds = extent ps }
 
@@ -42,6 +42,6 @@ tail_of ps = record { first = first_of ps; bytes = inner_len ps; bounds = extent
 abbrev pub from_origin : Tail → ℕ
 from_origin t = elim t.first [ None ↦ 0 | Some p ↦ step_len origin p + t.bytes ]
 
--- the totals of at least one point as those of any number
+-- the totals of at least one point, as totals of any number of points
 abbrev pub tail_from : NonEmptyTail → Tail
 tail_from t = record { first = Some t.first; bytes = t.bytes; bounds = Some t.bounds }

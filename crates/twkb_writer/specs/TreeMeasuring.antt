@@ -13,16 +13,16 @@ abbrev pub way_of : Tree → List Point
 way_of (simple p s) = points_in s
 way_of (collection p ids gs) = []
 
--- the totals of the rows below its own
+-- the totals of the rows below a geometry's own row
 abbrev pub level_under : Tree → Level
 level_under g = level Full 0 (rows_under 0 g)
 
--- rows at a depth with the geometry before them
+-- the totals after the geometry is added before the rows at its depth
 abbrev pub tree_level : Option ℤ → Tree → Level → Level
 tree_level id g others =
     row_level Full (own_row id 0 g).kind (length (own_row id 0 g).points) id (Some (precision_of g)) (level_under g) (tail_of (way_of g)) others
 
--- the most bytes for this many rows and points
+-- a bound on the bytes of this many rows and points
 abbrev pub most_of : ℕ → ℕ → ℕ
 most_of rows points = 100 * rows + 20 * points
 

@@ -81,7 +81,7 @@ pub(crate) fn measure_one(
     ensures sizes { OnOk result (AreSizes style flat.now entries.new.items) }
     ensures reads { ReadsExactly work.old 1 (length (row_points flat.now)) work.new }
 {
-    // gives proofs the fact that the rows are valid
+    // lets proofs know that the rows are valid
     let _learnt = flat.node_count();
     look_at_reads(work);
     let node = flat.node(NodeId(0), work);

@@ -13,8 +13,8 @@ use twkb_points::{Cursor, Pt};
 // The most bytes of the four numbers of two points.
 const STEP: usize = 40;
 
-// A sink, the piece in which bytes are gathered on their way to it, and the fault with which it
-// refused some. After a fault, bytes that are put are lost.
+// A sink with a piece that gathers bytes on their way to it, and the fault of the first put that
+// the sink refused. Bytes that are put after a fault are lost.
 #[derive(Drop)]
 pub(crate) struct Gatherer<'a, 'b, 'c, S, F> {
     pub(crate) sink: &'a mut S,
@@ -35,7 +35,8 @@ fn step_to(cursor: &mut Cursor, to: Pt) -> (u64, u64)
 impl<'a, 'b, 'c, S: Sink> Gatherer<'a, 'b, 'c, S, S::Fault> {
     ghost use Rattle.twkb_writer.specs.Putting.{Put};
 
-    // Sends the bytes of the piece to the sink, unless it refused some before, and empties the piece.
+    // Sends the bytes of the piece to the sink, unless the sink has refused a put, and empties the
+    // piece.
     #[inline(always)]
     pub(crate) fn flush(&mut self)
         ensures put { Put S.took S.refused self.old [] self.new }
@@ -65,7 +66,8 @@ impl<'a, 'b, 'c, S: Sink> Gatherer<'a, 'b, 'c, S, S::Fault> {
         self.empty();
     }
 
-    // Sends the bytes of the piece and empties it. Out of line: it is needed once for each full piece.
+    // Sends the bytes of the piece and empties it. Out of line: it is needed once for each full
+    // piece.
     #[inline(never)]
     fn empty(&mut self)
         ensures put { Put S.took S.refused self.old [] self.new }
@@ -84,7 +86,7 @@ impl<'a, 'b, 'c, S: Sink> Gatherer<'a, 'b, 'c, S, S::Fault> {
         self.piece.push(second);
     }
 
-    // Puts a number by its shortest varint.
+    // Puts a number as its shortest varint.
     #[inline(always)]
     pub(crate) fn put_number(&mut self, number: u64)
         ensures { Put S.took S.refused self.old (varint_of number) self.new }
@@ -93,7 +95,7 @@ impl<'a, 'b, 'c, S: Sink> Gatherer<'a, 'b, 'c, S, S::Fault> {
         self.piece.push_varint(number);
     }
 
-    // Puts a signed number by its zigzag form.
+    // Puts a signed number in its zigzag form.
     #[inline(always)]
     fn put_signed(&mut self, number: i64)
         ensures { Put S.took S.refused self.old (signed number) self.new }
@@ -112,7 +114,7 @@ impl<'a, 'b, 'c, S: Sink> Gatherer<'a, 'b, 'c, S, S::Fault> {
         }
     }
 
-    // Puts signed numbers by their zigzag forms.
+    // Puts signed numbers in their zigzag forms.
     pub(crate) fn put_all(&mut self, numbers: &[i64])
         ensures { Put S.took S.refused self.old (flat_map signed numbers.now) self.new }
     {

@@ -1,4 +1,4 @@
-//! The totals of the rows at one depth, and the entry of a geometry whose members and parts are known.
+//! The totals of the rows at one depth, which give the size of the geometry above them.
 ghost use Rattle.std.specs.Prelude.{◌≡◌, ◌+◌, ◌≤◌, ◌^◌};
 ghost use Rattle.twkb_writer.specs.Levels.{blank, lead_len, body_len, all_bounds, box_for, box_len, id_len, is_point, entry_for, blob_len, with_part, with_geometry};
 ghost use Rattle.twkb_grammar.specs.declared.style.Style.TheVariants.{Full};
@@ -11,8 +11,8 @@ use twkb_grammar::Style;
 use twkb_points::{Bounds, merged};
 use twkb_tree::Kind;
 
-// The totals of the rows at one depth and all rows below them, from a place up to the next row
-// of smaller depth.
+// Totals of the rows at one depth and of all rows below them, from a row on up to the next row at a
+// smaller depth.
 #[derive(Clone, Copy)]
 pub(crate) struct Level {
     // The number of rows at this depth.
@@ -21,11 +21,11 @@ pub(crate) struct Level {
     pub(crate) ids: u64,
     // Whether one of these rows has an id.
     pub(crate) named: bool,
-    // The number of bytes of geometries, and of the counts of parts.
+    // The number of bytes of the geometries, and of the counts of the parts.
     pub(crate) bytes: u64,
-    // The bounds of the points of geometries.
+    // The bounds of the points of the geometries.
     pub(crate) bounds: Option<Bounds>,
-    // The precisions of geometries.
+    // The precisions of the geometries.
     pub(crate) precisions: Precisions,
 }
 
@@ -54,14 +54,14 @@ fn box_len(bounds: &Option<Bounds>) -> u64
     }
 }
 
-// Whether the row is a point.
+// Whether the kind is `Point`.
 fn is_point(kind: Kind) -> bool
     ensures { result ≡ is_point kind }
 {
     matches!(kind, Kind::Point)
 }
 
-// The length of a blob with this many bytes of box and body.
+// The length of a blob whose box and body have `size` bytes.
 fn blob_len(style: Style, size: u64) -> u64
     requires room { size ≤ 2 ^ 50 }
     ensures value { result ≡ blob_len style size }
@@ -88,8 +88,8 @@ impl Level {
         }
     }
 
-    // The number of bytes of a count, and of the ids if members are counted, for a row with `own`
-    // points and these rows below it.
+    // The number of bytes of a row's count, and of the ids if it counts members. The row has `own`
+    // points and is above these rows.
     fn lead_len(&self, kind: Kind, own: u32) -> u64
         requires room { self.now.ids ≤ 2 ^ 40 }
         ensures value { result ≡ lead_len kind own self.now }
@@ -102,7 +102,7 @@ impl Level {
         }
     }
 
-    // The number of bytes of a geometry's body.
+    // The number of bytes of the body of a geometry above these rows. Its own row has `own` points.
     fn body_len(&self, kind: Kind, own: u32, tail: &Tail) -> u64
         requires ids { self.now.ids ≤ 2 ^ 40 }
         requires bytes { self.now.bytes ≤ 2 ^ 40 }
@@ -116,14 +116,14 @@ impl Level {
         self.lead_len(kind, own) + self.bytes + tail.from_origin()
     }
 
-    // The bounds of all points of a geometry.
+    // The bounds of all points of a geometry above these rows.
     fn all_bounds(&self, tail: &Tail) -> Option<Bounds>
         ensures { result ≡ all_bounds self.now tail.now }
     {
         merged(tail.bounds, self.bounds)
     }
 
-    // The bounds for a geometry's box, if it has one in this style.
+    // The bounds of the box of a geometry above these rows; `None` if it has no box in this style.
     fn box_for(&self, style: Style, kind: Kind, precision: i8, tail: &Tail) -> Option<Bounds>
         ensures { result ≡ box_for style kind precision self.now tail.now }
     {
@@ -133,7 +133,8 @@ impl Level {
         }
     }
 
-    // The bounds for a geometry's box in a full blob, if it has one.
+    // The bounds of the box of a geometry above these rows, in a full blob; `None` if it has no
+    // box.
     fn full_box(&self, kind: Kind, precision: i8, tail: &Tail) -> Option<Bounds>
         ensures { result ≡ box_for Full kind precision self.now tail.now }
     {
@@ -143,8 +144,8 @@ impl Level {
         self.all_bounds(tail)
     }
 
-    // Measures a geometry with `own` points in its row, these rows below it, and these points up
-    // to its end.
+    // Measures a geometry above these rows: its own row has `own` points, and `tail` totals its
+    // points, except those of collection members.
     pub(crate) fn entry_for(
         &self,
         style: Style,
@@ -169,7 +170,8 @@ impl Level {
         }
     }
 
-    // Adds a part of a geometry before these rows, with `own` points in its row and rows below it.
+    // Adds a part of a geometry before these rows: its own row has `own` points, and `below` totals
+    // the rows under it.
     #[inline(always)]
     pub(crate) fn with_part(self, kind: Kind, own: u32, id: Option<i64>, below: &Level) -> Level
         requires members { self.members ≤ 2 ^ 20 }
@@ -190,8 +192,8 @@ impl Level {
         }
     }
 
-    // Adds a geometry before these rows, with the number of bytes of its box and body, these rows
-    // below it and these points up to its end.
+    // Adds a geometry before these rows: its box and body have `size` bytes, `below` totals the
+    // rows under it, and `tail` totals its points, except those of collection members.
     pub(crate) fn with_geometry(
         self,
         style: Style,

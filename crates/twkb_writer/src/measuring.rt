@@ -20,18 +20,18 @@ use std::alloc::{AllocError, Global};
 use twkb_flat::{Flat, Node, NodeId, PointId, Work};
 use twkb_grammar::Style;
 
-// Gives a proof the fact that counts of reads fit 64 bits. Changes nothing.
+// Lets a proof know that counts of reads fit 64 bits. Changes nothing.
 pub(crate) fn look_at_reads(work: &Work)
     ensures nodes { work.now.node_reads < 2 ^ 64 }
     ensures points { work.now.point_reads < 2 ^ 64 }
 {
-    // gives proofs the fact that both counts fit
+    // lets proofs know that both counts fit
     let _learnt = work.node_reads;
     let _learnt = work.point_reads;
 }
 
-// Adds the points of a row before those up to the end of its geometry. Each point is read once,
-// two at a time from the last on.
+// Adds the points of a row to the totals of the points after them in its geometry. Reads each point
+// once, two at a time, from the last to the first.
 #[inline(always)]
 pub(crate) fn take_points(flat: &Flat, id: NodeId, node: &Node, tail: Tail, work: &mut Work) -> Tail
     requires node { IsNode flat.now id.0 node.now }
@@ -52,13 +52,13 @@ pub(crate) fn take_points(flat: &Flat, id: NodeId, node: &Node, tail: Tail, work
         let place = last - 2 * pair;
         let next = flat.point(PointId(place - 1), work);
         let point = flat.point(PointId(place - 2), work);
-        points = points.behind_two(point, next);
+        points = points.with_first_two(point, next);
     }
     if node.points % 2 == 1 {
         return points.tail();
     }
     let first = flat.point(node.first, work);
-    points.tail().behind(first)
+    points.tail().with_first(first)
 }
 
 // Adds a row that is a geometry itself, and returns its entry.
@@ -99,8 +99,8 @@ fn take_part(node: &Node, levels: &mut Depths)
     levels.put(depth, own);
 }
 
-// Adds a row: sets the totals at its depth, with this row before the others, and drops the rows
-// below. Returns its entry if it is a geometry itself.
+// Adds a row to the totals at its depth, drops the totals below it, and returns its entry if it is
+// a geometry itself.
 #[inline(always)]
 fn take_row(style: Style, node: &Node, points: &Tail, levels: &mut Depths) -> Option<Entry>
     requires deep { node.now.row.depth < 35 }
@@ -117,8 +117,8 @@ fn take_row(style: Style, node: &Node, points: &Tail, levels: &mut Depths) -> Op
     }
 }
 
-// Appends an entry, if there is one. The first entry makes room for `most`, so the vector grows
-// only once.
+// Appends an entry, if there is one. The first one makes room for `most`, so the vector grows only
+// once.
 pub(crate) fn keep(
     entries: &mut Vec<Entry>,
     entry: Option<Entry>,
@@ -135,8 +135,7 @@ pub(crate) fn keep(
     entries.extend_from_slice(&[entry])
 }
 
-// The points up to the end of their geometry, as the row before them sees them: none if this row
-// begins a geometry.
+// The totals of points that the row before this one adds to: none if this row begins a geometry.
 fn before_row(node: &Node, points: Tail) -> Tail
     ensures { result ≡ tail_after node.now.row.precision points }
 {
@@ -146,7 +145,8 @@ fn before_row(node: &Node, points: Tail) -> Tail
     }
 }
 
-// Measures the rows of a flat form one by one, from the last to the first, and replaces the entries.
+// Measures the rows of a flat form one by one, from the last to the first, and replaces the
+// entries.
 fn measure_rows(
     flat: &Flat,
     style: Style,

@@ -9,7 +9,7 @@ pub(crate) enum Precisions {
     Absent,
     // All geometries have this one.
     One(i8),
-    // Two geometries differ.
+    // At least two geometries have different precisions.
     Several,
 }
 
@@ -25,7 +25,7 @@ impl Precisions {
         }
     }
 
-    // The precisions of these geometries and of others.
+    // The precisions of these geometries and of the others.
     pub(crate) fn and(self, others: Precisions) -> Precisions
         ensures { result ≡ agreed self others }
     {

@@ -61,7 +61,7 @@ fn put_counts<S: Sink>(
     }
 }
 
-// Puts what comes between the header of a geometry and the points of its row.
+// Puts the bytes between the header of a geometry and the points of its row.
 #[inline(always)]
 fn put_own<S: Sink>(
     flat: &Flat,
@@ -84,7 +84,7 @@ fn put_own<S: Sink>(
     put_counts(flat, at, members, gatherer, work);
 }
 
-// Puts what comes before the points of a part of a geometry.
+// Puts the bytes before the points of a part of a geometry.
 #[inline(always)]
 fn put_part<S: Sink>(
     flat: &Flat,
@@ -111,7 +111,7 @@ struct Place {
     entry: usize,
 }
 
-// The place where the points of a row with this precision begin, and the index of the entry after it.
+// The place where the points of a row with this precision begin, and the index of the next entry.
 #[inline(always)]
 fn place_of_points(precision: Option<i8>, place: Place) -> Place
     requires { place.entry + entry_count precision < 2 ^ 64 }
@@ -127,7 +127,7 @@ fn place_of_points(precision: Option<i8>, place: Place) -> Place
     }
 }
 
-// Puts what comes before the points of a row.
+// Puts the bytes before the points of a row.
 #[inline(always)]
 fn put_lead<S: Sink>(
     job: &Job<'_>,
@@ -162,7 +162,7 @@ pub(crate) fn put_rows<S: Sink>(
     ensures put { Put S.took S.refused gatherer.old (bytes_of job.now) gatherer.new }
     ensures reads { Reads work.old (2 * length job.now.flat.now) (length (row_points job.now.flat.now)) work.new }
 {
-    // gives proofs the fact that there are fewer than 2^64 entries
+    // lets proofs know that there are fewer than 2^64 entries
     let _learnt = job.sizes.len();
     let flat = job.flat;
     let mut place = Place {

@@ -1,4 +1,4 @@
-//! The points from a place up to the end of their geometry, added from the last to the first.
+//! Totals of the last points of a geometry, to which points are added from the last to the first.
 ghost use Rattle.std.specs.Prelude.{◌≡◌, ◌+◌, ◌≤◌, ◌^◌, [], ◌∷◌, List};
 ghost use Rattle.twkb_points.specs.Point.{Point};
 ghost use Rattle.twkb_writer.specs.Tails.{step_len, from_origin, tail_from, tail_of};
@@ -7,7 +7,7 @@ use crate::lengths::signed_len;
 use twkb_num::{VarintLens, zigzag};
 use twkb_points::{Bounds, Cursor, Pt, merged};
 
-// The totals of the points from a place up to the end of their geometry.
+// Totals of the points of a geometry from one point on.
 #[derive(Clone, Copy)]
 pub(crate) struct Tail {
     // The first of the points.
@@ -38,7 +38,7 @@ fn step_len(from: Pt, to: Pt) -> u64
     signed_len(x) + signed_len(y)
 }
 
-// Counts the bytes of the differences from one point by another to a third.
+// Counts the bytes of two differences: from one point to another, and from there to a third.
 #[tactic(auto, unfolding(crate::specs::Tails::number_len))]
 #[inline(always)]
 fn add_two_steps(bytes: &mut VarintLens, from: Pt, by: Pt, to: Pt)
@@ -66,7 +66,7 @@ impl Tail {
     }
 
     // Adds a point before these points.
-    pub(crate) fn behind(self, point: Pt) -> Tail
+    pub(crate) fn with_first(self, point: Pt) -> Tail
         requires room { self.bytes ≤ 2 ^ 40 }
         ensures value { (ps : List Point) → self ≡ tail_of ps → result ≡ tail_of (point ∷ ps) }
         ensures most { result.bytes ≤ self.bytes + 20 }
@@ -123,7 +123,7 @@ impl Tail {
 impl NonEmptyTail {
     // Adds two points before these points.
     #[inline(always)]
-    pub(crate) fn behind_two(self, point: Pt, next: Pt) -> NonEmptyTail
+    pub(crate) fn with_first_two(self, point: Pt, next: Pt) -> NonEmptyTail
         requires room { self.bytes ≤ 2 ^ 31 }
         ensures value { (ps : List Point) → tail_from self ≡ tail_of ps → tail_from result ≡ tail_of (point ∷ next ∷ ps) }
         ensures most { result.bytes ≤ self.bytes + 40 }
@@ -141,7 +141,7 @@ impl NonEmptyTail {
         }
     }
 
-    // Turns the totals of at least one point into those of any number.
+    // Turns totals of at least one point into totals of any number of points.
     #[inline(always)]
     pub(crate) fn tail(self) -> Tail
         requires { self.bytes ≤ 2 ^ 31 }

@@ -17,7 +17,7 @@ use twkb_grammar::Style;
 use twkb_points::Pt;
 use twkb_tree::{Geometry, Ids, Item, Kind, Lines, Members, Pts, Shape, id_at, own_parts};
 
-// A part of a geometry that is not a geometry itself: a point, line, ring or polygon.
+// A part of a geometry: a point, line, ring or polygon.
 trait Part: Item {
     // The points of the part's own row.
     ghost own: { Self → List Point };
@@ -29,7 +29,7 @@ trait Part: Item {
     fn own_points(&self) -> &[Pt]
         ensures { result.now ≡ own self.now };
 
-    // Adds the part's points before those up to the end of the geometry.
+    // Adds the part's points before those after it in the geometry.
     fn in_front_of(&self, tail: Tail) -> Tail
         requires room { tail.bytes + 20 * length (all self.now) ≤ 2 ^ 40 }
         ensures value { (ahead : List Point) → tail ≡ tail_of ahead → result ≡ tail_of (all self.now ++ ahead) }
@@ -46,7 +46,7 @@ impl Part for Pt {
     }
 
     fn in_front_of(&self, tail: Tail) -> Tail {
-        tail.behind(*self)
+        tail.with_first(*self)
     }
 }
 
@@ -78,7 +78,7 @@ impl Part for Lines {
     }
 }
 
-// Adds the points of parts before those up to the end of the geometry.
+// Adds the points of parts before those after them in the geometry.
 fn tail_before<T: Part>(parts: &[T], tail: Tail) -> Tail
     requires room { tail.bytes + 20 * length (flat_map T.all parts.now) ≤ 2 ^ 40 }
     ensures value { (ahead : List Point) → tail ≡ tail_of ahead → result ≡ tail_of (flat_map T.all parts.now ++ ahead) }
@@ -129,7 +129,7 @@ fn own_tail(geometry: &Geometry) -> Tail
 {
     match geometry.shape() {
         Shape::Point(None) | Shape::Collection(_, _) => Tail::none(),
-        Shape::Point(Some(point)) => Tail::none().behind(*point),
+        Shape::Point(Some(point)) => Tail::none().with_first(*point),
         Shape::Line(points) | Shape::MultiPoint(points, _) => points.in_front_of(Tail::none()),
         Shape::Polygon(lines) | Shape::MultiLine(lines, _) => lines.in_front_of(Tail::none()),
         Shape::MultiPolygon(areas, _) => tail_before(areas.as_slice(), Tail::none()),

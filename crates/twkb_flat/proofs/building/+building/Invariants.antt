@@ -1,4 +1,5 @@
--- The members so far were taken, and the others are at the place; and the measures of the recursion.
+-- The members so far were taken, and the others are at the place; and the measures of the
+-- recursion.
 use Rattle.std.proofs.Common.{◌+◌, ◌*◌, ◌≤◌, List, length, drop}
 use Rattle.twkb_tree.specs.Tree.{Ids, Tree, IsTree}
 use Rattle.twkb_tree.specs.Rows.{Row, rows_with}

@@ -2,7 +2,7 @@ use Rattle.std.proofs.Common.{arith, ◌∙◌, ap, ℕ, suc, ◌+◌, ◌≤◌
 use Rattle.std.specs.Prelude.{nat_lt}
 use Rattle.std.proofs.lemmas.List.{length-map}
 use Rattle.twkb_num.specs.Four.{run_of, unzigzagged_bits}
-use Rattle.twkb_num.specs.Places.{run_behind}
+use Rattle.twkb_num.specs.Places.{second_run}
 use Rattle.twkb_num.proofs.BlockLemmas.{lanes_read, ends_dropped}
 use Rattle.twkb_num.proofs.FourLemmas.{marks_of}
 use Rattle.twkb_num.proofs.FoundLemmas.{four_found, number_small}
@@ -69,6 +69,6 @@ returns-clause-four c =
     let three = form_found _ _ c.cast_signed-3.result c.from-4.result (small _ low.used four.third_short) (at 2) c.cast_signed-3.ensures c.from-4.ensures in
     let last = form_found _ _ c.cast_signed-4.result c.from-5.result (small _ (low.used + suc (run_of (drop low.used marks))) four.fourth_short) (at 3) c.cast_signed-4.ensures c.from-5.ensures in
     four_found c.args.alphabet.base c.args.alphabet.radix c.args.bytes.now units c.args.ends
-    (run_of marks) (run_behind marks) (run_of (drop low.used marks)) (run_behind (drop low.used marks))
+    (run_of marks) (second_run marks) (run_of (drop low.used marks)) (second_run (drop low.used marks))
     (suc (run_of marks)) low.used (low.used + suc (run_of (drop low.used marks))) (low.used + high.used)
     _ _ _ _ c.requires.known ends.are four one two three last

@@ -33,9 +33,9 @@ loop-pair-preserved c =
     record {
       value = λ ahead starts.
           tail_two c.args.flat.now c.args.id.0 node c.requires.node back _ _ _ _ ahead _ (omega arith) (omega arith) (omega arith)
-          c.point-next.ensures.point c.point-point-in-loop-pair.ensures.point (c.behind_two-points.ensures.value _ (inv.value ahead starts))
+          c.point-next.ensures.point c.point-point-in-loop-pair.ensures.point (c.with_first_two-points.ensures.value _ (inv.value ahead starts))
           ∙ ap (λ n. tail_of (drop (node.points - n) (points_at (drop c.args.id.0 c.args.flat.now)) ++ ahead)) (let same : back + 2 ≡ 1 + 2 * (c.loop-pair.pair + 1) = omega arith in same);
-      most = omega (arith, inv.most, c.behind_two-points.ensures.most);
+      most = omega (arith, inv.most, c.with_first_two-points.ensures.most);
       reads = exactly_same _ _ 0 (back + 1 + 1) _ (exactly_point c.args.work.now c.point-next.new.work _ 0 (back + 1)
           (exactly_point c.args.work.now c.loop-pair.work c.point-next.new.work 0 back inv.reads c.point-next.ensures.counted) c.point-point-in-loop-pair.ensures.counted) (omega arith);
     }
@@ -43,4 +43,4 @@ loop-pair-preserved c =
 pub returns-clause-value : goal.returns-clause-value
 returns-clause-value c = λ ahead starts.
     tail_first c.args.flat.now c.args.id.0 c.args.node.now c.requires.node c.args.node.now.points (1 + 2 * c.loop-pair.pair) c.point-first.result ahead _ refl (omega arith)
-    c.point-first.ensures.point (c.behind.ensures.value _ (c.tail-2.ensures ∙ c.loop-pair.invariant.value ahead starts))
+    c.point-first.ensures.point (c.with_first.ensures.value _ (c.tail-2.ensures ∙ c.loop-pair.invariant.value ahead starts))

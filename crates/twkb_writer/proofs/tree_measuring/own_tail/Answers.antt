@@ -15,7 +15,7 @@ returns-in-MultiPolygon-clause-value c =
 
 pub returns-in-Point-Some-clause-value : goal.returns-in-Point-Some-clause-value
 returns-in-Point-Some-clause-value c =
-    let value : c.behind.result ≡ tail_of (c.in-Point-Some.point ∷ []) = c.behind.ensures.value [] c.none.ensures in search rules
+    let value : c.with_first.result ≡ tail_of (c.in-Point-Some.point ∷ []) = c.with_first.ensures.value [] c.none.ensures in search rules
 
 pub returns-in-Line-clause-value : goal.returns-in-Line-clause-value
 returns-in-Line-clause-value c =
