@@ -16,7 +16,7 @@ use Rattle.twkb_grammar.specs.PlainReader.{objection}
 use Rattle.twkb_grammar.specs.Machine.{first_count, Around, top, within, Want, WantY, Done, Frame, Phase, AtHeader, AtMetadata, AtOption, AtCount, AtId, AtBody, AtEnd, Finished, Sums, nothing, added, Stack, started, role_at, stack_after}
 use Rattle.twkb_grammar.specs.Reading.{Reached, Gives, Landed, Leads, ends}
 use Rattle.twkb_grammar.specs.Noting.{Notes, no_notes, noted, noted_by}
-use Rattle.twkb_grammar.proofs.NotedSpans.{noted-append}
+use Rattle.twkb_grammar.proofs.QuietItems.{noted-append}
 use Rattle.twkb_grammar.proofs.Reaching.{reached_nothing, reached_bytes, reached_on, landed, leads, reached_blob, reached_cut, reached_long, reached_end}
 use Rattle.twkb_grammar.proofs.PartBytes.{reached_part}
 use Rattle.twkb_grammar.proofs.Depths.{reached_depth}

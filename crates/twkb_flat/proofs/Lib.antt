@@ -20,4 +20,5 @@ pub mod RowLemmas
 pub mod ReadLemmas
 pub mod TakeLemmas
 pub mod BeginLemmas
+pub mod BuildParts
 pub mod BuildLemmas

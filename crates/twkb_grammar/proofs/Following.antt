@@ -13,13 +13,15 @@ use Rattle.twkb_grammar.specs.Spans.{spans_of_blob}
 use Rattle.twkb_grammar.proofs.BodiesBack.{some_role, sums_after-append}
 use Rattle.twkb_grammar.proofs.Headers.{bytes_after}
 use Rattle.twkb_grammar.proofs.Trees.{tree_runs}
-use Rattle.twkb_grammar.proofs.Totals.{total, tree_total}
+use Rattle.twkb_grammar.proofs.Totals.{tree_total}
+use Rattle.twkb_grammar.proofs.PlaceTotals.{total}
 use Rattle.twkb_grammar.proofs.Parts.{runs_same}
 use Rattle.twkb_grammar.proofs.Frames.{reached_frames}
 use Rattle.twkb_grammar.proofs.TwoFronts.{Compared, longer, shorter, same, two_fronts, none_beyond}
 use Rattle.twkb_grammar.proofs.One.{peel}
 use Rattle.twkb_grammar.proofs.Standing.{none_longer}
-use Rattle.twkb_grammar.proofs.NotedSpans.{noted-append, points_total, quiet, blob_noted}
+use Rattle.twkb_grammar.proofs.NotedSpans.{blob_noted}
+use Rattle.twkb_grammar.proofs.QuietItems.{noted-append, points_total, quiet}
 use Rattle.twkb_grammar.proofs.NotedEnds.{ends_noted, ends_add, all_open, ends_to, Same}
 use Rattle.twkb_grammar.proofs.TakenItems.{Taken, taken, taken_role}
 

@@ -13,9 +13,11 @@ pub mod TreesBack
 pub mod Parts
 pub mod Completing
 pub mod Dead
+pub mod PlaceTotals
 pub mod Totals
 pub mod Refusing
 pub mod Ranges
+pub mod KeptItems
 pub mod Alive
 pub mod NumberItems
 pub mod OutlineFits
@@ -41,6 +43,7 @@ pub mod Frames
 pub mod Standing
 pub mod Either
 pub mod Computed
+pub mod QuietItems
 pub mod NotedSpans
 pub mod NotedEnds
 pub mod TakenItems

@@ -1,116 +1,20 @@
 -- The items of a geometry announce exactly its nodes and its points.
-use Rattle.std.proofs.Common.{Bool, true, false, ◌≡◌, ℕ, suc, ◌+◌, List, [], ◌∷◌, ◌++◌, map, length, refl, ap, sym, ◌∙◌, subst, Option, Some, None, arith, length-append}
+use Rattle.std.proofs.Common.{Bool, true, false, ◌≡◌, ℕ, suc, ◌+◌, List, [], ◌∷◌, ◌++◌, map, length, refl, ap, sym, ◌∙◌, subst, Some, None, arith, length-append}
 use Rattle.std.proofs.lemmas.Bool.{false≢true}
-use Rattle.std.proofs.lemmas.List.Sums.{sum_by-cons}
 use Rattle.std.proofs.lemmas.List.Concat.{length-flat_map}
-use Rattle.std.specs.Prelude.{ℤ, flat_map, sum_by}
+use Rattle.std.specs.Prelude.{ℤ, flat_map}
 use Rattle.twkb_points.specs.Point.{Point}
 use Rattle.twkb_tree.specs.Tree.{Simple, point, line, polygon, multi_point, multi_line, multi_polygon, Tree, simple, collection, Trees, end, ◌▷◌, count, Ids, HasIds, IdsFit, IsTree, AreTrees, nodes, nodes_all, nodes_in, area_nodes, flat, flat_all, points_in, flatten}
 use Rattle.twkb_grammar.specs.Bits.{bit}
-use Rattle.twkb_grammar.specs.Roles.{Item, Role, Header, Metadata, Extended, Size, Box, Count, Counted, Geometries, Id, X, Y, End, AreFields, HaveRoles, where_set}
-use Rattle.twkb_grammar.specs.Items.{Place, OfCount, OfId, OfPoint, id_places, fields, outline, run_of, rings_of, declared, end_item, Flags, Agrees, flags, flags_all, BodyAt, Framed, Follow, Items, ItemsOfAll, kind_of, id_fields, header_byte}
+use Rattle.twkb_grammar.specs.Roles.{Item, Metadata, Count, Geometries, AreFields}
+use Rattle.twkb_grammar.specs.Items.{Place, OfCount, OfPoint, id_places, fields, outline, run_of, rings_of, Flags, Agrees, flags, flags_all, BodyAt, Framed, Follow, Items, ItemsOfAll, kind_of, id_fields}
 use Rattle.twkb_grammar.specs.Fault.{nodes_by, points_by, nodes_of, points_of}
 use Rattle.twkb_grammar.specs.Machine.{Kind, SimpleKind, CollectionKind, empty_of}
 use Rattle.twkb_grammar.proofs.Places.{steps, fields_are}
 use Rattle.twkb_points.specs.Point.{origin}
 use Rattle.twkb_grammar.proofs.Bodies.{form_of}
 use Rattle.twkb_grammar.proofs.Trees.{left_out, names_steps}
-
--- the sum over the items
-abbrev pub total : (Role → ℕ → ℕ) → List Item → ℕ
-total f [] = 0
-total f (i ∷ is) = f i.role i.number + total f is
-
--- the total is the sum
-pub total_is : (f : Role → ℕ → ℕ) (is : List Item) → sum_by (λ i. f i.role i.number) is ≡ total f is
-total_is f [] = refl
-total_is f (i ∷ is) = sum_by-cons (λ i. f i.role i.number) i is ∙ ap (λ n. f i.role i.number + n) (total_is f is)
-
--- the total of joined items
-pub total-append : (f : Role → ℕ → ℕ) (is js : List Item) → total f (is ++ js) ≡ total f is + total f js
-total-append f [] js = omega arith
-total-append f (i ∷ is) js = omega (arith, total-append f is js)
-
--- the sum over places of what their counts announce
-abbrev pub by_places : (Counted → ℕ → ℕ) → List Place → ℕ
-by_places c [] = 0
-by_places c (OfCount k n ∷ ps) = c k n + by_places c ps
-by_places c (OfId id ∷ ps) = by_places c ps
-by_places c (OfPoint q ∷ ps) = by_places c ps
-
--- the total of joined places
-pub by_places-append : (c : Counted → ℕ → ℕ) (ps qs : List Place) → by_places c (ps ++ qs) ≡ by_places c ps + by_places c qs
-by_places-append c [] qs = omega arith
-by_places-append c (OfCount k n ∷ ps) qs = omega (arith, by_places-append c ps qs)
-by_places-append c (OfId id ∷ ps) qs = by_places-append c ps qs
-by_places-append c (OfPoint q ∷ ps) qs = by_places-append c ps qs
-
-by_points : (c : Counted → ℕ → ℕ) (ps : List Point) → by_places c (map OfPoint ps) ≡ 0
-by_points c [] = refl
-by_points c (p ∷ ps) = by_points c ps
-
-by_ids : (c : Counted → ℕ → ℕ) (ids : List ℤ) → by_places c (map OfId ids) ≡ 0
-by_ids c [] = refl
-by_ids c (id ∷ ids) = by_ids c ids
-
-by_names : (c : Counted → ℕ → ℕ) (ids : Ids) → by_places c (id_places ids) ≡ 0
-by_names c None = refl
-by_names c (Some ids) = by_ids c ids
-
-by_flat : {A : Type 0} (c : Counted → ℕ → ℕ) (f : A → List Place) (g : A → ℕ) → ((a : A) → by_places c (f a) ≡ g a) → (xs : List A) → by_places c (flat_map f xs) ≡ sum_by g xs
-by_flat c f g h [] = refl
-by_flat c f g h (x ∷ xs) = omega (arith, by_places-append c (f x) (flat_map f xs), h x, by_flat c f g h xs, sum_by-cons g x xs)
-
-module _ (f : Role → ℕ → ℕ) (c : Counted → ℕ → ℕ) (counts : (k : Counted) (n : ℕ) → f (Count k) n ≡ c k n)
-    (header : (n : ℕ) → f Header n ≡ 0) (extended : (n : ℕ) → f Extended n ≡ 0) (size : (n : ℕ) → f Size n ≡ 0) (box : (n : ℕ) → f Box n ≡ 0)
-    (ids : (n : ℕ) → f Id n ≡ 0) (xs : (n : ℕ) → f X n ≡ 0) (ys : (n : ℕ) → f Y n ≡ 0) (ends : (d : Option ℕ) (m n : ℕ) → f (End d m) n ≡ 0) where
-  -- the total of a body is that of its places
-  pub body_total : (p : Point) (ps : List Place) (is : List Item) → AreFields (steps p ps) is → total f is ≡ by_places c ps
-  body_total p [] [] are = refl
-  body_total p [] (i ∷ is) are = absurd are
-  body_total p (OfCount k n ∷ ps) [] are = absurd are
-  body_total p (OfCount k n ∷ ps) (i ∷ is) are = omega (arith, ap (λ r. f r i.number) are.0, ap (λ m. f (Count k) m) are.1, counts k n, body_total p ps is are.3)
-  body_total p (OfId id ∷ ps) [] are = absurd are
-  body_total p (OfId id ∷ ps) (i ∷ is) are = omega (arith, ap (λ r. f r i.number) are.0, ids i.number, body_total p ps is are.3)
-  body_total p (OfPoint q ∷ ps) [] are = absurd are
-  body_total p (OfPoint q ∷ ps) (i ∷ []) are = absurd are.3
-  body_total p (OfPoint q ∷ ps) (i ∷ j ∷ is) are = omega (arith, ap (λ r. f r i.number) are.0, xs i.number, ap (λ r. f r j.number) are.3.0, ys j.number, body_total q ps is are.3.3)
-
-  option_total : (b : Bool) (r : Role) (is : List Item) → ((n : ℕ) → f r n ≡ 0) → HaveRoles (where_set b (r ∷ [])) is → total f is ≡ 0
-  option_total false r [] z have = refl
-  option_total false r (i ∷ is) z have = absurd have
-  option_total true r [] z have = absurd have
-  option_total true r (i ∷ []) z have = omega (arith, ap (λ r. f r i.number) have.0, z i.number)
-  option_total true r (i ∷ j ∷ is) z have = absurd have.2
-
-  box_total : (b : Bool) (is : List Item) → HaveRoles (where_set b (Box ∷ Box ∷ Box ∷ Box ∷ [])) is → total f is ≡ 0
-  box_total false [] have = refl
-  box_total false (i ∷ is) have = absurd have
-  box_total true [] have = absurd have
-  box_total true (i ∷ []) have = absurd have.2
-  box_total true (i ∷ j ∷ []) have = absurd have.2.2
-  box_total true (i ∷ j ∷ k ∷ []) have = absurd have.2.2.2
-  box_total true (i ∷ j ∷ k ∷ l ∷ m ∷ is) have = absurd have.2.2.2.2
-  box_total true (i ∷ j ∷ k ∷ l ∷ []) have =
-      omega (arith, ap (λ r. f r i.number) have.0, box i.number, ap (λ r. f r j.number) have.2.0, box j.number, ap (λ r. f r k.number) have.2.2.0, box k.number, ap (λ r. f r l.number) have.2.2.2.0, box l.number)
-
-  -- the total of a frame is that of its metadata byte and its body
-  pub framed_total : (kind : ℕ) (p : ℤ) (own : Flags) (Body : List Item → Type 0) (is : List Item) → (fr : Framed kind p own Body is) → total f is ≡ f (Metadata kind) fr.meta + total f fr.body
-  framed_total kind p own Body is fr =
-      let last = end_item (declared fr.size) (fr.box ++ fr.body) in
-      omega (
-        arith,
-        ap (total f) fr.whole,
-        header (header_byte kind p),
-        total-append f fr.extended (fr.size ++ ((fr.box ++ fr.body) ++ last ∷ [])),
-        total-append f fr.size ((fr.box ++ fr.body) ++ last ∷ []),
-        total-append f (fr.box ++ fr.body) (last ∷ []),
-        total-append f fr.box fr.body,
-        option_total (bit fr.meta 3) Extended fr.extended extended fr.optional.extended_is,
-        option_total (bit fr.meta 1) Size fr.size size fr.optional.size_is,
-        box_total (bit fr.meta 0) fr.box fr.optional.box_is,
-        ends (declared fr.size) (length (Rattle.twkb_grammar.specs.Roles.join (fr.box ++ fr.body))) 0,
-      )
+use Rattle.twkb_grammar.proofs.PlaceTotals.{total, total-append, by_places, by_places-append, by_points, by_names, by_flat, body_total, framed_total}
 
 nodes_runs : (ls : List (List Point)) → by_places nodes_of (flat_map run_of ls) ≡ 0
 nodes_runs [] = refl

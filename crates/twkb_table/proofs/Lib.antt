@@ -23,6 +23,7 @@ pub mod RecordWritingLemmas
 pub mod RowReaderLemmas
 pub mod RowsJudged
 pub mod StandingLemmas
+pub mod HeaderCalls
 pub mod TableCalls
 pub mod TableReaderLemmas
 pub mod TableSteps

@@ -4,7 +4,8 @@ use Rattle.twkb_tree.specs.declared.kind.Kind.{Kind}
 use Rattle.twkb_tree.specs.Tree.{IsTree, simple, polygon, multi_point, multi_line, multi_polygon, precision_of}
 use Rattle.twkb_tree.specs.Rows.{rows_with, rows_under, own_row}
 use Rattle.twkb_flat.proofs.TakeLemmas.{tree_heads, item_within}
-use Rattle.twkb_flat.proofs.BuildLemmas.{ids_below, points_below, lines_below, areas_below, point_taken, line_taken, is_polygon, is_multi_point, is_multi_line, is_multi_polygon, is_no_ring, read_kind, own_here, rings_at, points_at, lines_at, areas_at}
+use Rattle.twkb_flat.proofs.BuildLemmas.{point_taken, line_taken, read_kind, own_here, rings_at, points_at, lines_at, areas_at}
+use Rattle.twkb_flat.proofs.BuildParts.{ids_below, points_below, lines_below, areas_below, is_polygon, is_multi_point, is_multi_line, is_multi_polygon, is_no_ring}
 use Rattle.twkb_flat.proofs.building.take_simple.Goals as goal
 
 pub row-row-requires : goal.row-row-requires

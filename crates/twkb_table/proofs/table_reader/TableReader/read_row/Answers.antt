@@ -6,7 +6,8 @@ use Rattle.twkb_table.specs.declared.table_reader.TableReader.{TableReader}
 use Rattle.twkb_table.proofs.RecordJudged.{if_refused}
 use Rattle.twkb_table.proofs.TableReaderLemmas.{all_but_last-last}
 use Rattle.twkb_table.proofs.TableSteps.{reads_more, reads_next, reads_end, reads_refused}
-use Rattle.twkb_table.proofs.TableCalls.{explained, fault_fresh, missed_fresh, no_record, reads_by, some_row}
+use Rattle.twkb_table.proofs.TableCalls.{reads_by, some_row}
+use Rattle.twkb_table.proofs.HeaderCalls.{explained, fault_fresh, missed_fresh, no_record}
 use Rattle.twkb_table.proofs.table_reader.TableReader.read_row.Goals as goal
 
 pub returns-in-Ok-false : goal.returns-in-Ok-false
