@@ -60,9 +60,9 @@ fn made_points(alloc: Global, count: u32, start: i64, step: i64) -> Option<Vec<P
     Some(points)
 }
 
-// Whether such points are read from their text, or memory is refused.
-fn are_read_back(alloc: Global, count: u32, start: i64, step: i64) -> bool {
-    let Some(points) = made_points(alloc, count, start, step) else {
+// Whether these points, `count` of them, are read from their text, or memory is refused.
+fn are_read_back(alloc: Global, count: u32, made: Option<Vec<Pt>>) -> bool {
+    let Some(points) = made else {
         return true;
     };
     let Ok(text) = encode(alloc, &points) else {
@@ -79,7 +79,7 @@ fn are_read_back(alloc: Global, count: u32, start: i64, step: i64) -> bool {
 fn counts_are_read_back(alloc: Global, start: i64, step: i64) -> bool {
     let mut all = true;
     for count in 0..40 {
-        all &= are_read_back(alloc, count, start, step);
+        all &= are_read_back(alloc, count, made_points(alloc, count, start, step));
     }
     all
 }
@@ -91,6 +91,45 @@ fn points_are_read_in_blocks_as_one_by_one(rt: HostRuntime) {
     let short = counts_are_read_back(alloc, 0, 3) & counts_are_read_back(alloc, 0, 300);
     let long = counts_are_read_back(alloc, 0, 20_000) & counts_are_read_back(alloc, 0, 500_000);
     assert!(rt; short & long & counts_are_read_back(alloc, 0, 40_000_000));
+}
+
+// The number of points that `mixed_points` makes.
+fn mixed_count(near: u32, far: u32) -> u32 {
+    near.wrapping_add(far).wrapping_add(40)
+}
+
+// Makes `near` near points, then `far` far ones of twelve characters each, and 40 near ones.
+fn mixed_points(alloc: Global, near: u32, far: u32) -> Option<Vec<Pt>> {
+    let mut points = Vec::new(alloc);
+    let mut way: i64 = 0;
+    for place in 0..mixed_count(near, far) {
+        let is_far = place >= near && place < near.wrapping_add(far);
+        way = way.wrapping_add(if is_far { 40_000_000 } else { 3 });
+        let point = Pt::try_new(way, way.wrapping_mul(-3))?;
+        if points.push(point).is_err() {
+            return None;
+        }
+    }
+    Some(points)
+}
+
+// Whether points are read back with each number of far ones: up to 564 characters, more than twice
+// what is read after a search in vain before blocks are searched for again.
+fn far_points_are_read_back(alloc: Global, near: u32) -> bool {
+    let mut all = true;
+    for far in 0..48 {
+        let made = mixed_points(alloc, near, far);
+        all &= are_read_back(alloc, mixed_count(near, far), made);
+    }
+    all
+}
+
+// Near points come after far ones, which come first, or after one block, or after three.
+#[test]
+fn near_points_after_far_ones_are_read_in_blocks_as_one_by_one(rt: HostRuntime) {
+    let alloc = rt.alloc();
+    let first = far_points_are_read_back(alloc, 0) & far_points_are_read_back(alloc, 11);
+    assert!(rt; first & far_points_are_read_back(alloc, 27));
 }
 
 // Blocks are read from points up to 2^61 away, and eight steps further.

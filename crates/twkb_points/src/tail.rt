@@ -48,7 +48,12 @@ impl PointTail for Vec<Pt> {
 
     #[inline(always)]
     fn put_all(&mut self, points: &[Pt]) -> Result<(), AllocError> {
-        self.extend_from_slice(points)
+        self.reserve(points.len())?;
+        // point by point: copied as a slice, eight points in registers go through memory twice
+        for point in points {
+            self.push_reserved(*point);
+        }
+        Ok(())
     }
 
     #[inline(always)]

@@ -135,13 +135,3 @@ no_memory text max at cursor old held has q end point inside room =
       some = omega (arith, read_count text max at cursor old held has, read_count text max end q old grown more, length-append held (q ∷ []));
       few = more.few;
     }
-
--- memory is refused for the second of two points
-pub no_memory_between : (text : List ℕ) (max at : ℕ) (cursor : Point) (old held : List Point) (has : HasRead text max at cursor old held) (q r : Point) (end : ℕ) → IsPairAt text at cursor q r end
-    → IsInRange q × IsInRange r → length has.ps + 2 ≤ max → IsRefused text max Memory
-no_memory_between text max at cursor old held has q r end pair inside room =
-    let grown = held ++ q ∷ [] in
-    let one = has_read_more text max at cursor old held has q pair.middle grown pair.first inside.0 (omega arith) refl in
-    let some : length one.ps < max =
-    omega (arith, read_count text max at cursor old held has, read_count text max pair.middle q old grown one, length-append held (q ∷ [])) in
-    no_memory text max pair.middle q old grown one r end pair.second inside.1 some

@@ -73,17 +73,17 @@ fn read_points<L: PointTail>(text: &[u8], max: u32, points: &mut L) -> Result<()
     let held = points.count();
     let mut cursor = Cursor::origin();
     let mut at = 0;
-    let mut next_look = 0;
+    let mut next_look = FIRST_LOOK;
     while at < text.len() {
         let read = points.count() - held;
         if at >= next_look && text.len() - at >= BLOCK {
-            at = read_eights(text, at, max as usize - read, &mut cursor, points)?;
-            next_look = at + APART;
+            let end = read_eights(text, at, max as usize - read, &mut cursor, points)?;
+            next_look = end + apart(end > at);
+            at = end;
             continue;
         }
         if let Some(pair) = two_points(text, at, max as usize - read, &mut cursor) {
-            points.put(pair.first)?;
-            points.put(pair.second)?;
+            points.put_all(&[pair.first, pair.second])?;
             at = pair.end;
             continue;
         }
@@ -113,8 +113,23 @@ const POINTS: usize = 8;
 
 const NUMBERS: u32 = 16;
 
-// The number of characters after a search for blocks before the next search.
+// Where blocks are first searched for: after the first point, whose numbers are mostly large.
+const FIRST_LOOK: usize = 1;
+
+// The number of characters after a search that found blocks before the next search.
 const APART: usize = 32;
+
+// The same after a search in vain, so that lines of far points are seldom searched.
+const FAR_APART: usize = 256;
+
+// The number of characters from a search for blocks to the next search.
+#[inline(always)]
+fn apart(has_found: bool) -> usize
+    ensures some { 0 < result }
+    ensures few { result ≤ 256 }
+{
+    if has_found { APART } else { FAR_APART }
+}
 
 // Fast path: appends points from `start` on, eight at a time, as long as their numbers are found
 // in blocks, and at most `room` points. Returns where the text goes on. After an `Err` the points

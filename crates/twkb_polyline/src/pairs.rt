@@ -80,8 +80,8 @@ pub(crate) struct Eight {
     pub(crate) ends: u64,
 }
 
-// Fast path: reads the eight points of the first sixteen numbers; only from an inner point, so that
-// none of the eight can be out of range. `None` proves nothing about the text.
+// Fast path: reads the eight points of the first sixteen numbers; four at a time, and only from an
+// inner point, so that none can be out of range. `None` proves nothing about the text.
 #[inline(always)]
 pub(crate) fn eight_points(from: Pt, text: &[u8], ends: u64) -> Option<Eight>
     requires { AreEnds 63 32 text.now ends }
@@ -97,6 +97,11 @@ pub(crate) fn eight_points(from: Pt, text: &[u8], ends: u64) -> Option<Eight>
     }
     let (a, b, two) = two_by(from, text, ends)?;
     let (c, d, more) = two_by(b, &text[two..], ends >> (two as u32))?;
+    // tested again, so that the first four points are worked out before the others are looked for,
+    // and fewer values wait in memory
+    if !d.is_inner() {
+        return None;
+    }
     let four = two + more;
     let (e, f, more) = two_by(d, &text[four..], ends >> (four as u32))?;
     let six = four + more;

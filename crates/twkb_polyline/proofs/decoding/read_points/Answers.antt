@@ -1,6 +1,6 @@
-use Rattle.std.proofs.Common.{◌≡◌, ◌∙◌, ◌+◌, ◌-◌, ◌<◌, ◌≤◌, ◌^◌, rules, [], ◌∷◌, ◌++◌, length, refl, ap, append_assoc, arith}
+use Rattle.std.proofs.Common.{◌≡◌, ◌∙◌, ◌+◌, ◌-◌, ◌<◌, ◌≤◌, ◌^◌, rules, length, refl, arith}
 use Rattle.std.proofs.lemmas.Result.{err_from_is_err_and}
-use Rattle.twkb_polyline.proofs.DecodeLemmas.{read_count, has_read_all, has_read_none, has_read_more, has_read_pair, one_too_many, text_refused, no_memory, no_memory_between}
+use Rattle.twkb_polyline.proofs.DecodeLemmas.{read_count, has_read_all, has_read_none, has_read_more, has_read_pair, one_too_many, text_refused, no_memory}
 use Rattle.twkb_polyline.proofs.PointLists.{has_read_points, no_memory_on, points_end, points_from}
 use Rattle.twkb_polyline.proofs.decoding.read_points.Goals as goal
 
@@ -16,7 +16,7 @@ loop-at-preserved g c =
     let room : length read.ps < c.args.max =
     omega (arith, c.count.ensures, c.in_ok-one_more.ensures.few, read_count c.args.text.now c.args.max c.loop-at.at c.loop-at.cursor old held read) in
     let point = rw c.in_default.ensures.unmoved at c.in_ok-point.ensures.read in
-    rw (c.in_ok-put-3.ensures.appended, c.in_ok-point.ensures.moved) (record {
+    rw (c.in_ok-put.ensures.appended, c.in_ok-point.ensures.moved) (record {
       read = has_read_more c.args.text.now c.args.max c.loop-at.at c.loop-at.cursor old held read c.in_ok-point.point c.in_ok-point.end _ point c.in_ok-point.ensures.in_range room refl;
       held = c.loop-at.invariant.held;
     })
@@ -26,38 +26,37 @@ loop-at-preserved-in-Some g c =
     let old = g.L.PointTail.held c.args.points.now in
     let held = g.L.PointTail.held c.loop-at.points in
     let read = c.loop-at.invariant.read in
-    let both = c.in_ok-put-2.ensures.appended ∙ ap (λ ps. ps ++ c.in-Some.pair.second ∷ []) c.in_ok-put.ensures.appended ∙ append_assoc held (c.in-Some.pair.first ∷ []) (c.in-Some.pair.second ∷ []) in
     let room : length read.ps + 2 ≤ c.args.max =
     omega (arith, c.count.ensures, c.in-Some.ensures.fits, read_count c.args.text.now c.args.max c.loop-at.at c.loop-at.cursor old held read) in
-    rw (both, c.in-Some.ensures.moved) (record {
+    rw (c.in_ok-put_all.ensures.appended, c.in-Some.ensures.moved) (record {
       read = has_read_pair c.args.text.now c.args.max c.loop-at.at c.loop-at.cursor old held read c.in-Some.pair.first c.in-Some.pair.second c.in-Some.pair.end _ c.in-Some.ensures.read c.in-Some.ensures.in_range room refl;
       held = c.loop-at.invariant.held;
     })
 
-pub returns-in_err-at-clause-refuses : goal.returns-in_err-at-clause-refuses
-returns-in_err-at-clause-refuses g c =
+pub returns-in_err-end-clause-refuses : goal.returns-in_err-end-clause-refuses
+returns-in_err-end-clause-refuses g c =
     let p = err_from_is_err_and c.from_residual.result c.from_residual.ensures.1 in
     let old = g.L.PointTail.held c.args.points.now in
     let held = g.L.PointTail.held c.loop-at.points in
     let read = c.loop-at.invariant.read in
     let count = read_count c.args.text.now c.args.max c.loop-at.at c.loop-at.cursor old held read in
-    rw (p.1, p.2) (no_memory_on c.args.text.now c.args.max c.loop-at.at _ c.loop-at.cursor old held read c.in_err-at.ensures.refused (omega (arith, c.count.ensures, c.loop-at.invariant.held, read.few, count)))
+    rw (p.1, p.2) (no_memory_on c.args.text.now c.args.max c.loop-at.at _ c.loop-at.cursor old held read c.in_err-end.ensures.refused (omega (arith, c.count.ensures, c.loop-at.invariant.held, read.few, count)))
 
 pub overflow_add-next_look : goal.overflow_add-next_look
 overflow_add-next_look g c =
-    let put = c.in_ok-at.ensures.read in
-    let end = points_end put.ps c.args.text.now c.loop-at.at c.in_ok-at.at _ _ c.loop-at.invariant.read.within put.points in
-    let few : length c.args.text.now + 32 < 2 ^ 64 = search rules in
-    record { fits = omega (arith, end, few) }
+    let put = c.in_ok-end.ensures.read in
+    let end = points_end put.ps c.args.text.now c.loop-at.at c.in_ok-end.end _ _ c.loop-at.invariant.read.within put.points in
+    let few : length c.args.text.now + 256 < 2 ^ 64 = search rules in
+    record { fits = omega (arith, end, few, c.apart.ensures.few) }
 
 pub loop-at-smaller-then-text-at-ge-BLOCK : goal.loop-at-smaller-then-text-at-ge-BLOCK
 loop-at-smaller-then-text-at-ge-BLOCK g c =
-    let put = c.in_ok-at.ensures.read in
+    let put = c.in_ok-end.ensures.read in
     let text = c.args.text.now in
-    let end = points_end put.ps text c.loop-at.at c.in_ok-at.at _ _ c.loop-at.invariant.read.within put.points in
-    let on = points_from put.ps text c.loop-at.at c.in_ok-at.at _ _ put.points in
-    let smaller : length text - c.in_ok-at.at + (length text - (c.in_ok-at.at + 32)) < length text - c.loop-at.at + (length text - c.loop-at.next_look) =
-    omega (arith, end, on, c.if-at-next_look.true, c.if-text-at-ge-BLOCK.true) in
+    let end = points_end put.ps text c.loop-at.at c.in_ok-end.end _ _ c.loop-at.invariant.read.within put.points in
+    let on = points_from put.ps text c.loop-at.at c.in_ok-end.end _ _ put.points in
+    let smaller : length text - c.in_ok-end.end + (length text - (c.in_ok-end.end + c.apart.result)) < length text - c.loop-at.at + (length text - c.loop-at.next_look) =
+    omega (arith, end, on, c.if-at-next_look.true, c.if-text-at-ge-BLOCK.true, c.apart.ensures.some) in
     smaller
 
 pub loop-at-preserved-then-text-at-ge-BLOCK : goal.loop-at-preserved-then-text-at-ge-BLOCK
@@ -65,17 +64,17 @@ loop-at-preserved-then-text-at-ge-BLOCK g c =
     let old = g.L.PointTail.held c.args.points.now in
     let held = g.L.PointTail.held c.loop-at.points in
     let read = c.loop-at.invariant.read in
-    let put = c.in_ok-at.ensures.read in
+    let put = c.in_ok-end.ensures.read in
     let count = read_count c.args.text.now c.args.max c.loop-at.at c.loop-at.cursor old held read in
     record {
-      read = has_read_points put.ps c.args.text.now c.args.max c.loop-at.at c.in_ok-at.at c.loop-at.cursor c.read_eights.new.cursor old held (g.L.PointTail.held c.read_eights.new.points) read put.points
+      read = has_read_points put.ps c.args.text.now c.args.max c.loop-at.at c.in_ok-end.end c.loop-at.cursor c.read_eights.new.cursor old held (g.L.PointTail.held c.read_eights.new.points) read put.points
           (omega (arith, c.count.ensures, c.loop-at.invariant.held, read.few, put.few, count)) put.appended;
       held = c.loop-at.invariant.held;
     }
 
-pub returns-in_err-put-clause-refuses : goal.returns-in_err-put-clause-refuses
-returns-in_err-put-clause-refuses g c =
-    let p = err_from_is_err_and c.from_residual-in_err-put.result c.from_residual-in_err-put.ensures.1 in
+pub returns-in_err-put_all-clause-refuses : goal.returns-in_err-put_all-clause-refuses
+returns-in_err-put_all-clause-refuses g c =
+    let p = err_from_is_err_and c.from_residual-in_err-put_all.result c.from_residual-in_err-put_all.ensures.1 in
     let old = g.L.PointTail.held c.args.points.now in
     let held = g.L.PointTail.held c.loop-at.points in
     let read = c.loop-at.invariant.read in
@@ -83,16 +82,6 @@ returns-in_err-put-clause-refuses g c =
     let room : length read.ps < c.args.max =
     omega (arith, c.count.ensures, c.in-Some.ensures.fits, read_count c.args.text.now c.args.max c.loop-at.at c.loop-at.cursor old held read) in
     rw (p.1, p.2) (no_memory c.args.text.now c.args.max c.loop-at.at c.loop-at.cursor old held read c.in-Some.pair.first pair.middle pair.first c.in-Some.ensures.in_range.0 room)
-
-pub returns-in_err-put-2-clause-refuses : goal.returns-in_err-put-2-clause-refuses
-returns-in_err-put-2-clause-refuses g c =
-    let p = err_from_is_err_and c.from_residual-in_err-put-2.result c.from_residual-in_err-put-2.ensures.1 in
-    let old = g.L.PointTail.held c.args.points.now in
-    let held = g.L.PointTail.held c.loop-at.points in
-    let read = c.loop-at.invariant.read in
-    let room : length read.ps + 2 ≤ c.args.max =
-    omega (arith, c.count.ensures, c.in-Some.ensures.fits, read_count c.args.text.now c.args.max c.loop-at.at c.loop-at.cursor old held read) in
-    rw (p.1, p.2) (no_memory_between c.args.text.now c.args.max c.loop-at.at c.loop-at.cursor old held read c.in-Some.pair.first c.in-Some.pair.second c.in-Some.pair.end c.in-Some.ensures.read c.in-Some.ensures.in_range room)
 
 pub returns-in_err-point-clause-refuses : goal.returns-in_err-point-clause-refuses
 returns-in_err-point-clause-refuses g c =
@@ -104,9 +93,9 @@ returns-in_err-point-clause-refuses g c =
     omega (arith, c.count.ensures, c.in_ok-one_more.ensures.few, read_count c.args.text.now c.args.max c.loop-at.at c.loop-at.cursor old held read) in
     rw (p.1, p.2) (text_refused c.args.text.now c.args.max c.loop-at.at c.loop-at.cursor old held read c.in_err-point.field-0.0 c.loop-at-test.true room (rw c.in_default.ensures.unmoved at c.in_err-point.ensures.refused))
 
-pub returns-in_err-put-3-clause-refuses : goal.returns-in_err-put-3-clause-refuses
-returns-in_err-put-3-clause-refuses g c =
-    let p = err_from_is_err_and c.from_residual-in_err-put-3.result c.from_residual-in_err-put-3.ensures.1 in
+pub returns-in_err-put-clause-refuses : goal.returns-in_err-put-clause-refuses
+returns-in_err-put-clause-refuses g c =
+    let p = err_from_is_err_and c.from_residual-in_err-put.result c.from_residual-in_err-put.ensures.1 in
     let old = g.L.PointTail.held c.args.points.now in
     let held = g.L.PointTail.held c.loop-at.points in
     let read = c.loop-at.invariant.read in
@@ -130,8 +119,8 @@ returns-in_err-one_more-clause-grown g c = (c.loop-at.invariant.read.ps, c.loop-
 pub returns-in_err-point-clause-grown : goal.returns-in_err-point-clause-grown
 returns-in_err-point-clause-grown g c = (c.loop-at.invariant.read.ps, c.loop-at.invariant.read.held_is)
 
-pub returns-in_err-put-3-clause-grown : goal.returns-in_err-put-3-clause-grown
-returns-in_err-put-3-clause-grown g c = (c.loop-at.invariant.read.ps, c.in_err-put-3.ensures.same ∙ c.loop-at.invariant.read.held_is)
+pub returns-in_err-put-clause-grown : goal.returns-in_err-put-clause-grown
+returns-in_err-put-clause-grown g c = (c.loop-at.invariant.read.ps, c.in_err-put.ensures.same ∙ c.loop-at.invariant.read.held_is)
 
 pub returns-clause-decodes : goal.returns-clause-decodes
 returns-clause-decodes g c =
