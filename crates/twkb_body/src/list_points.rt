@@ -33,6 +33,9 @@ const NUMBERS: u32 = 16;
 // How many bytes after the last look blocks are looked for again.
 const APART: usize = 32;
 
+// The same after a look that found none: a line of far points has no blocks.
+const FAR_APART: usize = 256;
+
 /// Takes points of a list to the last row as far as they are complete, at most `most`; and how many
 /// of these are left. Takes memory. Eight or two at a time if that goes: the numbers of points that lie near
 /// one another are found four at once, and not looked for after a point that lies far.
@@ -60,7 +63,7 @@ pub fn take_row(
                 used += taken.used;
                 position = taken.position;
                 left = behind;
-                next_look = used + APART;
+                next_look = used + if taken.used == 0 { FAR_APART } else { APART };
                 continue;
             }
             if let Some((first, second, count)) = front_two(position, &bytes[used..]) {
