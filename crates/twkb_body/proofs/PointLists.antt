@@ -13,41 +13,55 @@ use Rattle.twkb_body.proofs.Pieces.{one_within}
 use Rattle.twkb_body.proofs.PointRuns.{list_runs, step_none, step_more, step_judged, step_stops}
 
 -- no points
-pub list_none : (rs : List Row) (from : Point) (bytes : List ℕ) (most : ℕ) → EndsInLine rs → length (row_points rs) + most ≤ 2 ^ 24
+pub list_none : (rs : List Row) (from : Point) (bytes : List ℕ) (most : ℕ) → EndsInLine rs
+    → length (row_points rs) + most ≤ 2 ^ 24
     → ListGoesOn rs from bytes most (record { used = 0; position = from }) most rs
 list_none rs from bytes most line room = record {
-  leads = record { within = omega arith; few = omega arith; run = λ h f ids outer listed same. step_none h (in_list h f ids most outer) rs from };
+  leads = record {
+    within = omega arith;
+    few = omega arith;
+    run = λ h f ids outer listed same.
+        step_none h (in_list h f ids most outer) rs from;
+  };
   line = line;
   room = room;
 }
 
 -- points, and then others
-pub list_on : {rs mid more : List Row} {most left rest : ℕ} {from : Point} {bytes : List ℕ} {t u : Taken} → ListGoesOn rs from bytes most t left mid
+pub list_on : {rs mid more : List Row} {most left rest : ℕ} {from : Point} {bytes : List ℕ}
+    {t u : Taken} → ListGoesOn rs from bytes most t left mid
     → ListGoesOn mid t.position (take (length bytes - t.used) (drop t.used bytes)) left u rest more
-    → ListGoesOn rs from bytes most (record { used = t.used + u.used; position = u.position }) rest more
-list_on {rs = rs} {mid = mid} {more = more} {most = most} {left = left} {rest = rest} {from = from} {bytes = bytes} {t = t} {u = u} a b = record {
+    → (let both : Taken = record { used = t.used + u.used; position = u.position } in
+    ListGoesOn rs from bytes most both rest more)
+list_on {bytes = bytes} {t = t} {u = u} a b = record {
   leads = record {
     within = one_within bytes t.used u.used a.leads.within b.leads.within;
     few = omega (arith, a.leads.few, b.leads.few);
     run = λ h f ids outer listed same.
-        step_more h (in_list h f ids most outer) (in_list h f ids left outer) (in_list h f ids rest outer) rs mid more from t.position u.position bytes t.used u.used
-        (a.leads.run h f ids outer listed same) (b.leads.run h f ids outer listed same);
+        step_more h _ _ _ _ _ _ _ _ _ bytes t.used u.used (a.leads.run h f ids outer listed same)
+        (b.leads.run h f ids outer listed same);
   };
   line = b.line;
   room = b.room;
 }
 
 -- points, and then one for which there is no memory
-pub list_stops_on : {rs mid : List Row} {most left : ℕ} {from : Point} {bytes : List ℕ} {t : Taken} → ListGoesOn rs from bytes most t left mid
-    → ListStops mid t.position left (take (length bytes - t.used) (drop t.used bytes)) → ListStops rs from most bytes
-list_stops_on {rs = rs} {mid = mid} {most = most} {left = left} {from = from} {bytes = bytes} {t = t} a stops = λ h f ids outer listed same.
-    step_stops h (in_list h f ids most outer) (in_list h f ids left outer) rs mid from t.position bytes t.used a.leads.within
-    (a.leads.run h f ids outer listed same) (stops h f ids outer listed same)
+pub list_stops_on : {rs mid : List Row} {most left : ℕ} {from : Point} {bytes : List ℕ} {t : Taken}
+    → ListGoesOn rs from bytes most t left mid
+    → ListStops mid t.position left (take (length bytes - t.used) (drop t.used bytes))
+    → ListStops rs from most bytes
+list_stops_on {bytes = bytes} {t = t} a stops = λ h f ids outer listed same.
+    step_stops h _ _ _ _ _ _ bytes t.used a.leads.within (a.leads.run h f ids outer listed same)
+    (stops h f ids outer listed same)
 
 -- one point
-pub list_one : {rs more : List Row} {most count : ℕ} {from p : Point} {bytes : List ℕ} → EndsInLine rs → length (row_points rs) + most ≤ 2 ^ 24 → 0 < most → PointInFront from bytes p count
-    → more ≡ point_added p rs → ListGoesOn rs from bytes most (record { used = count; position = p }) (most - 1) more
-list_one {rs = rs} {more = more} {most = most} {count = count} {from = from} {p = p} {bytes = bytes} line room some cut added =
+pub list_one : {rs more : List Row} {most count : ℕ} {from p : Point} {bytes : List ℕ}
+    → EndsInLine rs → length (row_points rs) + most ≤ 2 ^ 24 → 0 < most
+    → PointInFront from bytes p count
+    → more ≡ point_added p rs → ListGoesOn rs from bytes most
+    (record { used = count; position = p }) (most - 1) more
+list_one {rs = rs} {more = more} {most = most} {count = count} {from = from} {p = p} {bytes = bytes}
+    line room some cut added =
     let n = most - 1 in
     let one : most ≡ suc n = omega (arith, some) in
     record {
@@ -55,50 +69,80 @@ list_one {rs = rs} {more = more} {most = most} {count = count} {from = from} {p 
         within = cut.within;
         few = omega arith;
         run = λ h f ids outer listed same.
-            subst (λ k. StepRuns h (in_list h f ids k outer) rs from (take count bytes) (in_list h f ids n outer) more p) (sym one) (list_runs h f ids outer rs more n count from p bytes listed same cut added);
+            subst (λ k. StepRuns h (in_list h f ids k outer) rs from (take count bytes)
+            (in_list h f ids n outer) more p) (sym one)
+            (list_runs h f ids outer rs more n count from p bytes listed same cut added);
       };
       line = subst EndsInLine (sym added) (ends_again p rs line);
-      room = omega (arith, room, ap (λ (l : List Row). length (row_points l)) added, one_point_more p rs line, one);
+      room = omega (
+        arith,
+        room,
+        ap (λ (l : List Row). length (row_points l)) added,
+        one_point_more
+            p rs line,
+        one,
+      );
     }
 
 -- a point for which there is no memory
-pub list_one_stop : (rs : List Row) (most count : ℕ) (from p : Point) (bytes : List ℕ) → 0 < most → PointInFront from bytes p count → ListStops rs from most bytes
+pub list_one_stop : (rs : List Row) (most count : ℕ) (from p : Point) (bytes : List ℕ) → 0 < most
+    → PointInFront from bytes p count → ListStops rs from most bytes
 list_one_stop rs most count from p bytes some cut = λ h f ids outer listed same.
     let n = most - 1 in
     let one : most ≡ suc n = omega (arith, some) in
     rw one
-    (step_judged h (in_list h f ids (suc n) outer) (in_list h f ids n outer) rs (point_added p rs) from p bytes count cut.some cut.within tt
+    (step_judged h (in_list h f ids (suc n) outer) (in_list h f ids n outer) rs (point_added p rs)
+    from p bytes count cut.some cut.within tt
     (list_runs h f ids outer rs (point_added p rs) n count from p bytes listed same cut refl))
 
 -- these points, at most as many as are left
-points_lead : (ps : List Point) (rs more : List Row) (most count : ℕ) (from : Point) (bytes : List ℕ) → EndsInLine rs → length (row_points rs) + most ≤ 2 ^ 24 → length ps ≤ most
+points_lead : (ps : List Point) (rs more : List Row) (most count : ℕ) (from : Point)
+    (bytes : List ℕ) → EndsInLine rs → length (row_points rs) + most ≤ 2 ^ 24 → length ps ≤ most
     → PointsInFront from bytes ps count → more ≡ points_added ps rs
-    → ListGoesOn rs from bytes most (record { used = count; position = last_of from ps }) (most - length ps) more
+    → ListGoesOn rs from bytes most (record { used = count; position = last_of from ps })
+    (most - length ps) more
 points_lead [] rs more most count from bytes line room few none added =
     let all : most - 0 ≡ most = omega arith in
     rw (added, none, all) (list_none rs from bytes most line room)
 points_lead (p ∷ ps) rs more most count from bytes line room few (w, v, is, cut, rest) added =
     let n = most - 1 in
     let left : n - length ps ≡ most - suc (length ps) = omega arith in
-    let first : ListGoesOn rs from bytes most (record { used = w; position = p }) n (point_added p rs) = list_one line room (omega (arith, few)) cut refl in
+    let first : ListGoesOn rs from bytes most (record { used = w; position = p }) n
+    (point_added p rs) = list_one line room (omega (arith, few)) cut refl in
     rw (is, ← left) (list_on first
-    (points_lead ps (point_added p rs) more n v p _ first.line first.room (omega arith) (subst (λ bs. PointsInFront p bs ps v) (sym (take_rest bytes w)) rest) added))
+    (points_lead ps (point_added p rs) more n v p _ first.line first.room (omega arith)
+    (subst (λ bs. PointsInFront p bs ps v) (sym (take_rest bytes w)) rest) added))
 
 -- so many points, the last of them named
-pub list_points : (ps : List Point) (to : Point) (n : ℕ) (rs more : List Row) (most count : ℕ) (from : Point) (bytes : List ℕ) → length ps ≡ n → last_of from ps ≡ to → EndsInLine rs
-    → length (row_points rs) + most ≤ 2 ^ 24 → n ≤ most → PointsInFront from bytes ps count → more ≡ points_added ps rs
+pub list_points : (ps : List Point) (to : Point) (n : ℕ) (rs more : List Row) (most count : ℕ)
+    (from : Point) (bytes : List ℕ) → length ps ≡ n → last_of from ps ≡ to → EndsInLine rs
+    → length (row_points rs) + most ≤ 2 ^ 24 → n ≤ most → PointsInFront from bytes ps count
+    → more ≡ points_added ps rs
     → ListGoesOn rs from bytes most (record { used = count; position = to }) (most - n) more
 list_points ps to n rs more most count from bytes many last line room few cut added =
-    rw (← many, ← last) (points_lead ps rs more most count from bytes line room (omega arith) cut added)
+    rw (← many, ← last) (points_lead ps rs more most count from bytes line room (omega arith) cut
+    added)
 
 -- two points
-pub list_two : {rs more : List Row} {most count : ℕ} {from p q : Point} {bytes : List ℕ} → EndsInLine rs → length (row_points rs) + most ≤ 2 ^ 24 → 1 < most → TwoInFront from bytes p q count
-    → more ≡ point_added q (point_added p rs) → ListGoesOn rs from bytes most (record { used = count; position = q }) (most - 2) more
-list_two {rs = rs} {more = more} {most = most} {count = count} {from = from} {p = p} {q = q} {bytes = bytes} line room some two added =
-    points_lead (p ∷ q ∷ []) rs more most count from bytes line room (omega arith) (two.first_count, two.second_count, two.all, two.leads, (two.second_count, 0, omega arith, two.goes_on, refl)) added
+pub list_two : {rs more : List Row} {most count : ℕ} {from p q : Point} {bytes : List ℕ}
+    → EndsInLine rs → length (row_points rs) + most ≤ 2 ^ 24 → 1 < most
+    → TwoInFront from bytes p q count
+    → more ≡ point_added q (point_added p rs) → ListGoesOn rs from bytes most
+    (record { used = count; position = q }) (most - 2) more
+list_two {rs = rs} {more = more} {most = most} {count = count} {from = from} {p = p} {q = q}
+    {bytes = bytes} line room some two added =
+    points_lead (p ∷ q ∷ []) rs more most count from bytes line room (omega arith) (
+      two.first_count,
+      two.second_count,
+      two.all,
+      two.leads,
+      (two.second_count, 0, omega arith, two.goes_on, refl),
+    ) added
 
 -- so many points for which there is no memory
-pub list_points_stop : (ps : List Point) (rs : List Row) (most count : ℕ) (from : Point) (bytes : List ℕ) → 0 < length ps → length ps ≤ most → PointsInFront from bytes ps count
+pub list_points_stop : (ps : List Point) (rs : List Row) (most count : ℕ) (from : Point)
+    (bytes : List ℕ) → 0 < length ps → length ps ≤ most → PointsInFront from bytes ps count
     → ListStops rs from most bytes
 list_points_stop [] rs most count from bytes some few cut = absurd (omega (arith, some))
-list_points_stop (p ∷ ps) rs most count from bytes some few (w, v, is, cut, rest) = list_one_stop rs most w from p bytes (omega (arith, few)) cut
+list_points_stop (p ∷ ps) rs most count from bytes some few (w, v, is, cut, rest) = list_one_stop rs
+    most w from p bytes (omega (arith, few)) cut

@@ -2,12 +2,11 @@
 -- there is no memory are a part.
 use Rattle.std.proofs.Common.{Result, Ok, Err, ◌≡◌, ℕ, suc, ◌+◌, ◌-◌, ◌<◌, ◌≤◌, List, [], ◌∷◌, ◌++◌, length, take, drop, refl, sym, ap, ◌∙◌, subst, arith}
 use Rattle.std.specs.Prelude.{Option, ℤ, IsErr}
-use Rattle.std.proofs.lemmas.List.{drop-drop, take_rest}
 use Rattle.twkb_points.specs.Point.{Point}
 use Rattle.twkb_tree.specs.declared.kind.Kind.TheVariants as kinds
 use Rattle.twkb_tree.specs.Tree.{Ids}
-use Rattle.twkb_tree.specs.Rows.{Row, plain_row, row_points, first_id, other_ids}
-use Rattle.twkb_tree.specs.RowGrowth.{EndsInLine, point_added}
+use Rattle.twkb_tree.specs.Rows.{Row, plain_row, first_id, other_ids}
+use Rattle.twkb_tree.specs.RowGrowth.{point_added}
 use Rattle.twkb_grammar.specs.Machine.{Form, PointForm, LineForm, PolygonForm, MultiPointForm, MultiLineForm, MultiPolygonForm}
 use Rattle.twkb_body.specs.Outline.{Group, Step, OnBody, Wanted, shut, next_ids}
 use Rattle.twkb_body.specs.Growing.{applied, NewPoint, point_change, id_in}
@@ -17,16 +16,16 @@ use Rattle.twkb_body.specs.JudgedParts.{IsPastEnds}
 use Rattle.twkb_body.proofs.NotedPairs.{noted_point}
 use Rattle.twkb_body.proofs.NotedJoins.{noted_still, noted_join}
 use Rattle.twkb_body.proofs.Judging.{outlined_judged, part_further}
-use Rattle.twkb_body.proofs.LinePoints.{ends_again, one_point_more}
 use Rattle.twkb_body.proofs.Pieces.{used_join, one_within}
-use Rattle.twkb_body.specs.Front.{PointInFront, TwoInFront}
+use Rattle.twkb_body.specs.Front.{PointInFront}
 use Rattle.twkb_body.specs.Head.{head_of, IsHeadAt}
 use Rattle.twkb_body.specs.Running.{HasLists, StepRuns, StepStops, MembersLead, in_list}
 use Rattle.twkb_body.specs.declared.head.Head.{Head}
 use Rattle.twkb_body.specs.declared.list_points.Taken.{Taken}
 
 -- what every error has
-pub err_only : {A E : Type 0} (P : Result A E → Type 0) (r : Result A E) → IsErr r → ((e : E) → P (Err e)) → P r
+pub err_only : {A E : Type 0} (P : Result A E → Type 0) (r : Result A E) → IsErr r
+    → ((e : E) → P (Err e)) → P r
 err_only P (Ok x) is h = absurd cc
 err_only P (Err e) is h = h e
 
@@ -82,7 +81,9 @@ comes MultiLineForm to d id precision member h = refl
 comes MultiPolygonForm to d id precision member h = refl
 
 -- one point leads on to the next of its list
-pub list_runs : (h : Head) (f : Form) (ids : Ids) (lefts : List ℕ) (rs more : List Row) (left used : ℕ) (from to : Point) (bytes : List ℕ) → HasLists f → next_ids lefts ids ≡ ids → PointInFront from bytes to used → more ≡ point_added to rs
+pub list_runs : (h : Head) (f : Form) (ids : Ids) (lefts : List ℕ) (rs more : List Row)
+    (left used : ℕ) (from to : Point) (bytes : List ℕ) → HasLists f → next_ids lefts ids ≡ ids
+    → PointInFront from bytes to used → more ≡ point_added to rs
     → StepRuns h (in_list h f ids (suc left) lefts) rs from (take used bytes) (in_list h f ids left lefts) more to
 list_runs h f ids lefts rs more left used from to bytes listed same cut added =
     let Runs : Step → List Row → Type 0 = λ s l. StepRuns h (in_list h f ids (suc left) lefts) rs from (take used bytes) s l to in
@@ -122,8 +123,11 @@ members_more rs mid more ids between others depth most left count from to bytes 
 }
 
 -- some, and then one for which there is no memory
-pub members_stop : (rs mid : List Row) (ids between : Ids) (depth most left count : ℕ) (from to : Point) (bytes : List ℕ) (t : Taken) → MembersLead rs ids depth from bytes most t left between mid → 0 < left
-    → PointInFront t.position (take (length bytes - t.used) (drop t.used bytes)) to count → (h : Head) → suc h.depth ≡ depth → StepStops h (in_members h ids most) rs from bytes
+pub members_stop : (rs mid : List Row) (ids between : Ids) (depth most left count : ℕ)
+    (from to : Point) (bytes : List ℕ) (t : Taken) → MembersLead rs ids depth from bytes most t left
+    between mid → 0 < left
+    → PointInFront t.position (take (length bytes - t.used) (drop t.used bytes)) to count
+    → (h : Head) → suc h.depth ≡ depth → StepStops h (in_members h ids most) rs from bytes
 members_stop rs mid ids between depth most left count from to bytes t l some cut h deep =
     let n = left - 1 in
     let one : left ≡ suc n = omega (arith, some) in

@@ -64,19 +64,23 @@ TakesRow rs from bytes most (Ok r) more = ListLeads rs from bytes most r.0 r.1 m
 TakesRow rs from bytes most (Err e) more = ListStops rs from most bytes
 
 -- points of a list were taken so, and the last row takes those that are left
-pub record ListGoesOn (rs : List Row) (from : Point) (bytes : List ℕ) (most : ℕ) (t : Taken) (left : ℕ) (more : List Row) : Type 0 where
+pub record ListGoesOn (rs : List Row) (from : Point) (bytes : List ℕ) (most : ℕ) (t : Taken)
+    (left : ℕ) (more : List Row) : Type 0 where
   pub leads : ListLeads rs from bytes most t left more
   pub line : EndsInLine more
   pub room : length (row_points more) + left ≤ 2 ^ 24
 
 -- what a call answers whose caller takes those that are left
-abbrev pub GoesOn : {E : Type 0} → List Row → Point → List ℕ → ℕ → Result (Taken × ℕ) E → List Row → Type 0
+abbrev pub GoesOn : {E : Type 0} → List Row → Point → List ℕ → ℕ → Result (Taken × ℕ) E → List Row
+    → Type 0
 GoesOn rs from bytes most (Ok r) more = ListGoesOn rs from bytes most r.0 r.1 more
 GoesOn rs from bytes most (Err e) more = ListStops rs from most bytes
 
 -- what a call answers that takes a few of them, or none if the next is not complete
-abbrev pub TakesFew : {E : Type 0} → List Row → Point → List ℕ → ℕ → Result (Option (Taken × ℕ)) E → List Row → Type 0
-TakesFew rs from bytes most (Ok (Some r)) more = ListGoesOn rs from bytes most r.0 r.1 more × (r.1 < most)
+abbrev pub TakesFew : {E : Type 0} → List Row → Point → List ℕ → ℕ → Result (Option (Taken × ℕ)) E
+    → List Row → Type 0
+TakesFew rs from bytes most (Ok (Some r)) more = ListGoesOn rs from bytes most r.0 r.1
+    more × (r.1 < most)
 TakesFew rs from bytes most (Ok None) more = more ≡ rs
 TakesFew rs from bytes most (Err e) more = ListStops rs from most bytes
 

@@ -7,7 +7,8 @@ use Rattle.twkb_body.proofs.list_points.take_eights.Given as goal
 -- those of the bytes that are left
 abbrev pub invariant-loop-left : goal.invariant-loop-left
 invariant-loop-left l = record {
-  so_far : ListGoesOn l.initial.flat l.initial.position l.bytes l.initial.left (record { used = l.used; position = l.position }) l.left l.flat;
+  so_far : ListGoesOn l.initial.flat l.initial.position l.bytes l.initial.left
+      (record { used = l.used; position = l.position }) l.left l.flat;
   ends : AreEnds 0 128 (drop l.used l.bytes) l.ends;
 }
 

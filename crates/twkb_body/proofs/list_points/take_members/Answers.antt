@@ -17,8 +17,12 @@ add_member-requires-clause-member c =
 
 pub returns-in_err-add_member-clause-taken : goal.returns-in_err-add_member-clause-taken
 returns-in_err-add_member-clause-taken c =
-    err_only (λ r. TakesMembers c.args.flat.now (ids_of c.args.ids.now) c.args.depth c.args.from c.args.bytes.now c.args.most r (ids_of c.loop-left.ids) c.add_member.new.self) _ c.from_residual.ensures.0 (λ e.
-    members_stop c.args.flat.now c.loop-left.flat (ids_of c.args.ids.now) (ids_of c.loop-left.ids) c.args.depth c.args.most c.loop-left.left _ c.args.from _ c.args.bytes.now _ c.loop-left.invariant.leads (omega (arith, c.loop-left-test.true))
+    err_only (λ r. TakesMembers c.args.flat.now (ids_of c.args.ids.now) c.args.depth c.args.from
+    c.args.bytes.now c.args.most r (ids_of c.loop-left.ids) c.add_member.new.self) _
+    c.from_residual.ensures.0 (λ e.
+    members_stop c.args.flat.now c.loop-left.flat (ids_of c.args.ids.now) (ids_of c.loop-left.ids)
+    c.args.depth c.args.most c.loop-left.left _ c.args.from _ c.args.bytes.now _
+    c.loop-left.invariant.leads (omega (arith, c.loop-left-test.true))
     c.in-Some.ensures)
 
 pub loop-left-preserved : goal.loop-left-preserved
