@@ -15,6 +15,7 @@ use Rattle.twkb_body.specs.Outline.{Group, Outline, OnMetadata, begins}
 use Rattle.twkb_body.specs.Noting.{NotedOutline}
 use Rattle.twkb_body.specs.HeaderParts.{bare_head, AreNumberParts}
 use Rattle.twkb_body.proofs.HeaderParts.{one_part, parts_join, sums_behind_header, header_read}
+use Rattle.twkb_body.proofs.NotedJoins.{sums_same}
 use Rattle.twkb_body.proofs.Pieces.{used_join, one_within}
 use Rattle.twkb_body.specs.Front.{NumberInFront}
 use Rattle.twkb_body.specs.Parts.{sides, sized_head, SidesInFront, BoxInFront, SizeInFront, PartsInFront}
@@ -86,10 +87,16 @@ read_ahead limits front e gs k precision rows told rest size from used points so
     let parts : List ℕ = take used left in
     let whole : meta ∷ parts ≡ take (1 + used) rest = ap (λ l. l ++ parts) (sym (take-suc rest 0 0 some)) ∙ sym (used_join rest 1 used) in
     let long : length parts ≡ used = length-take-le used left p.within in
-    let bytes : e.bytes + suc (length parts) ≡ e.bytes + (1 + used) = omega (arith, long) in
-    let sums : sums_behind_header e k meta parts ≡ record { bytes = e.bytes + (1 + used); position = e.position; nodes = e.nodes; points = points } = λ t. record { bytes = bytes t; position = e.position; nodes = e.nodes; points = sym announced t } in
+    let behind : Sums = record {
+      bytes = e.bytes + (1 + used);
+      position = e.position;
+      nodes = e.nodes;
+      points = points;
+    } in
+    let sums : sums_behind_header e k meta parts ≡ behind =
+    sums_same (omega (arith, long)) refl refl (sym announced) in
     let o : Outline = (gs, begins k (sized_head precision meta size ((e.bytes + 1) + from))) in
     let noted : ℕ → Notes = λ start. note_metadata meta (told start) in
     let read = header_read limits front e gs k precision rows told meta parts size ((e.bytes + 1) + from) low full free (p.parts precision (e.bytes + 1)) there in
-    subst (λ l. NotedOutline limits (front ++ l) (record { bytes = e.bytes + (1 + used); position = e.position; nodes = e.nodes; points = points }) o rows noted) whole
+    subst (λ l. NotedOutline limits (front ++ l) behind o rows noted) whole
     (subst (λ s. NotedOutline limits (front ++ meta ∷ parts) s o rows noted) sums read)

@@ -6,7 +6,7 @@ use Rattle.twkb_points.specs.Point.{Point}
 use Rattle.twkb_tree.specs.Rows.{Row, row_points}
 use Rattle.twkb_tree.specs.RowGrowth.{EndsInLine, point_added, points_added}
 use Rattle.twkb_body.specs.Front.{PointInFront, PointsInFront, TwoInFront, last_of}
-use Rattle.twkb_body.specs.Running.{ListGoesOn, ListStops, StepRuns, in_list}
+use Rattle.twkb_body.specs.Running.{ListGoesOn, ListStops, in_list}
 use Rattle.twkb_body.specs.declared.list_points.Taken.{Taken}
 use Rattle.twkb_body.proofs.LinePoints.{ends_again, one_point_more}
 use Rattle.twkb_body.proofs.Pieces.{one_within}
@@ -57,43 +57,26 @@ list_stops_on {bytes = bytes} {t = t} a stops = λ h f ids outer listed same.
 -- one point
 pub list_one : {rs more : List Row} {most count : ℕ} {from p : Point} {bytes : List ℕ}
     → EndsInLine rs → length (row_points rs) + most ≤ 2 ^ 24 → 0 < most
-    → PointInFront from bytes p count
-    → more ≡ point_added p rs → ListGoesOn rs from bytes most
-    (record { used = count; position = p }) (most - 1) more
-list_one {rs = rs} {more = more} {most = most} {count = count} {from = from} {p = p} {bytes = bytes}
-    line room some cut added =
-    let n = most - 1 in
-    let one : most ≡ suc n = omega (arith, some) in
-    record {
-      leads = record {
-        within = cut.within;
-        few = omega arith;
-        run = λ h f ids outer listed same.
-            subst (λ k. StepRuns h (in_list h f ids k outer) rs from (take count bytes)
-            (in_list h f ids n outer) more p) (sym one)
-            (list_runs h f ids outer rs more n count from p bytes listed same cut added);
-      };
-      line = subst EndsInLine (sym added) (ends_again p rs line);
-      room = omega (
-        arith,
-        room,
-        ap (λ (l : List Row). length (row_points l)) added,
-        one_point_more
-            p rs line,
-        one,
-      );
-    }
+    → PointInFront from bytes p count → more ≡ point_added p rs
+    → ListGoesOn rs from bytes most (record { used = count; position = p }) (most - 1) more
+list_one {rs = rs} {more = more} {most = most} {p = p} line room some cut added = record {
+  leads = record {
+    within = cut.within;
+    few = omega arith;
+    run = λ h f ids outer listed same.
+        list_runs h f ids outer rs more most _ _ p _ some listed same cut added;
+  };
+  line = subst EndsInLine (sym added) (ends_again p rs line);
+  room = omega (arith, room, ap (λ (l : List Row). length (row_points l)) added, one_point_more p rs line);
+}
 
 -- a point for which there is no memory
 pub list_one_stop : (rs : List Row) (most count : ℕ) (from p : Point) (bytes : List ℕ) → 0 < most
     → PointInFront from bytes p count → ListStops rs from most bytes
 list_one_stop rs most count from p bytes some cut = λ h f ids outer listed same.
-    let n = most - 1 in
-    let one : most ≡ suc n = omega (arith, some) in
-    rw one
-    (step_judged h (in_list h f ids (suc n) outer) (in_list h f ids n outer) rs (point_added p rs)
-    from p bytes count cut.some cut.within tt
-    (list_runs h f ids outer rs (point_added p rs) n count from p bytes listed same cut refl))
+    step_judged h _ (in_list h f ids (most - 1) outer) rs _ from p bytes count
+    cut.some cut.within tt
+    (list_runs h f ids outer rs _ most count from p bytes some listed same cut refl)
 
 -- these points, at most as many as are left
 points_lead : (ps : List Point) (rs more : List Row) (most count : ℕ) (from : Point)
@@ -107,8 +90,9 @@ points_lead [] rs more most count from bytes line room few none added =
 points_lead (p ∷ ps) rs more most count from bytes line room few (w, v, is, cut, rest) added =
     let n = most - 1 in
     let left : n - length ps ≡ most - suc (length ps) = omega arith in
-    let first : ListGoesOn rs from bytes most (record { used = w; position = p }) n
-    (point_added p rs) = list_one line room (omega (arith, few)) cut refl in
+    let one : Taken = record { used = w; position = p } in
+    let first : ListGoesOn rs from bytes most one n (point_added p rs) =
+    list_one line room (omega (arith, few)) cut refl in
     rw (is, ← left) (list_on first
     (points_lead ps (point_added p rs) more n v p _ first.line first.room (omega arith)
     (subst (λ bs. PointsInFront p bs ps v) (sym (take_rest bytes w)) rest) added))
@@ -120,29 +104,25 @@ pub list_points : (ps : List Point) (to : Point) (n : ℕ) (rs more : List Row) 
     → more ≡ points_added ps rs
     → ListGoesOn rs from bytes most (record { used = count; position = to }) (most - n) more
 list_points ps to n rs more most count from bytes many last line room few cut added =
-    rw (← many, ← last) (points_lead ps rs more most count from bytes line room (omega arith) cut
-    added)
+    rw (← many, ← last)
+    (points_lead ps rs more most count from bytes line room (omega arith) cut added)
 
 -- two points
 pub list_two : {rs more : List Row} {most count : ℕ} {from p q : Point} {bytes : List ℕ}
     → EndsInLine rs → length (row_points rs) + most ≤ 2 ^ 24 → 1 < most
-    → TwoInFront from bytes p q count
-    → more ≡ point_added q (point_added p rs) → ListGoesOn rs from bytes most
-    (record { used = count; position = q }) (most - 2) more
-list_two {rs = rs} {more = more} {most = most} {count = count} {from = from} {p = p} {q = q}
-    {bytes = bytes} line room some two added =
-    points_lead (p ∷ q ∷ []) rs more most count from bytes line room (omega arith) (
-      two.first_count,
-      two.second_count,
-      two.all,
-      two.leads,
-      (two.second_count, 0, omega arith, two.goes_on, refl),
-    ) added
+    → TwoInFront from bytes p q count → more ≡ point_added q (point_added p rs)
+    → ListGoesOn rs from bytes most (record { used = count; position = q }) (most - 2) more
+list_two {from = from} {p = p} {q = q} {bytes = bytes} line room some two added =
+    let n = two.second_count in
+    let next : PointsInFront p (drop two.first_count bytes) (q ∷ []) n =
+    (n, 0, omega arith, two.goes_on, refl) in
+    points_lead (p ∷ q ∷ []) _ _ _ _ from bytes line room (omega arith)
+    (two.first_count, n, two.all, two.leads, next) added
 
 -- so many points for which there is no memory
 pub list_points_stop : (ps : List Point) (rs : List Row) (most count : ℕ) (from : Point)
     (bytes : List ℕ) → 0 < length ps → length ps ≤ most → PointsInFront from bytes ps count
     → ListStops rs from most bytes
 list_points_stop [] rs most count from bytes some few cut = absurd (omega (arith, some))
-list_points_stop (p ∷ ps) rs most count from bytes some few (w, v, is, cut, rest) = list_one_stop rs
-    most w from p bytes (omega (arith, few)) cut
+list_points_stop (p ∷ ps) rs most count from bytes some few (w, v, is, cut, rest) =
+    list_one_stop rs most w from p bytes (omega (arith, few)) cut

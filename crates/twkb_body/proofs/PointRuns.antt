@@ -1,6 +1,6 @@
 -- Points that are complete at the start of bytes lead a body on; and the bytes up to one for which
 -- there is no memory are a part.
-use Rattle.std.proofs.Common.{Result, Ok, Err, ◌≡◌, ℕ, suc, ◌+◌, ◌-◌, ◌<◌, ◌≤◌, List, [], ◌∷◌, ◌++◌, length, take, drop, refl, sym, ap, ◌∙◌, subst, arith}
+use Rattle.std.proofs.Common.{Result, Ok, Err, ◌≡◌, ℕ, zero, suc, ◌+◌, ◌-◌, ◌<◌, ◌≤◌, List, [], ◌∷◌, ◌++◌, length, take, drop, refl, sym, ap, ◌∙◌, subst, arith}
 use Rattle.std.specs.Prelude.{Option, ℤ, IsErr}
 use Rattle.twkb_points.specs.Point.{Point}
 use Rattle.twkb_tree.specs.declared.kind.Kind.TheVariants as kinds
@@ -82,13 +82,22 @@ comes MultiPolygonForm to d id precision member h = refl
 
 -- one point leads on to the next of its list
 pub list_runs : (h : Head) (f : Form) (ids : Ids) (lefts : List ℕ) (rs more : List Row)
-    (left used : ℕ) (from to : Point) (bytes : List ℕ) → HasLists f → next_ids lefts ids ≡ ids
-    → PointInFront from bytes to used → more ≡ point_added to rs
-    → StepRuns h (in_list h f ids (suc left) lefts) rs from (take used bytes) (in_list h f ids left lefts) more to
-list_runs h f ids lefts rs more left used from to bytes listed same cut added =
-    let Runs : Step → List Row → Type 0 = λ s l. StepRuns h (in_list h f ids (suc left) lefts) rs from (take used bytes) s l to in
-    let rows : applied (point_change to h.depth h.id h.precision f (first_id ids)) rs ≡ more = ap (λ c. applied c rs) (comes f to h.depth h.id h.precision (first_id ids) listed) ∙ sym added in
-    subst (λ i. Runs (in_list h f i left lefts) more) same (subst (λ l. Runs (shut (head_of h) f ids 0 (suc left ∷ lefts)) l) rows (point_runs h f ids rs from to bytes (suc left ∷ lefts) used cut))
+    (left used : ℕ) (from to : Point) (bytes : List ℕ) → 0 < left → HasLists f
+    → next_ids lefts ids ≡ ids → PointInFront from bytes to used → more ≡ point_added to rs
+    → StepRuns h (in_list h f ids left lefts) rs from (take used bytes)
+    (in_list h f ids (left - 1) lefts) more to
+list_runs h f ids lefts rs more zero used from to bytes some listed same cut added =
+    absurd (omega (arith, some))
+list_runs h f ids lefts rs more (suc left) used from to bytes some listed same cut added =
+    let less : suc left - 1 ≡ left = omega arith in
+    let Runs : Step → List Row → Type 0 = λ s l.
+    StepRuns h (in_list h f ids (suc left) lefts) rs from (take used bytes) s l to in
+    let change = comes f to h.depth h.id h.precision (first_id ids) listed in
+    rw less
+    (subst (λ i. Runs (in_list h f i left lefts) more) same
+    (subst (λ l. Runs (shut (head_of h) f ids 0 (suc left ∷ lefts)) l)
+    (ap (λ c. applied c rs) change ∙ sym added)
+    (point_runs h f ids rs from to bytes (suc left ∷ lefts) used cut)))
 
 -- ---- a member of a multipoint
 
@@ -97,40 +106,61 @@ abbrev in_members : Head → Ids → (left : ℕ) → Step
 in_members h ids left = in_list h MultiPointForm ids left []
 
 -- one leads to the next
-member_runs : (h : Head) (ids others : Ids) (rs more : List Row) (left used : ℕ) (from to : Point) (bytes : List ℕ) → PointInFront from bytes to used → others ≡ other_ids ids → more ≡ rs ++ plain_row (suc h.depth) kinds.Point (first_id ids) (to ∷ []) ∷ []
-    → StepRuns h (in_members h ids (suc left)) rs from (take used bytes) (in_members h others left) more to
-member_runs h ids others rs more left used from to bytes cut next added =
-    let Runs : Ids → List Row → Type 0 = λ i l. StepRuns h (in_members h ids (suc left)) rs from (take used bytes) (in_members h i left) l to in
-    subst (λ i. Runs i more) (sym next) (subst (λ l. Runs (other_ids ids) l) (sym added) (point_runs h MultiPointForm ids rs from to bytes (suc left ∷ []) used cut))
+member_runs : (h : Head) (ids others : Ids) (rs more : List Row) (left used : ℕ) (from to : Point)
+    (bytes : List ℕ) → 0 < left → PointInFront from bytes to used → others ≡ other_ids ids
+    → more ≡ rs ++ plain_row (suc h.depth) kinds.Point (first_id ids) (to ∷ []) ∷ []
+    → StepRuns h (in_members h ids left) rs from (take used bytes) (in_members h others (left - 1))
+    more to
+member_runs h ids others rs more zero used from to bytes some cut next added =
+    absurd (omega (arith, some))
+member_runs h ids others rs more (suc left) used from to bytes some cut next added =
+    let less : suc left - 1 ≡ left = omega arith in
+    let Runs : Ids → List Row → Type 0 = λ i l.
+    StepRuns h (in_members h ids (suc left)) rs from (take used bytes) (in_members h i left) l to in
+    rw less
+    (subst (λ i. Runs i more) (sym next)
+    (subst (λ l. Runs (other_ids ids) l) (sym added)
+    (point_runs h MultiPointForm ids rs from to bytes (suc left ∷ []) used cut)))
 
 -- none
-pub members_none : (rs : List Row) (ids : Ids) (depth : ℕ) (from : Point) (bytes : List ℕ) (most : ℕ) → MembersLead rs ids depth from bytes most (record { used = 0; position = from }) most ids rs
-members_none rs ids depth from bytes most = record { within = omega arith; few = omega arith; run = λ h deep. step_none h (in_members h ids most) rs from }
+pub members_none : (rs : List Row) (ids : Ids) (depth : ℕ) (from : Point) (bytes : List ℕ)
+    (most : ℕ) → MembersLead rs ids depth from bytes most (record { used = 0; position = from })
+    most ids rs
+members_none rs ids depth from bytes most = record {
+  within = omega arith;
+  few = omega arith;
+  run = λ h deep. step_none h (in_members h ids most) rs from;
+}
 
 -- some, and then one more
-pub members_more : (rs mid more : List Row) (ids between others : Ids) (depth most left count : ℕ) (from to : Point) (bytes : List ℕ) (t : Taken) (member : Option ℤ) → MembersLead rs ids depth from bytes most t left between mid → 0 < left
-    → PointInFront t.position (take (length bytes - t.used) (drop t.used bytes)) to count → member ≡ first_id between → others ≡ other_ids between → more ≡ mid ++ plain_row depth kinds.Point member (to ∷ []) ∷ []
-    → MembersLead rs ids depth from bytes most (record { used = t.used + count; position = to }) (left - 1) others more
-members_more rs mid more ids between others depth most left count from to bytes t member l some cut same next added = record {
-  within = one_within bytes t.used count l.within cut.within;
-  few = omega (arith, l.few);
-  run = λ h deep.
-      let n = left - 1 in
-      let one : left ≡ suc n = omega (arith, some) in
-      let put : more ≡ mid ++ plain_row (suc h.depth) kinds.Point (first_id between) (to ∷ []) ∷ [] = added ∙ (ap (λ d. mid ++ plain_row d kinds.Point member (to ∷ []) ∷ []) (sym deep) ∙ ap (λ m. mid ++ plain_row (suc h.depth) kinds.Point m (to ∷ []) ∷ []) same) in
-      step_more h (in_members h ids most) (in_members h between (suc n)) (in_members h others n) rs mid more from t.position to bytes t.used count
-      (subst (λ k. StepRuns h (in_members h ids most) rs from (take t.used bytes) (in_members h between k) mid t.position) one (l.run h deep)) (member_runs h between others mid more n count t.position to _ cut next put);
-}
+pub members_more : (rs mid more : List Row) (ids between others : Ids) (depth most left count : ℕ)
+    (from to : Point) (bytes : List ℕ) (t : Taken) (member : Option ℤ)
+    → MembersLead rs ids depth from bytes most t left between mid → 0 < left
+    → PointInFront t.position (take (length bytes - t.used) (drop t.used bytes)) to count
+    → member ≡ first_id between → others ≡ other_ids between
+    → more ≡ mid ++ plain_row depth kinds.Point member (to ∷ []) ∷ []
+    → (let both : Taken = record { used = t.used + count; position = to } in
+    MembersLead rs ids depth from bytes most both (left - 1) others more)
+members_more rs mid more ids between others depth most left count from to bytes t member l some cut
+    same next added = record {
+      within = one_within bytes t.used count l.within cut.within;
+      few = omega (arith, l.few);
+      run = λ h deep.
+          let row : ℕ → Option ℤ → List Row = λ d m. mid ++ plain_row d kinds.Point m
+          (to ∷ []) ∷ [] in
+          let put = added ∙ (ap (λ d. row d member) (sym deep) ∙ ap (row (suc h.depth)) same) in
+          step_more h _ _ _ _ _ _ _ _ _ bytes t.used count (l.run h deep)
+          (member_runs h between others mid more left count t.position to _ some cut next put);
+    }
 
 -- some, and then one for which there is no memory
 pub members_stop : (rs mid : List Row) (ids between : Ids) (depth most left count : ℕ)
-    (from to : Point) (bytes : List ℕ) (t : Taken) → MembersLead rs ids depth from bytes most t left
-    between mid → 0 < left
+    (from to : Point) (bytes : List ℕ) (t : Taken)
+    → MembersLead rs ids depth from bytes most t left between mid → 0 < left
     → PointInFront t.position (take (length bytes - t.used) (drop t.used bytes)) to count
     → (h : Head) → suc h.depth ≡ depth → StepStops h (in_members h ids most) rs from bytes
 members_stop rs mid ids between depth most left count from to bytes t l some cut h deep =
-    let n = left - 1 in
-    let one : left ≡ suc n = omega (arith, some) in
-    step_stops h (in_members h ids most) (in_members h between (suc n)) rs mid from t.position bytes t.used l.within
-    (subst (λ k. StepRuns h (in_members h ids most) rs from (take t.used bytes) (in_members h between k) mid t.position) one (l.run h deep))
-    (step_judged h (in_members h between (suc n)) (in_members h (other_ids between) n) mid _ t.position to _ count cut.some cut.within tt (member_runs h between (other_ids between) mid _ n count t.position to _ cut refl refl))
+    step_stops h _ _ _ _ _ _ bytes t.used l.within (l.run h deep)
+    (step_judged h _ (in_members h (other_ids between) (left - 1)) mid _ t.position to _ count
+    cut.some cut.within tt
+    (member_runs h between (other_ids between) mid _ left count t.position to _ some cut refl refl))
