@@ -56,16 +56,15 @@ pub fn take_row(
     let mut is_near = true;
     let mut next_look = 0;
     while left > 0 {
-        let rest = &bytes[used..];
-        if is_near && used >= next_look && left >= POINTS && rest.len() >= BLOCK {
-            let (taken, behind) = take_eights(flat, position, rest, left)?;
+        if is_near && used >= next_look && left >= POINTS && bytes.len() - used >= BLOCK {
+            let (taken, behind) = take_eights(flat, position, &bytes[used..], left)?;
             used += taken.used;
             position = taken.position;
             left = behind;
             next_look = used + if taken.used == 0 { FAR_APART } else { APART };
             continue;
         }
-        match take_few(flat, position, rest, left, &mut is_near)? {
+        match take_few(flat, position, &bytes[used..], left, &mut is_near)? {
             Some((taken, behind)) => {
                 used += taken.used;
                 position = taken.position;

@@ -14,8 +14,8 @@ returns-in_err-taken c =
     c.take_eights.new.flat) _ c.from_residual.ensures.0
     (λ e. list_stops_on c.loop-left.invariant c.in_err-taken.ensures)
 
-pub loop-left-preserved-then-rest-ge-BLOCK : goal.loop-left-preserved-then-rest-ge-BLOCK
-loop-left-preserved-then-rest-ge-BLOCK c = list_on c.loop-left.invariant c.in_ok-taken.ensures
+pub loop-left-preserved-then-bytes-used-ge-BLOCK : goal.loop-left-preserved-then-bytes-used-ge-BLOCK
+loop-left-preserved-then-bytes-used-ge-BLOCK c = list_on c.loop-left.invariant c.in_ok-taken.ensures
 
 pub returns-in_err-taken-2 : goal.returns-in_err-taken-2
 returns-in_err-taken-2 c =
