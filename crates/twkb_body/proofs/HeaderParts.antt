@@ -11,13 +11,13 @@ use Rattle.twkb_grammar.specs.PlainReader.{objection}
 use Rattle.twkb_grammar.specs.Machine.{Head, Kind, Sums, kind_number, added, asked, with_option}
 use Rattle.twkb_grammar.specs.Noting.{Notes, note_metadata, noted_by}
 use Rattle.twkb_grammar.specs.Reading.{Gives}
-use Rattle.twkb_body.specs.Outline.{Group, OnMetadata, OnOption, OnEnd, begins, options}
+use Rattle.twkb_body.specs.Outline.{Group, Step, OnMetadata, OnOption, OnEnd, begins, options}
 use Rattle.twkb_body.specs.Growing.{applied, header_change, NewRow, own_of, Nothing}
-use Rattle.twkb_body.specs.Reading.{sums_past, change_after}
+use Rattle.twkb_body.specs.Reading.{sums_past}
 use Rattle.twkb_body.specs.Noting.{NotedOutline}
 use Rattle.twkb_body.specs.HeaderParts.{IsNumberPart, bare_head, AreNumberParts}
 use Rattle.twkb_body.proofs.Outlined.{noted_item}
-use Rattle.twkb_body.proofs.NotedJoins.{noted_still, noted_join}
+use Rattle.twkb_body.proofs.NotedJoins.{sums_same, noted_still, noted_join}
 
 -- ---- optional parts
 
@@ -71,26 +71,28 @@ module _ (limits : Allowance) (gs : List Group) (k : Kind) (rows : List Row) (to
   part_read front e h r rs n part full is v there =
       let c = calm limits e r n is in
       let i : Item = record { role = r; number = n; bytes = part } in
-      let nodes : e.nodes + nodes_by r n ≡ e.nodes = omega (arith, c.nodes) in
-      let points : e.points + points_by r n ≡ e.points = omega (arith, c.points) in
-      let sums : added e i ≡ sums_past e part e.position = λ t. record { bytes = e.bytes + length part; position = c.still t; nodes = nodes t; points = points t } in
-      let a = noted_item limits front e (gs, OnOption k h r rs) rows told i there refl (c.gives part v) c.free in
-      let still : applied (change_after e i (gs, OnOption k h r rs)) rows ≡ rows = no_row _ _ k h.precision h.meta rs rows full in
-      let b = subst (λ l. NotedOutline limits (front ++ part) (added e i) (gs, options k (with_option h r n (e.bytes + length part)) rs) l (λ start. noted_by start e r n (told start))) still a in
-      let d = subst (λ s. NotedOutline limits (front ++ part) s (gs, options k (with_option h r n (e.bytes + length part)) rs) rows (λ start. noted_by start e r n (told start))) sums b in
+      let sums : added e i ≡ sums_past e part e.position =
+      sums_same refl c.still (omega (arith, c.nodes)) (omega (arith, c.points)) in
+      let with : Head = with_option h r n (e.bytes + length part) in
+      let Behind : Sums → List Row → Type 0 = λ s l.
+      NotedOutline limits (front ++ part) s (gs, options k with rs) l
+      (λ start. noted_by start e r n (told start)) in
+      let d = subst (λ s. Behind s rows) sums
+      (subst (Behind (added e i)) (no_row _ _ k h.precision h.meta rs rows full)
+      (noted_item _ _ _ _ _ _ i there refl (c.gives part v) c.free)) in
       record { outlined = d.outlined; notes = λ start. d.notes start ∙ c.silent start (told start) }
 
   -- the state after some parts
   pub parts_read : (front : List ℕ) (e : Sums) (h to : Head) (rs : List Role) (bytes : List ℕ) → bit h.meta 4 ≡ false → AreNumberParts h e.bytes rs bytes to → NotedOutline limits front e (gs, options k h rs) rows told
       → NotedOutline limits (front ++ bytes) (sums_past e bytes e.position) (gs, options k to []) rows told
   parts_read front e h to [] bytes full (none, same) there =
-      subst (λ l. NotedOutline limits (front ++ l) (sums_past e l e.position) (gs, options k to []) rows told) (sym none)
-      (noted_still limits front e (gs, options k to []) rows told e.position refl (subst (λ g. NotedOutline limits front e (gs, options k g []) rows told) (sym same) there))
+      rw (none, same)
+      (noted_still limits front e (gs, options k h []) rows told e.position refl there)
   parts_read front e h to (r ∷ rs) bytes full (n, part, rest, is, v, whole, more) there =
       let with = with_option h r n (e.bytes + length part) in
       let meta : bit with.meta 4 ≡ false = ap (λ m. bit m 4) ((calm limits e r n is).meta h (e.bytes + length part)) ∙ full in
       let next = parts_read (front ++ part) (sums_past e part e.position) with to rs rest meta more (part_read front e h r rs n part full is v there) in
-      subst (λ l. NotedOutline limits (front ++ l) (sums_past e l e.position) (gs, options k to []) rows told) (sym whole)
+      rw whole
       (noted_join limits front e (gs, options k to []) rows told part rest e.position e.position next)
 
 -- the sums after a metadata byte and the parts that it asks for
@@ -106,14 +108,17 @@ header_read limits front e gs k precision rows told meta parts size from low ful
     let to : Head = record { precision = precision; meta = meta; size = size; from = from } in
     let h : Head = bare_head precision meta (e.bytes + 1) in
     let noted : ℕ → Notes = λ start. note_metadata meta (told start) in
-    let a = noted_item limits front e (gs, OnMetadata k precision) rows told i there refl (low, refl) free in
-    let still : applied (change_after e i (gs, OnMetadata k precision)) rows ≡ rows = no_row _ _ k precision meta (asked meta) rows full in
-    let b = subst (λ l. NotedOutline limits (front ++ meta ∷ []) (added e i) (gs, options k h (asked meta)) l noted) still a in
-    let c = parts_read limits gs k rows noted (front ++ meta ∷ []) (added e i) h to (asked meta) parts full are b in
+    let Behind : List ℕ → Sums → Step → List Row → Type 0 = λ bs s q l.
+    NotedOutline limits bs s (gs, q) l noted in
+    let own : List ℕ = front ++ meta ∷ [] in
+    let b = subst (Behind own (added e i) (options k h (asked meta)))
+    (no_row _ _ k precision meta (asked meta) rows full)
+    (noted_item _ _ _ _ _ _ i there refl (low, refl) free) in
+    let c = parts_read limits gs k rows noted own (added e i) h to (asked meta) parts full are b in
     let goes : options k to [] ≡ begins k to = ap (λ t. if t then OnEnd to else begins k to) full in
-    let bytes : (e.bytes + 1) + length parts ≡ e.bytes + suc (length parts) = omega arith in
-    let nodes : (e.nodes + 0) ≡ e.nodes = omega arith in
-    let sums : sums_past (added e i) parts e.position ≡ sums_behind_header e k meta parts = λ t. record { bytes = bytes t; position = e.position; nodes = nodes t; points = e.points + points_by (Metadata (kind_number k)) meta } in
-    subst (λ l. NotedOutline limits l (sums_behind_header e k meta parts) (gs, begins k to) rows noted) (append_assoc front (meta ∷ []) parts)
-    (subst (λ s. NotedOutline limits ((front ++ meta ∷ []) ++ parts) s (gs, begins k to) rows noted) sums
-    (subst (λ q. NotedOutline limits ((front ++ meta ∷ []) ++ parts) (sums_past (added e i) parts e.position) (gs, q) rows noted) goes c))
+    let sums : sums_past (added e i) parts e.position ≡ sums_behind_header e k meta parts =
+    sums_same (omega arith) refl (omega arith) refl in
+    subst (λ bs. Behind bs (sums_behind_header e k meta parts) (begins k to) rows)
+    (append_assoc front (meta ∷ []) parts)
+    (subst (λ s. Behind (own ++ parts) s (begins k to) rows) sums
+    (subst (λ q. Behind (own ++ parts) (sums_past (added e i) parts e.position) q rows) goes c))

@@ -1,13 +1,33 @@
 -- Points that are complete at the start of bytes.
-use Rattle.std.proofs.Common.{◌≡◌, ℕ, ◌+◌, ◌-◌, List, length, take, drop, true, ℤ, sym, ap, ◌∙◌, subst, arith}
+use Rattle.std.proofs.Common.{◌≡◌, ℕ, ◌+◌, ◌-◌, List, ◌++◌, length, take, drop, true, ℤ, sym, ap, ◌∙◌, subst, arith}
 use Rattle.std.specs.Prelude.{◌+ℤ◌}
 use Rattle.std.proofs.Math.Seq.{take-add}
-use Rattle.std.proofs.lemmas.List.{length-drop, take_rest}
+use Rattle.std.proofs.lemmas.List.{take_rest}
+use Rattle.twkb_num.specs.Varint.{IsVarint}
 use Rattle.twkb_num.specs.Zigzag.{zigzag_of, unzigzag_of}
 use Rattle.twkb_points.specs.Point.{Point, point_at}
 use Rattle.twkb_grammar.specs.PlainReader.{in_range}
 use Rattle.twkb_body.specs.Front.{NumberInFront, PointInFront, StepsTo}
+use Rattle.twkb_body.specs.Reading.{Pair}
+use Rattle.twkb_body.proofs.Pieces.{one_within}
 use Rattle.twkb_body.proofs.Steps.{unzigzag_back}
+
+-- two numbers spell the steps to a point
+pub pair_of : (from to : Point) (bytes xs ys : List ℕ) (x y : ℕ) → bytes ≡ xs ++ ys → IsVarint xs x
+    → IsVarint ys y → StepsTo from x y to → Pair from bytes to
+pair_of from to bytes xs ys x y whole x_spelled y_spelled steps =
+    record {
+      x = x;
+      y = y;
+      x_bytes = xs;
+      y_bytes = ys;
+      whole = whole;
+      x_spelled = x_spelled;
+      y_spelled = y_spelled;
+      x_kept = steps.x_kept;
+      y_kept = steps.y_kept;
+      leads = steps.leads;
+    }
 
 -- two numbers, one after the other, are the steps to a point
 pub pair_in_front : (from to : Point) (bytes : List ℕ) (x y w h : ℕ) → NumberInFront bytes x w → NumberInFront (take (length bytes - w) (drop w bytes)) y h → StepsTo from x y to → PointInFront from bytes to (w + h)
@@ -15,19 +35,9 @@ pair_in_front from to bytes x y w h a cut steps =
     let b : NumberInFront (drop w bytes) y h = subst (λ l. NumberInFront l y h) (take_rest bytes w) cut in
     record {
       some = omega (arith, a.some);
-      within = omega (arith, a.within, b.within, length-drop w bytes);
-      pair = record {
-        x = x;
-        y = y;
-        x_bytes = take w bytes;
-        y_bytes = take h (drop w bytes);
-        whole = take-add w h bytes;
-        x_spelled = a.spelled;
-        y_spelled = b.spelled;
-        x_kept = steps.x_kept;
-        y_kept = steps.y_kept;
-        leads = steps.leads;
-      };
+      within = one_within bytes w h a.within cut.within;
+      pair = pair_of from to _ (take w bytes) (take h (drop w bytes)) x y (take-add w h bytes)
+          a.spelled b.spelled steps;
     }
 
 -- two numbers are the steps to a point, a step at a time

@@ -1,7 +1,7 @@
 -- Optional parts of a header that are complete at the start of bytes.
-use Rattle.std.proofs.Common.{◌≡◌, ℕ, zero, suc, ◌+◌, ◌-◌, ◌<◌, ◌≤◌, List, [], ◌∷◌, ◌++◌, length, take, drop, true, false, ℤ, Option, None, refl, sym, ◌∙◌, ap, subst, arith}
+use Rattle.std.proofs.Common.{◌≡◌, ℕ, zero, suc, ◌+◌, ◌-◌, ◌<◌, List, [], ◌∷◌, ◌++◌, length, take, drop, true, false, ℤ, Option, None, refl, sym, ◌∙◌, ap, subst, arith}
 use Rattle.std.proofs.Math.Seq.{take-suc}
-use Rattle.std.proofs.lemmas.List.{length-take-le, length-drop, take_rest}
+use Rattle.std.proofs.lemmas.List.{length-take-le}
 use Rattle.std.specs.Prelude.{get_or}
 use Rattle.twkb_grammar.specs.Bits.{bit}
 use Rattle.twkb_tree.specs.Limits.{Allowance}
@@ -15,7 +15,8 @@ use Rattle.twkb_body.specs.Outline.{Group, Outline, OnMetadata, begins}
 use Rattle.twkb_body.specs.Noting.{NotedOutline}
 use Rattle.twkb_body.specs.HeaderParts.{bare_head, AreNumberParts}
 use Rattle.twkb_body.proofs.HeaderParts.{one_part, parts_join, sums_behind_header, header_read}
-use Rattle.twkb_body.proofs.Pieces.{used_join}
+use Rattle.twkb_body.proofs.NotedJoins.{sums_same}
+use Rattle.twkb_body.proofs.Pieces.{used_join, one_within}
 use Rattle.twkb_body.specs.Front.{NumberInFront}
 use Rattle.twkb_body.specs.Parts.{sides, sized_head, SidesInFront, BoxInFront, SizeInFront, PartsInFront}
 
@@ -34,7 +35,7 @@ sides_more count bytes used n width first number =
     let left : List ℕ = take (length bytes - used) (drop used bytes) in
     let more : sides count ++ Box ∷ [] ≡ sides (count + 1) = let one : suc count ≡ count + 1 = omega arith in sides_push count ∙ ap sides one in
     record {
-      within = (let so_far = first.within in let few = number.within in omega (arith, so_far, subst (λ l. width ≤ length l) (take_rest bytes used) few, length-drop used bytes));
+      within = one_within bytes used width first.within number.within;
       parts = λ h at.
           subst (λ l. AreNumberParts h at (sides (count + 1)) l h) (sym (used_join bytes used width))
           (subst (λ rs. AreNumberParts h at rs (take used bytes ++ take width left) h) more
@@ -63,7 +64,7 @@ pub parts_whole : (meta : ℕ) (bytes : List ℕ) (size : Option ℕ) (from used
 parts_whole meta bytes size from used none first next =
     let left : List ℕ = take (length bytes - from) (drop from bytes) in
     record {
-      within = (let so_far = first.within in let few = next.within in omega (arith, so_far, subst (λ l. used ≤ length l) (take_rest bytes from) few, length-drop from bytes));
+      within = one_within bytes from used first.within next.within;
       ordered = omega arith;
       parts = λ precision at.
           let h = bare_head precision meta at in
@@ -86,10 +87,16 @@ read_ahead limits front e gs k precision rows told rest size from used points so
     let parts : List ℕ = take used left in
     let whole : meta ∷ parts ≡ take (1 + used) rest = ap (λ l. l ++ parts) (sym (take-suc rest 0 0 some)) ∙ sym (used_join rest 1 used) in
     let long : length parts ≡ used = length-take-le used left p.within in
-    let bytes : e.bytes + suc (length parts) ≡ e.bytes + (1 + used) = omega (arith, long) in
-    let sums : sums_behind_header e k meta parts ≡ record { bytes = e.bytes + (1 + used); position = e.position; nodes = e.nodes; points = points } = λ t. record { bytes = bytes t; position = e.position; nodes = e.nodes; points = sym announced t } in
+    let behind : Sums = record {
+      bytes = e.bytes + (1 + used);
+      position = e.position;
+      nodes = e.nodes;
+      points = points;
+    } in
+    let sums : sums_behind_header e k meta parts ≡ behind =
+    sums_same (omega (arith, long)) refl refl (sym announced) in
     let o : Outline = (gs, begins k (sized_head precision meta size ((e.bytes + 1) + from))) in
     let noted : ℕ → Notes = λ start. note_metadata meta (told start) in
     let read = header_read limits front e gs k precision rows told meta parts size ((e.bytes + 1) + from) low full free (p.parts precision (e.bytes + 1)) there in
-    subst (λ l. NotedOutline limits (front ++ l) (record { bytes = e.bytes + (1 + used); position = e.position; nodes = e.nodes; points = points }) o rows noted) whole
+    subst (λ l. NotedOutline limits (front ++ l) behind o rows noted) whole
     (subst (λ s. NotedOutline limits (front ++ meta ∷ parts) s o rows noted) sums read)

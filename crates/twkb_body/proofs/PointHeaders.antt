@@ -14,6 +14,7 @@ use Rattle.twkb_grammar.specs.Machine.{Head, PointForm, SimpleKind, Sums, added,
 use Rattle.twkb_body.specs.Outline.{Group, Outline, OnHeader, OnMetadata, OnOption, OnBody, OnEnd, Wanted}
 use Rattle.twkb_body.specs.Growing.{applied}
 use Rattle.twkb_body.specs.Reading.{Outlined, Pair, sums_past, outline_after, change_after, point_after}
+use Rattle.twkb_body.proofs.NotedJoins.{sums_same}
 use Rattle.twkb_body.proofs.Outlined.{outlined_item}
 use Rattle.twkb_body.proofs.PointPairs.{outlined_point}
 
@@ -51,29 +52,25 @@ module _ (limits : Allowance) (front : List ℕ) (e : Sums) (gs : List Group) (r
 
   reach : (own bytes : List ℕ) (s : Sums) (h k : Head) → bytes ≡ front ++ own → s ≡ sums_behind e (length own) origin → h ≡ k → Outlined limits bytes s (gs, OnBody h PointForm None (Wanted 0 [])) rs → HeaderRead limits front e gs rs own k
   reach own bytes s h k spelled sums head a =
-      let b = subst (λ l. Outlined limits l s (gs, OnBody h PointForm None (Wanted 0 [])) rs) spelled a in
-      let c = subst (λ m. Outlined limits (front ++ own) m (gs, OnBody h PointForm None (Wanted 0 [])) rs) sums b in
-      subst (λ q. HeaderRead limits front e gs rs own q) head c
+      rw (← spelled, ← sums, ← head) a
 
   -- a header that asks for nothing is read
   pub bare_header_read : HeaderRead limits front e gs rs (first ∷ 0 ∷ []) (record { precision = unzigzag_of (first / 16); meta = 0; size = None; from = e.bytes + 2 })
   bare_header_read =
       let two : (e.bytes + 1) + 1 ≡ e.bytes + 2 = omega arith in
-      let nodes : (e.nodes + 0) + 0 ≡ e.nodes = omega arith in
-      let points : (e.points + 0) + 1 ≡ e.points + 1 = omega arith in
       let free = ap (λ t. unless (announces_point 1 0 && t) TooManyPoints None) (few limits.points e.points room) in
-      let sums : added typed (item (Metadata 1) 0) ≡ sums_behind e 2 origin = λ t. record { bytes = two t; position = origin; nodes = nodes t; points = points t } in
+      let sums : added typed (item (Metadata 1) 0) ≡ sums_behind e 2 origin =
+      sums_same two refl (omega arith) (omega arith) in
       reach (first ∷ 0 ∷ []) _ _ _ _ (append_assoc front (first ∷ []) (0 ∷ [])) sums (λ t. record { precision = unzigzag_of (first / 16); meta = 0; size = None; from = two t }) (metadata_read 0 (omega arith) free)
 
   -- a header that asks for a size of one byte is read
   pub sized_header_read : (n : ℕ) → n < 128 → HeaderRead limits front e gs rs (first ∷ 2 ∷ n ∷ []) (record { precision = unzigzag_of (first / 16); meta = 2; size = Some n; from = e.bytes + 3 })
   sized_header_read n short =
       let three : ((e.bytes + 1) + 1) + 1 ≡ e.bytes + 3 = omega arith in
-      let nodes : ((e.nodes + 0) + 0) + 0 ≡ e.nodes = omega arith in
-      let points : ((e.points + 0) + 1) + 0 ≡ e.points + 1 = omega arith in
       let behind = added typed (item (Metadata 1) 2) in
       let asking : Head = record { precision = unzigzag_of (first / 16); meta = 2; size = None; from = behind.bytes } in
-      let sums : added behind (item Size n) ≡ sums_behind e 3 origin = λ t. record { bytes = three t; position = origin; nodes = nodes t; points = points t } in
+      let sums : added behind (item Size n) ≡ sums_behind e 3 origin =
+      sums_same three refl (omega arith) (omega arith) in
       let spelled = append_assoc (front ++ first ∷ []) (2 ∷ []) (n ∷ []) ∙ append_assoc front (first ∷ []) (2 ∷ n ∷ []) in
       let free = ap (λ t. unless (announces_point 1 2 && t) TooManyPoints None) (few limits.points e.points room) in
       let read = outlined_item limits ((front ++ first ∷ []) ++ 2 ∷ []) behind (gs, OnOption (SimpleKind PointForm) asking Size []) rs (item Size n) (metadata_read 2 (omega arith) free) refl (byte_spells n short) refl in
@@ -86,7 +83,7 @@ header_point_read limits front e gs rs header steps h to read pair =
     let begun = sums_behind e (length header) origin in
     let Rows : List Row = applied (point_after to gs h PointForm None) rs in
     let a = outlined_point limits (front ++ header) begun gs h PointForm None [] rs steps to read pair in
-    let sum : (e.bytes + length header) + length steps ≡ e.bytes + length (header ++ steps) = omega (arith, length-append header steps) in
-    let sums : sums_past begun steps to ≡ sums_behind e (length (header ++ steps)) to = λ t. record { bytes = sum t; position = to; nodes = e.nodes; points = e.points + 1 } in
+    let sums : sums_past begun steps to ≡ sums_behind e (length (header ++ steps)) to =
+    sums_same (omega (arith, length-append header steps)) refl refl refl in
     subst (λ l. Outlined limits l (sums_behind e (length (header ++ steps)) to) (gs, OnEnd h) Rows) (append_assoc front header steps)
     (subst (λ s. Outlined limits ((front ++ header) ++ steps) s (gs, OnEnd h) Rows) sums a)

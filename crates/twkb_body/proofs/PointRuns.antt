@@ -1,13 +1,12 @@
 -- Points that are complete at the start of bytes lead a body on; and the bytes up to one for which
 -- there is no memory are a part.
-use Rattle.std.proofs.Common.{Result, Ok, Err, ◌≡◌, ℕ, suc, ◌+◌, ◌-◌, ◌<◌, ◌≤◌, List, [], ◌∷◌, ◌++◌, length, take, drop, refl, sym, ap, ◌∙◌, subst, arith}
-use Rattle.std.specs.Prelude.{Option, ℤ, IsErrAnd}
-use Rattle.std.proofs.lemmas.List.{drop-drop, take_rest}
+use Rattle.std.proofs.Common.{Result, Ok, Err, ◌≡◌, ℕ, zero, suc, ◌+◌, ◌-◌, ◌<◌, ◌≤◌, List, [], ◌∷◌, ◌++◌, length, take, drop, refl, sym, ap, ◌∙◌, subst, arith}
+use Rattle.std.specs.Prelude.{Option, ℤ, IsErr}
 use Rattle.twkb_points.specs.Point.{Point}
 use Rattle.twkb_tree.specs.declared.kind.Kind.TheVariants as kinds
 use Rattle.twkb_tree.specs.Tree.{Ids}
-use Rattle.twkb_tree.specs.Rows.{Row, plain_row, row_points, first_id, other_ids}
-use Rattle.twkb_tree.specs.RowGrowth.{EndsInLine, point_added}
+use Rattle.twkb_tree.specs.Rows.{Row, plain_row, first_id, other_ids}
+use Rattle.twkb_tree.specs.RowGrowth.{point_added}
 use Rattle.twkb_grammar.specs.Machine.{Form, PointForm, LineForm, PolygonForm, MultiPointForm, MultiLineForm, MultiPolygonForm}
 use Rattle.twkb_body.specs.Outline.{Group, Step, OnBody, Wanted, shut, next_ids}
 use Rattle.twkb_body.specs.Growing.{applied, NewPoint, point_change, id_in}
@@ -17,13 +16,18 @@ use Rattle.twkb_body.specs.JudgedParts.{IsPastEnds}
 use Rattle.twkb_body.proofs.NotedPairs.{noted_point}
 use Rattle.twkb_body.proofs.NotedJoins.{noted_still, noted_join}
 use Rattle.twkb_body.proofs.Judging.{outlined_judged, part_further}
-use Rattle.twkb_body.proofs.LinePoints.{ends_again, one_point_more}
 use Rattle.twkb_body.proofs.Pieces.{used_join, one_within}
-use Rattle.twkb_body.specs.Front.{PointInFront, TwoInFront}
+use Rattle.twkb_body.specs.Front.{PointInFront}
 use Rattle.twkb_body.specs.Head.{head_of, IsHeadAt}
-use Rattle.twkb_body.specs.Running.{HasLists, StepRuns, StepStops, ListLeads, ListStops, MembersLead, TakesRow, TakesMembers, in_list}
+use Rattle.twkb_body.specs.Running.{HasLists, StepRuns, StepStops, MembersLead, in_list}
 use Rattle.twkb_body.specs.declared.head.Head.{Head}
 use Rattle.twkb_body.specs.declared.list_points.Taken.{Taken}
+
+-- what every error has
+pub err_only : {A E : Type 0} (P : Result A E → Type 0) (r : Result A E) → IsErr r
+    → ((e : E) → P (Err e)) → P r
+err_only P (Ok x) is h = absurd cc
+err_only P (Err e) is h = h e
 
 -- ---- the next step, in a geometry of one header
 
@@ -77,67 +81,23 @@ comes MultiLineForm to d id precision member h = refl
 comes MultiPolygonForm to d id precision member h = refl
 
 -- one point leads on to the next of its list
-list_runs : (h : Head) (f : Form) (ids : Ids) (lefts : List ℕ) (rs more : List Row) (left used : ℕ) (from to : Point) (bytes : List ℕ) → HasLists f → next_ids lefts ids ≡ ids → PointInFront from bytes to used → more ≡ point_added to rs
-    → StepRuns h (in_list h f ids (suc left) lefts) rs from (take used bytes) (in_list h f ids left lefts) more to
-list_runs h f ids lefts rs more left used from to bytes listed same cut added =
-    let Runs : Step → List Row → Type 0 = λ s l. StepRuns h (in_list h f ids (suc left) lefts) rs from (take used bytes) s l to in
-    let rows : applied (point_change to h.depth h.id h.precision f (first_id ids)) rs ≡ more = ap (λ c. applied c rs) (comes f to h.depth h.id h.precision (first_id ids) listed) ∙ sym added in
-    subst (λ i. Runs (in_list h f i left lefts) more) same (subst (λ l. Runs (shut (head_of h) f ids 0 (suc left ∷ lefts)) l) rows (point_runs h f ids rs from to bytes (suc left ∷ lefts) used cut))
-
--- the last row is a line's again, with a point more
-pub line_longer : (p : Point) (rs more : List Row) → more ≡ point_added p rs → EndsInLine rs → EndsInLine more × (length (row_points more) ≡ length (row_points rs) + 1)
-line_longer p rs more added line = (subst EndsInLine (sym added) (ends_again p rs line), ap (λ (l : List Row). length (row_points l)) added ∙ one_point_more p rs line)
-
--- and with two
-pub line_longer_by_two : (p q : Point) (rs more : List Row) → more ≡ point_added q (point_added p rs) → EndsInLine rs → EndsInLine more × (length (row_points more) ≡ length (row_points rs) + 2)
-line_longer_by_two p q rs more added line =
-    let one = line_longer p rs (point_added p rs) refl line in
-    let two = line_longer q (point_added p rs) more added one.0 in
-    (two.0, omega (arith, one.1, two.1))
-
--- no points of a list
-pub list_none : (rs : List Row) (from : Point) (bytes : List ℕ) (most : ℕ) → ListLeads rs from bytes most (record { used = 0; position = from }) most rs
-list_none rs from bytes most = record { within = omega arith; few = omega arith; run = λ h f ids outer listed same. step_none h (in_list h f ids most outer) rs from }
-
--- some, and then one more
-pub list_more : (rs mid more : List Row) (most left count : ℕ) (from to : Point) (bytes : List ℕ) (t : Taken) → ListLeads rs from bytes most t left mid → 0 < left → PointInFront t.position (take (length bytes - t.used) (drop t.used bytes)) to count → more ≡ point_added to mid
-    → ListLeads rs from bytes most (record { used = t.used + count; position = to }) (left - 1) more
-list_more rs mid more most left count from to bytes t l some cut added = record {
-  within = one_within bytes t.used count l.within cut.within;
-  few = omega (arith, l.few);
-  run = λ h f ids outer listed same.
-      let n = left - 1 in
-      let one : left ≡ suc n = omega (arith, some) in
-      step_more h (in_list h f ids most outer) (in_list h f ids (suc n) outer) (in_list h f ids n outer) rs mid more from t.position to bytes t.used count
-      (subst (λ k. StepRuns h (in_list h f ids most outer) rs from (take t.used bytes) (in_list h f ids k outer) mid t.position) one (l.run h f ids outer listed same)) (list_runs h f ids outer mid more n count t.position to _ listed same cut added);
-}
-
--- some, and then two more
-pub list_two_more : (rs mid more : List Row) (most left count : ℕ) (from first second : Point) (bytes : List ℕ) (t : Taken) → ListLeads rs from bytes most t left mid → 1 < left → TwoInFront t.position (take (length bytes - t.used) (drop t.used bytes)) first second count
-    → more ≡ point_added second (point_added first mid) → ListLeads rs from bytes most (record { used = t.used + count; position = second }) (left - 2) more
-list_two_more rs mid more most left count from first second bytes t l some two added =
-    let w = two.first_count in
-    let less : left - 1 - 1 ≡ left - 2 = omega arith in
-    let both : (t.used + w) + two.second_count ≡ t.used + count = omega (arith, two.all) in
-    let behind : drop w (take (length bytes - t.used) (drop t.used bytes)) ≡ take (length bytes - (t.used + w)) (drop (t.used + w) bytes) = ap (drop w) (take_rest bytes t.used) ∙ (drop-drop w t.used bytes ∙ sym (take_rest bytes (t.used + w))) in
-    let one = list_more rs mid (point_added first mid) most left w from first bytes t l (omega (arith, some)) two.leads refl in
-    subst (λ k. ListLeads rs from bytes most (record { used = t.used + count; position = second }) k more) less
-    (subst (λ u. ListLeads rs from bytes most (record { used = u; position = second }) (left - 1 - 1) more) both
-    (list_more rs (point_added first mid) more most (left - 1) two.second_count from second bytes (record { used = t.used + w; position = first }) one (omega (arith, some)) (subst (λ l. PointInFront first l second two.second_count) behind two.goes_on) added))
-
--- some, and then one for which there is no memory
-pub list_stops : (rs mid : List Row) (most left count : ℕ) (from to : Point) (bytes : List ℕ) (t : Taken) → ListLeads rs from bytes most t left mid → 0 < left → PointInFront t.position (take (length bytes - t.used) (drop t.used bytes)) to count → ListStops rs from most bytes
-list_stops rs mid most left count from to bytes t l some cut = λ h f ids outer listed same.
-    let n = left - 1 in
-    let one : left ≡ suc n = omega (arith, some) in
-    step_stops h (in_list h f ids most outer) (in_list h f ids (suc n) outer) rs mid from t.position bytes t.used l.within
-    (subst (λ k. StepRuns h (in_list h f ids most outer) rs from (take t.used bytes) (in_list h f ids k outer) mid t.position) one (l.run h f ids outer listed same))
-    (step_judged h (in_list h f ids (suc n) outer) (in_list h f ids n outer) mid (point_added to mid) t.position to _ count cut.some cut.within tt (list_runs h f ids outer mid (point_added to mid) n count t.position to _ listed same cut refl))
-
--- what a call answers, after points that were taken before
-pub row_err : {E : Type 0} (Q : E → Type 0) (rs more : List Row) (from : Point) (bytes : List ℕ) (most : ℕ) (r : Result (Taken × ℕ) E) → IsErrAnd r Q → ListStops rs from most bytes → TakesRow rs from bytes most r more
-row_err Q rs more from bytes most (Ok t) is stops = absurd is
-row_err Q rs more from bytes most (Err e) is stops = stops
+pub list_runs : (h : Head) (f : Form) (ids : Ids) (lefts : List ℕ) (rs more : List Row)
+    (left used : ℕ) (from to : Point) (bytes : List ℕ) → 0 < left → HasLists f
+    → next_ids lefts ids ≡ ids → PointInFront from bytes to used → more ≡ point_added to rs
+    → StepRuns h (in_list h f ids left lefts) rs from (take used bytes)
+    (in_list h f ids (left - 1) lefts) more to
+list_runs h f ids lefts rs more zero used from to bytes some listed same cut added =
+    absurd (omega (arith, some))
+list_runs h f ids lefts rs more (suc left) used from to bytes some listed same cut added =
+    let less : suc left - 1 ≡ left = omega arith in
+    let Runs : Step → List Row → Type 0 = λ s l.
+    StepRuns h (in_list h f ids (suc left) lefts) rs from (take used bytes) s l to in
+    let change = comes f to h.depth h.id h.precision (first_id ids) listed in
+    rw less
+    (subst (λ i. Runs (in_list h f i left lefts) more) same
+    (subst (λ l. Runs (shut (head_of h) f ids 0 (suc left ∷ lefts)) l)
+    (ap (λ c. applied c rs) change ∙ sym added)
+    (point_runs h f ids rs from to bytes (suc left ∷ lefts) used cut)))
 
 -- ---- a member of a multipoint
 
@@ -146,38 +106,61 @@ abbrev in_members : Head → Ids → (left : ℕ) → Step
 in_members h ids left = in_list h MultiPointForm ids left []
 
 -- one leads to the next
-member_runs : (h : Head) (ids others : Ids) (rs more : List Row) (left used : ℕ) (from to : Point) (bytes : List ℕ) → PointInFront from bytes to used → others ≡ other_ids ids → more ≡ rs ++ plain_row (suc h.depth) kinds.Point (first_id ids) (to ∷ []) ∷ []
-    → StepRuns h (in_members h ids (suc left)) rs from (take used bytes) (in_members h others left) more to
-member_runs h ids others rs more left used from to bytes cut next added =
-    let Runs : Ids → List Row → Type 0 = λ i l. StepRuns h (in_members h ids (suc left)) rs from (take used bytes) (in_members h i left) l to in
-    subst (λ i. Runs i more) (sym next) (subst (λ l. Runs (other_ids ids) l) (sym added) (point_runs h MultiPointForm ids rs from to bytes (suc left ∷ []) used cut))
+member_runs : (h : Head) (ids others : Ids) (rs more : List Row) (left used : ℕ) (from to : Point)
+    (bytes : List ℕ) → 0 < left → PointInFront from bytes to used → others ≡ other_ids ids
+    → more ≡ rs ++ plain_row (suc h.depth) kinds.Point (first_id ids) (to ∷ []) ∷ []
+    → StepRuns h (in_members h ids left) rs from (take used bytes) (in_members h others (left - 1))
+    more to
+member_runs h ids others rs more zero used from to bytes some cut next added =
+    absurd (omega (arith, some))
+member_runs h ids others rs more (suc left) used from to bytes some cut next added =
+    let less : suc left - 1 ≡ left = omega arith in
+    let Runs : Ids → List Row → Type 0 = λ i l.
+    StepRuns h (in_members h ids (suc left)) rs from (take used bytes) (in_members h i left) l to in
+    rw less
+    (subst (λ i. Runs i more) (sym next)
+    (subst (λ l. Runs (other_ids ids) l) (sym added)
+    (point_runs h MultiPointForm ids rs from to bytes (suc left ∷ []) used cut)))
 
 -- none
-pub members_none : (rs : List Row) (ids : Ids) (depth : ℕ) (from : Point) (bytes : List ℕ) (most : ℕ) → MembersLead rs ids depth from bytes most (record { used = 0; position = from }) most ids rs
-members_none rs ids depth from bytes most = record { within = omega arith; few = omega arith; run = λ h deep. step_none h (in_members h ids most) rs from }
-
--- some, and then one more
-pub members_more : (rs mid more : List Row) (ids between others : Ids) (depth most left count : ℕ) (from to : Point) (bytes : List ℕ) (t : Taken) (member : Option ℤ) → MembersLead rs ids depth from bytes most t left between mid → 0 < left
-    → PointInFront t.position (take (length bytes - t.used) (drop t.used bytes)) to count → member ≡ first_id between → others ≡ other_ids between → more ≡ mid ++ plain_row depth kinds.Point member (to ∷ []) ∷ []
-    → MembersLead rs ids depth from bytes most (record { used = t.used + count; position = to }) (left - 1) others more
-members_more rs mid more ids between others depth most left count from to bytes t member l some cut same next added = record {
-  within = one_within bytes t.used count l.within cut.within;
-  few = omega (arith, l.few);
-  run = λ h deep.
-      let n = left - 1 in
-      let one : left ≡ suc n = omega (arith, some) in
-      let put : more ≡ mid ++ plain_row (suc h.depth) kinds.Point (first_id between) (to ∷ []) ∷ [] = added ∙ (ap (λ d. mid ++ plain_row d kinds.Point member (to ∷ []) ∷ []) (sym deep) ∙ ap (λ m. mid ++ plain_row (suc h.depth) kinds.Point m (to ∷ []) ∷ []) same) in
-      step_more h (in_members h ids most) (in_members h between (suc n)) (in_members h others n) rs mid more from t.position to bytes t.used count
-      (subst (λ k. StepRuns h (in_members h ids most) rs from (take t.used bytes) (in_members h between k) mid t.position) one (l.run h deep)) (member_runs h between others mid more n count t.position to _ cut next put);
+pub members_none : (rs : List Row) (ids : Ids) (depth : ℕ) (from : Point) (bytes : List ℕ)
+    (most : ℕ) → MembersLead rs ids depth from bytes most (record { used = 0; position = from })
+    most ids rs
+members_none rs ids depth from bytes most = record {
+  within = omega arith;
+  few = omega arith;
+  run = λ h deep. step_none h (in_members h ids most) rs from;
 }
 
--- what a call answers if there is no memory for one more
-pub members_err : {E : Type 0} (Q : E → Type 0) (rs mid more : List Row) (ids between others : Ids) (depth most left count : ℕ) (from to : Point) (bytes : List ℕ) (t : Taken) (r : Result (Taken × ℕ) E) → IsErrAnd r Q → MembersLead rs ids depth from bytes most t left between mid → 0 < left
-    → PointInFront t.position (take (length bytes - t.used) (drop t.used bytes)) to count → TakesMembers rs ids depth from bytes most r others more
-members_err Q rs mid more ids between others depth most left count from to bytes t (Ok u) is l some cut = absurd is
-members_err Q rs mid more ids between others depth most left count from to bytes t (Err e) is l some cut = λ h deep.
-    let n = left - 1 in
-    let one : left ≡ suc n = omega (arith, some) in
-    step_stops h (in_members h ids most) (in_members h between (suc n)) rs mid from t.position bytes t.used l.within
-    (subst (λ k. StepRuns h (in_members h ids most) rs from (take t.used bytes) (in_members h between k) mid t.position) one (l.run h deep))
-    (step_judged h (in_members h between (suc n)) (in_members h (other_ids between) n) mid _ t.position to _ count cut.some cut.within tt (member_runs h between (other_ids between) mid _ n count t.position to _ cut refl refl))
+-- some, and then one more
+pub members_more : (rs mid more : List Row) (ids between others : Ids) (depth most left count : ℕ)
+    (from to : Point) (bytes : List ℕ) (t : Taken) (member : Option ℤ)
+    → MembersLead rs ids depth from bytes most t left between mid → 0 < left
+    → PointInFront t.position (take (length bytes - t.used) (drop t.used bytes)) to count
+    → member ≡ first_id between → others ≡ other_ids between
+    → more ≡ mid ++ plain_row depth kinds.Point member (to ∷ []) ∷ []
+    → (let both : Taken = record { used = t.used + count; position = to } in
+    MembersLead rs ids depth from bytes most both (left - 1) others more)
+members_more rs mid more ids between others depth most left count from to bytes t member l some cut
+    same next added = record {
+      within = one_within bytes t.used count l.within cut.within;
+      few = omega (arith, l.few);
+      run = λ h deep.
+          let row : ℕ → Option ℤ → List Row = λ d m. mid ++ plain_row d kinds.Point m
+          (to ∷ []) ∷ [] in
+          let put = added ∙ (ap (λ d. row d member) (sym deep) ∙ ap (row (suc h.depth)) same) in
+          step_more h _ _ _ _ _ _ _ _ _ bytes t.used count (l.run h deep)
+          (member_runs h between others mid more left count t.position to _ some cut next put);
+    }
+
+-- some, and then one for which there is no memory
+pub members_stop : (rs mid : List Row) (ids between : Ids) (depth most left count : ℕ)
+    (from to : Point) (bytes : List ℕ) (t : Taken)
+    → MembersLead rs ids depth from bytes most t left between mid → 0 < left
+    → PointInFront t.position (take (length bytes - t.used) (drop t.used bytes)) to count
+    → (h : Head) → suc h.depth ≡ depth → StepStops h (in_members h ids most) rs from bytes
+members_stop rs mid ids between depth most left count from to bytes t l some cut h deep =
+    step_stops h _ _ _ _ _ _ bytes t.used l.within (l.run h deep)
+    (step_judged h _ (in_members h (other_ids between) (left - 1)) mid _ t.position to _ count
+    cut.some cut.within tt
+    (member_runs h between (other_ids between) mid _ left count t.position to _ some cut refl refl))

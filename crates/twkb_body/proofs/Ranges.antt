@@ -5,15 +5,12 @@ use Rattle.std.proofs.lemmas.Bool.Decides.{nat_tests}
 use Rattle.std.proofs.lemmas.Int.{ints}
 use Rattle.twkb_points.specs.Point.{IsCoordinate}
 use Rattle.twkb_grammar.specs.PlainReader.{in_range}
-
--- a number that passes is a coordinate
-pub coordinate : (z : ℤ) → in_range z ≡ true → IsCoordinate z
-coordinate (pos n) h = grind (arith, nat_tests, ints)
-coordinate (negsuc n) h = grind (arith, nat_tests, ints)
+use Rattle.twkb_grammar.proofs.Stepping.{in_range_true}
 
 -- a coordinate passes
 pub passes : (z : ℤ) → IsCoordinate z → in_range z ≡ true
 passes (pos n) h = let low : n < 2 ^ 62 = omega (arith, ints, h.1) in grind (arith, nat_tests)
 passes (negsuc n) h = let low : n < 2 ^ 62 = omega (arith, ints, h.0) in grind (arith, nat_tests)
 
-pub ruleset ranges = (coordinate, passes)
+-- a number that passes is a coordinate, too
+pub ruleset ranges = (in_range_true, passes)

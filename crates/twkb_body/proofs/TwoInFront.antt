@@ -8,6 +8,7 @@ use Rattle.twkb_num.specs.Varint.{varint_of}
 use Rattle.twkb_num.proofs.VarintLemmas.{IsVarint-varint_of, some_byte}
 use Rattle.twkb_points.specs.Point.{Point}
 use Rattle.twkb_body.specs.Front.{PointInFront, StepsTo, TwoInFront}
+use Rattle.twkb_body.proofs.InFront.{pair_of}
 
 -- two shortest spellings at the start are the steps to a point
 shortest_pair : (from to : Point) (x y : ℕ) (rest : List ℕ) → x < 2 ^ 28 → y < 2 ^ 28 → StepsTo from x y to → PointInFront from ((varint_of x ++ varint_of y) ++ rest) to (length (varint_of x ++ varint_of y))
@@ -16,18 +17,9 @@ shortest_pair from to x y rest x_small y_small steps =
     record {
       some = omega (arith, length-append (varint_of x) (varint_of y), some_byte x);
       within = omega (arith, length-append both rest);
-      pair = record {
-        x = x;
-        y = y;
-        x_bytes = varint_of x;
-        y_bytes = varint_of y;
-        whole = take-append_seam both rest;
-        x_spelled = IsVarint-varint_of x (omega (arith, x_small));
-        y_spelled = IsVarint-varint_of y (omega (arith, y_small));
-        x_kept = steps.x_kept;
-        y_kept = steps.y_kept;
-        leads = steps.leads;
-      };
+      pair = pair_of from to _ (varint_of x) (varint_of y) x y (take-append_seam both rest)
+          (IsVarint-varint_of x (omega (arith, x_small)))
+          (IsVarint-varint_of y (omega (arith, y_small))) steps;
     }
 
 -- four numbers are the steps to two points

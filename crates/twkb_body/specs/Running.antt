@@ -1,9 +1,10 @@
 -- Points, members and ids that are read on at the start of bytes, or for which there is no memory.
-use Rattle.std.specs.Prelude.{◌≡◌, ◌+◌, ◌≤◌, ⊤, ℕ, suc, ℤ, List, [], ◌∷◌, ◌++◌, length, take, Result, Ok, Err}
+use Rattle.std.specs.Prelude.{◌≡◌, ◌+◌, ◌<◌, ◌≤◌, ◌^◌, ⊤, ℕ, suc, ℤ, List, [], ◌∷◌, ◌++◌, length, take, Option, Some, None, Result, Ok, Err}
 use Rattle.twkb_points.specs.Point.{Point}
 use Rattle.twkb_tree.specs.Tree.{Ids}
 use Rattle.twkb_tree.specs.Limits.{Allowance}
-use Rattle.twkb_tree.specs.Rows.{Row}
+use Rattle.twkb_tree.specs.Rows.{Row, row_points}
+use Rattle.twkb_tree.specs.RowGrowth.{EndsInLine}
 use Rattle.twkb_grammar.specs.Machine.{Form, PointForm, MultiPointForm, Many, Sums}
 use Rattle.twkb_grammar.specs.Noting.{Notes}
 use Rattle.twkb_body.specs.Outline.{Group, Step, OnId, OnBody, Wanted, next_ids}
@@ -61,6 +62,27 @@ pub record ListLeads (rs : List Row) (from : Point) (bytes : List ℕ) (most : �
 abbrev pub TakesRow : {E : Type 0} → List Row → Point → List ℕ → ℕ → Result (Taken × ℕ) E → List Row → Type 0
 TakesRow rs from bytes most (Ok r) more = ListLeads rs from bytes most r.0 r.1 more
 TakesRow rs from bytes most (Err e) more = ListStops rs from most bytes
+
+-- points of a list were taken so, and the last row takes those that are left
+pub record ListGoesOn (rs : List Row) (from : Point) (bytes : List ℕ) (most : ℕ) (t : Taken)
+    (left : ℕ) (more : List Row) : Type 0 where
+  pub leads : ListLeads rs from bytes most t left more
+  pub line : EndsInLine more
+  pub room : length (row_points more) + left ≤ 2 ^ 24
+
+-- what a call answers whose caller takes those that are left
+abbrev pub GoesOn : {E : Type 0} → List Row → Point → List ℕ → ℕ → Result (Taken × ℕ) E → List Row
+    → Type 0
+GoesOn rs from bytes most (Ok r) more = ListGoesOn rs from bytes most r.0 r.1 more
+GoesOn rs from bytes most (Err e) more = ListStops rs from most bytes
+
+-- what a call answers that takes a few of them, or none if the next is not complete
+abbrev pub TakesFew : {E : Type 0} → List Row → Point → List ℕ → ℕ → Result (Option (Taken × ℕ)) E
+    → List Row → Type 0
+TakesFew rs from bytes most (Ok (Some r)) more = ListGoesOn rs from bytes most r.0 r.1
+    more × (r.1 < most)
+TakesFew rs from bytes most (Ok None) more = more ≡ rs
+TakesFew rs from bytes most (Err e) more = ListStops rs from most bytes
 
 -- the members of a multipoint at this depth that were taken, from these ids on, at most `most`; the
 -- others are left, with those ids

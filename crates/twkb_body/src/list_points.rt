@@ -1,10 +1,10 @@
 //! Points of a list, and members of a multipoint, many at once.
-ghost use Rattle.std.specs.Prelude.{◌≡◌, ◌≤◌, ◌+◌, ◌^◌, length, IfOk};
+ghost use Rattle.std.specs.Prelude.{◌≡◌, ◌<◌, ◌≤◌, ◌+◌, ◌^◌, length};
 ghost use Rattle.twkb_tree.specs.Rows.{row_points};
 ghost use Rattle.twkb_tree.specs.RowGrowth.{EndsInLine};
 ghost use Rattle.twkb_flat.specs.Members.{EndsInMember};
 ghost use Rattle.twkb_body.specs.Ids.{ids_of};
-ghost use Rattle.twkb_body.specs.Running.{TakesRow, TakesMembers};
+ghost use Rattle.twkb_body.specs.Running.{TakesRow, GoesOn, TakesFew, TakesMembers};
 
 use crate::member_ids::MemberIds;
 use crate::points::{front_eight, front_point, front_two};
@@ -30,8 +30,11 @@ const POINTS: u64 = 8;
 
 const NUMBERS: u32 = 16;
 
-// How many bytes after the last look blocks are looked for again.
+// How many bytes after a look for blocks they are looked for again.
 const APART: usize = 32;
+
+// The same after a look in vain: a line of far points has no blocks.
+const FAR_APART: usize = 256;
 
 /// Takes points of a list to the last row as far as they are complete, at most `most`; and how many
 /// of these are left. Takes memory. Eight or two at a time if that goes: the numbers of points that lie near
@@ -47,40 +50,59 @@ pub fn take_row(
     requires room { length (row_points flat.old) + most ≤ 2 ^ 24 }
     ensures { TakesRow flat.old from bytes.now most result flat.new }
 {
-    // one function of three ways: split in two others, `read` took 0.3 to 0.5 in 100 more instructions
     let mut used = 0;
     let mut position = from;
     let mut left = most;
     let mut is_near = true;
     let mut next_look = 0;
     while left > 0 {
-        if is_near && left > 1 {
-            if used >= next_look && left >= POINTS && bytes.len() - used >= BLOCK {
-                let (taken, behind) = take_eights(flat, position, &bytes[used..], left)?;
+        if is_near && used >= next_look && left >= POINTS && bytes.len() - used >= BLOCK {
+            let (taken, behind) = take_eights(flat, position, &bytes[used..], left)?;
+            used += taken.used;
+            position = taken.position;
+            left = behind;
+            next_look = used + if taken.used == 0 { FAR_APART } else { APART };
+            continue;
+        }
+        match take_few(flat, position, &bytes[used..], left, &mut is_near)? {
+            Some((taken, behind)) => {
                 used += taken.used;
                 position = taken.position;
                 left = behind;
-                next_look = used + APART;
-                continue;
             }
-            if let Some((first, second, count)) = front_two(position, &bytes[used..]) {
-                flat.add_two(first, second)?;
-                left -= 2;
-                position = second;
-                used += count;
-                continue;
-            }
+            None => return Ok((Taken { used, position }, left)),
         }
-        let Some((to, count)) = front_point(position, &bytes[used..]) else {
-            break;
-        };
-        flat.add_point(to)?;
-        left -= 1;
-        position = to;
-        used += count;
-        is_near = count <= NEAR;
     }
     Ok((Taken { used, position }, left))
+}
+
+// Takes two points of a list to the last row, or one; `None` if the next is not complete. Takes
+// memory. Two only after a point that lies near, and `is_near` tells that of the last.
+#[inline(always)]
+fn take_few(
+    flat: &mut Flat,
+    from: Pt,
+    bytes: &[u8],
+    most: u64,
+    is_near: &mut bool,
+) -> Result<Option<(Taken, u64)>, AllocError>
+    requires line { EndsInLine flat.old }
+    requires room { length (row_points flat.old) + most ≤ 2 ^ 24 }
+    requires some { 0 < most }
+    ensures { TakesFew flat.old from bytes.now most result flat.new }
+{
+    if *is_near && most > 1 {
+        if let Some((first, position, used)) = front_two(from, bytes) {
+            flat.add_two(first, position)?;
+            return Ok(Some((Taken { used, position }, most - 2)));
+        }
+    }
+    let Some((position, used)) = front_point(from, bytes) else {
+        return Ok(None);
+    };
+    flat.add_point(position)?;
+    *is_near = used <= NEAR;
+    Ok(Some((Taken { used, position }, most - 1)))
 }
 
 // Takes points of a list to the last row, eight at a time, as far as their numbers are found in
@@ -94,9 +116,7 @@ fn take_eights(
 ) -> Result<(Taken, u64), AllocError>
     requires line { EndsInLine flat.old }
     requires room { length (row_points flat.old) + most ≤ 2 ^ 24 }
-    ensures taken { TakesRow flat.old from bytes.now most result flat.new }
-    ensures still_line { IfOk result (λ r. EndsInLine flat.new) }
-    ensures still_room { IfOk result (λ r. length (row_points flat.new) + r.1 ≤ 2 ^ 24) }
+    ensures { GoesOn flat.old from bytes.now most result flat.new }
 {
     let mut used = 0;
     let mut position = from;

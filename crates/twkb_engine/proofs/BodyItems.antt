@@ -19,6 +19,7 @@ use Rattle.twkb_num.proofs.ZigzagLemmas.{unzigzag_of-zigzag_of}
 use Rattle.twkb_grammar.specs.Machine as machine
 use Rattle.twkb_grammar.specs.Machine.{Sums}
 use Rattle.twkb_grammar.proofs.RoleBytes.{number_gives}
+use Rattle.twkb_grammar.proofs.Stepping.{in_range_true}
 use Rattle.twkb_body.specs.Outline.{Outline, Group, OnBody, Wanted, shut, step_role, outline_ends, outline_advanced}
 use Rattle.twkb_body.specs.Growing.{Change, NewPoint, id_in, change_of, point_change}
 use Rattle.twkb_body.specs.Admitting.{Admits}
@@ -37,7 +38,7 @@ use Rattle.twkb_engine.specs.declared.next_item.NextItem.TheVariants as next
 use Rattle.twkb_engine.specs.declared.engine.Engine.{Engine}
 use Rattle.twkb_engine.proofs.Admitted.{admitted, alive_placed}
 use Rattle.twkb_engine.proofs.Parts.{add_zero}
-use Rattle.twkb_body.proofs.Ranges.{passes, coordinate}
+use Rattle.twkb_body.proofs.Ranges.{passes}
 
 -- ---- an item of a body, and the ends that follow it
 
@@ -64,7 +65,7 @@ y_free d n step is kept = ap (λ (b : Bool). unless (not b) CoordinateRange None
 
 -- a y that leads to no coordinate is refused
 pub y_refused : (d : Engine) (n : ℕ) (step : ℤ) → step ≡ unzigzag_of n → (IsCoordinate (d.position.y +ℤ step) → ⊥) → unless (not (in_range (d.position.y +ℤ unzigzag_of n))) CoordinateRange None ≡ Some CoordinateRange
-y_refused d n step is out = refused (in_range (d.position.y +ℤ unzigzag_of n)) (λ kept. out (coordinate _ (ap (λ (z : ℤ). in_range (d.position.y +ℤ z)) is ∙ kept)))
+y_refused d n step is out = refused (in_range (d.position.y +ℤ unzigzag_of n)) (λ kept. out (in_range_true _ (ap (λ (z : ℤ). in_range (d.position.y +ℤ z)) is ∙ kept)))
   where
     refused : (b : Bool) → (b ≡ true → ⊥) → unless (not b) CoordinateRange None ≡ Some CoordinateRange
     refused true out = absurd (out refl)

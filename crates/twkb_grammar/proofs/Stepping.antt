@@ -30,7 +30,7 @@ le_true m n e = grind (arith, common_steps)
 le_false : (m n : ℕ) → nat_le m n ≡ false → n < m
 le_false m n e = grind (arith, common_steps)
 
-in_range_true : (z : ℤ) → in_range z ≡ true → IsCoordinate z
+pub in_range_true : (z : ℤ) → in_range z ≡ true → IsCoordinate z
 in_range_true (pos n) e = let h : n < 2 ^ 62 = ltb-true n (2 ^ 62) e in (omega (arith, ints), omega (arith, ints, h))
 in_range_true (negsuc n) e = let h : n < 2 ^ 62 = ltb-true n (2 ^ 62) e in (omega (arith, ints, h), omega (arith, ints))
 

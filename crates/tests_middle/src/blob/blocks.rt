@@ -10,31 +10,66 @@ fn put_step(bytes: &mut Vec<u8>, step: i64) -> Result<(), AllocError> {
     bytes.extend_from_slice(NumBuf::put::<Leb128>(zigzag(step)).as_slice())
 }
 
-// A line of so many points, below 128, as a blob: the first at this x and at 0, and each as far
-// along x from the one before it, and three times as far down.
-fn made_line(alloc: Global, count: u8, start: i64, step: i64) -> Result<Vec<u8>, AllocError> {
+// A line that is made: so many points, below 128, the first at this x and at 0. So many steps, the
+// first, lead far along x, and the others less far or farther; each leads three times as far down.
+#[derive(Clone, Copy)]
+struct Made {
+    count: u8,
+    start: i64,
+    first_steps: u8,
+    first_step: i64,
+    step: i64,
+}
+
+impl Made {
+    // A line whose steps are all the same.
+    fn even(count: u8, start: i64, step: i64) -> Made {
+        Made {
+            count,
+            start,
+            first_steps: 0,
+            first_step: step,
+            step,
+        }
+    }
+
+    // How far along x the point at this place is from the first.
+    fn way(self, place: u32) -> i64 {
+        let first = place.min(u32::from(self.first_steps));
+        let others = i64::from(place.saturating_sub(first)).wrapping_mul(self.step);
+        i64::from(first)
+            .wrapping_mul(self.first_step)
+            .wrapping_add(others)
+    }
+}
+
+// The line as a blob.
+fn made_line(alloc: Global, made: Made) -> Result<Vec<u8>, AllocError> {
     let mut bytes = Vec::new(alloc);
-    bytes.extend_from_slice(&[2, 0, count])?;
-    let mut x = start;
+    bytes.extend_from_slice(&[2, 0, made.count])?;
+    let mut x = made.start;
     let mut y = 0;
-    for _ in 0..count {
+    for place in 0..made.count {
         put_step(&mut bytes, x)?;
         put_step(&mut bytes, y)?;
-        x = step;
-        y = step.wrapping_mul(-3);
+        x = if place < made.first_steps {
+            made.first_step
+        } else {
+            made.step
+        };
+        y = x.wrapping_mul(-3);
     }
     Ok(bytes)
 }
 
-// Whether a form has so many points, and each is where it was made.
-fn has_line(flat: &Flat, count: u8, start: i64, step: i64) -> bool {
+// Whether a form has the points of the line, and each is where it was made.
+fn has_line(flat: &Flat, made: Made) -> bool {
     let mut work = Work::new();
-    let mut are_there = flat.point_count() == u32::from(count);
+    let mut are_there = flat.point_count() == u32::from(made.count);
     for place in 0..flat.point_count() {
         let point = flat.point(PointId(place), &mut work);
-        let way = i64::from(place).wrapping_mul(step);
-        are_there &= point.x() == start.wrapping_add(way);
-        are_there &= point.y() == way.wrapping_mul(-3);
+        are_there &= point.x() == made.start.wrapping_add(made.way(place));
+        are_there &= point.y() == made.way(place).wrapping_mul(-3);
     }
     are_there
 }
@@ -59,16 +94,15 @@ enum Reading {
 
 // Whether the line is read so, in one piece and byte by byte, with the same fault if it is refused;
 // or memory is refused.
-fn is_read(alloc: Global, count: u8, start: i64, step: i64, wanted: Reading) -> bool {
-    let Ok(line) = made_line(alloc, count, start, step) else {
+fn is_read(alloc: Global, made: Made, wanted: Reading) -> bool {
+    let Ok(line) = made_line(alloc, made) else {
         return true;
     };
     let mut whole = Session::new(alloc, Limits::largest());
     let mut bytewise = Session::new(alloc, Limits::largest());
     let fault = whole.feed_flat(&line).err();
     let is_same = fault == fault_bytewise(&mut bytewise, &line);
-    let has_both = has_line(whole.flat(), count, start, step)
-        & has_line(bytewise.flat(), count, start, step);
+    let has_both = has_line(whole.flat(), made) & has_line(bytewise.flat(), made);
     let reading = match fault {
         Some(_) => Reading::Refused,
         None if has_both => Reading::Same,
@@ -84,7 +118,7 @@ fn is_read(alloc: Global, count: u8, start: i64, step: i64, wanted: Reading) -> 
 fn counts_are_read(alloc: Global, start: i64, step: i64) -> bool {
     let mut all = true;
     for count in 0..60 {
-        all &= is_read(alloc, count, start, step, Reading::Same);
+        all &= is_read(alloc, Made::even(count, start, step), Reading::Same);
     }
     all
 }
@@ -97,6 +131,34 @@ fn points_are_read_in_blocks_as_byte_by_byte(rt: HostRuntime) {
     let middle = counts_are_read(alloc, 5, 3_000) & counts_are_read(alloc, -300, 500_000);
     let long = counts_are_read(alloc, 5, 30_000_000) & counts_are_read(alloc, 7, 60_000_000);
     assert!(rt; short & middle & long & counts_are_read(alloc, 0, 1_000_000_000_000));
+}
+
+// Whether lines are read as they were made whose first steps, 0 to 59, are of one length, and the
+// others of another.
+fn changes_are_read(alloc: Global, first_step: i64, step: i64) -> bool {
+    let mut all = true;
+    for first_steps in 0..60 {
+        let made = Made {
+            count: 120,
+            start: 5,
+            first_steps,
+            first_step,
+            step,
+        };
+        all &= is_read(alloc, made, Reading::Same);
+    }
+    all
+}
+
+// Up to 472 bytes of numbers of four bytes, or 590 of five, before short ones: blocks are looked
+// for in vain, and again 256 bytes after that. Then the short ones first.
+#[test]
+fn near_points_after_far_ones_are_read_as_byte_by_byte(rt: HostRuntime) {
+    let alloc = rt.alloc();
+    let four = changes_are_read(alloc, 30_000_000, 20)
+        & changes_are_read(alloc, -30_000_000, 3_000);
+    let five = changes_are_read(alloc, 200_000_000, 20);
+    assert!(rt; four & five & changes_are_read(alloc, 20, 30_000_000));
 }
 
 // Blocks are read from points up to 2^61 away, and eight steps further.
@@ -114,9 +176,13 @@ fn is_refused_past_the_range(alloc: Global, edge: i64, step: i64) -> bool {
     for inside in 1..30 {
         let way = (i64::from(inside) - 1).wrapping_mul(step);
         let start = edge.wrapping_sub(way);
-        all &= is_read(alloc, inside, start, step, Reading::Same);
-        all &= is_read(alloc, inside + 1, start, step, Reading::Refused);
-        all &= is_read(alloc, inside + 20, start, step, Reading::Refused);
+        all &= is_read(alloc, Made::even(inside, start, step), Reading::Same);
+        all &= is_read(alloc, Made::even(inside + 1, start, step), Reading::Refused);
+        all &= is_read(
+            alloc,
+            Made::even(inside + 20, start, step),
+            Reading::Refused,
+        );
     }
     all
 }

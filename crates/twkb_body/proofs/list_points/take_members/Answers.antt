@@ -3,7 +3,8 @@ use Rattle.std.specs.Prelude.{is_some}
 use Rattle.twkb_flat.specs.Members.{EndsInMember}
 use Rattle.twkb_flat.proofs.MemberLemmas.{member_added}
 use Rattle.twkb_body.specs.Ids.{ids_of}
-use Rattle.twkb_body.proofs.PointRuns.{members_none, members_more, members_err}
+use Rattle.twkb_body.specs.Running.{TakesMembers}
+use Rattle.twkb_body.proofs.PointRuns.{err_only, members_none, members_more, members_stop}
 use Rattle.twkb_body.proofs.list_points.take_members.Goals as goal
 
 pub loop-left-init : goal.loop-left-init
@@ -16,8 +17,13 @@ add_member-requires-clause-member c =
 
 pub returns-in_err-add_member-clause-taken : goal.returns-in_err-add_member-clause-taken
 returns-in_err-add_member-clause-taken c =
-    members_err _ c.args.flat.now c.loop-left.flat _ (ids_of c.args.ids.now) (ids_of c.loop-left.ids) _ c.args.depth c.args.most c.loop-left.left _ c.args.from _ c.args.bytes.now _ c.from_residual.result c.from_residual.ensures.1 c.loop-left.invariant.leads
-    (omega (arith, c.loop-left-test.true)) c.in-Some.ensures
+    err_only (λ r. TakesMembers c.args.flat.now (ids_of c.args.ids.now) c.args.depth c.args.from
+    c.args.bytes.now c.args.most r (ids_of c.loop-left.ids) c.add_member.new.self) _
+    c.from_residual.ensures.0 (λ e.
+    members_stop c.args.flat.now c.loop-left.flat (ids_of c.args.ids.now) (ids_of c.loop-left.ids)
+    c.args.depth c.args.most c.loop-left.left _ c.args.from _ c.args.bytes.now _
+    c.loop-left.invariant.leads (omega (arith, c.loop-left-test.true))
+    c.in-Some.ensures)
 
 pub loop-left-preserved : goal.loop-left-preserved
 loop-left-preserved c =

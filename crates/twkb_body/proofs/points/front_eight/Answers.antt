@@ -1,43 +1,39 @@
 use Rattle.std.proofs.Common.{◌+◌, rules, arith}
 use Rattle.twkb_num.proofs.BlockLemmas.{ends_after, ends_behind, ends_in_slice}
-use Rattle.twkb_points.specs.Point.{IsInner}
 use Rattle.twkb_points.proofs.NearLemmas.{near_further, near_inner}
 use Rattle.twkb_body.proofs.EightInFront.{eight_found}
 use Rattle.twkb_body.proofs.points.front_eight.Goals as goal
 
 pub front_two_by-requires-clause-near : goal.front_two_by-requires-clause-near
 front_two_by-requires-clause-near c =
-    let inner : IsInner c.args.from = search rules in
-    near_further 0 6 c.args.from (omega arith) (near_inner c.args.from inner)
+    near_further 0 6 c.args.from (omega arith) (near_inner c.args.from (search rules))
 
 pub front_two_by-requires-2-clause-near : goal.front_two_by-requires-2-clause-near
 front_two_by-requires-2-clause-near c =
-    let inner : IsInner c.args.from = search rules in
-    near_further 2 6 c.in_ok-a.b (omega arith) (c.in_ok-a.ensures.onward 0 (near_inner c.args.from inner))
+    near_further 2 6 c.in_ok-a.b (omega arith) (c.in_ok-a.ensures.onward 0
+    (near_inner c.args.from (search rules)))
 
 pub front_two_by-requires-3-clause-near : goal.front_two_by-requires-3-clause-near
 front_two_by-requires-3-clause-near c =
-    let inner : IsInner c.args.from = search rules in
-    near_further 4 6 c.in_ok-c.d (omega arith) (c.in_ok-c.ensures.onward 2 (c.in_ok-a.ensures.onward 0 (near_inner c.args.from inner)))
+    near_further 4 6 c.in_ok-c.d (omega arith) (c.in_ok-c.ensures.onward 2
+    (c.in_ok-a.ensures.onward 0 (near_inner c.args.from (search rules))))
 
 pub front_two_by-requires-4-clause-near : goal.front_two_by-requires-4-clause-near
 front_two_by-requires-4-clause-near c =
-    let inner : IsInner c.args.from = search rules in
-    c.in_ok-e.ensures.onward 4 (c.in_ok-c.ensures.onward 2 (c.in_ok-a.ensures.onward 0 (near_inner c.args.from inner)))
+    c.in_ok-e.ensures.onward 4 (c.in_ok-c.ensures.onward 2
+    (c.in_ok-a.ensures.onward 0 (near_inner c.args.from (search rules))))
 
 pub front_two_by-requires-3-clause-ends : goal.front_two_by-requires-3-clause-ends
 front_two_by-requires-3-clause-ends c =
-    let bytes = c.args.bytes.now in
     let two = c.in_ok-a.two in
-    let more = c.in_ok-c.more in
-    ends_in_slice 0 128 bytes _ (two + more) (ends_behind 0 128 bytes c.args.ends two more c.in_ok-c.ensures.rest)
+    ends_in_slice 0 128 c.args.bytes.now _ (two + c.in_ok-c.more)
+    (ends_behind 0 128 c.args.bytes.now c.args.ends two c.in_ok-c.more c.in_ok-c.ensures.rest)
 
 pub front_two_by-requires-4-clause-ends : goal.front_two_by-requires-4-clause-ends
 front_two_by-requires-4-clause-ends c =
-    let bytes = c.args.bytes.now in
     let four = c.in_ok-a.two + c.in_ok-c.more in
-    let more = c.in_ok-e.more in
-    ends_in_slice 0 128 bytes _ (four + more) (ends_behind 0 128 bytes c.args.ends four more c.in_ok-e.ensures.rest)
+    ends_in_slice 0 128 c.args.bytes.now _ (four + c.in_ok-e.more)
+    (ends_behind 0 128 c.args.bytes.now c.args.ends four c.in_ok-e.more c.in_ok-e.ensures.rest)
 
 pub returns-clause-points : goal.returns-clause-points
 returns-clause-points c =
@@ -46,5 +42,5 @@ returns-clause-points c =
 
 pub returns-clause-rest : goal.returns-clause-rest
 returns-clause-rest c =
-    let six = c.in_ok-a.two + c.in_ok-c.more + c.in_ok-e.more in
-    ends_after 0 128 c.args.bytes.now _ six c.in_ok-g.more c.in_ok-g.ensures.rest
+    ends_after 0 128 c.args.bytes.now _ (c.in_ok-a.two + c.in_ok-c.more + c.in_ok-e.more)
+    c.in_ok-g.more c.in_ok-g.ensures.rest
